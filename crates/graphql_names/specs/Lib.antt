@@ -1,0 +1,9 @@
+pub mod Cut
+pub mod Device
+pub mod NameSyntax
+pub mod NameText
+pub mod NameValue
+pub mod NameErrors
+pub mod Node
+pub mod NodeStrValue
+pub mod Places

@@ -1,0 +1,104 @@
+//! What a `Cut` does.
+ghost use Rattle.std.specs.Prelude.{◌≡◌, ◌≤◌, ◌<◌, ◌+◌, IfOk, OnErr, IsErrAnd};
+ghost use Rattle.std.specs.Io.{ReadsAtMost, WritesAtMost};
+ghost use Rattle.std.specs.IoError.{error_kind};
+ghost use Rattle.std.specs.Io.KnownBytes.{ReadConsumes, WriteAppends};
+ghost use Rattle.graphql_names.specs.Cut.{cut_inner, cut_most, cut_left, cut_ending, ending_kind, EndsWrite, KeepsCut};
+
+use crate::cut::{Cut, Ending};
+use std::io;
+use std::io::{Error, ErrorKind, Read, Write};
+
+impl<D> Cut<D> {
+    /// Hands on at most `most` bytes a call, which is not 0, and `total` bytes in all.
+    pub fn new(inner: D, most: usize, total: usize, ending: Ending) -> Self
+        requires { 0 < most }
+        ensures inner { cut_inner result ≡ inner }
+        ensures most { cut_most result ≡ most }
+        ensures left { cut_left result ≡ total }
+        ensures ending { cut_ending result ≡ ending }
+    {
+        Cut {
+            inner,
+            most,
+            left: total,
+            ending,
+        }
+    }
+
+    /// The error of its ending.
+    fn error(&self) -> Error
+        ensures { error_kind result ≡ ending_kind (cut_ending self.now) }
+    {
+        match self.ending {
+            Ending::Fails(kind) => Error::new(kind, "cut"),
+            Ending::TakesNothing => Error::new(ErrorKind::Other, "cut"),
+        }
+    }
+
+    /// How many of `len` bytes a call hands on.
+    fn share(&self, len: usize) -> usize
+        ensures len { result ≤ len }
+        ensures most { result ≤ cut_most self.now }
+        ensures left { result ≤ cut_left self.now }
+        ensures some { 0 < len → 0 < cut_left self.now → 0 < result }
+    {
+        len.min(self.most).min(self.left)
+    }
+}
+
+impl<R: Read> Read for Cut<R> {
+    ghost remaining = { λ s. R.remaining (cut_inner s) };
+
+    /// Reads at most `most` bytes. With none left it fails.
+    fn read(&mut self, buf: &mut [u8]) -> io::Result<usize>
+        ensures bound { ReadsAtMost result buf.new }
+        ensures bytes { ReadConsumes (R.remaining (cut_inner self.old))
+            (R.remaining (cut_inner self.new)) result buf.new }
+        ensures most { IfOk result (λ n. n ≤ cut_most self.old) }
+        ensures counted { IfOk result (λ n. cut_left self.new + n ≡ cut_left self.old) }
+        ensures kept { OnErr result (cut_left self.new ≡ cut_left self.old) }
+        ensures over { cut_left self.old ≡ 0
+            → IsErrAnd result (λ e. error_kind e ≡ ending_kind (cut_ending self.old)) }
+        ensures same { KeepsCut self.old self.new }
+    {
+        if self.left == 0 {
+            return Err(self.error());
+        }
+        let share = self.share(buf.len());
+        let n = self.inner.read(&mut buf[..share])?;
+        self.left -= n;
+        Ok(n)
+    }
+}
+
+impl<W: Write> Write for Cut<W> {
+    ghost contents = { λ s. W.contents (cut_inner s) };
+
+    /// Writes at most `most` bytes. With none left it ends as it is told.
+    fn write(&mut self, buf: &[u8]) -> io::Result<usize>
+        ensures bound { WritesAtMost result buf.now }
+        ensures bytes { WriteAppends (W.contents (cut_inner self.old))
+            (W.contents (cut_inner self.new)) result buf.now }
+        ensures most { IfOk result (λ n. n ≤ cut_most self.old) }
+        ensures counted { IfOk result (λ n. cut_left self.new + n ≡ cut_left self.old) }
+        ensures kept { OnErr result (cut_left self.new ≡ cut_left self.old) }
+        ensures over { cut_left self.old ≡ 0 → EndsWrite (cut_ending self.old) result }
+        ensures same { KeepsCut self.old self.new }
+    {
+        if self.left == 0 {
+            return match self.ending {
+                Ending::Fails(_) => Err(self.error()),
+                Ending::TakesNothing => Ok(0),
+            };
+        }
+        let share = self.share(buf.len());
+        let n = self.inner.write(&buf[..share])?;
+        self.left -= n;
+        Ok(n)
+    }
+
+    fn flush(&mut self) -> io::Result<()> {
+        self.inner.flush()
+    }
+}
