@@ -1,0 +1,6 @@
+use Rattle.std.proofs.Common.{rules}
+use Rattle.graphql_values.proofs.TypeEquality.{type_eq-Decides}
+use Rattle.graphql_values.proofs.laws.equal_types.Goals as goal
+
+pub returns : goal.returns
+returns c = let h = type_eq-Decides c.args.a.now c.args.b.now in rw c.eq.ensures (search (rules, h))

@@ -1,0 +1,11 @@
+use Rattle.std.proofs.Common.{map, take, codes}
+use Rattle.graphql_values.specs.Placed.{node_tree}
+use Rattle.graphql_values.specs.OperationTree.{variable_definition_tree}
+use Rattle.graphql_values.specs.Joined.{further_text}
+use Rattle.graphql_values.specs.ValueLayout.{texts_of}
+use Rattle.graphql_values.specs.OperationLayout.{variable_text}
+use Rattle.graphql_values.proofs.print_operation.put_further_variables.Given as goal
+
+abbrev pub invariant-loop-variable : goal.invariant-loop-variable
+invariant-loop-variable g l =
+    g.S.Sink.puts l.fn.sink (further_text (codes ", ") (texts_of variable_text (map (node_tree variable_definition_tree) (take l.variable-index l.variables)))) l.sink

@@ -1,0 +1,10 @@
+use Rattle.std.proofs.Common.{map, take, codes}
+use Rattle.graphql_values.specs.Placed.{node_tree}
+use Rattle.graphql_values.specs.DirectiveTree.{argument_tree}
+use Rattle.graphql_values.specs.Joined.{further_text}
+use Rattle.graphql_values.specs.ValueLayout.{argument_text, texts_of}
+use Rattle.graphql_values.proofs.print_value.put_further_arguments.Given as goal
+
+abbrev pub invariant-loop-argument : goal.invariant-loop-argument
+invariant-loop-argument g l =
+    g.S.Sink.puts l.fn.sink (further_text (codes ", ") (texts_of argument_text (map (node_tree argument_tree) (take l.argument-index l.arguments)))) l.sink

@@ -1,0 +1,90 @@
+-- Types, values, arguments and directives (GraphQL, October 2021, sections 2.6, 2.9, 2.11, 2.12).
+use Rattle.std.specs.Prelude.{ℕ, Bool, true, false, List, [], ◌∷◌, map, codes, Option, None, Some}
+use Rattle.graphql_values.specs.Joined.{joined, further_text, separated}
+use Rattle.graphql_values.specs.Placed.{Placed, Text}
+use Rattle.graphql_values.specs.TypeTree.{TypeTree, NamedTree, NonNullNamedTree, ListTree, NonNullListTree}
+use Rattle.graphql_values.specs.ValueTree as value
+use Rattle.graphql_values.specs.ValueTree.{ValueTree, NullTree, EnumTree, VariableTree, StringTree, FloatTree, IntTree, BooleanTree, ObjectTree, ItemTrees, no_items, item_then, EntryTrees, no_entries, entry_then}
+use Rattle.graphql_values.specs.DirectiveTree.{ArgumentTree, Arguments, DirectiveTree, Directives}
+use Rattle.graphql_values.specs.LineLayout.{Prefix, standing}
+use Rattle.graphql_values.specs.StringLayout.{quoted_text}
+
+abbrev pub type_text : {P : Type 0} → TypeTree P → List ℕ
+type_text (NamedTree n) = n.it
+type_text (NonNullNamedTree n) = joined (n.it ∷ codes "!" ∷ [])
+type_text (ListTree t) = joined (codes "[" ∷ type_text t ∷ codes "]" ∷ [])
+type_text (NonNullListTree t) = joined (codes "[" ∷ type_text t ∷ codes "]!" ∷ [])
+
+abbrev pub boolean_text : Bool → List ℕ
+boolean_text true = codes "true"
+boolean_text false = codes "false"
+
+-- [items], and [] without any
+abbrev pub list_text : List (List ℕ) → List ℕ
+list_text items = joined (codes "[" ∷ separated (codes ", ") items ∷ codes "]" ∷ [])
+
+-- {fields}, and {} without any
+abbrev pub object_text : List (List ℕ) → List ℕ
+object_text fields = joined (codes "{" ∷ separated (codes ", ") fields ∷ codes "}" ∷ [])
+
+-- name: value
+abbrev pub named_value_text : List ℕ → List ℕ → List ℕ
+named_value_text name text = joined (name ∷ codes ": " ∷ text ∷ [])
+
+abbrev mutual
+  pub value_text : {P : Type 0} → ValueTree P → List ℕ
+  value_text NullTree = codes "null"
+  value_text (EnumTree n) = n.it
+  value_text (VariableTree n) = joined (codes "$" ∷ n.it ∷ [])
+  value_text (StringTree s) = quoted_text s
+  value_text (FloatTree s) = s
+  value_text (IntTree s) = s
+  value_text (BooleanTree b) = boolean_text b
+  value_text (value.ListTree ts) = list_text (item_texts ts)
+  value_text (ObjectTree ts) = object_text (entry_texts ts)
+
+  pub item_texts : {P : Type 0} → ItemTrees P → List (List ℕ)
+  item_texts no_items = []
+  item_texts (item_then p t ts) = value_text t ∷ item_texts ts
+
+  pub entry_texts : {P : Type 0} → EntryTrees P → List (List ℕ)
+  entry_texts no_entries = []
+  entry_texts (entry_then n p t ts) = named_value_text n.it (value_text t) ∷ entry_texts ts
+
+-- (members), and nothing at all where there is none
+abbrev pub parenthesized_text : List (List ℕ) → List ℕ
+parenthesized_text [] = joined []
+parenthesized_text (text ∷ texts) = joined (codes "(" ∷ text ∷ further_text (codes ", ") texts ∷ codes ")" ∷ [])
+
+-- the texts of the members of a list, places aside
+abbrev pub texts_of : {P A X : Type 0} → (A → X) → List (Placed P A) → List X
+texts_of f ns = map (λ n. f n.it) ns
+
+abbrev pub argument_text : {P : Type 0} → ArgumentTree P → List ℕ
+argument_text a = named_value_text a.name.it (value_text a.value.it)
+
+-- (name: value, ..)
+abbrev pub arguments_text : {P : Type 0} → Arguments P → List ℕ
+arguments_text as' = parenthesized_text (texts_of argument_text as')
+
+-- @name(arguments)
+abbrev pub directive_text : {P : Type 0} → DirectiveTree P → List ℕ
+directive_text d = joined (codes "@" ∷ d.name.it ∷ arguments_text d.arguments ∷ [])
+
+-- directives behind something, each with a space before it
+abbrev pub directives_text : {P : Type 0} → Directives P → List ℕ
+directives_text ds = further_text (codes " ") (texts_of directive_text ds)
+
+-- directives alone, with spaces between them
+abbrev pub directive_list_text : {P : Type 0} → Directives P → List ℕ
+directive_list_text ds = separated (codes " ") (texts_of directive_text ds)
+
+-- the same as a whole text
+abbrev pub directives_alone : {P : Type 0} → Prefix → ℕ → Directives P → List ℕ
+directives_alone prefix level [] = joined []
+directives_alone prefix level (d ∷ ds) = standing prefix level (directive_list_text (d ∷ ds))
+
+-- a default value: = value
+abbrev pub default_text : {P : Type 0} → Option (Placed P (ValueTree P)) → List ℕ
+default_text None = joined []
+default_text (Some v) = joined (codes " = " ∷ value_text v.it ∷ [])

@@ -1,0 +1,132 @@
+//! Laws of the trees, each on the contract of a call: assignable types are ordered, and `==` is the sameness of two trees
+//! whatever their places.
+ghost use Rattle.std.specs.Prelude.{◌≡◌, ◌↔◌, IsTrue, IfOk, None, Some};
+ghost use Rattle.graphql_values.specs.TypeTree.{type_tree, unplaced_type};
+ghost use Rattle.graphql_values.specs.TypeQueries.{AreTypesCompatible};
+ghost use Rattle.graphql_values.specs.ValueTree.{value_tree, unplaced_value};
+ghost use Rattle.graphql_values.specs.DirectiveTree.{argument_tree, directive_tree, directives_tree, input_value_tree, directive_definition_tree, unplaced_argument, unplaced_directive, unplaced_directives, unplaced_input_value, unplaced_directive_definition};
+ghost use Rattle.graphql_values.specs.SelectionTree.{selection_tree, unplaced_selection};
+ghost use Rattle.graphql_values.specs.SelectionParts.{field_tree, spread_tree, inline_tree};
+ghost use Rattle.graphql_values.specs.OperationTree.{variable_definition_tree, operation_tree, fragment_tree, unplaced_variable_definition, unplaced_operation, unplaced_fragment};
+
+use crate::directive::{Argument, Directive, DirectiveDefinition, DirectiveList};
+use crate::input_value::InputValueDefinition;
+use crate::number::IntValue;
+use crate::operation::{FragmentDefinition, OperationDefinition, VariableDefinition};
+use crate::selection::{Field, FragmentSpread, InlineFragment, Selection};
+use crate::ty::Type;
+use crate::value::Value;
+use std::alloc::{AllocError, Global};
+
+/// `is_assignable_to` is reflexive, transitive, and antisymmetric but for places.
+pub fn assignable_types_are_ordered(a: &Type, b: &Type, c: &Type)
+    ensures reflexive { AreTypesCompatible (type_tree a.now) (type_tree a.now) }
+    ensures transitive { AreTypesCompatible (type_tree a.now) (type_tree b.now) → AreTypesCompatible (type_tree b.now) (type_tree c.now) → AreTypesCompatible (type_tree a.now) (type_tree c.now) }
+    ensures antisymmetric { AreTypesCompatible (type_tree a.now) (type_tree b.now) → AreTypesCompatible (type_tree b.now) (type_tree a.now) → unplaced_type (type_tree a.now) ≡ unplaced_type (type_tree b.now) }
+{}
+
+/// `try_to_i32` gives back what `from_i32` took.
+#[tactic(auto, using(crate::proofs::IntegerText::integer_text_rules))]
+pub fn integers_come_back(alloc: Global, number: i32) -> Result<Option<i32>, AllocError>
+    ensures { IfOk result (λ back. back ≡ Some number) }
+{
+    Ok(IntValue::from_i32(alloc, number)?.try_to_i32())
+}
+
+/// Whether two references to types are the same, places aside: what `==` answers.
+pub fn equal_types(a: &Type, b: &Type) -> bool
+    ensures { IsTrue result ↔ (unplaced_type (type_tree a.now) ≡ unplaced_type (type_tree b.now)) }
+{
+    *a == *b
+}
+
+/// Whether two values are the same, places aside: what `==` answers.
+pub fn equal_values(a: &Value, b: &Value) -> bool
+    ensures { IsTrue result ↔ (unplaced_value (value_tree a.now) ≡ unplaced_value (value_tree b.now)) }
+{
+    *a == *b
+}
+
+/// Whether two arguments are the same, places aside: what `==` answers.
+pub fn equal_arguments(a: &Argument, b: &Argument) -> bool
+    ensures { IsTrue result ↔ (unplaced_argument (argument_tree a.now) ≡ unplaced_argument (argument_tree b.now)) }
+{
+    *a == *b
+}
+
+/// Whether two directives are the same, places aside: what `==` answers.
+pub fn equal_directives(a: &Directive, b: &Directive) -> bool
+    ensures { IsTrue result ↔ (unplaced_directive (directive_tree a.now) ≡ unplaced_directive (directive_tree b.now)) }
+{
+    *a == *b
+}
+
+/// Whether two lists of directives are the same, places aside: what `==` answers.
+pub fn equal_directive_lists(a: &DirectiveList, b: &DirectiveList) -> bool
+    ensures { IsTrue result ↔ (unplaced_directives (directives_tree a.now) ≡ unplaced_directives (directives_tree b.now)) }
+{
+    *a == *b
+}
+
+/// Whether two definitions of input values are the same, places aside: what `==` answers.
+pub fn equal_input_values(a: &InputValueDefinition, b: &InputValueDefinition) -> bool
+    ensures { IsTrue result ↔ (unplaced_input_value (input_value_tree a.now) ≡ unplaced_input_value (input_value_tree b.now)) }
+{
+    *a == *b
+}
+
+/// Whether two definitions of directives are the same, places aside: what `==` answers.
+pub fn equal_directive_definitions(a: &DirectiveDefinition, b: &DirectiveDefinition) -> bool
+    ensures { IsTrue result ↔ (unplaced_directive_definition (directive_definition_tree a.now) ≡ unplaced_directive_definition (directive_definition_tree b.now)) }
+{
+    *a == *b
+}
+
+/// Whether two definitions of variables are the same, places aside: what `==` answers.
+pub fn equal_variable_definitions(a: &VariableDefinition, b: &VariableDefinition) -> bool
+    ensures { IsTrue result ↔ (unplaced_variable_definition (variable_definition_tree a.now) ≡ unplaced_variable_definition (variable_definition_tree b.now)) }
+{
+    *a == *b
+}
+
+/// Whether two selections are the same, places aside: what `==` answers.
+pub fn equal_selections(a: &Selection, b: &Selection) -> bool
+    ensures { IsTrue result ↔ (unplaced_selection (selection_tree a.now) ≡ unplaced_selection (selection_tree b.now)) }
+{
+    *a == *b
+}
+
+/// Whether two fields are the same, places aside: what `==` answers.
+pub fn equal_fields(a: &Field, b: &Field) -> bool
+    ensures { IsTrue result ↔ (unplaced_selection (field_tree None a.now) ≡ unplaced_selection (field_tree None b.now)) }
+{
+    *a == *b
+}
+
+/// Whether two fragment spreads are the same, places aside: what `==` answers.
+pub fn equal_fragment_spreads(a: &FragmentSpread, b: &FragmentSpread) -> bool
+    ensures { IsTrue result ↔ (unplaced_selection (spread_tree None a.now) ≡ unplaced_selection (spread_tree None b.now)) }
+{
+    *a == *b
+}
+
+/// Whether two inline fragments are the same, places aside: what `==` answers.
+pub fn equal_inline_fragments(a: &InlineFragment, b: &InlineFragment) -> bool
+    ensures { IsTrue result ↔ (unplaced_selection (inline_tree None a.now) ≡ unplaced_selection (inline_tree None b.now)) }
+{
+    *a == *b
+}
+
+/// Whether two operations are the same, places aside: what `==` answers.
+pub fn equal_operations(a: &OperationDefinition, b: &OperationDefinition) -> bool
+    ensures { IsTrue result ↔ (unplaced_operation (operation_tree a.now) ≡ unplaced_operation (operation_tree b.now)) }
+{
+    *a == *b
+}
+
+/// Whether two fragments are the same, places aside: what `==` answers.
+pub fn equal_fragments(a: &FragmentDefinition, b: &FragmentDefinition) -> bool
+    ensures { IsTrue result ↔ (unplaced_fragment (fragment_tree a.now) ≡ unplaced_fragment (fragment_tree b.now)) }
+{
+    *a == *b
+}

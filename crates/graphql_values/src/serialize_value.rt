@@ -1,0 +1,103 @@
+//! The texts of types, values, arguments and directives by themselves.
+ghost use Rattle.std.specs.Prelude.{Some};
+ghost use Rattle.std.specs.Option.{option_copied};
+ghost use Rattle.graphql_values.specs.Levels.{level_depth};
+ghost use Rattle.graphql_values.specs.LineLayout.{default_prefix, standing};
+ghost use Rattle.graphql_values.specs.TypeTree.{type_tree};
+ghost use Rattle.graphql_values.specs.ValueTree.{value_tree};
+ghost use Rattle.graphql_values.specs.DirectiveTree.{argument_tree, directive_tree, directives_tree};
+ghost use Rattle.graphql_values.specs.ValueLayout.{type_text, value_text, argument_text, directive_text, directives_alone};
+
+use crate::directive::{Argument, Directive, DirectiveList};
+use crate::level::Level;
+use crate::print_lines::put_start;
+use crate::print_value::{put_argument, put_directive, put_directive_list, put_type, put_value};
+use crate::serialize::Tree;
+use crate::sink::Sink;
+use crate::ty::Type;
+use crate::value::Value;
+use std::fmt;
+
+impl Tree for Type {
+    ghost text = { λ t prefix level. standing prefix level (type_text (type_tree t)) };
+
+    fn put<S: Sink>(&self, sink: &mut S, prefix: Option<&str>, level: &Level) {
+        put_start(sink, prefix, level);
+        put_type(sink, self);
+    }
+}
+
+impl fmt::Display for Type {
+    ghost output = { λ t. Some (standing default_prefix 0 (type_text (type_tree t))) };
+
+    fn fmt<W: fmt::Write>(&self, f: &mut fmt::Formatter<W>) -> fmt::Result {
+        self.serialize().fmt(f)
+    }
+}
+
+impl Tree for Value {
+    ghost text = { λ t prefix level. standing prefix level (value_text (value_tree t)) };
+
+    fn put<S: Sink>(&self, sink: &mut S, prefix: Option<&str>, level: &Level) {
+        put_start(sink, prefix, level);
+        put_value(sink, self);
+    }
+}
+
+impl fmt::Display for Value {
+    ghost output = { λ t. Some (standing default_prefix 0 (value_text (value_tree t))) };
+
+    fn fmt<W: fmt::Write>(&self, f: &mut fmt::Formatter<W>) -> fmt::Result {
+        self.serialize().fmt(f)
+    }
+}
+
+impl Tree for Argument {
+    ghost text = { λ t prefix level. standing prefix level (argument_text (argument_tree t)) };
+
+    fn put<S: Sink>(&self, sink: &mut S, prefix: Option<&str>, level: &Level) {
+        put_start(sink, prefix, level);
+        put_argument(sink, self);
+    }
+}
+
+impl fmt::Display for Argument {
+    ghost output = { λ t. Some (standing default_prefix 0 (argument_text (argument_tree t))) };
+
+    fn fmt<W: fmt::Write>(&self, f: &mut fmt::Formatter<W>) -> fmt::Result {
+        self.serialize().fmt(f)
+    }
+}
+
+impl Tree for Directive {
+    ghost text = { λ t prefix level. standing prefix level (directive_text (directive_tree t)) };
+
+    fn put<S: Sink>(&self, sink: &mut S, prefix: Option<&str>, level: &Level) {
+        put_start(sink, prefix, level);
+        put_directive(sink, self);
+    }
+}
+
+impl fmt::Display for Directive {
+    ghost output = { λ t. Some (standing default_prefix 0 (directive_text (directive_tree t))) };
+
+    fn fmt<W: fmt::Write>(&self, f: &mut fmt::Formatter<W>) -> fmt::Result {
+        self.serialize().fmt(f)
+    }
+}
+
+impl Tree for DirectiveList {
+    ghost text = { λ t prefix level. directives_alone prefix level (directives_tree t) };
+
+    fn put<S: Sink>(&self, sink: &mut S, prefix: Option<&str>, level: &Level) {
+        put_directive_list(sink, prefix, level, &self.0);
+    }
+}
+
+impl fmt::Display for DirectiveList {
+    ghost output = { λ t. Some (directives_alone default_prefix 0 (directives_tree t)) };
+
+    fn fmt<W: fmt::Write>(&self, f: &mut fmt::Formatter<W>) -> fmt::Result {
+        self.serialize().fmt(f)
+    }
+}
