@@ -1,0 +1,5 @@
+pub mod Copies
+pub mod TreeEquality
+pub mod DefinitionEquality
+pub mod DocumentExamples
+pub mod PrefixExamples

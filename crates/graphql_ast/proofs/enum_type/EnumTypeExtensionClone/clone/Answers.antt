@@ -1,0 +1,13 @@
+use Rattle.graphql_values.specs.Placed.{name_tree}
+use Rattle.graphql_ast.specs.TypeSystemTree.{enum_value_tree}
+use Rattle.graphql_values.proofs.Trees.{nodes-copies}
+use Rattle.graphql_ast.proofs.enum_type.EnumTypeExtensionClone.clone.Goals as goal
+
+pub returns : goal.returns
+returns c = record {
+  cases = λ i. record {
+    name = name_tree (c.in_ok-clone.ensures.same i);
+    directives = c.in_ok-clone-2.ensures.cases i;
+    values = nodes-copies enum_value_tree _ _ c.in_ok-clone-3.ensures.cases.0 i;
+  };
+}

@@ -1,0 +1,18 @@
+use Rattle.std.proofs.Common.{ap}
+use Rattle.std.specs.Option.{option_map}
+use Rattle.graphql_values.specs.Placed.{name_tree, text_tree}
+use Rattle.graphql_values.specs.DirectiveTree.{input_value_tree}
+use Rattle.graphql_values.proofs.Trees.{nodes-copies}
+use Rattle.graphql_ast.proofs.input_object_type.InputObjectTypeDefinitionClone.clone.Goals as goal
+
+pub returns : goal.returns
+returns c = record {
+  cases = (
+    ap (option_map text_tree) c.in_ok-clone_description.ensures,
+    λ i. record {
+      name = name_tree (c.in_ok-clone.ensures.same i);
+      directives = c.in_ok-clone-2.ensures.cases i;
+      fields = nodes-copies input_value_tree _ _ c.in_ok-clone-3.ensures.cases.0 i;
+    },
+  );
+}

@@ -1,0 +1,51 @@
+//! Input object types.
+ghost use Rattle.std.specs.Prelude.{◌≡◌};
+ghost use Rattle.std.specs.Option.{option_map};
+ghost use Rattle.graphql_values.specs.Placed.{text_tree};
+ghost use Rattle.graphql_ast.specs.DefinitionTree.{input_object_parts, input_object_extension_parts};
+
+use crate::description::clone_description;
+use graphql_values::{DirectiveList, InputValueDefinition, Name, Node, NodeStr};
+use std::alloc::AllocError;
+
+/// `input name @directives { fields }` (section 3.10).
+#[derive(PartialEq, Eq, Hash, Drop)]
+pub struct InputObjectTypeDefinition {
+    pub description: Option<NodeStr>,
+    pub name: Name,
+    pub directives: DirectiveList,
+    pub fields: Vec<Node<InputValueDefinition>>,
+}
+
+/// `extend input name @directives { fields }` (section 3.10.1).
+#[derive(PartialEq, Eq, Hash, Drop)]
+pub struct InputObjectTypeExtension {
+    pub name: Name,
+    pub directives: DirectiveList,
+    pub fields: Vec<Node<InputValueDefinition>>,
+}
+
+impl Clone for InputObjectTypeDefinition {
+    ghost is_clone = { λ t copy. (option_map text_tree copy.description ≡ option_map text_tree t.description) × (input_object_parts copy ≡ input_object_parts t) };
+
+    fn clone(&self) -> Result<InputObjectTypeDefinition, AllocError> {
+        Ok(InputObjectTypeDefinition {
+            description: clone_description(&self.description)?,
+            name: self.name.clone()?,
+            directives: self.directives.clone()?,
+            fields: self.fields.clone()?,
+        })
+    }
+}
+
+impl Clone for InputObjectTypeExtension {
+    ghost is_clone = { λ t copy. input_object_extension_parts copy ≡ input_object_extension_parts t };
+
+    fn clone(&self) -> Result<InputObjectTypeExtension, AllocError> {
+        Ok(InputObjectTypeExtension {
+            name: self.name.clone()?,
+            directives: self.directives.clone()?,
+            fields: self.fields.clone()?,
+        })
+    }
+}
