@@ -1,0 +1,17 @@
+-- What stands when all definitions are folded.
+use Rattle.std.proofs.Common.{◌≡◌, List, [], ◌++◌, subst}
+use Rattle.graphql_values.specs.Placed.{Place}
+use Rattle.graphql_ast.specs.DefinitionTree.{DefinitionTree}
+use Rattle.graphql_checked.specs.Fold.{built_in_definitions}
+use Rattle.graphql_checked.specs.Faults.{Fault}
+use Rattle.graphql_checked.specs.SchemaView.{types_of}
+use Rattle.graphql_checked.specs.FaultList.{IsFolded, FoldsOn}
+use Rattle.graphql_checked.specs.declared.schema.Schema.{Schema}
+use Rattle.graphql_checked.proofs.FoldSteps.{folds_both}
+
+-- what is built in, and then the texts' own
+pub built : (own texts : List (DefinitionTree Place)) (schema schema' schema'' : Schema) (faults faults' faults'' : List Fault) → own ≡ built_in_definitions → types_of schema ≡ [] → faults ≡ []
+    → FoldsOn own schema faults schema' faults' → FoldsOn texts schema' faults' schema'' faults'' → IsFolded (built_in_definitions ++ texts) schema'' faults''
+built own texts schema schema' schema'' faults faults' faults'' is empty silent p q =
+    subst (λ l. IsFolded (l ++ texts) schema'' faults'') is
+    (folds_both own texts schema schema' schema'' faults faults' faults'' p q [] (record { types = empty; told = silent }))

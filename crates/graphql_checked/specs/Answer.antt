@@ -1,0 +1,116 @@
+-- The texts of faults and of whole answers.
+use Rattle.std.specs.Prelude.{◌≡◌, ◌≢◌, ℕ, ◌+◌, ◌<◌, List, [], ◌∷◌, ◌++◌, flat_map, Contains, codes, Option, None, Some, if◌then◌else◌, ◌⊎◌}
+use Rattle.std.specs.Fmt.{decimal}
+use Rattle.graphql_names.specs.Places.{is_built_in}
+use Rattle.graphql_names.specs.declared.span.SourceSpan.{SourceSpan}
+use Rattle.graphql_values.specs.Placed.{Place}
+use Rattle.graphql_ast.specs.DefinitionTree.{DefinitionTree}
+use Rattle.graphql_checked.specs.Thin.{ReadsDocument}
+use Rattle.graphql_checked.specs.Fold.{definition_list}
+use Rattle.graphql_checked.specs.Out.{Out, OutDoc}
+use Rattle.graphql_checked.specs.Judge.{ReadsAll, JudgeSchemas, Judge, document_number, UnreadFault}
+use Rattle.graphql_checked.specs.Faults.{PassesNesting, PassesNumbers, FoldingFails, SchemaFails, DocumentFails, Breach, Fault, Nesting, Spent, TypeDefinitionCollision, ObjectFieldNameCollision, QueryRootOperationType, UndefinedField}
+
+-- the text of a fault
+abbrev pub message : Breach → List ℕ
+message Nesting = codes "too many open brackets"
+message Spent = codes "numbers are spent"
+message (TypeDefinitionCollision name) = codes "`" ++ name ++ codes "` is defined more than once"
+message (ObjectFieldNameCollision type_name name) = codes "`" ++ type_name ++ codes "` has `" ++ name ++ codes "` more than once"
+message QueryRootOperationType = codes "missing query root operation type in schema definition"
+message (UndefinedField type_name field_name) = codes "`" ++ type_name ++ codes "` has no field `" ++ field_name ++ codes "`"
+
+-- number and offset of a place; `-` without one, and in what is built in
+abbrev pub place_text : Place → List ℕ
+place_text None = codes "-"
+place_text (Some span) = if is_built_in (Some span) then codes "-" else decimal span.file_id.0 ++ codes ":" ++ decimal span.offset
+
+-- the line of a fault
+abbrev pub fault_line : Fault → List ℕ
+fault_line fault = place_text fault.place ++ codes ": " ++ message fault.breach ++ codes "\n"
+
+-- ---- bounds
+
+-- a text with this number passes no bound
+pub record WithinBounds (nesting file : ℕ) (text : List ℕ) : Type 0 where
+  pub nests : PassesNesting nesting text → ⊥
+  pub numbered : PassesNumbers file → ⊥
+
+-- the same of each text, where the first has this number
+abbrev pub AllWithinBounds : ℕ → ℕ → List (List ℕ) → Type 0
+AllWithinBounds nesting first [] = Unit {0}
+AllWithinBounds nesting first (text ∷ texts) = WithinBounds nesting first text × AllWithinBounds nesting (first + 1) texts
+
+-- ---- lists of faults
+
+-- each text that passes a bound has one fault, in order, where the first text has this number
+abbrev pub UnreadFaults : ℕ → ℕ → List (List ℕ) → List Fault → Type 0
+UnreadFaults nesting first [] faults = faults ≡ []
+UnreadFaults nesting first (text ∷ texts) faults =
+    (WithinBounds nesting first text × UnreadFaults nesting (first + 1) texts faults)
+    ⊎ ((fault : Fault) × ((others : List Fault) × (
+    (faults ≡ fault ∷ others) × UnreadFault nesting first text fault × UnreadFaults nesting (first + 1) texts others)))
+
+-- each of these faults is so, and there are some
+pub record AreFaults (fails : Fault → Type 0) (faults : List Fault) : Type 0 where
+  pub some : faults ≢ []
+  pub are : (fault : Fault) → Contains faults fault → fails fault
+
+-- the faults of read schema texts: all are so, and each definition and each component that a folding rule refuses has one
+pub record SchemaFaults (schemas : List (List ℕ)) (faults : List Fault) : Type 0 where
+  pub trees : List (List (DefinitionTree Place))
+  pub read : ReadsAll 1 schemas trees
+  pub are : AreFaults (SchemaFails (definition_list trees)) faults
+  pub full : (fault : Fault) → FoldingFails (definition_list trees) fault → Contains faults fault
+
+-- the faults of a read document: all are so, and each field that the query root does not have has one
+pub record DocumentFaults (schemas : List (List ℕ)) (document : List ℕ) (faults : List Fault) : Type 0 where
+  pub schema : JudgeSchemas schemas
+  pub tree : List (DefinitionTree Place)
+  pub read : ReadsDocument (document_number schemas) document tree
+  pub are : AreFaults (DocumentFails (definition_list schema.trees) tree) faults
+  pub full : (fault : Fault) → DocumentFails (definition_list schema.trees) tree fault → Contains faults fault
+
+-- The schema texts are refused with these faults: those of the unread texts alone, or those of the read ones.
+abbrev pub RefusesSchemas : ℕ → List (List ℕ) → List Fault → Type 0
+RefusesSchemas nesting schemas faults =
+    ((faults ≢ []) × UnreadFaults nesting 1 schemas faults)
+    ⊎ (AllWithinBounds nesting 1 schemas × SchemaFaults schemas faults)
+
+-- The document over accepted schema texts is refused with these faults: that it is unread alone, or those of the read one.
+abbrev pub RefusesDocument : ℕ → List (List ℕ) → List ℕ → List Fault → Type 0
+RefusesDocument nesting schemas document faults = JudgeSchemas schemas × AllWithinBounds nesting 1 schemas × (
+    ((fault : Fault) × ((faults ≡ fault ∷ []) × UnreadFault nesting (document_number schemas) document fault))
+    ⊎ (WithinBounds nesting (document_number schemas) document × DocumentFaults schemas document faults))
+
+-- ---- the bytes of an answer
+
+module _ (layout : List (DefinitionTree Place) → List ℕ) where
+  -- the written schema of accepted texts
+  abbrev pub WritesSchema : List (List ℕ) → List ℕ → Type 0
+  WritesSchema schemas bytes = (trees : List (List (DefinitionTree Place))) × (ReadsAll 1 schemas trees × (bytes ≡ layout (Out (definition_list trees))))
+
+  -- the written document of an accepted pair
+  abbrev pub WritesDocument : List (List ℕ) → List ℕ → List ℕ → Type 0
+  WritesDocument schemas document bytes = (tree : List (DefinitionTree Place)) × (ReadsDocument (document_number schemas) document tree × (bytes ≡ layout (OutDoc tree)))
+
+  -- `accepted` and the written texts, a line each
+  pub record AcceptedBytes (nesting : ℕ) (schemas : List (List ℕ)) (document bytes : List ℕ) : Type 0 where
+    pub judged : Judge schemas document
+    pub schemas_within : AllWithinBounds nesting 1 schemas
+    pub document_within : WithinBounds nesting (document_number schemas) document
+    pub schema_text : List ℕ
+    pub document_text : List ℕ
+    pub writes_schema : WritesSchema schemas schema_text
+    pub writes_document : WritesDocument schemas document document_text
+    pub is : bytes ≡ codes "accepted\n" ++ schema_text ++ codes "\n" ++ document_text ++ codes "\n"
+
+  -- `refused` and a line for each fault
+  pub record RefusedBytes (nesting : ℕ) (schemas : List (List ℕ)) (document bytes : List ℕ) : Type 0 where
+    pub faults : List Fault
+    pub refused : RefusesSchemas nesting schemas faults ⊎ RefusesDocument nesting schemas document faults
+    pub is : bytes ≡ codes "refused\n" ++ flat_map fault_line faults
+
+  -- The bytes that may be put out for these texts.
+  abbrev pub Answer : ℕ → List (List ℕ) → List ℕ → List ℕ → Type 0
+  Answer nesting schemas document bytes = AcceptedBytes nesting schemas document bytes ⊎ RefusedBytes nesting schemas document bytes
