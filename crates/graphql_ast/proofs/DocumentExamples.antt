@@ -1,17 +1,16 @@
 -- The layout of small documents, computed. The texts are written by hand.
-use Rattle.std.proofs.Common.{◌≡◌, ℕ, List, [], ◌∷◌, codes, Bool, true, false, Option, None, Some, refl}
+use Rattle.std.proofs.Common.{◌≡◌, ℕ, List, [], ◌∷◌, codes, Option, None, Some, refl}
 use Rattle.graphql_values.specs.Joined.{joined}
 use Rattle.graphql_values.specs.Placed.{Placed, Text}
 use Rattle.graphql_values.specs.TypeTree.{TypeTree, NamedTree}
 use Rattle.graphql_values.specs.ValueTree.{ValueTree, IntTree}
 use Rattle.graphql_values.specs.DirectiveTree.{DirectiveTree, InputValueTree}
-use Rattle.graphql_values.specs.SelectionTree.{SelectionTree, FieldTree, no_selections, selection_then}
-use Rattle.graphql_values.specs.OperationTree.{OperationTree}
+use Rattle.graphql_values.specs.SelectionTree.{FieldTree, no_selections, selection_then}
 use Rattle.graphql_values.specs.LineLayout.{Prefix}
 use Rattle.graphql_values.specs.declared.operation.OperationType.TheVariants.{Query, Mutation}
 use Rattle.graphql_ast.specs.TypeSystemTree.{FieldDefinitionTree, EnumValueTree, FieldsParts}
 use Rattle.graphql_ast.specs.DefinitionTree.{DefinitionTree, Operation, Schema, ScalarType, ObjectType, InterfaceType, UnionType, EnumType, InputObjectType, ExtendSchema, ExtendScalar, ExtendObject, ExtendUnion}
-use Rattle.graphql_ast.specs.DocumentLayout.{document_text, definition_text}
+use Rattle.graphql_ast.specs.DocumentLayout.{document_text}
 
 abbrev U : Type 0
 U = Unit {0}

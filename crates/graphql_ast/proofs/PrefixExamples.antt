@@ -1,12 +1,12 @@
 -- Each form of definitions under a prefix of two spaces, of four spaces and of one tab, computed. The texts are written by hand.
-use Rattle.std.proofs.Common.{◌≡◌, ℕ, List, [], ◌∷◌, codes, Bool, true, false, Option, None, Some, refl}
+use Rattle.std.proofs.Common.{◌≡◌, ℕ, List, [], ◌∷◌, codes, true, Option, None, Some, refl}
 use Rattle.graphql_values.specs.Joined.{joined}
 use Rattle.graphql_values.specs.Placed.{Placed, Text}
 use Rattle.graphql_values.specs.TypeTree.{TypeTree, NamedTree, NonNullNamedTree, NonNullListTree}
 use Rattle.graphql_values.specs.ValueTree.{ValueTree, IntTree, StringTree, VariableTree, ListTree, ObjectTree, no_items, item_then, no_entries, entry_then}
 use Rattle.graphql_values.specs.DirectiveTree.{DirectiveTree, ArgumentTree, InputValueTree}
-use Rattle.graphql_values.specs.SelectionTree.{SelectionTree, SelectionTrees, FieldHead, FieldTree, SpreadTree, InlineTree, no_selections, selection_then}
-use Rattle.graphql_values.specs.OperationTree.{OperationTree, VariableDefinitionTree}
+use Rattle.graphql_values.specs.SelectionTree.{SelectionTrees, FieldHead, FieldTree, SpreadTree, InlineTree, no_selections, selection_then}
+use Rattle.graphql_values.specs.OperationTree.{VariableDefinitionTree}
 use Rattle.graphql_values.specs.declared.operation.OperationType.TheVariants.{Query, Mutation}
 use Rattle.graphql_values.specs.declared.directive_location.DirectiveLocation.TheVariants as at
 use Rattle.graphql_ast.specs.TypeSystemTree.{FieldDefinitionTree, EnumValueTree, FieldsParts}

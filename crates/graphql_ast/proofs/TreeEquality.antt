@@ -1,5 +1,5 @@
 -- The derived `==` of each tree decides whether the trees are the same, places aside.
-use Rattle.std.proofs.Common.{◌≡◌, Bool, ◌&&◌, refl, ap, nat_eq}
+use Rattle.std.proofs.Common.{◌≡◌, ◌&&◌, ap, nat_eq}
 use Rattle.std.specs.Bool.{Decides}
 use Rattle.std.specs.Option.{option_map}
 use Rattle.std.specs.Cmp.Lexicographic.{pointwise}

@@ -2,7 +2,7 @@
 use Rattle.std.specs.Prelude.{List, map, Option}
 use Rattle.std.specs.Option.{option_map}
 use Rattle.graphql_names.specs.Node.{content, place}
-use Rattle.graphql_values.specs.Placed.{Placed, Place, Text, name_tree, text_tree, node_tree, unplaced_text, unplaced_node}
+use Rattle.graphql_values.specs.Placed.{Place, Text, name_tree, text_tree, node_tree, unplaced_text}
 use Rattle.graphql_values.specs.DirectiveTree.{DirectiveDefinitionTree, directives_tree, input_value_tree, directive_definition_tree, unplaced_directive_definition}
 use Rattle.graphql_values.specs.OperationTree.{OperationTree, FragmentTree, operation_tree, fragment_tree, unplaced_operation, unplaced_fragment}
 use Rattle.graphql_ast.specs.TypeSystemTree.{SchemaParts, RootOperationTree, ScalarParts, FieldsParts, UnionParts, EnumParts, InputObjectParts, field_definition_tree, enum_value_tree, unplaced_schema, unplaced_scalar, unplaced_fields, unplaced_union, unplaced_enum, unplaced_input_object}

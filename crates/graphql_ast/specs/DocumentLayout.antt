@@ -1,5 +1,5 @@
 -- Definitions and documents (GraphQL, October 2021, section 2.2).
-use Rattle.std.specs.Prelude.{ℕ, Bool, true, false, List, [], ◌∷◌, map, codes, Option, None, Some}
+use Rattle.std.specs.Prelude.{ℕ, Bool, false, List, [], ◌∷◌, map, codes, None, Some}
 use Rattle.graphql_values.specs.Joined.{joined}
 use Rattle.graphql_values.specs.LineLayout.{Prefix, Leveled, start_text}
 use Rattle.graphql_values.specs.StringLayout.{description_text}

@@ -1,6 +1,6 @@
 -- Type system definitions and their extensions (GraphQL, October 2021, section 3).
-use Rattle.std.specs.Prelude.{ℕ, List, [], ◌∷◌, map, codes, Option, None, Some}
-use Rattle.graphql_values.specs.Placed.{Placed, Text}
+use Rattle.std.specs.Prelude.{ℕ, List, [], ◌∷◌, map, codes}
+use Rattle.graphql_values.specs.Placed.{Text}
 use Rattle.graphql_values.specs.DirectiveTree.{Directives}
 use Rattle.graphql_values.specs.Joined.{joined, further_text}
 use Rattle.graphql_values.specs.LineLayout.{Prefix, Leveled, set_text}

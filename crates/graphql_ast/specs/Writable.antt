@@ -1,8 +1,8 @@
 -- Definitions and documents that the grammar can write (GraphQL, October 2021, appendix B): what it asks of them
 -- beside their form.
-use Rattle.std.specs.Prelude.{Bool, true, false, not, ◌&&◌, ◌||◌, List, [], ◌∷◌, Option}
+use Rattle.std.specs.Prelude.{Bool, true, not, ◌&&◌, ◌||◌, List}
 use Rattle.std.specs.List.{list_all}
-use Rattle.graphql_values.specs.Placed.{Placed, Text}
+use Rattle.graphql_values.specs.Placed.{Placed}
 use Rattle.graphql_values.specs.Writable.{can_be_enum, is_none_of, directives_writable, input_values_writable, directive_definition_writable, operation_writable, fragment_writable}
 use Rattle.graphql_ast.specs.TypeSystemTree.{FieldDefinitionTree, EnumValueTree, SchemaParts, ScalarParts, FieldsParts, UnionParts, EnumParts, InputObjectParts}
 use Rattle.graphql_ast.specs.DefinitionTree.{DefinitionTree, Operation, Fragment, DirectiveDefinition, Schema, ScalarType, ObjectType, InterfaceType, UnionType, EnumType, InputObjectType, ExtendSchema, ExtendScalar, ExtendObject, ExtendInterface, ExtendUnion, ExtendEnum, ExtendInputObject}

@@ -33,8 +33,8 @@ pub use enum_type::{EnumTypeDefinition, EnumTypeExtension, EnumValueDefinition};
 pub use graphql_values::{
     Argument, Cause, Directive, DirectiveDefinition, DirectiveList, DirectiveLocation, Field,
     FileId, FloatValue, FragmentDefinition, FragmentSpread, InlineFragment, InputValueDefinition,
-    IntValue, Name, NamedType, Node, NodeStr, OperationDefinition, OperationType, Selection,
-    Serialize, SourceSpan, Tree, Type, Value, VariableDefinition, WriteFault,
+    IntValue, Name, Named, NamedType, Node, NodeStr, OperationDefinition, OperationType, Selection,
+    Serialize, SourceSpan, Tree, Type, Value, VariableDefinition, WriteFault, get_named_mut,
 };
 pub use input_object_type::{InputObjectTypeDefinition, InputObjectTypeExtension};
 pub use interface_type::{InterfaceTypeDefinition, InterfaceTypeExtension};
@@ -42,8 +42,3 @@ pub use object_type::{FieldDefinition, ObjectTypeDefinition, ObjectTypeExtension
 pub use scalar_type::{ScalarTypeDefinition, ScalarTypeExtension};
 pub use schema::{SchemaDefinition, SchemaExtension};
 pub use union_type::{UnionTypeDefinition, UnionTypeExtension};
-
-#[cfg(test)]
-mod print_tests;
-#[cfg(test)]
-mod tests;

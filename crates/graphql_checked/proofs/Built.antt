@@ -10,8 +10,9 @@ use Rattle.graphql_checked.specs.declared.schema.Schema.{Schema}
 use Rattle.graphql_checked.proofs.FoldSteps.{folds_both}
 
 -- what is built in, and then the texts' own
-pub built : (own texts : List (DefinitionTree Place)) (schema schema' schema'' : Schema) (faults faults' faults'' : List Fault) → own ≡ built_in_definitions → types_of schema ≡ [] → faults ≡ []
-    → FoldsOn own schema faults schema' faults' → FoldsOn texts schema' faults' schema'' faults'' → IsFolded (built_in_definitions ++ texts) schema'' faults''
-built own texts schema schema' schema'' faults faults' faults'' is empty silent p q =
+pub built : (own read texts : List (DefinitionTree Place)) (schema schema' schema'' : Schema) (faults faults' faults'' : List Fault) → own ≡ built_in_definitions → read ≡ texts → types_of schema ≡ [] → faults ≡ []
+    → FoldsOn own schema faults schema' faults' → FoldsOn read schema' faults' schema'' faults'' → IsFolded (built_in_definitions ++ texts) schema'' faults''
+built own read texts schema schema' schema'' faults faults' faults'' is are empty silent p q =
     subst (λ l. IsFolded (l ++ texts) schema'' faults'') is
-    (folds_both own texts schema schema' schema'' faults faults' faults'' p q [] (record { types = empty; told = silent }))
+    (subst (λ l. IsFolded (own ++ l) schema'' faults'') are
+    (folds_both own read schema schema' schema'' faults faults' faults'' p q [] (record { types = empty; told = silent })))

@@ -3,16 +3,13 @@ use Rattle.std.proofs.Common.{◌≡◌, ℕ, zero, suc, ◌+◌, ◌-◌, ◌<�
 use Rattle.std.specs.Prelude.{nat_lt, nat_le}
 use Rattle.std.proofs.lemmas.Bool.{leb-true, ltb-true}
 use Rattle.graphql_names.specs.declared.span.SourceSpan.{SourceSpan}
-use Rattle.graphql_values.specs.Placed.{Placed, Place, Text}
-use Rattle.graphql_values.specs.TypeTree.{TypeTree}
-use Rattle.graphql_values.specs.SelectionTree.{SelectionTree, SelectionTrees}
-use Rattle.graphql_ast.specs.TypeSystemTree.{FieldDefinitionTree, FieldsParts}
+use Rattle.graphql_values.specs.Placed.{Place}
 use Rattle.graphql_ast.specs.DefinitionTree.{DefinitionTree}
-use Rattle.graphql_checked.specs.Lex.{Token, Lex}
-use Rattle.graphql_checked.specs.Rules.{Rule, one, mark, ◌·◌, ◌<$>◌, optional, many, some, between, placed, Spans, begin_of, end_of}
+use Rattle.graphql_checked.specs.Lex.{Token}
+use Rattle.graphql_checked.specs.Rules.{Rule, one, mark, ◌·◌, ◌<$>◌, optional, many, some, between, placed, begin_of, end_of}
 use Rattle.graphql_checked.specs.Grammar as g
 use Rattle.graphql_checked.specs.Grammar.{DerivesSchema, DerivesDocument}
-use Rattle.graphql_checked.specs.Thin.{Symbol, Reads, ReadsSchema, ReadsDocument}
+use Rattle.graphql_checked.specs.Thin.{Symbol, Reads}
 use Rattle.graphql_checked.proofs.LexText.{lex_text, lex_text-sound}
 
 -- what a rule derives of tokens that are ahead: the tree, the tokens of it, and those behind them

@@ -68,7 +68,7 @@ module _ {X : Type 0} (tree : X → Field) (type_name : List ℕ) (xs : List X) 
 types_push : (before : List (DefinitionTree Place)) (d : DefinitionTree Place) → defined_types (before ++ d ∷ []) ≡ defined_types before ++ defined_here d
 types_push before d = flat_map-append defined_here before (d ∷ []) ∙ ap (λ l. defined_types before ++ l) (append-nil (defined_here d))
 
-types_with : (before : List (DefinitionTree Place)) (d : DefinitionTree Place) (o : Option (List ℕ)) → defined_name d ≡ o
+pub types_with : (before : List (DefinitionTree Place)) (d : DefinitionTree Place) (o : Option (List ℕ)) → defined_name d ≡ o
     → defined_types (before ++ d ∷ []) ≡ defined_types before ++ option_map_or (λ n. record { name = n; definition = d } ∷ []) o []
 types_with before d o h = types_push before d ∙ ap (λ o. defined_types before ++ option_map_or (λ n. record { name = n; definition = d } ∷ []) o []) h
 

@@ -35,3 +35,12 @@ pub mod SelectionTrees
 pub mod RuleRows
 pub mod AnswerRows
 pub mod VerdictRows
+pub mod Adding
+pub mod Deciding
+pub mod TextsReading
+pub mod Written
+pub mod Finishing
+pub mod Checking
+pub mod ReadDevices
+pub mod Verdicts
+pub mod AnswerBytes

@@ -1,4 +1,4 @@
-use Rattle.std.proofs.Common.{inl, inr, ◌⊎◌, ◌≡◌, ℕ, zero, suc, ◌+◌, ◌-◌, ◌<◌, ◌≤◌, Bool, true, false, cond, List, [], ◌∷◌, ◌++◌, length, map, take, drop, max, arith, sym, ap, ◌∙◌, subst, refl, length-append, length-take-le, rules}
+use Rattle.std.proofs.Common.{inl, inr, ◌⊎◌, ◌≡◌, ℕ, zero, suc, ◌+◌, ◌-◌, ◌<◌, ◌≤◌, Bool, true, false, cond, List, [], ◌∷◌, ◌++◌, length, map, take, drop, max, arith, sym, ap, ◌∙◌, subst, refl, length-append, length-take-le}
 use Rattle.std.proofs.Math.Nat.{lt_irrefl}
 use Rattle.std.proofs.lemmas.List.{length-map}
 use Rattle.std.specs.Prelude.{get_or}
@@ -7,7 +7,7 @@ use Rattle.std.proofs.Math.Nat.{eq-or-lt_of_le}
 use Rattle.std.proofs.lemmas.List.{take_more, take-map, take-append-drop, take_all, drop_more, drop-map}
 use Rattle.std.proofs.lemmas.List.Elements.{filter-append}
 use Rattle.graphql_checked.specs.Lists.{fronts, largest}
-use Rattle.graphql_checked.specs.Lex.{Token, is_opening, is_closing, open_brackets, depth}
+use Rattle.graphql_checked.specs.Lex.{is_opening, is_closing, open_brackets, depth}
 use Rattle.graphql_checked.specs.TokenView.{token_of, tokens_of}
 use Rattle.graphql_checked.specs.Nesting.{IsTooDeep}
 use Rattle.graphql_checked.specs.declared.token.Token as rust

@@ -1,10 +1,9 @@
 -- Texts and their trees, as the grammar has them (GraphQL, October 2021, appendix B).
-use Rattle.std.proofs.Common.{◌≡◌, ℕ, ◌+◌, List, [], ◌∷◌, ◌++◌, codes, Option, Some, None, refl, Bool, true, false}
-use Rattle.std.specs.Prelude.{is_some}
+use Rattle.std.proofs.Common.{◌≡◌, ℕ, List, [], ◌∷◌, codes, Option, Some, None, refl}
 use Rattle.std.specs.Option.{option_map}
 use Rattle.graphql_values.specs.Placed.{Placed, Text}
 use Rattle.graphql_values.specs.TypeTree.{TypeTree, NamedTree, NonNullNamedTree}
-use Rattle.graphql_values.specs.SelectionTree.{SelectionTree, SelectionTrees, FieldTree, no_selections, selection_then}
+use Rattle.graphql_values.specs.SelectionTree.{SelectionTrees, FieldTree, no_selections, selection_then}
 use Rattle.graphql_values.specs.declared.operation.OperationType.TheVariants.{Query}
 use Rattle.graphql_ast.specs.TypeSystemTree.{FieldDefinitionTree}
 use Rattle.graphql_ast.specs.DefinitionTree.{DefinitionTree, Operation, ObjectType, unplaced_document}

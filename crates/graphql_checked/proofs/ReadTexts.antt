@@ -1,14 +1,8 @@
-use Rattle.std.proofs.Common.{inl, inr, ◌⊎◌, ◌≡◌, ◌≢◌, ℕ, ◌+◌, ◌-◌, ◌<◌, ◌≤◌, Bool, true, false, List, [], ◌∷◌, ◌++◌, length, take, drop, arith, sym, ap, ◌∙◌, subst, refl, length-append, length-drop, length-take-le, append-nil, map, zero, suc, ◌^◌}
-use Rattle.std.proofs.Math.Nat.{eq-or-lt_of_le}
-use Rattle.std.proofs.lemmas.List.{take-append-drop, take_all, take-append-le, take_more, drop_more, drop_all, length-map, get_or_default}
-use Rattle.std.proofs.lemmas.Bool.{and_parts, leb-true, le-leb, lt-ltb}
-use Rattle.std.specs.Cmp.Derive.{both_true}
-use Rattle.graphql_checked.specs.Lex.{Piece, Ignored, Lexical, is_token, is_piece, are_pieces, pieces_text, tokens_from}
-use Rattle.graphql_checked.specs.declared.token.TokenKind.{TokenKind}
-use Rattle.graphql_checked.specs.declared.token.TokenKind.TheVariants.{Name, Bang, Colon, BraceOpen, BraceClose}
+use Rattle.std.proofs.Common.{inl, inr, ◌⊎◌, ◌≡◌, ℕ, ◌+◌, ◌<◌, ◌≤◌, List, [], ◌∷◌, ◌++◌, length, take, drop, arith, sym, ap, ◌∙◌, subst, refl, length-drop, length-take-le, append-nil, map, zero, suc}
+use Rattle.std.proofs.lemmas.List.{take-append-drop, take-append-le, drop_more, drop_all, length-map, get_or_default}
 use Rattle.std.specs.Prelude.{get_or}
-use Rattle.std.proofs.Common.{Some, None}
-use Rattle.graphql_checked.specs.Stops.{are_laid_out, StopsAt}
+use Rattle.std.proofs.Common.{Some}
+use Rattle.graphql_checked.specs.Stops.{StopsAt}
 use Rattle.graphql_checked.specs.Reads.{IsLexedFrom}
 use Rattle.graphql_checked.specs.Nesting.{IsTooDeep}
 use Rattle.graphql_checked.specs.TokenView.{token_of, tokens_of}
@@ -18,9 +12,8 @@ use Rattle.graphql_names.specs.declared.span.SourceSpan.{SourceSpan}
 use Rattle.std.proofs.Math.Nat.{lt_irrefl}
 use Rattle.graphql_values.specs.Placed.{Place}
 use Rattle.graphql_ast.specs.DefinitionTree.{DefinitionTree}
-use Rattle.graphql_checked.specs.Lists.{fronts, largest}
-use Rattle.graphql_checked.specs.Lex.{Token, LexesFront, Lex, offset_of, TokenBegins, NothingBegins, open_brackets, depth}
-use Rattle.graphql_checked.specs.Thin.{Symbol, Reads, Begins, GoesWrongAt}
+use Rattle.graphql_checked.specs.Lex.{Token, LexesFront, Lex, offset_of, NothingBegins, open_brackets, depth}
+use Rattle.graphql_checked.specs.Thin.{Symbol, Begins, GoesWrongAt}
 use Rattle.graphql_checked.specs.Faults.{PassesNesting, NestingAt}
 use Rattle.graphql_checked.proofs.Lexing.{front_of_lex, token_in_front, token_fits}
 use Rattle.graphql_checked.proofs.Fronts.{offset_of_drop}

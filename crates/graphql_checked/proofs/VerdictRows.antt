@@ -1,23 +1,20 @@
 -- Verdicts on texts: what the definitions say of them, shown by the plain reader and the lists of faults.
-use Rattle.std.proofs.Common.{◌≡◌, ℕ, ◌+◌, ◌<◌, true, false, List, [], ◌∷◌, ◌++◌, length, take, map, codes, Option, Some, None, refl, sym, ap, ◌∙◌, subst, lit<}
-use Rattle.std.specs.Prelude.{is_some, Contains}
+use Rattle.std.proofs.Common.{◌≡◌, ℕ, true, false, List, [], ◌∷◌, ◌++◌, length, take, map, codes, Option, Some, None, refl, sym, ap, ◌∙◌, lit<}
+use Rattle.std.specs.Prelude.{is_some}
 use Rattle.std.specs.Str.{IsUtf8, is_utf8, chars}
 use Rattle.std.proofs.Math.Utf8.{encode}
 use Rattle.std.proofs.lemmas.Str.{is_utf8-from_IsUtf8}
 use Rattle.graphql_names.specs.declared.span.SourceSpan.{SourceSpan}
 use Rattle.graphql_values.specs.Placed.{Place}
-use Rattle.graphql_values.specs.Joined.{joined}
 use Rattle.graphql_ast.specs.DefinitionTree.{DefinitionTree}
-use Rattle.graphql_ast.specs.DocumentLayout.{document_text}
 use Rattle.graphql_checked.specs.Lists.{each_place}
-use Rattle.graphql_checked.specs.Lex.{Token, LexesFront, depth}
+use Rattle.graphql_checked.specs.Lex.{Token}
 use Rattle.graphql_checked.specs.Grammar.{DerivesSchema, DerivesDocument}
 use Rattle.graphql_checked.specs.Fold.{definition_list, fold}
-use Rattle.graphql_checked.specs.Faults.{Fault, PassesNesting, NestingAt, SchemaFails, DocumentFails}
+use Rattle.graphql_checked.specs.Faults.{PassesNesting, NestingAt}
 use Rattle.graphql_checked.specs.Judge.{Judge}
-use Rattle.graphql_checked.specs.Out.{Out, OutDoc}
 use Rattle.graphql_checked.specs.SchemaView.{kept_type}
-use Rattle.graphql_checked.specs.FaultList.{definition_faults, faults_in_order, no_root_faults, root_faults, document_faults}
+use Rattle.graphql_checked.specs.FaultList.{definition_faults, faults_in_order, no_root_faults, document_faults}
 use Rattle.graphql_checked.specs.Pieces.{step_at, token_at, ignored_at}
 use Rattle.graphql_checked.specs.declared.token.TokenKind.TheVariants.{Name, BraceOpen}
 use Rattle.graphql_checked.proofs.Places.{not_in_nil}

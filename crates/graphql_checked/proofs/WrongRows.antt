@@ -1,12 +1,12 @@
 -- Texts that are not thin, and where they go wrong.
-use Rattle.std.proofs.Common.{inl, inr, ◌≡◌, ℕ, ◌<◌, ◌≤◌, List, [], ◌∷◌, ◌++◌, length, codes, refl, lit<, lit≤}
+use Rattle.std.proofs.Common.{inr, ◌≡◌, ℕ, ◌<◌, List, [], length, codes, refl, lit<, lit≤}
 use Rattle.std.specs.Prelude.{get_or}
-use Rattle.graphql_checked.specs.Lex.{Token, NothingBegins, offset_of}
+use Rattle.graphql_checked.specs.Lex.{Token, offset_of}
 use Rattle.graphql_checked.specs.Pieces.{step_at, token_at, ignored_at}
 use Rattle.graphql_checked.specs.Grammar.{DerivesSchema, DerivesDocument}
 use Rattle.graphql_checked.specs.Thin.{Symbol, GoesWrongAt}
-use Rattle.graphql_checked.specs.Stops.{AreLaidOut, StopsAt}
-use Rattle.graphql_checked.specs.Steps.{stop, AtObject, AtDocument}
+use Rattle.graphql_checked.specs.Stops.{StopsAt}
+use Rattle.graphql_checked.specs.Steps.{stop}
 use Rattle.graphql_checked.specs.declared.token.TokenKind.TheVariants.{Name}
 use Rattle.graphql_checked.proofs.LexText.{pieces_within, lex_front, lex_front-sound}
 use Rattle.graphql_checked.proofs.GoingWrong.{wrong_at, wrong_end}

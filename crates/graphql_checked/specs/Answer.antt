@@ -1,8 +1,7 @@
 -- The texts of faults and of whole answers.
-use Rattle.std.specs.Prelude.{◌≡◌, ◌≢◌, ℕ, ◌+◌, ◌<◌, List, [], ◌∷◌, ◌++◌, flat_map, Contains, codes, Option, None, Some, if◌then◌else◌, ◌⊎◌}
+use Rattle.std.specs.Prelude.{◌≡◌, ◌≢◌, ℕ, ◌+◌, List, [], ◌∷◌, ◌++◌, flat_map, Contains, codes, None, Some, if◌then◌else◌, ◌⊎◌}
 use Rattle.std.specs.Fmt.{decimal}
 use Rattle.graphql_names.specs.Places.{is_built_in}
-use Rattle.graphql_names.specs.declared.span.SourceSpan.{SourceSpan}
 use Rattle.graphql_values.specs.Placed.{Place}
 use Rattle.graphql_ast.specs.DefinitionTree.{DefinitionTree}
 use Rattle.graphql_checked.specs.Thin.{ReadsDocument}

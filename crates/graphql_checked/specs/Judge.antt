@@ -1,13 +1,11 @@
 -- The verdict, and what an answer says of the texts.
-use Rattle.std.specs.Prelude.{◌≡◌, ◌≢◌, ℕ, ◌+◌, ◌<◌, ◌≤◌, List, [], ◌∷◌, ◌++◌, length, ◌⊎◌, Option, None}
-use Rattle.std.specs.List.{AllZip}
+use Rattle.std.specs.Prelude.{◌≡◌, ℕ, ◌+◌, List, [], ◌∷◌, length, ◌⊎◌, None}
 use Rattle.graphql_values.specs.Placed.{Place}
 use Rattle.graphql_ast.specs.DefinitionTree.{DefinitionTree}
-use Rattle.graphql_checked.specs.Lists.{StandsAfter}
 use Rattle.graphql_checked.specs.Grammar.{DerivesSchema, DerivesDocument}
-use Rattle.graphql_checked.specs.Thin.{Symbol, ReadsSchema, ReadsDocument, GoesWrongAt}
+use Rattle.graphql_checked.specs.Thin.{ReadsSchema, ReadsDocument, GoesWrongAt}
 use Rattle.graphql_checked.specs.Fold.{definition_list}
-use Rattle.graphql_checked.specs.Faults.{Fault, Nesting, Spent, PassesNesting, NestingAt, PassesNumbers, FoldingFails, SchemaFails, DocumentFails}
+use Rattle.graphql_checked.specs.Faults.{Fault, Nesting, Spent, NestingAt, PassesNumbers, SchemaFails, DocumentFails}
 
 -- each text has its tree, where the first has this file number and each next one the next
 abbrev pub ReadsAll : ℕ → List (List ℕ) → List (List (DefinitionTree Place)) → Type 0

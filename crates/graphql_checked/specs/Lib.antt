@@ -23,3 +23,13 @@ pub mod Nesting
 pub mod Reads
 pub mod SchemaView
 pub mod FaultList
+pub mod CheckerValue
+pub mod Layouts
+pub mod Refusals
+pub mod Added
+pub mod TextsView
+pub mod CheckerAnswers
+pub mod Accepted
+pub mod Verdicts
+pub mod ReadFaults
+pub mod ExitStatus

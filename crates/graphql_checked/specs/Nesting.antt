@@ -1,5 +1,5 @@
 -- The first bracket that is too deep.
-use Rattle.std.specs.Prelude.{◌≡◌, ℕ, ◌+◌, ◌<◌, ◌≤◌, true, List, ◌∷◌, ◌++◌, [], length, take, drop}
+use Rattle.std.specs.Prelude.{◌≡◌, ℕ, ◌<◌, true, List, ◌∷◌, ◌++◌, [], length, take}
 use Rattle.graphql_checked.specs.Lex.{Token, is_opening, depth}
 
 -- the token with this index opens a bracket, with which more are open than the limit

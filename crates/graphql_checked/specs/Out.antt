@@ -1,5 +1,5 @@
 -- What is written of an accepted pair.
-use Rattle.std.specs.Prelude.{◌≡◌, Bool, true, false, not, List, [], ◌∷◌, ◌++◌, map, is_none}
+use Rattle.std.specs.Prelude.{Bool, true, false, not, List, ◌++◌, map, is_none}
 use Rattle.std.specs.List.{filter}
 use Rattle.graphql_names.specs.Places.{is_built_in}
 use Rattle.graphql_values.specs.Placed.{Place}

@@ -1,8 +1,8 @@
 -- What reading a text says.
-use Rattle.std.specs.Prelude.{◌≡◌, ℕ, ◌<◌, ◌≤◌, ◌^◌, ◌⊎◌, List, [], length, drop, Some, slice_get, IfSome}
+use Rattle.std.specs.Prelude.{◌≡◌, ℕ, ◌<◌, ◌≤◌, ◌^◌, ◌⊎◌, List, [], length, drop, Some}
 use Rattle.graphql_values.specs.Placed.{Place}
 use Rattle.graphql_ast.specs.DefinitionTree.{DefinitionTree}
-use Rattle.graphql_checked.specs.Lex.{Token, LexesFront, NothingBegins}
+use Rattle.graphql_checked.specs.Lex.{LexesFront, NothingBegins}
 use Rattle.graphql_checked.specs.TokenView.{tokens_of}
 use Rattle.graphql_checked.specs.Grammar.{DerivesSchema, DerivesDocument}
 use Rattle.graphql_checked.specs.Thin.{Symbol, Reads, GoesWrongAt}

@@ -1,12 +1,20 @@
 -- What `run` reads and puts out.
-use Rattle.std.specs.Prelude.{◌≡◌, ℕ, ◌+◌, ◌-◌, List, [], ◌∷◌, length, take, Option, IfSome, IsUtf8, slice_get, IsSomeAnd}
+use Rattle.std.specs.Prelude.{◌≡◌, ℕ, zero, suc, ◌+◌, ◌<◌, true, List, length, take, Option, IfSome, IsUtf8, slice_get, IsSomeAnd, ◌⊎◌}
 use Rattle.std.specs.List.{AllZip}
 use Rattle.std.specs.Io.KnownBytes.{Appends}
 use Rattle.graphql_names.specs.declared.device.Device.{Device}
 use Rattle.graphql_names.specs.Device.{device_inner, device_failed}
 use Rattle.graphql_values.specs.Placed.{Place}
 use Rattle.graphql_ast.specs.DefinitionTree.{DefinitionTree}
-use Rattle.graphql_checked.specs.Answer.{Answer}
+use Rattle.graphql_checked.specs.Judge.{NotYetSchema, NotYetDocument}
+use Rattle.graphql_checked.specs.Refusals.{AcceptsSchemas}
+use Rattle.graphql_checked.specs.Answer.{AcceptedBytes, RefusedBytes, Answer}
+use Rattle.graphql_checked.specs.declared.run_fault.Outcome.{Outcome}
+use Rattle.graphql_checked.specs.declared.run_fault.Outcome.TheVariants.{Accepted, Refused}
+use Rattle.graphql_checked.specs.declared.run_fault.RunFault.{RunFault}
+use Rattle.graphql_checked.specs.declared.run_fault.RunFault.TheVariants.{Memory, Reader, NotUtf8, Writer, NotYet}
+
+-- ---- what is read
 
 -- if the reader tells its bytes, they are these
 abbrev pub IsTextOf : {R : Type 0} → (R → Option (List ℕ)) → Device R → List ℕ → Type 0
@@ -22,16 +30,48 @@ IsNotUtf8Of remaining device = (text : List ℕ) × (IsTextOf remaining device t
 
 -- text `number`, counted from 1, is not UTF-8
 abbrev pub IsNotUtf8At : {R : Type 0} → (R → Option (List ℕ)) → List (Device R) → ℕ → Type 0
-IsNotUtf8At remaining devices number = IsSomeAnd (slice_get devices (number - 1)) (IsNotUtf8Of remaining)
+IsNotUtf8At remaining devices zero = ⊥
+IsNotUtf8At remaining devices (suc before) = IsSomeAnd (slice_get devices before) (IsNotUtf8Of remaining)
+
+-- device `number`, counted from 1, has failed
+abbrev pub HasFailedAt : {R : Type 0} → List (Device R) → ℕ → Type 0
+HasFailedAt devices zero = ⊥
+HasFailedAt devices (suc before) = IsSomeAnd (slice_get devices before) (λ device. device_failed device ≡ true)
+
+-- ---- what is put out
+
+-- the bytes that go with an outcome for these texts
+abbrev pub BytesOf : (List (DefinitionTree Place) → List ℕ) → ℕ → Outcome → List (List ℕ) → List ℕ → List ℕ → Type 0
+BytesOf layout nesting Accepted texts text bytes = AcceptedBytes layout nesting texts text bytes
+BytesOf layout nesting Refused texts text bytes = RefusedBytes layout nesting texts text bytes
 
 module _ {R D W : Type 0} (of_schema : R → Option (List ℕ)) (of_document : D → Option (List ℕ)) (contents : W → Option (List ℕ))
-    (layout : List (DefinitionTree Place) → List ℕ) where
-  -- What the writer took is `front` of bytes that answer the texts of the readers.
-  pub record PutsOut (nesting : ℕ) (schemas : List (Device R)) (document : Device D) (old new : Device W) (front : List ℕ → List ℕ) : Type 0 where
+    (layout : List (DefinitionTree Place) → List ℕ) (nesting : ℕ) where
+  -- What the writer took is `front` of bytes that are `of` the texts of the readers.
+  pub record PutsOut (of : List (List ℕ) → List ℕ → List ℕ → Type 0) (schemas : List (Device R)) (document : Device D) (old new : Device W) (front : List ℕ → List ℕ) : Type 0 where
     pub texts : List (List ℕ)
     pub text : List ℕ
     pub bytes : List ℕ
     pub schemas_are : AreTextsOf of_schema schemas texts
     pub document_is : IsTextOf of_document document text
-    pub answers : Answer layout nesting texts text bytes
+    pub answers : of texts text bytes
     pub put : Appends (contents (device_inner old)) (contents (device_inner new)) (front bytes)
+
+  -- A text of the readers is not judged yet.
+  pub record IsNotYet (schemas : List (Device R)) (document : Device D) (file offset : ℕ) : Type 0 where
+    pub texts : List (List ℕ)
+    pub text : List ℕ
+    pub schemas_are : AreTextsOf of_schema schemas texts
+    pub document_is : IsTextOf of_document document text
+    pub goes_wrong : NotYetSchema texts file offset ⊎ (AcceptsSchemas nesting texts × NotYetDocument texts text file offset)
+
+  -- When each fault comes; `schemas`, `document` and `out` are as before, the others as after.
+  abbrev pub RunFaultIsDue : List (Device R) → List (Device R) → Device D → Device D → Device W → Device W → RunFault → Type 0
+  RunFaultIsDue schemas schemas' document document' out out' Memory = out' ≡ out
+  RunFaultIsDue schemas schemas' document document' out out' (Reader number) =
+      ((HasFailedAt schemas' number × (document' ≡ document)) ⊎ ((number ≡ length schemas + 1) × (device_failed document' ≡ true))) × (out' ≡ out)
+  RunFaultIsDue schemas schemas' document document' out out' (NotUtf8 number) =
+      ((IsNotUtf8At of_schema schemas number × (document' ≡ document)) ⊎ ((number ≡ length schemas + 1) × IsNotUtf8Of of_document document)) × (out' ≡ out)
+  RunFaultIsDue schemas schemas' document document' out out' (NotYet file offset) = IsNotYet schemas document file.0 offset × (out' ≡ out)
+  RunFaultIsDue schemas schemas' document document' out out' (Writer count) =
+      (device_failed out' ≡ true) × PutsOut (λ texts text bytes. Answer layout nesting texts text bytes × (count < length bytes)) schemas document out out' (take count)

@@ -1,14 +1,13 @@
 //! Builds a schema of schema texts, and tells each rule that is broken.
 
 ghost use Rattle.std.specs.Prelude.{◌≡◌, ◌↔◌, [], ◌∷◌, ◌++◌, map, IfOk, OnOk, Contains, None};
-ghost use Rattle.std.specs.List.{flat_map};
 ghost use Rattle.indexmap.specs.IndexMap.{get};
 ghost use Rattle.graphql_names.specs.Node.{content, place};
 ghost use Rattle.graphql_values.specs.Placed.{node_tree};
 ghost use Rattle.graphql_ast.specs.TypeSystemTree.{field_definition_tree};
 ghost use Rattle.graphql_ast.specs.DefinitionTree.{definition_tree, document_tree};
 ghost use Rattle.graphql_checked.specs.Lists.{each_place, firsts};
-ghost use Rattle.graphql_checked.specs.Fold.{definition_list, definition_place, is_object, fields_here, field_name};
+ghost use Rattle.graphql_checked.specs.Fold.{built_in_definitions, definition_place, is_object, fields_here, field_name};
 ghost use Rattle.graphql_checked.specs.Faults.{SchemaFails, TypeDefinitionCollision, ObjectFieldNameCollision};
 ghost use Rattle.graphql_checked.specs.FaultView.{faults_of};
 ghost use Rattle.graphql_checked.specs.SchemaView.{same_name, named_field, fields_of, types_of, IsSchemaOf};
@@ -30,12 +29,12 @@ pub(crate) struct Built {
     pub(crate) faults: DiagnosticList,
 }
 
-/// Builds the schema of these texts' definitions and tells each rule that is broken: those of the list
-/// of definitions in its order, and then whether there is no query root.
-pub(crate) fn build(alloc: Global, documents: &[Document]) -> Result<Built, AllocError>
-    ensures schema { IfOk result (λ b. IsSchemaOf (definition_list (map document_tree documents.now)) b.schema) }
-    ensures faults { IfOk result (λ b. (f : _) → Contains (faults_of b.faults) f ↔ SchemaFails (definition_list (map document_tree documents.now)) f) }
-    ensures order { IfOk result (λ b. faults_of b.faults ≡ faults_in_order (definition_list (map document_tree documents.now))) }
+/// Builds the schema of these definitions behind what is built in, and tells each rule that is broken:
+/// those of the list of definitions in its order, and then whether there is no query root.
+pub(crate) fn build(alloc: Global, document: &Document) -> Result<Built, AllocError>
+    ensures schema { IfOk result (λ b. IsSchemaOf (built_in_definitions ++ document_tree document.now) b.schema) }
+    ensures faults { IfOk result (λ b. (f : _) → Contains (faults_of b.faults) f ↔ SchemaFails (built_in_definitions ++ document_tree document.now) f) }
+    ensures order { IfOk result (λ b. faults_of b.faults ≡ faults_in_order (built_in_definitions ++ document_tree document.now)) }
 {
     let mut schema = Schema {
         types: IndexMap::new(alloc),
@@ -43,7 +42,7 @@ pub(crate) fn build(alloc: Global, documents: &[Document]) -> Result<Built, Allo
     let mut faults = DiagnosticList::new(alloc);
     let built_in = built_in_definitions(alloc)?;
     fold_definitions(alloc, &built_in, &mut schema, &mut faults)?;
-    fold_documents(alloc, documents, &mut schema, &mut faults)?;
+    fold_definitions(alloc, &document.definitions, &mut schema, &mut faults)?;
     check_query_root(&schema, &mut faults)?;
     Ok(Built { schema, faults })
 }
@@ -56,21 +55,6 @@ fn check_query_root(schema: &Schema, faults: &mut DiagnosticList) -> Result<(), 
         Some(_) => Ok(()),
         None => faults.push(None, Details::QueryRootOperationType),
     }
-}
-
-/// Folds the definitions of each text.
-fn fold_documents(
-    alloc: Global,
-    documents: &[Document],
-    schema: &mut Schema,
-    faults: &mut DiagnosticList,
-) -> Result<(), AllocError>
-    ensures { OnOk result (FoldsOn (flat_map (λ t. t) (map document_tree documents.now)) schema.old (faults_of faults.old) schema.new (faults_of faults.new)) }
-{
-    for document in documents {
-        fold_definitions(alloc, &document.definitions, schema, faults)?;
-    }
-    Ok(())
 }
 
 /// Folds definitions behind those before them.

@@ -1,5 +1,5 @@
 -- Tests that decide whether what two values stand for is the same, put together.
-use Rattle.std.proofs.Common.{◌≡◌, ℕ, Bool, true, false, ◌&&◌, List, [], ◌∷◌, map, refl, ap, sym, ◌∙◌, nat_eq, Option, None, Some}
+use Rattle.std.proofs.Common.{◌≡◌, Bool, true, false, ◌&&◌, List, [], ◌∷◌, map, refl, ap, sym, ◌∙◌, nat_eq, Option, None, Some}
 use Rattle.std.specs.Bool.{Decides}
 use Rattle.std.specs.Option.{option_map, option_eq}
 use Rattle.std.specs.Cmp.Lexicographic.{pointwise}

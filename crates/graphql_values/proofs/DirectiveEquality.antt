@@ -2,10 +2,9 @@
 use Rattle.std.proofs.Common.{◌≡◌, Bool, refl, ap}
 use Rattle.std.specs.Bool.{Decides}
 use Rattle.std.specs.Cmp.{booleans_Decides}
-use Rattle.std.specs.Cmp.Lexicographic.{pointwise}
 use Rattle.std.proofs.lemmas.Slice.Eq.{slice_eq-Decides}
 use denote.Enum.Bare.{same_true, true_same}
-use Rattle.graphql_values.specs.Placed.{name_tree, text_tree, unplaced_text}
+use Rattle.graphql_values.specs.Placed.{text_tree, unplaced_text}
 use Rattle.graphql_values.specs.TypeTree.{type_tree, unplaced_type}
 use Rattle.graphql_values.specs.ValueTree.{value_tree, unplaced_value}
 use Rattle.graphql_values.specs.DirectiveTree.{ArgumentTree, DirectiveTree, InputValueTree, DirectiveDefinitionTree, argument_tree, directive_tree, directives_tree, input_value_tree, directive_definition_tree, unplaced_argument, unplaced_directive, unplaced_directives, unplaced_input_value, unplaced_directive_definition}
@@ -18,7 +17,6 @@ use Rattle.graphql_values.specs.declared.directive.DirectiveList.{DirectiveList}
 use Rattle.graphql_values.specs.declared.directive.DirectiveDefinition.{DirectiveDefinition}
 use Rattle.graphql_values.specs.declared.directive_location.DirectiveLocation.{DirectiveLocation}
 use Rattle.graphql_values.specs.declared.input_value.InputValueDefinition.{InputValueDefinition}
-use Rattle.graphql_names.specs.Node.{content}
 use Rattle.graphql_values.specs.contracts.directive_location.DirectiveLocation.{the_type}
 use Rattle.graphql_values.specs.contracts.directive_location.DirectiveLocationPartialEq.TheImpl as location
 use Rattle.graphql_values.specs.contracts.directive.ArgumentPartialEq.TheImpl as argument

@@ -1,5 +1,5 @@
 -- What an integer's text stands for, and the text of a number.
-use Rattle.std.proofs.Common.{◌≡◌, ℕ, ◌+◌, ◌/◌, ◌%◌, ◌^◌, ◌<◌, ◌≤◌, suc, Bool, true, false, ◌&&◌, cond, not, List, [], ◌∷◌, ◌++◌, length, refl, ap, sym, subst, ◌∙◌, drop, ◌==◌, arith, ℤ, pos, negsuc, neg_ℤ, lit<, FitsSigned, w32}
+use Rattle.std.proofs.Common.{◌≡◌, ℕ, ◌+◌, ◌/◌, ◌%◌, ◌^◌, ◌<◌, ◌≤◌, suc, Bool, true, false, ◌&&◌, cond, not, List, [], ◌∷◌, ◌++◌, refl, ap, sym, subst, ◌∙◌, drop, ◌==◌, arith, ℤ, pos, negsuc, neg_ℤ, lit<, FitsSigned, w32}
 use Rattle.std.specs.List.{list_all}
 use Rattle.std.specs.Char.{is_ascii_digit, digit_value}
 use Rattle.std.specs.Fmt.{decimal, signed_decimal}
@@ -8,8 +8,8 @@ use Rattle.std.proofs.lemmas.Fmt.{decimal_is_IsNumeral, decimal_by_steps, decima
 use lib.Signed.{mag}
 use Prim.Native.Nat.{zero}
 use Rattle.std.proofs.lemmas.List.Folds.{list_all-append}
-use Rattle.std.proofs.lemmas.Bool.Decides.{nat_tests, Decides-eqb}
-use Rattle.graphql_values.specs.NumberSyntax.{is_digits, is_nothing, has_leading_zero, is_natural, without_minus, is_int_value, IsIntValue, integer_value}
+use Rattle.std.proofs.lemmas.Bool.Decides.{nat_tests}
+use Rattle.graphql_values.specs.NumberSyntax.{is_digits, is_nothing, has_leading_zero, is_natural, without_minus, IsIntValue, integer_value}
 use Rattle.graphql_values.proofs.NumberLemmas.{not_digit}
 
 and-left : (a b : Bool) → (a && b) ≡ true → a ≡ true

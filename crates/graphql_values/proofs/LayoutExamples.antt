@@ -1,5 +1,5 @@
 -- The layout of small trees, computed. The texts are written by hand.
-use Rattle.std.proofs.Common.{◌≡◌, ℕ, List, [], ◌∷◌, ◌++◌, codes, Bool, true, false, Option, None, Some, refl}
+use Rattle.std.proofs.Common.{◌≡◌, ℕ, List, [], ◌∷◌, ◌++◌, codes, true, false, Option, None, Some, refl}
 use Rattle.graphql_values.specs.Joined.{joined}
 use Rattle.graphql_values.specs.Placed.{Placed, Text}
 use Rattle.graphql_values.specs.TypeTree.{TypeTree, NamedTree, NonNullNamedTree, NonNullListTree}
@@ -7,7 +7,7 @@ use Rattle.graphql_values.specs.TypeTree as type
 use Rattle.graphql_values.specs.ValueTree.{ValueTree, NullTree, EnumTree, VariableTree, StringTree, FloatTree, IntTree, BooleanTree, ListTree, ObjectTree, no_items, item_then, no_entries, entry_then}
 use Rattle.graphql_values.specs.DirectiveTree.{ArgumentTree, DirectiveTree, InputValueTree, DirectiveDefinitionTree}
 use Rattle.graphql_values.specs.SelectionTree.{SelectionTree, SelectionTrees, FieldTree, SpreadTree, InlineTree, no_selections, selection_then}
-use Rattle.graphql_values.specs.OperationTree.{VariableDefinitionTree, OperationTree, FragmentTree}
+use Rattle.graphql_values.specs.OperationTree.{VariableDefinitionTree, OperationTree}
 use Rattle.graphql_values.specs.LineLayout.{Prefix}
 use Rattle.graphql_values.specs.StringLayout.{quoted_text, can_be_block_string, description_text}
 use Rattle.graphql_values.specs.ValueLayout.{type_text, value_text, directive_list_text}

@@ -1,4 +1,5 @@
 pub mod Trees
+pub mod NamedNodes
 pub mod Decided
 pub mod TypeEquality
 pub mod ValueEquality

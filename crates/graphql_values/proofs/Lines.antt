@@ -1,6 +1,6 @@
 -- The first and the last line of a text, and lines one by one.
 use Rattle.std.specs.Borrow.{Bor}
-use Rattle.std.proofs.Common.{◌≡◌, ℕ, zero, suc, ◌+◌, ◌==◌, List, [], ◌∷◌, ◌++◌, length, map, take, Bool, true, false, not, cond, ◌||◌, ◌&&◌, refl, sym, ap, ◌∙◌, subst, arith}
+use Rattle.std.proofs.Common.{◌≡◌, ℕ, suc, ◌+◌, ◌==◌, List, [], ◌∷◌, ◌++◌, length, map, take, Bool, true, false, not, cond, ◌||◌, ◌&&◌, refl, sym, ap, ◌∙◌, arith}
 use Rattle.std.specs.List.{slice_split, onto_first, before_first, position_or_len, list_any}
 use Rattle.std.proofs.lemmas.List.{take_all}
 use Rattle.graphql_values.specs.StringLayout.{is_tab_or_space, is_blank, is_at_margin, first_is_blank, last_is_blank, text_lines}

@@ -1,5 +1,5 @@
 -- `==` of operations, fragments and variables' definitions says whether their trees are the same, places aside.
-use Rattle.std.proofs.Common.{◌≡◌, Bool, refl, ap}
+use Rattle.std.proofs.Common.{◌≡◌, Bool, ap}
 use Rattle.std.specs.Bool.{Decides}
 use denote.Enum.Bare.{same_true, true_same}
 use Rattle.graphql_values.specs.Placed.{name_tree, unplaced_text}

@@ -1,10 +1,10 @@
 -- A text that goes out in runs, and where the runs end.
-use Rattle.std.proofs.Common.{length-drop, get_or-drop, ◌≡◌, ℕ, zero, suc, ◌+◌, ◌<◌, ◌==◌, List, [], ◌∷◌, ◌++◌, length, take, drop, get_or, Bool, true, false, ◌||◌, ◌&&◌, nat_lt, codes, refl, sym, ap, ◌∙◌, subst, arith, add-one, append_assoc}
+use Rattle.std.proofs.Common.{length-drop, get_or-drop, ◌≡◌, ℕ, zero, suc, ◌+◌, ◌<◌, List, [], ◌∷◌, ◌++◌, length, take, drop, get_or, true, false, codes, refl, sym, ap, ◌∙◌, subst, arith, add-one, append_assoc}
 use Rattle.std.proofs.lemmas.Grind.{common_steps}
 use Rattle.std.proofs.lemmas.Str.{IsCharBoundary-after_ascii}
 use Rattle.std.specs.Str.{IsUtf8, IsCharBoundary}
 use Rattle.graphql_values.specs.Joined.{joined, joined-push}
-use Rattle.graphql_values.specs.StringLayout.{escaped_byte, escaped_text, control_text, block_escaped, is_quotes}
+use Rattle.graphql_values.specs.StringLayout.{escaped_byte, escaped_text, block_escaped, is_quotes}
 use Rattle.graphql_values.specs.EscapeRuns.{must_escape, FirstEscape, begins_with_quotes, FirstQuotes}
 
 -- texts that were put make up what is written of a text, but for what is written of its rest

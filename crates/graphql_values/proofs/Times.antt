@@ -1,5 +1,5 @@
 -- The same text several times.
-use Rattle.std.proofs.Common.{◌≡◌, ℕ, zero, suc, ◌+◌, List, [], ◌∷◌, ◌++◌, replicate, refl, sym, ap, ◌∙◌, subst, arith, add-zero, add-one}
+use Rattle.std.proofs.Common.{◌≡◌, ℕ, zero, suc, ◌+◌, List, [], ◌∷◌, ◌++◌, replicate, refl, subst, arith, add-zero}
 use Rattle.std.proofs.lemmas.Grind.{replicate_next}
 use Rattle.graphql_values.specs.Joined.{joined}
 

@@ -7,7 +7,7 @@ use Rattle.std.specs.declared.alloc.Global.{Global}
 use Rattle.graphql_names.specs.Node.{content, place}
 use Rattle.graphql_names.specs.declared.name.Name.{Name}
 use Rattle.graphql_names.specs.declared.node.Node.{Node}
-use Rattle.graphql_values.specs.Placed.{Place, Placed, name_tree, node_tree}
+use Rattle.graphql_values.specs.Placed.{Place, name_tree, node_tree}
 use Rattle.graphql_values.specs.TypeTree.{TypeTree, ListTree as ListTypeTree, NonNullListTree, type_tree, type_tree_step}
 use Rattle.graphql_values.specs.ValueTree.{ValueTree, ListTree, ObjectTree, item_then, entry_then, item_trees, entry_trees, value_tree, value_tree_step}
 use Rattle.graphql_values.specs.DirectiveTree.{directives_tree}

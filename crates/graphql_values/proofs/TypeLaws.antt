@@ -1,8 +1,8 @@
--- The laws of assignable types.
-use Rattle.std.proofs.Common.{◌≡◌, refl, ap, ◌∙◌}
-use Rattle.graphql_values.specs.Placed.{Text}
+-- The laws of assignable types, and that the grammar can write each type.
+use Rattle.std.proofs.Common.{◌≡◌, true, refl, ap, ◌∙◌}
 use Rattle.graphql_values.specs.TypeTree.{TypeTree, NamedTree, NonNullNamedTree, ListTree, NonNullListTree, unplaced_type}
 use Rattle.graphql_values.specs.TypeQueries.{AreTypesCompatible}
+use Rattle.graphql_values.specs.Writable.{type_writable}
 
 module _ {P : Type 0} where
   pub compatible_itself : (a : TypeTree P) → AreTypesCompatible a a
@@ -42,3 +42,10 @@ module _ {P : Type 0} where
   compatible_both_ways (NonNullListTree a) (ListTree b) p q = absurd q
   compatible_both_ways (NonNullListTree a) (NonNullListTree b) p q = ap NonNullListTree (compatible_both_ways a b p q)
   compatible_both_ways (NonNullListTree a) _ p q = absurd p
+
+  -- the grammar can write each type
+  pub types_are_writable : (t : TypeTree P) → type_writable t ≡ true
+  types_are_writable (NamedTree n) = refl
+  types_are_writable (NonNullNamedTree n) = refl
+  types_are_writable (ListTree t) = types_are_writable t
+  types_are_writable (NonNullListTree t) = types_are_writable t

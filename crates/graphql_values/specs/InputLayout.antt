@@ -1,8 +1,8 @@
 -- Definitions of arguments, of input fields and of directives (GraphQL, October 2021, sections 3.6.1, 3.10, 3.13).
-use Rattle.std.specs.Prelude.{ℕ, ◌+◌, Bool, true, false, ◌||◌, ◌&&◌, if◌then◌else◌, List, [], ◌∷◌, map, codes, Option, None, Some, is_some}
+use Rattle.std.specs.Prelude.{ℕ, ◌+◌, Bool, true, false, if◌then◌else◌, List, [], ◌∷◌, map, codes, None, Some, is_some}
 use Rattle.std.specs.List.{list_any}
 use Rattle.graphql_values.specs.Joined.{joined, further_text}
-use Rattle.graphql_values.specs.Placed.{Placed, Text}
+use Rattle.graphql_values.specs.Placed.{Placed}
 use Rattle.graphql_values.specs.DirectiveTree.{InputValueTree, InputValues, DirectiveDefinitionTree}
 use Rattle.graphql_values.specs.LineLayout.{Prefix, Leveled, break_text, members_text}
 use Rattle.graphql_values.specs.StringLayout.{description_text}

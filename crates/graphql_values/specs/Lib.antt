@@ -11,6 +11,7 @@ pub mod ValueQueries
 pub mod SelectionParts
 pub mod OperationQueries
 pub mod DirectiveQueries
+pub mod NamedNodes
 pub mod DirectiveNodes
 pub mod Joined
 pub mod Puts

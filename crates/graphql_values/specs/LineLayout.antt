@@ -2,7 +2,7 @@
 --
 -- A layout is a prefix and a level. Without a prefix all stands on one line. Under a prefix members stand one a line,
 -- and a line at level n begins with n prefixes, unless it is empty.
-use Rattle.std.specs.Prelude.{ℕ, ◌+◌, Bool, true, ◌==◌, List, [], ◌∷◌, length, map, replicate, codes, Option, None, Some}
+use Rattle.std.specs.Prelude.{ℕ, ◌+◌, List, [], ◌∷◌, map, replicate, codes, Option, None, Some}
 use Rattle.graphql_values.specs.Joined.{joined}
 
 -- a prefix, where the text has lines

@@ -5,7 +5,7 @@ use Rattle.graphql_values.specs.Placed.{Placed, Text}
 use Rattle.graphql_values.specs.DirectiveTree.{Directives}
 use Rattle.graphql_values.specs.SelectionTree.{FieldHead, SelectionTree, FieldTree, SpreadTree, InlineTree, SelectionTrees, no_selections, selection_then}
 use Rattle.graphql_values.specs.OperationTree.{VariableDefinitionTree, OperationTree, FragmentTree}
-use Rattle.graphql_values.specs.LineLayout.{Prefix, Leveled, start_text, braced_text, set_text}
+use Rattle.graphql_values.specs.LineLayout.{Prefix, Leveled, braced_text, set_text}
 use Rattle.graphql_values.specs.ValueLayout.{type_text, arguments_text, directives_text, default_text, parenthesized_text, texts_of}
 use Rattle.graphql_values.specs.OperationQueries.{operation_keyword}
 use Rattle.graphql_values.specs.declared.operation.OperationType.{OperationType}

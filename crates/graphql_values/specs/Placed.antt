@@ -1,6 +1,5 @@
 -- What is common to all trees: something, and what stands for its place.
-use Rattle.std.specs.Prelude.{ℕ, List, [], ◌∷◌, map, Option, None, Some}
-use Rattle.std.specs.Option.{option_map}
+use Rattle.std.specs.Prelude.{ℕ, List, Option}
 use Rattle.graphql_names.specs.Node.{content, place}
 use Rattle.graphql_names.specs.NodeStrValue.{NodeStrValue}
 use Rattle.graphql_names.specs.NameValue.{NameValue}

@@ -1,6 +1,6 @@
 -- What a `Printer` does with a text.
 use Rattle.std.specs.Prelude.{◌≡◌, ℕ, ◌+◌, ◌<◌, ◌≤◌, ◌^◌, true, List, [], ◌∷◌, ◌++◌, length, take, Option, None, Some, refl}
-use Rattle.std.proofs.Common.{sym, subst, ap, ◌∙◌, arith, length-append, append-nil}
+use Rattle.std.proofs.Common.{sym, subst, ap, ◌∙◌, arith, length-append}
 use Rattle.std.proofs.Math.Seq.{take-append-add}
 use Rattle.std.proofs.lemmas.List.{take-append-le, take_all}
 use Rattle.std.proofs.KnownBytes.{Appends-trans, Appends-nil}

@@ -1,6 +1,6 @@
 -- What a `Shown` does with a text.
 use Rattle.std.specs.Prelude.{◌≡◌, ℕ, false, List, [], ◌∷◌, ◌++◌, refl}
-use Rattle.std.proofs.Common.{◌∙◌, ap, sym, subst, append-nil, append_assoc}
+use Rattle.std.proofs.Common.{◌∙◌, ap, sym, subst, append_assoc}
 use Rattle.std.specs.List.{FoldsTo, concat}
 use Rattle.std.specs.Fmt.{HasWritten, IsPlainFormatter, WritesInCalls}
 use Rattle.graphql_values.specs.Joined.{joined, joined-push}

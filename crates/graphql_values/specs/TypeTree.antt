@@ -1,6 +1,5 @@
 -- References to types (GraphQL, October 2021, section 3.11 and 3.12).
-use Rattle.std.specs.Prelude.{Option}
-use Rattle.graphql_values.specs.Placed.{Placed, Place, Text, name_tree, unplaced_text}
+use Rattle.graphql_values.specs.Placed.{Place, Text, name_tree, unplaced_text}
 use Rattle.graphql_values.specs.declared.ty.«Type».{«Type»}
 use Rattle.graphql_values.specs.declared.ty.«Type».TheOpen.{Type-F, Named, NonNullNamed, List, NonNullList}
 use Rattle.graphql_values.specs.declared.ty.«Type».TheFolds.{fold-Type}

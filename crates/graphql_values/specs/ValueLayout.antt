@@ -1,7 +1,7 @@
 -- Types, values, arguments and directives (GraphQL, October 2021, sections 2.6, 2.9, 2.11, 2.12).
 use Rattle.std.specs.Prelude.{ℕ, Bool, true, false, List, [], ◌∷◌, map, codes, Option, None, Some}
 use Rattle.graphql_values.specs.Joined.{joined, further_text, separated}
-use Rattle.graphql_values.specs.Placed.{Placed, Text}
+use Rattle.graphql_values.specs.Placed.{Placed}
 use Rattle.graphql_values.specs.TypeTree.{TypeTree, NamedTree, NonNullNamedTree, ListTree, NonNullListTree}
 use Rattle.graphql_values.specs.ValueTree as value
 use Rattle.graphql_values.specs.ValueTree.{ValueTree, NullTree, EnumTree, VariableTree, StringTree, FloatTree, IntTree, BooleanTree, ObjectTree, ItemTrees, no_items, item_then, EntryTrees, no_entries, entry_then}

@@ -1,5 +1,5 @@
 -- Literal values and variables (GraphQL, October 2021, section 2.9).
-use Rattle.std.specs.Prelude.{ℕ, Bool, List, [], ◌∷◌, Option}
+use Rattle.std.specs.Prelude.{ℕ, Bool, List, [], ◌∷◌}
 use Rattle.std.specs.String.{string_bytes}
 use Rattle.graphql_names.specs.Node.{content, place}
 use Rattle.graphql_names.specs.declared.name.Name.{Name}

@@ -3,7 +3,8 @@
 use Rattle.std.specs.Prelude.{ℕ, Bool, true, false, not, ◌&&◌, List, [], ◌∷◌, codes, nat_eq, Option, None, Some}
 use Rattle.std.specs.List.{list_all}
 use Rattle.std.specs.Cmp.Lexicographic.{pointwise}
-use Rattle.graphql_values.specs.Placed.{Placed, Text}
+use Rattle.graphql_values.specs.Placed.{Placed}
+use Rattle.graphql_values.specs.TypeTree.{TypeTree, NamedTree, NonNullNamedTree, ListTree as ListTypeTree, NonNullListTree}
 use Rattle.graphql_values.specs.ValueTree.{ValueTree, NullTree, EnumTree, VariableTree, StringTree, FloatTree, IntTree, BooleanTree, ListTree, ObjectTree, ItemTrees, no_items, item_then, EntryTrees, no_entries, entry_then}
 use Rattle.graphql_values.specs.DirectiveTree.{ArgumentTree, Arguments, DirectiveTree, Directives, InputValueTree, InputValues, DirectiveDefinitionTree}
 use Rattle.graphql_values.specs.SelectionTree.{FieldHead, SelectionTree, FieldTree, SpreadTree, InlineTree, SelectionTrees, no_selections, selection_then}
@@ -11,6 +12,13 @@ use Rattle.graphql_values.specs.OperationTree.{VariableDefinitionTree, Operation
 
 abbrev pub is_text : List ℕ → List ℕ → Bool
 is_text wanted text = pointwise nat_eq text wanted
+
+-- of a reference to a type the grammar asks nothing more
+abbrev pub type_writable : {P : Type 0} → TypeTree P → Bool
+type_writable (NamedTree n) = true
+type_writable (NonNullNamedTree n) = true
+type_writable (ListTypeTree t) = type_writable t
+type_writable (NonNullListTree t) = type_writable t
 
 -- no enum value is `true`, `false` or `null` (section 2.9.6)
 abbrev pub can_be_enum : List ℕ → Bool

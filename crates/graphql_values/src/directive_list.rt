@@ -1,7 +1,7 @@
 //! Lists of directives by name.
-ghost use Rattle.std.specs.Prelude.{◌≡◌, ◌++◌, [], ◌∷◌, map, filter, find, IfOk, IfErr, is_ok, if◌then◌else◌};
+ghost use Rattle.std.specs.Prelude.{◌≡◌, ◌++◌, [], ◌∷◌, map, filter, find, ⊤, IfOk, IfErr, is_ok, if◌then◌else◌};
 ghost use Rattle.std.specs.List.{list_any};
-ghost use Rattle.std.specs.Iterator.{YieldsFirstRef, item_count, IsFinite};
+ghost use Rattle.std.specs.Iterator.{YieldsFirstRef, item_count, IsFinite, HoldsAlong, DrainsIf};
 ghost use Rattle.std.specs.Option.{option_map, option_copied};
 ghost use Rattle.std.specs.Slice.Iter.{iter_rest};
 ghost use Rattle.graphql_values.specs.Placed.{node_tree};
@@ -21,6 +21,17 @@ impl DirectiveList {
         ensures { result.0.items ≡ [] }
     {
         DirectiveList(Vec::new(alloc))
+    }
+
+    /// The directives that the iterator gives, in order.
+    pub fn try_from_iter<I: IntoIterator<Item = Node<Directive>>>(
+        alloc: Global,
+        iter: I,
+    ) -> Result<DirectiveList, AllocError>
+        requires { (it : I.IntoIter) → I.into_iter_gives iter it → I.IntoIter.can_next it × IsFinite (I.IntoIter.remaining it) × HoldsAlong I.IntoIter.next_gives it (λ _. ⊤) }
+        ensures { IfOk result (λ ds. (it : I.IntoIter) × I.into_iter_gives iter it × DrainsIf I.IntoIter.next_gives ⊤ it ds.0.items) }
+    {
+        DirectiveList::from_iter(alloc, iter)
     }
 
     /// The first directive of that name, if there is one.

@@ -1,6 +1,8 @@
-//! Laws of the trees, each on the contract of a call: assignable types are ordered, and `==` is the sameness of two trees
-//! whatever their places.
-ghost use Rattle.std.specs.Prelude.{◌≡◌, ◌↔◌, IsTrue, IfOk, None, Some};
+//! Laws of the trees, each on the contract of a call: assignable types are ordered, what is written through a borrow stands in
+//! the list, and `==` is the sameness of two trees whatever their places.
+ghost use Rattle.std.specs.Prelude.{◌≡◌, ◌↔◌, IsTrue, IfOk, None, Some, if◌then◌else◌, filter, is_some, slice_get, slice_set};
+ghost use Rattle.graphql_values.specs.DirectiveNodes.{node_has_name};
+ghost use Rattle.graphql_values.specs.NamedNodes.{nth_place};
 ghost use Rattle.graphql_values.specs.TypeTree.{type_tree, unplaced_type};
 ghost use Rattle.graphql_values.specs.TypeQueries.{AreTypesCompatible};
 ghost use Rattle.graphql_values.specs.ValueTree.{value_tree, unplaced_value};
@@ -11,11 +13,13 @@ ghost use Rattle.graphql_values.specs.OperationTree.{variable_definition_tree, o
 
 use crate::directive::{Argument, Directive, DirectiveDefinition, DirectiveList};
 use crate::input_value::InputValueDefinition;
+use crate::named::get_named_mut;
 use crate::number::IntValue;
 use crate::operation::{FragmentDefinition, OperationDefinition, VariableDefinition};
 use crate::selection::{Field, FragmentSpread, InlineFragment, Selection};
 use crate::ty::Type;
 use crate::value::Value;
+use graphql_names::Node;
 use std::alloc::{AllocError, Global};
 
 /// `is_assignable_to` is reflexive, transitive, and antisymmetric but for places.
@@ -129,4 +133,24 @@ pub fn equal_fragments(a: &FragmentDefinition, b: &FragmentDefinition) -> bool
     ensures { IsTrue result ↔ (unplaced_fragment (fragment_tree a.now) ≡ unplaced_fragment (fragment_tree b.now)) }
 {
     *a == *b
+}
+
+/// What is written through `get_named_mut` stands where the directive of that name and position stood, and nothing else
+/// changes; without such a directive nothing changes. Answers whether there was one.
+pub fn named_directives_are_written(
+    directives: &mut DirectiveList,
+    name: &str,
+    position: usize,
+    directive: Node<Directive>,
+) -> bool
+    ensures found { result ≡ is_some (slice_get (filter (node_has_name name.now) directives.old.0.items) position) }
+    ensures written { directives.new.0.items ≡ (if result then slice_set directives.old.0.items (nth_place (node_has_name name.now) position directives.old.0.items) directive else directives.old.0.items) }
+{
+    match get_named_mut(&mut directives.0, name, position) {
+        None => false,
+        Some(place) => {
+            *place = directive;
+            true
+        }
+    }
 }

@@ -15,6 +15,7 @@ mod directive_location;
 mod input_value;
 pub mod laws;
 mod level;
+mod named;
 mod number;
 mod number_parts;
 mod operation;
@@ -44,6 +45,7 @@ pub use directive_location::DirectiveLocation;
 pub use graphql_names::{FileId, Name, Node, NodeStr, SourceSpan};
 pub use input_value::InputValueDefinition;
 pub use level::Level;
+pub use named::{Named, get_named_mut};
 pub use number::{FloatValue, IntValue};
 pub use operation::{FragmentDefinition, OperationDefinition, OperationType, VariableDefinition};
 pub use print_description::put_description;
@@ -57,8 +59,3 @@ pub use sink::{Cause, Sink, WriteFault};
 pub use ty::{NamedType, Type};
 pub use value::Value;
 pub use writable::{can_be_enum, directives_are_writable, input_values_are_writable};
-
-#[cfg(test)]
-mod print_tests;
-#[cfg(test)]
-mod tests;

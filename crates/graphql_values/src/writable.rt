@@ -1,14 +1,16 @@
-//! Whether the grammar can write a value, directives, or the definition of an input value or a directive.
+//! Whether the grammar can write a type, a value, directives, or the definition of an input value or a directive.
 ghost use Rattle.std.specs.Prelude.{◌≡◌, ◌&&◌, Bool, true, false, not, map};
 ghost use Rattle.std.specs.List.{list_all};
 ghost use Rattle.std.specs.Option.{option_map};
 ghost use Rattle.graphql_values.specs.Placed.{node_tree, Place};
+ghost use Rattle.graphql_values.specs.TypeTree.{type_tree};
 ghost use Rattle.graphql_values.specs.ValueTree.{value_tree, item_trees, entry_trees};
 ghost use Rattle.graphql_values.specs.DirectiveTree.{argument_tree, directive_tree, directives_tree, input_value_tree, directive_definition_tree};
-ghost use Rattle.graphql_values.specs.Writable.{can_be_enum, value_writable, items_writable, entries_writable, arguments_writable, directive_writable, directives_writable, directive_list_writable, default_writable, input_value_writable, input_values_writable, directive_definition_writable};
+ghost use Rattle.graphql_values.specs.Writable.{can_be_enum, type_writable, value_writable, items_writable, entries_writable, arguments_writable, directive_writable, directives_writable, directive_list_writable, default_writable, input_value_writable, input_values_writable, directive_definition_writable};
 
 use crate::directive::{Argument, Directive, DirectiveDefinition, DirectiveList};
 use crate::input_value::InputValueDefinition;
+use crate::ty::Type;
 use crate::value::Value;
 use graphql_names::{Name, Node};
 
@@ -108,6 +110,16 @@ pub fn input_values_are_writable(inputs: &[Node<InputValueDefinition>]) -> bool
         }
     }
     true
+}
+
+impl Type {
+    /// Whether the grammar can write it: it can write each.
+    pub fn is_writable(&self) -> bool
+        ensures value { result ≡ type_writable (type_tree self.now) }
+        ensures always { result ≡ true }
+    {
+        true
+    }
 }
 
 impl Value {

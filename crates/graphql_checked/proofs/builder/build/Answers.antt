@@ -1,5 +1,4 @@
 use Rattle.std.proofs.Common.{◌++◌, map, ap, ◌∙◌}
-use Rattle.std.specs.List.{flat_map}
 use Rattle.graphql_ast.specs.DefinitionTree.{definition_tree, document_tree}
 use Rattle.graphql_checked.specs.Lists.{each_place}
 use Rattle.graphql_checked.specs.Fold.{built_in_definitions, fold}
@@ -12,20 +11,20 @@ use Rattle.graphql_checked.proofs.builder.build.Goals as goal
 
 pub returns-clause-schema : goal.returns-clause-schema
 returns-clause-schema c =
-    (built _ (flat_map (λ t. t) (map document_tree c.args.documents.now)) _ _ _ _ _ _ (ap (map definition_tree) c.deref.ensures.value ∙ c.in_ok-built_in.ensures) (ap (map type_entry) c.new.ensures.empty) c.new-faults.ensures
-    c.in_ok-fold_definitions.ensures c.in_ok-fold_documents.ensures).types
+    (built _ _ (document_tree c.args.document.now) _ _ _ _ _ _ (ap (map definition_tree) c.deref.ensures.value ∙ c.in_ok-built_in.ensures) (ap (map definition_tree) c.deref-2.ensures.value) (ap (map type_entry) c.new.ensures.empty) c.new-faults.ensures
+    c.in_ok-fold_definitions.ensures c.in_ok-fold_definitions-2.ensures).types
 
 pub returns-clause-faults : goal.returns-clause-faults
 returns-clause-faults c =
-    let texts = flat_map (λ t. t) (map document_tree c.args.documents.now) in
-    let is = built _ texts _ _ _ _ _ _ (ap (map definition_tree) c.deref.ensures.value ∙ c.in_ok-built_in.ensures) (ap (map type_entry) c.new.ensures.empty) c.new-faults.ensures c.in_ok-fold_definitions.ensures c.in_ok-fold_documents.ensures in
-    schema_faults (built_in_definitions ++ texts) (types_of c.fold_documents.new.schema) (faults_of c.check_query_root.new.faults) is.types
-    (c.in_ok-check_query_root.ensures ∙ ap (λ l. l ++ no_root_faults (types_of c.fold_documents.new.schema)) is.told)
+    let texts = document_tree c.args.document.now in
+    let is = built _ _ texts _ _ _ _ _ _ (ap (map definition_tree) c.deref.ensures.value ∙ c.in_ok-built_in.ensures) (ap (map definition_tree) c.deref-2.ensures.value) (ap (map type_entry) c.new.ensures.empty) c.new-faults.ensures c.in_ok-fold_definitions.ensures c.in_ok-fold_definitions-2.ensures in
+    schema_faults (built_in_definitions ++ texts) (types_of c.fold_definitions-2.new.schema) (faults_of c.check_query_root.new.faults) is.types
+    (c.in_ok-check_query_root.ensures ∙ ap (λ l. l ++ no_root_faults (types_of c.fold_definitions-2.new.schema)) is.told)
 
 pub returns-clause-order : goal.returns-clause-order
 returns-clause-order c =
-    let texts = flat_map (λ t. t) (map document_tree c.args.documents.now) in
+    let texts = document_tree c.args.document.now in
     let ds = built_in_definitions ++ texts in
-    let is = built _ texts _ _ _ _ _ _ (ap (map definition_tree) c.deref.ensures.value ∙ c.in_ok-built_in.ensures) (ap (map type_entry) c.new.ensures.empty) c.new-faults.ensures c.in_ok-fold_definitions.ensures c.in_ok-fold_documents.ensures in
-    c.in_ok-check_query_root.ensures ∙ ap (λ l. l ++ no_root_faults (types_of c.fold_documents.new.schema)) is.told
+    let is = built _ _ texts _ _ _ _ _ _ (ap (map definition_tree) c.deref.ensures.value ∙ c.in_ok-built_in.ensures) (ap (map definition_tree) c.deref-2.ensures.value) (ap (map type_entry) c.new.ensures.empty) c.new-faults.ensures c.in_ok-fold_definitions.ensures c.in_ok-fold_definitions-2.ensures in
+    c.in_ok-check_query_root.ensures ∙ ap (λ l. l ++ no_root_faults (types_of c.fold_definitions-2.new.schema)) is.told
     ∙ ap (λ l. each_place definition_faults ds ++ l) (ap no_root_faults is.types ∙ root_faults-kept (fold ds))

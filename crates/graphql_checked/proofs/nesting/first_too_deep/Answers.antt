@@ -1,4 +1,4 @@
-use Rattle.std.proofs.Common.{◌≡◌, ◌≤◌, ◌<◌, ◌+◌, ◌-◌, refl, arith, subst, sym, ap, ◌∙◌}
+use Rattle.std.proofs.Common.{◌≤◌, ◌<◌, ◌+◌, subst, ap}
 use Rattle.std.proofs.lemmas.List.{get_or_default}
 use Rattle.graphql_checked.proofs.Nests.{counted_more, counted_deep, counted_whole}
 use Rattle.graphql_checked.proofs.nesting.first_too_deep.Goals as goal

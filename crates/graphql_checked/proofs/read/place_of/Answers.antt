@@ -1,4 +1,4 @@
-use Rattle.std.proofs.Common.{◌≡◌, ◌<◌, ◌≤◌, ◌+◌, arith}
+use Rattle.std.proofs.Common.{arith}
 use Rattle.graphql_checked.proofs.ReadTexts.{fits_here, offset_here}
 use Rattle.graphql_checked.proofs.read.place_of.Goals as goal
 

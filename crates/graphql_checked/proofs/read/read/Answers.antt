@@ -1,4 +1,4 @@
-use Rattle.std.proofs.Common.{◌≡◌, sym, subst, rules}
+use Rattle.std.proofs.Common.{sym, subst, rules}
 use Rattle.graphql_checked.proofs.LaidOut.{laid_out}
 use Rattle.graphql_checked.specs.Stops.{AreLaidOut}
 use Rattle.graphql_checked.specs.TokenView.{tokens_of}

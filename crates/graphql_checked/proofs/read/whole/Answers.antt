@@ -1,4 +1,4 @@
-use Rattle.std.proofs.Common.{◌≡◌, ◌<◌, ◌≤◌, refl, sym, ap, ◌∙◌, subst, Some, None}
+use Rattle.std.proofs.Common.{◌≤◌, refl, subst, Some}
 use Rattle.graphql_checked.proofs.ReadTexts.{wrong_behind, whole_lexed, within_all, nesting_here}
 use Rattle.graphql_checked.specs.Faults.{NestingAt}
 use Rattle.graphql_checked.specs.Lex.{depth}

@@ -1,4 +1,4 @@
-use Rattle.std.proofs.Common.{◌≡◌, lit<, ◌∙◌}
+use Rattle.std.proofs.Common.{lit<, ◌∙◌}
 use Rattle.graphql_values.proofs.Lines.{first_line-only, first_line-split}
 use Rattle.graphql_values.proofs.print_description.first_line_is_blank.Goals as goal
 

@@ -1,4 +1,4 @@
-use Rattle.std.proofs.Common.{◌≡◌, map, lit<, sym, ◌∙◌, rules, ap, not, ◌||◌, ◌&&◌, arith}
+use Rattle.std.proofs.Common.{◌≡◌, map, lit<, sym, ◌∙◌, ap, not, ◌||◌, ◌&&◌, arith}
 use Rattle.std.proofs.lemmas.Grind.{common_steps}
 use Rattle.std.proofs.lemmas.Iterator.{items_from_drains}
 use Rattle.std.proofs.lemmas.Iterator.Splits.{YieldsList-from_str_split}

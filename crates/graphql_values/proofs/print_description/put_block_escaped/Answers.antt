@@ -1,7 +1,5 @@
-use Rattle.std.proofs.Common.{◌≡◌, ◌+◌, arith, sym, ◌∙◌, subst}
+use Rattle.std.proofs.Common.{◌≡◌, arith, subst}
 use Rattle.std.proofs.lemmas.Grind.{common_steps}
-use Rattle.std.proofs.lemmas.Str.{IsCharBoundary-after_ascii}
-use Rattle.std.specs.Str.{IsCharBoundary}
 use Rattle.graphql_values.specs.StringLayout.{block_escaped}
 use Rattle.graphql_values.specs.EscapeRuns.{FirstQuotes}
 use Rattle.graphql_values.proofs.Runs.{so_far-none, so_far-more, so_far-all, quotes_parts, quotes_boundary}

@@ -1,4 +1,4 @@
-use Rattle.std.proofs.Common.{◌≡◌, ◌+◌, ◌-◌, [], List, ℕ, replicate, arith, rules, subst, sym}
+use Rattle.std.proofs.Common.{◌≡◌, ◌+◌, ◌-◌, [], List, ℕ, replicate, arith, rules, subst}
 use Rattle.std.proofs.lemmas.Grind.{common_steps}
 use Rattle.graphql_values.specs.Joined.{joined}
 use Rattle.graphql_values.proofs.Times.{empty_times, stopped_times}

@@ -1,8 +1,5 @@
 use Rattle.std.proofs.Common.{◌≡◌, ◌∷◌, codes, arith, rules}
 use Rattle.std.proofs.lemmas.Grind.{common_steps}
-use Rattle.graphql_names.specs.Node.{content}
-use Rattle.graphql_values.specs.ValueTree.{value_tree}
-use Rattle.graphql_values.specs.ValueLayout.{value_text, named_value_text}
 use Rattle.graphql_values.proofs.PrintedTrees.{item_texts-first, entry_texts-first, separated_put}
 use Rattle.graphql_values.proofs.print_value.+values.Goals as goal
 

@@ -1,0 +1,77 @@
+-- What a document over a checked schema comes to, and what is written.
+use Rattle.std.proofs.Common.{inl, inr, ◌≡◌, ◌≢◌, ℕ, List, [], Option, refl, sym, ap, ◌∙◌}
+use Rattle.std.specs.Prelude.{Contains, ◌↔◌}
+use Rattle.graphql_names.specs.declared.span.FileId.{FileId}
+use Rattle.graphql_values.specs.Placed.{Place}
+use Rattle.graphql_ast.specs.DefinitionTree.{DefinitionTree}
+use Rattle.graphql_checked.specs.Fold.{definition_list}
+use Rattle.graphql_checked.specs.Faults.{Fault, DocumentFails}
+use Rattle.graphql_checked.specs.Judge.{document_number}
+use Rattle.graphql_checked.specs.Answer.{RefusesDocument, WritesSchema, WritesDocument}
+use Rattle.graphql_checked.specs.FaultView.{faults_of}
+use Rattle.graphql_checked.specs.SchemaView.{IsSchemaOf}
+use Rattle.graphql_checked.specs.Accepted.{IsAcceptedSchema, IsAcceptedDocument, IsReadBehind, IsUnreadBehind}
+use Rattle.graphql_checked.specs.CheckerValue.{CheckedSchemaValue}
+use Rattle.graphql_checked.specs.Refusals.{RefusalOfDocument}
+use Rattle.graphql_checked.specs.declared.faults.DiagnosticList.{DiagnosticList}
+use Rattle.graphql_checked.specs.declared.refusal.Refusal.{Refusal}
+use Rattle.graphql_checked.specs.declared.refusal.Refusal.TheVariants.{Faults, NotYet, Memory, Failed}
+use Rattle.graphql_checked.specs.declared.schema.Schema.{Schema}
+use Rattle.graphql_checked.proofs.Finishing.{no_member}
+use Rattle.graphql_checked.proofs.Written.{out_of_accepted, out_doc_of_read}
+
+module _ (nesting : ℕ) (texts : List (List ℕ)) (number : Option FileId) (definitions : List (DefinitionTree Place)) (schema : Schema)
+    (is : IsAcceptedSchema nesting texts number definitions schema) where
+  -- the written schema
+  pub writes_schema : (layout : List (DefinitionTree Place) → List ℕ) (bytes : List ℕ) → bytes ≡ layout definitions → WritesSchema layout texts bytes
+  writes_schema layout bytes written =
+      let judged = is.accepts.judged in
+      (judged.trees, (judged.read, written ∙ ap layout (sym (out_of_accepted texts judged.trees judged.read judged.holds ∙ is.are))))
+
+  module _ (text : List ℕ) where
+    -- the document is not read
+    pub unread_document : (refusal : Refusal) → IsUnreadBehind nesting texts text refusal → RefusalOfDocument nesting texts text refusal
+    unread_document (Faults list) unread = (is.accepts.judged, is.accepts.within, inl unread)
+    unread_document (NotYet file offset) unread = unread
+    unread_document Memory unread = tt
+    unread_document Failed unread = unread
+
+    module _ (tree : List (DefinitionTree Place)) (read : IsReadBehind nesting texts text tree) (list : DiagnosticList)
+        (exact : (ds : List (DefinitionTree Place)) → IsSchemaOf ds schema → (f : Fault) → Contains (faults_of list) f ↔ DocumentFails ds tree f) where
+      told : (f : Fault) → Contains (faults_of list) f ↔ DocumentFails (definition_list is.accepts.judged.trees) tree f
+      told = exact (definition_list is.accepts.judged.trees) is.schema_is
+
+      -- a rule is broken
+      pub broken_document : faults_of list ≢ [] → RefusesDocument nesting texts text (faults_of list)
+      broken_document some = (
+        is.accepts.judged,
+        is.accepts.within,
+        inr (
+          read.1,
+          record {
+            schema = is.accepts.judged;
+            tree = tree;
+            read = read.0;
+            are = record { some = some; are = λ f h. (told f).0 h };
+            full = λ f h. (told f).1 h;
+          },
+        ),
+      )
+
+      -- every rule holds
+      pub accepted_document : faults_of list ≡ [] → IsAcceptedDocument (record { nesting = nesting; texts = texts }) text tree
+      accepted_document no_fault = record {
+        accepts = record {
+          judged = record { schema = is.accepts.judged; tree = tree; read = read.0; holds = λ f h. no_member (faults_of list) f no_fault ((told f).1 h) };
+          schemas_within = is.accepts.within;
+          document_within = read.1;
+        };
+        are = refl;
+      }
+
+-- the written document
+pub writes_document : (schema : CheckedSchemaValue) (text : List ℕ) (tree : List (DefinitionTree Place)) → IsAcceptedDocument schema text tree
+    → (layout : List (DefinitionTree Place) → List ℕ) (bytes : List ℕ) → bytes ≡ layout tree → WritesDocument layout schema.texts text bytes
+writes_document schema text tree is layout bytes written =
+    let judged = is.accepts.judged in
+    (judged.tree, (judged.read, written ∙ ap layout (sym (out_doc_of_read (document_number schema.texts) text judged.tree judged.read ∙ is.are))))

@@ -1,0 +1,22 @@
+use Rattle.std.proofs.Common.{refl}
+use Rattle.graphql_checked.specs.TextsView.{texts_of}
+use Rattle.graphql_checked.proofs.TextsReading.{all_thin}
+use Rattle.graphql_checked.proofs.Finishing.{is_none, built_refusal, accepted}
+use Rattle.graphql_checked.proofs.schema_texts.SchemaTexts.finish.Goals as goal
+
+pub returns-then-not-is_empty-2-clause-refused : goal.returns-then-not-is_empty-2-clause-refused
+returns-then-not-is_empty-2-clause-refused c =
+    built_refusal c.args.self c.requires (is_none _ c.in_default.not-Some) (c.if-not-is_empty.ensures.0 refl) c.in_ok-built.built.faults c.in_ok-built.ensures.faults
+    (λ e. let h = c.if-not-is_empty-2.ensures.1 e in absurd cc)
+
+pub invariant_of-result : goal.invariant_of-result
+invariant_of-result c =
+    let none = is_none _ c.in_default.not-Some in
+    accepted c.args.self c.requires none (c.if-not-is_empty.ensures.0 refl) c.in_ok-built.built.faults c.in_ok-built.ensures.faults (c.if-not-is_empty-2.ensures.0 refl) c.in_ok-built.built.schema c.next_number.result
+    c.in_ok-built.ensures.schema (c.next_number.ensures (texts_of c.args.self) (all_thin (texts_of c.args.self) c.args.self none c.requires).next)
+
+pub returns-clause-accepted : goal.returns-clause-accepted
+returns-clause-accepted c =
+    let none = is_none _ c.in_default.not-Some in
+    (accepted c.args.self c.requires none (c.if-not-is_empty.ensures.0 refl) c.in_ok-built.built.faults c.in_ok-built.ensures.faults (c.if-not-is_empty-2.ensures.0 refl) c.in_ok-built.built.schema c.next_number.result
+    c.in_ok-built.ensures.schema (c.next_number.ensures (texts_of c.args.self) (all_thin (texts_of c.args.self) c.args.self none c.requires).next)).accepts

@@ -1,0 +1,84 @@
+//! The verdict on whole texts.
+
+ghost use Rattle.std.specs.Prelude.{◌≡◌, ◌⊎◌, Ok, Err, map, OnOk, IfOk, IfErr};
+ghost use Rattle.graphql_checked.specs.Refusals.{AcceptsSchemas, Accepts, RefusalOfSchemas};
+ghost use Rattle.graphql_checked.specs.Verdicts.{IsVerdict, IsCheckError, refusal_verdict};
+ghost use Rattle.graphql_checked.specs.declared.refusal.Refusal.TheVariants as refusal;
+ghost use Rattle.graphql_checked.specs.declared.verdict.Verdict.TheVariants.{Accepted};
+ghost use Rattle.graphql_checked.specs.declared.verdict.CheckError.TheVariants.{Memory};
+
+use crate::checked_schema::CheckedSchema;
+use crate::checker::{Checker, Limits};
+use crate::faults::DiagnosticList;
+use crate::refusal::Refusal;
+use graphql_ast::FileId;
+use std::alloc::Global;
+use std::convert::AsStr;
+
+/// Whether texts are accepted.
+#[derive(Drop)]
+pub enum Verdict {
+    /// They are read, and every rule holds.
+    Accepted,
+    /// What is wrong; the list is never empty.
+    Refused(DiagnosticList),
+}
+
+/// Why there is no verdict.
+#[derive(Clone, Copy, Debug, PartialEq, Eq)]
+pub enum CheckError {
+    /// Memory ran out.
+    Memory,
+    /// A text is outside the language that is judged so far, and goes wrong at this byte.
+    NotYet { file: FileId, offset: usize },
+}
+
+/// Judges schema texts and a document over them. A refused schema leaves the document unread.
+pub fn check_texts(
+    alloc: Global,
+    schemas: &[&str],
+    document: &str,
+    limits: Limits,
+) -> Result<Verdict, CheckError>
+    ensures verdict { IfOk result (IsVerdict limits.nesting (map (λ t. t.now) schemas.now) document.now) }
+    ensures error { IfErr result (IsCheckError limits.nesting (map (λ t. t.now) schemas.now) document.now) }
+    ensures complete { Accepts limits.nesting (map (λ t. t.now) schemas.now) document.now → (result ≡ Ok Accepted) ⊎ (result ≡ Err Memory) }
+{
+    let schema = match schema_of(alloc, schemas, limits) {
+        Ok(schema) => schema,
+        Err(refusal) => return verdict_of(refusal),
+    };
+    match schema.check(document) {
+        Ok(_) => Ok(Verdict::Accepted),
+        Err(refusal) => verdict_of(refusal),
+    }
+}
+
+/// The schema of the texts, if they are accepted.
+pub(crate) fn schema_of<T: AsStr>(
+    alloc: Global,
+    texts: &[T],
+    limits: Limits,
+) -> Result<CheckedSchema, Refusal>
+    ensures schema { IfOk result (λ s. s ≡ record { nesting = limits.nesting; texts = map T.text texts.now }) }
+    ensures accepted { OnOk result (AcceptsSchemas limits.nesting (map T.text texts.now)) }
+    ensures refused { IfErr result (RefusalOfSchemas limits.nesting (map T.text texts.now)) }
+    ensures complete { IfErr result (λ r. AcceptsSchemas limits.nesting (map T.text texts.now) → r ≡ refusal.Memory) }
+{
+    let mut checker = Checker::new(alloc, limits);
+    for text in texts {
+        checker.add_schema(text.as_str())?;
+    }
+    checker.finish()
+}
+
+/// The verdict of a refusal. A checker that has failed wants memory.
+fn verdict_of(refusal: Refusal) -> Result<Verdict, CheckError>
+    ensures { result ≡ refusal_verdict refusal }
+{
+    match refusal {
+        Refusal::Faults(list) => Ok(Verdict::Refused(list)),
+        Refusal::NotYet { file, offset } => Err(CheckError::NotYet { file, offset }),
+        Refusal::Memory | Refusal::Failed => Err(CheckError::Memory),
+    }
+}
