@@ -1,5 +1,5 @@
 -- What the texts of a checker come to.
-use Rattle.std.proofs.Common.{inl, inr, ◌≡◌, ◌≢◌, ℕ, ◌+◌, ◌<◌, ◌^◌, arith, List, [], ◌∷◌, ◌++◌, Option, None, Some, refl, sym, ◌∙◌, subst}
+use Rattle.std.proofs.Common.{inl, inr, ◌≡◌, ◌≢◌, ℕ, ◌+◌, ◌<◌, ◌^◌, arith, List, [], ◌++◌, Option, None, Some, refl, sym, ◌∙◌, subst}
 use Rattle.std.specs.Prelude.{Contains, ◌↔◌}
 use Rattle.std.proofs.Math.Nat.{lt_irrefl}
 use Rattle.graphql_names.specs.declared.span.FileId.{FileId}
@@ -18,6 +18,7 @@ use Rattle.graphql_checked.specs.declared.refusal.Refusal.TheVariants.{Faults}
 use Rattle.graphql_checked.specs.declared.schema.Schema.{Schema}
 use Rattle.graphql_checked.specs.declared.schema_texts.SchemaTexts.{SchemaTexts}
 use Rattle.graphql_checked.proofs.Adding.{within_unread}
+use Rattle.graphql_checked.proofs.Places.{not_in_nil}
 use Rattle.graphql_checked.proofs.TextsReading.{all_thin}
 
 -- the next number, and that it is spent
@@ -31,8 +32,7 @@ number_spent texts number (inr (_, le)) spent = omega (arith, le, spent)
 
 -- an empty list has no member
 pub no_member : (xs : List Fault) (f : Fault) → xs ≡ [] → Contains xs f → ⊥
-no_member [] f e (at, below, is) = absurd (omega (arith, below))
-no_member (x ∷ xs) f e h = absurd cc
+no_member xs f e h = not_in_nil f (subst (λ l. Contains l f) e h)
 
 -- nothing is there
 pub is_none : {X : Type 0} (o : Option X) → ((x : X) → o ≡ Some x → ⊥) → o ≡ None

@@ -44,3 +44,4 @@ pub mod Checking
 pub mod ReadDevices
 pub mod Verdicts
 pub mod AnswerBytes
+pub mod Saying
