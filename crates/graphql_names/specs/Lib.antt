@@ -7,3 +7,4 @@ pub mod NameErrors
 pub mod Node
 pub mod NodeStrValue
 pub mod Places
+pub mod Placed

@@ -8,7 +8,7 @@ use Rattle.graphql_names.specs.Node.{content}
 use Rattle.graphql_names.specs.NameValue.{NameValue}
 use Rattle.graphql_names.specs.NodeStrValue.{NodeStrValue}
 use Rattle.graphql_names.specs.declared.node.Node.{Node}
-use Rattle.graphql_values.specs.Placed.{Placed, Text, name_tree, text_tree, node_tree, unplaced_text, unplaced_node}
+use Rattle.graphql_names.specs.Placed.{Placed, Text, name_tree, text_tree, node_tree, unplaced_text, unplaced_node}
 
 -- a claim on each element
 abbrev pub Each : {X : Type 0} → (X → Type 0) → List X → Type 0

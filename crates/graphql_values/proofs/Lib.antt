@@ -1,16 +1,7 @@
 pub mod Trees
-pub mod NamedNodes
 pub mod Decided
 pub mod TypeEquality
 pub mod ValueEquality
 pub mod DirectiveEquality
 pub mod SelectionEquality
 pub mod OperationEquality
-pub mod TypeLaws
-pub mod NumberLemmas
-pub mod IntegerText
-pub mod LayoutExamples
-pub mod Times
-pub mod PrintedTrees
-pub mod Runs
-pub mod Lines

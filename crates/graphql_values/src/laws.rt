@@ -1,25 +1,25 @@
 //! Laws of the trees, each on the contract of a call: assignable types are ordered, what is written through a borrow stands in
 //! the list, and `==` is the sameness of two trees whatever their places.
 ghost use Rattle.std.specs.Prelude.{◌≡◌, ◌↔◌, IsTrue, IfOk, None, Some, if◌then◌else◌, filter, is_some, slice_get, slice_set};
-ghost use Rattle.graphql_values.specs.DirectiveNodes.{node_has_name};
-ghost use Rattle.graphql_values.specs.NamedNodes.{nth_place};
-ghost use Rattle.graphql_values.specs.TypeTree.{type_tree, unplaced_type};
-ghost use Rattle.graphql_values.specs.TypeQueries.{AreTypesCompatible};
-ghost use Rattle.graphql_values.specs.ValueTree.{value_tree, unplaced_value};
-ghost use Rattle.graphql_values.specs.DirectiveTree.{argument_tree, directive_tree, directives_tree, input_value_tree, directive_definition_tree, unplaced_argument, unplaced_directive, unplaced_directives, unplaced_input_value, unplaced_directive_definition};
-ghost use Rattle.graphql_values.specs.SelectionTree.{selection_tree, unplaced_selection};
-ghost use Rattle.graphql_values.specs.SelectionParts.{field_tree, spread_tree, inline_tree};
-ghost use Rattle.graphql_values.specs.OperationTree.{variable_definition_tree, operation_tree, fragment_tree, unplaced_variable_definition, unplaced_operation, unplaced_fragment};
+ghost use Rattle.graphql_directives.specs.DirectiveNodes.{node_has_name};
+ghost use Rattle.graphql_directives.specs.NamedNodes.{nth_place};
+ghost use Rattle.graphql_literals.specs.TypeTree.{type_tree, unplaced_type};
+ghost use Rattle.graphql_literals.specs.TypeQueries.{AreTypesCompatible};
+ghost use Rattle.graphql_literals.specs.ValueTree.{value_tree, unplaced_value};
+ghost use Rattle.graphql_directives.specs.DirectiveTree.{argument_tree, directive_tree, directives_tree, input_value_tree, directive_definition_tree, unplaced_argument, unplaced_directive, unplaced_directives, unplaced_input_value, unplaced_directive_definition};
+ghost use Rattle.graphql_operations.specs.SelectionTree.{selection_tree, unplaced_selection};
+ghost use Rattle.graphql_operations.specs.SelectionParts.{field_tree, spread_tree, inline_tree};
+ghost use Rattle.graphql_operations.specs.OperationTree.{variable_definition_tree, operation_tree, fragment_tree, unplaced_variable_definition, unplaced_operation, unplaced_fragment};
 
-use crate::directive::{Argument, Directive, DirectiveDefinition, DirectiveList};
-use crate::input_value::InputValueDefinition;
-use crate::named::get_named_mut;
-use crate::number::IntValue;
-use crate::operation::{FragmentDefinition, OperationDefinition, VariableDefinition};
-use crate::selection::{Field, FragmentSpread, InlineFragment, Selection};
-use crate::ty::Type;
-use crate::value::Value;
+use graphql_directives::{
+    Argument, Directive, DirectiveDefinition, DirectiveList, InputValueDefinition, get_named_mut,
+};
+use graphql_literals::{IntValue, Type, Value};
 use graphql_names::Node;
+use graphql_operations::{
+    Field, FragmentDefinition, FragmentSpread, InlineFragment, OperationDefinition, Selection,
+    VariableDefinition,
+};
 use std::alloc::{AllocError, Global};
 
 /// `is_assignable_to` is reflexive, transitive, and antisymmetric but for places.

@@ -1,0 +1,2 @@
+pub mod NamedNodes
+pub mod DirectiveExamples

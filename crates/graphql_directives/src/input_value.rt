@@ -1,0 +1,58 @@
+//! Definitions of arguments and of the fields of input objects.
+ghost use Rattle.std.specs.Prelude.{◌≡◌};
+ghost use Rattle.graphql_literals.specs.TypeQueries.{has_mark};
+ghost use Rattle.graphql_directives.specs.DirectiveTree.{input_value_tree};
+ghost use Rattle.graphql_directives.specs.DirectiveQueries.{is_required_input, default_or_null, lent_value};
+
+use crate::argument_error::ArgumentByNameError;
+use crate::directive::DirectiveList;
+use graphql_literals::{Type, Value};
+use graphql_names::{Name, Node, NodeStr};
+use std::alloc::AllocError;
+
+/// An argument of a field or directive, or a field of an input object (section 3.6.1 and 3.10).
+#[derive(PartialEq, Eq, Hash, Drop)]
+pub struct InputValueDefinition {
+    pub description: Option<NodeStr>,
+    pub name: Name,
+    pub ty: Node<Type>,
+    pub default_value: Option<Node<Value>>,
+    pub directives: DirectiveList,
+}
+
+impl InputValueDefinition {
+    /// Whether a value has to be given: the type is non-null, and there is no default (section 5.4.2.1).
+    pub fn is_required(&self) -> bool
+        ensures { result ≡ is_required_input (input_value_tree self.now) }
+    {
+        self.ty.content().is_non_null() && self.default_value.is_none()
+    }
+
+    /// The value where none is given: the default, or None where the type is nullable, an implicit null. Else the error
+    /// `RequiredArgumentNotSpecified`.
+    pub fn default_or_null(&self) -> Result<Option<&Node<Value>>, ArgumentByNameError>
+        ensures { lent_value result ≡ default_or_null (input_value_tree self.now).default_value (has_mark (input_value_tree self.now).ty.it) }
+    {
+        if let Some(value) = &self.default_value {
+            return Ok(Some(value));
+        }
+        if self.is_required() {
+            return Err(ArgumentByNameError::RequiredArgumentNotSpecified);
+        }
+        Ok(None)
+    }
+}
+
+impl Clone for InputValueDefinition {
+    ghost is_clone = { λ v copy. input_value_tree copy ≡ input_value_tree v };
+
+    fn clone(&self) -> Result<InputValueDefinition, AllocError> {
+        Ok(InputValueDefinition {
+            description: self.description.clone()?,
+            name: self.name.clone()?,
+            ty: self.ty.clone()?,
+            default_value: self.default_value.clone()?,
+            directives: self.directives.clone()?,
+        })
+    }
+}

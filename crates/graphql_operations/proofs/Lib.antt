@@ -1,0 +1,3 @@
+pub mod SelectionTrees
+pub mod PrintedSelections
+pub mod OperationExamples

@@ -1,0 +1,4 @@
+pub mod Times
+pub mod Runs
+pub mod Lines
+pub mod StringExamples
