@@ -2,12 +2,12 @@
 use Rattle.std.proofs.Common.{◌≡◌}
 use Rattle.std.specs.Bool.{Decides}
 use Rattle.graphql_names.specs.Node.{content}
-use Rattle.graphql_ast.specs.DefinitionTree.{definition_tree, unplaced_definition, document_tree, unplaced_document, Operation, Fragment, DirectiveDefinition, Schema, ScalarType, ObjectType, InterfaceType, UnionType, EnumType, InputObjectType, ExtendSchema, ExtendScalar, ExtendObject, ExtendInterface, ExtendUnion, ExtendEnum, ExtendInputObject}
-use Rattle.graphql_ast.specs.declared.definition.Definition.{Definition}
-use Rattle.graphql_ast.specs.declared.definition.Definition.TheVariants as rust
-use Rattle.graphql_ast.specs.declared.document.Document.{Document}
-use Rattle.graphql_ast.specs.contracts.definition.DefinitionPartialEq.TheImpl as definition_impl
-use Rattle.graphql_ast.specs.contracts.document.DocumentPartialEq.TheImpl as document_impl
+use Rattle.graphql_definitions.specs.DefinitionTree.{definition_tree, unplaced_definition, document_tree, unplaced_document, Operation, Fragment, DirectiveDefinition, Schema, ScalarType, ObjectType, InterfaceType, UnionType, EnumType, InputObjectType, ExtendSchema, ExtendScalar, ExtendObject, ExtendInterface, ExtendUnion, ExtendEnum, ExtendInputObject}
+use Rattle.graphql_definitions.specs.declared.definition.Definition.{Definition}
+use Rattle.graphql_definitions.specs.declared.definition.Definition.TheVariants as rust
+use Rattle.graphql_definitions.specs.declared.document.Document.{Document}
+use Rattle.graphql_definitions.specs.contracts.definition.DefinitionPartialEq.TheImpl as definition_impl
+use Rattle.graphql_definitions.specs.contracts.document.DocumentPartialEq.TheImpl as document_impl
 use Rattle.graphql_values.proofs.Decided.{through, lists_decide}
 use Rattle.graphql_values.proofs.DirectiveEquality.{directive_definition_eq-Decides}
 use Rattle.graphql_values.proofs.OperationEquality.{operation_eq-Decides, fragment_eq-Decides}

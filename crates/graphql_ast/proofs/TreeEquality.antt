@@ -7,40 +7,41 @@ use Rattle.graphql_names.specs.NameValue.{NameValue}
 use Rattle.graphql_values.specs.Placed.{name_tree, text_tree, unplaced_text}
 use Rattle.graphql_values.specs.DirectiveTree.{input_value_tree, unplaced_input_value}
 use Rattle.graphql_values.specs.declared.operation.OperationType.{OperationType}
-use Rattle.graphql_ast.specs.TypeSystemTree.{enum_value_tree, field_definition_tree, unplaced_enum, unplaced_enum_value, unplaced_field_definition, unplaced_fields, unplaced_input_object, unplaced_root, unplaced_scalar, unplaced_schema, unplaced_union}
-use Rattle.graphql_ast.specs.DefinitionTree.{schema_parts, schema_extension_parts, scalar_parts, scalar_extension_parts, object_parts, object_extension_parts, interface_parts, interface_extension_parts, union_parts, union_extension_parts, enum_parts, enum_extension_parts, input_object_parts, input_object_extension_parts, root_tree}
-use Rattle.graphql_ast.specs.declared.object_type.FieldDefinition.{FieldDefinition}
-use Rattle.graphql_ast.specs.declared.enum_type.EnumValueDefinition.{EnumValueDefinition}
-use Rattle.graphql_ast.specs.declared.schema.SchemaDefinition.{SchemaDefinition}
-use Rattle.graphql_ast.specs.declared.schema.SchemaExtension.{SchemaExtension}
-use Rattle.graphql_ast.specs.declared.scalar_type.ScalarTypeDefinition.{ScalarTypeDefinition}
-use Rattle.graphql_ast.specs.declared.scalar_type.ScalarTypeExtension.{ScalarTypeExtension}
-use Rattle.graphql_ast.specs.declared.object_type.ObjectTypeDefinition.{ObjectTypeDefinition}
-use Rattle.graphql_ast.specs.declared.object_type.ObjectTypeExtension.{ObjectTypeExtension}
-use Rattle.graphql_ast.specs.declared.interface_type.InterfaceTypeDefinition.{InterfaceTypeDefinition}
-use Rattle.graphql_ast.specs.declared.interface_type.InterfaceTypeExtension.{InterfaceTypeExtension}
-use Rattle.graphql_ast.specs.declared.union_type.UnionTypeDefinition.{UnionTypeDefinition}
-use Rattle.graphql_ast.specs.declared.union_type.UnionTypeExtension.{UnionTypeExtension}
-use Rattle.graphql_ast.specs.declared.enum_type.EnumTypeDefinition.{EnumTypeDefinition}
-use Rattle.graphql_ast.specs.declared.enum_type.EnumTypeExtension.{EnumTypeExtension}
-use Rattle.graphql_ast.specs.declared.input_object_type.InputObjectTypeDefinition.{InputObjectTypeDefinition}
-use Rattle.graphql_ast.specs.declared.input_object_type.InputObjectTypeExtension.{InputObjectTypeExtension}
-use Rattle.graphql_ast.specs.contracts.object_type.FieldDefinitionPartialEq.TheImpl as field_definition_impl
-use Rattle.graphql_ast.specs.contracts.enum_type.EnumValueDefinitionPartialEq.TheImpl as enum_value_impl
-use Rattle.graphql_ast.specs.contracts.schema.SchemaDefinitionPartialEq.TheImpl as schema_impl
-use Rattle.graphql_ast.specs.contracts.schema.SchemaExtensionPartialEq.TheImpl as schema_extension_impl
-use Rattle.graphql_ast.specs.contracts.scalar_type.ScalarTypeDefinitionPartialEq.TheImpl as scalar_impl
-use Rattle.graphql_ast.specs.contracts.scalar_type.ScalarTypeExtensionPartialEq.TheImpl as scalar_extension_impl
-use Rattle.graphql_ast.specs.contracts.object_type.ObjectTypeDefinitionPartialEq.TheImpl as object_impl
-use Rattle.graphql_ast.specs.contracts.object_type.ObjectTypeExtensionPartialEq.TheImpl as object_extension_impl
-use Rattle.graphql_ast.specs.contracts.interface_type.InterfaceTypeDefinitionPartialEq.TheImpl as interface_impl
-use Rattle.graphql_ast.specs.contracts.interface_type.InterfaceTypeExtensionPartialEq.TheImpl as interface_extension_impl
-use Rattle.graphql_ast.specs.contracts.union_type.UnionTypeDefinitionPartialEq.TheImpl as union_impl
-use Rattle.graphql_ast.specs.contracts.union_type.UnionTypeExtensionPartialEq.TheImpl as union_extension_impl
-use Rattle.graphql_ast.specs.contracts.enum_type.EnumTypeDefinitionPartialEq.TheImpl as enum_impl
-use Rattle.graphql_ast.specs.contracts.enum_type.EnumTypeExtensionPartialEq.TheImpl as enum_extension_impl
-use Rattle.graphql_ast.specs.contracts.input_object_type.InputObjectTypeDefinitionPartialEq.TheImpl as input_object_impl
-use Rattle.graphql_ast.specs.contracts.input_object_type.InputObjectTypeExtensionPartialEq.TheImpl as input_object_extension_impl
+use Rattle.graphql_type_members.specs.TypeSystemTree.{enum_value_tree, field_definition_tree, unplaced_enum, unplaced_enum_value, unplaced_field_definition, unplaced_fields, unplaced_input_object, unplaced_root, unplaced_scalar, unplaced_schema, unplaced_union}
+use Rattle.graphql_composite_types.specs.CompositeTree.{object_parts, object_extension_parts, interface_parts, interface_extension_parts, union_parts, union_extension_parts}
+use Rattle.graphql_input_types.specs.InputTypeTree.{schema_parts, schema_extension_parts, scalar_parts, scalar_extension_parts, enum_parts, enum_extension_parts, input_object_parts, input_object_extension_parts, root_tree}
+use Rattle.graphql_type_members.specs.declared.field_definition.FieldDefinition.{FieldDefinition}
+use Rattle.graphql_type_members.specs.declared.enum_value.EnumValueDefinition.{EnumValueDefinition}
+use Rattle.graphql_input_types.specs.declared.schema.SchemaDefinition.{SchemaDefinition}
+use Rattle.graphql_input_types.specs.declared.schema.SchemaExtension.{SchemaExtension}
+use Rattle.graphql_input_types.specs.declared.scalar_type.ScalarTypeDefinition.{ScalarTypeDefinition}
+use Rattle.graphql_input_types.specs.declared.scalar_type.ScalarTypeExtension.{ScalarTypeExtension}
+use Rattle.graphql_composite_types.specs.declared.object_type.ObjectTypeDefinition.{ObjectTypeDefinition}
+use Rattle.graphql_composite_types.specs.declared.object_type.ObjectTypeExtension.{ObjectTypeExtension}
+use Rattle.graphql_composite_types.specs.declared.interface_type.InterfaceTypeDefinition.{InterfaceTypeDefinition}
+use Rattle.graphql_composite_types.specs.declared.interface_type.InterfaceTypeExtension.{InterfaceTypeExtension}
+use Rattle.graphql_composite_types.specs.declared.union_type.UnionTypeDefinition.{UnionTypeDefinition}
+use Rattle.graphql_composite_types.specs.declared.union_type.UnionTypeExtension.{UnionTypeExtension}
+use Rattle.graphql_input_types.specs.declared.enum_type.EnumTypeDefinition.{EnumTypeDefinition}
+use Rattle.graphql_input_types.specs.declared.enum_type.EnumTypeExtension.{EnumTypeExtension}
+use Rattle.graphql_input_types.specs.declared.input_object_type.InputObjectTypeDefinition.{InputObjectTypeDefinition}
+use Rattle.graphql_input_types.specs.declared.input_object_type.InputObjectTypeExtension.{InputObjectTypeExtension}
+use Rattle.graphql_type_members.specs.contracts.field_definition.FieldDefinitionPartialEq.TheImpl as field_definition_impl
+use Rattle.graphql_type_members.specs.contracts.enum_value.EnumValueDefinitionPartialEq.TheImpl as enum_value_impl
+use Rattle.graphql_input_types.specs.contracts.schema.SchemaDefinitionPartialEq.TheImpl as schema_impl
+use Rattle.graphql_input_types.specs.contracts.schema.SchemaExtensionPartialEq.TheImpl as schema_extension_impl
+use Rattle.graphql_input_types.specs.contracts.scalar_type.ScalarTypeDefinitionPartialEq.TheImpl as scalar_impl
+use Rattle.graphql_input_types.specs.contracts.scalar_type.ScalarTypeExtensionPartialEq.TheImpl as scalar_extension_impl
+use Rattle.graphql_composite_types.specs.contracts.object_type.ObjectTypeDefinitionPartialEq.TheImpl as object_impl
+use Rattle.graphql_composite_types.specs.contracts.object_type.ObjectTypeExtensionPartialEq.TheImpl as object_extension_impl
+use Rattle.graphql_composite_types.specs.contracts.interface_type.InterfaceTypeDefinitionPartialEq.TheImpl as interface_impl
+use Rattle.graphql_composite_types.specs.contracts.interface_type.InterfaceTypeExtensionPartialEq.TheImpl as interface_extension_impl
+use Rattle.graphql_composite_types.specs.contracts.union_type.UnionTypeDefinitionPartialEq.TheImpl as union_impl
+use Rattle.graphql_composite_types.specs.contracts.union_type.UnionTypeExtensionPartialEq.TheImpl as union_extension_impl
+use Rattle.graphql_input_types.specs.contracts.enum_type.EnumTypeDefinitionPartialEq.TheImpl as enum_impl
+use Rattle.graphql_input_types.specs.contracts.enum_type.EnumTypeExtensionPartialEq.TheImpl as enum_extension_impl
+use Rattle.graphql_input_types.specs.contracts.input_object_type.InputObjectTypeDefinitionPartialEq.TheImpl as input_object_impl
+use Rattle.graphql_input_types.specs.contracts.input_object_type.InputObjectTypeExtensionPartialEq.TheImpl as input_object_extension_impl
 use Rattle.graphql_values.proofs.Decided.{through, pair_decides, lists_decide, nodes_decide, options_decide, name_decides, text_decides}
 use Rattle.graphql_values.proofs.TypeEquality.{type_eq-Decides}
 use Rattle.graphql_values.proofs.DirectiveEquality.{directive_list_eq-Decides, input_value_eq-Decides}

@@ -1,18 +1,21 @@
 //! What equality of each tree means: exactly that the trees are the same, places and sources aside.
 ghost use Rattle.std.specs.Prelude.{◌≡◌, ◌↔◌, IsTrue};
 ghost use Rattle.graphql_ast.specs.Descriptions.{AreSameDescriptions};
-ghost use Rattle.graphql_ast.specs.TypeSystemTree.{enum_value_tree, field_definition_tree, unplaced_enum, unplaced_enum_value, unplaced_field_definition, unplaced_fields, unplaced_input_object, unplaced_scalar, unplaced_schema, unplaced_union};
-ghost use Rattle.graphql_ast.specs.DefinitionTree.{schema_parts, schema_extension_parts, scalar_parts, scalar_extension_parts, object_parts, object_extension_parts, interface_parts, interface_extension_parts, union_parts, union_extension_parts, enum_parts, enum_extension_parts, input_object_parts, input_object_extension_parts, definition_tree, unplaced_definition, document_tree, unplaced_document};
+ghost use Rattle.graphql_type_members.specs.TypeSystemTree.{enum_value_tree, field_definition_tree, unplaced_enum, unplaced_enum_value, unplaced_field_definition, unplaced_fields, unplaced_input_object, unplaced_scalar, unplaced_schema, unplaced_union};
+ghost use Rattle.graphql_composite_types.specs.CompositeTree.{object_parts, object_extension_parts, interface_parts, interface_extension_parts, union_parts, union_extension_parts};
+ghost use Rattle.graphql_input_types.specs.InputTypeTree.{schema_parts, schema_extension_parts, scalar_parts, scalar_extension_parts, enum_parts, enum_extension_parts, input_object_parts, input_object_extension_parts};
+ghost use Rattle.graphql_definitions.specs.DefinitionTree.{definition_tree, unplaced_definition, document_tree, unplaced_document};
 
-use crate::definition::Definition;
-use crate::document::Document;
-use crate::enum_type::{EnumTypeDefinition, EnumTypeExtension, EnumValueDefinition};
-use crate::input_object_type::{InputObjectTypeDefinition, InputObjectTypeExtension};
-use crate::interface_type::{InterfaceTypeDefinition, InterfaceTypeExtension};
-use crate::object_type::{FieldDefinition, ObjectTypeDefinition, ObjectTypeExtension};
-use crate::scalar_type::{ScalarTypeDefinition, ScalarTypeExtension};
-use crate::schema::{SchemaDefinition, SchemaExtension};
-use crate::union_type::{UnionTypeDefinition, UnionTypeExtension};
+use graphql_composite_types::{
+    InterfaceTypeDefinition, InterfaceTypeExtension, ObjectTypeDefinition, ObjectTypeExtension,
+    UnionTypeDefinition, UnionTypeExtension,
+};
+use graphql_definitions::{Definition, Document};
+use graphql_input_types::{
+    EnumTypeDefinition, EnumTypeExtension, InputObjectTypeDefinition, InputObjectTypeExtension,
+    ScalarTypeDefinition, ScalarTypeExtension, SchemaDefinition, SchemaExtension,
+};
+use graphql_type_members::{EnumValueDefinition, FieldDefinition};
 
 /// Whether two field definitions are equal.
 #[tactic(auto, using(crate::proofs::TreeEquality::equality))]

@@ -1,8 +1,0 @@
-use Rattle.std.proofs.Common.{◌≡◌, map, drop}
-use Rattle.graphql_values.specs.Placed.{node_tree}
-use Rattle.graphql_ast.specs.TypeSystemTree.{enum_value_tree}
-use Rattle.graphql_ast.specs.Writable.{enum_values_writable}
-use Rattle.graphql_ast.proofs.writable.values_are_writable.Given as goal
-
-abbrev pub invariant-loop-value : goal.invariant-loop-value
-invariant-loop-value l = enum_values_writable (map (node_tree enum_value_tree) l.values) ≡ enum_values_writable (map (node_tree enum_value_tree) (drop l.value-index l.values))

@@ -1,0 +1,70 @@
+//! Interface types.
+ghost use Rattle.std.specs.Prelude.{◌≡◌};
+ghost use Rattle.std.specs.Option.{option_map};
+ghost use Rattle.graphql_values.specs.Placed.{text_tree};
+ghost use Rattle.graphql_composite_types.specs.CompositeTree.{interface_parts, interface_extension_parts};
+
+use crate::copies::clone_members;
+use graphql_type_members::{FieldDefinition, clone_described, clone_head};
+use graphql_values::{DirectiveList, Name, NamedType, Node, NodeStr};
+use std::alloc::AllocError;
+
+/// `interface name implements interfaces @directives { fields }` (section 3.7).
+#[derive(PartialEq, Eq, Hash, Drop)]
+pub struct InterfaceTypeDefinition {
+    pub description: Option<NodeStr>,
+    pub name: Name,
+    pub implements_interfaces: Vec<NamedType>,
+    pub directives: DirectiveList,
+    pub fields: Vec<Node<FieldDefinition>>,
+}
+
+/// `extend interface name implements interfaces @directives { fields }` (section 3.7.1).
+#[derive(PartialEq, Eq, Hash, Drop)]
+pub struct InterfaceTypeExtension {
+    pub name: Name,
+    pub implements_interfaces: Vec<NamedType>,
+    pub directives: DirectiveList,
+    pub fields: Vec<Node<FieldDefinition>>,
+}
+
+impl Clone for InterfaceTypeDefinition {
+    ghost is_clone = { λ t copy. (option_map text_tree copy.description ≡ option_map text_tree t.description) × (interface_parts copy ≡ interface_parts t) };
+
+    fn clone(&self) -> Result<InterfaceTypeDefinition, AllocError> {
+        let (description, name, directives) = clone_described(
+            &self.description,
+            &self.name,
+            &self.directives,
+        )?;
+        let (implements_interfaces, fields) = clone_members(
+            &self.implements_interfaces,
+            &self.fields,
+        )?;
+        Ok(InterfaceTypeDefinition {
+            description,
+            name,
+            implements_interfaces,
+            directives,
+            fields,
+        })
+    }
+}
+
+impl Clone for InterfaceTypeExtension {
+    ghost is_clone = { λ t copy. interface_extension_parts copy ≡ interface_extension_parts t };
+
+    fn clone(&self) -> Result<InterfaceTypeExtension, AllocError> {
+        let (name, directives) = clone_head(&self.name, &self.directives)?;
+        let (implements_interfaces, fields) = clone_members(
+            &self.implements_interfaces,
+            &self.fields,
+        )?;
+        Ok(InterfaceTypeExtension {
+            name,
+            implements_interfaces,
+            directives,
+            fields,
+        })
+    }
+}

@@ -1,0 +1,70 @@
+//! Object types.
+ghost use Rattle.std.specs.Prelude.{◌≡◌};
+ghost use Rattle.std.specs.Option.{option_map};
+ghost use Rattle.graphql_values.specs.Placed.{text_tree};
+ghost use Rattle.graphql_composite_types.specs.CompositeTree.{object_parts, object_extension_parts};
+
+use crate::copies::clone_members;
+use graphql_type_members::{FieldDefinition, clone_described, clone_head};
+use graphql_values::{DirectiveList, Name, NamedType, Node, NodeStr};
+use std::alloc::AllocError;
+
+/// `type name implements interfaces @directives { fields }` (section 3.6).
+#[derive(PartialEq, Eq, Hash, Drop)]
+pub struct ObjectTypeDefinition {
+    pub description: Option<NodeStr>,
+    pub name: Name,
+    pub implements_interfaces: Vec<NamedType>,
+    pub directives: DirectiveList,
+    pub fields: Vec<Node<FieldDefinition>>,
+}
+
+/// `extend type name implements interfaces @directives { fields }` (section 3.6.3).
+#[derive(PartialEq, Eq, Hash, Drop)]
+pub struct ObjectTypeExtension {
+    pub name: Name,
+    pub implements_interfaces: Vec<NamedType>,
+    pub directives: DirectiveList,
+    pub fields: Vec<Node<FieldDefinition>>,
+}
+
+impl Clone for ObjectTypeDefinition {
+    ghost is_clone = { λ t copy. (option_map text_tree copy.description ≡ option_map text_tree t.description) × (object_parts copy ≡ object_parts t) };
+
+    fn clone(&self) -> Result<ObjectTypeDefinition, AllocError> {
+        let (description, name, directives) = clone_described(
+            &self.description,
+            &self.name,
+            &self.directives,
+        )?;
+        let (implements_interfaces, fields) = clone_members(
+            &self.implements_interfaces,
+            &self.fields,
+        )?;
+        Ok(ObjectTypeDefinition {
+            description,
+            name,
+            implements_interfaces,
+            directives,
+            fields,
+        })
+    }
+}
+
+impl Clone for ObjectTypeExtension {
+    ghost is_clone = { λ t copy. object_extension_parts copy ≡ object_extension_parts t };
+
+    fn clone(&self) -> Result<ObjectTypeExtension, AllocError> {
+        let (name, directives) = clone_head(&self.name, &self.directives)?;
+        let (implements_interfaces, fields) = clone_members(
+            &self.implements_interfaces,
+            &self.fields,
+        )?;
+        Ok(ObjectTypeExtension {
+            name,
+            implements_interfaces,
+            directives,
+            fields,
+        })
+    }
+}

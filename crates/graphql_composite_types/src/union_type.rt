@@ -1,0 +1,57 @@
+//! Union types.
+ghost use Rattle.std.specs.Prelude.{◌≡◌};
+ghost use Rattle.std.specs.Option.{option_map};
+ghost use Rattle.graphql_values.specs.Placed.{text_tree};
+ghost use Rattle.graphql_composite_types.specs.CompositeTree.{union_parts, union_extension_parts};
+
+use graphql_type_members::{clone_described, clone_head};
+use graphql_values::{DirectiveList, Name, NamedType, NodeStr};
+use std::alloc::AllocError;
+
+/// `union name @directives = members` (section 3.8).
+#[derive(PartialEq, Eq, Hash, Drop)]
+pub struct UnionTypeDefinition {
+    pub description: Option<NodeStr>,
+    pub name: Name,
+    pub directives: DirectiveList,
+    pub members: Vec<NamedType>,
+}
+
+/// `extend union name @directives = members` (section 3.8.1).
+#[derive(PartialEq, Eq, Hash, Drop)]
+pub struct UnionTypeExtension {
+    pub name: Name,
+    pub directives: DirectiveList,
+    pub members: Vec<NamedType>,
+}
+
+impl Clone for UnionTypeDefinition {
+    ghost is_clone = { λ t copy. (option_map text_tree copy.description ≡ option_map text_tree t.description) × (union_parts copy ≡ union_parts t) };
+
+    fn clone(&self) -> Result<UnionTypeDefinition, AllocError> {
+        let (description, name, directives) = clone_described(
+            &self.description,
+            &self.name,
+            &self.directives,
+        )?;
+        Ok(UnionTypeDefinition {
+            description,
+            name,
+            directives,
+            members: self.members.clone()?,
+        })
+    }
+}
+
+impl Clone for UnionTypeExtension {
+    ghost is_clone = { λ t copy. union_extension_parts copy ≡ union_extension_parts t };
+
+    fn clone(&self) -> Result<UnionTypeExtension, AllocError> {
+        let (name, directives) = clone_head(&self.name, &self.directives)?;
+        Ok(UnionTypeExtension {
+            name,
+            directives,
+            members: self.members.clone()?,
+        })
+    }
+}

@@ -1,0 +1,5 @@
+pub mod DefinitionTree
+pub mod Queries
+pub mod Sources
+pub mod DocumentLayout
+pub mod Writable

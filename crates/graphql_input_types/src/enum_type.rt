@@ -1,0 +1,57 @@
+//! Enum types.
+ghost use Rattle.std.specs.Prelude.{◌≡◌};
+ghost use Rattle.std.specs.Option.{option_map};
+ghost use Rattle.graphql_values.specs.Placed.{text_tree};
+ghost use Rattle.graphql_input_types.specs.InputTypeTree.{enum_parts, enum_extension_parts};
+
+use graphql_type_members::{EnumValueDefinition, clone_described, clone_head};
+use graphql_values::{DirectiveList, Name, Node, NodeStr};
+use std::alloc::AllocError;
+
+/// `enum name @directives { values }` (section 3.9).
+#[derive(PartialEq, Eq, Hash, Drop)]
+pub struct EnumTypeDefinition {
+    pub description: Option<NodeStr>,
+    pub name: Name,
+    pub directives: DirectiveList,
+    pub values: Vec<Node<EnumValueDefinition>>,
+}
+
+/// `extend enum name @directives { values }` (section 3.9.1).
+#[derive(PartialEq, Eq, Hash, Drop)]
+pub struct EnumTypeExtension {
+    pub name: Name,
+    pub directives: DirectiveList,
+    pub values: Vec<Node<EnumValueDefinition>>,
+}
+
+impl Clone for EnumTypeDefinition {
+    ghost is_clone = { λ t copy. (option_map text_tree copy.description ≡ option_map text_tree t.description) × (enum_parts copy ≡ enum_parts t) };
+
+    fn clone(&self) -> Result<EnumTypeDefinition, AllocError> {
+        let (description, name, directives) = clone_described(
+            &self.description,
+            &self.name,
+            &self.directives,
+        )?;
+        Ok(EnumTypeDefinition {
+            description,
+            name,
+            directives,
+            values: self.values.clone()?,
+        })
+    }
+}
+
+impl Clone for EnumTypeExtension {
+    ghost is_clone = { λ t copy. enum_extension_parts copy ≡ enum_extension_parts t };
+
+    fn clone(&self) -> Result<EnumTypeExtension, AllocError> {
+        let (name, directives) = clone_head(&self.name, &self.directives)?;
+        Ok(EnumTypeExtension {
+            name,
+            directives,
+            values: self.values.clone()?,
+        })
+    }
+}

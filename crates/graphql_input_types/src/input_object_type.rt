@@ -1,0 +1,57 @@
+//! Input object types.
+ghost use Rattle.std.specs.Prelude.{◌≡◌};
+ghost use Rattle.std.specs.Option.{option_map};
+ghost use Rattle.graphql_values.specs.Placed.{text_tree};
+ghost use Rattle.graphql_input_types.specs.InputTypeTree.{input_object_parts, input_object_extension_parts};
+
+use graphql_type_members::{clone_described, clone_head};
+use graphql_values::{DirectiveList, InputValueDefinition, Name, Node, NodeStr};
+use std::alloc::AllocError;
+
+/// `input name @directives { fields }` (section 3.10).
+#[derive(PartialEq, Eq, Hash, Drop)]
+pub struct InputObjectTypeDefinition {
+    pub description: Option<NodeStr>,
+    pub name: Name,
+    pub directives: DirectiveList,
+    pub fields: Vec<Node<InputValueDefinition>>,
+}
+
+/// `extend input name @directives { fields }` (section 3.10.1).
+#[derive(PartialEq, Eq, Hash, Drop)]
+pub struct InputObjectTypeExtension {
+    pub name: Name,
+    pub directives: DirectiveList,
+    pub fields: Vec<Node<InputValueDefinition>>,
+}
+
+impl Clone for InputObjectTypeDefinition {
+    ghost is_clone = { λ t copy. (option_map text_tree copy.description ≡ option_map text_tree t.description) × (input_object_parts copy ≡ input_object_parts t) };
+
+    fn clone(&self) -> Result<InputObjectTypeDefinition, AllocError> {
+        let (description, name, directives) = clone_described(
+            &self.description,
+            &self.name,
+            &self.directives,
+        )?;
+        Ok(InputObjectTypeDefinition {
+            description,
+            name,
+            directives,
+            fields: self.fields.clone()?,
+        })
+    }
+}
+
+impl Clone for InputObjectTypeExtension {
+    ghost is_clone = { λ t copy. input_object_extension_parts copy ≡ input_object_extension_parts t };
+
+    fn clone(&self) -> Result<InputObjectTypeExtension, AllocError> {
+        let (name, directives) = clone_head(&self.name, &self.directives)?;
+        Ok(InputObjectTypeExtension {
+            name,
+            directives,
+            fields: self.fields.clone()?,
+        })
+    }
+}

@@ -1,0 +1,50 @@
+//! Scalar types.
+ghost use Rattle.std.specs.Prelude.{◌≡◌};
+ghost use Rattle.std.specs.Option.{option_map};
+ghost use Rattle.graphql_values.specs.Placed.{text_tree};
+ghost use Rattle.graphql_input_types.specs.InputTypeTree.{scalar_parts, scalar_extension_parts};
+
+use graphql_type_members::{clone_described, clone_head};
+use graphql_values::{DirectiveList, Name, NodeStr};
+use std::alloc::AllocError;
+
+/// `scalar name @directives` (section 3.5).
+#[derive(PartialEq, Eq, Hash, Drop)]
+pub struct ScalarTypeDefinition {
+    pub description: Option<NodeStr>,
+    pub name: Name,
+    pub directives: DirectiveList,
+}
+
+/// `extend scalar name @directives` (section 3.5.7).
+#[derive(PartialEq, Eq, Hash, Drop)]
+pub struct ScalarTypeExtension {
+    pub name: Name,
+    pub directives: DirectiveList,
+}
+
+impl Clone for ScalarTypeDefinition {
+    ghost is_clone = { λ t copy. (option_map text_tree copy.description ≡ option_map text_tree t.description) × (scalar_parts copy ≡ scalar_parts t) };
+
+    fn clone(&self) -> Result<ScalarTypeDefinition, AllocError> {
+        let (description, name, directives) = clone_described(
+            &self.description,
+            &self.name,
+            &self.directives,
+        )?;
+        Ok(ScalarTypeDefinition {
+            description,
+            name,
+            directives,
+        })
+    }
+}
+
+impl Clone for ScalarTypeExtension {
+    ghost is_clone = { λ t copy. scalar_extension_parts copy ≡ scalar_extension_parts t };
+
+    fn clone(&self) -> Result<ScalarTypeExtension, AllocError> {
+        let (name, directives) = clone_head(&self.name, &self.directives)?;
+        Ok(ScalarTypeExtension { name, directives })
+    }
+}

@@ -1,0 +1,47 @@
+//! Schema definitions: the root operation types.
+ghost use Rattle.std.specs.Prelude.{◌≡◌};
+ghost use Rattle.std.specs.Option.{option_map};
+ghost use Rattle.graphql_values.specs.Placed.{text_tree};
+ghost use Rattle.graphql_input_types.specs.InputTypeTree.{schema_parts, schema_extension_parts};
+
+use graphql_type_members::clone_description;
+use graphql_values::{DirectiveList, NamedType, Node, NodeStr, OperationType};
+use std::alloc::AllocError;
+
+/// `schema @directives { root operation types }` (section 3.3).
+#[derive(PartialEq, Eq, Hash, Drop)]
+pub struct SchemaDefinition {
+    pub description: Option<NodeStr>,
+    pub directives: DirectiveList,
+    pub root_operations: Vec<Node<(OperationType, NamedType)>>,
+}
+
+/// `extend schema @directives { root operation types }` (section 3.3.2).
+#[derive(PartialEq, Eq, Hash, Drop)]
+pub struct SchemaExtension {
+    pub directives: DirectiveList,
+    pub root_operations: Vec<Node<(OperationType, NamedType)>>,
+}
+
+impl Clone for SchemaDefinition {
+    ghost is_clone = { λ t copy. (option_map text_tree copy.description ≡ option_map text_tree t.description) × (schema_parts copy ≡ schema_parts t) };
+
+    fn clone(&self) -> Result<SchemaDefinition, AllocError> {
+        Ok(SchemaDefinition {
+            description: clone_description(&self.description)?,
+            directives: self.directives.clone()?,
+            root_operations: self.root_operations.clone()?,
+        })
+    }
+}
+
+impl Clone for SchemaExtension {
+    ghost is_clone = { λ t copy. schema_extension_parts copy ≡ schema_extension_parts t };
+
+    fn clone(&self) -> Result<SchemaExtension, AllocError> {
+        Ok(SchemaExtension {
+            directives: self.directives.clone()?,
+            root_operations: self.root_operations.clone()?,
+        })
+    }
+}

@@ -1,0 +1,4 @@
+pub mod TypeSystemTree
+pub mod ArgumentQueries
+pub mod TypeSystemLayout
+pub mod PartsWritable
