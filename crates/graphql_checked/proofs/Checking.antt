@@ -1,5 +1,5 @@
 -- What a document over a checked schema comes to, and what is written.
-use Rattle.std.proofs.Common.{inl, inr, ◌≡◌, ◌≢◌, ℕ, List, [], Option, refl, sym, ap, ◌∙◌}
+use Rattle.std.proofs.Common.{inr, ◌≡◌, ◌≢◌, ℕ, List, [], Option, refl, sym, ap, ◌∙◌, subst}
 use Rattle.std.specs.Prelude.{Contains, ◌↔◌}
 use Rattle.graphql_names.specs.declared.span.FileId.{FileId}
 use Rattle.graphql_values.specs.Placed.{Place}
@@ -17,6 +17,8 @@ use Rattle.graphql_checked.specs.declared.faults.DiagnosticList.{DiagnosticList}
 use Rattle.graphql_checked.specs.declared.refusal.Refusal.{Refusal}
 use Rattle.graphql_checked.specs.declared.refusal.Refusal.TheVariants.{Faults, NotYet, Memory, Failed}
 use Rattle.graphql_checked.specs.declared.schema.Schema.{Schema}
+use Rattle.graphql_checked.proofs.Deciding.{read_unique}
+use Rattle.graphql_checked.proofs.Saying.{unread_alone}
 use Rattle.graphql_checked.proofs.Finishing.{no_member}
 use Rattle.graphql_checked.proofs.Written.{out_of_accepted, out_doc_of_read}
 
@@ -31,7 +33,7 @@ module _ (nesting : ℕ) (texts : List (List ℕ)) (number : Option FileId) (def
   module _ (text : List ℕ) where
     -- the document is not read
     pub unread_document : (refusal : Refusal) → IsUnreadBehind nesting texts text refusal → RefusalOfDocument nesting texts text refusal
-    unread_document (Faults list) unread = (is.accepts.judged, is.accepts.within, inl unread)
+    unread_document (Faults list) unread = unread_alone nesting texts text (faults_of list) is.accepts.judged is.accepts.within unread
     unread_document (NotYet file offset) unread = unread
     unread_document Memory unread = tt
     unread_document Failed unread = unread
@@ -43,20 +45,14 @@ module _ (nesting : ℕ) (texts : List (List ℕ)) (number : Option FileId) (def
 
       -- a rule is broken
       pub broken_document : faults_of list ≢ [] → RefusesDocument nesting texts text (faults_of list)
-      broken_document some = (
-        is.accepts.judged,
-        is.accepts.within,
-        inr (
-          read.1,
-          record {
-            schema = is.accepts.judged;
-            tree = tree;
-            read = read.0;
-            are = record { some = some; are = λ f h. (told f).0 h };
-            full = λ f h. (told f).1 h;
-          },
-        ),
-      )
+      broken_document some = record {
+        judged = is.accepts.judged;
+        within = is.accepts.within;
+        some = some;
+        says = λ f h. inr (is.accepts.judged.trees, (tree, (is.accepts.judged.read, read.0, (told f).0 h)));
+        alone = inr read.1;
+        full = λ bounds other read_other f fails. (told f).1 (subst (λ t. DocumentFails (definition_list is.accepts.judged.trees) t f) (read_unique (document_number texts) text other tree read_other read.0) fails);
+      }
 
       -- every rule holds
       pub accepted_document : faults_of list ≡ [] → IsAcceptedDocument (record { nesting = nesting; texts = texts }) text tree

@@ -1,5 +1,5 @@
 -- A text is not both read and refused.
-use Rattle.std.proofs.Common.{inl, inr, ◌⊎◌, ◌≡◌, ℕ, ◌+◌, ◌-◌, ◌<◌, Bool, true, false, cond, List, [], ◌∷◌, ◌++◌, length, map, max, suc, refl, sym, ap, ◌∙◌, subst, append_assoc}
+use Rattle.std.proofs.Common.{inl, inr, ◌⊎◌, ◌≡◌, ◌≢◌, ℕ, ◌+◌, ◌-◌, ◌<◌, Bool, true, false, cond, List, [], ◌∷◌, ◌++◌, length, map, max, suc, refl, sym, ap, ◌∙◌, subst, append_assoc}
 use Rattle.std.specs.List.{filter}
 use Rattle.std.proofs.lemmas.Bool.{and_parts, and_from}
 use Rattle.std.proofs.lemmas.Simd.{map-map}
@@ -12,10 +12,10 @@ use Rattle.graphql_checked.specs.Grammar.{DerivesSchema, DerivesDocument}
 use Rattle.graphql_checked.specs.Thin.{Symbol, Reads, ReadsDocument, AreSomeTokens, Begins, GoesWrongAt}
 use Rattle.graphql_checked.specs.Fold.{definition_list}
 use Rattle.graphql_checked.specs.Faults.{Fault, PassesNesting, NestingAt, SchemaFails, DocumentFails}
-use Rattle.graphql_checked.specs.Judge.{ReadsAll, document_number, JudgeSchemas, Judge, NotYetFrom, NotYetSchema, NotYetDocument, UnreadFault}
-use Rattle.graphql_checked.specs.Answer.{WithinBounds, AllWithinBounds, UnreadFaults, AreFaults, RefusesSchemas, RefusesDocument}
+use Rattle.graphql_checked.specs.Judge.{ReadsAll, document_number, JudgeSchemas, Judge, NotYetFrom, NotYetSchema, NotYetDocument, UnreadFault, UnreadFaultFrom, SaysSchema, SaysDocument}
+use Rattle.graphql_checked.specs.Answer.{WithinBounds, AllWithinBounds, UnreadFaults, AllSay, RefusesSchemas, RefusesDocument}
 use Rattle.graphql_checked.specs.FaultView.{faults_of}
-use Rattle.graphql_checked.specs.Refusals.{AcceptsSchemas, Accepts, RefusalOfSchemas, RefusalOfDocument}
+use Rattle.graphql_checked.specs.Refusals.{AreSchemasAccepted, IsAccepted, RefusalOfSchemas, RefusalOfDocument}
 use Rattle.graphql_checked.specs.declared.refusal.Refusal.{Refusal}
 use Rattle.graphql_checked.specs.declared.refusal.Refusal.TheVariants.{Faults, NotYet, Memory, Failed}
 use Rattle.graphql_checked.specs.declared.token.TokenKind.{TokenKind}
@@ -76,7 +76,7 @@ tree_unique : (symbol : Symbol) → ((tokens : List Token) (a b : List (Definiti
 tree_unique symbol one text a b x y = one y.tokens a b (subst (λ ts. symbol ts a) (lex_unique x.lexed y.lexed) x.derived) y.derived
 
 -- texts have one list of trees
-all_unique : (first : ℕ) (texts : List (List ℕ)) (a b : List (List (DefinitionTree Place))) → ReadsAll first texts a → ReadsAll first texts b → a ≡ b
+pub all_unique : (first : ℕ) (texts : List (List ℕ)) (a b : List (List (DefinitionTree Place))) → ReadsAll first texts a → ReadsAll first texts b → a ≡ b
 all_unique first [] [] [] x y = refl
 all_unique first [] [] (b ∷ bs) x y = absurd y
 all_unique first [] (a ∷ trees) b x y = absurd x
@@ -87,7 +87,7 @@ all_unique first (text ∷ texts) (a ∷ trees) (b ∷ bs) x y =
     ∙ ap (λ ts. b ∷ ts) (all_unique (first + 1) texts trees bs x.1 y.1)
 
 -- a document has one tree
-read_unique : (number : ℕ) (text : List ℕ) (a b : List (DefinitionTree Place)) → ReadsDocument number text a → ReadsDocument number text b → a ≡ b
+pub read_unique : (number : ℕ) (text : List ℕ) (a b : List (DefinitionTree Place)) → ReadsDocument number text a → ReadsDocument number text b → a ≡ b
 read_unique number = tree_unique (DerivesDocument number) (document_unique number)
 
 -- ---- bounds
@@ -128,39 +128,50 @@ passes_nesting {limit} {text = text} deep =
     (deep.before ++ moved t (offset_of text left) ∷ [], (deep.begins.behind, (front, subst (λ n. limit < n) (depth_moved deep.before t (offset_of text left)) deep.too_deep)))
 
 -- a text within the bounds has no fault that says it is unread
-not_unread : (nesting file : ℕ) (text : List ℕ) (fault : Fault) → WithinBounds nesting file text → UnreadFault nesting file text fault → ⊥
+pub not_unread : (nesting file : ℕ) (text : List ℕ) (fault : Fault) → WithinBounds nesting file text → UnreadFault nesting file text fault → ⊥
 not_unread nesting file text fault within (inl (is, deep)) = within.nests (passes_nesting deep)
 not_unread nesting file text fault within (inr (is, nowhere, spent)) = within.numbered spent
 
 -- texts within the bounds have no such faults
-no_unread : (nesting first : ℕ) (texts : List (List ℕ)) (faults : List Fault) → AllWithinBounds nesting first texts → UnreadFaults nesting first texts faults → faults ≡ []
+pub no_unread : (nesting first : ℕ) (texts : List (List ℕ)) (faults : List Fault) → AllWithinBounds nesting first texts → UnreadFaults nesting first texts faults → faults ≡ []
 no_unread nesting first [] faults within none = none
 no_unread nesting first (text ∷ texts) faults within (inl (here, others)) = no_unread nesting (first + 1) texts faults within.1 others
 no_unread nesting first (text ∷ texts) faults within (inr (fault, (others, (is, unread, more)))) = absurd (not_unread nesting first text fault within.0 unread)
 
+not_unread_from : (nesting first : ℕ) (texts : List (List ℕ)) (fault : Fault) → AllWithinBounds nesting first texts → UnreadFaultFrom nesting first texts fault → ⊥
+not_unread_from nesting first [] fault within h = h
+not_unread_from nesting first (text ∷ texts) fault within (inl unread) = not_unread nesting first text fault within.0 unread
+not_unread_from nesting first (text ∷ texts) fault within (inr others) = not_unread_from nesting (first + 1) texts fault within.1 others
+
 -- ---- refused texts
 
-no_faults : (fails : Fault → Type 0) (faults : List Fault) → AreFaults fails faults → ((fault : Fault) → fails fault → ⊥) → ⊥
-no_faults fails [] are none = are.some refl
-no_faults fails (fault ∷ faults) are none = none fault (are.are fault (Contains-first fault faults fault refl))
+-- where no fault is so, none is told
+none_told : (says : Fault → Type 0) (faults : List Fault) → faults ≢ [] → AllSay says faults → ((fault : Fault) → says fault → ⊥) → ⊥
+none_told says [] some are none = some refl
+none_told says (fault ∷ faults) some are none = none fault (are fault (Contains-first fault faults fault refl))
+
+-- of accepted schema texts no fault is so
+none_of_schemas : (nesting : ℕ) (texts : List (List ℕ)) → AreSchemasAccepted nesting texts → (fault : Fault) → SaysSchema nesting texts fault → ⊥
+none_of_schemas nesting texts accepted fault (inl unread) = not_unread_from nesting 1 texts fault accepted.within unread
+none_of_schemas nesting texts accepted fault (inr (trees, (read, fails))) =
+    accepted.judged.holds fault (subst (λ trees. SchemaFails (definition_list trees) fault) (all_unique 1 texts trees accepted.judged.trees read accepted.judged.read) fails)
 
 -- accepted schema texts are not refused
-schemas_not_refused : (nesting : ℕ) (texts : List (List ℕ)) (faults : List Fault) → AcceptsSchemas nesting texts → RefusesSchemas nesting texts faults → ⊥
-schemas_not_refused nesting texts faults accepts (inl (some, unread)) = some (no_unread nesting 1 texts faults accepts.within unread)
-schemas_not_refused nesting texts faults accepts (inr (within, found)) =
-    let same = all_unique 1 texts found.trees accepts.judged.trees found.read accepts.judged.read in
-    no_faults (SchemaFails (definition_list found.trees)) faults found.are (λ fault fails.
-    accepts.judged.holds fault (subst (λ trees. SchemaFails (definition_list trees) fault) same fails))
+pub schemas_not_refused : (nesting : ℕ) (texts : List (List ℕ)) (faults : List Fault) → AreSchemasAccepted nesting texts → RefusesSchemas nesting texts faults → ⊥
+schemas_not_refused nesting texts faults accepted refused = none_told (SaysSchema nesting texts) faults refused.some refused.says (none_of_schemas nesting texts accepted)
+
+-- of an accepted document no fault is so
+none_of_document : (nesting : ℕ) (texts : List (List ℕ)) (document : List ℕ) → IsAccepted nesting texts document → (fault : Fault) → SaysDocument nesting texts document fault → ⊥
+none_of_document nesting texts document accepted fault (inl unread) = not_unread nesting (document_number texts) document fault accepted.document_within unread
+none_of_document nesting texts document accepted fault (inr (trees, (tree, (read, read_document, fails)))) =
+    let same = all_unique 1 texts trees accepted.judged.schema.trees read accepted.judged.schema.read in
+    let same_tree = read_unique (document_number texts) document tree accepted.judged.tree read_document accepted.judged.read in
+    accepted.judged.holds fault (subst (λ tree. DocumentFails (definition_list accepted.judged.schema.trees) tree fault) same_tree
+    (subst (λ trees. DocumentFails (definition_list trees) tree fault) same fails))
 
 -- an accepted document is not refused
-document_not_refused : (nesting : ℕ) (texts : List (List ℕ)) (document : List ℕ) (faults : List Fault) → Accepts nesting texts document → RefusesDocument nesting texts document faults → ⊥
-document_not_refused nesting texts document faults accepts (schema, within, inl (fault, (is, unread))) = not_unread nesting (document_number texts) document fault accepts.document_within unread
-document_not_refused nesting texts document faults accepts (schema, within, inr (here, found)) =
-    let same = all_unique 1 texts found.schema.trees accepts.judged.schema.trees found.schema.read accepts.judged.schema.read in
-    let same_tree = read_unique (document_number texts) document found.tree accepts.judged.tree found.read accepts.judged.read in
-    no_faults (DocumentFails (definition_list found.schema.trees) found.tree) faults found.are (λ fault fails.
-    accepts.judged.holds fault (subst (λ tree. DocumentFails (definition_list accepts.judged.schema.trees) tree fault) same_tree
-    (subst (λ trees. DocumentFails (definition_list trees) found.tree fault) same fails)))
+pub document_not_refused : (nesting : ℕ) (texts : List (List ℕ)) (document : List ℕ) (faults : List Fault) → IsAccepted nesting texts document → RefusesDocument nesting texts document faults → ⊥
+document_not_refused nesting texts document faults accepted refused = none_told (SaysDocument nesting texts document) faults refused.some refused.says (none_of_document nesting texts document accepted)
 
 -- ---- texts that are not thin
 
@@ -171,25 +182,25 @@ not_wrong_from first (text ∷ texts) (tree ∷ trees) file offset read (inl (is
 not_wrong_from first (text ∷ texts) (tree ∷ trees) file offset read (inr (here, others)) = not_wrong_from (first + 1) texts trees file offset read.1 others
 
 -- accepted schema texts are thin
-schemas_not_wrong : (texts : List (List ℕ)) (file offset : ℕ) → JudgeSchemas texts → NotYetSchema texts file offset → ⊥
+pub schemas_not_wrong : (texts : List (List ℕ)) (file offset : ℕ) → JudgeSchemas texts → NotYetSchema texts file offset → ⊥
 schemas_not_wrong texts file offset judged = not_wrong_from 1 texts judged.trees file offset judged.read
 
 -- an accepted document is thin
-document_not_wrong : (texts : List (List ℕ)) (document : List ℕ) (file offset : ℕ) → Judge texts document → NotYetDocument texts document file offset → ⊥
+pub document_not_wrong : (texts : List (List ℕ)) (document : List ℕ) (file offset : ℕ) → Judge texts document → NotYetDocument texts document file offset → ⊥
 document_not_wrong texts document file offset judged (is, wrong) =
     not_wrong (DerivesDocument file) document judged.tree offset (subst (λ number. ReadsDocument number document judged.tree) (sym is) judged.read) wrong
 
 -- ---- refusals
 
 -- of accepted schema texts there is no refusal but for memory
-pub refusal_of_schemas : (nesting : ℕ) (texts : List (List ℕ)) (refusal : Refusal) → AcceptsSchemas nesting texts → RefusalOfSchemas nesting texts refusal → refusal ≡ Memory
+pub refusal_of_schemas : (nesting : ℕ) (texts : List (List ℕ)) (refusal : Refusal) → AreSchemasAccepted nesting texts → RefusalOfSchemas nesting texts refusal → refusal ≡ Memory
 refusal_of_schemas nesting texts (Faults list) accepts refused = absurd (schemas_not_refused nesting texts (faults_of list) accepts refused)
 refusal_of_schemas nesting texts (NotYet file offset) accepts wrong = absurd (schemas_not_wrong texts file.0 offset accepts.judged wrong)
 refusal_of_schemas nesting texts Memory accepts h = refl
 refusal_of_schemas nesting texts Failed accepts h = absurd h
 
 -- of an accepted document there is no refusal but for memory
-pub refusal_of_document : (nesting : ℕ) (texts : List (List ℕ)) (document : List ℕ) (refusal : Refusal) → Accepts nesting texts document → RefusalOfDocument nesting texts document refusal → refusal ≡ Memory
+pub refusal_of_document : (nesting : ℕ) (texts : List (List ℕ)) (document : List ℕ) (refusal : Refusal) → IsAccepted nesting texts document → RefusalOfDocument nesting texts document refusal → refusal ≡ Memory
 refusal_of_document nesting texts document (Faults list) accepts refused = absurd (document_not_refused nesting texts document (faults_of list) accepts refused)
 refusal_of_document nesting texts document (NotYet file offset) accepts wrong = absurd (document_not_wrong texts document file.0 offset accepts.judged wrong)
 refusal_of_document nesting texts document Memory accepts h = refl

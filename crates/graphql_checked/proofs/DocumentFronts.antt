@@ -27,7 +27,7 @@ module _ (file : ℕ) where
       let x : Placed Place (Text Place) = record { it = n.0; place = p.0 } in
       (g.selection_of x, λ z. (x, (n.1 z, p.1 z), refl))
 
-  document_derives : (o : Token) (b : List Token) (c : Token) → sign is_brace_open o ≡ true → sign is_brace_close c ≡ true → Derives (some S) b → o.offset ≤ end_of (o ∷ (b ++ c ∷ [])) → end_of (o ∷ (b ++ c ∷ [])) < 2 ^ 64 → Derives (g.document_text file) (o ∷ (b ++ c ∷ []))
+  document_derives : (o : Token) (b : List Token) (c : Token) → sign is_brace_open o ≡ true → sign is_brace_close c ≡ true → Derives (some S) b → o.offset ≤ end_of (o ∷ (b ++ c ∷ [])) → end_of (o ∷ (b ++ c ∷ [])) < 2 ^ 64 → Derives (g.executable_document file) (o ∷ (b ++ c ∷ []))
   document_derives o b c is_o is_c d le lt =
       let i = between_derives (some S) (sign is_brace_open) (sign is_brace_close) o c b is_o is_c d in
       let p = spans_over file o (b ++ c ∷ []) le lt in
@@ -47,7 +47,7 @@ module _ (file : ℕ) where
   DocumentFront AtDocument taken = taken ≡ []
   DocumentFront AtSelection taken = InSelections (Derives (many S)) taken
   DocumentFront BehindSelection taken = InSelections (Derives (some S)) taken
-  DocumentFront BehindDocument taken = Derives (g.document_text file) taken
+  DocumentFront BehindDocument taken = Derives (g.executable_document file) taken
   DocumentFront _ taken = ⊥
 
   add_selection : (taken : List Token) (k : Token) → InSelections (Derives (many S)) taken → is_field_name k ≡ true → IsBounded (taken ++ k ∷ []) → InSelections (Derives (some S)) (taken ++ k ∷ [])
@@ -62,11 +62,11 @@ module _ (file : ℕ) where
   weaker : (taken : List Token) → InSelections (Derives (some S)) taken → InSelections (Derives (many S)) taken
   weaker taken q = record { o = q.o; is_o = q.is_o; b = q.b; selections = derives_many S q.b q.selections; whole = q.whole }
 
-  close_document : (taken : List Token) (k : Token) → InSelections (Derives (some S)) taken → sign is_brace_close k ≡ true → IsBounded (taken ++ k ∷ []) → Derives (g.document_text file) (taken ++ k ∷ [])
+  close_document : (taken : List Token) (k : Token) → InSelections (Derives (some S)) taken → sign is_brace_close k ≡ true → IsBounded (taken ++ k ∷ []) → Derives (g.executable_document file) (taken ++ k ∷ [])
   close_document taken k q is_k bounded =
       let whole : taken ++ k ∷ [] ≡ q.o ∷ (q.b ++ k ∷ []) = ap (λ (w : List Token). w ++ k ∷ []) q.whole in
       let le = suffix_bounds (taken ++ k ∷ []) [] q.o (q.b ++ k ∷ []) bounded whole in
-      let P : List Token → Type 0 = λ w. Derives (g.document_text file) w in
+      let P : List Token → Type 0 = λ w. Derives (g.executable_document file) w in
       subst P (sym whole) (document_derives q.o q.b k q.is_o is_k q.selections le.0 le.1)
 
   document_step : (s s' : State) (taken : List Token) (k : Token) → DocumentFront s taken → IsBounded taken → IsBounded (taken ++ k ∷ []) → step s k ≡ Some s' → DocumentFront s' (taken ++ k ∷ [])

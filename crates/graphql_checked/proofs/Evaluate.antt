@@ -126,7 +126,7 @@ find_object file = find_map g.object_of (mark g.is_type_keyword · g.name g.is_t
 abbrev find_definition : (file : ℕ) → Finds (g.definition_of <$> placed file (g.object_type file))
 find_definition file = find_map g.definition_of (placed file (g.object_type file)) (find_placed file (g.object_type file) (find_object file))
 
-abbrev find_schema : (file : ℕ) → Finds (g.schema_text file)
+abbrev find_schema : (file : ℕ) → Finds (g.type_system_document file)
 find_schema file = find_some (g.definition_of <$> placed file (g.object_type file)) (find_definition file)
 
 abbrev find_selection : (file : ℕ) → Finds (g.selection file)
@@ -136,7 +136,7 @@ abbrev find_set : (file : ℕ) → Finds (g.selection_set file)
 find_set file = find_map g.selections_of (between (g.sign g.is_brace_open) (some (g.selection file)) (g.sign g.is_brace_close))
     (find_between (g.sign g.is_brace_open) (some (g.selection file)) (g.sign g.is_brace_close) (find_some (g.selection file) (find_selection file)))
 
-abbrev find_document : (file : ℕ) → Finds (g.document_text file)
+abbrev find_document : (file : ℕ) → Finds (g.executable_document file)
 find_document file = find_map (λ x. g.operation_of x ∷ []) (placed file (g.selection_set file)) (find_placed file (g.selection_set file) (find_set file))
 
 -- ---- whole texts
@@ -159,8 +159,8 @@ lexed r f text (Some ts) e = then (f ts) (λ d. then (whole r ts d) (λ w. Some 
 
 -- the tree of a schema text with this number, where it has one
 abbrev pub schema_tree : (file : ℕ) (text : List ℕ) → Option (HasTree (DerivesSchema file) text)
-schema_tree file text = lexed (g.schema_text file) (find_schema file) text (lex_text text) refl
+schema_tree file text = lexed (g.type_system_document file) (find_schema file) text (lex_text text) refl
 
 -- the tree of a document text with this number, where it has one
 abbrev pub document_tree : (file : ℕ) (text : List ℕ) → Option (HasTree (DerivesDocument file) text)
-document_tree file text = lexed (g.document_text file) (find_document file) text (lex_text text) refl
+document_tree file text = lexed (g.executable_document file) (find_document file) text (lex_text text) refl

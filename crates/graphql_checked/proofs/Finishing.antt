@@ -5,7 +5,7 @@ use Rattle.std.proofs.Math.Nat.{lt_irrefl}
 use Rattle.graphql_names.specs.declared.span.FileId.{FileId}
 use Rattle.graphql_ast.specs.DefinitionTree.{document_tree}
 use Rattle.graphql_checked.specs.Fold.{built_in_definitions, definition_list}
-use Rattle.graphql_checked.specs.Faults.{Fault, SchemaFails}
+use Rattle.graphql_checked.specs.Faults.{Fault, FoldingFails, SchemaFails}
 use Rattle.graphql_checked.specs.FaultView.{faults_of}
 use Rattle.graphql_checked.specs.SchemaView.{IsSchemaOf}
 use Rattle.graphql_checked.specs.Added.{AreDefinitionsOf, IsNextNumber, IsDocumentNumber, AreAllThin}
@@ -19,6 +19,8 @@ use Rattle.graphql_checked.specs.declared.schema.Schema.{Schema}
 use Rattle.graphql_checked.specs.declared.schema_texts.SchemaTexts.{SchemaTexts}
 use Rattle.graphql_checked.proofs.Adding.{within_unread}
 use Rattle.graphql_checked.proofs.Places.{not_in_nil}
+use Rattle.graphql_checked.proofs.Deciding.{all_unique}
+use Rattle.graphql_checked.proofs.Saying.{unread_schemas}
 use Rattle.graphql_checked.proofs.TextsReading.{all_thin}
 
 -- the next number, and that it is spent
@@ -40,6 +42,10 @@ is_none None h = refl
 is_none (Some x) h = absurd (h x refl)
 
 module _ (s : SchemaTexts) (is : IsReadingOf (texts_of s) s) where
+  -- some text is not read
+  pub unread_refusal : s.not_yet ≡ None → faults_of s.unread ≢ [] → RefusalOfSchemas s.nesting (texts_of s) (Faults s.unread)
+  unread_refusal none some = unread_schemas s.nesting (texts_of s) (faults_of s.unread) some (all_thin (texts_of s) s none is).unread
+
   module _ (none : s.not_yet ≡ None) (silent : faults_of s.unread ≡ []) (list : DiagnosticList)
       (told : (f : Fault) → Contains (faults_of list) f ↔ SchemaFails (built_in_definitions ++ document_tree s.document) f) where
     thin : AreAllThin s.nesting (texts_of s) s.files (document_tree s.document) (faults_of s.unread)
@@ -56,15 +62,12 @@ module _ (s : SchemaTexts) (is : IsReadingOf (texts_of s) s) where
 
     -- a rule is broken
     pub built_refusal : faults_of list ≢ [] → RefusalOfSchemas s.nesting (texts_of s) (Faults list)
-    built_refusal some = inr (
-      within,
-      record {
-        trees = definitions.trees;
-        read = definitions.read;
-        are = record { some = some; are = λ f h. (told_here f).0 h };
-        full = λ f h. (told_here f).1 (inl h);
-      },
-    )
+    built_refusal some = record {
+      some = some;
+      says = λ f h. inr (definitions.trees, (definitions.read, (told_here f).0 h));
+      alone = inr within;
+      full = λ bounds trees read f fails. (told_here f).1 (inl (subst (λ ts. FoldingFails (definition_list ts) f) (all_unique 1 (texts_of s) trees definitions.trees read definitions.read) fails));
+    }
 
     -- every rule holds
     pub accepted : faults_of list ≡ [] → (schema : Schema) (number : Option FileId) → IsSchemaOf (built_in_definitions ++ document_tree s.document) schema → IsDocumentNumber (texts_of s) number

@@ -45,3 +45,5 @@ pub mod ReadDevices
 pub mod Verdicts
 pub mod AnswerBytes
 pub mod Saying
+pub mod Completing
+pub mod PairRows

@@ -31,7 +31,7 @@ use Rattle.graphql_checked.specs.Grammar as g
 use Rattle.graphql_checked.specs.Grammar.{sign, is_bang, is_colon, is_brace_open, is_brace_close, is_field_name, is_type_name, is_type_keyword, is_scalar, DerivesSchema, DerivesDocument}
 use Rattle.graphql_checked.specs.Input.{Input, ahead, start}
 use Rattle.graphql_checked.specs.Steps.{AtObject, AtTypeName, AtFields, AtField, AtColon, AtType, BehindType, AtBang, BehindField, AtFieldsEnd, BehindObject, AtDocument, AtSelection, BehindSelection, AtSelectionsEnd, BehindDocument}
-use Rattle.graphql_checked.specs.Reading.{HasRead, HasStopped, Reads, Ends, definition}
+use Rattle.graphql_checked.specs.Reading.{HasRead, HasStopped, ReadsSymbol, Ends, definition}
 use Rattle.graphql_checked.specs.Stops.{AreLaidOut, StopIsDue}
 use Rattle.graphql_checked.specs.declared.stop.Stop.{Stop}
 use Rattle.graphql_checked.specs.declared.stop.Stop.TheVariants.{Memory, At}
@@ -121,9 +121,9 @@ module _ (file : ℕ) where
   -- a query with nothing but selections
   pub operation_read : (a b : Input) (node : Node OperationDefinition) (v : OperationDefinition) (span : SourceSpan) → content node ≡ v → place node ≡ Some span → v.operation_type ≡ Query → v.name ≡ None → v.variables.items ≡ [] → v.directives.0.items ≡ []
       → HasRead (g.selection_set file) AtDocument BehindDocument a b (selection_trees selection_tree v.selection_set.items) → Spans file (ahead a) (Some span) (ahead b)
-      → HasRead (g.document_text file) AtDocument BehindDocument a b (definition_tree (rust.OperationDefinition node) ∷ [])
+      → HasRead (g.executable_document file) AtDocument BehindDocument a b (definition_tree (rust.OperationDefinition node) ∷ [])
   operation_read a b node v span is at kind name variables directives h spans =
-      let P : List (DefinitionTree Place) → Type 0 = λ x. HasRead (g.document_text file) AtDocument BehindDocument a b x in
+      let P : List (DefinitionTree Place) → Type 0 = λ x. HasRead (g.executable_document file) AtDocument BehindDocument a b x in
       subst P (sym (ap (λ (x : DefinitionTree Place). x ∷ []) tree)) (read_map (λ x. g.operation_of x ∷ []) (read_placed file (Some span) h spans))
     where
       tree : definition_tree (rust.OperationDefinition node) ≡ Operation (Some span) (record { operation_type = Query; name = None; variables = []; directives = []; selections = selection_trees selection_tree v.selection_set.items })
@@ -134,22 +134,22 @@ module _ (file : ℕ) where
   all_read : (i : Input) → i.at ≡ length i.all → ahead i ≡ []
   all_read i e = drop_all i.at i.all (omega arith)
 
-  pub schema_found : (tokens : List Token) (new : Input) (tree : List (DefinitionTree Place)) → HasRead (g.schema_text file) AtObject BehindObject (start tokens) new tree → new.at ≡ length new.all → DerivesSchema file tokens tree
-  schema_found tokens new tree h e = let P : List Token → Type 0 = λ w. g.schema_text file tokens tree w in subst P (all_read new e) h.derived
+  pub schema_found : (tokens : List Token) (new : Input) (tree : List (DefinitionTree Place)) → HasRead (g.type_system_document file) AtObject BehindObject (start tokens) new tree → new.at ≡ length new.all → DerivesSchema file tokens tree
+  schema_found tokens new tree h e = let P : List Token → Type 0 = λ w. g.type_system_document file tokens tree w in subst P (all_read new e) h.derived
 
   pub schema_due : (tokens : List Token) → AreLaidOut tokens → (e : Stop) → ((k : ℕ) → e ≡ At k → HasStopped AtObject (start tokens) k) → StopIsDue (DerivesSchema file) tokens e
   schema_due tokens laid Memory h = tt
   schema_due tokens laid (At k) h = let s = h k refl in schema_stops_at file tokens k laid s.within s.rest
 
-  pub document_found : (tokens : List Token) (new : Input) (tree : List (DefinitionTree Place)) → HasRead (g.document_text file) AtDocument BehindDocument (start tokens) new tree → new.at ≡ length new.all → DerivesDocument file tokens tree
-  document_found tokens new tree h e = let P : List Token → Type 0 = λ w. g.document_text file tokens tree w in subst P (all_read new e) h.derived
+  pub document_found : (tokens : List Token) (new : Input) (tree : List (DefinitionTree Place)) → HasRead (g.executable_document file) AtDocument BehindDocument (start tokens) new tree → new.at ≡ length new.all → DerivesDocument file tokens tree
+  document_found tokens new tree h e = let P : List Token → Type 0 = λ w. g.executable_document file tokens tree w in subst P (all_read new e) h.derived
 
   pub document_due : (tokens : List Token) → AreLaidOut tokens → (e : Stop) → ((k : ℕ) → e ≡ At k → HasStopped AtDocument (start tokens) k) → StopIsDue (DerivesDocument file) tokens e
   document_due tokens laid Memory h = tt
   document_due tokens laid (At k) h = let s = h k refl in document_stops_at file tokens k laid s.within s.rest
 
   -- tokens are left behind the operation
-  pub more_behind : (tokens : List Token) (new : Input) (tree : List (DefinitionTree Place)) → HasRead (g.document_text file) AtDocument BehindDocument (start tokens) new tree → new.at < length new.all → HasStopped AtDocument (start tokens) new.at
+  pub more_behind : (tokens : List Token) (new : Input) (tree : List (DefinitionTree Place)) → HasRead (g.executable_document file) AtDocument BehindDocument (start tokens) new tree → new.at < length new.all → HasStopped AtDocument (start tokens) new.at
   more_behind tokens new tree h lt =
       let l : length new.all ≡ length tokens = ap (λ (w : List Token). length w) h.moved.all in
       let some : length (ahead new) ≡ length new.all - new.at = length-drop new.at new.all in
@@ -161,21 +161,21 @@ module _ (file : ℕ) where
   abbrev view : Vec Definition Global → List (DefinitionTree Place)
   view v = map definition_tree v.items
 
-  pub schema_found_by : (tokens : List Token) (i new : Input) (result : Result (Vec Definition Global) Stop) → i ≡ start tokens → Reads view (g.schema_text file) AtObject BehindObject i result new → OnOk result (new.at ≡ length new.all) → IfOk result (λ x. DerivesSchema file tokens (view x))
+  pub schema_found_by : (tokens : List Token) (i new : Input) (result : Result (Vec Definition Global) Stop) → i ≡ start tokens → ReadsSymbol view (g.type_system_document file) AtObject BehindObject i result new → OnOk result (new.at ≡ length new.all) → IfOk result (λ x. DerivesSchema file tokens (view x))
   schema_found_by tokens i new (Ok x) e h end =
-      let P : Input → Type 0 = λ j. HasRead (g.schema_text file) AtObject BehindObject j new (view x) in
+      let P : Input → Type 0 = λ j. HasRead (g.type_system_document file) AtObject BehindObject j new (view x) in
       schema_found tokens new (view x) (subst P e h) end
   schema_found_by tokens i new (Err s) e h end = tt
 
-  pub schema_due_by : (tokens : List Token) (i new : Input) (result : Result (Vec Definition Global) Stop) → AreLaidOut tokens → i ≡ start tokens → Reads view (g.schema_text file) AtObject BehindObject i result new → IfErr result (StopIsDue (DerivesSchema file) tokens)
+  pub schema_due_by : (tokens : List Token) (i new : Input) (result : Result (Vec Definition Global) Stop) → AreLaidOut tokens → i ≡ start tokens → ReadsSymbol view (g.type_system_document file) AtObject BehindObject i result new → IfErr result (StopIsDue (DerivesSchema file) tokens)
   schema_due_by tokens i new (Ok x) laid e h = tt
   schema_due_by tokens i new (Err s) laid e h =
       let P : Input → Type 0 = λ j. (k : ℕ) → s ≡ At k → HasStopped AtObject j k in
       schema_due tokens laid s (subst P e h)
 
-  pub document_found_by : (tokens : List Token) (i new : Input) (tree : List (DefinitionTree Place)) → i ≡ start tokens → HasRead (g.document_text file) AtDocument BehindDocument i new tree → new.at ≡ length new.all → DerivesDocument file tokens tree
+  pub document_found_by : (tokens : List Token) (i new : Input) (tree : List (DefinitionTree Place)) → i ≡ start tokens → HasRead (g.executable_document file) AtDocument BehindDocument i new tree → new.at ≡ length new.all → DerivesDocument file tokens tree
   document_found_by tokens i new tree e h end =
-      let P : Input → Type 0 = λ j. HasRead (g.document_text file) AtDocument BehindDocument j new tree in
+      let P : Input → Type 0 = λ j. HasRead (g.executable_document file) AtDocument BehindDocument j new tree in
       document_found tokens new tree (subst P e h) end
 
   pub document_due_by : (tokens : List Token) (i : Input) (s : Stop) → AreLaidOut tokens → i ≡ start tokens → ((k : ℕ) → s ≡ At k → HasStopped AtDocument i k) → StopIsDue (DerivesDocument file) tokens s
@@ -183,9 +183,9 @@ module _ (file : ℕ) where
       let P : Input → Type 0 = λ j. (k : ℕ) → s ≡ At k → HasStopped AtDocument j k in
       document_due tokens laid s (subst P e h)
 
-  pub end_due : (tokens : List Token) (i new : Input) (tree : List (DefinitionTree Place)) (s : Stop) → AreLaidOut tokens → i ≡ start tokens → HasRead (g.document_text file) AtDocument BehindDocument i new tree → Ends new (Err s) → StopIsDue (DerivesDocument file) tokens s
+  pub end_due : (tokens : List Token) (i new : Input) (tree : List (DefinitionTree Place)) (s : Stop) → AreLaidOut tokens → i ≡ start tokens → HasRead (g.executable_document file) AtDocument BehindDocument i new tree → Ends new (Err s) → StopIsDue (DerivesDocument file) tokens s
   end_due tokens i new tree s laid e h end =
-      let P : Input → Type 0 = λ j. HasRead (g.document_text file) AtDocument BehindDocument j new tree in
+      let P : Input → Type 0 = λ j. HasRead (g.executable_document file) AtDocument BehindDocument j new tree in
       let Q : Stop → Type 0 = λ s. StopIsDue (DerivesDocument file) tokens s in
       let at : HasStopped AtDocument (start tokens) new.at = more_behind tokens new tree (subst P e h) end.1 in
       subst Q (sym end.0) (document_stops_at file tokens new.at laid at.within at.rest)

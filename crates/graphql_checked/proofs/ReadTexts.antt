@@ -3,7 +3,7 @@ use Rattle.std.proofs.lemmas.List.{take-append-drop, take-append-le, drop_more, 
 use Rattle.std.specs.Prelude.{get_or}
 use Rattle.std.proofs.Common.{Some}
 use Rattle.graphql_checked.specs.Stops.{StopsAt}
-use Rattle.graphql_checked.specs.Reads.{IsLexedFrom}
+use Rattle.graphql_checked.specs.WholeText.{IsLexedFrom}
 use Rattle.graphql_checked.specs.Nesting.{IsTooDeep}
 use Rattle.graphql_checked.specs.TokenView.{token_of, tokens_of}
 use Rattle.graphql_checked.specs.declared.lex.Lexed.{Lexed}

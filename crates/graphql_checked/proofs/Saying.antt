@@ -1,9 +1,10 @@
--- Each fault of a list that may be given is so.
-use Rattle.std.proofs.Common.{inl, inr, ℕ, ◌+◌, List, [], ◌∷◌, Contains, subst}
+-- Lists of faults of texts that are not read: each is so, and they stand alone.
+use Rattle.std.proofs.Common.{inl, inr, ◌≡◌, ◌≢◌, ℕ, ◌+◌, List, [], ◌∷◌, Contains, subst}
 use Rattle.graphql_checked.specs.Faults.{Fault}
-use Rattle.graphql_checked.specs.Judge.{document_number, UnreadFault, UnreadFaultFrom, SaysSchema, SaysDocument}
-use Rattle.graphql_checked.specs.Answer.{UnreadFaults, RefusesSchemas, RefusesDocument}
+use Rattle.graphql_checked.specs.Judge.{document_number, JudgeSchemas, UnreadFault, UnreadFaultFrom}
+use Rattle.graphql_checked.specs.Answer.{AllWithinBounds, UnreadFaults, UnreadAlone, RefusesSchemas, RefusesDocument}
 use Rattle.graphql_checked.proofs.Places.{not_in_nil, Contains-cons}
+use Rattle.graphql_checked.proofs.Deciding.{not_unread, no_unread}
 
 says_unread : (nesting first : ℕ) (texts : List (List ℕ)) (faults : List Fault) → UnreadFaults nesting first texts faults → (fault : Fault) → Contains faults fault → UnreadFaultFrom nesting first texts fault
 says_unread nesting first [] faults none fault h = not_in_nil fault (subst (λ l. Contains l fault) none h)
@@ -14,18 +15,30 @@ says_unread nesting first (text ∷ texts) faults (inr (here, (others, (is, unre
       | inr behind ↦ inr (says_unread nesting (first + 1) texts others rest fault behind)
     ]
 
--- of schema texts
-pub says_schema : (nesting : ℕ) (schemas : List (List ℕ)) (faults : List Fault) → RefusesSchemas nesting schemas faults → (fault : Fault) → Contains faults fault → SaysSchema nesting schemas fault
-says_schema nesting schemas faults (inl (some, unread)) fault h = inl (says_unread nesting 1 schemas faults unread fault h)
-says_schema nesting schemas faults (inr (within, is)) fault h = inr (is.trees, (is.read, is.are.are fault h))
+-- schema texts of which some are not read
+pub unread_schemas : (nesting : ℕ) (schemas : List (List ℕ)) (faults : List Fault) → faults ≢ [] → UnreadFaults nesting 1 schemas faults → RefusesSchemas nesting schemas faults
+unread_schemas nesting schemas faults some unread = record {
+  some = some;
+  says = λ fault h. inl (says_unread nesting 1 schemas faults unread fault h);
+  alone = inl unread;
+  full = λ within trees read fault fails. absurd (some (no_unread nesting 1 schemas faults within unread));
+}
 
--- of a document over schema texts
-pub says_document : (nesting : ℕ) (schemas : List (List ℕ)) (document : List ℕ) (faults : List Fault) → RefusesDocument nesting schemas document faults → (fault : Fault) → Contains faults fault
-    → SaysDocument nesting schemas document fault
-says_document nesting schemas document faults (judged, within, inl (here, (is, unread))) fault h =
-    elim (Contains-cons here [] fault (subst (λ l. Contains l fault) is h)) [
-      | inl same ↦ inl (subst (UnreadFault nesting (document_number schemas) document) same unread)
-      | inr none ↦ absurd (not_in_nil fault none)
-    ]
-says_document nesting schemas document faults (judged, within, inr (bounds, is)) fault h =
-    inr (is.schema.trees, (is.tree, (is.schema.read, is.read, is.are.are fault h)))
+no_nil : (fault : Fault) (faults : List Fault) → faults ≡ fault ∷ [] → faults ≢ []
+no_nil fault [] is none = let e : [] ≡ fault ∷ [] = is in absurd cc
+no_nil fault (x ∷ faults) is none = absurd cc
+
+-- a document that is not read
+pub unread_alone : (nesting : ℕ) (schemas : List (List ℕ)) (document : List ℕ) (faults : List Fault) → JudgeSchemas schemas → AllWithinBounds nesting 1 schemas
+    → UnreadAlone nesting schemas document faults → RefusesDocument nesting schemas document faults
+unread_alone nesting schemas document faults judged within (here, (is, unread)) = record {
+  judged = judged;
+  within = within;
+  some = no_nil here faults is;
+  says = λ fault h. elim (Contains-cons here [] fault (subst (λ l. Contains l fault) is h)) [
+    | inl same ↦ inl (subst (UnreadFault nesting (document_number schemas) document) same unread)
+    | inr none ↦ absurd (not_in_nil fault none)
+  ];
+  alone = inl (here, (is, unread));
+  full = λ bounds tree read fault fails. absurd (not_unread nesting (document_number schemas) document here bounds unread);
+}

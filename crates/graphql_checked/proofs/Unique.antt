@@ -227,7 +227,7 @@ IsEnd ts = ts ≡ []
 end_lacks : (p : Token → Bool) (ts : List Token) → ts ≡ [] → Lacks p ts
 end_lacks p ts h = ap (next_is p) h
 
-schema_determined : (file : ℕ) → Determined (g.schema_text file) IsEnd
+schema_determined : (file : ℕ) → Determined (g.type_system_document file) IsEnd
 schema_determined file = some_determined is_type_keyword (object_determined file) (definition_begins file) (end_lacks is_type_keyword) (λ b h. tt) (λ b h. tt)
 
 selection_determined : (file : ℕ) → Determined (g.selection file) Any
@@ -236,7 +236,7 @@ selection_determined file = map_determined g.selection_of (placed_determined fil
 some_selections : (file : ℕ) → Determined (some (g.selection file)) (Begins (sign is_brace_close))
 some_selections file = some_determined is_field_name (selection_determined file) (selection_begins file) close_not_name (λ b h. tt) (λ b h. tt)
 
-document_determined : (file : ℕ) → Determined (g.document_text file) IsEnd
+document_determined : (file : ℕ) → Determined (g.executable_document file) IsEnd
 document_determined file = map_determined (λ x. g.operation_of x ∷ []) (placed_determined file (map_determined g.selections_of (between_determined (sign is_brace_open) (sign is_brace_close) IsEnd (some_selections file))))
 
 -- ---- whole texts

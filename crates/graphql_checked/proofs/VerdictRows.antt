@@ -24,15 +24,15 @@ use Rattle.graphql_checked.proofs.LexText.{pieces_within, lex_front, lex_text, l
 use Rattle.graphql_checked.proofs.Lexing.{token_in_front}
 use Rattle.graphql_checked.proofs.Evaluate.{HasTree, schema_tree, document_tree}
 
-no_truth : false ≡ true → ⊥
+pub no_truth : false ≡ true → ⊥
 no_truth e = absurd cc
 
-abbrev from_some : {X : Type 0} (o : Option X) → is_some o ≡ true → X
+abbrev pub from_some : {X : Type 0} (o : Option X) → is_some o ≡ true → X
 from_some None e = absurd (no_truth e)
 from_some (Some x) e = x
 
 -- a good pair: the lists of its faults are empty
-judged : (s d : List ℕ) (r : HasTree (DerivesSchema 1) s) (q : HasTree (DerivesDocument 2) d)
+pub judged : (s d : List ℕ) (r : HasTree (DerivesSchema 1) s) (q : HasTree (DerivesDocument 2) d)
     → faults_in_order (definition_list (r.tree ∷ [])) ≡ [] → document_faults (map kept_type (fold (definition_list (r.tree ∷ [])))) q.tree ≡ [] → Judge (s ∷ []) d
 judged s d r q no_fault none =
     let ds : List (DefinitionTree Place) = definition_list (r.tree ∷ []) in
@@ -82,7 +82,7 @@ unfolding lex_front pieces_within step_at token_at ignored_at
 passes = ((lex_front (codes "type Query { field: Int }")).0, ((lex_front (codes "type Query { field: Int }")).1, (lex_front-sound (codes "type Query { field: Int }"), lit< tt)))
 
 -- and its first bracket is the place
-abbrev place : SourceSpan
+abbrev pub place : SourceSpan
 place = record { file_id = record { 0 = 1 }; offset = 11; length = 1; fits = lit< tt }
 
 abbrev first_tokens : List Token
@@ -91,7 +91,7 @@ first_tokens = record { kind = Name; text = codes "type"; offset = 0 } ∷ recor
 abbrev bracket : Token
 bracket = record { kind = BraceOpen; text = codes "{"; offset = 11 }
 
-too_deep : NestingAt 0 1 (codes "type Query { field: Int }") (Some place)
+pub too_deep : NestingAt 0 1 (codes "type Query { field: Int }") (Some place)
 unfolding lex_front pieces_within step_at token_at ignored_at
 too_deep =
     let front = lex_front-sound (codes "type Query { field: Int }") in

@@ -6,10 +6,10 @@ use Rattle.graphql_values.specs.Placed.{Place}
 use Rattle.graphql_ast.specs.DefinitionTree.{DefinitionTree}
 use Rattle.graphql_checked.specs.CheckerValue.{CheckerValue}
 use Rattle.graphql_checked.specs.FaultView.{faults_of}
-use Rattle.graphql_checked.specs.Refusals.{AcceptsSchemas, RefusalOfDocument}
+use Rattle.graphql_checked.specs.Refusals.{AreSchemasAccepted, RefusalOfDocument}
 use Rattle.graphql_checked.specs.Verdicts.{IsVerdict, IsCheckError, refusal_verdict}
 use Rattle.graphql_checked.specs.Run.{BytesOf}
-use Rattle.graphql_checked.specs.ReadFaults.{IsJudgeFault, IsAnswerOfRefusal}
+use Rattle.graphql_checked.specs.ReadFaults.{IsAnswerTo, IsAnswerOfRefusal}
 use Rattle.graphql_checked.specs.declared.refusal.Refusal.{Refusal}
 use Rattle.graphql_checked.specs.declared.refusal.Refusal.TheVariants.{Faults, NotYet, Memory, Failed}
 use Rattle.graphql_checked.specs.declared.run_fault.Outcome.{Outcome}
@@ -36,28 +36,18 @@ module _ (nesting : ℕ) (texts : List (List ℕ)) (text : List ℕ) where
   document_verdict Failed h = tt
 
   -- why a document's refusal gives no verdict
-  pub document_error : (refusal : Refusal) → AcceptsSchemas nesting texts → RefusalOfDocument nesting texts text refusal → IfErr (refusal_verdict refusal) (IsCheckError nesting texts text)
+  pub document_error : (refusal : Refusal) → AreSchemasAccepted nesting texts → RefusalOfDocument nesting texts text refusal → IfErr (refusal_verdict refusal) (IsCheckError nesting texts text)
   document_error (Faults list) schemas h = tt
   document_error (NotYet file offset) schemas h = inr (schemas, h)
   document_error Memory schemas h = tt
   document_error Failed schemas h = absurd h
 
-  module _ {Z : Type 0} (layout : List (DefinitionTree Place) → List ℕ) where
-    -- the answer of a document's refusal
-    pub document_answer : (refusal : Refusal) (answer : Result (Outcome × Vec ℕ Z) RunFault) → RefusalOfDocument nesting texts text refusal → IsAnswerOfRefusal refusal answer
-        → IfOk answer (λ a. BytesOf layout nesting a.0 texts text a.1.items)
-    document_answer (Faults list) (Ok (outcome, bytes)) h is =
-        subst (λ o. BytesOf layout nesting o texts text bytes.items) (sym is.0) (record { faults = faults_of list; refused = inr h; is = is.1 })
-    document_answer (Faults list) (Err fault) h is = tt
-    document_answer (NotYet file offset) answer h is = rw is tt
-    document_answer Memory answer h is = rw is tt
-    document_answer Failed answer h is = absurd h
-
-  -- why a document's refusal gives no answer
-  pub document_fault : {Z : Type 0} (refusal : Refusal) (answer : Result (Outcome × Vec ℕ Z) RunFault) → AcceptsSchemas nesting texts → RefusalOfDocument nesting texts text refusal
-      → IsAnswerOfRefusal refusal answer → IfErr answer (IsJudgeFault nesting texts text)
-  document_fault (Faults list) (Ok (outcome, bytes)) schemas h is = tt
-  document_fault (Faults list) (Err fault) schemas h is = rw is tt
-  document_fault (NotYet file offset) answer schemas h is = rw is (inr (schemas, h))
-  document_fault Memory answer schemas h is = rw is tt
-  document_fault Failed answer schemas h is = absurd h
+  -- the answer of a document's refusal
+  pub document_answer : {Z : Type 0} (layout : List (DefinitionTree Place) → List ℕ) (refusal : Refusal) (answer : Result (Outcome × Vec ℕ Z) RunFault) → AreSchemasAccepted nesting texts
+      → RefusalOfDocument nesting texts text refusal → IsAnswerOfRefusal refusal answer → IsAnswerTo layout nesting texts text answer
+  document_answer layout (Faults list) (Ok (outcome, bytes)) schemas h is =
+      subst (λ o. BytesOf layout nesting o texts text bytes.items) (sym is.0) (record { faults = faults_of list; refused = inr h; is = is.1 })
+  document_answer layout (Faults list) (Err fault) schemas h is = rw is tt
+  document_answer layout (NotYet file offset) answer schemas h is = rw is (inr (schemas, h))
+  document_answer layout Memory answer schemas h is = rw is tt
+  document_answer layout Failed answer schemas h is = absurd h

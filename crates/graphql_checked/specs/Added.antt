@@ -1,4 +1,4 @@
--- How a checker keeps the schema texts that it was given: what reading them gave.
+-- Private. How a checker keeps the schema texts that it was given: what reading them gave.
 use Rattle.std.specs.Prelude.{◌≡◌, ℕ, ◌+◌, ◌^◌, ◌≤◌, ◌⊎◌, List, [], ◌∷◌, length, Option, None, Some}
 use Rattle.std.specs.List.{flat_map}
 use Rattle.graphql_values.specs.Placed.{Place}

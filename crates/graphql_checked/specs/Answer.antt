@@ -7,8 +7,8 @@ use Rattle.graphql_ast.specs.DefinitionTree.{DefinitionTree}
 use Rattle.graphql_checked.specs.Thin.{ReadsDocument}
 use Rattle.graphql_checked.specs.Fold.{definition_list}
 use Rattle.graphql_checked.specs.Out.{Out, OutDoc}
-use Rattle.graphql_checked.specs.Judge.{ReadsAll, JudgeSchemas, Judge, document_number, UnreadFault}
-use Rattle.graphql_checked.specs.Faults.{PassesNesting, PassesNumbers, FoldingFails, SchemaFails, DocumentFails, Breach, Fault, Nesting, Spent, TypeDefinitionCollision, ObjectFieldNameCollision, QueryRootOperationType, UndefinedField}
+use Rattle.graphql_checked.specs.Judge.{ReadsAll, JudgeSchemas, Judge, document_number, UnreadFault, SaysSchema, SaysDocument}
+use Rattle.graphql_checked.specs.Faults.{PassesNesting, PassesNumbers, FoldingFails, DocumentFails, Breach, Fault, Nesting, Spent, TypeDefinitionCollision, ObjectFieldNameCollision, QueryRootOperationType, UndefinedField}
 
 -- the text of a fault
 abbrev pub message : Breach → List ℕ
@@ -50,37 +50,33 @@ UnreadFaults nesting first (text ∷ texts) faults =
     ⊎ ((fault : Fault) × ((others : List Fault) × (
     (faults ≡ fault ∷ others) × UnreadFault nesting first text fault × UnreadFaults nesting (first + 1) texts others)))
 
--- each of these faults is so, and there are some
-pub record AreFaults (fails : Fault → Type 0) (faults : List Fault) : Type 0 where
+-- each of these faults is so
+abbrev pub AllSay : (Fault → Type 0) → List Fault → Type 0
+AllSay says faults = (fault : Fault) → Contains faults fault → says fault
+
+-- The schema texts are refused with these faults: there are some, and each is so. Those of unread texts stand alone,
+-- one for each; and of read texts each definition and each component that a folding rule refuses has one.
+pub record RefusesSchemas (nesting : ℕ) (schemas : List (List ℕ)) (faults : List Fault) : Type 0 where
   pub some : faults ≢ []
-  pub are : (fault : Fault) → Contains faults fault → fails fault
+  pub says : AllSay (SaysSchema nesting schemas) faults
+  pub alone : UnreadFaults nesting 1 schemas faults ⊎ AllWithinBounds nesting 1 schemas
+  pub full : AllWithinBounds nesting 1 schemas → (trees : List (List (DefinitionTree Place))) → ReadsAll 1 schemas trees
+      → (fault : Fault) → FoldingFails (definition_list trees) fault → Contains faults fault
 
--- the faults of read schema texts: all are so, and each definition and each component that a folding rule refuses has one
-pub record SchemaFaults (schemas : List (List ℕ)) (faults : List Fault) : Type 0 where
-  pub trees : List (List (DefinitionTree Place))
-  pub read : ReadsAll 1 schemas trees
-  pub are : AreFaults (SchemaFails (definition_list trees)) faults
-  pub full : (fault : Fault) → FoldingFails (definition_list trees) fault → Contains faults fault
+-- this is all that is said of the document: that it is unread
+abbrev pub UnreadAlone : ℕ → List (List ℕ) → List ℕ → List Fault → Type 0
+UnreadAlone nesting schemas document faults = (fault : Fault) × ((faults ≡ fault ∷ []) × UnreadFault nesting (document_number schemas) document fault)
 
--- the faults of a read document: all are so, and each field that the query root does not have has one
-pub record DocumentFaults (schemas : List (List ℕ)) (document : List ℕ) (faults : List Fault) : Type 0 where
-  pub schema : JudgeSchemas schemas
-  pub tree : List (DefinitionTree Place)
-  pub read : ReadsDocument (document_number schemas) document tree
-  pub are : AreFaults (DocumentFails (definition_list schema.trees) tree) faults
-  pub full : (fault : Fault) → DocumentFails (definition_list schema.trees) tree fault → Contains faults fault
-
--- The schema texts are refused with these faults: those of the unread texts alone, or those of the read ones.
-abbrev pub RefusesSchemas : ℕ → List (List ℕ) → List Fault → Type 0
-RefusesSchemas nesting schemas faults =
-    ((faults ≢ []) × UnreadFaults nesting 1 schemas faults)
-    ⊎ (AllWithinBounds nesting 1 schemas × SchemaFaults schemas faults)
-
--- The document over accepted schema texts is refused with these faults: that it is unread alone, or those of the read one.
-abbrev pub RefusesDocument : ℕ → List (List ℕ) → List ℕ → List Fault → Type 0
-RefusesDocument nesting schemas document faults = JudgeSchemas schemas × AllWithinBounds nesting 1 schemas × (
-    ((fault : Fault) × ((faults ≡ fault ∷ []) × UnreadFault nesting (document_number schemas) document fault))
-    ⊎ (WithinBounds nesting (document_number schemas) document × DocumentFaults schemas document faults))
+-- The document over accepted schema texts is refused with these faults: there are some, and each is so. That it is
+-- unread stands alone; and of a read one each field that the query root does not have has one.
+pub record RefusesDocument (nesting : ℕ) (schemas : List (List ℕ)) (document : List ℕ) (faults : List Fault) : Type 0 where
+  pub judged : JudgeSchemas schemas
+  pub within : AllWithinBounds nesting 1 schemas
+  pub some : faults ≢ []
+  pub says : AllSay (SaysDocument nesting schemas document) faults
+  pub alone : UnreadAlone nesting schemas document faults ⊎ WithinBounds nesting (document_number schemas) document
+  pub full : WithinBounds nesting (document_number schemas) document → (tree : List (DefinitionTree Place)) → ReadsDocument (document_number schemas) document tree
+      → (fault : Fault) → DocumentFails (definition_list judged.trees) tree fault → Contains faults fault
 
 -- ---- the bytes of an answer
 
@@ -98,11 +94,11 @@ module _ (layout : List (DefinitionTree Place) → List ℕ) where
     pub judged : Judge schemas document
     pub schemas_within : AllWithinBounds nesting 1 schemas
     pub document_within : WithinBounds nesting (document_number schemas) document
-    pub schema_text : List ℕ
-    pub document_text : List ℕ
-    pub writes_schema : WritesSchema schemas schema_text
-    pub writes_document : WritesDocument schemas document document_text
-    pub is : bytes ≡ codes "accepted\n" ++ schema_text ++ codes "\n" ++ document_text ++ codes "\n"
+    pub written_schema : List ℕ
+    pub written_document : List ℕ
+    pub writes_schema : WritesSchema schemas written_schema
+    pub writes_document : WritesDocument schemas document written_document
+    pub is : bytes ≡ codes "accepted\n" ++ written_schema ++ codes "\n" ++ written_document ++ codes "\n"
 
   -- `refused` and a line for each fault
   pub record RefusedBytes (nesting : ℕ) (schemas : List (List ℕ)) (document bytes : List ℕ) : Type 0 where

@@ -1,4 +1,4 @@
--- What contracts see of a cursor.
+-- Private. What contracts see of a cursor.
 use Rattle.graphql_checked.specs.Input.{Input}
 use Rattle.graphql_checked.specs.TokenView.{tokens_of}
 use Rattle.graphql_checked.specs.declared.cursor.Cursor.TheInside.{Inside}

@@ -1,4 +1,4 @@
--- What a parser may ask of the next token.
+-- Private. What a parser may ask of the next token.
 use Rattle.std.specs.Prelude.{Bool, true, false, List, [], ◌∷◌}
 use Rattle.graphql_checked.specs.Lex.{Token}
 use Rattle.graphql_checked.specs.Grammar.{sign, is_type_keyword, is_type_name, is_field_name, is_scalar, is_bang, is_colon, is_brace_open, is_brace_close}

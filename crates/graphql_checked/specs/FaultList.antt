@@ -1,4 +1,4 @@
--- The lists of faults that the checks tell, in order: what breaks a rule of `Faults`, place by place.
+-- Private. The lists of faults that the checks tell, in order: what breaks a rule of `Faults`, place by place.
 use Rattle.std.specs.Prelude.{◌≡◌, ℕ, List, [], ◌∷◌, ◌++◌, map, codes, Option, None, Some, if◌then◌else◌}
 use Rattle.std.specs.List.{flat_map, find}
 use Rattle.std.specs.Option.{option_map_or}

@@ -100,8 +100,8 @@ abbrev pub definition_of : Placed Place (FieldsParts Place) → DefinitionTree P
 definition_of x = ObjectType x.place None x.it
 
 -- Document: Definition+
-abbrev pub schema_text : ℕ → Rule (List (DefinitionTree Place))
-schema_text file = some (definition_of <$> placed file (object_type file))
+abbrev pub type_system_document : ℕ → Rule (List (DefinitionTree Place))
+type_system_document file = some (definition_of <$> placed file (object_type file))
 
 -- ---- documents
 
@@ -124,15 +124,15 @@ abbrev pub operation_of : Placed Place (SelectionTrees Place) → DefinitionTree
 operation_of x = Operation x.place (record { operation_type = Query; name = None; variables = []; directives = []; selections = x.it })
 
 -- Document: OperationDefinition, in the short form of a query (section 2.3)
-abbrev pub document_text : ℕ → Rule (List (DefinitionTree Place))
-document_text file = (λ x. operation_of x ∷ []) <$> placed file (selection_set file)
+abbrev pub executable_document : ℕ → Rule (List (DefinitionTree Place))
+executable_document file = (λ x. operation_of x ∷ []) <$> placed file (selection_set file)
 
 -- ---- whole texts
 
 -- the tokens of a schema text, numbered as this file, are this tree
 abbrev pub DerivesSchema : ℕ → List Token → List (DefinitionTree Place) → Type 0
-DerivesSchema file tokens tree = schema_text file tokens tree []
+DerivesSchema file tokens tree = type_system_document file tokens tree []
 
 -- the same of a document text
 abbrev pub DerivesDocument : ℕ → List Token → List (DefinitionTree Place) → Type 0
-DerivesDocument file tokens tree = document_text file tokens tree []
+DerivesDocument file tokens tree = executable_document file tokens tree []

@@ -1,4 +1,4 @@
--- What a cursor over tokens shows.
+-- Private. What a cursor over tokens shows.
 use Rattle.std.specs.Prelude.{ℕ, List, drop}
 use Rattle.graphql_checked.specs.Lex.{Token}
 

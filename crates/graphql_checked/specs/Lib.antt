@@ -20,7 +20,7 @@ pub mod Steps
 pub mod Stops
 pub mod Reading
 pub mod Nesting
-pub mod Reads
+pub mod WholeText
 pub mod SchemaView
 pub mod FaultList
 pub mod CheckerValue

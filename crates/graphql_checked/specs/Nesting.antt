@@ -1,4 +1,4 @@
--- The first bracket that is too deep.
+-- Private. The first bracket that is too deep.
 use Rattle.std.specs.Prelude.{◌≡◌, ℕ, ◌<◌, true, List, ◌∷◌, ◌++◌, [], length, take}
 use Rattle.graphql_checked.specs.Lex.{Token, is_opening, depth}
 

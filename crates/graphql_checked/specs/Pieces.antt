@@ -1,4 +1,4 @@
--- The piece that begins a text, as a function of the text, for the lexer's own functions. That it finds each piece, and
+-- Private. The piece that begins a text, as a function of the text, for the lexer's own functions. That it finds each piece, and
 -- nothing else, is proved from the definitions of `Lex`.
 use Rattle.std.specs.Prelude.{◌≡◌, ℕ, Bool, true, not, ◌&&◌, ◌||◌, ◌==◌, if◌then◌else◌, List, [], ◌∷◌, ◌++◌, drop, Option, Some, None}
 use Rattle.std.specs.List.{prefix_len}

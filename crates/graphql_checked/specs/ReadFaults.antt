@@ -1,13 +1,15 @@
--- What the parts of a run answer: why the readers give no texts, the texts no answer, and an answer is not out.
+-- Private. What the parts of a run answer: why the readers give no texts, the texts no answer, and an answer is not out.
 use Rattle.std.specs.Prelude.{◌≡◌, ℕ, ◌<◌, true, List, ◌++◌, length, take, flat_map, codes, Option, Result, Ok, Err, Vec, ◌⊎◌}
 use Rattle.std.specs.Io.KnownBytes.{Appends}
 use Rattle.graphql_names.specs.declared.device.Device.{Device}
 use Rattle.graphql_names.specs.Device.{device_inner, device_failed}
+use Rattle.graphql_values.specs.Placed.{Place}
+use Rattle.graphql_ast.specs.DefinitionTree.{DefinitionTree}
 use Rattle.graphql_checked.specs.Judge.{NotYetSchema, NotYetDocument}
-use Rattle.graphql_checked.specs.Refusals.{AcceptsSchemas}
+use Rattle.graphql_checked.specs.Refusals.{AreSchemasAccepted}
 use Rattle.graphql_checked.specs.Answer.{fault_line}
 use Rattle.graphql_checked.specs.FaultView.{faults_of}
-use Rattle.graphql_checked.specs.Run.{IsNotUtf8Of, IsNotUtf8At, HasFailedAt}
+use Rattle.graphql_checked.specs.Run.{IsNotUtf8Of, IsNotUtf8At, HasFailedAt, BytesOf}
 use Rattle.graphql_checked.specs.declared.refusal.Refusal.{Refusal}
 use Rattle.graphql_checked.specs.declared.refusal.Refusal.TheVariants as refusal
 use Rattle.graphql_checked.specs.declared.run_fault.Outcome.{Outcome}
@@ -44,10 +46,15 @@ IsReadFault remaining old new (run.NotYet file offset) = ⊥
 -- the texts get no answer: memory ran out, or a text is not judged yet
 abbrev pub IsJudgeFault : ℕ → List (List ℕ) → List ℕ → RunFault → Type 0
 IsJudgeFault nesting texts text run.Memory = Unit {0}
-IsJudgeFault nesting texts text (run.NotYet file offset) = NotYetSchema texts file.0 offset ⊎ (AcceptsSchemas nesting texts × NotYetDocument texts text file.0 offset)
+IsJudgeFault nesting texts text (run.NotYet file offset) = NotYetSchema texts file.0 offset ⊎ (AreSchemasAccepted nesting texts × NotYetDocument texts text file.0 offset)
 IsJudgeFault nesting texts text (run.Reader number) = ⊥
 IsJudgeFault nesting texts text (run.NotUtf8 number) = ⊥
 IsJudgeFault nesting texts text (run.Writer count) = ⊥
+
+-- the outcome for the texts, with the bytes that go with it; or why there is none
+abbrev pub IsAnswerTo : {Z : Type 0} → (List (DefinitionTree Place) → List ℕ) → ℕ → List (List ℕ) → List ℕ → Result (Outcome × Vec ℕ Z) RunFault → Type 0
+IsAnswerTo layout nesting texts text (Ok (outcome, bytes)) = BytesOf layout nesting outcome texts text bytes.items
+IsAnswerTo layout nesting texts text (Err fault) = IsJudgeFault nesting texts text fault
 
 -- the refusal of some texts, with the bytes that go with it
 abbrev pub IsAnswerOfRefusal : {Z : Type 0} → Refusal → Result (Outcome × Vec ℕ Z) RunFault → Type 0

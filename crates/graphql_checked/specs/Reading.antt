@@ -1,4 +1,4 @@
--- What a function ensures that reads a symbol from a cursor over tokens.
+-- Private. What a function ensures that reads a symbol from a cursor over tokens.
 use Rattle.std.specs.Prelude.{◌≡◌, ℕ, ◌<◌, ◌≤◌, drop, length, Some, Result, Ok, Err}
 use Rattle.graphql_values.specs.Placed.{Place}
 use Rattle.graphql_ast.specs.DefinitionTree.{DefinitionTree}
@@ -31,9 +31,9 @@ pub record HasStopped (s : State) (old : Input) (k : ℕ) : Type 0 where
   pub rest : stop s (ahead old) ≡ Some (drop k old.all)
 
 -- the symbol is read, or reading stops
-abbrev pub Reads : {X A : Type 0} → (X → A) → Rule A → State → State → Input → Result X Stop → Input → Type 0
-Reads view r s s' old (Ok x) new = HasRead r s s' old new (view x)
-Reads view r s s' old (Err e) new = (k : ℕ) → e ≡ At k → HasStopped s old k
+abbrev pub ReadsSymbol : {X A : Type 0} → (X → A) → Rule A → State → State → Input → Result X Stop → Input → Type 0
+ReadsSymbol view r s s' old (Ok x) new = HasRead r s s' old new (view x)
+ReadsSymbol view r s s' old (Err e) new = (k : ℕ) → e ≡ At k → HasStopped s old k
 
 -- all tokens are read, or reading stops at the first one that is left
 abbrev pub Ends : Input → Result (Unit {0}) Stop → Type 0

@@ -7,12 +7,12 @@ use Rattle.graphql_checked.specs.declared.refusal.Refusal.{Refusal}
 use Rattle.graphql_checked.specs.declared.refusal.Refusal.TheVariants.{Faults, NotYet, Memory, Failed}
 
 -- The schema texts are accepted: they are read, every rule holds, and no bound is passed.
-pub record AcceptsSchemas (nesting : ℕ) (schemas : List (List ℕ)) : Type 0 where
+pub record AreSchemasAccepted (nesting : ℕ) (schemas : List (List ℕ)) : Type 0 where
   pub judged : JudgeSchemas schemas
   pub within : AllWithinBounds nesting 1 schemas
 
 -- The pair is accepted.
-pub record Accepts (nesting : ℕ) (schemas : List (List ℕ)) (document : List ℕ) : Type 0 where
+pub record IsAccepted (nesting : ℕ) (schemas : List (List ℕ)) (document : List ℕ) : Type 0 where
   pub judged : Judge schemas document
   pub schemas_within : AllWithinBounds nesting 1 schemas
   pub document_within : WithinBounds nesting (document_number schemas) document

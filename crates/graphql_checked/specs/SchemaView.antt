@@ -1,4 +1,4 @@
--- What a contract sees of a schema.
+-- Private. What a contract sees of a schema.
 use Rattle.std.specs.Prelude.{◌≡◌, ℕ, Bool, List, map}
 use Rattle.std.specs.Str.{bytes_eq}
 use Rattle.indexmap.specs.IndexMap.{IndexMap}
@@ -8,7 +8,8 @@ use Rattle.graphql_values.specs.Placed.{Placed, Place, node_tree}
 use Rattle.graphql_ast.specs.TypeSystemTree.{FieldDefinitionTree, field_definition_tree}
 use Rattle.graphql_ast.specs.declared.object_type.FieldDefinition.{FieldDefinition}
 use Rattle.graphql_ast.specs.DefinitionTree.{DefinitionTree}
-use Rattle.graphql_checked.specs.Fold.{FoldedType, fold, field_name, is_object}
+use Rattle.graphql_checked.specs.Lists.{firsts}
+use Rattle.graphql_checked.specs.Fold.{FoldedType, fold, field_name, fields_here, is_object}
 use Rattle.graphql_checked.specs.declared.schema.SchemaType.{SchemaType}
 use Rattle.graphql_checked.specs.declared.schema.Schema.{Schema}
 
@@ -32,6 +33,10 @@ named_field f = record { name = field_name f; field = f }
 -- what a schema keeps of a type of the fold
 abbrev pub kept_type : FoldedType → KeptType
 kept_type t = record { name = t.name; object = is_object t.definition; fields = map named_field t.fields }
+
+-- what a schema keeps of the definition that gives the type of this name
+abbrev pub kept_here : List ℕ → DefinitionTree Place → KeptType
+kept_here name d = record { name = name; object = is_object d; fields = map named_field (firsts field_name (fields_here d)) }
 
 abbrev pub field_entry : NameValue × Node FieldDefinition → NamedField
 field_entry e = record { name = e.0.text; field = node_tree field_definition_tree e.1 }

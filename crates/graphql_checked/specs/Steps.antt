@@ -1,4 +1,4 @@
--- Which token may follow which: the states between the tokens of thin texts.
+-- Private. Which token may follow which: the states between the tokens of thin texts.
 use Rattle.std.specs.Prelude.{◌≡◌, Bool, true, false, if◌then◌else◌, List, [], ◌∷◌, Option, Some, None}
 use Rattle.std.specs.Option.{option_map_or}
 use Rattle.graphql_checked.specs.Lex.{Token}

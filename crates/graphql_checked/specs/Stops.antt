@@ -1,4 +1,4 @@
--- What is asked of the tokens that a parser is given, and what it says where it makes no tree.
+-- Private. What is asked of the tokens that a parser is given, and what it says where it makes no tree.
 use Rattle.std.specs.Prelude.{◌≡◌, ℕ, ◌+◌, ◌^◌, ◌<◌, ◌≤◌, Bool, true, ◌&&◌, nat_lt, nat_le, List, [], ◌∷◌, length, take}
 use Rattle.graphql_values.specs.Placed.{Place}
 use Rattle.graphql_ast.specs.DefinitionTree.{DefinitionTree}

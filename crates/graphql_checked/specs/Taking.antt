@@ -1,4 +1,4 @@
--- What a cursor says of the next token.
+-- Private. What a cursor says of the next token.
 use Rattle.std.specs.Prelude.{◌≡◌, ◌+◌, ◌^◌, ◌≤◌, ◌<◌, true, false, [], ◌∷◌, length, drop, Option, Some, None, Result, Ok, Err}
 use Rattle.graphql_checked.specs.Lex.{is_token}
 use Rattle.graphql_checked.specs.Expecting.{passes, next_is}

@@ -1,4 +1,4 @@
--- What a contract sees of the schema texts that a checker was given.
+-- Private. What a contract sees of the schema texts that a checker was given.
 use Rattle.std.specs.Prelude.{◌≡◌, ℕ, ◌+◌, ◌<◌, ◌^◌, List, map, string_bytes, None}
 use Rattle.graphql_ast.specs.DefinitionTree.{document_tree}
 use Rattle.graphql_names.specs.declared.span.FileId.{FileId}

@@ -1,4 +1,4 @@
--- What a contract sees of a token.
+-- Private. What a contract sees of a token.
 use Rattle.std.specs.Prelude.{List, map}
 use Rattle.graphql_checked.specs.Lex as lex
 use Rattle.graphql_checked.specs.declared.token.Token.{Token}

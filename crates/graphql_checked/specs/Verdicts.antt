@@ -3,7 +3,7 @@ use Rattle.std.specs.Prelude.{ℕ, List, ◌⊎◌, Result, Ok, Err}
 use Rattle.graphql_checked.specs.Judge.{NotYetSchema, NotYetDocument}
 use Rattle.graphql_checked.specs.Answer.{RefusesSchemas, RefusesDocument}
 use Rattle.graphql_checked.specs.FaultView.{faults_of}
-use Rattle.graphql_checked.specs.Refusals.{AcceptsSchemas, Accepts}
+use Rattle.graphql_checked.specs.Refusals.{AreSchemasAccepted, IsAccepted}
 use Rattle.graphql_checked.specs.declared.refusal.Refusal.{Refusal}
 use Rattle.graphql_checked.specs.declared.refusal.Refusal.TheVariants as refusal
 use Rattle.graphql_checked.specs.declared.verdict.Verdict.{Verdict}
@@ -13,13 +13,13 @@ use Rattle.graphql_checked.specs.declared.verdict.CheckError.TheVariants.{Memory
 
 -- The verdict is right.
 abbrev pub IsVerdict : ℕ → List (List ℕ) → List ℕ → Verdict → Type 0
-IsVerdict nesting schemas document Accepted = Accepts nesting schemas document
+IsVerdict nesting schemas document Accepted = IsAccepted nesting schemas document
 IsVerdict nesting schemas document (Refused list) = RefusesSchemas nesting schemas (faults_of list) ⊎ RefusesDocument nesting schemas document (faults_of list)
 
 -- There is a reason for no verdict.
 abbrev pub IsCheckError : ℕ → List (List ℕ) → List ℕ → CheckError → Type 0
 IsCheckError nesting schemas document Memory = Unit {0}
-IsCheckError nesting schemas document (NotYet file offset) = NotYetSchema schemas file.0 offset ⊎ (AcceptsSchemas nesting schemas × NotYetDocument schemas document file.0 offset)
+IsCheckError nesting schemas document (NotYet file offset) = NotYetSchema schemas file.0 offset ⊎ (AreSchemasAccepted nesting schemas × NotYetDocument schemas document file.0 offset)
 
 -- the verdict of a refusal, where a checker that has failed wants memory
 abbrev pub refusal_verdict : Refusal → Result Verdict CheckError

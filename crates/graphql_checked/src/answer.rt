@@ -21,11 +21,12 @@ pub(crate) fn accepted(
     layout: Layout,
 ) -> Result<Vec<u8>, AllocError>
     requires { document.now.schema ≡ schema.now }
-    ensures { IfOk result (λ bytes. AcceptedBytes (layout_text layout) document.now.schema.nesting document.now.schema.texts document.now.text bytes.items) }
+    ensures { IfOk result (λ bytes. AcceptedBytes (layout_text layout)
+        document.now.schema.nesting document.now.schema.texts document.now.text bytes.items) }
 {
-    let schema_text = schema.written(layout)?;
-    let document_text = document.written(layout)?;
-    let text = format!(in alloc; "accepted\n{schema_text}\n{document_text}\n")?;
+    let written_schema = schema.written(layout)?;
+    let written_document = document.written(layout)?;
+    let text = format!(in alloc; "accepted\n{written_schema}\n{written_document}\n")?;
     Ok(text.into_bytes())
 }
 

@@ -7,10 +7,10 @@ ghost use Rattle.graphql_values.specs.Placed.{node_tree};
 ghost use Rattle.graphql_ast.specs.TypeSystemTree.{field_definition_tree};
 ghost use Rattle.graphql_ast.specs.DefinitionTree.{definition_tree, document_tree};
 ghost use Rattle.graphql_checked.specs.Lists.{each_place, firsts};
-ghost use Rattle.graphql_checked.specs.Fold.{built_in_definitions, definition_place, is_object, fields_here, field_name};
+ghost use Rattle.graphql_checked.specs.Fold.{built_in_definitions, definition_place, fields_here, field_name};
 ghost use Rattle.graphql_checked.specs.Faults.{SchemaFails, TypeDefinitionCollision, ObjectFieldNameCollision};
 ghost use Rattle.graphql_checked.specs.FaultView.{faults_of};
-ghost use Rattle.graphql_checked.specs.SchemaView.{same_name, named_field, fields_of, types_of, IsSchemaOf};
+ghost use Rattle.graphql_checked.specs.SchemaView.{same_name, named_field, kept_here, fields_of, types_of, IsSchemaOf};
 ghost use Rattle.graphql_checked.specs.FaultList.{field_faults, KeepsOn, FoldsOn, no_root_faults, faults_in_order};
 
 use crate::definitions::{
@@ -33,7 +33,8 @@ pub(crate) struct Built {
 /// those of the list of definitions in its order, and then whether there is no query root.
 pub(crate) fn build(alloc: Global, document: &Document) -> Result<Built, AllocError>
     ensures schema { IfOk result (λ b. IsSchemaOf (built_in_definitions ++ document_tree document.now) b.schema) }
-    ensures faults { IfOk result (λ b. (f : _) → Contains (faults_of b.faults) f ↔ SchemaFails (built_in_definitions ++ document_tree document.now) f) }
+    ensures faults { IfOk result (λ b. (f : _) → Contains (faults_of b.faults) f
+        ↔ SchemaFails (built_in_definitions ++ document_tree document.now) f) }
     ensures order { IfOk result (λ b. faults_of b.faults ≡ faults_in_order (built_in_definitions ++ document_tree document.now)) }
 {
     let mut schema = Schema {
@@ -43,12 +44,12 @@ pub(crate) fn build(alloc: Global, document: &Document) -> Result<Built, AllocEr
     let built_in = built_in_definitions(alloc)?;
     fold_definitions(alloc, &built_in, &mut schema, &mut faults)?;
     fold_definitions(alloc, &document.definitions, &mut schema, &mut faults)?;
-    check_query_root(&schema, &mut faults)?;
+    query_root_operation_type(&schema, &mut faults)?;
     Ok(Built { schema, faults })
 }
 
 /// Tells whether there is no query root.
-fn check_query_root(schema: &Schema, faults: &mut DiagnosticList) -> Result<(), AllocError>
+fn query_root_operation_type(schema: &Schema, faults: &mut DiagnosticList) -> Result<(), AllocError>
     ensures { OnOk result (faults_of faults.new ≡ faults_of faults.old ++ no_root_faults (types_of schema.now)) }
 {
     match schema.query_root() {
@@ -64,7 +65,8 @@ fn fold_definitions(
     schema: &mut Schema,
     faults: &mut DiagnosticList,
 ) -> Result<(), AllocError>
-    ensures { OnOk result (FoldsOn (map definition_tree definitions.now) schema.old (faults_of faults.old) schema.new (faults_of faults.new)) }
+    ensures { OnOk result (FoldsOn (map definition_tree definitions.now)
+        schema.old (faults_of faults.old) schema.new (faults_of faults.new)) }
 {
     for definition in definitions {
         fold_definition(alloc, definition, schema, faults)?;
@@ -79,13 +81,14 @@ fn fold_definition(
     schema: &mut Schema,
     faults: &mut DiagnosticList,
 ) -> Result<(), AllocError>
-    ensures { OnOk result (FoldsOn (definition_tree definition.now ∷ []) schema.old (faults_of faults.old) schema.new (faults_of faults.new)) }
+    ensures { OnOk result (FoldsOn (definition_tree definition.now ∷ [])
+        schema.old (faults_of faults.old) schema.new (faults_of faults.new)) }
 {
     match defined_name(definition) {
         None => Ok(()),
         Some(name) => {
             if schema.types.contains_key(name) {
-                tell_type(faults, definition, name)
+                type_definition_collision(faults, definition, name)
             } else {
                 add_type(alloc, definition, name, schema, faults)
             }
@@ -94,12 +97,13 @@ fn fold_definition(
 }
 
 /// Tells that another type has the name.
-fn tell_type(
+fn type_definition_collision(
     faults: &mut DiagnosticList,
     definition: &Definition,
     name: &Name,
 ) -> Result<(), AllocError>
-    ensures { OnOk result (faults_of faults.new ≡ faults_of faults.old ++ record { place = definition_place (definition_tree definition.now); breach = TypeDefinitionCollision name.now.text } ∷ []) }
+    ensures { OnOk result (faults_of faults.new ≡ faults_of faults.old
+        ++ record { place = definition_place (definition_tree definition.now); breach = TypeDefinitionCollision name.now.text } ∷ []) }
 {
     let name = name.clone()?;
     faults.push(
@@ -117,8 +121,9 @@ fn add_type(
     faults: &mut DiagnosticList,
 ) -> Result<(), AllocError>
     requires { get same_name schema.old.types name.now ≡ None }
-    ensures types { OnOk result (types_of schema.new ≡ types_of schema.old ++ record { name = name.now.text; object = is_object (definition_tree definition.now); fields = map named_field (firsts field_name (fields_here (definition_tree definition.now))) } ∷ []) }
-    ensures faults { OnOk result (faults_of faults.new ≡ faults_of faults.old ++ each_place (field_faults name.now.text) (fields_here (definition_tree definition.now))) }
+    ensures types { OnOk result (types_of schema.new ≡ types_of schema.old ++ kept_here name.now.text (definition_tree definition.now) ∷ []) }
+    ensures faults { OnOk result (faults_of faults.new ≡ faults_of faults.old
+        ++ each_place (field_faults name.now.text) (fields_here (definition_tree definition.now))) }
 {
     let fields = keep_fields(alloc, name, fields_here(definition), faults)?;
     let name = name.clone()?;
@@ -134,8 +139,10 @@ fn keep_fields(
     fields: &[Node<FieldDefinition>],
     faults: &mut DiagnosticList,
 ) -> Result<IndexMap<Name, Node<FieldDefinition>>, AllocError>
-    ensures kept { IfOk result (λ m. fields_of m ≡ map named_field (firsts field_name (map (node_tree field_definition_tree) fields.now))) }
-    ensures faults { OnOk result (faults_of faults.new ≡ faults_of faults.old ++ each_place (field_faults type_name.now.text) (map (node_tree field_definition_tree) fields.now)) }
+    ensures kept { IfOk result (λ m. fields_of m
+        ≡ map named_field (firsts field_name (map (node_tree field_definition_tree) fields.now))) }
+    ensures faults { OnOk result (faults_of faults.new ≡ faults_of faults.old
+        ++ each_place (field_faults type_name.now.text) (map (node_tree field_definition_tree) fields.now)) }
 {
     let mut kept = IndexMap::new(alloc);
     for field in fields {
@@ -151,22 +158,24 @@ fn keep_field(
     kept: &mut IndexMap<Name, Node<FieldDefinition>>,
     faults: &mut DiagnosticList,
 ) -> Result<(), AllocError>
-    ensures { OnOk result (KeepsOn type_name.now.text (node_tree field_definition_tree field.now) (fields_of kept.old) (faults_of faults.old) (fields_of kept.new) (faults_of faults.new)) }
+    ensures { OnOk result (KeepsOn type_name.now.text (node_tree field_definition_tree field.now)
+        (fields_of kept.old) (faults_of faults.old) (fields_of kept.new) (faults_of faults.new)) }
 {
     if kept.contains_key(&field.content().name) {
-        tell_field(faults, type_name, field)
+        object_field_name_collision(faults, type_name, field)
     } else {
         add_field(kept, field)
     }
 }
 
 /// Tells that an earlier field of the type has the name of this one.
-fn tell_field(
+fn object_field_name_collision(
     faults: &mut DiagnosticList,
     type_name: &Name,
     field: &Node<FieldDefinition>,
 ) -> Result<(), AllocError>
-    ensures { OnOk result (faults_of faults.new ≡ faults_of faults.old ++ record { place = place field.now; breach = ObjectFieldNameCollision type_name.now.text (content field.now).name.text } ∷ []) }
+    ensures { OnOk result (faults_of faults.new ≡ faults_of faults.old
+        ++ record { place = place field.now; breach = ObjectFieldNameCollision type_name.now.text (content field.now).name.text } ∷ []) }
 {
     let type_name = type_name.clone()?;
     let name = field.content().name.clone()?;

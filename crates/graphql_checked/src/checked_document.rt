@@ -3,7 +3,7 @@
 ghost use Rattle.std.specs.Prelude.{◌≡◌, IfOk, string_bytes};
 ghost use Rattle.graphql_checked.specs.Answer.{WritesDocument};
 ghost use Rattle.graphql_checked.specs.Layouts.{layout_text};
-ghost use Rattle.graphql_checked.specs.Refusals.{Accepts};
+ghost use Rattle.graphql_checked.specs.Refusals.{IsAccepted};
 
 use crate::checked_schema::CheckedSchema;
 use crate::layout::{Layout, written};
@@ -36,8 +36,9 @@ impl<'s> CheckedDocument<'s> {
     /// The text of the document under the layout: its operations, and then its fragments, each in the order
     /// read.
     pub fn written(&self, layout: Layout) -> Result<String, AllocError>
-        ensures accepted { Accepts self.now.schema.nesting self.now.schema.texts self.now.text }
-        ensures text { IfOk result (λ text. WritesDocument (layout_text layout) self.now.schema.texts self.now.text (string_bytes text)) }
+        ensures accepted { IsAccepted self.now.schema.nesting self.now.schema.texts self.now.text }
+        ensures text { IfOk result (λ text. WritesDocument (layout_text layout)
+            self.now.schema.texts self.now.text (string_bytes text)) }
     {
         let schema = self.schema;
         written(schema.alloc, &self.document, layout)

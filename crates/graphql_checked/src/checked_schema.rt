@@ -7,7 +7,7 @@ ghost use Rattle.graphql_checked.specs.Accepted.{IsReadBehind, IsUnreadBehind, T
 ghost use Rattle.graphql_checked.specs.Answer.{WritesSchema};
 ghost use Rattle.graphql_checked.specs.FaultView.{fault_of};
 ghost use Rattle.graphql_checked.specs.Layouts.{layout_text};
-ghost use Rattle.graphql_checked.specs.Refusals.{AcceptsSchemas, Accepts, RefusalOfDocument};
+ghost use Rattle.graphql_checked.specs.Refusals.{AreSchemasAccepted, IsAccepted, RefusalOfDocument};
 ghost use Rattle.graphql_checked.specs.declared.refusal.Refusal.TheVariants.{Memory};
 
 use crate::checked_document::CheckedDocument;
@@ -56,9 +56,10 @@ impl CheckedSchema {
     /// [`Refusal::Failed`].
     pub fn check(&self, text: &str) -> Result<CheckedDocument<'_>, Refusal>
         ensures document { IfOk result (λ d. d ≡ record { schema = self.now; text = text.now }) }
-        ensures accepted { OnOk result (Accepts self.now.nesting self.now.texts text.now) }
+        ensures accepted { OnOk result (IsAccepted self.now.nesting self.now.texts text.now) }
         ensures refused { IfErr result (RefusalOfDocument self.now.nesting self.now.texts text.now) }
-        ensures complete { IfErr result (λ refusal. Accepts self.now.nesting self.now.texts text.now → refusal ≡ Memory) }
+        ensures complete { IfErr result (λ refusal.
+            IsAccepted self.now.nesting self.now.texts text.now → refusal ≡ Memory) }
     {
         let document = read_document(self.alloc, text, self.number, self.nesting)?;
         let faults = check_document(self.alloc, &self.schema, &document)?;
@@ -74,7 +75,7 @@ impl CheckedSchema {
 
     /// The text of the schema as it was built, under the layout: each definition of the texts, in order.
     pub fn written(&self, layout: Layout) -> Result<String, AllocError>
-        ensures accepted { AcceptsSchemas self.now.nesting self.now.texts }
+        ensures accepted { AreSchemasAccepted self.now.nesting self.now.texts }
         ensures text { IfOk result (λ text. WritesSchema (layout_text layout) self.now.texts (string_bytes text)) }
     {
         written(self.alloc, &self.document, layout)

@@ -1,7 +1,7 @@
 //! The checker of schema texts.
 
 ghost use Rattle.std.specs.Prelude.{◌≡◌, ◌++◌, ◌∷◌, [], true, false, OnOk, IfOk, IfErr};
-ghost use Rattle.graphql_checked.specs.Refusals.{AcceptsSchemas, RefusalOfSchemas};
+ghost use Rattle.graphql_checked.specs.Refusals.{AreSchemasAccepted, RefusalOfSchemas};
 ghost use Rattle.graphql_checked.specs.CheckerAnswers.{IsAddRefusal, IsFinishRefusal};
 ghost use Rattle.graphql_checked.specs.declared.refusal.Refusal.TheVariants.{Memory};
 
@@ -79,9 +79,10 @@ impl Checker {
     pub fn finish(self) -> Result<CheckedSchema, Refusal>
         ensures schema { IfOk result (λ s. s ≡ record { nesting = self.nesting; texts = self.texts }) }
         ensures running { OnOk result (self.failed ≡ false) }
-        ensures accepted { OnOk result (AcceptsSchemas self.nesting self.texts) }
+        ensures accepted { OnOk result (AreSchemasAccepted self.nesting self.texts) }
         ensures refused { IfErr result (IsFinishRefusal self) }
-        ensures complete { IfErr result (λ refusal. self.failed ≡ false → AcceptsSchemas self.nesting self.texts → refusal ≡ Memory) }
+        ensures complete { IfErr result (λ refusal.
+            self.failed ≡ false → AreSchemasAccepted self.nesting self.texts → refusal ≡ Memory) }
     {
         if self.failed {
             return Err(Refusal::Failed);

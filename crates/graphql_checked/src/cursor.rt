@@ -9,7 +9,7 @@ ghost use Rattle.graphql_checked.specs.Stops.{AreLaidOut};
 ghost use Rattle.graphql_checked.specs.Expecting.{passes, asks_name, next_is};
 ghost use Rattle.graphql_checked.specs.Input.{ahead, start};
 ghost use Rattle.graphql_checked.specs.Steps.{State, IsEdge};
-ghost use Rattle.graphql_checked.specs.Reading.{Reads, Ends};
+ghost use Rattle.graphql_checked.specs.Reading.{ReadsSymbol, Ends};
 ghost use Rattle.graphql_checked.specs.Taking.{IsNext, Takes};
 
 use crate::expected::Expected;
@@ -119,7 +119,7 @@ impl<'a> Cursor<'a> {
 
     /// Takes a token that says nothing more.
     pub(crate) fn expect(&mut self, expected: Expected) -> Result<(), Stop>
-        ensures { (s s' : State) → IsEdge s expected s' → Reads (λ _. tt) (mark (passes expected)) s s' self.old result self.new }
+        ensures { (s s' : State) → IsEdge s expected s' → ReadsSymbol (λ _. tt) (mark (passes expected)) s s' self.old result self.new }
     {
         self.take(expected)?;
         Ok(())
@@ -133,7 +133,7 @@ impl<'a> Cursor<'a> {
         expected: Expected,
     ) -> Result<Name, Stop>
         requires { asks_name expected ≡ true }
-        ensures { (s s' : State) → IsEdge s expected s' → Reads name_tree (grammar.name (passes expected) file.0) s s' self.old result self.new }
+        ensures { (s s' : State) → IsEdge s expected s' → ReadsSymbol name_tree (grammar.name (passes expected) file.0) s s' self.old result self.new }
     {
         let token = self.take(expected)?;
         let place = SourceSpan {

@@ -1,6 +1,6 @@
 //! What definitions define, and those that each schema has.
 
-ghost use Rattle.std.specs.Prelude.{◌≡◌, map, IfOk, option_copied};
+ghost use Rattle.std.specs.Prelude.{◌≡◌, ◌++◌, ◌∷◌, [], map, IfOk, OnOk, option_copied};
 ghost use Rattle.std.specs.Option.{option_map};
 ghost use Rattle.graphql_names.specs.NameSyntax.{IsName};
 ghost use Rattle.graphql_values.specs.Placed.{node_tree};
@@ -90,14 +90,30 @@ fn built_in_scalar(alloc: Global, name: &'static str) -> Result<Definition, Allo
     Ok(Definition::ScalarTypeDefinition(Node::new_parsed(alloc, scalar, place)?))
 }
 
+/// Adds the definition of a built-in scalar.
+fn add_built_in_scalar(
+    alloc: Global,
+    definitions: &mut Vec<Definition>,
+    name: &'static str,
+) -> Result<(), AllocError>
+    requires { IsName name.now }
+    ensures { OnOk result (map definition_tree definitions.new.items
+        ≡ map definition_tree definitions.old.items ++ built_in_scalar name.now ∷ []) }
+{
+    let scalar = built_in_scalar(alloc, name)?;
+    definitions.push(scalar)?;
+    Ok(())
+}
+
 /// The definitions that each schema has: the built-in scalars (section 3.5).
 pub(crate) fn built_in_definitions(alloc: Global) -> Result<Vec<Definition>, AllocError>
     ensures { IfOk result (λ v. map definition_tree v.items ≡ built_in_definitions) }
 {
-    let int = built_in_scalar(alloc, "Int")?;
-    let float = built_in_scalar(alloc, "Float")?;
-    let string = built_in_scalar(alloc, "String")?;
-    let boolean = built_in_scalar(alloc, "Boolean")?;
-    let id = built_in_scalar(alloc, "ID")?;
-    Ok(vec![in alloc; int, float, string, boolean, id]?)
+    let mut definitions = Vec::new(alloc);
+    add_built_in_scalar(alloc, &mut definitions, "Int")?;
+    add_built_in_scalar(alloc, &mut definitions, "Float")?;
+    add_built_in_scalar(alloc, &mut definitions, "String")?;
+    add_built_in_scalar(alloc, &mut definitions, "Boolean")?;
+    add_built_in_scalar(alloc, &mut definitions, "ID")?;
+    Ok(definitions)
 }

@@ -9,7 +9,7 @@ ghost use Rattle.graphql_checked.specs.Grammar as grammar;
 ghost use Rattle.graphql_checked.specs.Grammar.{DerivesDocument};
 ghost use Rattle.graphql_checked.specs.Stops.{AreLaidOut, StopIsDue};
 ghost use Rattle.graphql_checked.specs.Steps.{AtDocument, AtSelection, BehindSelection, AtSelectionsEnd, BehindDocument};
-ghost use Rattle.graphql_checked.specs.Reading.{Reads};
+ghost use Rattle.graphql_checked.specs.Reading.{ReadsSymbol};
 
 use crate::cursor::Cursor;
 use crate::expected::Expected;
@@ -44,7 +44,7 @@ fn operation_definition(
     file: FileId,
     tokens: &mut Cursor<'_>,
 ) -> Result<Definition, Stop>
-    ensures { Reads (λ d. definition_tree d ∷ []) (grammar.document_text file.0) AtDocument BehindDocument tokens.old result tokens.new }
+    ensures { ReadsSymbol (λ d. definition_tree d ∷ []) (grammar.executable_document file.0) AtDocument BehindDocument tokens.old result tokens.new }
 {
     let begin = tokens.position();
     let selection_set = selection_set(alloc, file, tokens)?;
@@ -65,7 +65,7 @@ fn selection_set(
     file: FileId,
     tokens: &mut Cursor<'_>,
 ) -> Result<Vec<Selection>, Stop>
-    ensures { Reads (λ v. selection_trees selection_tree v.items) (grammar.selection_set file.0) AtDocument BehindDocument tokens.old result tokens.new }
+    ensures { ReadsSymbol (λ v. selection_trees selection_tree v.items) (grammar.selection_set file.0) AtDocument BehindDocument tokens.old result tokens.new }
 {
     tokens.expect(Expected::BraceOpen)?;
     let selections = selections(alloc, file, tokens)?;
@@ -75,7 +75,7 @@ fn selection_set(
 
 /// Selection+ up to "}"
 fn selections(alloc: Global, file: FileId, tokens: &mut Cursor<'_>) -> Result<Vec<Selection>, Stop>
-    ensures { Reads (λ v. map selection_tree v.items) (some (grammar.selection file.0)) AtSelection AtSelectionsEnd tokens.old result tokens.new }
+    ensures { ReadsSymbol (λ v. map selection_tree v.items) (some (grammar.selection file.0)) AtSelection AtSelectionsEnd tokens.old result tokens.new }
 {
     let mut selections = Vec::new(alloc);
     'turns: loop {
@@ -88,7 +88,7 @@ fn selections(alloc: Global, file: FileId, tokens: &mut Cursor<'_>) -> Result<Ve
 
 /// Field: Name
 fn selection(alloc: Global, file: FileId, tokens: &mut Cursor<'_>) -> Result<Selection, Stop>
-    ensures { Reads selection_tree (grammar.selection file.0) AtSelection BehindSelection tokens.old result tokens.new }
+    ensures { ReadsSymbol selection_tree (grammar.selection file.0) AtSelection BehindSelection tokens.old result tokens.new }
 {
     let begin = tokens.position();
     let name = tokens.name(alloc, file, Expected::FieldName)?;

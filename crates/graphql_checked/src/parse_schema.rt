@@ -11,7 +11,7 @@ ghost use Rattle.graphql_checked.specs.Grammar as grammar;
 ghost use Rattle.graphql_checked.specs.Grammar.{DerivesSchema};
 ghost use Rattle.graphql_checked.specs.Stops.{AreLaidOut, StopIsDue};
 ghost use Rattle.graphql_checked.specs.Steps.{AtObject, AtFields, AtField, AtType, BehindField, AtFieldsEnd, BehindObject};
-ghost use Rattle.graphql_checked.specs.Reading.{Reads, definition};
+ghost use Rattle.graphql_checked.specs.Reading.{ReadsSymbol, definition};
 
 use crate::cursor::Cursor;
 use crate::expected::Expected;
@@ -41,7 +41,7 @@ fn definitions(
     file: FileId,
     tokens: &mut Cursor<'_>,
 ) -> Result<Vec<Definition>, Stop>
-    ensures reads { Reads (λ v. map definition_tree v.items) (grammar.schema_text file.0) AtObject BehindObject tokens.old result tokens.new }
+    ensures reads { ReadsSymbol (λ v. map definition_tree v.items) (grammar.type_system_document file.0) AtObject BehindObject tokens.old result tokens.new }
     ensures end { OnOk result (tokens.new.at ≡ length tokens.new.all) }
 {
     let mut definitions = Vec::new(alloc);
@@ -59,7 +59,7 @@ fn object_type_definition(
     file: FileId,
     tokens: &mut Cursor<'_>,
 ) -> Result<Definition, Stop>
-    ensures { Reads definition_tree (definition file.0) AtObject BehindObject tokens.old result tokens.new }
+    ensures { ReadsSymbol definition_tree (definition file.0) AtObject BehindObject tokens.old result tokens.new }
 {
     let begin = tokens.position();
     tokens.expect(Expected::TypeKeyword)?;
@@ -82,7 +82,7 @@ fn fields_definition(
     file: FileId,
     tokens: &mut Cursor<'_>,
 ) -> Result<Vec<Node<FieldDefinition>>, Stop>
-    ensures { Reads (λ v. map (node_tree field_definition_tree) v.items) (grammar.fields file.0) AtFields BehindObject tokens.old result tokens.new }
+    ensures { ReadsSymbol (λ v. map (node_tree field_definition_tree) v.items) (grammar.fields file.0) AtFields BehindObject tokens.old result tokens.new }
 {
     tokens.expect(Expected::BraceOpen)?;
     let fields = field_definitions(alloc, file, tokens)?;
@@ -96,7 +96,7 @@ fn field_definitions(
     file: FileId,
     tokens: &mut Cursor<'_>,
 ) -> Result<Vec<Node<FieldDefinition>>, Stop>
-    ensures { Reads (λ v. map (node_tree field_definition_tree) v.items) (some (placed file.0 (grammar.field_definition file.0))) AtField AtFieldsEnd tokens.old result tokens.new }
+    ensures { ReadsSymbol (λ v. map (node_tree field_definition_tree) v.items) (some (placed file.0 (grammar.field_definition file.0))) AtField AtFieldsEnd tokens.old result tokens.new }
 {
     let mut fields = Vec::new(alloc);
     'turns: loop {
@@ -113,7 +113,7 @@ fn field_definition(
     file: FileId,
     tokens: &mut Cursor<'_>,
 ) -> Result<Node<FieldDefinition>, Stop>
-    ensures { Reads (node_tree field_definition_tree) (placed file.0 (grammar.field_definition file.0)) AtField BehindField tokens.old result tokens.new }
+    ensures { ReadsSymbol (node_tree field_definition_tree) (placed file.0 (grammar.field_definition file.0)) AtField BehindField tokens.old result tokens.new }
 {
     let begin = tokens.position();
     let name = tokens.name(alloc, file, Expected::FieldName)?;
@@ -131,7 +131,7 @@ fn field_definition(
 
 /// Type: Name "!"?
 fn type_reference(alloc: Global, file: FileId, tokens: &mut Cursor<'_>) -> Result<Type, Stop>
-    ensures { Reads type_tree (grammar.type file.0) AtType BehindField tokens.old result tokens.new }
+    ensures { ReadsSymbol type_tree (grammar.type file.0) AtType BehindField tokens.old result tokens.new }
 {
     let name = tokens.name(alloc, file, Expected::ScalarName)?;
     if tokens.next_is(Expected::Bang) {

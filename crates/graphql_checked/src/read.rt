@@ -6,7 +6,7 @@ ghost use Rattle.graphql_checked.specs.TokenView.{tokens_of};
 ghost use Rattle.graphql_checked.specs.Thin.{Reads, GoesWrongAt};
 ghost use Rattle.graphql_checked.specs.Faults.{PassesNesting};
 ghost use Rattle.graphql_checked.specs.Stops.{AreLaidOut, StopsAt, StopIsDue};
-ghost use Rattle.graphql_checked.specs.Reads.{symbol_of, UnreadIsDue, IsLexedFrom};
+ghost use Rattle.graphql_checked.specs.WholeText.{symbol_of, UnreadIsDue, IsLexedFrom};
 
 use crate::lex::{Lexed, lex};
 use crate::nesting::first_too_deep;

@@ -12,7 +12,7 @@ use std::alloc::{AllocError, Global};
 use std::io::Read;
 
 /// Why a reader gives no text.
-#[derive(Clone, Copy, Debug, PartialEq, Eq)]
+#[derive(Clone, Copy)]
 pub(crate) enum TextFault {
     /// Memory ran out.
     Memory,
@@ -40,6 +40,7 @@ pub(crate) fn read_texts<R: Read>(
 ) -> Result<Vec<String>, RunFault>
     ensures texts { IfOk result (λ texts. AreTextsOf R.remaining devices.old (map string_bytes texts.items)) }
     ensures fault { IfErr result (IsReadFault R.remaining devices.old devices.new) }
+    ensures running { OnOk result (map device_failed devices.new ≡ map device_failed devices.old) }
 {
     let mut texts = Vec::new(alloc);
     for i in 0..devices.len() {
@@ -66,6 +67,7 @@ pub(crate) fn numbered(fault: TextFault, number: usize) -> RunFault
 pub(crate) fn read_text<R: Read>(alloc: Global, device: &mut Device<R>) -> Result<String, TextFault>
     ensures text { IfOk result (λ text. IsTextOf R.remaining device.old (string_bytes text)) }
     ensures fault { IfErr result (IsTextFault R.remaining device.old device.new) }
+    ensures running { OnOk result (device_failed device.new ≡ device_failed device.old) }
 {
     let bytes = read_bytes(alloc, device)?;
     match String::from_utf8(bytes) {
@@ -81,6 +83,7 @@ fn read_bytes<R: Read>(alloc: Global, device: &mut Device<R>) -> Result<Vec<u8>,
     ensures end { OnOk result (IsAtEnd (R.remaining (device_inner device.new))) }
     ensures reader { result ≡ Err TextFault.Reader → device_failed device.new ≡ true }
     ensures encoding { result ≢ Err TextFault.NotUtf8 }
+    ensures running { OnOk result (device_failed device.new ≡ device_failed device.old) }
 {
     let mut bytes = Vec::new(alloc);
     let mut chunk = [0u8; 4096];

@@ -1,13 +1,15 @@
 //! Reads texts, judges them, and puts the answer out.
 
-ghost use Rattle.std.specs.Prelude.{◌≡◌, false, All, OnOk, IfOk, IfErr, map, string_bytes};
+ghost use Rattle.std.specs.Prelude.{◌≡◌, false, OnOk, IfOk, IfErr, map, string_bytes};
 ghost use Rattle.std.specs.Io.KnownBytes.{Appends};
 ghost use Rattle.graphql_names.specs.Device.{device_inner, device_failed};
 ghost use Rattle.graphql_checked.specs.Layouts.{layout_text};
-ghost use Rattle.graphql_checked.specs.Run.{BytesOf, PutsOut, RunFaultIsDue};
-ghost use Rattle.graphql_checked.specs.ReadFaults.{IsJudgeFault, IsAnswerOfRefusal, IsPutFault};
+ghost use Rattle.graphql_checked.specs.Refusals.{AreSchemasAccepted};
+ghost use Rattle.graphql_checked.specs.Run.{HaveNotFailed, TellAccepted, IsAnswerToAccepted, WritesAnswer, RunFaultIsDue};
+ghost use Rattle.graphql_checked.specs.ReadFaults.{IsAnswerTo, IsAnswerOfRefusal, IsPutFault};
 
 use crate::answer::{accepted, refused};
+use crate::checked_schema::CheckedSchema;
 use crate::checker::Limits;
 use crate::layout::Layout;
 use crate::read_device::{numbered, read_text, read_texts};
@@ -31,13 +33,17 @@ pub fn run<R: Read, D: Read, W: Write>(
     layout: Layout,
     out: &mut Device<W>,
 ) -> Result<Outcome, RunFault>
-    requires schemas_run { All (λ d. device_failed d ≡ false) schemas.old }
+    requires schemas_run { HaveNotFailed schemas.old }
     requires document_runs { device_failed document.old ≡ false }
     requires out_runs { device_failed out.old ≡ false }
-    ensures answers { IfOk result (λ outcome. PutsOut R.remaining D.remaining W.contents (layout_text layout) limits.nesting
-        (BytesOf (layout_text layout) limits.nesting outcome) schemas.old document.old out.old out.new (λ bytes. bytes)) }
+    ensures answers { IfOk result (WritesAnswer R.remaining D.remaining W.contents (layout_text layout) limits.nesting
+        schemas.old document.old out.old out.new) }
     ensures fault { IfErr result (RunFaultIsDue R.remaining D.remaining W.contents (layout_text layout) limits.nesting
         schemas.old schemas.new document.old document.new out.old out.new) }
+    ensures complete { TellAccepted R.remaining D.remaining limits.nesting schemas.old document.old → IsAnswerToAccepted result }
+    ensures schemas_running { OnOk result (HaveNotFailed schemas.new) }
+    ensures document_running { OnOk result (device_failed document.new ≡ false) }
+    ensures out_running { OnOk result (device_failed out.new ≡ false) }
 {
     let texts = read_texts(alloc, schemas)?;
     let text = match read_text(alloc, document) {
@@ -57,18 +63,29 @@ fn judge(
     limits: Limits,
     layout: Layout,
 ) -> Result<(Outcome, Vec<u8>), RunFault>
-    ensures answers { IfOk result (λ a. BytesOf (layout_text layout) limits.nesting a.0 (map string_bytes schemas.now) document.now a.1.items) }
-    ensures fault { IfErr result (IsJudgeFault limits.nesting (map string_bytes schemas.now) document.now) }
+    ensures { IsAnswerTo (layout_text layout) limits.nesting (map string_bytes schemas.now) document.now result }
 {
-    let schema = match schema_of(alloc, schemas, limits) {
-        Ok(schema) => schema,
-        Err(refusal) => return refusal_answer(alloc, refusal),
-    };
+    match schema_of(alloc, schemas, limits) {
+        Ok(schema) => judge_document(alloc, &schema, document, layout),
+        Err(refusal) => refusal_answer(alloc, refusal),
+    }
+}
+
+/// The outcome for the document over the schema, and the bytes that go with it.
+fn judge_document(
+    alloc: Global,
+    schema: &CheckedSchema,
+    document: &str,
+    layout: Layout,
+) -> Result<(Outcome, Vec<u8>), RunFault>
+    requires { AreSchemasAccepted schema.now.nesting schema.now.texts }
+    ensures { IsAnswerTo (layout_text layout) schema.now.nesting schema.now.texts document.now result }
+{
     match schema.check(document) {
-        Ok(checked) => Ok((
-            Outcome::Accepted,
-            accepted(alloc, &schema, &checked, layout)?,
-        )),
+        Ok(checked) => {
+            let bytes = accepted(alloc, schema, &checked, layout)?;
+            Ok((Outcome::Accepted, bytes))
+        }
         Err(refusal) => refusal_answer(alloc, refusal),
     }
 }
@@ -87,6 +104,7 @@ fn refusal_answer(alloc: Global, refusal: Refusal) -> Result<(Outcome, Vec<u8>),
 /// Writes the bytes.
 fn put<W: Write>(out: &mut Device<W>, bytes: &[u8]) -> Result<(), RunFault>
     ensures whole { OnOk result (Appends (W.contents (device_inner out.old)) (W.contents (device_inner out.new)) bytes.now) }
+    ensures running { OnOk result (device_failed out.new ≡ device_failed out.old) }
     ensures fault { IfErr result (IsPutFault W.contents out.old out.new bytes.now) }
 {
     let written = out.write_front(bytes);

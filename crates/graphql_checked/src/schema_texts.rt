@@ -3,7 +3,7 @@
 ghost use Rattle.std.specs.Prelude.{◌≡◌, ◌++◌, ◌∷◌, [], OnOk, OnErr, IfOk, IfErr};
 ghost use Rattle.graphql_ast.specs.DefinitionTree.{document_tree};
 ghost use Rattle.graphql_checked.specs.Added.{IsNextNumber, IsDocumentNumber};
-ghost use Rattle.graphql_checked.specs.Refusals.{AcceptsSchemas, RefusalOfSchemas};
+ghost use Rattle.graphql_checked.specs.Refusals.{AreSchemasAccepted, RefusalOfSchemas};
 ghost use Rattle.graphql_checked.specs.TextsView.{texts_of, IsReadingOf, IsBefore};
 
 use crate::builder::build;
@@ -105,7 +105,7 @@ impl SchemaTexts {
     pub(crate) fn finish(self) -> Result<CheckedSchema, Refusal>
         requires { IsReadingOf (texts_of self) self }
         ensures schema { IfOk result (λ s. s ≡ record { nesting = self.nesting; texts = texts_of self }) }
-        ensures accepted { OnOk result (AcceptsSchemas self.nesting (texts_of self)) }
+        ensures accepted { OnOk result (AreSchemasAccepted self.nesting (texts_of self)) }
         ensures refused { IfErr result (RefusalOfSchemas self.nesting (texts_of self)) }
     {
         if let Some((file, offset)) = self.not_yet {

@@ -21,7 +21,8 @@ pub(crate) fn check_document(
     schema: &Schema,
     document: &Document,
 ) -> Result<DiagnosticList, AllocError>
-    ensures exact { IfOk result (λ l. (ds : _) → IsSchemaOf ds schema.now → (f : _) → Contains (faults_of l) f ↔ DocumentFails ds (document_tree document.now) f) }
+    ensures exact { IfOk result (λ l. (ds : _) → IsSchemaOf ds schema.now
+        → (f : _) → Contains (faults_of l) f ↔ DocumentFails ds (document_tree document.now) f) }
     ensures order { IfOk result (λ l. faults_of l ≡ document_faults (types_of schema.now) (document_tree document.now)) }
 {
     let mut faults = DiagnosticList::new(alloc);
@@ -40,7 +41,8 @@ fn check_definitions(
     definitions: &[Definition],
     faults: &mut DiagnosticList,
 ) -> Result<(), AllocError>
-    ensures { OnOk result (faults_of faults.new ≡ faults_of faults.old ++ flat_map (operation_faults (fields_of root.now.fields)) (map definition_tree definitions.now)) }
+    ensures { OnOk result (faults_of faults.new ≡ faults_of faults.old
+        ++ flat_map (operation_faults (fields_of root.now.fields)) (map definition_tree definitions.now)) }
 {
     for definition in definitions {
         check_definition(root, definition, faults)?;
@@ -54,7 +56,8 @@ fn check_definition(
     definition: &Definition,
     faults: &mut DiagnosticList,
 ) -> Result<(), AllocError>
-    ensures { OnOk result (faults_of faults.new ≡ faults_of faults.old ++ operation_faults (fields_of root.now.fields) (definition_tree definition.now)) }
+    ensures { OnOk result (faults_of faults.new ≡ faults_of faults.old
+        ++ operation_faults (fields_of root.now.fields) (definition_tree definition.now)) }
 {
     match definition {
         Definition::OperationDefinition(operation) => {
@@ -70,7 +73,8 @@ fn check_selections(
     selections: &[Selection],
     faults: &mut DiagnosticList,
 ) -> Result<(), AllocError>
-    ensures { OnOk result (faults_of faults.new ≡ faults_of faults.old ++ flat_map (selection_faults (fields_of parent.now.fields)) (map selection_tree selections.now)) }
+    ensures { OnOk result (faults_of faults.new ≡ faults_of faults.old
+        ++ flat_map (selection_faults (fields_of parent.now.fields)) (map selection_tree selections.now)) }
 {
     for selection in selections {
         check_selection(parent, selection, faults)?;
@@ -84,21 +88,23 @@ fn check_selection(
     selection: &Selection,
     faults: &mut DiagnosticList,
 ) -> Result<(), AllocError>
-    ensures { OnOk result (faults_of faults.new ≡ faults_of faults.old ++ selection_faults (fields_of parent.now.fields) (selection_tree selection.now)) }
+    ensures { OnOk result (faults_of faults.new ≡ faults_of faults.old
+        ++ selection_faults (fields_of parent.now.fields) (selection_tree selection.now)) }
 {
     match selection {
-        Selection::Field(field) => check_field(parent, field, faults),
+        Selection::Field(field) => undefined_field(parent, field, faults),
         _ => Ok(()),
     }
 }
 
 /// Tells a field that the type does not have (section 5.3.1).
-fn check_field(
+fn undefined_field(
     parent: &SchemaType,
     field: &Node<Field>,
     faults: &mut DiagnosticList,
 ) -> Result<(), AllocError>
-    ensures { OnOk result (faults_of faults.new ≡ faults_of faults.old ++ undefined_field (fields_of parent.now.fields) (place field.now) (content field.now).name.text) }
+    ensures { OnOk result (faults_of faults.new ≡ faults_of faults.old
+        ++ undefined_field (fields_of parent.now.fields) (place field.now) (content field.now).name.text) }
 {
     if parent.fields.contains_key(&field.content().name) {
         return Ok(());

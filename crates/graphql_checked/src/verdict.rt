@@ -1,7 +1,7 @@
 //! The verdict on whole texts.
 
 ghost use Rattle.std.specs.Prelude.{◌≡◌, ◌⊎◌, Ok, Err, map, OnOk, IfOk, IfErr};
-ghost use Rattle.graphql_checked.specs.Refusals.{AcceptsSchemas, Accepts, RefusalOfSchemas};
+ghost use Rattle.graphql_checked.specs.Refusals.{AreSchemasAccepted, IsAccepted, RefusalOfSchemas};
 ghost use Rattle.graphql_checked.specs.Verdicts.{IsVerdict, IsCheckError, refusal_verdict};
 ghost use Rattle.graphql_checked.specs.declared.refusal.Refusal.TheVariants as refusal;
 ghost use Rattle.graphql_checked.specs.declared.verdict.Verdict.TheVariants.{Accepted};
@@ -42,7 +42,8 @@ pub fn check_texts(
 ) -> Result<Verdict, CheckError>
     ensures verdict { IfOk result (IsVerdict limits.nesting (map (λ t. t.now) schemas.now) document.now) }
     ensures error { IfErr result (IsCheckError limits.nesting (map (λ t. t.now) schemas.now) document.now) }
-    ensures complete { Accepts limits.nesting (map (λ t. t.now) schemas.now) document.now → (result ≡ Ok Accepted) ⊎ (result ≡ Err Memory) }
+    ensures complete { IsAccepted limits.nesting (map (λ t. t.now) schemas.now) document.now
+        → (result ≡ Ok Accepted) ⊎ (result ≡ Err Memory) }
 {
     let schema = match schema_of(alloc, schemas, limits) {
         Ok(schema) => schema,
@@ -61,9 +62,9 @@ pub(crate) fn schema_of<T: AsStr>(
     limits: Limits,
 ) -> Result<CheckedSchema, Refusal>
     ensures schema { IfOk result (λ s. s ≡ record { nesting = limits.nesting; texts = map T.text texts.now }) }
-    ensures accepted { OnOk result (AcceptsSchemas limits.nesting (map T.text texts.now)) }
+    ensures accepted { OnOk result (AreSchemasAccepted limits.nesting (map T.text texts.now)) }
     ensures refused { IfErr result (RefusalOfSchemas limits.nesting (map T.text texts.now)) }
-    ensures complete { IfErr result (λ r. AcceptsSchemas limits.nesting (map T.text texts.now) → r ≡ refusal.Memory) }
+    ensures complete { IfErr result (λ r. AreSchemasAccepted limits.nesting (map T.text texts.now) → r ≡ refusal.Memory) }
 {
     let mut checker = Checker::new(alloc, limits);
     for text in texts {

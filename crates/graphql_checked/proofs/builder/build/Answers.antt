@@ -18,13 +18,13 @@ pub returns-clause-faults : goal.returns-clause-faults
 returns-clause-faults c =
     let texts = document_tree c.args.document.now in
     let is = built _ _ texts _ _ _ _ _ _ (ap (map definition_tree) c.deref.ensures.value ∙ c.in_ok-built_in.ensures) (ap (map definition_tree) c.deref-2.ensures.value) (ap (map type_entry) c.new.ensures.empty) c.new-faults.ensures c.in_ok-fold_definitions.ensures c.in_ok-fold_definitions-2.ensures in
-    schema_faults (built_in_definitions ++ texts) (types_of c.fold_definitions-2.new.schema) (faults_of c.check_query_root.new.faults) is.types
-    (c.in_ok-check_query_root.ensures ∙ ap (λ l. l ++ no_root_faults (types_of c.fold_definitions-2.new.schema)) is.told)
+    schema_faults (built_in_definitions ++ texts) (types_of c.fold_definitions-2.new.schema) (faults_of c.query_root_operation_type.new.faults) is.types
+    (c.in_ok-query_root_operation_type.ensures ∙ ap (λ l. l ++ no_root_faults (types_of c.fold_definitions-2.new.schema)) is.told)
 
 pub returns-clause-order : goal.returns-clause-order
 returns-clause-order c =
     let texts = document_tree c.args.document.now in
     let ds = built_in_definitions ++ texts in
     let is = built _ _ texts _ _ _ _ _ _ (ap (map definition_tree) c.deref.ensures.value ∙ c.in_ok-built_in.ensures) (ap (map definition_tree) c.deref-2.ensures.value) (ap (map type_entry) c.new.ensures.empty) c.new-faults.ensures c.in_ok-fold_definitions.ensures c.in_ok-fold_definitions-2.ensures in
-    c.in_ok-check_query_root.ensures ∙ ap (λ l. l ++ no_root_faults (types_of c.fold_definitions-2.new.schema)) is.told
+    c.in_ok-query_root_operation_type.ensures ∙ ap (λ l. l ++ no_root_faults (types_of c.fold_definitions-2.new.schema)) is.told
     ∙ ap (λ l. each_place definition_faults ds ++ l) (ap no_root_faults is.types ∙ root_faults-kept (fold ds))

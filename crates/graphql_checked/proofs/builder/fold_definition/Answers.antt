@@ -11,8 +11,8 @@ returns-in-None c = folds_none (definition_tree c.args.definition.now) c.args.sc
 pub returns-then-contains_key : goal.returns-then-contains_key
 returns-then-contains_key c =
     let n = c.in-Some.name.now.text in
-    IfOk-weaker _ _ _ (λ _ h. folds_seen (definition_tree c.args.definition.now) n c.args.schema.now (faults_of c.args.faults.now) (faults_of c.tell_type.new.faults) (sym c.in-Some.ensures)
-    (sym c.contains_key.ensures ∙ c.if-contains_key.true) h) c.tell_type.ensures
+    IfOk-weaker _ _ _ (λ _ h. folds_seen (definition_tree c.args.definition.now) n c.args.schema.now (faults_of c.args.faults.now) (faults_of c.type_definition_collision.new.faults) (sym c.in-Some.ensures)
+    (sym c.contains_key.ensures ∙ c.if-contains_key.true) h) c.type_definition_collision.ensures
 
 pub returns-else-contains_key : goal.returns-else-contains_key
 returns-else-contains_key c =

@@ -12,7 +12,7 @@ use Rattle.graphql_checked.proofs.builder.keep_field.Goals as goal
 pub returns-then-contains_key : goal.returns-then-contains_key
 returns-then-contains_key c =
     let there = ap (λ f. is_some (lookup (λ k. bytes_eq f.name.text k.text) c.args.kept.now.entries)) (sym c.content.ensures) ∙ sym c.contains_key.ensures ∙ c.if-contains_key.true in
-    IfOk-weaker _ _ _ (λ _ h. keeps_seen c.args.type_name.now.text (node_tree field_definition_tree c.args.field.now) c.args.kept.now.entries (faults_of c.args.faults.now) (faults_of c.tell_field.new.faults) there h) c.tell_field.ensures
+    IfOk-weaker _ _ _ (λ _ h. keeps_seen c.args.type_name.now.text (node_tree field_definition_tree c.args.field.now) c.args.kept.now.entries (faults_of c.args.faults.now) (faults_of c.object_field_name_collision.new.faults) there h) c.object_field_name_collision.ensures
 
 pub returns-else-contains_key : goal.returns-else-contains_key
 returns-else-contains_key c =

@@ -4,7 +4,7 @@ use Rattle.graphql_checked.specs.Faults.{NestingAt}
 use Rattle.graphql_checked.specs.Lex.{depth}
 use Rattle.graphql_checked.specs.Nesting.{IsTooDeep}
 use Rattle.graphql_checked.specs.TokenView.{tokens_of}
-use Rattle.graphql_checked.specs.Reads.{symbol_of}
+use Rattle.graphql_checked.specs.WholeText.{symbol_of}
 use Rattle.graphql_checked.proofs.read.whole.Goals as goal
 
 pub returns-then-lexed-text-clause-unread : goal.returns-then-lexed-text-clause-unread

@@ -1,7 +1,7 @@
 use Rattle.std.proofs.Common.{◌≡◌, ◌<◌, length, subst}
 use Rattle.std.specs.Prelude.{get_or}
 use Rattle.graphql_checked.proofs.ReadTexts.{wrong_here}
-use Rattle.graphql_checked.specs.Reads.{symbol_of}
+use Rattle.graphql_checked.specs.WholeText.{symbol_of}
 use Rattle.graphql_checked.proofs.read.wrong_at.Goals as goal
 
 pub returns-in-Some : goal.returns-in-Some

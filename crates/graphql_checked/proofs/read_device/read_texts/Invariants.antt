@@ -1,4 +1,5 @@
 use Rattle.std.proofs.Common.{◌≡◌, map, take, drop, length, string_bytes}
+use Rattle.graphql_names.specs.Device.{device_failed}
 use Rattle.graphql_checked.specs.Run.{AreTextsOf}
 use Rattle.graphql_checked.proofs.read_device.read_texts.Given as goal
 
@@ -7,4 +8,5 @@ invariant-loop-i g l = record {
   read : AreTextsOf g.R.Read.remaining (take l.i l.fn.devices) (map string_bytes l.texts.items);
   rest : drop l.i l.devices ≡ drop l.i l.fn.devices;
   same : length l.devices ≡ length l.fn.devices;
+  running : map device_failed l.devices ≡ map device_failed l.fn.devices;
 }

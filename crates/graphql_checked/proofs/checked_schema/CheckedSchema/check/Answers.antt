@@ -2,7 +2,7 @@ use Rattle.std.proofs.Common.{refl, subst, map}
 use Rattle.std.specs.Prelude.{string_bytes}
 use Rattle.std.proofs.lemmas.Result.{err_from_is_err_and}
 use Rattle.graphql_ast.specs.DefinitionTree.{document_tree}
-use Rattle.graphql_checked.specs.Refusals.{Accepts, RefusalOfDocument}
+use Rattle.graphql_checked.specs.Refusals.{IsAccepted, RefusalOfDocument}
 use Rattle.graphql_checked.specs.Answer.{RefusesDocument}
 use Rattle.graphql_checked.specs.Accepted.{IsAcceptedDocument}
 use Rattle.graphql_checked.specs.FaultView.{faults_of}
@@ -44,5 +44,5 @@ invariant_of-result c =
 pub returns-clause-accepted : goal.returns-clause-accepted
 returns-clause-accepted c =
     let read = c.in_ok-document.ensures.read (map string_bytes c.self.inside.texts.items) c.self.invariant.number_is in
-    subst (λ v. Accepts v.nesting v.texts c.args.text.now) c.self.view_is
+    subst (λ v. IsAccepted v.nesting v.texts c.args.text.now) c.self.view_is
     (accepted_document _ _ _ _ _ c.self.invariant c.args.text.now _ read c.in_ok-faults.faults c.in_ok-faults.ensures.exact (c.if-not-is_empty.ensures.0 refl)).accepts

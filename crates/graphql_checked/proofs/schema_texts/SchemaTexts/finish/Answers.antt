@@ -1,8 +1,12 @@
 use Rattle.std.proofs.Common.{refl}
 use Rattle.graphql_checked.specs.TextsView.{texts_of}
 use Rattle.graphql_checked.proofs.TextsReading.{all_thin}
-use Rattle.graphql_checked.proofs.Finishing.{is_none, built_refusal, accepted}
+use Rattle.graphql_checked.proofs.Finishing.{is_none, unread_refusal, built_refusal, accepted}
 use Rattle.graphql_checked.proofs.schema_texts.SchemaTexts.finish.Goals as goal
+
+pub returns-then-not-is_empty-clause-refused : goal.returns-then-not-is_empty-clause-refused
+returns-then-not-is_empty-clause-refused c =
+    unread_refusal c.args.self c.requires (is_none _ c.in_default.not-Some) (λ e. let h = c.if-not-is_empty.ensures.1 e in absurd cc)
 
 pub returns-then-not-is_empty-2-clause-refused : goal.returns-then-not-is_empty-2-clause-refused
 returns-then-not-is_empty-2-clause-refused c =

@@ -4,7 +4,7 @@ use Rattle.graphql_ast.specs.DefinitionTree.{document_tree}
 use Rattle.graphql_checked.specs.Added.{AreAllThin}
 use Rattle.graphql_checked.specs.FaultView.{faults_of}
 use Rattle.graphql_checked.specs.Grammar.{DerivesSchema}
-use Rattle.graphql_checked.specs.Reads.{UnreadIsDue}
+use Rattle.graphql_checked.specs.WholeText.{UnreadIsDue}
 use Rattle.graphql_checked.specs.TextsView.{texts_of}
 use Rattle.graphql_checked.proofs.Adding.{read_added, nesting_added, not_yet_added}
 use Rattle.graphql_checked.proofs.TextsReading.{reading_of}

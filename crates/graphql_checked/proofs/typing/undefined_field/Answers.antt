@@ -6,7 +6,7 @@ use Rattle.graphql_names.specs.Node.{content, place}
 use Rattle.graphql_checked.specs.Faults.{UndefinedField}
 use Rattle.graphql_checked.specs.FaultView.{faults_of}
 use Rattle.graphql_checked.proofs.FoundField.{undefined_none, undefined_told}
-use Rattle.graphql_checked.proofs.typing.check_field.Goals as goal
+use Rattle.graphql_checked.proofs.typing.undefined_field.Goals as goal
 
 pub returns-then-contains_key : goal.returns-then-contains_key
 returns-then-contains_key c =

@@ -1,4 +1,4 @@
--- What reading a text says.
+-- Private. What reading a text says.
 use Rattle.std.specs.Prelude.{◌≡◌, ℕ, ◌<◌, ◌≤◌, ◌^◌, ◌⊎◌, List, [], length, drop, Some}
 use Rattle.graphql_values.specs.Placed.{Place}
 use Rattle.graphql_ast.specs.DefinitionTree.{DefinitionTree}
