@@ -3,25 +3,26 @@ ghost use Rattle.graphql_names.specs.NameSyntax.{IsName};
 
 mod built;
 
+use crate::hold::{hash_of, hold, same_text};
 use graphql_ast::*;
 use std::alloc::{AllocError, Global};
-use std::hash::{DefaultHasher, Hash, Hasher};
 use std::process::Abort;
 use std::test::Fail;
 
-/// What a definition is expected to tell: its variant, whether it is executable, an extension, may have
-/// directives, and its name.
-#[derive(Drop)]
-struct Row {
-    variant: usize,
-    executable: bool,
-    extension: bool,
-    directives: bool,
-    name: Option<&'static str>,
+/// What a definition is expected to tell of its form.
+#[derive(Clone, Copy)]
+enum Form {
+    Executable,
+    /// A definition that may have directives.
+    Described,
+    /// A definition of a directive, which has none.
+    Directive,
+    Extension,
 }
 
-fn tell(rt: &impl Abort, definition: &Definition, row: Row) -> Result<(), Fail> {
-    let variants = [
+/// Whether the definition is of each form, in the order of the enum.
+fn variants(definition: &Definition) -> [bool; 17] {
+    [
         definition.as_operation_definition().is_some(),
         definition.as_fragment_definition().is_some(),
         definition.as_directive_definition().is_some(),
@@ -39,117 +40,88 @@ fn tell(rt: &impl Abort, definition: &Definition, row: Row) -> Result<(), Fail> 
         definition.as_union_type_extension().is_some(),
         definition.as_enum_type_extension().is_some(),
         definition.as_input_object_type_extension().is_some(),
-    ];
-    for (i, answered) in variants.iter().enumerate() {
-        assert_eq!(rt; *answered, i == row.variant);
+    ]
+}
+
+/// The definition is of the form with this number alone, and tells its form and name; its copy equals it.
+fn tell(
+    rt: &impl Abort,
+    definition: &Definition,
+    variant: usize,
+    form: Form,
+    name: &str,
+) -> Result<(), Fail> {
+    for (i, answered) in variants(definition).iter().enumerate() {
+        hold(rt, *answered == (i == variant), "the variant");
     }
-    assert_eq!(rt; definition.is_executable_definition(), row.executable);
-    assert_eq!(rt; definition.is_extension_definition(), row.extension);
-    assert_eq!(rt; definition.directives().is_some(), row.directives);
-    assert!(rt; definition.location().is_none());
+    let (executable, extension, directives) = match form {
+        Form::Executable => (true, false, true),
+        Form::Described => (false, false, true),
+        Form::Directive => (false, false, false),
+        Form::Extension => (false, true, true),
+    };
+    hold(
+        rt,
+        definition.is_executable_definition() == executable
+            && definition.is_extension_definition() == extension
+            && definition.directives().is_some() == directives
+            && definition.location().is_none(),
+        "the form",
+    );
     match definition.name() {
-        None => assert!(rt; row.name.is_none()),
-        Some(name) => assert_eq!(rt; Some(name.as_str()), row.name),
+        None => same_text(rt, "", name),
+        Some(told) => same_text(rt, told.as_str(), name),
     }
-    let copy = definition.clone()?;
-    assert!(rt; copy == *definition);
+    hold(rt, definition.clone()? == *definition, "the copy");
     Ok(())
 }
 
 #[test]
 fn tells_operation_definition(rt: HostRuntime) -> Result<(), Fail> {
     let definition = built::operation_definition(rt.alloc())?;
-    let row = Row {
-        variant: 0,
-        executable: true,
-        extension: false,
-        directives: true,
-        name: None,
-    };
-    tell(&rt, &definition, row)
+    tell(&rt, &definition, 0, Form::Executable, "")
 }
 
 #[test]
 fn tells_directive_definition(rt: HostRuntime) -> Result<(), Fail> {
     let definition = built::directive_definition(rt.alloc())?;
-    let row = Row {
-        variant: 2,
-        executable: false,
-        extension: false,
-        directives: false,
-        name: Some("D"),
-    };
-    tell(&rt, &definition, row)
+    tell(&rt, &definition, 2, Form::Directive, "D")
 }
 
 #[test]
 fn tells_schema_definition(rt: HostRuntime) -> Result<(), Fail> {
     let definition = built::schema_definition(rt.alloc())?;
     if let Some(node) = definition.as_schema_definition() {
-        assert!(rt; node.content().clone()? == *node.content());
+        hold(&rt, node.content().clone()? == *node.content(), "the copy");
     }
-    let row = Row {
-        variant: 3,
-        executable: false,
-        extension: false,
-        directives: true,
-        name: None,
-    };
-    tell(&rt, &definition, row)
+    tell(&rt, &definition, 3, Form::Described, "")
 }
 
 #[test]
 fn tells_object_type_definition(rt: HostRuntime) -> Result<(), Fail> {
     let definition = built::object_type_definition(rt.alloc())?;
     if let Some(node) = definition.as_object_type_definition() {
-        assert!(rt; node.content().clone()? == *node.content());
+        hold(&rt, node.content().clone()? == *node.content(), "the copy");
     }
-    let row = Row {
-        variant: 5,
-        executable: false,
-        extension: false,
-        directives: true,
-        name: Some("T"),
-    };
-    tell(&rt, &definition, row)
+    tell(&rt, &definition, 5, Form::Described, "T")
 }
 
 #[test]
 fn tells_schema_extension(rt: HostRuntime) -> Result<(), Fail> {
     let definition = built::schema_extension(rt.alloc())?;
     if let Some(node) = definition.as_schema_extension() {
-        assert!(rt; node.content().clone()? == *node.content());
+        hold(&rt, node.content().clone()? == *node.content(), "the copy");
     }
-    let row = Row {
-        variant: 10,
-        executable: false,
-        extension: true,
-        directives: true,
-        name: None,
-    };
-    tell(&rt, &definition, row)
+    tell(&rt, &definition, 10, Form::Extension, "")
 }
 
 #[test]
 fn tells_object_type_extension(rt: HostRuntime) -> Result<(), Fail> {
     let definition = built::object_type_extension(rt.alloc())?;
     if let Some(node) = definition.as_object_type_extension() {
-        assert!(rt; node.content().clone()? == *node.content());
+        hold(&rt, node.content().clone()? == *node.content(), "the copy");
     }
-    let row = Row {
-        variant: 12,
-        executable: false,
-        extension: true,
-        directives: true,
-        name: Some("T"),
-    };
-    tell(&rt, &definition, row)
-}
-
-fn hash_of<T: Hash>(value: &T) -> u64 {
-    let mut hasher = DefaultHasher::default();
-    value.hash(&mut hasher);
-    hasher.finish()
+    tell(&rt, &definition, 12, Form::Extension, "T")
 }
 
 /// The document `scalar T`, read from a file or not.
@@ -190,28 +162,33 @@ fn scalar_document(alloc: Global, read: bool) -> Result<Document, AllocError> {
     Ok(document)
 }
 
+/// They are equal, by the law too, and so are their hashes.
+fn same_documents(one: &Document, other: &Document) -> bool {
+    *one == *other && hash_of(one) == hash_of(other) && laws::equal_documents(one, other)
+}
+
 #[test]
 fn ignores_places_and_sources(rt: HostRuntime) -> Result<(), Fail> {
     let read = scalar_document(rt.alloc(), true)?;
     let built = scalar_document(rt.alloc(), false)?;
-    assert!(rt; read == built);
-    assert_eq!(rt; hash_of(&read), hash_of(&built));
-    assert!(rt; laws::equal_documents(&read, &built));
-    let empty = Document::new(rt.alloc());
-    assert!(rt; read != empty);
+    hold(&rt, same_documents(&read, &built), "places and sources");
+    hold(&rt, read != Document::new(rt.alloc()), "another");
     let copy = read.clone()?;
-    assert!(rt; copy == read);
-    assert_eq!(rt; copy.sources.len(), 1);
+    hold(&rt, copy == read && copy.sources.len() == 1, "the copy");
     Ok(())
 }
 
-fn argument(
+/// Adds an argument of this name, of the type of that name.
+fn push_argument(
     alloc: Global,
+    arguments: &mut Vec<Node<InputValueDefinition>>,
     name: &'static str,
-    ty: Type,
-) -> Result<Node<InputValueDefinition>, AllocError>
-    requires { IsName name.now }
+    type_name: &'static str,
+) -> Result<(), AllocError>
+    requires name { IsName name.now }
+    requires type_name { IsName type_name.now }
 {
+    let ty = Type::Named(Name::new_static_unchecked(type_name));
     let content = InputValueDefinition {
         description: None,
         name: Name::new_static_unchecked(name),
@@ -219,29 +196,33 @@ fn argument(
         default_value: None,
         directives: DirectiveList(Vec::new(alloc)),
     };
-    Ok(Node::new(alloc, content)?)
+    arguments.push(Node::new(alloc, content)?)?;
+    Ok(())
 }
 
 #[test]
 fn finds_the_first_argument_of_a_name(rt: HostRuntime) -> Result<(), Fail> {
     let alloc = rt.alloc();
-    let mut arguments = Vec::new(alloc);
-    arguments.push(argument(alloc, "a", Type::Named(Name::new_static_unchecked("A")))?)?;
-    arguments.push(argument(alloc, "b", Type::Named(Name::new_static_unchecked("B")))?)?;
-    arguments.push(argument(alloc, "b", Type::Named(Name::new_static_unchecked("C")))?)?;
-    let field = FieldDefinition {
+    let mut field = FieldDefinition {
         description: None,
         name: Name::new_static_unchecked("f"),
-        arguments,
+        arguments: Vec::new(alloc),
         ty: Type::Named(Name::new_static_unchecked("T")),
         directives: DirectiveList(Vec::new(alloc)),
     };
-    let wanted = Type::Named(Name::new_static_unchecked("B"));
+    push_argument(alloc, &mut field.arguments, "a", "A")?;
+    push_argument(alloc, &mut field.arguments, "b", "B")?;
+    push_argument(alloc, &mut field.arguments, "b", "C")?;
     let found = field.argument_by_name("b").ok_or("b")?;
-    assert!(rt; *found.content().ty.content() == wanted);
-    assert!(rt; field.argument_by_name("c").is_none());
+    same_text(&rt, found.content().ty.inner_named_type().as_str(), "B");
+    hold(&rt, found.content().ty.is_named(), "its type");
+    hold(&rt, field.argument_by_name("c").is_none(), "no argument");
     let copy = field.clone()?;
-    assert!(rt; laws::equal_field_definitions(&copy, &field));
+    hold(
+        &rt,
+        laws::equal_field_definitions(&copy, &field),
+        "the copy",
+    );
     Ok(())
 }
 
@@ -252,7 +233,6 @@ fn clones_an_enum_value(rt: HostRuntime) -> Result<(), Fail> {
         value: Name::new_static_unchecked("A"),
         directives: DirectiveList(Vec::new(rt.alloc())),
     };
-    let copy = value.clone()?;
-    assert!(rt; copy == value);
+    hold(&rt, value.clone()? == value, "the copy");
     Ok(())
 }

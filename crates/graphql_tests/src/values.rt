@@ -2,6 +2,7 @@
 ghost use Rattle.std.specs.Prelude.{◌≡◌, IfOk, None, codes};
 ghost use Rattle.graphql_values.specs.TypeTree.{NamedTree, ListTree, NonNullListTree, type_tree};
 
+use crate::hold::{hash_of, hold, same_text};
 use graphql_names::name;
 use graphql_values::{
     Argument, ArgumentByNameError, Directive, DirectiveDefinition, DirectiveList,
@@ -9,7 +10,7 @@ use graphql_values::{
     OperationType, Selection, SourceSpan, Type, Value, get_named_mut, ty,
 };
 use std::alloc::{AllocError, Global};
-use std::hash::{DefaultHasher, Hash, Hasher};
+use std::process::Abort;
 use std::test::Fail;
 
 fn node<T: Drop>(alloc: Global, value: T) -> Result<Node<T>, AllocError> {
@@ -21,12 +22,6 @@ fn nested(alloc: Global) -> Result<Type, AllocError>
     ensures { IfOk result (λ t. type_tree t ≡ NonNullListTree (ListTree (NonNullListTree (NamedTree (record { it = codes "Obj"; place = None }))))) }
 {
     ty!(alloc, [[[Obj ] !]]!)
-}
-
-fn hash_of<T: Hash>(value: &T) -> u64 {
-    let mut hasher = DefaultHasher::default();
-    value.hash(&mut hasher);
-    hasher.finish()
 }
 
 /// `[{a: [1]}]`, whose nodes were read from `offset`.
@@ -47,74 +42,120 @@ fn list_of_object(alloc: Global, offset: usize) -> Result<Value, AllocError> {
 }
 
 #[test]
-fn types(rt: HostRuntime) -> Result<(), Fail> {
+fn assigns_types(rt: HostRuntime) -> Result<(), Fail> {
     let alloc = rt.alloc();
-    assert!(rt; ty!(alloc, Int!)?.is_assignable_to(&ty!(alloc, Int)?));
-    assert!(rt; !ty!(alloc, Int)?.is_assignable_to(&ty!(alloc, Int!)?));
-    assert!(rt; ty!(alloc, [Int!])?.is_assignable_to(&ty!(alloc, [Int])?));
-    let obj = nested(alloc)?;
-    assert!(rt; obj.is_non_null() && obj.is_list() && !obj.is_named());
-    assert!(rt; obj.inner_named_type().as_str() == "Obj");
-    assert!(rt; *obj.item_type() == ty!(alloc, [[Obj]!])?);
-    assert!(rt; obj.clone()?.nullable() == ty!(alloc, [[[Obj]!]])?);
-    assert!(rt; obj.is_writable());
+    hold(
+        &rt,
+        ty!(alloc, Int!)?.is_assignable_to(&ty!(alloc, Int)?),
+        "Int!",
+    );
+    hold(
+        &rt,
+        !ty!(alloc, Int)?.is_assignable_to(&ty!(alloc, Int!)?),
+        "Int",
+    );
+    hold(
+        &rt,
+        ty!(alloc, [Int!])?.is_assignable_to(&ty!(alloc, [Int])?),
+        "[Int!]",
+    );
     Ok(())
 }
 
 #[test]
-fn values(rt: HostRuntime) -> Result<(), Fail> {
+fn asks_types(rt: HostRuntime) -> Result<(), Fail> {
+    let alloc = rt.alloc();
+    let obj = nested(alloc)?;
+    hold(
+        &rt,
+        obj.is_non_null() && obj.is_list() && !obj.is_named() && obj.is_writable(),
+        "its form",
+    );
+    same_text(&rt, obj.inner_named_type().as_str(), "Obj");
+    hold(&rt, *obj.item_type() == ty!(alloc, [[Obj]!])?, "its items");
+    hold(
+        &rt,
+        obj.clone()?.nullable() == ty!(alloc, [[[Obj]!]])?,
+        "nullable",
+    );
+    Ok(())
+}
+
+/// It tells that it is a list.
+fn tells_list(value: &Value) -> bool {
+    value.describe() == "a list"
+        && !value.is_null()
+        && value.as_list().is_some()
+        && value.as_object().is_none()
+        && value.as_str().is_none()
+        && value.as_enum().is_none()
+        && value.as_variable().is_none()
+}
+
+#[test]
+fn asks_values(rt: HostRuntime) -> Result<(), Fail> {
     let alloc = rt.alloc();
     let near = list_of_object(alloc, 1)?;
+    hold(&rt, tells_list(&near), "a list");
     let far = list_of_object(alloc, 50)?;
-    assert!(rt; near == far && hash_of(&near) == hash_of(&far));
-    assert!(rt; near.clone()? == near);
-    assert!(rt; near.describe() == "a list" && !near.is_null());
-    assert!(rt; near.as_list().is_some() && near.as_object().is_none());
-    assert!(rt;
-        near.as_str().is_none() && near.as_enum().is_none() && near.as_variable().is_none()
+    hold(
+        &rt,
+        near == far && hash_of(&near) == hash_of(&far),
+        "places",
     );
-    assert!(rt; Value::Boolean(true).to_bool() == Some(true));
-    assert!(rt; Value::Int(IntValue::from_i32(alloc, -2147483648)?).to_i32() == Some(-2147483648));
+    hold(&rt, near.clone()? == near, "the copy");
     Ok(())
 }
 
 #[test]
-fn numbers(rt: HostRuntime) -> Result<(), Fail> {
-    let alloc = rt.alloc();
+fn asks_plain_values(rt: HostRuntime) -> Result<(), Fail> {
+    hold(&rt, Value::Boolean(true).to_bool() == Some(true), "true");
+    let least = Value::Int(IntValue::from_i32(rt.alloc(), -2147483648)?);
+    hold(&rt, least.to_i32() == Some(-2147483648), "the least");
+    Ok(())
+}
+
+/// The text is a token of the one form, of the other, or of neither.
+fn is_number(rt: &impl Abort, text: &str, int: bool, float: bool) {
+    let told = IntValue::valid_syntax(text) == int && FloatValue::valid_syntax(text) == float;
+    hold(rt, told, text);
+}
+
+#[test]
+fn tells_numbers(rt: HostRuntime) {
     for text in ["0", "-0", "-12", "907"] {
-        assert!(rt;
-            IntValue::valid_syntax(text) && !FloatValue::valid_syntax(text),
-            "{text}"
-        );
+        is_number(&rt, text, true, false);
     }
     for text in ["0.0", "-1.50", "1e9", "6.02E+23", "-7e-0"] {
-        assert!(rt;
-            FloatValue::valid_syntax(text) && !IntValue::valid_syntax(text),
-            "{text}"
-        );
+        is_number(&rt, text, false, true);
     }
     for text in [
         "", "-", "01", "+1", "1.", ".5", "1e", "1.e1", "00.5", "1.5.5", "1 ", "--1",
     ] {
-        assert!(rt;
-            !IntValue::valid_syntax(text) && !FloatValue::valid_syntax(text),
-            "{text}"
-        );
+        is_number(&rt, text, false, false);
     }
-    assert!(rt; IntValue::from_i32(alloc, -305)?.as_str() == "-305");
-    let large = "2147483648";
-    assert!(rt; IntValue::valid_syntax(large));
-    assert!(rt; IntValue::new_parsed(alloc, large)?.try_to_i32().is_none());
-    let half = "0.5";
-    assert!(rt; FloatValue::valid_syntax(half));
-    assert!(rt; FloatValue::new_parsed(alloc, half)?.as_str() == half);
-    Ok(())
 }
 
 #[test]
-fn arguments(rt: HostRuntime) -> Result<(), Fail> {
+fn makes_numbers(rt: HostRuntime) -> Result<(), Fail> {
     let alloc = rt.alloc();
-    let mut directive = Directive::new(alloc, name!("d"));
+    same_text(&rt, IntValue::from_i32(alloc, -305)?.as_str(), "-305");
+    let large = "2147483648";
+    if IntValue::valid_syntax(large) {
+        let value = IntValue::new_parsed(alloc, large)?;
+        hold(&rt, value.try_to_i32().is_none(), large);
+    }
+    let half = "0.5";
+    if FloatValue::valid_syntax(half) {
+        same_text(&rt, FloatValue::new_parsed(alloc, half)?.as_str(), half);
+    }
+    is_number(&rt, large, true, false);
+    is_number(&rt, half, false, true);
+    Ok(())
+}
+
+/// `a: Int!`
+fn required(alloc: Global) -> Result<Node<InputValueDefinition>, AllocError> {
     let required = InputValueDefinition {
         description: None,
         name: name!("a"),
@@ -122,44 +163,91 @@ fn arguments(rt: HostRuntime) -> Result<(), Fail> {
         default_value: None,
         directives: DirectiveList::new(alloc),
     };
-    assert!(rt; required.is_required());
-    let definition = DirectiveDefinition {
+    node(alloc, required)
+}
+
+/// `directive @d(a: Int!) on QUERY`
+fn definition(alloc: Global) -> Result<DirectiveDefinition, AllocError> {
+    let mut definition = DirectiveDefinition {
         description: None,
         name: name!("d"),
-        arguments: vec![in alloc; node(alloc, required)?]?,
+        arguments: Vec::new(alloc),
         repeatable: false,
-        locations: vec![in alloc; DirectiveLocation::from(OperationType::Query)]?,
+        locations: Vec::new(alloc),
     };
-    assert!(rt;
-        directive.argument_by_name("a", None).err() == Some(ArgumentByNameError::UndefinedDirective)
-    );
-    assert!(rt;
-        directive.argument_by_name("b", Some(&definition)).err()
-            == Some(ArgumentByNameError::NoSuchArgument)
-    );
-    assert!(rt;
-        directive.argument_by_name("a", Some(&definition)).err()
-            == Some(ArgumentByNameError::RequiredArgumentNotSpecified)
-    );
+    definition.arguments.push(required(alloc)?)?;
+    let location = DirectiveLocation::from(OperationType::Query);
+    definition.locations.push(location)?;
+    Ok(definition)
+}
+
+/// `a: value`
+fn given(alloc: Global, value: Value) -> Result<Node<Argument>, AllocError> {
     let given = Argument {
         name: name!("a"),
-        value: node(alloc, Value::Null)?,
+        value: node(alloc, value)?,
     };
-    directive
-        .arguments
-        .push(node(alloc, given)?)
-        .map_err(AllocError::from)?;
-    assert!(rt; directive.argument_by_name("a", None)?.is_some());
-    let mut list = DirectiveList::new(alloc);
-    list.push(node(alloc, directive)?)
-        .map_err(AllocError::from)?;
-    assert!(rt; list.has("d") && list.get("e").is_none());
-    assert!(rt; list.get_all("d").next().is_some());
+    node(alloc, given)
+}
+
+/// Why the directive has no such argument.
+fn lacks(
+    directive: &Directive,
+    name: &str,
+    definition: Option<&DirectiveDefinition>,
+    error: ArgumentByNameError,
+) -> bool {
+    directive.argument_by_name(name, definition).err() == Some(error)
+}
+
+#[test]
+fn finds_no_arguments(rt: HostRuntime) -> Result<(), Fail> {
+    let alloc = rt.alloc();
+    hold(&rt, required(alloc)?.content().is_required(), "required");
+    let directive = Directive::new(alloc, name!("d"));
+    let definition = definition(alloc)?;
+    hold(
+        &rt,
+        lacks(
+            &directive,
+            "a",
+            None,
+            ArgumentByNameError::UndefinedDirective,
+        ) && lacks(
+            &directive,
+            "b",
+            Some(&definition),
+            ArgumentByNameError::NoSuchArgument,
+        ) && lacks(
+            &directive,
+            "a",
+            Some(&definition),
+            ArgumentByNameError::RequiredArgumentNotSpecified,
+        ),
+        "each error",
+    );
     Ok(())
 }
 
 #[test]
-fn selections(rt: HostRuntime) -> Result<(), Fail> {
+fn finds_arguments(rt: HostRuntime) -> Result<(), Fail> {
+    let alloc = rt.alloc();
+    let mut directive = Directive::new(alloc, name!("d"));
+    set_argument(alloc, &mut directive, Value::Null)?;
+    hold(&rt, directive.argument_by_name("a", None)?.is_some(), "a");
+    let mut list = DirectiveList::new(alloc);
+    list.push(node(alloc, directive)?)
+        .map_err(AllocError::from)?;
+    hold(
+        &rt,
+        list.has("d") && list.get("e").is_none() && list.get_all("d").next().is_some(),
+        "d",
+    );
+    Ok(())
+}
+
+#[test]
+fn asks_selections(rt: HostRuntime) -> Result<(), Fail> {
     let alloc = rt.alloc();
     let field = Field {
         alias: Some(name!("responseField")),
@@ -168,41 +256,84 @@ fn selections(rt: HostRuntime) -> Result<(), Fail> {
         directives: DirectiveList::new(alloc),
         selection_set: Vec::new(alloc),
     };
-    assert!(rt; field.response_name().as_str() == "responseField");
+    same_text(&rt, field.response_name().as_str(), "responseField");
     let selection = Selection::from(node(alloc, field)?);
-    assert!(rt; selection.as_field().is_some() && selection.as_fragment_spread().is_none());
-    assert!(rt; selection.location().is_none() && selection.clone()? == selection);
-    assert!(rt; OperationType::Mutation.default_type_name() == "Mutation");
-    assert!(rt; DirectiveLocation::InlineFragment.name() == "INLINE_FRAGMENT");
+    hold(
+        &rt,
+        selection.as_field().is_some()
+            && selection.as_fragment_spread().is_none()
+            && selection.location().is_none(),
+        "a field",
+    );
+    hold(&rt, selection.clone()? == selection, "the copy");
     Ok(())
 }
 
-/// `@name`
-fn directive(alloc: Global, name: Name) -> Result<Node<Directive>, AllocError> {
-    node(alloc, Directive::new(alloc, name))
+#[test]
+fn names_operations_and_locations(rt: HostRuntime) {
+    same_text(&rt, OperationType::Mutation.default_type_name(), "Mutation");
+    same_text(
+        &rt,
+        DirectiveLocation::InlineFragment.name(),
+        "INLINE_FRAGMENT",
+    );
+}
+
+/// Adds `@name`.
+fn push_directive(
+    alloc: Global,
+    list: &mut Vec<Node<Directive>>,
+    name: Name,
+) -> Result<(), AllocError> {
+    list.push(node(alloc, Directive::new(alloc, name))?)?;
+    Ok(())
+}
+
+/// `@a @b` and the directive of this name.
+fn three_directives(alloc: Global, last: Name) -> Result<Vec<Node<Directive>>, AllocError> {
+    let mut list = Vec::new(alloc);
+    push_directive(alloc, &mut list, name!("a"))?;
+    push_directive(alloc, &mut list, name!("b"))?;
+    push_directive(alloc, &mut list, last)?;
+    Ok(list)
+}
+
+#[test]
+fn copies_directives(rt: HostRuntime) -> Result<(), Fail> {
+    let alloc = rt.alloc();
+    let list = DirectiveList::try_from_iter(alloc, three_directives(alloc, name!("a"))?)?;
+    hold(&rt, list.0.len() == 3 && list.clone()? == list, "the copy");
+    hold(
+        &rt,
+        list.0 != three_directives(alloc, name!("c"))?,
+        "another",
+    );
+    Ok(())
 }
 
 #[test]
 fn writes_to_the_named(rt: HostRuntime) -> Result<(), Fail> {
     let alloc = rt.alloc();
-    let given = vec![in alloc;
-        directive(alloc, name!("a"))?,
-        directive(alloc, name!("b"))?,
-        directive(alloc, name!("a"))?,
-    ]?;
-    let mut list = DirectiveList::try_from_iter(alloc, given)?;
-    let before = list.clone()?;
-    assert!(rt; list == before && list.0.len() == 3);
-    assert!(rt; get_named_mut(&mut list.0, "a", 2).is_none());
-    assert!(rt; get_named_mut(&mut list.0, "c", 0).is_none());
-    let last = get_named_mut(&mut list.0, "a", 1).ok_or("a")?;
-    *last = directive(alloc, name!("c"))?;
-    let wanted = vec![in alloc;
-        directive(alloc, name!("a"))?,
-        directive(alloc, name!("b"))?,
-        directive(alloc, name!("c"))?,
-    ]?;
-    assert!(rt; list.0 == wanted && list != before);
+    let mut list = three_directives(alloc, name!("a"))?;
+    hold(&rt, get_named_mut(&mut list, "a", 2).is_none(), "a third a");
+    hold(&rt, get_named_mut(&mut list, "c", 0).is_none(), "no c");
+    let last = get_named_mut(&mut list, "a", 1).ok_or("a")?;
+    *last = node(alloc, Directive::new(alloc, name!("c")))?;
+    hold(
+        &rt,
+        list == three_directives(alloc, name!("c"))?,
+        "what is written",
+    );
+    Ok(())
+}
+
+/// Sets the argument `a`: written where it stands, else pushed.
+fn set_argument(alloc: Global, directive: &mut Directive, value: Value) -> Result<(), AllocError> {
+    let argument = given(alloc, value)?;
+    match get_named_mut(&mut directive.arguments, "a", 0) {
+        None => directive.arguments.push(argument)?,
+        Some(place) => *place = argument,
+    }
     Ok(())
 }
 
@@ -211,19 +342,9 @@ fn writes_to_an_argument(rt: HostRuntime) -> Result<(), Fail> {
     let alloc = rt.alloc();
     let mut directive = Directive::new(alloc, name!("d"));
     for value in [false, true] {
-        let argument = Argument {
-            name: name!("a"),
-            value: node(alloc, Value::Boolean(value))?,
-        };
-        match get_named_mut(&mut directive.arguments, "a", 0) {
-            None => directive
-                .arguments
-                .push(node(alloc, argument)?)
-                .map_err(AllocError::from)?,
-            Some(given) => *given = node(alloc, argument)?,
-        }
-        let given = directive.specified_argument_by_name("a").ok_or("a")?;
-        assert!(rt; given.content().to_bool() == Some(value));
+        set_argument(alloc, &mut directive, Value::Boolean(value))?;
+        let told = directive.specified_argument_by_name("a").ok_or("a")?;
+        hold(&rt, told.content().to_bool() == Some(value), "the argument");
     }
     Ok(())
 }

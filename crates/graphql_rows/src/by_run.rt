@@ -1,0 +1,220 @@
+//! Answers of `run` over readers and a writer that hand on few bytes a call, and that end.
+
+ghost use Rattle.std.specs.Prelude.{◌≡◌, false, All, IfOk};
+ghost use Rattle.graphql_names.specs.Device.{device_failed};
+
+use crate::by_texts::Texts;
+use crate::case::{Answer, Case, Tally, Way, compare};
+use crate::plan::{Plan, device, endings, reader, whole};
+use crate::problem::Problem;
+use crate::settings::{number, numbers};
+use graphql_checked::{Layout, Limits, Outcome, RunFault, exit_status, run};
+use graphql_names::{Cut, Device, Ending};
+use std::alloc::{AllocError, Global};
+
+/// Judges the row by `run`: at each of its numbers of bytes a call, and for each ending.
+pub(crate) fn by_run(
+    rt: &HostRuntime,
+    case: Case<'_>,
+    given: Texts<'_>,
+    tally: &mut Tally,
+) -> Result<(), Problem> {
+    let text = number(case.row, "behind", usize::MAX)?;
+    for step in numbers(rt.alloc(), case.row, "step", usize::MAX)? {
+        for ending in endings() {
+            let plan = Plan {
+                step,
+                text,
+                write: case.out.len(),
+                ending,
+                ..whole()
+            };
+            by_plan(rt, case, given, plan, tally)?;
+        }
+    }
+    Ok(())
+}
+
+/// The answer by this plan, and those where a device ends at each of its bytes, if the row asks for them.
+fn by_plan(
+    rt: &HostRuntime,
+    case: Case<'_>,
+    given: Texts<'_>,
+    plan: Plan,
+    tally: &mut Tally,
+) -> Result<(), Problem> {
+    run_answer(rt, case, given, plan, tally)?;
+    if is_each(case, "write")? {
+        writer_ends(rt, case, given, plan, tally)?;
+    }
+    if is_each(case, "read")? {
+        for text in 1..=given.schemas.len().saturating_add(1) {
+            reader_ends(rt, case, given, Plan { text, ..plan }, tally)?;
+        }
+    }
+    Ok(())
+}
+
+/// Whether a device of the row ends at each of its bytes.
+pub(crate) fn is_each(case: Case<'_>, name: &str) -> Result<bool, Problem> {
+    match case.row.one(name)? {
+        None => Ok(false),
+        Some(field) if field.value == "each" => Ok(true),
+        Some(field) => Err(field.problem("it says `each` or is not there")),
+    }
+}
+
+/// The writer ends after each number of bytes that is too small: so many are out.
+fn writer_ends(
+    rt: &HostRuntime,
+    case: Case<'_>,
+    given: Texts<'_>,
+    plan: Plan,
+    tally: &mut Tally,
+) -> Result<(), Problem> {
+    for write in 0..case.out.len() {
+        let status = format!(in rt.alloc(); "3 output failed {write}")?;
+        let wanted = Case {
+            status: status.as_str(),
+            out: case.out.get(..write).unwrap_or(&[]),
+            ..case
+        };
+        run_answer(rt, wanted, given, Plan { write, ..plan }, tally)?;
+    }
+    Ok(())
+}
+
+/// The reader of the plan's text ends after each number of bytes, and at its end: nothing is out.
+fn reader_ends(
+    rt: &HostRuntime,
+    case: Case<'_>,
+    given: Texts<'_>,
+    plan: Plan,
+    tally: &mut Tally,
+) -> Result<(), Problem> {
+    let text = plan.text;
+    let status = format!(in rt.alloc(); "3 file {text} cannot be read")?;
+    let wanted = Case {
+        status: status.as_str(),
+        out: &[],
+        ..case
+    };
+    let bytes = match given.schemas.get(text.saturating_sub(1)) {
+        Some(schema) => schema.len(),
+        None => given.document.len(),
+    };
+    for read in 0..=bytes {
+        let plan = Plan {
+            read,
+            write: 0,
+            ..plan
+        };
+        run_answer(rt, wanted, given, plan, tally)?;
+    }
+    Ok(())
+}
+
+/// The answer by this plan.
+fn run_answer(
+    rt: &HostRuntime,
+    case: Case<'_>,
+    given: Texts<'_>,
+    plan: Plan,
+    tally: &mut Tally,
+) -> Result<(), Problem> {
+    let way = Way {
+        call: "run",
+        document: given.document,
+        nesting: given.nesting,
+        plan,
+    };
+    let answer = run_by(rt.alloc(), given, plan)?;
+    compare(rt, case, way, &answer, tally)
+}
+
+/// What `run` answers by the plan.
+fn run_by(alloc: Global, given: Texts<'_>, plan: Plan) -> Result<Answer, AllocError> {
+    let mut out = Vec::new(alloc);
+    let status = run_onto(alloc, given, plan, &mut out)?;
+    Ok(Answer { status, out })
+}
+
+/// The status of what `run` answers by the plan, with its output behind `out`.
+fn run_onto(
+    alloc: Global,
+    given: Texts<'_>,
+    plan: Plan,
+    out: &mut Vec<u8>,
+) -> Result<String, AllocError> {
+    let mut schemas = readers(alloc, given.schemas, plan)?;
+    let mut document = reader(given.document, plan, given.schemas.len().saturating_add(1));
+    let mut writer = device(out, plan, plan.write);
+    let limits = Limits {
+        nesting: given.nesting,
+    };
+    let answer = run(
+        alloc,
+        &mut schemas,
+        &mut document,
+        limits,
+        Layout::OneLine,
+        &mut writer,
+    );
+    let told = told_failures(answer);
+    if told.0 != failed_reader(&schemas, document.failed()) || told.1 != writer.failed() {
+        return String::from_str(alloc, "another device has failed than the answer tells");
+    }
+    status_of(alloc, answer)
+}
+
+/// The readers of the schema texts.
+fn readers<'a>(
+    alloc: Global,
+    schemas: &'a [Vec<u8>],
+    plan: Plan,
+) -> Result<Vec<Device<Cut<&'a [u8]>>>, AllocError>
+    ensures { IfOk result (λ v. All (λ d. device_failed d ≡ false) v.items) }
+{
+    let mut devices = Vec::new(alloc);
+    for text in schemas {
+        let number = devices.len().saturating_add(1);
+        devices.push(reader(text.as_slice(), plan, number))?;
+    }
+    Ok(devices)
+}
+
+/// The number of the first reader that has failed, or 0. The document's reader is the last.
+fn failed_reader(schemas: &[Device<Cut<&[u8]>>], document: bool) -> usize {
+    for (index, schema) in schemas.iter().enumerate() {
+        if schema.failed() {
+            return index.saturating_add(1);
+        }
+    }
+    if document {
+        return schemas.len().saturating_add(1);
+    }
+    0
+}
+
+/// The number of the reader that has failed by the answer, or 0, and whether the writer has.
+fn told_failures(answer: Result<Outcome, RunFault>) -> (usize, bool) {
+    match answer {
+        Err(RunFault::Reader(number)) => (number, false),
+        Err(RunFault::Writer(_)) => (0, true),
+        _ => (0, false),
+    }
+}
+
+/// The status in words: the program's status, what it tells, and for whom the place or the number of bytes.
+fn status_of(alloc: Global, answer: Result<Outcome, RunFault>) -> Result<String, AllocError> {
+    let status = exit_status(&answer);
+    match answer {
+        Ok(_) => format!(in alloc; "{status}"),
+        Err(RunFault::NotYet { file, offset }) => {
+            let number = file.0;
+            format!(in alloc; "{status} not yet {number}:{offset}")
+        }
+        Err(RunFault::Writer(out)) => format!(in alloc; "{status} output failed {out}"),
+        Err(fault) => format!(in alloc; "{status} {fault}"),
+    }
+}

@@ -1,0 +1,134 @@
+//! Rows of schema texts and documents.
+
+use crate::by_calls::{by_calls, by_check_texts};
+use crate::by_run::by_run;
+use crate::case::{Answer, Case, Tally, Way, compare};
+use crate::plan::whole;
+use crate::problem::Problem;
+use crate::settings::{numbers, texts};
+use std::alloc::Global;
+
+/// Texts under a limit.
+#[derive(Clone, Copy)]
+pub(crate) struct Texts<'a> {
+    pub(crate) schemas: &'a [Vec<u8>],
+    pub(crate) document: &'a [u8],
+    pub(crate) nesting: usize,
+}
+
+/// Judges the row: each of its documents over its schema texts, under each of its limits.
+pub(crate) fn by_texts(
+    rt: &HostRuntime,
+    case: Case<'_>,
+    call: &str,
+    tally: &mut Tally,
+) -> Result<(), Problem> {
+    let schemas = texts(rt.alloc(), case.row, "schema")?;
+    let documents = texts(rt.alloc(), case.row, "document")?;
+    let nestings = numbers(rt.alloc(), case.row, "nesting", 500)?;
+    for document in &documents {
+        for nesting in &nestings {
+            let given = Texts {
+                schemas: schemas.as_slice(),
+                document: document.as_slice(),
+                nesting: *nesting,
+            };
+            by_call(rt, case, call, given, tally)?;
+        }
+    }
+    Ok(())
+}
+
+/// The answer of each call that the row is for.
+fn by_call(
+    rt: &HostRuntime,
+    case: Case<'_>,
+    call: &str,
+    given: Texts<'_>,
+    tally: &mut Tally,
+) -> Result<(), Problem> {
+    match call {
+        "run" => by_run(rt, case, given, tally),
+        "calls" => calls_answer(rt, case, given, tally),
+        "check_texts" => check_texts_answers(rt, case, given, tally),
+        _ => {
+            by_run(rt, case, given, tally)?;
+            calls_answer(rt, case, given, tally)?;
+            check_texts_answers(rt, case, given, tally)
+        }
+    }
+}
+
+/// The way of a call without devices.
+fn way_of<'a>(call: &'a str, given: Texts<'a>) -> Way<'a> {
+    Way {
+        call,
+        document: given.document,
+        nesting: given.nesting,
+        plan: whole(),
+    }
+}
+
+/// The schema texts, which must be UTF-8.
+fn schemas_of<'a>(
+    alloc: Global,
+    case: Case<'_>,
+    texts: &'a [Vec<u8>],
+) -> Result<Vec<&'a str>, Problem> {
+    let mut schemas = Vec::new(alloc);
+    for bytes in texts {
+        schemas.push(text_of(case, bytes.as_slice())?)?;
+    }
+    Ok(schemas)
+}
+
+/// The text, which must be UTF-8.
+fn text_of<'a>(case: Case<'_>, bytes: &'a [u8]) -> Result<&'a str, Problem> {
+    match str::from_utf8(bytes) {
+        Ok(text) => Ok(text),
+        Err(_) => Err(case.row.head.problem("a text of this call is not UTF-8")),
+    }
+}
+
+/// The answer call by call.
+fn calls_answer(
+    rt: &HostRuntime,
+    case: Case<'_>,
+    given: Texts<'_>,
+    tally: &mut Tally,
+) -> Result<(), Problem> {
+    let schemas = schemas_of(rt.alloc(), case, given.schemas)?;
+    let document = text_of(case, given.document)?;
+    let answer = by_calls(rt.alloc(), &schemas, document, given.nesting)?;
+    compare(rt, case, way_of("calls", given), &answer, tally)
+}
+
+/// The answer of `check_texts`, which writes no texts: of those accepted the row's first line is wanted.
+fn check_texts_answers(
+    rt: &HostRuntime,
+    case: Case<'_>,
+    given: Texts<'_>,
+    tally: &mut Tally,
+) -> Result<(), Problem> {
+    let schemas = schemas_of(rt.alloc(), case, given.schemas)?;
+    let document = text_of(case, given.document)?;
+    let answer = by_check_texts(rt.alloc(), &schemas, document, given.nesting)?;
+    let out = first_line(case.out);
+    compare(
+        rt,
+        Case { out, ..case },
+        way_of("check_texts", given),
+        &answer,
+        tally,
+    )
+}
+
+/// The first line of an output that begins with `accepted`, and every other output whole.
+fn first_line(out: &[u8]) -> &[u8] {
+    let accepted = b"accepted\n".as_slice();
+    if out.starts_with(accepted) {
+        accepted
+    } else {
+        out
+    }
+}

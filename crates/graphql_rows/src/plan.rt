@@ -1,0 +1,60 @@
+//! Where devices end.
+
+ghost use Rattle.std.specs.Prelude.{◌≡◌, false};
+ghost use Rattle.graphql_names.specs.Device.{device_failed};
+
+use graphql_names::{Cut, Device, Ending};
+use std::io::ErrorKind;
+
+/// How many bytes devices hand on, and how they end.
+#[derive(Clone, Copy)]
+pub(crate) struct Plan {
+    /// The most bytes a call.
+    pub(crate) step: usize,
+    /// The number of the text whose reader ends after `read` bytes; each reader behind it fails at its first call.
+    pub(crate) text: usize,
+    pub(crate) read: usize,
+    /// After so many bytes the writer ends.
+    pub(crate) write: usize,
+    pub(crate) ending: Ending,
+}
+
+/// The plan by which no device ends.
+pub(crate) fn whole() -> Plan {
+    Plan {
+        step: usize::MAX,
+        text: usize::MAX,
+        read: usize::MAX,
+        write: usize::MAX,
+        ending: Ending::TakesNothing,
+    }
+}
+
+/// How devices end. An interruption is a failure as any other.
+pub(crate) fn endings() -> [Ending; 3] {
+    [
+        Ending::Fails(ErrorKind::Interrupted),
+        Ending::Fails(ErrorKind::Other),
+        Ending::TakesNothing,
+    ]
+}
+
+/// A device over `inner` that ends after `total` bytes.
+pub(crate) fn device<D>(inner: D, plan: Plan, total: usize) -> Device<Cut<D>>
+    ensures { device_failed result ≡ false }
+{
+    Device::new(Cut::new(inner, plan.step.max(1), total, plan.ending))
+}
+
+/// The reader of the text of this number.
+pub(crate) fn reader<'a>(bytes: &'a [u8], plan: Plan, number: usize) -> Device<Cut<&'a [u8]>>
+    ensures { device_failed result ≡ false }
+{
+    if number < plan.text {
+        device(bytes, plan, bytes.len().saturating_add(1))
+    } else if number == plan.text {
+        device(bytes, plan, plan.read)
+    } else {
+        device(bytes, plan, 0)
+    }
+}

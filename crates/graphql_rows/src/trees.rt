@@ -1,0 +1,211 @@
+//! The trees that rows name, built without places.
+
+use graphql_ast::{
+    Definition, Directive, DirectiveDefinition, DirectiveList, Document, Field, FieldDefinition,
+    FragmentDefinition, InputValueDefinition, Name, Node, NodeStr, ObjectTypeDefinition,
+    OperationDefinition, OperationType, Selection, Type,
+};
+use std::alloc::{AllocError, Global};
+
+/// A tree that is printed.
+#[derive(Drop)]
+pub(crate) enum Shape {
+    Type(Type),
+    Operation(OperationDefinition),
+    Fragment(FragmentDefinition),
+    Directive(DirectiveDefinition),
+    Document(Document),
+}
+
+/// The tree of this name, if there is one.
+pub(crate) fn tree_named(alloc: Global, name: &str) -> Result<Option<Shape>, AllocError> {
+    let tree = match name {
+        "list type" => Shape::Type(list_type(alloc)?),
+        "operation" => Shape::Operation(operation(alloc, true)?),
+        "operation with a directive" => Shape::Operation(directed(alloc)?),
+        "operation without selections" => Shape::Operation(operation(alloc, false)?),
+        "fragment named on" => Shape::Fragment(fragment(alloc)?),
+        "directive without locations" => Shape::Directive(directive(alloc)),
+        "document without definitions" => Shape::Document(Document::new(alloc)),
+        "two operations" => Shape::Document(two_operations(alloc)?),
+        "described argument" => Shape::Document(described(alloc, None, "d")?),
+        "described type" => Shape::Document(described(alloc, Some("x\ny"), "d")?),
+        "operations and a type" => Shape::Document(document(alloc)?),
+        _ => return Ok(None),
+    };
+    Ok(Some(tree))
+}
+
+/// `[[[Obj]!]]!`
+fn list_type(alloc: Global) -> Result<Type, AllocError> {
+    let object = Type::Named(Name::new_static_unchecked("Obj"));
+    let inner = Type::NonNullList(Box::new(alloc, object)?);
+    Ok(Type::NonNullList(Box::new(alloc, Type::List(Box::new(alloc, inner)?))?))
+}
+
+/// `field`, alone or not there.
+fn selections(alloc: Global, is_there: bool) -> Result<Vec<Selection>, AllocError> {
+    let mut selection_set = Vec::new(alloc);
+    if is_there {
+        let field = Field {
+            alias: None,
+            name: Name::new_static_unchecked("field"),
+            arguments: Vec::new(alloc),
+            directives: DirectiveList(Vec::new(alloc)),
+            selection_set: Vec::new(alloc),
+        };
+        selection_set.push(Selection::Field(Node::new(alloc, field)?))?;
+    }
+    Ok(selection_set)
+}
+
+/// `{ field }`, or without the field.
+fn operation(alloc: Global, has_field: bool) -> Result<OperationDefinition, AllocError> {
+    Ok(OperationDefinition {
+        operation_type: OperationType::Query,
+        name: None,
+        variables: Vec::new(alloc),
+        directives: DirectiveList(Vec::new(alloc)),
+        selection_set: selections(alloc, has_field)?,
+    })
+}
+
+/// `{ field }` with `@dir` pushed to it.
+fn directed(alloc: Global) -> Result<OperationDefinition, AllocError> {
+    let mut operation = operation(alloc, true)?;
+    let directive = Directive {
+        name: Name::new_static_unchecked("dir"),
+        arguments: Vec::new(alloc),
+    };
+    operation.directives.0.push(Node::new(alloc, directive)?)?;
+    Ok(operation)
+}
+
+/// `fragment on on T { field }`
+fn fragment(alloc: Global) -> Result<FragmentDefinition, AllocError> {
+    Ok(FragmentDefinition {
+        name: Name::new_static_unchecked("on"),
+        type_condition: Name::new_static_unchecked("T"),
+        directives: DirectiveList(Vec::new(alloc)),
+        selection_set: selections(alloc, true)?,
+    })
+}
+
+/// `directive @d on`
+fn directive(alloc: Global) -> DirectiveDefinition {
+    DirectiveDefinition {
+        description: None,
+        name: Name::new_static_unchecked("d"),
+        arguments: Vec::new(alloc),
+        repeatable: false,
+        locations: Vec::new(alloc),
+    }
+}
+
+/// `Int`
+fn int() -> Type {
+    Type::Named(Name::new_static_unchecked("Int"))
+}
+
+/// The description of this text, if there is one.
+fn description(alloc: Global, text: Option<&str>) -> Result<Option<NodeStr>, AllocError> {
+    match text {
+        None => Ok(None),
+        Some(text) => Ok(Some(NodeStr::new_str(alloc, text)?)),
+    }
+}
+
+/// Adds an argument of this name and type `Int`.
+fn push_argument(
+    alloc: Global,
+    arguments: &mut Vec<Node<InputValueDefinition>>,
+    text: Option<&str>,
+    name: Name,
+) -> Result<(), AllocError> {
+    let argument = InputValueDefinition {
+        description: description(alloc, text)?,
+        name,
+        ty: Node::new(alloc, int())?,
+        default_value: None,
+        directives: DirectiveList(Vec::new(alloc)),
+    };
+    arguments.push(Node::new(alloc, argument)?)?;
+    Ok(())
+}
+
+/// `f("text" x: Int, y: Int): Int`
+fn field(alloc: Global, text: &str) -> Result<Node<FieldDefinition>, AllocError> {
+    let mut arguments = Vec::new(alloc);
+    push_argument(
+        alloc,
+        &mut arguments,
+        Some(text),
+        Name::new_static_unchecked("x"),
+    )?;
+    push_argument(alloc, &mut arguments, None, Name::new_static_unchecked("y"))?;
+    let definition = FieldDefinition {
+        description: None,
+        name: Name::new_static_unchecked("f"),
+        arguments,
+        ty: int(),
+        directives: DirectiveList(Vec::new(alloc)),
+    };
+    Ok(Node::new(alloc, definition)?)
+}
+
+/// Adds the type `Query` with that field.
+fn push_object(
+    alloc: Global,
+    document: &mut Document,
+    type_text: Option<&str>,
+    argument_text: &str,
+) -> Result<(), AllocError> {
+    let mut definition = ObjectTypeDefinition {
+        description: description(alloc, type_text)?,
+        name: Name::new_static_unchecked("Query"),
+        implements_interfaces: Vec::new(alloc),
+        directives: DirectiveList(Vec::new(alloc)),
+        fields: Vec::new(alloc),
+    };
+    definition.fields.push(field(alloc, argument_text)?)?;
+    let definition = Definition::ObjectTypeDefinition(Node::new(alloc, definition)?);
+    document.definitions.push(definition)?;
+    Ok(())
+}
+
+/// Adds `{ field }`.
+fn push_operation(alloc: Global, document: &mut Document) -> Result<(), AllocError> {
+    let node = Node::new(alloc, operation(alloc, true)?)?;
+    document
+        .definitions
+        .push(Definition::OperationDefinition(node))?;
+    Ok(())
+}
+
+/// `{ field }` twice.
+fn two_operations(alloc: Global) -> Result<Document, AllocError> {
+    let mut document = Document::new(alloc);
+    push_operation(alloc, &mut document)?;
+    push_operation(alloc, &mut document)?;
+    Ok(document)
+}
+
+/// The type `Query`, with the descriptions that are given.
+fn described(
+    alloc: Global,
+    type_text: Option<&str>,
+    argument_text: &str,
+) -> Result<Document, AllocError> {
+    let mut document = Document::new(alloc);
+    push_object(alloc, &mut document, type_text, argument_text)?;
+    Ok(document)
+}
+
+/// `{ field }`, the type `Query` with descriptions that need escapes, `{ field }`.
+fn document(alloc: Global) -> Result<Document, AllocError> {
+    let mut document = Document::new(alloc);
+    push_operation(alloc, &mut document)?;
+    push_object(alloc, &mut document, Some("x\n\"\"\"\"y"), "\"\u{7F}d")?;
+    push_operation(alloc, &mut document)?;
+    Ok(document)
+}
