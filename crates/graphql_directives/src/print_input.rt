@@ -162,27 +162,7 @@ fn put_repeatable<S: Sink>(sink: &mut S, repeatable: bool)
 fn put_location<S: Sink>(sink: &mut S, location: DirectiveLocation)
     ensures { S.puts sink.old (location_keyword location) sink.new }
 {
-    sink.put(match location {
-        DirectiveLocation::Query => "QUERY",
-        DirectiveLocation::Mutation => "MUTATION",
-        DirectiveLocation::Subscription => "SUBSCRIPTION",
-        DirectiveLocation::Field => "FIELD",
-        DirectiveLocation::FragmentDefinition => "FRAGMENT_DEFINITION",
-        DirectiveLocation::FragmentSpread => "FRAGMENT_SPREAD",
-        DirectiveLocation::InlineFragment => "INLINE_FRAGMENT",
-        DirectiveLocation::VariableDefinition => "VARIABLE_DEFINITION",
-        DirectiveLocation::Schema => "SCHEMA",
-        DirectiveLocation::Scalar => "SCALAR",
-        DirectiveLocation::Object => "OBJECT",
-        DirectiveLocation::FieldDefinition => "FIELD_DEFINITION",
-        DirectiveLocation::ArgumentDefinition => "ARGUMENT_DEFINITION",
-        DirectiveLocation::Interface => "INTERFACE",
-        DirectiveLocation::Union => "UNION",
-        DirectiveLocation::Enum => "ENUM",
-        DirectiveLocation::EnumValue => "ENUM_VALUE",
-        DirectiveLocation::InputObject => "INPUT_OBJECT",
-        DirectiveLocation::InputFieldDefinition => "INPUT_FIELD_DEFINITION",
-    });
+    sink.put(location.name());
 }
 
 fn put_next_location<S: Sink>(sink: &mut S, location: DirectiveLocation)

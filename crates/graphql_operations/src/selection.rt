@@ -7,7 +7,7 @@ ghost use Rattle.graphql_operations.specs.SelectionParts.{field_head, field_tree
 
 use graphql_directives::{Argument, DirectiveList};
 use graphql_literals::NamedType;
-use graphql_names::{Name, Node, SourceSpan};
+use graphql_names::{Name, Node, SourceSpan, copies_of_five, copies_of_three};
 use std::alloc::AllocError;
 
 /// What a selection set holds (section 2.4).
@@ -146,12 +146,19 @@ impl Clone for Field {
     ghost is_clone = { λ f copy. field_tree None copy ≡ field_tree None f };
 
     fn clone(&self) -> Result<Field, AllocError> {
+        let (alias, name, arguments, directives, selection_set) = copies_of_five(
+            &self.alias,
+            &self.name,
+            &self.arguments,
+            &self.directives,
+            &self.selection_set,
+        )?;
         Ok(Field {
-            alias: self.alias.clone()?,
-            name: self.name.clone()?,
-            arguments: self.arguments.clone()?,
-            directives: self.directives.clone()?,
-            selection_set: self.selection_set.clone()?,
+            alias,
+            name,
+            arguments,
+            directives,
+            selection_set,
         })
     }
 }
@@ -171,10 +178,15 @@ impl Clone for InlineFragment {
     ghost is_clone = { λ f copy. inline_tree None copy ≡ inline_tree None f };
 
     fn clone(&self) -> Result<InlineFragment, AllocError> {
+        let (type_condition, directives, selection_set) = copies_of_three(
+            &self.type_condition,
+            &self.directives,
+            &self.selection_set,
+        )?;
         Ok(InlineFragment {
-            type_condition: self.type_condition.clone()?,
-            directives: self.directives.clone()?,
-            selection_set: self.selection_set.clone()?,
+            type_condition,
+            directives,
+            selection_set,
         })
     }
 }
