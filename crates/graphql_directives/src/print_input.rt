@@ -101,7 +101,7 @@ fn put_input_member<S: Sink>(
     put_input_value(sink, prefix, level, input);
 }
 
-/// Input values, each on a line of its own.
+/// Input values, each on a line of its own. Public for the printers of the crates above.
 pub fn put_input_members<S: Sink>(
     sink: &mut S,
     prefix: Option<&str>,
@@ -129,7 +129,7 @@ fn put_arguments_on_lines<S: Sink>(
     sink.put(")");
 }
 
-/// The definitions of arguments, within parentheses.
+/// The definitions of arguments, within parentheses. Public for the printers of the crates above.
 pub fn put_argument_definitions<S: Sink>(
     sink: &mut S,
     prefix: Option<&str>,
@@ -208,6 +208,7 @@ fn put_undescribed_directive<S: Sink>(
     put_locations(sink, &definition.locations);
 }
 
+/// The definition of a directive. Public for the printers of the crates above.
 pub fn put_directive_definition<S: Sink>(
     sink: &mut S,
     prefix: Option<&str>,
