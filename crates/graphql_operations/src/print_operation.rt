@@ -133,7 +133,7 @@ pub fn put_inline<S: Sink>(
 }
 
 #[cycle(selections)]
-#[tactic(auto, using(crate::proofs::Trees::selection_tree_rules))]
+#[tactic(auto, using(crate::proofs::SelectionTrees::selection_tree_rules))]
 pub fn put_selection<S: Sink>(
     sink: &mut S,
     prefix: Option<&str>,

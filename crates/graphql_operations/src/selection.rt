@@ -46,7 +46,7 @@ pub struct InlineFragment {
     pub selection_set: Vec<Selection>,
 }
 
-#[tactic(auto, using(crate::proofs::Trees::selection_tree_rules))]
+#[tactic(auto, using(crate::proofs::SelectionTrees::selection_tree_rules))]
 impl Selection {
     /// Where the selection was read, if it was.
     pub fn location(&self) -> Option<SourceSpan>
@@ -105,7 +105,7 @@ impl Field {
 impl From<Node<Field>> for Selection {
     ghost from_gives = { λ n s. selection_tree s ≡ field_node_tree n };
 
-    #[tactic(auto, using(crate::proofs::Trees::selection_tree_rules))]
+    #[tactic(auto, using(crate::proofs::SelectionTrees::selection_tree_rules))]
     fn from(node: Node<Field>) -> Selection {
         Selection::Field(node)
     }
@@ -114,7 +114,7 @@ impl From<Node<Field>> for Selection {
 impl From<Node<FragmentSpread>> for Selection {
     ghost from_gives = { λ n s. selection_tree s ≡ spread_node_tree n };
 
-    #[tactic(auto, using(crate::proofs::Trees::selection_tree_rules))]
+    #[tactic(auto, using(crate::proofs::SelectionTrees::selection_tree_rules))]
     fn from(node: Node<FragmentSpread>) -> Selection {
         Selection::FragmentSpread(node)
     }
@@ -123,7 +123,7 @@ impl From<Node<FragmentSpread>> for Selection {
 impl From<Node<InlineFragment>> for Selection {
     ghost from_gives = { λ n s. selection_tree s ≡ inline_node_tree n };
 
-    #[tactic(auto, using(crate::proofs::Trees::selection_tree_rules))]
+    #[tactic(auto, using(crate::proofs::SelectionTrees::selection_tree_rules))]
     fn from(node: Node<InlineFragment>) -> Selection {
         Selection::InlineFragment(node)
     }
@@ -132,7 +132,7 @@ impl From<Node<InlineFragment>> for Selection {
 impl Clone for Selection {
     ghost is_clone = { λ s copy. selection_tree copy ≡ selection_tree s };
 
-    #[tactic(auto, using(crate::proofs::Trees::selection_tree_rules))]
+    #[tactic(auto, using(crate::proofs::SelectionTrees::selection_tree_rules))]
     fn clone(&self) -> Result<Selection, AllocError> {
         match self {
             Selection::Field(node) => Ok(Selection::Field(node.clone()?)),
