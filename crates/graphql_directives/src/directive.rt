@@ -10,7 +10,7 @@ use crate::argument_error::ArgumentByNameError;
 use crate::directive_location::DirectiveLocation;
 use crate::input_value::InputValueDefinition;
 use graphql_literals::Value;
-use graphql_names::{Name, Node, NodeStr};
+use graphql_names::{Name, Node, NodeStr, copies_of_four};
 use std::alloc::{AllocError, Global};
 
 /// `name: value` (section 2.6).
@@ -135,12 +135,18 @@ impl Clone for DirectiveDefinition {
     ghost is_clone = { λ d copy. directive_definition_tree copy ≡ directive_definition_tree d };
 
     fn clone(&self) -> Result<DirectiveDefinition, AllocError> {
+        let (description, name, arguments, locations) = copies_of_four(
+            &self.description,
+            &self.name,
+            &self.arguments,
+            &self.locations,
+        )?;
         Ok(DirectiveDefinition {
-            description: self.description.clone()?,
-            name: self.name.clone()?,
-            arguments: self.arguments.clone()?,
+            description,
+            name,
+            arguments,
             repeatable: self.repeatable,
-            locations: self.locations.clone()?,
+            locations,
         })
     }
 }

@@ -7,7 +7,7 @@ ghost use Rattle.graphql_directives.specs.DirectiveQueries.{is_required_input, d
 use crate::argument_error::ArgumentByNameError;
 use crate::directive::DirectiveList;
 use graphql_literals::{Type, Value};
-use graphql_names::{Name, Node, NodeStr};
+use graphql_names::{Name, Node, NodeStr, copies_of_five};
 use std::alloc::AllocError;
 
 /// An argument of a field or directive, or a field of an input object (section 3.6.1 and 3.10).
@@ -47,12 +47,19 @@ impl Clone for InputValueDefinition {
     ghost is_clone = { λ v copy. input_value_tree copy ≡ input_value_tree v };
 
     fn clone(&self) -> Result<InputValueDefinition, AllocError> {
+        let (description, name, ty, default_value, directives) = copies_of_five(
+            &self.description,
+            &self.name,
+            &self.ty,
+            &self.default_value,
+            &self.directives,
+        )?;
         Ok(InputValueDefinition {
-            description: self.description.clone()?,
-            name: self.name.clone()?,
-            ty: self.ty.clone()?,
-            default_value: self.default_value.clone()?,
-            directives: self.directives.clone()?,
+            description,
+            name,
+            ty,
+            default_value,
+            directives,
         })
     }
 }

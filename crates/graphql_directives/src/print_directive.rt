@@ -34,6 +34,7 @@ fn put_further_arguments<S: Sink>(sink: &mut S, arguments: &[Node<Argument>])
     }
 }
 
+/// Arguments within parentheses. Public for the printers of the crates above.
 pub fn put_arguments<S: Sink>(sink: &mut S, arguments: &[Node<Argument>])
     ensures { S.puts sink.old (arguments_text (map (node_tree argument_tree) arguments.now)) sink.new }
 {
@@ -71,7 +72,7 @@ fn put_further_directives<S: Sink>(sink: &mut S, directives: &[Node<Directive>])
     }
 }
 
-/// Directives behind something else.
+/// Directives behind something else. Public for the printers of the crates above.
 pub fn put_directives<S: Sink>(sink: &mut S, directives: &DirectiveList)
     ensures { S.puts sink.old (directives_text (directives_tree directives.now)) sink.new }
 {

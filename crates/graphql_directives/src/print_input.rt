@@ -101,7 +101,7 @@ fn put_input_member<S: Sink>(
     put_input_value(sink, prefix, level, input);
 }
 
-/// Input values, each on a line of its own.
+/// Input values, each on a line of its own. Public for the printers of the crates above.
 pub fn put_input_members<S: Sink>(
     sink: &mut S,
     prefix: Option<&str>,
@@ -129,7 +129,7 @@ fn put_arguments_on_lines<S: Sink>(
     sink.put(")");
 }
 
-/// The definitions of arguments, within parentheses.
+/// The definitions of arguments, within parentheses. Public for the printers of the crates above.
 pub fn put_argument_definitions<S: Sink>(
     sink: &mut S,
     prefix: Option<&str>,
@@ -162,27 +162,7 @@ fn put_repeatable<S: Sink>(sink: &mut S, repeatable: bool)
 fn put_location<S: Sink>(sink: &mut S, location: DirectiveLocation)
     ensures { S.puts sink.old (location_keyword location) sink.new }
 {
-    sink.put(match location {
-        DirectiveLocation::Query => "QUERY",
-        DirectiveLocation::Mutation => "MUTATION",
-        DirectiveLocation::Subscription => "SUBSCRIPTION",
-        DirectiveLocation::Field => "FIELD",
-        DirectiveLocation::FragmentDefinition => "FRAGMENT_DEFINITION",
-        DirectiveLocation::FragmentSpread => "FRAGMENT_SPREAD",
-        DirectiveLocation::InlineFragment => "INLINE_FRAGMENT",
-        DirectiveLocation::VariableDefinition => "VARIABLE_DEFINITION",
-        DirectiveLocation::Schema => "SCHEMA",
-        DirectiveLocation::Scalar => "SCALAR",
-        DirectiveLocation::Object => "OBJECT",
-        DirectiveLocation::FieldDefinition => "FIELD_DEFINITION",
-        DirectiveLocation::ArgumentDefinition => "ARGUMENT_DEFINITION",
-        DirectiveLocation::Interface => "INTERFACE",
-        DirectiveLocation::Union => "UNION",
-        DirectiveLocation::Enum => "ENUM",
-        DirectiveLocation::EnumValue => "ENUM_VALUE",
-        DirectiveLocation::InputObject => "INPUT_OBJECT",
-        DirectiveLocation::InputFieldDefinition => "INPUT_FIELD_DEFINITION",
-    });
+    sink.put(location.name());
 }
 
 fn put_next_location<S: Sink>(sink: &mut S, location: DirectiveLocation)
@@ -228,6 +208,7 @@ fn put_undescribed_directive<S: Sink>(
     put_locations(sink, &definition.locations);
 }
 
+/// The definition of a directive. Public for the printers of the crates above.
 pub fn put_directive_definition<S: Sink>(
     sink: &mut S,
     prefix: Option<&str>,

@@ -3,7 +3,7 @@ ghost use Rattle.std.specs.Prelude.{◌≡◌, ◌≤◌, ◌<◌, ◌+◌, IfOk
 ghost use Rattle.std.specs.Io.{ReadsAtMost, WritesAtMost};
 ghost use Rattle.std.specs.IoError.{error_kind};
 ghost use Rattle.std.specs.Io.KnownBytes.{ReadConsumes, WriteAppends};
-ghost use Rattle.graphql_names.specs.Cut.{cut_inner, cut_most, cut_left, cut_ending, ending_kind, EndsWrite, KeepsCut};
+ghost use Rattle.graphql_names.specs.Cut.{cut_inner, cut_most, cut_left, cut_ending, cut_calls, ending_kind, left_after, count_after, EndsWrite, KeepsCut};
 
 use crate::cut::{Cut, Ending};
 use std::io;
@@ -17,21 +17,39 @@ impl<D> Cut<D> {
         ensures most { cut_most result ≡ most }
         ensures left { cut_left result ≡ total }
         ensures ending { cut_ending result ≡ ending }
+        ensures calls { cut_calls result ≡ 0 }
     {
         Cut {
             inner,
             most,
             left: total,
             ending,
+            calls: 0,
         }
     }
 
-    /// The error of its ending.
-    fn error(&self) -> Error
-        ensures { error_kind result ≡ ending_kind (cut_ending self.now) }
+    /// How many calls of `read` and `write` were made, up to the largest number.
+    pub fn calls(&self) -> usize
+        ensures { result ≡ cut_calls self.now }
+    {
+        self.calls
+    }
+
+    /// The error of its ending, once its bytes are used up. Where that fails once, bytes are left again.
+    fn fail(&mut self) -> Error
+        requires { cut_left self.old ≡ 0 }
+        ensures kind { error_kind result ≡ ending_kind (cut_ending self.old) }
+        ensures inner { cut_inner self.new ≡ cut_inner self.old }
+        ensures left { cut_left self.new ≡ left_after (cut_ending self.old) (cut_left self.old) }
+        ensures calls { cut_calls self.new ≡ cut_calls self.old }
+        ensures same { KeepsCut self.old self.new }
     {
         match self.ending {
             Ending::Fails(kind) => Error::new(kind, "cut"),
+            Ending::FailsOnce(kind) => {
+                self.left = usize::MAX;
+                Error::new(kind, "cut")
+            }
             Ending::TakesNothing => Error::new(ErrorKind::Other, "cut"),
         }
     }
@@ -57,13 +75,15 @@ impl<R: Read> Read for Cut<R> {
             (R.remaining (cut_inner self.new)) result buf.new }
         ensures most { IfOk result (λ n. n ≤ cut_most self.old) }
         ensures counted { IfOk result (λ n. cut_left self.new + n ≡ cut_left self.old) }
-        ensures kept { OnErr result (cut_left self.new ≡ cut_left self.old) }
+        ensures kept { OnErr result (cut_left self.new ≡ left_after (cut_ending self.old) (cut_left self.old)) }
         ensures over { cut_left self.old ≡ 0
             → IsErrAnd result (λ e. error_kind e ≡ ending_kind (cut_ending self.old)) }
+        ensures calls { cut_calls self.new ≡ count_after (cut_calls self.old) }
         ensures same { KeepsCut self.old self.new }
     {
+        self.calls = self.calls.saturating_add(1);
         if self.left == 0 {
-            return Err(self.error());
+            return Err(self.fail());
         }
         let share = self.share(buf.len());
         let n = self.inner.read(&mut buf[..share])?;
@@ -82,14 +102,16 @@ impl<W: Write> Write for Cut<W> {
             (W.contents (cut_inner self.new)) result buf.now }
         ensures most { IfOk result (λ n. n ≤ cut_most self.old) }
         ensures counted { IfOk result (λ n. cut_left self.new + n ≡ cut_left self.old) }
-        ensures kept { OnErr result (cut_left self.new ≡ cut_left self.old) }
+        ensures kept { OnErr result (cut_left self.new ≡ left_after (cut_ending self.old) (cut_left self.old)) }
         ensures over { cut_left self.old ≡ 0 → EndsWrite (cut_ending self.old) result }
+        ensures calls { cut_calls self.new ≡ count_after (cut_calls self.old) }
         ensures same { KeepsCut self.old self.new }
     {
+        self.calls = self.calls.saturating_add(1);
         if self.left == 0 {
             return match self.ending {
-                Ending::Fails(_) => Err(self.error()),
                 Ending::TakesNothing => Ok(0),
+                Ending::Fails(_) | Ending::FailsOnce(_) => Err(self.fail()),
             };
         }
         let share = self.share(buf.len());

@@ -227,3 +227,29 @@ fn keeps_a_failure(rt: HostRuntime) -> Result<(), Fail> {
     assert!(rt; device.failed());
     Ok(())
 }
+
+/// Two calls that a device passes on are two calls, the first of which was interrupted.
+fn two_calls(rt: HostRuntime, first: bool, second: bool, failed: bool, calls: usize) {
+    assert!(rt; first && second && failed && calls == 2);
+}
+
+#[test]
+fn passes_one_call_on(rt: HostRuntime) {
+    let ending = Ending::FailsOnce(ErrorKind::Interrupted);
+    let mut reader = Cut::new(&b"ab"[..], 1, 0, ending);
+    let mut device = Device::new(&mut reader);
+    let mut chunk = [0u8; 4];
+    let first = device.read(&mut chunk).is_err();
+    let second = device.read(&mut chunk).is_ok_and(|n| n == 1);
+    let failed = device.failed();
+    drop(device);
+    two_calls(rt, first, second, failed, reader.calls());
+    let mut written = Vec::new(rt.alloc());
+    let mut writer = Cut::new(&mut written, 1, 0, ending);
+    let mut device = Device::new(&mut writer);
+    let first = device.write(b"ab").is_err();
+    let second = device.write(b"ab").is_ok_and(|n| n == 1);
+    let failed = device.failed();
+    drop(device);
+    two_calls(rt, first, second, failed, writer.calls());
+}

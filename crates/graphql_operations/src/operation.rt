@@ -6,7 +6,7 @@ ghost use Rattle.graphql_operations.specs.OperationTree.{variable_definition_tre
 use crate::selection::Selection;
 use graphql_directives::{DirectiveList, DirectiveLocation};
 use graphql_literals::{NamedType, Type, Value};
-use graphql_names::{Name, Node};
+use graphql_names::{Name, Node, copies_of_four};
 use std::alloc::AllocError;
 use std::fmt;
 
@@ -116,11 +116,17 @@ impl Clone for VariableDefinition {
     ghost is_clone = { λ v copy. variable_definition_tree copy ≡ variable_definition_tree v };
 
     fn clone(&self) -> Result<VariableDefinition, AllocError> {
+        let (name, ty, default_value, directives) = copies_of_four(
+            &self.name,
+            &self.ty,
+            &self.default_value,
+            &self.directives,
+        )?;
         Ok(VariableDefinition {
-            name: self.name.clone()?,
-            ty: self.ty.clone()?,
-            default_value: self.default_value.clone()?,
-            directives: self.directives.clone()?,
+            name,
+            ty,
+            default_value,
+            directives,
         })
     }
 }
@@ -129,12 +135,18 @@ impl Clone for OperationDefinition {
     ghost is_clone = { λ o copy. operation_tree copy ≡ operation_tree o };
 
     fn clone(&self) -> Result<OperationDefinition, AllocError> {
+        let (name, variables, directives, selection_set) = copies_of_four(
+            &self.name,
+            &self.variables,
+            &self.directives,
+            &self.selection_set,
+        )?;
         Ok(OperationDefinition {
             operation_type: self.operation_type,
-            name: self.name.clone()?,
-            variables: self.variables.clone()?,
-            directives: self.directives.clone()?,
-            selection_set: self.selection_set.clone()?,
+            name,
+            variables,
+            directives,
+            selection_set,
         })
     }
 }
@@ -143,11 +155,17 @@ impl Clone for FragmentDefinition {
     ghost is_clone = { λ f copy. fragment_tree copy ≡ fragment_tree f };
 
     fn clone(&self) -> Result<FragmentDefinition, AllocError> {
+        let (name, type_condition, directives, selection_set) = copies_of_four(
+            &self.name,
+            &self.type_condition,
+            &self.directives,
+            &self.selection_set,
+        )?;
         Ok(FragmentDefinition {
-            name: self.name.clone()?,
-            type_condition: self.type_condition.clone()?,
-            directives: self.directives.clone()?,
-            selection_set: self.selection_set.clone()?,
+            name,
+            type_condition,
+            directives,
+            selection_set,
         })
     }
 }

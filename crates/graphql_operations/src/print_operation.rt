@@ -133,7 +133,7 @@ pub fn put_inline<S: Sink>(
 }
 
 #[cycle(selections)]
-#[tactic(auto, using(crate::proofs::Trees::selection_tree_rules))]
+#[tactic(auto, using(crate::proofs::SelectionTrees::selection_tree_rules))]
 pub fn put_selection<S: Sink>(
     sink: &mut S,
     prefix: Option<&str>,
@@ -149,7 +149,7 @@ pub fn put_selection<S: Sink>(
     }
 }
 
-/// The keyword of an operation.
+/// The keyword of an operation. Public for the printers of the crates above.
 pub fn put_keyword<S: Sink>(sink: &mut S, operation: OperationType)
     ensures { S.puts sink.old (operation_keyword operation) sink.new }
 {
@@ -242,7 +242,7 @@ fn is_bare_query(operation: &OperationDefinition) -> bool
     }
 }
 
-/// An operation. `at_start` says whether nothing stands before it.
+/// An operation. `at_start` says whether nothing stands before it. Public for the printers of the crates above.
 pub fn put_operation<S: Sink>(
     sink: &mut S,
     prefix: Option<&str>,
@@ -268,7 +268,7 @@ fn is_outermost(level: &Level) -> bool
     }
 }
 
-/// Whether no byte stands before what begins a whole text.
+/// Whether no byte stands before what begins a whole text. Public for the printers of the crates above.
 pub fn begins_output(prefix: Option<&str>, level: &Level) -> bool
     ensures { result ≡ begins_output (option_copied prefix.entry) (level_depth level.now) }
 {
@@ -278,6 +278,7 @@ pub fn begins_output(prefix: Option<&str>, level: &Level) -> bool
     }
 }
 
+/// The definition of a fragment. Public for the printers of the crates above.
 pub fn put_fragment<S: Sink>(
     sink: &mut S,
     prefix: Option<&str>,

@@ -7,7 +7,7 @@ ghost use Rattle.graphql_operations.specs.SelectionParts.{field_head, field_tree
 
 use graphql_directives::{Argument, DirectiveList};
 use graphql_literals::NamedType;
-use graphql_names::{Name, Node, SourceSpan};
+use graphql_names::{Name, Node, SourceSpan, copies_of_five, copies_of_three};
 use std::alloc::AllocError;
 
 /// What a selection set holds (section 2.4).
@@ -46,7 +46,7 @@ pub struct InlineFragment {
     pub selection_set: Vec<Selection>,
 }
 
-#[tactic(auto, using(crate::proofs::Trees::selection_tree_rules))]
+#[tactic(auto, using(crate::proofs::SelectionTrees::selection_tree_rules))]
 impl Selection {
     /// Where the selection was read, if it was.
     pub fn location(&self) -> Option<SourceSpan>
@@ -105,7 +105,7 @@ impl Field {
 impl From<Node<Field>> for Selection {
     ghost from_gives = { λ n s. selection_tree s ≡ field_node_tree n };
 
-    #[tactic(auto, using(crate::proofs::Trees::selection_tree_rules))]
+    #[tactic(auto, using(crate::proofs::SelectionTrees::selection_tree_rules))]
     fn from(node: Node<Field>) -> Selection {
         Selection::Field(node)
     }
@@ -114,7 +114,7 @@ impl From<Node<Field>> for Selection {
 impl From<Node<FragmentSpread>> for Selection {
     ghost from_gives = { λ n s. selection_tree s ≡ spread_node_tree n };
 
-    #[tactic(auto, using(crate::proofs::Trees::selection_tree_rules))]
+    #[tactic(auto, using(crate::proofs::SelectionTrees::selection_tree_rules))]
     fn from(node: Node<FragmentSpread>) -> Selection {
         Selection::FragmentSpread(node)
     }
@@ -123,7 +123,7 @@ impl From<Node<FragmentSpread>> for Selection {
 impl From<Node<InlineFragment>> for Selection {
     ghost from_gives = { λ n s. selection_tree s ≡ inline_node_tree n };
 
-    #[tactic(auto, using(crate::proofs::Trees::selection_tree_rules))]
+    #[tactic(auto, using(crate::proofs::SelectionTrees::selection_tree_rules))]
     fn from(node: Node<InlineFragment>) -> Selection {
         Selection::InlineFragment(node)
     }
@@ -132,7 +132,7 @@ impl From<Node<InlineFragment>> for Selection {
 impl Clone for Selection {
     ghost is_clone = { λ s copy. selection_tree copy ≡ selection_tree s };
 
-    #[tactic(auto, using(crate::proofs::Trees::selection_tree_rules))]
+    #[tactic(auto, using(crate::proofs::SelectionTrees::selection_tree_rules))]
     fn clone(&self) -> Result<Selection, AllocError> {
         match self {
             Selection::Field(node) => Ok(Selection::Field(node.clone()?)),
@@ -146,12 +146,19 @@ impl Clone for Field {
     ghost is_clone = { λ f copy. field_tree None copy ≡ field_tree None f };
 
     fn clone(&self) -> Result<Field, AllocError> {
+        let (alias, name, arguments, directives, selection_set) = copies_of_five(
+            &self.alias,
+            &self.name,
+            &self.arguments,
+            &self.directives,
+            &self.selection_set,
+        )?;
         Ok(Field {
-            alias: self.alias.clone()?,
-            name: self.name.clone()?,
-            arguments: self.arguments.clone()?,
-            directives: self.directives.clone()?,
-            selection_set: self.selection_set.clone()?,
+            alias,
+            name,
+            arguments,
+            directives,
+            selection_set,
         })
     }
 }
@@ -171,10 +178,15 @@ impl Clone for InlineFragment {
     ghost is_clone = { λ f copy. inline_tree None copy ≡ inline_tree None f };
 
     fn clone(&self) -> Result<InlineFragment, AllocError> {
+        let (type_condition, directives, selection_set) = copies_of_three(
+            &self.type_condition,
+            &self.directives,
+            &self.selection_set,
+        )?;
         Ok(InlineFragment {
-            type_condition: self.type_condition.clone()?,
-            directives: self.directives.clone()?,
-            selection_set: self.selection_set.clone()?,
+            type_condition,
+            directives,
+            selection_set,
         })
     }
 }

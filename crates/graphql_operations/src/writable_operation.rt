@@ -42,7 +42,7 @@ fn selections_are_writable(selections: &[Selection]) -> bool
 }
 
 #[cycle(writable_selections)]
-#[tactic(auto, using(crate::proofs::Trees::selection_tree_rules))]
+#[tactic(auto, using(crate::proofs::SelectionTrees::selection_tree_rules))]
 fn selection_is_writable(selection: &Selection) -> bool
     ensures { result ≡ selection_writable (selection_tree selection.now) }
 {

@@ -161,7 +161,7 @@ fn put_description_string<S: Sink>(sink: &mut S, prefix: Option<&str>, level: &L
     }
 }
 
-/// A description, before what it describes.
+/// A description, before what it describes. Public for the printers of the crates above.
 pub fn put_description<S: Sink>(
     sink: &mut S,
     prefix: Option<&str>,

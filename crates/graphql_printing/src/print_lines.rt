@@ -35,7 +35,7 @@ pub fn put_line_start<S: Sink>(sink: &mut S, prefix: &str, level: &Level)
     }
 }
 
-/// What stands before the first line of a whole text.
+/// What stands before the first line of a whole text. Public for the printers of the crates above.
 pub fn put_start<S: Sink>(sink: &mut S, prefix: Option<&str>, level: &Level)
     ensures { S.puts sink.old (start_text (option_copied prefix.entry) (level_depth level.now)) sink.new }
 {
@@ -45,7 +45,7 @@ pub fn put_start<S: Sink>(sink: &mut S, prefix: Option<&str>, level: &Level)
     }
 }
 
-/// A new line; a space where all stands on one line.
+/// A new line; a space where all stands on one line. Public for the printers of the crates above.
 pub fn put_break<S: Sink>(sink: &mut S, prefix: Option<&str>, level: &Level)
     ensures { S.puts sink.old (break_text (option_copied prefix.entry) (level_depth level.now)) sink.new }
 {

@@ -30,7 +30,6 @@ pub fn assignable_types_are_ordered(a: &Type, b: &Type, c: &Type)
 {}
 
 /// `try_to_i32` gives back what `from_i32` took.
-#[tactic(auto, using(crate::proofs::IntegerText::integer_text_rules))]
 pub fn integers_come_back(alloc: Global, number: i32) -> Result<Option<i32>, AllocError>
     ensures { IfOk result (λ back. back ≡ Some number) }
 {

@@ -5,6 +5,6 @@ use Rattle.graphql_directives.proofs.directive.DirectiveDefinitionClone.clone.Go
 
 pub returns : goal.returns
 returns c =
-    let arguments = nodes-copies input_value_tree _ _ c.in_ok-clone-3.ensures.cases.0 in
-    let locations = equal-copies _ _ c.in_ok-clone-4.ensures.cases.0 in
+    let arguments = nodes-copies input_value_tree _ _ c.in_ok-description.ensures.2.0 in
+    let locations = equal-copies _ _ c.in_ok-description.ensures.3.0 in
     search (rules, arguments, locations)

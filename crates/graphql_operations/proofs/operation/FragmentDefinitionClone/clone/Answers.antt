@@ -4,5 +4,5 @@ use Rattle.graphql_operations.proofs.operation.FragmentDefinitionClone.clone.Goa
 
 pub returns : goal.returns
 returns c =
-    let selections = selection_trees-copies _ _ c.in_ok-clone-4.ensures.cases.0 in
+    let selections = selection_trees-copies _ _ c.in_ok-name.ensures.3.0 in
     search (rules, selections)

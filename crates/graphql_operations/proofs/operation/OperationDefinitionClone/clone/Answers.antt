@@ -6,7 +6,7 @@ use Rattle.graphql_operations.proofs.operation.OperationDefinitionClone.clone.Go
 
 pub returns : goal.returns
 returns c =
-    let variables = nodes-copies variable_definition_tree _ _ c.in_ok-clone-2.ensures.cases.0 in
-    let selections = selection_trees-copies _ _ c.in_ok-clone-4.ensures.cases.0 in
-    let name = c.in_ok-clone.ensures.cases in
+    let variables = nodes-copies variable_definition_tree _ _ c.in_ok-name.ensures.1.0 in
+    let selections = selection_trees-copies _ _ c.in_ok-name.ensures.3.0 in
+    let name = c.in_ok-name.ensures.0 in
     search (rules, variables, selections)

@@ -6,7 +6,7 @@ use Rattle.graphql_operations.proofs.selection.FieldClone.clone.Goals as goal
 
 pub returns : goal.returns
 returns c =
-    let arguments = nodes-copies argument_tree _ _ c.in_ok-clone-3.ensures.cases.0 in
-    let selections = selection_trees-copies _ _ c.in_ok-clone-5.ensures.cases.0 in
-    let name = c.in_ok-clone.ensures.cases in
+    let arguments = nodes-copies argument_tree _ _ c.in_ok-alias.ensures.2.0 in
+    let selections = selection_trees-copies _ _ c.in_ok-alias.ensures.4.0 in
+    let name = c.in_ok-alias.ensures.0 in
     search (rules, arguments, selections)

@@ -4,6 +4,6 @@ use Rattle.graphql_operations.proofs.selection.InlineFragmentClone.clone.Goals a
 
 pub returns : goal.returns
 returns c =
-    let selections = selection_trees-copies _ _ c.in_ok-clone-3.ensures.cases.0 in
-    let condition = c.in_ok-clone.ensures.cases in
+    let selections = selection_trees-copies _ _ c.in_ok-type_condition.ensures.2.0 in
+    let condition = c.in_ok-type_condition.ensures.0 in
     search (rules, selections)

@@ -1,0 +1,53 @@
+//! Copies of several things at once: for the clones of the crates above, in which few values then live across a `?`.
+ghost use Rattle.std.specs.Prelude.{IfOk};
+
+use std::alloc::AllocError;
+
+/// Copies of two things, or the allocator's error.
+pub fn copies_of_two<A: Clone, B: Clone>(a: &A, b: &B) -> Result<(A, B), AllocError>
+    ensures { IfOk result (λ copies. A.is_clone a.now copies.0 × B.is_clone b.now copies.1) }
+{
+    Ok((a.clone()?, b.clone()?))
+}
+
+/// Copies of three things, or the allocator's error.
+pub fn copies_of_three<A: Clone, B: Clone, C: Clone>(
+    a: &A,
+    b: &B,
+    c: &C,
+) -> Result<(A, B, C), AllocError>
+    ensures { IfOk result (λ copies. A.is_clone a.now copies.0 × B.is_clone b.now copies.1 × C.is_clone c.now copies.2) }
+{
+    let front = copies_of_two(a, b)?;
+    let last = c.clone()?;
+    Ok((front.0, front.1, last))
+}
+
+/// Copies of four things, or the allocator's error.
+pub fn copies_of_four<A: Clone, B: Clone, C: Clone, D: Clone>(
+    a: &A,
+    b: &B,
+    c: &C,
+    d: &D,
+) -> Result<(A, B, C, D), AllocError>
+    ensures { IfOk result (λ copies. A.is_clone a.now copies.0 × B.is_clone b.now copies.1 × C.is_clone c.now copies.2 × D.is_clone d.now copies.3) }
+{
+    let front = copies_of_two(a, b)?;
+    let back = copies_of_two(c, d)?;
+    Ok((front.0, front.1, back.0, back.1))
+}
+
+/// Copies of five things, or the allocator's error.
+pub fn copies_of_five<A: Clone, B: Clone, C: Clone, D: Clone, E: Clone>(
+    a: &A,
+    b: &B,
+    c: &C,
+    d: &D,
+    e: &E,
+) -> Result<(A, B, C, D, E), AllocError>
+    ensures { IfOk result (λ copies. A.is_clone a.now copies.0 × B.is_clone b.now copies.1 × C.is_clone c.now copies.2 × D.is_clone d.now copies.3 × E.is_clone e.now copies.4) }
+{
+    let front = copies_of_two(a, b)?;
+    let back = copies_of_three(c, d, e)?;
+    Ok((front.0, front.1, back.0, back.1, back.2))
+}
