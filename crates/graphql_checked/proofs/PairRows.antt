@@ -183,6 +183,12 @@ offset_of_place (Some span) = span.offset
 apart : (a b : ℕ) → a < b → a ≡ b → ⊥
 apart a b less same = lt_irrefl b (subst (λ n. n < b) same less)
 
+not_nesting : (name : List ℕ) → TypeDefinitionCollision name ≡ Nesting → ⊥
+not_nesting name same = absurd cc
+
+not_spent : (name : List ℕ) → TypeDefinitionCollision name ≡ Spent → ⊥
+not_spent name same = absurd cc
+
 -- a fault at another place
 abbrev wrong : Fault
 wrong = record { place = at 1 0 21 (lit< tt); breach = TypeDefinitionCollision (codes "Query") }
@@ -193,7 +199,7 @@ wrong_place refused =
     let r = from_some (schema_tree 1 types) refl in
     let all = faults_in_order (definition_list (r.tree ∷ [])) in
     let right : Fault = get_or all 0 wrong in
-    let h = told_of_schema 500 types r all (wrong ∷ []) refl (within 500 1 types _ refl (lit≤ tt) (lit< tt)) refused wrong (Contains-first wrong [] wrong refl) (λ e. absurd cc) (λ e. absurd cc) in
+    let h = told_of_schema 500 types r all (wrong ∷ []) refl (within 500 1 types _ refl (lit≤ tt) (lit< tt)) refused wrong (Contains-first wrong [] wrong refl) (not_nesting (codes "Query")) (not_spent (codes "Query")) in
     apart 0 22 (lit< tt) (ap (λ f. offset_of_place f.place) (only right wrong h))
 
 -- one of two faults of the schema alone
