@@ -1,9 +1,8 @@
 -- Answers to pairs of texts, bytes and all, and lists of faults that no answer tells.
-use Rattle.std.proofs.Common.{inl, inr, ◌≡◌, ◌≢◌, ℕ, ◌+◌, ◌<◌, ◌≤◌, ◌^◌, Bool, true, false, not, ◌&&◌, ◌==◌, List, [], ◌∷◌, ◌++◌, length, map, codes, Option, Some, None, refl, sym, ap, subst, ◌∙◌, arith, lit<, lit≤}
+use Rattle.std.proofs.Common.{inl, inr, ◌≡◌, ◌≢◌, ℕ, ◌+◌, ◌<◌, ◌≤◌, ◌^◌, List, [], ◌∷◌, ◌++◌, length, map, get_or, codes, Some, None, refl, sym, ap, subst, ◌∙◌, arith, lit<, lit≤}
 use Rattle.std.specs.Prelude.{Contains, ◌↔◌, flat_map}
 use Rattle.std.specs.Fmt.{digits}
 use Rattle.std.proofs.Math.Nat.{lt_irrefl}
-use Rattle.graphql_names.specs.declared.span.SourceSpan.{SourceSpan}
 use Rattle.graphql_values.specs.Placed.{Place}
 use Rattle.graphql_values.specs.Joined.{joined}
 use Rattle.graphql_ast.specs.DefinitionTree.{DefinitionTree}
@@ -12,7 +11,7 @@ use Rattle.graphql_checked.specs.Lex.{Token, depth}
 use Rattle.graphql_checked.specs.Grammar.{DerivesSchema, DerivesDocument}
 use Rattle.graphql_checked.specs.Fold.{definition_list, fold}
 use Rattle.graphql_checked.specs.Out.{Out, OutDoc}
-use Rattle.graphql_checked.specs.Faults.{Breach, Fault, Nesting, Spent, TypeDefinitionCollision, ObjectFieldNameCollision, QueryRootOperationType, UndefinedField, FoldingFails, SchemaFails, DocumentFails}
+use Rattle.graphql_checked.specs.Faults.{Fault, Nesting, Spent, TypeDefinitionCollision, QueryRootOperationType, UndefinedField, FoldingFails, SchemaFails, DocumentFails}
 use Rattle.graphql_checked.specs.Judge.{JudgeSchemas}
 use Rattle.graphql_checked.specs.Answer.{fault_line, WithinBounds, RefusesSchemas, RefusesDocument, Answer}
 use Rattle.graphql_checked.specs.Layouts.{layout_text}
@@ -20,7 +19,7 @@ use Rattle.graphql_checked.specs.SchemaView.{kept_type}
 use Rattle.graphql_checked.specs.FaultList.{definition_faults, faults_in_order, no_root_faults, document_faults}
 use Rattle.graphql_checked.specs.Pieces.{step_at, token_at, ignored_at}
 use Rattle.graphql_checked.specs.declared.layout.Layout.TheVariants.{OneLine}
-use Rattle.graphql_checked.proofs.Places.{not_in_nil, only, Contains-first, Contains-rest}
+use Rattle.graphql_checked.proofs.Places.{not_in_nil, only, Contains-first}
 use Rattle.graphql_checked.proofs.Failing.{schema_faults, root_faults-kept}
 use Rattle.graphql_checked.proofs.Undefined.{document_all}
 use Rattle.graphql_checked.proofs.ReadTexts.{within_all}
@@ -146,70 +145,86 @@ types = codes "type Query { a: Int } type Query { b: Int }"
 
 types_refused : Answer (layout_text OneLine) 500 (types ∷ []) (codes "{ a }") (codes "refused\n1:22: `Query` is defined more than once\n")
 unfolding lex_text lex_front pieces_within step_at token_at ignored_at digits
-types_refused = schema_refused 500 types (from_some (schema_tree 1 types) refl) (codes "{ a }") (record { place = at 1 22 21 (lit< tt); breach = TypeDefinitionCollision (codes "Query") } ∷ [])
-    (codes "refused\n1:22: `Query` is defined more than once\n") refl (λ e. absurd cc) (within 500 1 types _ refl (lit≤ tt) (lit< tt)) refl
+types_refused = schema_refused 500 types (from_some (schema_tree 1 types) refl) (codes "{ a }") _ (codes "refused\n1:22: `Query` is defined more than once\n") refl
+    (λ e. let l : 1 ≡ 0 = ap length e in absurd cc) (within 500 1 types _ refl (lit≤ tt) (lit< tt)) refl
 
 -- a field twice, and no query root: two faults
 abbrev fields : List ℕ
 fields = codes "type T { a: Int a: ID }"
-
-abbrev field_fault : Fault
-field_fault = record { place = at 1 16 5 (lit< tt); breach = ObjectFieldNameCollision (codes "T") (codes "a") }
 
 abbrev root_fault : Fault
 root_fault = record { place = None; breach = QueryRootOperationType }
 
 fields_refused : Answer (layout_text OneLine) 500 (fields ∷ []) (codes "{ a }") (codes "refused\n1:16: `T` has `a` more than once\n-: missing query root operation type in schema definition\n")
 unfolding lex_text lex_front pieces_within step_at token_at ignored_at digits
-fields_refused = schema_refused 500 fields (from_some (schema_tree 1 fields) refl) (codes "{ a }") (field_fault ∷ root_fault ∷ [])
-    (codes "refused\n1:16: `T` has `a` more than once\n-: missing query root operation type in schema definition\n") refl (λ e. absurd cc) (within 500 1 fields _ refl (lit≤ tt) (lit< tt)) refl
+fields_refused = schema_refused 500 fields (from_some (schema_tree 1 fields) refl) (codes "{ a }") _
+    (codes "refused\n1:16: `T` has `a` more than once\n-: missing query root operation type in schema definition\n") refl
+    (λ e. let l : 2 ≡ 0 = ap length e in absurd cc) (within 500 1 fields _ refl (lit≤ tt) (lit< tt)) refl
 
 -- two fields that are missing
 abbrev query : List ℕ
 query = codes "type Query { field: Int }"
 
-abbrev missing : Fault
-missing = record { place = at 2 2 7 (lit< tt); breach = UndefinedField (codes "Query") (codes "missing") }
+abbrev two_fields : List ℕ
+two_fields = codes "{ missing other }"
 
-abbrev other : Fault
-other = record { place = at 2 10 5 (lit< tt); breach = UndefinedField (codes "Query") (codes "other") }
-
-document_is_refused : Answer (layout_text OneLine) 500 (query ∷ []) (codes "{ missing other }") (codes "refused\n2:2: `Query` has no field `missing`\n2:10: `Query` has no field `other`\n")
+document_is_refused : Answer (layout_text OneLine) 500 (query ∷ []) two_fields (codes "refused\n2:2: `Query` has no field `missing`\n2:10: `Query` has no field `other`\n")
 unfolding lex_text lex_front pieces_within step_at token_at ignored_at digits
-document_is_refused = document_refused 500 query (from_some (schema_tree 1 query) refl) (codes "{ missing other }") (from_some (document_tree 2 (codes "{ missing other }")) refl) refl
-    (within 500 1 query _ refl (lit≤ tt) (lit< tt)) (within 500 2 (codes "{ missing other }") _ refl (lit≤ tt) (lit< tt)) (missing ∷ other ∷ [])
-    (codes "refused\n2:2: `Query` has no field `missing`\n2:10: `Query` has no field `other`\n") refl (λ e. absurd cc) refl
+document_is_refused = document_refused 500 query (from_some (schema_tree 1 query) refl) two_fields (from_some (document_tree 2 two_fields) refl) refl
+    (within 500 1 query _ refl (lit≤ tt) (lit< tt)) (within 500 2 two_fields _ refl (lit≤ tt) (lit< tt)) _
+    (codes "refused\n2:2: `Query` has no field `missing`\n2:10: `Query` has no field `other`\n") refl (λ e. let l : 2 ≡ 0 = ap length e in absurd cc) refl
 
 -- ---- lists that are not told
 
-offset_of_place : Place → ℕ
+abbrev offset_of_place : Place → ℕ
 offset_of_place None = 0
 offset_of_place (Some span) = span.offset
 
+apart : (a b : ℕ) → a < b → a ≡ b → ⊥
+apart a b less same = lt_irrefl b (subst (λ n. n < b) same less)
+
+not_nesting : (name : List ℕ) → TypeDefinitionCollision name ≡ Nesting → ⊥
+not_nesting name same = absurd cc
+
+not_spent : (name : List ℕ) → TypeDefinitionCollision name ≡ Spent → ⊥
+not_spent name same = absurd cc
+
 -- a fault at another place
-wrong_place : RefusesSchemas 500 (types ∷ []) (record { place = at 1 0 21 (lit< tt); breach = TypeDefinitionCollision (codes "Query") } ∷ []) → ⊥
+abbrev wrong : Fault
+wrong = record { place = at 1 0 21 (lit< tt); breach = TypeDefinitionCollision (codes "Query") }
+
+wrong_place : RefusesSchemas 500 (types ∷ []) (wrong ∷ []) → ⊥
 unfolding lex_text lex_front pieces_within step_at token_at ignored_at
 wrong_place refused =
-    let wrong : Fault = record { place = at 1 0 21 (lit< tt); breach = TypeDefinitionCollision (codes "Query") } in
-    let right : Fault = record { place = at 1 22 21 (lit< tt); breach = TypeDefinitionCollision (codes "Query") } in
-    let h = told_of_schema 500 types (from_some (schema_tree 1 types) refl) (right ∷ []) (wrong ∷ []) refl (within 500 1 types _ refl (lit≤ tt) (lit< tt)) refused wrong (Contains-first wrong [] wrong refl) (λ e. absurd cc) (λ e. absurd cc) in
-    let e : 0 ≡ 22 = ap (λ f. offset_of_place f.place) (only right wrong h) in absurd cc
+    let r = from_some (schema_tree 1 types) refl in
+    let all = faults_in_order (definition_list (r.tree ∷ [])) in
+    let right : Fault = get_or all 0 wrong in
+    let h = told_of_schema 500 types r all (wrong ∷ []) refl (within 500 1 types _ refl (lit≤ tt) (lit< tt)) refused wrong (Contains-first wrong [] wrong refl) (not_nesting (codes "Query")) (not_spent (codes "Query")) in
+    apart 0 22 (lit< tt) (ap (λ f. offset_of_place f.place) (only right wrong h))
 
 -- one of two faults of the schema alone
 fault_missing : RefusesSchemas 500 (fields ∷ []) (root_fault ∷ []) → ⊥
 unfolding lex_text lex_front pieces_within step_at token_at ignored_at
-fault_missing refused = elim ((exact 500 fields (from_some (schema_tree 1 fields) refl) (field_fault ∷ root_fault ∷ []) refl field_fault).0 (Contains-first field_fault (root_fault ∷ []) field_fault refl)) [
-  | inl fails ↦
-      let h = full_of_schema 500 fields (from_some (schema_tree 1 fields) refl) (root_fault ∷ []) (within 500 1 fields _ refl (lit≤ tt) (lit< tt)) refused field_fault fails in
-      let e : 16 ≡ 0 = ap (λ f. offset_of_place f.place) (only root_fault field_fault h) in absurd cc
-  | inr (none, is) ↦ let e : 16 ≡ 0 = ap (λ f. offset_of_place f.place) is in absurd cc
-]
+fault_missing refused =
+    let r = from_some (schema_tree 1 fields) refl in
+    let lost : Fault = get_or (faults_in_order (definition_list (r.tree ∷ []))) 0 root_fault in
+    elim ((exact 500 fields r (faults_in_order (definition_list (r.tree ∷ []))) refl lost).0 (0, lit< tt, refl)) [
+      | inl fails ↦
+          let h = full_of_schema 500 fields r (root_fault ∷ []) (within 500 1 fields _ refl (lit≤ tt) (lit< tt)) refused lost fails in
+          apart 0 16 (lit< tt) (sym (ap (λ f. offset_of_place f.place) (only root_fault lost h)))
+      | inr none ↦ apart 0 16 (lit< tt) (sym (ap (λ f. offset_of_place f.place) none.1))
+    ]
 
 -- one of two faults of the document alone
-document_fault_missing : RefusesDocument 500 (query ∷ []) (codes "{ missing other }") (missing ∷ []) → ⊥
+abbrev missing : Fault
+missing = record { place = at 2 2 7 (lit< tt); breach = UndefinedField (codes "Query") (codes "missing") }
+
+document_fault_missing : RefusesDocument 500 (query ∷ []) two_fields (missing ∷ []) → ⊥
 unfolding lex_text lex_front pieces_within step_at token_at ignored_at
 document_fault_missing refused =
-    let h = full_of_document 500 query (from_some (schema_tree 1 query) refl) (codes "{ missing other }") (from_some (document_tree 2 (codes "{ missing other }")) refl) refl
-    (within 500 1 query _ refl (lit≤ tt) (lit< tt)) (within 500 2 (codes "{ missing other }") _ refl (lit≤ tt) (lit< tt)) (missing ∷ other ∷ []) (missing ∷ []) refl refused other
-    (Contains-rest missing (other ∷ []) other (Contains-first other [] other refl)) in
-    let e : 10 ≡ 2 = ap (λ f. offset_of_place f.place) (only missing other h) in absurd cc
+    let r = from_some (schema_tree 1 query) refl in
+    let q = from_some (document_tree 2 two_fields) refl in
+    let all = document_faults (map kept_type (fold (definition_list (r.tree ∷ [])))) q.tree in
+    let lost : Fault = get_or all 1 missing in
+    let h = full_of_document 500 query r two_fields q refl (within 500 1 query _ refl (lit≤ tt) (lit< tt)) (within 500 2 two_fields _ refl (lit≤ tt) (lit< tt)) all (missing ∷ []) refl refused lost (1, lit< tt, refl) in
+    apart 2 10 (lit< tt) (sym (ap (λ f. offset_of_place f.place) (only missing lost h)))

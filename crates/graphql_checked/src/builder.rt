@@ -41,8 +41,7 @@ pub(crate) fn build(alloc: Global, document: &Document) -> Result<Built, AllocEr
         types: IndexMap::new(alloc),
     };
     let mut faults = DiagnosticList::new(alloc);
-    let built_in = built_in_definitions(alloc)?;
-    fold_definitions(alloc, &built_in, &mut schema, &mut faults)?;
+    fold_built_in(alloc, &mut schema, &mut faults)?;
     fold_definitions(alloc, &document.definitions, &mut schema, &mut faults)?;
     query_root_operation_type(&schema, &mut faults)?;
     Ok(Built { schema, faults })
@@ -56,6 +55,19 @@ fn query_root_operation_type(schema: &Schema, faults: &mut DiagnosticList) -> Re
         Some(_) => Ok(()),
         None => faults.push(None, Details::QueryRootOperationType),
     }
+}
+
+/// Folds what is built in behind the definitions before it.
+fn fold_built_in(
+    alloc: Global,
+    schema: &mut Schema,
+    faults: &mut DiagnosticList,
+) -> Result<(), AllocError>
+    ensures { OnOk result (FoldsOn built_in_definitions
+        schema.old (faults_of faults.old) schema.new (faults_of faults.new)) }
+{
+    let definitions = built_in_definitions(alloc)?;
+    fold_definitions(alloc, &definitions, schema, faults)
 }
 
 /// Folds definitions behind those before them.

@@ -19,7 +19,7 @@ use indexmap::IndexMap;
 use std::alloc::{AllocError, Global};
 
 /// What a text is to be.
-#[derive(Clone, Copy, Debug, PartialEq, Eq)]
+#[derive(Clone, Copy)]
 pub(crate) enum TextKind {
     Schema,
     Document,
