@@ -65,8 +65,10 @@ fn judge_file(rt: &HostRuntime, file: &str, text: &str, tally: &mut Tally) -> Re
 
 /// Reads the file and judges its rows. Where it is not as it must be, it tells that.
 fn open_file(rt: &HostRuntime, file: &str, tally: &mut Tally) -> Result<(), Problem> {
-    let text = fs::read_to_string(rt, file)?;
-    let judged = judge_file(rt, file, &text, tally);
+    let judged = match fs::read_to_string(rt, file) {
+        Ok(text) => judge_file(rt, file, &text, tally),
+        Err(failed) => Err(Problem::from(failed)),
+    };
     if let Err(problem) = judged {
         let line = problem.line();
         let what = problem.what();
