@@ -31,16 +31,19 @@ pub(crate) fn by_calls(
     document: &str,
     nesting: usize,
 ) -> Result<Answer, AllocError> {
-    let mut checker = Checker::new(alloc, Limits { nesting });
-    for text in schemas {
-        if let Err(refusal) = checker.add_schema(text) {
-            return refusal_answer(alloc, &refusal);
-        }
-    }
-    match checker.finish() {
+    match schema_of(alloc, schemas, nesting) {
         Ok(schema) => check_answer(alloc, &schema, document),
         Err(refusal) => refusal_answer(alloc, &refusal),
     }
+}
+
+/// The schema of the texts, by a checker.
+fn schema_of(alloc: Global, schemas: &[&str], nesting: usize) -> Result<CheckedSchema, Refusal> {
+    let mut checker = Checker::new(alloc, Limits { nesting });
+    for text in schemas {
+        checker.add_schema(text)?;
+    }
+    checker.finish()
 }
 
 /// The answer of a schema's `check`.

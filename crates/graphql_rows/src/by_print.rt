@@ -2,11 +2,11 @@
 
 ghost use Rattle.std.specs.Prelude.{◌≡◌, false};
 
-use crate::by_run::is_each;
 use crate::case::{Answer, Case, Tally, Way, compare};
-use crate::plan::{Plan, device, endings, whole};
+use crate::plan::{Plan, device, whole};
+use crate::plans::{compare_cut, plans};
 use crate::problem::Problem;
-use crate::settings::{number, numbers};
+use crate::settings::number;
 use crate::trees::{Shape, tree_named};
 use graphql_ast::{Cause, Serialize, Tree, WriteFault};
 use std::alloc::{AllocError, Global};
@@ -60,45 +60,48 @@ fn tree_of(alloc: Global, case: Case<'_>) -> Result<Shape, Problem> {
 /// Judges the row: what is printed of its tree.
 pub(crate) fn by_print(rt: &HostRuntime, case: Case<'_>, tally: &mut Tally) -> Result<(), Problem> {
     let form = form_of(case)?;
-    match tree_of(rt.alloc(), case)? {
-        Shape::Type(tree) => prints(rt, case, laid_out(&tree, form), tally),
-        Shape::Operation(tree) => prints(rt, case, laid_out(&tree, form), tally),
-        Shape::Fragment(tree) => prints(rt, case, laid_out(&tree, form), tally),
-        Shape::Directive(tree) => prints(rt, case, laid_out(&tree, form), tally),
-        Shape::Document(tree) => prints(rt, case, laid_out(&tree, form), tally),
+    let shape = tree_of(rt.alloc(), case)?;
+    match &shape {
+        Shape::Type(tree) => prints(rt, case, laid_out(tree, form), tally),
+        Shape::Operation(tree) => prints(rt, case, laid_out(tree, form), tally),
+        Shape::Fragment(tree) => prints(rt, case, laid_out(tree, form), tally),
+        Shape::Directive(tree) => prints(rt, case, laid_out(tree, form), tally),
+        Shape::Document(tree) => prints(rt, case, laid_out(tree, form), tally),
     }
 }
 
-/// The text by `Display`, where it comes to its end, and by `write_to` at each number of bytes a call and for
-/// each ending.
+/// The text by `Display`, and by `write_to` at each number of bytes a call and for each ending.
 fn prints<T: Tree>(
     rt: &HostRuntime,
     case: Case<'_>,
     layout: Serialize<'_, T>,
     tally: &mut Tally,
 ) -> Result<(), Problem> {
-    if case.status == "0" {
-        let answer = displayed(rt.alloc(), layout)?;
-        compare(
-            rt,
-            case,
-            way_of("print by Display", whole()),
-            &answer,
-            tally,
-        )?;
-    }
-    for step in numbers(rt.alloc(), case.row, "step", usize::MAX)? {
-        for ending in endings() {
-            let plan = Plan {
-                step,
-                write: case.out.len(),
-                ending,
-                ..whole()
-            };
-            writes(rt, case, layout, plan, tally)?;
-        }
+    displays(rt, case, layout, tally)?;
+    for plan in plans(rt.alloc(), case)? {
+        write_answer(rt, case, layout, plan, tally)?;
     }
     Ok(())
+}
+
+/// The text by `Display`, where it comes to its end.
+fn displays<T: Tree>(
+    rt: &HostRuntime,
+    case: Case<'_>,
+    layout: Serialize<'_, T>,
+    tally: &mut Tally,
+) -> Result<(), Problem> {
+    if case.status != "0" {
+        return Ok(());
+    }
+    let answer = displayed(rt.alloc(), layout)?;
+    compare(
+        rt,
+        case,
+        way_of("print by Display", whole()),
+        &answer,
+        tally,
+    )
 }
 
 /// The way of a print.
@@ -109,30 +112,6 @@ fn way_of(call: &str, plan: Plan) -> Way<'_> {
         nesting: 0,
         plan,
     }
-}
-
-/// The text by `write_to`, and where the writer ends at each of its bytes, if the row asks for it.
-fn writes<T: Tree>(
-    rt: &HostRuntime,
-    case: Case<'_>,
-    layout: Serialize<'_, T>,
-    plan: Plan,
-    tally: &mut Tally,
-) -> Result<(), Problem> {
-    write_answer(rt, case, layout, plan, tally)?;
-    if !is_each(case, "write")? {
-        return Ok(());
-    }
-    for write in 0..case.out.len() {
-        let status = format!(in rt.alloc(); "3 output failed {write}")?;
-        let wanted = Case {
-            status: status.as_str(),
-            out: case.out.get(..write).unwrap_or(&[]),
-            ..case
-        };
-        write_answer(rt, wanted, layout, Plan { write, ..plan }, tally)?;
-    }
-    Ok(())
 }
 
 /// The answer by this plan.
@@ -146,7 +125,7 @@ fn write_answer<T: Tree>(
     let mut out = Vec::new(rt.alloc());
     let status = written(rt.alloc(), layout, plan, &mut out)?;
     let answer = Answer { status, out };
-    compare(rt, case, way_of("print by write_to", plan), &answer, tally)
+    compare_cut(rt, case, way_of("print by write_to", plan), &answer, tally)
 }
 
 /// The text by `Display`.
@@ -187,14 +166,7 @@ pub(crate) fn by_writable(
     case: Case<'_>,
     tally: &mut Tally,
 ) -> Result<(), Problem> {
-    let writable = match tree_of(rt.alloc(), case)? {
-        Shape::Type(tree) => tree.is_writable(),
-        Shape::Operation(tree) => tree.is_writable(),
-        Shape::Fragment(tree) => tree.is_writable(),
-        Shape::Directive(tree) => tree.is_writable(),
-        Shape::Document(tree) => tree.is_writable(),
-    };
-    let status = if writable {
+    let status = if tree_of(rt.alloc(), case)?.is_writable() {
         "0 writable"
     } else {
         "1 not writable"

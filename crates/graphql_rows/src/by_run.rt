@@ -4,87 +4,57 @@ ghost use Rattle.std.specs.Prelude.{◌≡◌, false, All, IfOk};
 ghost use Rattle.graphql_names.specs.Device.{device_failed};
 
 use crate::by_texts::Texts;
-use crate::case::{Answer, Case, Tally, Way, compare};
-use crate::plan::{Plan, device, endings, reader, whole};
+use crate::case::{Answer, Case, Tally, Way};
+use crate::plan::{Plan, device, reader};
+use crate::plans::{compare_cut, is_each, plans};
 use crate::problem::Problem;
-use crate::settings::{number, numbers};
 use graphql_checked::{Layout, Limits, Outcome, RunFault, exit_status, run};
-use graphql_names::{Cut, Device, Ending};
+use graphql_names::{Cut, Device};
 use std::alloc::{AllocError, Global};
 
-/// Judges the row by `run`: at each of its numbers of bytes a call, and for each ending.
+/// Judges the row by `run`, by each of its plans.
 pub(crate) fn by_run(
     rt: &HostRuntime,
     case: Case<'_>,
     given: Texts<'_>,
     tally: &mut Tally,
 ) -> Result<(), Problem> {
-    let text = number(case.row, "behind", usize::MAX)?;
-    for step in numbers(rt.alloc(), case.row, "step", usize::MAX)? {
-        for ending in endings() {
-            let plan = Plan {
-                step,
-                text,
-                write: case.out.len(),
-                ending,
-                ..whole()
-            };
-            by_plan(rt, case, given, plan, tally)?;
+    for plan in plans(rt.alloc(), case)? {
+        run_answer(rt, case, given, plan, tally)?;
+        if is_each(case, "read")? && plan.write == case.out.len() {
+            readers_end(rt, case, given, plan, tally)?;
         }
     }
     Ok(())
 }
 
-/// The answer by this plan, and those where a device ends at each of its bytes, if the row asks for them.
-fn by_plan(
+/// The reader of each text ends after each number of bytes, and at its end: nothing is out.
+fn readers_end(
     rt: &HostRuntime,
     case: Case<'_>,
     given: Texts<'_>,
     plan: Plan,
     tally: &mut Tally,
 ) -> Result<(), Problem> {
-    run_answer(rt, case, given, plan, tally)?;
-    if is_each(case, "write")? {
-        writer_ends(rt, case, given, plan, tally)?;
-    }
-    if is_each(case, "read")? {
-        for text in 1..=given.schemas.len().saturating_add(1) {
-            reader_ends(rt, case, given, Plan { text, ..plan }, tally)?;
-        }
-    }
-    Ok(())
-}
-
-/// Whether a device of the row ends at each of its bytes.
-pub(crate) fn is_each(case: Case<'_>, name: &str) -> Result<bool, Problem> {
-    match case.row.one(name)? {
-        None => Ok(false),
-        Some(field) if field.value == "each" => Ok(true),
-        Some(field) => Err(field.problem("it says `each` or is not there")),
-    }
-}
-
-/// The writer ends after each number of bytes that is too small: so many are out.
-fn writer_ends(
-    rt: &HostRuntime,
-    case: Case<'_>,
-    given: Texts<'_>,
-    plan: Plan,
-    tally: &mut Tally,
-) -> Result<(), Problem> {
-    for write in 0..case.out.len() {
-        let status = format!(in rt.alloc(); "3 output failed {write}")?;
-        let wanted = Case {
-            status: status.as_str(),
-            out: case.out.get(..write).unwrap_or(&[]),
-            ..case
+    for text in 1..=given.schemas.len().saturating_add(1) {
+        let bytes = match given.schemas.get(text.saturating_sub(1)) {
+            Some(schema) => schema.len(),
+            None => given.document.len(),
         };
-        run_answer(rt, wanted, given, Plan { write, ..plan }, tally)?;
+        for read in 0..=bytes {
+            let plan = Plan {
+                text,
+                read,
+                write: 0,
+                ..plan
+            };
+            reader_ends(rt, case, given, plan, tally)?;
+        }
     }
     Ok(())
 }
 
-/// The reader of the plan's text ends after each number of bytes, and at its end: nothing is out.
+/// The reader of the plan's text ends.
 fn reader_ends(
     rt: &HostRuntime,
     case: Case<'_>,
@@ -99,19 +69,7 @@ fn reader_ends(
         out: &[],
         ..case
     };
-    let bytes = match given.schemas.get(text.saturating_sub(1)) {
-        Some(schema) => schema.len(),
-        None => given.document.len(),
-    };
-    for read in 0..=bytes {
-        let plan = Plan {
-            read,
-            write: 0,
-            ..plan
-        };
-        run_answer(rt, wanted, given, plan, tally)?;
-    }
-    Ok(())
+    run_answer(rt, wanted, given, plan, tally)
 }
 
 /// The answer by this plan.
@@ -129,7 +87,7 @@ fn run_answer(
         plan,
     };
     let answer = run_by(rt.alloc(), given, plan)?;
-    compare(rt, case, way, &answer, tally)
+    compare_cut(rt, case, way, &answer, tally)
 }
 
 /// What `run` answers by the plan.

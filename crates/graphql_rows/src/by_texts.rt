@@ -24,17 +24,29 @@ pub(crate) fn by_texts(
     tally: &mut Tally,
 ) -> Result<(), Problem> {
     let schemas = texts(rt.alloc(), case.row, "schema")?;
+    for nesting in numbers(rt.alloc(), case.row, "nesting", 500)? {
+        let given = Texts {
+            schemas: schemas.as_slice(),
+            document: &[],
+            nesting,
+        };
+        by_documents(rt, case, call, given, tally)?;
+    }
+    Ok(())
+}
+
+/// Judges each document of the row in the place of the one that is given.
+fn by_documents(
+    rt: &HostRuntime,
+    case: Case<'_>,
+    call: &str,
+    given: Texts<'_>,
+    tally: &mut Tally,
+) -> Result<(), Problem> {
     let documents = texts(rt.alloc(), case.row, "document")?;
-    let nestings = numbers(rt.alloc(), case.row, "nesting", 500)?;
     for document in &documents {
-        for nesting in &nestings {
-            let given = Texts {
-                schemas: schemas.as_slice(),
-                document: document.as_slice(),
-                nesting: *nesting,
-            };
-            by_call(rt, case, call, given, tally)?;
-        }
+        let document = document.as_slice();
+        by_call(rt, case, call, Texts { document, ..given }, tally)?;
     }
     Ok(())
 }

@@ -36,9 +36,11 @@ pub(crate) struct Tally {
     pub(crate) rows: u64,
     pub(crate) answers: u64,
     pub(crate) differences: u64,
+    /// Whether a difference of the row is told.
+    pub(crate) is_told: bool,
 }
 
-/// Counts the answer, and tells it where it is not as the row wants it.
+/// Counts the answer, and tells it where it is not as the row wants it: of a row the first such answer.
 pub(crate) fn compare(
     rt: &HostRuntime,
     case: Case<'_>,
@@ -51,6 +53,10 @@ pub(crate) fn compare(
         return Ok(());
     }
     tally.differences = tally.differences.saturating_add(1);
+    if tally.is_told {
+        return Ok(());
+    }
+    tally.is_told = true;
     tell_where(rt, case, way)?;
     tell_answer(rt, "wanted", case.status, case.out)?;
     tell_answer(rt, "got", answer.status.as_str(), answer.out.as_slice())
@@ -66,6 +72,11 @@ fn tell_where(rt: &HostRuntime, case: Case<'_>, way: Way<'_>) -> Result<(), Prob
     let nesting = way.nesting;
     let document = way.document.escape_ascii();
     println!(rt; "  {call}, nesting {nesting}, document `{document}`")?;
+    tell_plan(rt, way)
+}
+
+/// Tells where devices end.
+fn tell_plan(rt: &HostRuntime, way: Way<'_>) -> Result<(), Problem> {
     let step = way.plan.step;
     let text = way.plan.text;
     let read = way.plan.read;

@@ -9,6 +9,7 @@ mod by_texts;
 mod case;
 mod escape;
 mod plan;
+mod plans;
 mod problem;
 mod row_file;
 mod settings;
@@ -25,22 +26,28 @@ use std::process::ExitCode;
 
 /// Judges the row.
 fn judge_row(rt: &HostRuntime, file: &str, row: Row<'_>, tally: &mut Tally) -> Result<(), Problem> {
-    let call = call_of(row)?;
+    let status = row.needed("status")?.value;
     let out = output(rt.alloc(), row)?;
     let case = Case {
         file,
         row,
-        status: row.needed("status")?.value,
+        status,
         out: out.as_slice(),
     };
+    judge_case(rt, case, tally)
+}
+
+/// Judges what the row wants, which must be some answer.
+fn judge_case(rt: &HostRuntime, case: Case<'_>, tally: &mut Tally) -> Result<(), Problem> {
     let answers = tally.answers;
-    match call {
+    tally.is_told = false;
+    match call_of(case.row)? {
         "print" => by_print(rt, case, tally)?,
         "writable" => by_writable(rt, case, tally)?,
-        _ => by_texts(rt, case, call, tally)?,
+        call => by_texts(rt, case, call, tally)?,
     }
     if tally.answers == answers {
-        return Err(row.head.problem("the row asks for no answer"));
+        return Err(case.row.head.problem("the row asks for no answer"));
     }
     tally.rows = tally.rows.saturating_add(1);
     Ok(())
@@ -58,8 +65,10 @@ fn judge_file(rt: &HostRuntime, file: &str, text: &str, tally: &mut Tally) -> Re
 
 /// Reads the file and judges its rows. Where it is not as it must be, it tells that.
 fn open_file(rt: &HostRuntime, file: &str, tally: &mut Tally) -> Result<(), Problem> {
-    let text = fs::read_to_string(rt, file)?;
-    let judged = judge_file(rt, file, &text, tally);
+    let judged = match fs::read_to_string(rt, file) {
+        Ok(text) => judge_file(rt, file, &text, tally),
+        Err(failed) => Err(Problem::from(failed)),
+    };
     if let Err(problem) = judged {
         let line = problem.line();
         let what = problem.what();
@@ -83,6 +92,7 @@ fn judge(rt: &HostRuntime) -> Result<bool, Problem> {
         rows: 0,
         answers: 0,
         differences: 0,
+        is_told: false,
     };
     judge_files(rt, &mut tally)?;
     let Tally {
@@ -90,6 +100,7 @@ fn judge(rt: &HostRuntime) -> Result<bool, Problem> {
         rows,
         answers,
         differences,
+        ..
     } = tally;
     println!(rt; "{files} files, {rows} rows, {answers} answers, {differences} differences")?;
     Ok(rows > 0 && differences == 0)

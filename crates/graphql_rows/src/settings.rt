@@ -32,14 +32,17 @@ pub(crate) fn numbers(
     name: &str,
     other: usize,
 ) -> Result<Vec<usize>, Problem> {
-    let mut list = Vec::new(alloc);
     match row.one(name)? {
-        Some(field) => {
-            for word in field.value.split_whitespace() {
-                list.push(number_of(field, word)?)?;
-            }
-        }
-        None => list.push(other)?,
+        Some(field) => words(alloc, field),
+        None => Ok(Vec::from_slice(alloc, &[other])?),
+    }
+}
+
+/// The numbers in a field.
+fn words(alloc: Global, field: Field<'_>) -> Result<Vec<usize>, Problem> {
+    let mut list = Vec::new(alloc);
+    for word in field.value.split_whitespace() {
+        list.push(number_of(field, word)?)?;
     }
     Ok(list)
 }
@@ -57,14 +60,24 @@ pub(crate) fn texts(alloc: Global, row: Row<'_>, name: &str) -> Result<Vec<Vec<u
 pub(crate) fn output(alloc: Global, row: Row<'_>) -> Result<Vec<u8>, Problem> {
     let mut out = Vec::new(alloc);
     for field in row.own {
-        if field.name == "line" || field.name == "text" {
-            out.extend_from_slice(&bytes_of(alloc, *field)?)?;
-        }
-        if field.name == "line" {
-            out.push(b'\n')?;
+        match field.name {
+            "line" => push_line(alloc, &mut out, *field)?,
+            "text" => push_text(alloc, &mut out, *field)?,
+            _ => {}
         }
     }
     Ok(out)
+}
+
+/// Adds the bytes of the field.
+fn push_text(alloc: Global, out: &mut Vec<u8>, field: Field<'_>) -> Result<(), Problem> {
+    Ok(out.extend_from_slice(&bytes_of(alloc, field)?)?)
+}
+
+/// Adds the bytes of the field and an LF.
+fn push_line(alloc: Global, out: &mut Vec<u8>, field: Field<'_>) -> Result<(), Problem> {
+    push_text(alloc, out, field)?;
+    Ok(out.push(b'\n')?)
 }
 
 /// The fields that rows of a call may have.
@@ -87,19 +100,27 @@ pub(crate) fn call_of<'a>(row: Row<'a>) -> Result<&'a str, Problem> {
     let Some(names) = names_of(call.value) else {
         return Err(call.problem("there is no such call"));
     };
-    known(row.common, names)?;
-    known(row.own, names)?;
+    known(row.common, names, &["call", "status"])?;
+    known(row.own, names, &["call", "status", "line", "text"])?;
     Ok(call.value)
 }
 
 /// Each field has one of these names, or one that every call has.
-fn known(fields: &[Field<'_>], names: &[&str]) -> Result<(), Problem> {
+fn known(fields: &[Field<'_>], names: &[&str], shared: &[&str]) -> Result<(), Problem> {
     for field in fields {
-        let name = field.name;
-        let is_shared = name == "call" || name == "status" || name == "line" || name == "text";
-        if !is_shared && !names.contains(&name) {
-            return Err(field.problem("the call has no such field"));
+        if !is_among(names, field.name) && !is_among(shared, field.name) {
+            return Err(field.problem("the call has no such field here"));
         }
     }
     Ok(())
+}
+
+/// Whether the name is one of these.
+fn is_among(names: &[&str], name: &str) -> bool {
+    for other in names {
+        if *other == name {
+            return true;
+        }
+    }
+    false
 }

@@ -17,6 +17,19 @@ pub(crate) enum Shape {
     Document(Document),
 }
 
+impl Shape {
+    /// Whether the tree is writable.
+    pub(crate) fn is_writable(&self) -> bool {
+        match self {
+            Shape::Type(tree) => tree.is_writable(),
+            Shape::Operation(tree) => tree.is_writable(),
+            Shape::Fragment(tree) => tree.is_writable(),
+            Shape::Directive(tree) => tree.is_writable(),
+            Shape::Document(tree) => tree.is_writable(),
+        }
+    }
+}
+
 /// The tree of this name, if there is one.
 pub(crate) fn tree_named(alloc: Global, name: &str) -> Result<Option<Shape>, AllocError> {
     let tree = match name {

@@ -1,0 +1,78 @@
+//! The plans that a row asks for, and what it wants by each.
+
+use crate::case::{Answer, Case, Tally, Way, compare};
+use crate::plan::{Plan, endings, whole};
+use crate::problem::Problem;
+use crate::settings::{number, numbers};
+use std::alloc::Global;
+
+/// The plans of the row: at each of its numbers of bytes a call and for each ending, the writer ends where the
+/// output does, and where the row says `write: each` also after each smaller number of bytes.
+pub(crate) fn plans(alloc: Global, case: Case<'_>) -> Result<Vec<Plan>, Problem> {
+    let text = number(case.row, "behind", usize::MAX)?;
+    let least = if is_each(case, "write")? {
+        0
+    } else {
+        case.out.len()
+    };
+    let mut list = Vec::new(alloc);
+    for step in numbers(alloc, case.row, "step", usize::MAX)? {
+        for write in least..=case.out.len() {
+            let plan = Plan {
+                step,
+                text,
+                write,
+                ..whole()
+            };
+            push_endings(&mut list, plan)?;
+        }
+    }
+    Ok(list)
+}
+
+/// Adds the plan with each ending.
+fn push_endings(list: &mut Vec<Plan>, plan: Plan) -> Result<(), Problem> {
+    for ending in endings() {
+        list.push(Plan { ending, ..plan })?;
+    }
+    Ok(())
+}
+
+/// Whether a device of the row ends at each of its bytes.
+pub(crate) fn is_each(case: Case<'_>, name: &str) -> Result<bool, Problem> {
+    match case.row.one(name)? {
+        None => Ok(false),
+        Some(field) if field.value == "each" => Ok(true),
+        Some(field) => Err(field.problem("it says `each` or is not there")),
+    }
+}
+
+/// Compares the answer by a plan: where its writer ends before the output does, so many bytes are out.
+pub(crate) fn compare_cut(
+    rt: &HostRuntime,
+    case: Case<'_>,
+    way: Way<'_>,
+    answer: &Answer,
+    tally: &mut Tally,
+) -> Result<(), Problem> {
+    let write = way.plan.write;
+    let Some(out) = case.out.get(..write) else {
+        return compare(rt, case, way, answer, tally);
+    };
+    if out.len() == case.out.len() {
+        return compare(rt, case, way, answer, tally);
+    }
+    let status = format!(in rt.alloc(); "3 output failed {write}")?;
+    let status = status.as_str();
+    compare(
+        rt,
+        Case {
+            status,
+            out,
+            ..case
+        },
+        way,
+        answer,
+        tally,
+    )
+}
