@@ -18,7 +18,7 @@ use Rattle.graphql_checked.specs.FaultList.{field_faults, type_faults, definitio
 use Rattle.graphql_checked.specs.declared.schema.Schema.{Schema}
 use Rattle.graphql_names.specs.NameValue.{NameValue}
 use Rattle.graphql_names.specs.declared.node.Node.{Node}
-use Rattle.graphql_ast.specs.declared.object_type.FieldDefinition.{FieldDefinition}
+use Rattle.graphql_type_members.specs.declared.field_definition.FieldDefinition.{FieldDefinition}
 use Rattle.graphql_checked.proofs.Places.{each_place-push}
 use Rattle.graphql_checked.proofs.Firsts.{kept_seen, kept_new, is_some-firsts}
 

@@ -8,7 +8,7 @@ use Rattle.std.proofs.lemmas.List.{append-nil}
 use Rattle.graphql_names.specs.NameValue.{NameValue}
 use Rattle.graphql_names.specs.declared.node.Node.{Node}
 use Rattle.graphql_values.specs.Placed.{Place}
-use Rattle.graphql_ast.specs.declared.object_type.FieldDefinition.{FieldDefinition}
+use Rattle.graphql_type_members.specs.declared.field_definition.FieldDefinition.{FieldDefinition}
 use Rattle.graphql_checked.specs.Lists.{has_name}
 use Rattle.graphql_checked.specs.Faults.{Fault, UndefinedField}
 use Rattle.graphql_checked.specs.SchemaView.{field_entry}

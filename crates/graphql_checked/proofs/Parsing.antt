@@ -7,24 +7,24 @@ use Rattle.graphql_names.specs.declared.node.Node.{Node}
 use Rattle.graphql_names.specs.declared.span.SourceSpan.{SourceSpan}
 use Rattle.graphql_values.specs.Placed.{Placed, Place, node_tree, name_tree}
 use Rattle.graphql_values.specs.TypeTree.{TypeTree, NamedTree, NonNullNamedTree, type_tree_step, type_tree}
-use Rattle.graphql_values.specs.declared.ty.«Type».{«Type»}
-use Rattle.graphql_values.specs.declared.ty.«Type».TheVariants.{Named, NonNullNamed, outs-Named, outs-NonNullNamed}
-use Rattle.graphql_values.specs.declared.ty.«Type».TheFolds.{map-Type, fold_out-Type}
+use Rattle.graphql_literals.specs.declared.ty.«Type».{«Type»}
+use Rattle.graphql_literals.specs.declared.ty.«Type».TheVariants.{Named, NonNullNamed, outs-Named, outs-NonNullNamed}
+use Rattle.graphql_literals.specs.declared.ty.«Type».TheFolds.{map-Type, fold_out-Type}
 use Rattle.graphql_names.specs.NameValue.{NameValue}
 use Rattle.graphql_values.specs.SelectionTree.{SelectionTree, SelectionTrees, FieldTree, selection_tree, selection_trees, no_selections, selection_then}
 use Rattle.graphql_ast.specs.TypeSystemTree.{FieldDefinitionTree, field_definition_tree}
 use Rattle.graphql_ast.specs.DefinitionTree.{DefinitionTree, ObjectType, Operation, definition_tree}
-use Rattle.graphql_ast.specs.declared.object_type.FieldDefinition.{FieldDefinition}
-use Rattle.graphql_ast.specs.declared.object_type.ObjectTypeDefinition.{ObjectTypeDefinition}
-use Rattle.graphql_ast.specs.declared.definition.Definition.{Definition}
-use Rattle.graphql_ast.specs.declared.definition.Definition.TheVariants as rust
+use Rattle.graphql_type_members.specs.declared.field_definition.FieldDefinition.{FieldDefinition}
+use Rattle.graphql_composite_types.specs.declared.object_type.ObjectTypeDefinition.{ObjectTypeDefinition}
+use Rattle.graphql_definitions.specs.declared.definition.Definition.{Definition}
+use Rattle.graphql_definitions.specs.declared.definition.Definition.TheVariants as rust
 use Rattle.std.specs.Prelude.{Vec}
 use Rattle.std.specs.declared.alloc.Global.{Global}
-use Rattle.graphql_values.specs.declared.selection.Selection.{Selection}
-use Rattle.graphql_values.specs.declared.selection.Field.{Field}
-use Rattle.graphql_values.specs.declared.selection.Selection.TheViews.{Field as Field'}
-use Rattle.graphql_values.specs.declared.operation.OperationDefinition.{OperationDefinition}
-use Rattle.graphql_values.specs.declared.operation.OperationType.TheVariants.{Query}
+use Rattle.graphql_operations.specs.declared.selection.Selection.{Selection}
+use Rattle.graphql_operations.specs.declared.selection.Field.{Field}
+use Rattle.graphql_operations.specs.declared.selection.Selection.TheViews.{Field as Field'}
+use Rattle.graphql_operations.specs.declared.operation.OperationDefinition.{OperationDefinition}
+use Rattle.graphql_operations.specs.declared.operation.OperationType.TheVariants.{Query}
 use Rattle.graphql_checked.specs.Lex.{Token}
 use Rattle.graphql_checked.specs.Rules.{mark, ◌·◌, optional, some, between, placed, Spans}
 use Rattle.graphql_checked.specs.Grammar as g

@@ -4,7 +4,7 @@ use Rattle.std.specs.Option.{option_map}
 use Rattle.graphql_values.specs.Placed.{Placed, Text}
 use Rattle.graphql_values.specs.TypeTree.{TypeTree, NamedTree, NonNullNamedTree}
 use Rattle.graphql_values.specs.SelectionTree.{SelectionTrees, FieldTree, no_selections, selection_then}
-use Rattle.graphql_values.specs.declared.operation.OperationType.TheVariants.{Query}
+use Rattle.graphql_operations.specs.declared.operation.OperationType.TheVariants.{Query}
 use Rattle.graphql_ast.specs.TypeSystemTree.{FieldDefinitionTree}
 use Rattle.graphql_ast.specs.DefinitionTree.{DefinitionTree, Operation, ObjectType, unplaced_document}
 use Rattle.graphql_checked.specs.Pieces.{step_at, token_at, ignored_at}

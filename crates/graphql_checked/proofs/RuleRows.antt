@@ -3,7 +3,7 @@ use Rattle.std.proofs.Common.{◌≡◌, ℕ, List, [], ◌∷◌, ◌++◌, map
 use Rattle.graphql_values.specs.Placed.{Placed, Place, Text}
 use Rattle.graphql_values.specs.TypeTree.{TypeTree, NamedTree, NonNullNamedTree}
 use Rattle.graphql_values.specs.SelectionTree.{SelectionTree, FieldTree, no_selections, selection_then}
-use Rattle.graphql_values.specs.declared.operation.OperationType.TheVariants.{Query}
+use Rattle.graphql_operations.specs.declared.operation.OperationType.TheVariants.{Query}
 use Rattle.graphql_ast.specs.TypeSystemTree.{FieldDefinitionTree}
 use Rattle.graphql_ast.specs.DefinitionTree.{DefinitionTree, Operation, ObjectType}
 use Rattle.graphql_checked.specs.Lists.{each_place}

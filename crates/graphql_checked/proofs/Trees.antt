@@ -6,11 +6,11 @@ use Rattle.graphql_names.specs.declared.node.Node.{Node}
 use Rattle.graphql_values.specs.Placed.{Place, name_tree, node_tree}
 use Rattle.graphql_values.specs.DirectiveTree.{argument_tree, directives_tree}
 use Rattle.graphql_values.specs.SelectionTree.{SelectionTree, FieldHead, FieldTree, selection_then, selection_trees, AtPlace, field_step, inline_step, selection_step, selection_tree}
-use Rattle.graphql_values.specs.declared.selection.Selection.{Selection}
-use Rattle.graphql_values.specs.declared.selection.Field.{Field}
-use Rattle.graphql_values.specs.declared.selection.InlineFragment.{InlineFragment}
-use Rattle.graphql_values.specs.declared.selection.Selection.TheViews.{Field as Field', outs-Field}
-use Rattle.graphql_values.specs.declared.selection.Selection.TheFolds.{map-Selection, fold-Field, fold-InlineFragment, fold_out-Selection, fold_out-Field}
+use Rattle.graphql_operations.specs.declared.selection.Selection.{Selection}
+use Rattle.graphql_operations.specs.declared.selection.Field.{Field}
+use Rattle.graphql_operations.specs.declared.selection.InlineFragment.{InlineFragment}
+use Rattle.graphql_operations.specs.declared.selection.Selection.TheViews.{Field as Field', outs-Field}
+use Rattle.graphql_operations.specs.declared.selection.Selection.TheFolds.{map-Selection, fold-Field, fold-InlineFragment, fold_out-Selection, fold_out-Field}
 
 abbrev pub head_of : Field → FieldHead Place
 head_of f = record {

@@ -6,7 +6,7 @@ use Rattle.graphql_names.specs.NameValue.{NameValue}
 use Rattle.graphql_names.specs.declared.node.Node.{Node}
 use Rattle.graphql_values.specs.Placed.{Placed, Place, node_tree}
 use Rattle.graphql_ast.specs.TypeSystemTree.{FieldDefinitionTree, field_definition_tree}
-use Rattle.graphql_ast.specs.declared.object_type.FieldDefinition.{FieldDefinition}
+use Rattle.graphql_type_members.specs.declared.field_definition.FieldDefinition.{FieldDefinition}
 use Rattle.graphql_ast.specs.DefinitionTree.{DefinitionTree}
 use Rattle.graphql_checked.specs.Lists.{firsts}
 use Rattle.graphql_checked.specs.Fold.{FoldedType, fold, field_name, fields_here, is_object}
