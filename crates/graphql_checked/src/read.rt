@@ -19,7 +19,7 @@ use indexmap::IndexMap;
 use std::alloc::{AllocError, Global};
 
 /// What a text is to be.
-#[derive(Clone, Copy)]
+#[derive(Clone, Copy, Debug, PartialEq, Eq)]
 pub(crate) enum TextKind {
     Schema,
     Document,
