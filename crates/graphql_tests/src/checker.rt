@@ -46,17 +46,20 @@ fn refuses(rt: &impl Abort, schema: &CheckedSchema, document: &str, place: Sourc
 
 /// The list tells that `Query` has no field of this name, at this place, and nothing else.
 fn tells_field(rt: &impl Abort, list: &DiagnosticList, place: SourceSpan, name: &str) {
-    match list.as_slice() {
-        [
-            (
-                told,
-                Details::UndefinedField {
-                    type_name,
-                    field_name,
-                },
-            ),
-        ] => {
-            hold(rt, *told == Some(place), "the place");
+    hold(rt, list.len() == 1, "one fault");
+    for (told, details) in list.as_slice() {
+        hold(rt, *told == Some(place), "the place");
+        names_field(rt, details, name);
+    }
+}
+
+/// It tells that `Query` has no field of this name.
+fn names_field(rt: &impl Abort, details: &Details, name: &str) {
+    match details {
+        Details::UndefinedField {
+            type_name,
+            field_name,
+        } => {
             same_text(rt, type_name.as_str(), "Query");
             same_text(rt, field_name.as_str(), name);
         }
