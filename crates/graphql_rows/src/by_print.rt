@@ -1,7 +1,9 @@
 //! Printed trees, and whether trees are writable.
 
 ghost use Rattle.std.specs.Prelude.{◌≡◌, false};
+ghost use Rattle.graphql_names.specs.Device.{device_failed};
 
+use crate::by_calls::answer_of;
 use crate::case::{Answer, Case, Tally, Way, compare};
 use crate::plan::{Plan, device, whole};
 use crate::plans::{compare_cut, plans};
@@ -9,6 +11,7 @@ use crate::problem::Problem;
 use crate::settings::number;
 use crate::trees::{Shape, tree_named};
 use graphql_ast::{Cause, Serialize, Tree, WriteFault};
+use graphql_names::{Cut, Device};
 use std::alloc::{AllocError, Global};
 
 /// How a tree is laid out.
@@ -57,44 +60,60 @@ fn tree_of(alloc: Global, case: Case<'_>) -> Result<Shape, Problem> {
     }
 }
 
-/// Judges the row: what is printed of its tree.
-pub(crate) fn by_print(rt: &HostRuntime, case: Case<'_>, tally: &mut Tally) -> Result<(), Problem> {
-    let form = form_of(case)?;
-    let shape = tree_of(rt.alloc(), case)?;
-    match &shape {
-        Shape::Type(tree) => prints(rt, case, laid_out(tree, form), tally),
-        Shape::Operation(tree) => prints(rt, case, laid_out(tree, form), tally),
-        Shape::Fragment(tree) => prints(rt, case, laid_out(tree, form), tally),
-        Shape::Directive(tree) => prints(rt, case, laid_out(tree, form), tally),
-        Shape::Document(tree) => prints(rt, case, laid_out(tree, form), tally),
+impl Shape {
+    /// The text by `Display`.
+    fn displayed(&self, alloc: Global, form: (Form, usize)) -> Result<String, AllocError> {
+        match self {
+            Shape::Type(tree) => laid_out(tree, form).to_string(alloc),
+            Shape::Operation(tree) => laid_out(tree, form).to_string(alloc),
+            Shape::Fragment(tree) => laid_out(tree, form).to_string(alloc),
+            Shape::Directive(tree) => laid_out(tree, form).to_string(alloc),
+            Shape::Document(tree) => laid_out(tree, form).to_string(alloc),
+        }
+    }
+
+    /// The text by `write_to`.
+    fn write(
+        &self,
+        form: (Form, usize),
+        writer: &mut Device<Cut<&mut Vec<u8>>>,
+    ) -> Result<(), WriteFault>
+        requires { device_failed writer.old ≡ false }
+    {
+        match self {
+            Shape::Type(tree) => laid_out(tree, form).write_to(writer),
+            Shape::Operation(tree) => laid_out(tree, form).write_to(writer),
+            Shape::Fragment(tree) => laid_out(tree, form).write_to(writer),
+            Shape::Directive(tree) => laid_out(tree, form).write_to(writer),
+            Shape::Document(tree) => laid_out(tree, form).write_to(writer),
+        }
     }
 }
 
-/// The text by `Display`, and by `write_to` at each number of bytes a call and for each ending.
-fn prints<T: Tree>(
-    rt: &HostRuntime,
-    case: Case<'_>,
-    layout: Serialize<'_, T>,
-    tally: &mut Tally,
-) -> Result<(), Problem> {
-    displays(rt, case, layout, tally)?;
+/// Judges the row: what is printed of its tree, by `Display`, and by `write_to` by each of its plans.
+pub(crate) fn by_print(rt: &HostRuntime, case: Case<'_>, tally: &mut Tally) -> Result<(), Problem> {
+    let form = form_of(case)?;
+    let tree = tree_of(rt.alloc(), case)?;
+    displays(rt, case, &tree, form, tally)?;
     for plan in plans(rt.alloc(), case)? {
-        write_answer(rt, case, layout, plan, tally)?;
+        write_answer(rt, case, &tree, form, plan, tally)?;
     }
     Ok(())
 }
 
 /// The text by `Display`, where it comes to its end.
-fn displays<T: Tree>(
+fn displays(
     rt: &HostRuntime,
     case: Case<'_>,
-    layout: Serialize<'_, T>,
+    tree: &Shape,
+    form: (Form, usize),
     tally: &mut Tally,
 ) -> Result<(), Problem> {
     if case.status != "0" {
         return Ok(());
     }
-    let answer = displayed(rt.alloc(), layout)?;
+    let text = tree.displayed(rt.alloc(), form)?;
+    let answer = answer_of(rt.alloc(), "0", &text)?;
     compare(
         rt,
         case,
@@ -115,36 +134,30 @@ fn way_of(call: &str, plan: Plan) -> Way<'_> {
 }
 
 /// The answer by this plan.
-fn write_answer<T: Tree>(
+fn write_answer(
     rt: &HostRuntime,
     case: Case<'_>,
-    layout: Serialize<'_, T>,
+    tree: &Shape,
+    form: (Form, usize),
     plan: Plan,
     tally: &mut Tally,
 ) -> Result<(), Problem> {
     let mut out = Vec::new(rt.alloc());
-    let status = written(rt.alloc(), layout, plan, &mut out)?;
+    let status = written(rt.alloc(), tree, form, plan, &mut out)?;
     let answer = Answer { status, out };
     compare_cut(rt, case, way_of("print by write_to", plan), &answer, tally)
 }
 
-/// The text by `Display`.
-fn displayed<T: Tree>(alloc: Global, layout: Serialize<'_, T>) -> Result<Answer, AllocError> {
-    Ok(Answer {
-        status: String::from_str(alloc, "0")?,
-        out: layout.to_string(alloc)?.into_bytes(),
-    })
-}
-
 /// The status of `write_to` by the plan, with its output behind `out`.
-fn written<T: Tree>(
+fn written(
     alloc: Global,
-    layout: Serialize<'_, T>,
+    tree: &Shape,
+    form: (Form, usize),
     plan: Plan,
     out: &mut Vec<u8>,
 ) -> Result<String, AllocError> {
     let mut writer = device(out, plan, plan.write);
-    let answer = layout.write_to(&mut writer);
+    let answer = tree.write(form, &mut writer);
     if writer.failed() != answer.is_err() {
         return String::from_str(alloc, "the device tells otherwise than the answer");
     }
@@ -166,14 +179,16 @@ pub(crate) fn by_writable(
     case: Case<'_>,
     tally: &mut Tally,
 ) -> Result<(), Problem> {
-    let status = if tree_of(rt.alloc(), case)?.is_writable() {
-        "0 writable"
-    } else {
-        "1 not writable"
-    };
-    let answer = Answer {
-        status: String::from_str(rt.alloc(), status)?,
-        out: Vec::new(rt.alloc()),
-    };
+    let answer = answer_of(rt.alloc(), writable_status(rt.alloc(), case)?, "")?;
     compare(rt, case, way_of("is_writable", whole()), &answer, tally)
+}
+
+/// The status of the row's tree.
+fn writable_status(alloc: Global, case: Case<'_>) -> Result<&'static str, Problem> {
+    let tree = tree_of(alloc, case)?;
+    if tree.is_writable() {
+        Ok("0 writable")
+    } else {
+        Ok("1 not writable")
+    }
 }
