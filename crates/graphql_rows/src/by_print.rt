@@ -94,9 +94,20 @@ impl Shape {
 pub(crate) fn by_print(rt: &HostRuntime, case: Case<'_>, tally: &mut Tally) -> Result<(), Problem> {
     let form = form_of(case)?;
     let tree = tree_of(rt.alloc(), case)?;
-    displays(rt, case, &tree, form, tally)?;
+    prints(rt, case, &tree, form, tally)
+}
+
+/// Judges what is printed of the tree.
+fn prints(
+    rt: &HostRuntime,
+    case: Case<'_>,
+    tree: &Shape,
+    form: (Form, usize),
+    tally: &mut Tally,
+) -> Result<(), Problem> {
+    displays(rt, case, tree, form, tally)?;
     for plan in plans(rt.alloc(), case)? {
-        write_answer(rt, case, &tree, form, plan, tally)?;
+        write_answer(rt, case, tree, form, plan, tally)?;
     }
     Ok(())
 }
@@ -186,9 +197,5 @@ pub(crate) fn by_writable(
 /// The status of the row's tree.
 fn writable_status(alloc: Global, case: Case<'_>) -> Result<&'static str, Problem> {
     let tree = tree_of(alloc, case)?;
-    if tree.is_writable() {
-        Ok("0 writable")
-    } else {
-        Ok("1 not writable")
-    }
+    Ok(tree.writability())
 }

@@ -18,14 +18,19 @@ pub(crate) enum Shape {
 }
 
 impl Shape {
-    /// Whether the tree is writable.
-    pub(crate) fn is_writable(&self) -> bool {
-        match self {
+    /// Whether the tree is writable, as a row says it.
+    pub(crate) fn writability(&self) -> &'static str {
+        let is_writable = match self {
             Shape::Type(tree) => tree.is_writable(),
             Shape::Operation(tree) => tree.is_writable(),
             Shape::Fragment(tree) => tree.is_writable(),
             Shape::Directive(tree) => tree.is_writable(),
             Shape::Document(tree) => tree.is_writable(),
+        };
+        if is_writable {
+            "0 writable"
+        } else {
+            "1 not writable"
         }
     }
 }
