@@ -1,1 +1,6 @@
 pub mod Input
+pub mod Bytes
+pub mod Numbers
+pub mod Strings
+pub mod Blocks
+pub mod Tokens
