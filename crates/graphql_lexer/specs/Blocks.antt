@@ -1,5 +1,5 @@
 -- Block strings: how far they reach, and what they stand for (GraphQL, October 2021, section 2.9.4).
-use Rattle.std.specs.Prelude.{ℕ, ◌+◌, Bool, true, false, not, ◌&&◌, ◌||◌, ◌==◌, nat_le, if◌then◌else◌, List, [], ◌∷◌, ◌++◌, drop, map, Option, Some, None}
+use Rattle.std.specs.Prelude.{ℕ, ◌+◌, Bool, true, false, not, ◌&&◌, ◌||◌, ◌==◌, min, if◌then◌else◌, List, [], ◌∷◌, ◌++◌, drop, map, Option, Some, None}
 use Rattle.std.specs.List.{prefix_len, list_all, flat_map}
 use Rattle.graphql_lexer.specs.Bytes.{begins_by, begins_with, run_len, replaced, between}
 use Rattle.graphql_lexer.specs.Strings.{closed_len}
@@ -66,7 +66,7 @@ indent_of line = prefix_len is_white_space line
 
 abbrev pub least : ℕ → Option ℕ → ℕ
 least n None = n
-least n (Some m) = if nat_le n m then n else m
+least n (Some m) = min n m
 
 -- the least indent of those of these lines that are not blank, where there are any
 abbrev pub common_indent : List (List ℕ) → Option ℕ

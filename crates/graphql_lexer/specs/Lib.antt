@@ -4,3 +4,8 @@ pub mod Numbers
 pub mod Strings
 pub mod Blocks
 pub mod Tokens
+pub mod Terminals
+pub mod Lex
+pub mod Cursor
+pub mod Values
+pub mod Forms

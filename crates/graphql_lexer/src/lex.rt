@@ -77,8 +77,8 @@ fn is_in_line(byte: u8) -> bool
     !(byte == b'\n' || byte == b'\r')
 }
 
-/// How many bytes there are up to the end of the line, which no comment takes in (section 2.1.4).
-fn comment_len(bytes: &[u8]) -> usize
+/// How many bytes there are up to the end of the line (section 2.1.3).
+pub(crate) fn line_len(bytes: &[u8]) -> usize
     ensures count { result ≡ prefix_len spec.is_in_line bytes.now }
     ensures within { result ≤ length bytes.now }
 {
@@ -95,7 +95,7 @@ fn ignored_at(bytes: &[u8]) -> Option<usize>
         [b'\t' | b' ' | b'\n' | b',', ..] => Some(1),
         [b'\r', b'\n', ..] => Some(2),
         [b'\r', ..] => Some(1),
-        [b'#', ..] => Some(comment_len(bytes)),
+        [b'#', ..] => Some(line_len(bytes)),
         [0xEF, 0xBB, 0xBF, ..] => Some(3),
         _ => None,
     }

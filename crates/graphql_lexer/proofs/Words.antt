@@ -1,0 +1,23 @@
+-- Words in a table.
+use Rattle.std.proofs.Common.{◌≡◌, ℕ, ◌+◌, ◌<◌, Bool, true, false, cond, List, [], ◌∷◌, length, map, drop, refl, sym, ap, ◌∙◌, Bor}
+use Rattle.std.specs.Str.{bytes_eq}
+use Rattle.std.proofs.lemmas.List.{at_drop_more}
+use Rattle.graphql_lexer.specs.Terminals.{Word, words, spelled}
+use Rattle.graphql_lexer.specs.declared.terminal.Terminal.{Terminal}
+use Rattle.graphql_lexer.specs.declared.terminal.Terminal.TheVariants.{Name}
+
+-- a word of the table
+abbrev pub Entry : Type 0
+Entry = Bor (List ℕ) × Terminal
+
+abbrev pub word_of : Entry → Word
+word_of entry = (entry.0.now, entry.1)
+
+abbrev pub spelled_in : List Entry → List ℕ → Terminal
+spelled_in entries text = spelled (map word_of entries) text
+
+pub spelled_here : (entry : Entry) (others : List Entry) (text : List ℕ) → bytes_eq entry.0.now text ≡ true → spelled_in (entry ∷ others) text ≡ entry.1
+spelled_here entry others text h = rw h refl
+
+pub spelled_behind : (entry : Entry) (others : List Entry) (text : List ℕ) → bytes_eq entry.0.now text ≡ false → spelled_in (entry ∷ others) text ≡ spelled_in others text
+spelled_behind entry others text h = rw h refl
