@@ -423,5 +423,6 @@ pub front_here : (k : ℕ) (text line behind : List ℕ) → Cut text line behin
 unfolding lines_of
 front_here k text line behind (inl cut) full = ap (λ (ls : List (List ℕ)). kept_from k (without_blank_front ls)) cut ∙ rw full refl
 front_here k text line behind (inr cut) full =
-    ap (λ (ls : List (List ℕ)). kept_from k (without_blank_front ls)) cut.1 ∙ rw full refl
+    let here : kept_from k (without_blank_front (line ∷ [])) ≡ drop k line ++ [] = rw full refl in
+    ap (λ (ls : List (List ℕ)). kept_from k (without_blank_front ls)) cut.1 ∙ here
     ∙ ap (λ (bs : List ℕ). drop k line ++ further_lines k (without_blank_back (lines_of bs))) (sym cut.0)

@@ -15,7 +15,7 @@ use Rattle.graphql_lexer.specs.Lex.{Piece, piece_of, piece_at, with_token, past_
 use Rattle.graphql_lexer.specs.Cursor.{Rest, rest_by, rest_from, input_from, with_terminal, symbol_at, text_of, skipped, next_offset, is_stuck}
 use Rattle.graphql_lexer.specs.declared.token.TokenKind.{TokenKind}
 use Rattle.graphql_lexer.specs.declared.terminal.Terminal.{Terminal}
-use Rattle.graphql_lexer.specs.Forms.{FirstForm}
+use Rattle.graphql_lexer.specs.Forms.{FirstForm, Taken}
 use Rattle.graphql_lexer.proofs.Forms.{token_form}
 use Rattle.graphql_lexer.proofs.Ends.{Ends, EndsAt, token_ends, some_if}
 
@@ -292,12 +292,23 @@ stuck_is text at last (Some symbol) none h =
     let s = symbol_found (drop at text) symbol (sym h) in
     sym (ap (λ (i : Input). is_stuck i) (input_token text at last 0 s.kind symbol.1 none s.found))
 
+-- a token's length is that of its text
+pub token_is : (bytes : List ℕ) (kind : TokenKind) (n : ℕ) (token : List ℕ) → token_at bytes ≡ Some (kind, n) → token ≡ take n bytes
+    → (token_at bytes ≡ Some (kind, length token)) × (token ≡ take (length token) bytes)
+token_is bytes kind n token found is =
+    let size : n ≡ length token = sym (ap (length {A = ℕ}) is ∙ length-take-le n bytes (token_ends bytes (kind, n) found).ends.within) in
+    (found ∙ ap (λ (m : ℕ). Some (kind, m)) size, is ∙ ap (λ (m : ℕ). take m bytes) size)
+
 pub first_form : (text : List ℕ) (at last : ℕ) → ignored_at (drop at text) ≡ None → FirstForm (input_from last at text).ahead
 first_form text at last none = go (token_at (drop at text)) refl
   where
     go : (o : Option (TokenKind × ℕ)) → token_at (drop at text) ≡ o → FirstForm (input_from last at text).ahead
     go None e = subst (λ (i : Input). FirstForm i.ahead) (sym (input_none text at last none e)) tt
-    go (Some token) e = subst (λ (i : Input). FirstForm i.ahead) (sym (input_token text at last 0 token.0 token.1 none e)) (token_form (drop at text) token e)
+    go (Some token) e =
+        let bytes : List ℕ = drop at text in
+        let is = token_is bytes token.0 token.1 (take token.1 bytes) e refl in
+        let taken : Taken (terminal_of token.0 (take token.1 bytes)) (take token.1 bytes) = record { bytes = bytes; kind = token.0; found = is.0; front = is.1; is = refl } in
+        subst (λ (i : Input). FirstForm i.ahead) (sym (input_token text at last 0 token.0 token.1 none e)) (token_form bytes token e, taken)
 
 -- ---- the next token of a text
 
@@ -308,10 +319,3 @@ nothing_there text offset at place within not_end none =
     let some : drop at text ≡ [] → ⊥ = λ e. not_end (let size : length (drop at text) ≡ length text - at = length-drop at text in let empty : length (drop at text) ≡ 0 = ap (length {A = ℕ}) e in omega arith) in
     let nothing : ignored_at (drop at text) ≡ None = ap (λ (n : ℕ). ignored_at (drop n text)) place ∙ nothing_ignored text offset in
     (subst (λ (n : ℕ). NothingBegins (drop n text)) place (record { some = some; no_piece = rw (nothing, none) refl }), place)
-
--- a token's length is that of its text
-pub token_is : (bytes : List ℕ) (kind : TokenKind) (n : ℕ) (token : List ℕ) → token_at bytes ≡ Some (kind, n) → token ≡ take n bytes
-    → (token_at bytes ≡ Some (kind, length token)) × (token ≡ take (length token) bytes)
-token_is bytes kind n token found is =
-    let size : n ≡ length token = sym (ap (length {A = ℕ}) is ∙ length-take-le n bytes (token_ends bytes (kind, n) found).ends.within) in
-    (found ∙ ap (λ (m : ℕ). Some (kind, m)) size, is ∙ ap (λ (m : ℕ). take m bytes) size)

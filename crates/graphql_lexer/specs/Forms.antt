@@ -1,8 +1,11 @@
 -- What the text of a token is, by its terminal symbol.
-use Rattle.std.specs.Prelude.{◌≡◌, ◌≤◌, ◌<◌, ℕ, ◌+◌, ◌-◌, Bool, true, false, List, [], ◌∷◌, ◌++◌, length, slice_index}
+use Rattle.std.specs.Prelude.{◌≡◌, ◌≤◌, ◌<◌, ℕ, ◌+◌, ◌-◌, Bool, true, false, List, [], ◌∷◌, ◌++◌, length, take, slice_index, Some}
 use Rattle.graphql_names.specs.NameSyntax.{IsName}
 use Rattle.graphql_lexer.specs.Blocks.{quotes}
+use Rattle.graphql_lexer.specs.Tokens.{token_at}
+use Rattle.graphql_lexer.specs.Terminals.{terminal_of}
 use Rattle.graphql_lexer.specs.Input.{Token}
+use Rattle.graphql_lexer.specs.declared.token.TokenKind.{TokenKind}
 use Rattle.graphql_lexer.specs.declared.terminal.Terminal.{Terminal}
 use Rattle.graphql_lexer.specs.declared.terminal.Terminal.TheVariants.{Bang, Dollar, Ampersand, OpenParen, CloseParen, Spread, Colon, Equals, At, OpenBracket, CloseBracket, OpenBrace, Pipe, CloseBrace, Int, Float, String, BlockString}
 
@@ -32,16 +35,24 @@ is_word _ = true
 abbrev pub Enclosed : List ℕ → List ℕ → Type 0
 Enclosed mark text = (content : List ℕ) × (text ≡ mark ++ (content ++ mark))
 
+-- The text is what the rules take from the front of some bytes, as a token of this symbol.
+pub record Taken (symbol : Terminal) (text : List ℕ) : Type 0 where
+  pub bytes : List ℕ
+  pub kind : TokenKind
+  pub found : token_at bytes ≡ Some (kind, length text)
+  pub front : text ≡ take (length text) bytes
+  pub is : symbol ≡ terminal_of kind text
+
 -- The text of a token of this symbol: a word is a name, and a string stands between its marks.
 pub record Form (symbol : Terminal) (text : List ℕ) : Type 0 where
   pub name : is_word symbol ≡ true → IsName text
   pub string : symbol ≡ String → Enclosed (34 ∷ []) text
   pub block : symbol ≡ BlockString → Enclosed quotes text
 
--- the first token's text has the form of its symbol
+-- the first token's text has the form of its symbol, and is taken as one
 abbrev pub FirstForm : List Token → Type 0
 FirstForm [] = Unit {0}
-FirstForm (t ∷ ts) = Form t.kind t.text
+FirstForm (t ∷ ts) = Form t.kind t.text × Taken t.kind t.text
 
 -- marks of this length stand at both ends, for the private functions that take them off
 pub record Marked (n : ℕ) (text : List ℕ) : Type 0 where

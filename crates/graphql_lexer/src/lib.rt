@@ -1,7 +1,7 @@
 //! Tokens of GraphQL texts, and what the string tokens mean.
 #![tactic(auto)]
 
-mod block_value;
+mod block_lines;
 pub mod laws;
 mod lex;
 mod name;

@@ -11,7 +11,8 @@ use std::alloc::{AllocError, Global};
 #[tactic(auto, unfolding(crate::specs::Blocks::block_character_at))]
 fn block_character_at(bytes: &[u8]) -> (&'static str, usize)
     requires { begins_with (92 ∷ []) bytes.now ≡ true }
-    ensures { (result.0.now, result.1) ≡ block_character_at bytes.now }
+    ensures value { result.0.now ≡ (block_character_at bytes.now).0 }
+    ensures length { result.1 ≡ (block_character_at bytes.now).1 }
 {
     match bytes {
         [b'\\', b'"', b'"', b'"', ..] => ("\"\"\"", 4),

@@ -6,7 +6,7 @@ ghost use Rattle.graphql_lexer.specs.Strings as spec;
 ghost use Rattle.graphql_lexer.specs.Blocks as blocks;
 ghost use Rattle.graphql_lexer.specs.Forms.{Enclosed, Marked};
 
-use crate::block_value::push_block;
+use crate::block_lines::push_block;
 use crate::raw::raw_value;
 use crate::value::push_parts;
 use std::alloc::{AllocError, Global};

@@ -48,6 +48,7 @@ const WORDS: [(&str, Terminal); 38] = [
 ];
 
 /// The symbol of the first word of the table that the text spells, and `Name` where it spells none.
+#[tactic(auto, using(crate::proofs::Words::word_here, crate::proofs::Words::word_behind))]
 fn find_word(table: &[(&str, Terminal)], text: &[u8]) -> Terminal
     ensures { result ≡ spec.spelled (map (λ w. (w.0.now, w.1)) table.now) text.now }
 {

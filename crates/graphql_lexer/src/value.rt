@@ -40,7 +40,8 @@ pub(crate) fn push_plain<'a>(out: &mut String, text: &'a str) -> Result<&'a str,
 #[tactic(auto, unfolding(crate::specs::Strings::part_at))]
 fn part_at(bytes: &[u8]) -> (char, usize)
     requires { begins_with (92 ∷ []) bytes.now ≡ true }
-    ensures value { (encode_utf8 result.0, result.1) ≡ part_at bytes.now }
+    ensures value { encode_utf8 result.0 ≡ (part_at bytes.now).0 }
+    ensures length { result.1 ≡ (part_at bytes.now).1 }
 {
     match bytes {
         [b'\\', escape @ ..] => match escape_at(escape) {

@@ -1,7 +1,7 @@
 use Rattle.std.proofs.Common.{◌≡◌, ◌+◌, ◌≤◌, length}
 use Rattle.graphql_lexer.specs.Blocks.{lines_of, without_blank_back}
 use Rattle.graphql_lexer.specs.Values.{kept_of}
-use Rattle.graphql_lexer.proofs.block_value.kept_lines.Given as goal
+use Rattle.graphql_lexer.proofs.block_lines.kept_lines.Given as goal
 
 abbrev pub invariant-lines : goal.invariant-lines
 invariant-lines l = record {
