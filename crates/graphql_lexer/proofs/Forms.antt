@@ -25,18 +25,20 @@ use Rattle.graphql_lexer.proofs.Ends.{some_if, some_unless, choice, bind_some, s
 
 all_words : (ws : List Word) → list_all (λ (w : Word). is_word w.1) ws ≡ true → (text : List ℕ) → is_word (spelled ws text) ≡ true
 all_words [] h text = refl
-all_words (w ∷ ws) h text = go (bytes_eq w.0 text) (and_parts (is_word w.1) (list_all (λ (v : Word). is_word v.1) ws) h)
+all_words (w ∷ ws) h text =
+    let parts = and_parts (is_word w.1) (list_all (λ (v : Word). is_word v.1) ws) h in
+    go (bytes_eq w.0 text) parts.0 (all_words ws parts.1 text)
   where
-    go : (b : Bool) → (is_word w.1 ≡ true) × (list_all (λ (v : Word). is_word v.1) ws ≡ true) → is_word (cond b w.1 (spelled ws text)) ≡ true
-    go true parts = parts.0
-    go false parts = all_words ws parts.1 text
+    go : (b : Bool) → is_word w.1 ≡ true → is_word (spelled ws text) ≡ true → is_word (cond b w.1 (spelled ws text)) ≡ true
+    go true here more = here
+    go false here more = more
 
 spelled_word : (text : List ℕ) → is_word (spelled words text) ≡ true
 unfolding words
 spelled_word text = all_words words refl text
 
 not_word : (symbol other : Terminal) → is_word symbol ≡ true → is_word other ≡ false → symbol ≡ other → ⊥
-not_word symbol other yes no e = let both : true ≡ false = sym yes ∙ ap is_word e ∙ no in absurd cc
+not_word symbol other word other_word e = let both : true ≡ false = sym word ∙ ap is_word e ∙ other_word in absurd cc
 
 word_form : (text : List ℕ) → IsName text → Form (spelled words text) text
 word_form text name = record {

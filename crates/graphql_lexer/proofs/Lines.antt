@@ -1,5 +1,5 @@
 -- The lines of block strings.
-use Rattle.std.proofs.Common.{◌≡◌, ◌⊎◌, ℕ, zero, suc, ◌+◌, ◌-◌, ◌<◌, ◌≤◌, min, Bool, true, false, cond, not, ◌&&◌, ◌||◌, ◌==◌, List, [], ◌∷◌, ◌++◌, length, map, take, drop, get_or, Option, Some, None, refl, sym, ap, ◌∙◌, subst, inl, inr, arith, one-add, append_assoc, append-nil, eqb-true, IsUtf8, IsCharBoundary}
+use Rattle.std.proofs.Common.{◌≡◌, ◌⊎◌, ℕ, zero, suc, ◌+◌, ◌-◌, ◌<◌, ◌≤◌, min, Bool, true, false, cond, not, ◌&&◌, ◌||◌, ◌==◌, List, [], ◌∷◌, ◌++◌, length, map, take, drop, get_or, Option, Some, None, Result, Ok, Err, OnOk, refl, sym, ap, ◌∙◌, subst, inl, inr, arith, one-add, append_assoc, append-nil, eqb-true, IsUtf8, IsCharBoundary}
 use Rattle.std.specs.List.{prefix_len, list_all, flat_map}
 use Rattle.std.proofs.lemmas.Bool.{and_parts, and_from, or_cases, not-false, not-true, cases_order}
 use Rattle.std.proofs.lemmas.List.{length-drop}
@@ -8,13 +8,9 @@ use Rattle.std.proofs.lemmas.Str.{IsCharBoundary-start, IsCharBoundary-end, IsCh
 use Rattle.graphql_lexer.specs.Bytes.{begins_by}
 use Rattle.graphql_lexer.specs.Tokens.{is_in_line, return_len}
 use Rattle.graphql_lexer.specs.Blocks.{is_line_feed, ends_line, onto_first, lines_of, is_white_space, is_blank, indent_of, least, common_indent, or_zero, without_indent, without_blank_front, without_blank_back, formatted, block_string_value}
-use Rattle.graphql_lexer.specs.Values.{terminator_len, Cut, least_indent, least_of, AtMost, kept_of, further_lines, kept_from, first_kept}
+use Rattle.graphql_lexer.specs.Values.{terminator_len, line_in, Cut, least_indent, least_of, AtMost, kept_of, further_lines, kept_from, first_kept}
 
 -- ---- a line is cut
-
--- the line in front, its rest
-abbrev line_in : List ℕ → List ℕ
-line_in text = take (prefix_len is_in_line text) text
 
 abbrev rest_in : List ℕ → List ℕ
 rest_in text = drop (prefix_len is_in_line text) text
@@ -33,9 +29,9 @@ cut_onto b text line behind cut h = go (b == 10) (b == 13) refl refl (not-true (
     ]
 
     go : (s t : Bool) → (b == 10) ≡ s → (b == 13) ≡ t → (s || t) ≡ false → Cut (b ∷ text) (b ∷ line) behind
-    go true t es et no = absurd cc
-    go false true es et no = absurd cc
-    go false false es et no = both (rw (es, et) refl)
+    go true t es et neither = absurd cc
+    go false true es et neither = absurd cc
+    go false false es et neither = both (rw (es, et) refl)
 
 line_feed_cut : (text : List ℕ) → Cut (10 ∷ text) [] text
 unfolding lines_of
@@ -161,15 +157,15 @@ blank_dropped (suc n) (b ∷ line) h = blank_dropped n line (and_parts (is_white
 other_dropped : (n : ℕ) (line : List ℕ) → is_blank line ≡ false → n ≤ indent_of line → is_blank (drop n line) ≡ false
 other_dropped zero line h within = h
 other_dropped (suc n) [] h within = absurd cc
-other_dropped (suc n) (b ∷ line) h within = go (is_white_space b) refl
+other_dropped (suc n) (b ∷ line) h within = go (is_white_space b) refl (λ rest less. other_dropped n line rest less)
   where
-    go : (t : Bool) → is_white_space b ≡ t → is_blank (drop n line) ≡ false
-    go true e =
-        let more : indent_of (b ∷ line) ≡ suc (indent_of line) = rw e (one-add (indent_of line)) in
+    go : (t : Bool) → is_white_space b ≡ t → (is_blank line ≡ false → n ≤ indent_of line → is_blank (drop n line) ≡ false) → is_blank (drop n line) ≡ false
+    go true e more =
+        let one : indent_of (b ∷ line) ≡ suc (indent_of line) = rw e (one-add (indent_of line)) in
         let less : n ≤ indent_of line = omega arith in
-        let rest : is_blank line ≡ false = rw e at h in
-        other_dropped n line rest less
-    go false e =
+        let both : (is_white_space b && is_blank line) ≡ is_blank line = ap (λ (t : Bool). t && is_blank line) e in
+        more (sym both ∙ h) less
+    go false e more =
         let none : indent_of (b ∷ line) ≡ 0 = rw e refl in
         absurd (omega arith)
 
@@ -196,7 +192,7 @@ at_most_rest k line lines h = go (is_blank line) refl
     go true e = rw e at h
     go false e = (least_at_most k (indent_of line) (common_indent lines) (rw e at h)).1
 
-at_most_own : (others : Option ℕ) → AtMost (or_zero others) others
+pub at_most_own : (others : Option ℕ) → AtMost (or_zero others) others
 at_most_own None = tt
 at_most_own (Some n) = omega arith
 
@@ -250,11 +246,11 @@ at_most_front k (line ∷ lines) h = go (is_blank line) (at_most_front k lines (
 -- the first line of a front without blank ones isn't blank
 front_first : (lines : List (List ℕ)) (line : List ℕ) (others : List (List ℕ)) → without_blank_front lines ≡ line ∷ others → is_blank line ≡ false
 front_first [] line others e = absurd cc
-front_first (l ∷ lines) line others e = go (is_blank l) refl e
+front_first (l ∷ lines) line others e = go (is_blank l) refl e (λ is. front_first lines line others is)
   where
-    go : (t : Bool) → is_blank l ≡ t → cond t (without_blank_front lines) (l ∷ lines) ≡ line ∷ others → is_blank line ≡ false
-    go true h is = front_first lines line others is
-    go false h is = let same : l ≡ line = cc in ap is_blank (sym same) ∙ h
+    go : (t : Bool) → is_blank l ≡ t → cond t (without_blank_front lines) (l ∷ lines) ≡ line ∷ others → (without_blank_front lines ≡ line ∷ others → is_blank line ≡ false) → is_blank line ≡ false
+    go true h is more = more is
+    go false h is more = let same : l ≡ line = cc in ap is_blank (sym same) ∙ h
 
 formatted_kept : (k : ℕ) (lines : List (List ℕ)) → AtMost k (common_indent lines) → formatted (without_blank_back (map (drop k) (without_blank_front lines))) ≡ kept_from k (without_blank_front lines)
 formatted_kept k lines h = go (without_blank_front lines) refl (at_most_front k lines h)
@@ -426,3 +422,39 @@ front_here k text line behind (inr cut) full =
     let here : kept_from k (without_blank_front (line ∷ [])) ≡ drop k line ++ [] = rw full refl in
     ap (λ (ls : List (List ℕ)). kept_from k (without_blank_front ls)) cut.1 ∙ here
     ∙ ap (λ (bs : List ℕ). drop k line ++ further_lines k (without_blank_back (lines_of bs))) (sym cut.0)
+
+pub under_behind : (k : ℕ) (text line behind : List ℕ) → Cut text line behind → AtMost k (common_indent (lines_of text)) → AtMost k (common_indent (lines_of behind))
+unfolding lines_of
+under_behind k text line behind (inl cut) under = at_most_rest k line (lines_of behind) (subst (λ (ls : List (List ℕ)). AtMost k (common_indent ls)) cut under)
+under_behind k text line behind (inr cut) under = subst (λ (bs : List ℕ). AtMost k (common_indent (lines_of bs))) (sym cut.0) tt
+
+-- ---- tests of bytes
+
+pub empty_is : (bytes : List ℕ) → (length bytes == 0) ≡ true → bytes ≡ []
+empty_is [] h = refl
+empty_is (b ∷ bytes) h = let e : length (b ∷ bytes) ≡ 0 = eqb-true (length (b ∷ bytes)) 0 h in absurd (omega arith)
+
+pub full_is : (bytes : List ℕ) → (length bytes == 0) ≡ false → 0 < length bytes
+full_is [] h = absurd cc
+full_is (b ∷ bytes) h = omega arith
+
+pub fits_more : (count left behind all : ℕ) → count + left ≤ all → behind < left → (count + 1) + behind ≤ all
+fits_more count left behind all h less = omega arith
+
+pub fits_none : (n : ℕ) → 0 + n ≤ n
+fits_none n = omega arith
+
+pub on_ok_then : {A E : Type 0} (r : Result A E) (P Q : Type 0) → OnOk r P → (P → Q) → OnOk r Q
+on_ok_then (Ok x) P Q h f = f h
+on_ok_then (Err e) P Q h f = h
+
+-- what is added, and then what is behind
+pub added : (new old before front more all : List ℕ) → new ≡ old ++ more → old ≡ before ++ front → all ≡ front ++ more → new ≡ before ++ all
+added new old before front more all a b c =
+    a ∙ ap (λ (xs : List ℕ). xs ++ more) b ∙ append_assoc before front more ∙ ap (λ (xs : List ℕ). before ++ xs) (sym c)
+
+pub blank_value : (line : List ℕ) (k : ℕ) (lines : List (List ℕ)) → is_blank line ≡ true → first_kept line k lines ≡ kept_from k (without_blank_front lines)
+blank_value line k lines blank = rw blank refl
+
+pub full_value : (line : List ℕ) (k : ℕ) (lines : List (List ℕ)) → is_blank line ≡ false → first_kept line k lines ≡ line ++ further_lines k (without_blank_back lines)
+full_value line k lines full = rw full refl

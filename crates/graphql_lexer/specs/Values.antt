@@ -1,8 +1,8 @@
 -- Parts of strings and lines, for the private functions that write their values; users need not read it.
-use Rattle.std.specs.Prelude.{◌≡◌, ◌⊎◌, ◌≤◌, ℕ, ◌+◌, Bool, not, ◌==◌, if◌then◌else◌, List, [], ◌∷◌, ◌++◌, length, drop, map, Option, Some, None}
-use Rattle.std.specs.List.{list_all, flat_map}
+use Rattle.std.specs.Prelude.{◌≡◌, ◌⊎◌, ◌≤◌, ℕ, ◌+◌, Bool, not, ◌==◌, if◌then◌else◌, List, [], ◌∷◌, ◌++◌, length, take, drop, map, Option, Some, None}
+use Rattle.std.specs.List.{prefix_len, list_all, flat_map}
 use Rattle.graphql_lexer.specs.Blocks.{lines_of, is_blank, indent_of, least, without_blank_front, without_blank_back}
-use Rattle.graphql_lexer.specs.Tokens.{return_len}
+use Rattle.graphql_lexer.specs.Tokens.{is_in_line, return_len}
 
 -- no backslash
 abbrev pub is_plain : ℕ → Bool
@@ -12,6 +12,10 @@ is_plain b = not (b == 92)
 abbrev pub terminator_len : List ℕ → ℕ
 terminator_len [] = 0
 terminator_len (b ∷ bytes) = if b == 13 then return_len bytes else (if b == 10 then 1 else 0)
+
+-- what stands before the first line terminator
+abbrev pub line_in : List ℕ → List ℕ
+line_in text = take (prefix_len is_in_line text) text
 
 -- A text is this line and what is behind its terminator; the last line has none.
 abbrev pub Cut : List ℕ → List ℕ → List ℕ → Type 0

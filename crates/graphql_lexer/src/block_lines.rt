@@ -1,6 +1,8 @@
 //! What block strings stand for: BlockStringValue (section 2.9.4).
 ghost use Rattle.std.specs.Prelude.{◌≡◌, ◌≤◌, ◌<◌, ◌++◌, ◌∷◌, ◌+◌, ◌⊎◌, [], length, take, drop, OnOk, false, if◌then◌else◌};
+ghost use Rattle.std.specs.List.{prefix_len};
 ghost use Rattle.std.specs.String.{string_bytes};
+ghost use Rattle.graphql_lexer.specs.Tokens.{is_in_line};
 ghost use Rattle.graphql_lexer.specs.Blocks as blocks;
 ghost use Rattle.graphql_lexer.specs.Values as spec;
 
@@ -30,15 +32,26 @@ fn cut_bytes(bytes: &[u8]) -> (&[u8], &[u8])
     (line, behind)
 }
 
-/// The same of a text.
-#[tactic(auto, using(crate::proofs::Lines::line_cut, crate::proofs::Lines::line_boundary, crate::proofs::Lines::terminator_boundary))]
-fn cut_line(text: &str) -> (&str, &str)
-    ensures cut { spec.Cut text.now result.0.now result.1.now }
-    ensures shorter { 0 < length text.now → length result.1.now < length text.now }
+/// The first line of a text.
+#[tactic(auto, using(crate::proofs::Lines::line_boundary))]
+fn first_line(text: &str) -> &str
+    ensures line { result.now ≡ spec.line_in text.now }
+    ensures length { length result.now ≡ prefix_len is_in_line text.now }
 {
-    let (line, rest) = text.split_at(line_len(text.as_bytes()));
+    let (line, _) = text.split_at(line_len(text.as_bytes()));
+    line
+}
+
+/// What is behind the terminator of the first line, which has this length.
+#[tactic(auto, using(crate::proofs::Lines::line_cut, crate::proofs::Lines::line_boundary, crate::proofs::Lines::terminator_boundary))]
+fn behind_line(text: &str, line: usize) -> &str
+    requires { line ≡ prefix_len is_in_line text.now }
+    ensures cut { spec.Cut text.now (spec.line_in text.now) result.now }
+    ensures shorter { 0 < length text.now → length result.now < length text.now }
+{
+    let (_, rest) = text.split_at(line);
     let (_, behind) = rest.split_at(terminator_len(rest.as_bytes()));
-    (line, behind)
+    behind
 }
 
 fn is_white_space(byte: u8) -> bool
@@ -92,6 +105,15 @@ fn common_indent(bytes: &[u8]) -> Option<usize>
     common
 }
 
+fn or_zero(indent: Option<usize>) -> usize
+    ensures { result ≡ blocks.or_zero indent }
+{
+    match indent {
+        None => 0,
+        Some(indent) => indent,
+    }
+}
+
 /// How many lines are kept up to this one, the last of so many; the number before it where it is blank.
 fn kept_with(line: &[u8], count: usize, kept: usize) -> usize
     ensures { result ≡ (if blocks.is_blank line.now then kept else count) }
@@ -143,7 +165,8 @@ fn push_kept(out: &mut String, text: &str, indent: usize) -> Result<(), AllocErr
     let mut left = text;
     let mut more = kept_lines(text.as_bytes());
     'lines: while more > 0 {
-        let (line, behind) = cut_line(left);
+        let line = first_line(left);
+        let behind = behind_line(left, line.len());
         push_line(out, line, indent)?;
         left = behind;
         more -= 1;
@@ -158,7 +181,8 @@ fn push_from(out: &mut String, text: &str, indent: usize) -> Result<(), AllocErr
 {
     let mut left = text;
     'lines: while !left.is_empty() {
-        let (line, behind) = cut_line(left);
+        let line = first_line(left);
+        let behind = behind_line(left, line.len());
         if !is_blank(line.as_bytes()) {
             out.push_str(without_indent(line, indent))?;
             return push_kept(out, behind, indent);
@@ -172,8 +196,9 @@ fn push_from(out: &mut String, text: &str, indent: usize) -> Result<(), AllocErr
 pub(crate) fn push_block(out: &mut String, raw: &str) -> Result<(), AllocError>
     ensures { OnOk result (string_bytes out.new ≡ string_bytes out.old ++ blocks.block_string_value raw.now) }
 {
-    let (line, behind) = cut_line(raw);
-    let indent = common_indent(behind.as_bytes()).unwrap_or(0);
+    let line = first_line(raw);
+    let behind = behind_line(raw, line.len());
+    let indent = or_zero(common_indent(behind.as_bytes()));
     if is_blank(line.as_bytes()) {
         return push_from(out, behind, indent);
     }

@@ -40,7 +40,8 @@ pub(crate) fn raw_value(alloc: Global, text: &str) -> Result<String, AllocError>
     let mut rest = push_plain(&mut out, text)?;
     'characters: while !rest.is_empty() {
         let behind = push_character(&mut out, rest)?;
-        rest = push_plain(&mut out, behind)?;
+        let next = push_plain(&mut out, behind)?;
+        rest = next;
     }
     Ok(out)
 }

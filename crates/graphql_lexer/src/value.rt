@@ -71,7 +71,8 @@ pub(crate) fn push_parts(out: &mut String, text: &str) -> Result<(), AllocError>
     let mut rest = push_plain(out, text)?;
     'parts: while !rest.is_empty() {
         let behind = push_part(out, rest)?;
-        rest = push_plain(out, behind)?;
+        let next = push_plain(out, behind)?;
+        rest = next;
     }
     Ok(())
 }

@@ -5,5 +5,5 @@ use Rattle.graphql_lexer.proofs.raw.push_character.Goals as goal
 
 pub split_at-requires : goal.split_at-requires
 split_at-requires c =
-    subst (λ (n : ℕ). IsCharBoundary c.args.text.now n) (sym (c.block_character_at.ensures.length ∙ ap (λ (bytes : List ℕ). (block_character_at bytes).1) c.as_bytes.ensures.value))
+    subst (λ (n : ℕ). IsCharBoundary c.args.text.now n) (sym (c.block_character_at-length.ensures.length ∙ ap (λ (bytes : List ℕ). (block_character_at bytes).1) c.as_bytes.ensures.value))
     (character_boundary c.args.text.now c.requires c.utf8.text)
