@@ -1,6 +1,6 @@
 -- Pieces that stand one behind the other.
-use Rattle.std.proofs.Common.{◌≡◌, ℕ, zero, suc, ◌+◌, ◌-◌, ◌<◌, ◌≤◌, List, [], ◌∷◌, ◌++◌, length, take, drop, Option, Some, None, refl, sym, ap, ◌∙◌, arith}
-use Rattle.graphql_lexer.specs.Bytes.{run_on, run_len, replaced}
+use Rattle.std.proofs.Common.{◌≡◌, ℕ, zero, suc, ◌+◌, ◌-◌, ◌<◌, ◌≤◌, List, [], ◌∷◌, length, drop, Option, Some, None, refl, ap, ◌∙◌, arith}
+use Rattle.graphql_lexer.specs.Bytes.{run_len}
 
 sub_one : (n : ℕ) → suc n - 1 ≡ n
 sub_one n = omega arith

@@ -1,12 +1,12 @@
 -- The texts of tokens have the forms of their symbols.
-use Rattle.std.proofs.Common.{◌≡◌, ℕ, zero, suc, ◌+◌, ◌-◌, ◌<◌, ◌≤◌, Bool, true, false, cond, ◌&&◌, ◌||◌, ◌==◌, List, [], ◌∷◌, ◌++◌, length, map, take, drop, get_or, Option, Some, None, refl, sym, ap, ◌∙◌, subst, arith, one-add, eqb-true, append_assoc, length-append, IsUtf8, IsCharBoundary, inl, inr}
+use Rattle.std.proofs.Common.{◌≡◌, ℕ, suc, ◌+◌, ◌-◌, ◌<◌, Bool, true, false, cond, ◌||◌, ◌==◌, List, [], ◌∷◌, ◌++◌, length, take, drop, get_or, Option, Some, None, refl, sym, ap, ◌∙◌, subst, arith, one-add, eqb-true, append_assoc, length-append, IsUtf8, IsCharBoundary, inl, inr}
 use Rattle.std.proofs.Math.Seq.{take-add}
 use Rattle.std.specs.List.{prefix_len, list_all}
 use Rattle.std.specs.Char.{is_ascii_digit}
 use Rattle.std.specs.Str.{bytes_eq}
 use Rattle.std.proofs.lemmas.Bool.{and_parts, and_from, or_left}
 use Rattle.std.proofs.lemmas.Str.{IsCharBoundary-before_ascii, IsCharBoundary-after_ascii}
-use Rattle.graphql_names.specs.NameSyntax.{is_name_start, is_name_continue, is_name, IsName}
+use Rattle.graphql_names.specs.NameSyntax.{is_name_start, is_name_continue, IsName}
 use Rattle.graphql_lexer.specs.Bytes.{begins_by, begins_with, run_len}
 use Rattle.graphql_lexer.specs.Numbers.{sign_len, whole_len, fraction_len, exponent_len, goes_on, number_kind, number_at}
 use Rattle.graphql_lexer.specs.Strings.{part_len, closed_len, quoted_len}

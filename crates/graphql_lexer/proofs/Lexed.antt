@@ -3,9 +3,9 @@ use Rattle.std.proofs.Common.{◌≡◌, ◌⊎◌, ℕ, zero, suc, ◌+◌, ◌
 use Rattle.std.proofs.lemmas.List.{drop-drop, length-drop}
 use Rattle.graphql_lexer.specs.Input.{Token, Ending, Ended, NoTokenAt}
 use Rattle.graphql_lexer.specs.Tokens.{ignored_at, token_at}
-use Rattle.graphql_lexer.specs.Lex.{Piece, piece_at, ArePieces, with_token, tokens_among, LexesFront, Lex, NothingBegins}
-use Rattle.graphql_lexer.specs.Cursor.{Rest, rest_by, rest_from, input_from, EndsAs}
-use Rattle.graphql_lexer.proofs.Rests.{piece_takes, rest_piece, onto}
+use Rattle.graphql_lexer.specs.Lex.{Piece, piece_at, ArePieces, with_token, tokens_among, Lex, NothingBegins}
+use Rattle.graphql_lexer.specs.Cursor.{Rest, rest_from, EndsAs}
+use Rattle.graphql_lexer.proofs.Rests.{piece_takes, rest_piece}
 
 -- ---- how a text is lexed
 

@@ -1,13 +1,11 @@
 -- The lines of block strings.
-use Rattle.std.proofs.Common.{◌≡◌, ◌⊎◌, ℕ, zero, suc, ◌+◌, ◌-◌, ◌<◌, ◌≤◌, min, Bool, true, false, cond, not, ◌&&◌, ◌||◌, ◌==◌, List, [], ◌∷◌, ◌++◌, length, map, take, drop, get_or, Option, Some, None, Result, Ok, Err, OnOk, refl, sym, ap, ◌∙◌, subst, inl, inr, arith, one-add, append_assoc, append-nil, eqb-true, IsUtf8, IsCharBoundary}
+use Rattle.std.proofs.Common.{◌≡◌, ◌⊎◌, ℕ, zero, suc, ◌+◌, ◌<◌, ◌≤◌, min, Bool, true, false, cond, ◌&&◌, ◌||◌, ◌==◌, List, [], ◌∷◌, ◌++◌, length, map, take, drop, get_or, Option, Some, None, Result, Ok, Err, OnOk, refl, sym, ap, ◌∙◌, subst, inl, inr, arith, one-add, append_assoc, eqb-true, IsUtf8, IsCharBoundary}
 use Rattle.std.specs.List.{prefix_len, list_all, flat_map}
-use Rattle.std.proofs.lemmas.Bool.{and_parts, and_from, or_cases, not-false, not-true, cases_order}
-use Rattle.std.proofs.lemmas.List.{length-drop}
+use Rattle.std.proofs.lemmas.Bool.{and_parts, or_cases, not-false, not-true, cases_order}
 use Rattle.std.proofs.lemmas.List.Sums.{prefix_len_passes, prefix_len_stops, prefix_len-le-length}
 use Rattle.std.proofs.lemmas.Str.{IsCharBoundary-start, IsCharBoundary-end, IsCharBoundary-before_ascii, IsCharBoundary-after_ascii}
-use Rattle.graphql_lexer.specs.Bytes.{begins_by}
 use Rattle.graphql_lexer.specs.Tokens.{is_in_line, return_len}
-use Rattle.graphql_lexer.specs.Blocks.{is_line_feed, ends_line, onto_first, lines_of, is_white_space, is_blank, indent_of, least, common_indent, or_zero, without_indent, without_blank_front, without_blank_back, formatted, block_string_value}
+use Rattle.graphql_lexer.specs.Blocks.{onto_first, lines_of, is_white_space, is_blank, indent_of, least, common_indent, or_zero, without_indent, without_blank_front, without_blank_back, formatted, block_string_value}
 use Rattle.graphql_lexer.specs.Values.{terminator_len, line_in, Cut, least_indent, least_of, AtMost, kept_of, further_lines, kept_from, first_kept}
 
 -- ---- a line is cut

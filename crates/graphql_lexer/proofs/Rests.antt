@@ -1,13 +1,13 @@
 -- What a `Source` shows, from one token to the next.
-use Rattle.std.proofs.Common.{◌≡◌, ◌⊎◌, ℕ, zero, suc, ◌+◌, ◌-◌, ◌<◌, ◌≤◌, Bool, true, false, ◌&&◌, ◌||◌, ◌==◌, cond, List, [], ◌∷◌, length, take, drop, Option, Some, None, refl, sym, ap, ◌∙◌, subst, inl, inr, arith, one-add, add-zero, eqb-true}
+use Rattle.std.proofs.Common.{◌≡◌, ℕ, zero, suc, ◌+◌, ◌-◌, ◌<◌, ◌≤◌, Bool, true, false, ◌&&◌, ◌==◌, cond, List, [], ◌∷◌, length, take, drop, Option, Some, None, refl, sym, ap, ◌∙◌, subst, inl, inr, arith, one-add, add-zero, eqb-true}
 use Rattle.std.specs.List.{prefix_len}
 use Rattle.std.proofs.lemmas.Bool.{and_parts}
 use Rattle.std.proofs.lemmas.List.{drop-drop, length-drop, length-take-le}
 use Rattle.std.proofs.lemmas.List.Sums.{prefix_len-le-length}
 use Rattle.std.proofs.lemmas.Bool.{lt-ltb, le-ltb}
 use Rattle.std.specs.Prelude.{nat_lt, not, is_some}
-use Rattle.graphql_lexer.specs.Input.{Token, Ending, Ended, NoTokenAt, Input, next, next_of}
-use Rattle.graphql_lexer.specs.Bytes.{begins_by, begins_with, run_on, run_len}
+use Rattle.graphql_lexer.specs.Input.{Token, Ending, Ended, NoTokenAt, Input, next}
+use Rattle.graphql_lexer.specs.Bytes.{begins_with, run_on, run_len}
 use Rattle.graphql_lexer.specs.Blocks.{is_line_feed}
 use Rattle.graphql_lexer.specs.Tokens.{is_ignored_byte, is_in_line, return_len, ignored_at, token_at}
 use Rattle.graphql_lexer.specs.Terminals.{terminal_of}
@@ -17,7 +17,7 @@ use Rattle.graphql_lexer.specs.declared.token.TokenKind.{TokenKind}
 use Rattle.graphql_lexer.specs.declared.terminal.Terminal.{Terminal}
 use Rattle.graphql_lexer.specs.Forms.{FirstForm, Taken}
 use Rattle.graphql_lexer.proofs.Forms.{token_form}
-use Rattle.graphql_lexer.proofs.Ends.{Ends, EndsAt, token_ends, some_if}
+use Rattle.graphql_lexer.proofs.Ends.{token_ends, some_if}
 
 -- ---- how long pieces are
 

@@ -1,11 +1,11 @@
 -- Texts and their tokens, evaluated.
-use Rattle.std.proofs.Common.{◌≡◌, ℕ, List, [], ◌∷◌, ◌++◌, codes, Option, Some, None, refl}
+use Rattle.std.proofs.Common.{◌≡◌, ℕ, List, [], ◌∷◌, ◌++◌, codes, Some, None, refl}
 use Rattle.graphql_lexer.specs.Bytes.{run_len}
 use Rattle.graphql_lexer.specs.Numbers.{whole_len, digits_behind, fraction_len, exponent_len, number_at}
 use Rattle.graphql_lexer.specs.Strings.{unicode_at, escape_at, part_len, quoted_len}
 use Rattle.graphql_lexer.specs.Blocks.{block_character_len, block_len}
 use Rattle.graphql_lexer.specs.Tokens.{ignored_at, string_at, token_at}
-use Rattle.graphql_lexer.specs.Terminals.{words, terminal_of}
+use Rattle.graphql_lexer.specs.Terminals.{words}
 use Rattle.graphql_lexer.specs.Input.{Token, Ended, NoTokenAt}
 use Rattle.graphql_lexer.specs.Lex.{piece_at}
 use Rattle.graphql_lexer.specs.Cursor.{Rest, rest_from}

@@ -1,5 +1,5 @@
 -- What strings stand for, evaluated.
-use Rattle.std.proofs.Common.{◌≡◌, ℕ, List, [], ◌∷◌, ◌++◌, codes, refl}
+use Rattle.std.proofs.Common.{◌≡◌, [], ◌∷◌, ◌++◌, codes, refl}
 use Rattle.std.specs.Char.{encode_utf8}
 use Rattle.graphql_lexer.specs.Bytes.{replaced}
 use Rattle.graphql_lexer.specs.Strings.{unicode_at, escape_at, part_at, string_value}

@@ -1,15 +1,14 @@
 -- Texts with their escapes replaced.
-use Rattle.std.proofs.Common.{◌≡◌, ◌⊎◌, ℕ, zero, suc, ◌+◌, ◌-◌, ◌<◌, ◌≤◌, Bool, true, false, cond, not, ◌&&◌, ◌||◌, ◌==◌, List, [], ◌∷◌, ◌++◌, length, take, drop, get_or, Option, Some, None, refl, sym, ap, ◌∙◌, subst, inl, inr, arith, one-add, append_assoc, append-nil, eqb-true, leb-true, IsUtf8, IsCharBoundary}
+use Rattle.std.proofs.Common.{◌≡◌, ◌⊎◌, ℕ, zero, suc, ◌+◌, ◌-◌, ◌<◌, ◌≤◌, Bool, true, false, cond, not, ◌&&◌, ◌==◌, List, [], ◌∷◌, ◌++◌, length, take, drop, get_or, Option, Some, None, refl, sym, ap, ◌∙◌, subst, inl, inr, arith, one-add, append_assoc, append-nil, eqb-true, leb-true, IsUtf8, IsCharBoundary}
 use Rattle.std.specs.List.{prefix_len}
-use Rattle.std.specs.Char.{encode_utf8}
 use Rattle.std.proofs.lemmas.Bool.{and_parts, and_from, not-false, cases_order}
-use Rattle.std.proofs.lemmas.List.{drop-drop, length-drop}
+use Rattle.std.proofs.lemmas.List.{length-drop}
 use Rattle.std.proofs.lemmas.Option.{slice_get_within, get_or_from_slice_get}
 use Rattle.std.specs.Prelude.{slice_get}
 use Rattle.std.proofs.lemmas.List.Sums.{prefix_len_stops, prefix_len-le-length}
 use Rattle.std.proofs.lemmas.Str.{IsUtf8-drop, IsCharBoundary-end, IsCharBoundary-before_ascii, IsCharBoundary-after_ascii}
-use Rattle.graphql_lexer.specs.Bytes.{begins_by, begins_with, within, replaced, ◌>>=◌}
-use Rattle.graphql_lexer.specs.Strings.{escaped, hexadecimal, hexadecimal_at, is_surrogate, unicode_at, with_len, escape_at, escape_part, part_at}
+use Rattle.graphql_lexer.specs.Bytes.{begins_with, within, replaced}
+use Rattle.graphql_lexer.specs.Strings.{escaped, hexadecimal, hexadecimal_at, unicode_at, with_len, escape_at, escape_part, part_at}
 use Rattle.graphql_lexer.specs.Blocks.{quotes, escaped_quotes, block_character_at}
 use Rattle.graphql_lexer.specs.Values.{is_plain}
 use Rattle.graphql_lexer.proofs.Ends.{EndsAt, some_if, bind_some, shifted, first_ends}

@@ -1,10 +1,9 @@
 -- Words in a table.
-use Rattle.std.proofs.Common.{◌≡◌, ℕ, ◌+◌, ◌<◌, Bool, true, false, cond, List, [], ◌∷◌, length, map, drop, get_or, refl, sym, ap, ◌∙◌, Bor}
+use Rattle.std.proofs.Common.{◌≡◌, ℕ, ◌+◌, ◌<◌, true, false, List, ◌∷◌, length, map, drop, get_or, refl, ◌∙◌, Bor}
 use Rattle.std.specs.Str.{bytes_eq}
 use Rattle.std.proofs.lemmas.List.{at_drop_more}
-use Rattle.graphql_lexer.specs.Terminals.{Word, words, spelled}
+use Rattle.graphql_lexer.specs.Terminals.{Word, spelled}
 use Rattle.graphql_lexer.specs.declared.terminal.Terminal.{Terminal}
-use Rattle.graphql_lexer.specs.declared.terminal.Terminal.TheVariants.{Name}
 
 -- a word of the table
 abbrev pub Entry : Type 0

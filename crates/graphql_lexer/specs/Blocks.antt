@@ -1,5 +1,5 @@
 -- Block strings: how far they reach, and what they stand for (GraphQL, October 2021, section 2.9.4).
-use Rattle.std.specs.Prelude.{ℕ, ◌+◌, Bool, true, false, not, ◌&&◌, ◌||◌, ◌==◌, min, if◌then◌else◌, List, [], ◌∷◌, ◌++◌, drop, map, Option, Some, None}
+use Rattle.std.specs.Prelude.{ℕ, Bool, not, ◌&&◌, ◌||◌, ◌==◌, min, if◌then◌else◌, List, [], ◌∷◌, ◌++◌, drop, map, Option, Some, None}
 use Rattle.std.specs.List.{prefix_len, list_all, flat_map}
 use Rattle.graphql_lexer.specs.Bytes.{begins_by, begins_with, run_len, replaced, between}
 use Rattle.graphql_lexer.specs.Strings.{closed_len}

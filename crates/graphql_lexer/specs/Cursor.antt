@@ -1,6 +1,6 @@
 -- What a `Source` shows: the tokens of its text that are left.
 use Rattle.std.specs.Prelude.{◌≡◌, ◌≤◌, ℕ, zero, suc, ◌+◌, ◌-◌, Bool, true, false, List, [], ◌∷◌, length, take, drop, Option, Some, None}
-use Rattle.graphql_lexer.specs.Input.{Token, Ending, Ended, NoTokenAt, Input, end_of, past}
+use Rattle.graphql_lexer.specs.Input.{Token, Ending, Ended, NoTokenAt, Input, past}
 use Rattle.graphql_lexer.specs.Tokens.{ignored_at, token_at}
 use Rattle.graphql_lexer.specs.Terminals.{terminal_of}
 use Rattle.graphql_lexer.specs.Lex.{Piece, piece_at, with_token, Lex, LexesFront, NothingBegins}

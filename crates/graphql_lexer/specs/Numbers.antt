@@ -1,5 +1,5 @@
 -- How far an Int or a Float token reaches (GraphQL, October 2021, sections 2.9.1 and 2.9.2), in bytes.
-use Rattle.std.specs.Prelude.{ℕ, ◌+◌, Bool, ◌||◌, ◌==◌, if◌then◌else◌, List, [], ◌∷◌, drop, Option, Some, None}
+use Rattle.std.specs.Prelude.{ℕ, ◌+◌, Bool, ◌||◌, ◌==◌, if◌then◌else◌, List, drop, Option, Some, None}
 use Rattle.std.specs.List.{prefix_len}
 use Rattle.std.specs.Char.{is_ascii_digit}
 use Rattle.graphql_names.specs.NameSyntax.{is_name_continue}

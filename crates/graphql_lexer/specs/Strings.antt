@@ -1,5 +1,5 @@
 -- Strings within quotation marks: how far they reach, and what they stand for (GraphQL, October 2021, section 2.9.4).
-use Rattle.std.specs.Prelude.{ℕ, ◌+◌, ◌-◌, ◌*◌, Bool, ◌||◌, ◌==◌, if◌then◌else◌, List, [], ◌∷◌, ◌++◌, length, drop, Option, Some, None, slice_get}
+use Rattle.std.specs.Prelude.{ℕ, ◌+◌, ◌-◌, ◌*◌, Bool, ◌||◌, ◌==◌, if◌then◌else◌, List, [], ◌∷◌, length, drop, Option, Some, None, slice_get}
 use Rattle.std.specs.Char.{encode_utf8}
 use Rattle.graphql_lexer.specs.Bytes.{within, begins_with, ◌>>=◌, run_len, replaced, between}
 

@@ -1,6 +1,6 @@
 -- The tokens of a text, and what is ignored between them (GraphQL, October 2021, section 2.1): which piece begins a text,
 -- and how many bytes it takes.
-use Rattle.std.specs.Prelude.{ℕ, ◌+◌, Bool, not, ◌&&◌, ◌||◌, ◌==◌, if◌then◌else◌, List, [], ◌∷◌, drop, Option, Some, None}
+use Rattle.std.specs.Prelude.{ℕ, Bool, not, ◌&&◌, ◌||◌, ◌==◌, if◌then◌else◌, List, [], ◌∷◌, Option, Some, None}
 use Rattle.std.specs.List.{prefix_len}
 use Rattle.std.specs.Char.{is_ascii_digit}
 use Rattle.graphql_names.specs.NameSyntax.{is_name_start, is_name_continue}

@@ -1,6 +1,5 @@
-use Rattle.std.proofs.Common.{◌≡◌, ℕ, List, [], ◌++◌, length, take, sym, ap, ◌∙◌, arith}
+use Rattle.std.proofs.Common.{ℕ, List, [], ◌++◌, take, sym, ap, ◌∙◌, arith}
 use Rattle.std.specs.String.{string_bytes}
-use Rattle.graphql_lexer.specs.Bytes.{replaced}
 use Rattle.graphql_lexer.specs.Blocks.{block_character_at}
 use Rattle.graphql_lexer.proofs.Values.{Begins, plain_of, block_keeps, character_ends, plain_utf8, plain_begins, plain_within, plain_so_far, piece_utf8, piece_shorter, piece_so_far, begins_now, so_far_end}
 use Rattle.graphql_lexer.proofs.raw.raw_value.Goals as goal

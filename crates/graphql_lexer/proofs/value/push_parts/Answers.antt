@@ -1,6 +1,5 @@
-use Rattle.std.proofs.Common.{◌≡◌, ℕ, List, [], ◌++◌, length, sym, ap, ◌∙◌, arith}
+use Rattle.std.proofs.Common.{sym, ◌∙◌, arith}
 use Rattle.std.specs.String.{string_bytes}
-use Rattle.graphql_lexer.specs.Bytes.{replaced}
 use Rattle.graphql_lexer.specs.Strings.{part_at}
 use Rattle.graphql_lexer.proofs.Values.{Begins, part_keeps, part_ends, plain_utf8, plain_begins, plain_within, plain_so_far, piece_utf8, piece_shorter, piece_so_far, begins_now, so_far_end}
 use Rattle.graphql_lexer.proofs.value.push_parts.Goals as goal

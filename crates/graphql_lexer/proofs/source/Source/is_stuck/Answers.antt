@@ -1,4 +1,4 @@
-use Rattle.std.proofs.Common.{◌≡◌, ap, sym, ◌∙◌, ◌&&◌, length, nat_lt}
+use Rattle.std.proofs.Common.{ap, sym, ◌∙◌, ◌&&◌, length, nat_lt}
 use Rattle.graphql_lexer.specs.Cursor.{is_stuck}
 use Rattle.graphql_lexer.proofs.Rests.{stuck_is, has_none_is}
 use Rattle.graphql_lexer.proofs.source.Source.is_stuck.Goals as goal

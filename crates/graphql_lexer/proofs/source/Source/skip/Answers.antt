@@ -1,4 +1,4 @@
-use Rattle.std.proofs.Common.{◌≡◌, ℕ, ◌+◌, sym, ap, ◌∙◌, subst}
+use Rattle.std.proofs.Common.{ℕ, ◌+◌, sym, ap, ◌∙◌, subst}
 use Rattle.graphql_lexer.specs.Input.{Input}
 use Rattle.graphql_lexer.specs.Cursor.{input_from, text_of, skipped}
 use Rattle.graphql_lexer.specs.Forms.{FirstForm}
