@@ -19,7 +19,8 @@ use Rattle.graphql_lexer.specs.declared.token.TokenKind.TheVariants as k
 use Rattle.graphql_lexer.specs.declared.token.TokenKind.TheVariants.{Name, String, BlockString, Bang, Dollar, Ampersand, OpenParen, CloseParen, Spread, Colon, Equals, At, OpenBracket, CloseBracket, OpenBrace, Pipe, CloseBrace, Int, Float}
 use Rattle.graphql_lexer.specs.declared.terminal.Terminal.{Terminal}
 use Rattle.graphql_lexer.specs.declared.terminal.Terminal.TheVariants as t
-use Rattle.graphql_lexer.proofs.Ends.{some_if, some_unless, choice, bind_some, same_some, of_kind_is, one_byte_is}
+use Rattle.graphql_lexer.proofs.Ends.{of_kind_is, one_byte_is}
+use Rattle.graphql_lexer.proofs.Choices.{some_if, some_unless, choice, bind_some, same_some}
 
 -- ---- words
 
