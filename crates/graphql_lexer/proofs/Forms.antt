@@ -48,7 +48,7 @@ word_form text name = record {
   block = λ e. absurd (not_word (spelled words text) t.BlockString (spelled_word text) refl e);
 }
 
-front_passes : (p : ℕ → Bool) (xs : List ℕ) → list_all p (take (prefix_len p xs) xs) ≡ true
+pub front_passes : (p : ℕ → Bool) (xs : List ℕ) → list_all p (take (prefix_len p xs) xs) ≡ true
 front_passes p [] = refl
 front_passes p (x ∷ xs) = go (p x) refl (front_passes p xs)
   where
