@@ -34,11 +34,11 @@ all_words (w ∷ ws) h text =
     go true here more = here
     go false here more = more
 
-spelled_word : (text : List ℕ) → is_word (spelled words text) ≡ true
+pub spelled_word : (text : List ℕ) → is_word (spelled words text) ≡ true
 unfolding words
 spelled_word text = all_words words refl text
 
-not_word : (symbol other : Terminal) → is_word symbol ≡ true → is_word other ≡ false → symbol ≡ other → ⊥
+pub not_word : (symbol other : Terminal) → is_word symbol ≡ true → is_word other ≡ false → symbol ≡ other → ⊥
 not_word symbol other word other_word e = let both : true ≡ false = sym word ∙ ap is_word e ∙ other_word in absurd cc
 
 word_form : (text : List ℕ) → IsName text → Form (spelled words text) text

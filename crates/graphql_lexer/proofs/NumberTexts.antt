@@ -166,6 +166,7 @@ number_text bytes kind n h =
         all_int : (t : Bool) → (s + w == s + w + f + e) ≡ t → cond t k.Int k.Float ≡ k.Int → (0 ≡ f) × (0 ≡ e)
         all_int true same h = let equal : s + w ≡ s + w + f + e = eqb-true (s + w) (s + w + f + e) same in (omega arith, omega arith)
         all_int false same h = absurd cc
+
         some_part : (t : Bool) → (s + w == s + w + f + e) ≡ t → cond t k.Int k.Float ≡ k.Float → (0 ≡ f) ⊎ Fraction (take f (drop (s + w) bytes)) → (0 ≡ e) ⊎ Exponent (take e (drop (s + w + f) bytes)) → Fraction (take f (drop (s + w) bytes)) ⊎ Exponent (take e (drop (s + w + f) bytes))
         some_part true same h a b = absurd cc
         some_part false same h (inr a) b = inl a
