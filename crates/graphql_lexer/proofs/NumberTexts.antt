@@ -1,11 +1,11 @@
 -- The texts of Int and Float tokens, part by part, for the crates above that make numbers of them.
-use Rattle.std.proofs.Common.{◌≡◌, ◌⊎◌, ℕ, suc, ◌+◌, ◌-◌, ◌<◌, ◌≤◌, Bool, true, false, cond, ◌&&◌, ◌||◌, ◌==◌, List, [], ◌∷◌, ◌++◌, length, take, drop, Option, Some, None, refl, sym, ap, ◌∙◌, subst, inl, inr, arith, one-add, eqb-true, eq-eqb}
+use Rattle.std.proofs.Common.{◌≡◌, ◌⊎◌, ℕ, suc, ◌+◌, ◌<◌, Bool, true, false, cond, ◌==◌, List, [], ◌∷◌, ◌++◌, length, take, drop, Some, None, refl, sym, ap, ◌∙◌, subst, inl, inr, arith, one-add, eqb-true, eq-eqb}
 use Rattle.std.proofs.Math.Seq.{take-add}
 use Rattle.std.specs.List.{prefix_len, list_all}
 use Rattle.std.specs.Char.{is_ascii_digit}
-use Rattle.std.proofs.lemmas.Bool.{and_parts, and_from}
+use Rattle.std.proofs.lemmas.Bool.{and_from}
 use Rattle.graphql_lexer.specs.Bytes.{begins_by}
-use Rattle.graphql_lexer.specs.Numbers.{is_zero, is_point, is_minus, is_exponent_mark, is_sign, sign_len, whole_len, digits_behind, fraction_len, exponent_len, goes_on, number_kind, number_at}
+use Rattle.graphql_lexer.specs.Numbers.{is_zero, is_exponent_mark, is_sign, sign_len, whole_len, digits_behind, fraction_len, exponent_len, goes_on, number_kind, number_at}
 use Rattle.graphql_lexer.specs.declared.token.TokenKind.{TokenKind}
 use Rattle.graphql_lexer.specs.declared.token.TokenKind.TheVariants as k
 use Rattle.graphql_lexer.proofs.Choices.{some_if, some_unless, choice, bind_some, same_some}

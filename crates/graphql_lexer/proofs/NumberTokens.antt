@@ -1,5 +1,5 @@
 -- The texts of Int and Float tokens that a `Source` gives are numbers.
-use Rattle.std.proofs.Common.{◌≡◌, ◌⊎◌, ℕ, Bool, true, false, cond, ◌||◌, ◌==◌, List, [], ◌∷◌, length, take, Option, Some, None, refl, sym, ap, ◌∙◌, subst, inl, inr}
+use Rattle.std.proofs.Common.{◌≡◌, ℕ, Bool, true, false, cond, ◌||◌, ◌==◌, List, [], ◌∷◌, length, take, Option, Some, None, refl, sym, ap, ◌∙◌, subst, inl, inr}
 use Rattle.std.specs.List.{prefix_len}
 use Rattle.std.specs.Char.{is_ascii_digit}
 use Rattle.graphql_names.specs.NameSyntax.{is_name_start, is_name_continue}
@@ -9,11 +9,10 @@ use Rattle.graphql_lexer.specs.Strings.{quoted_len}
 use Rattle.graphql_lexer.specs.Blocks.{quotes, block_len}
 use Rattle.graphql_lexer.specs.Tokens.{punctuator, one_byte, of_kind, string_at, token_at}
 use Rattle.graphql_lexer.specs.Terminals.{words, spelled, terminal_of}
-use Rattle.graphql_lexer.specs.Forms.{is_word, Taken}
+use Rattle.graphql_lexer.specs.Forms.{Taken}
 use Rattle.graphql_lexer.specs.declared.token.TokenKind.{TokenKind}
 use Rattle.graphql_lexer.specs.declared.token.TokenKind.TheVariants as k
 use Rattle.graphql_lexer.specs.declared.token.TokenKind.TheVariants.{Name, Bang, Dollar, Ampersand, OpenParen, CloseParen, Spread, Colon, Equals, At, OpenBracket, CloseBracket, OpenBrace, Pipe, CloseBrace, Int, Float, String, BlockString}
-use Rattle.graphql_lexer.specs.declared.terminal.Terminal.{Terminal}
 use Rattle.graphql_lexer.specs.declared.terminal.Terminal.TheVariants as t
 use Rattle.graphql_lexer.proofs.Choices.{some_if, choice, same_some}
 use Rattle.graphql_lexer.proofs.Ends.{one_byte_is}

@@ -11,7 +11,7 @@ use Rattle.graphql_lexer.specs.Lex.{Piece, piece_of, piece_at, with_token, past_
 use Rattle.graphql_lexer.specs.Cursor.{Rest, rest_by, rest_from, input_from, with_terminal, symbol_at, text_of, skipped, next_offset, is_stuck}
 use Rattle.graphql_lexer.specs.declared.token.TokenKind.{TokenKind}
 use Rattle.graphql_lexer.specs.declared.terminal.Terminal.{Terminal}
-use Rattle.graphql_lexer.specs.Forms.{FirstForm, Taken}
+use Rattle.graphql_lexer.specs.Forms.{FormOf, Taken}
 use Rattle.graphql_lexer.proofs.Forms.{token_form}
 use Rattle.graphql_lexer.proofs.Ends.{token_ends}
 use Rattle.graphql_lexer.proofs.Takes.{piece_takes}
@@ -227,16 +227,20 @@ token_is bytes kind n token found is =
     let size : n ≡ length token = sym (ap (length {A = ℕ}) is ∙ length-take-le n bytes (token_ends bytes (kind, n) found).ends.within) in
     (found ∙ ap (λ (m : ℕ). Some (kind, m)) size, is ∙ ap (λ (m : ℕ). take m bytes) size)
 
-pub first_form : (text : List ℕ) (at last : ℕ) → ignored_at (drop at text) ≡ None → FirstForm (input_from last at text).ahead
+-- the text of the next token
+abbrev pub HasForm : Input → Type 0
+HasForm i = FormOf (next i) (text_of i.ahead)
+
+pub first_form : (text : List ℕ) (at last : ℕ) → ignored_at (drop at text) ≡ None → HasForm (input_from last at text)
 first_form text at last none = go (token_at (drop at text)) refl
   where
-    go : (o : Option (TokenKind × ℕ)) → token_at (drop at text) ≡ o → FirstForm (input_from last at text).ahead
-    go None e = subst (λ (i : Input). FirstForm i.ahead) (sym (input_none text at last none e)) tt
+    go : (o : Option (TokenKind × ℕ)) → token_at (drop at text) ≡ o → HasForm (input_from last at text)
+    go None e = subst HasForm (sym (input_none text at last none e)) tt
     go (Some token) e =
         let bytes : List ℕ = drop at text in
         let is = token_is bytes token.0 token.1 (take token.1 bytes) e refl in
         let taken : Taken (terminal_of token.0 (take token.1 bytes)) (take token.1 bytes) = record { bytes = bytes; kind = token.0; found = is.0; front = is.1; is = refl } in
-        subst (λ (i : Input). FirstForm i.ahead) (sym (input_token text at last 0 token.0 token.1 none e)) (token_form bytes token e, taken)
+        subst HasForm (sym (input_token text at last 0 token.0 token.1 none e)) (token_form bytes token e, taken)
 
 -- ---- the next token of a text
 
