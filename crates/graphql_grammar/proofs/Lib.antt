@@ -1,0 +1,13 @@
+pub mod Tests
+pub mod Exact
+pub mod Moves
+pub mod Steady
+pub mod Nests
+pub mod Keeps
+pub mod Parses
+pub mod Steps
+pub mod Values
+pub mod Operations
+pub mod TypeSystem
+pub mod Documents
+pub mod Theorems
