@@ -7,7 +7,8 @@ use Rattle.graphql_grammar.specs.Begins.{begins_kind, begins_operation, begins_t
 use Rattle.graphql_grammar.specs.Rules as rule
 use Rattle.graphql_grammar.specs.Rules.{Rule, ◌<$>◌, ◌∣◌}
 use Rattle.graphql_grammar.specs.TypeSystemGrammar as tg
-use Rattle.graphql_grammar.specs.TypeSystemGrammar.{SchemaKind}
+use Rattle.graphql_grammar.specs.TypeSystemGrammar.{KindTree, SchemaKind}
+use Rattle.graphql_values.specs.DirectiveTree.{DirectiveDefinitionTree}
 use Rattle.graphql_grammar.specs.Grammar as g
 use Rattle.graphql_grammar.specs.Grammar.{type_system_of, extension_of, has_part}
 use Rattle.graphql_grammar.specs.DocumentReading as d
@@ -17,7 +18,7 @@ use Rattle.graphql_grammar.proofs.Operations.{operation_definition_parses, fragm
 use Rattle.graphql_grammar.proofs.TypeSystem.{after_definition, description_parses, schema_definition_parses, type_definition_parses, directive_definition_parses, schema_extension_parses}
 
 module _ {P : Type 0} (m : Meaning P) where
-  abbrev undescribed_rule : ℕ → Rule _
+  abbrev undescribed_rule : ℕ → Rule (KindTree P ⊎ DirectiveDefinitionTree P)
   undescribed_rule n = inl <$> (SchemaKind <$> tg.schema_definition m n ∣ tg.type_definition m n) ∣ inr <$> tg.directive_definition m n
 
   pub undescribed_parses : (n h : ℕ) → n ≤ h → Parses 1 n (undescribed_rule n) (d.undescribed m n) (d.undescribed m h) (either (next_is begins_kind) (next_is is_directive)) after_definition
@@ -33,7 +34,7 @@ module _ {P : Type 0} (m : Meaning P) where
       weaker (next_is begins_type_system) after_definition refl refl
       (mapped type_system_of (located m (opt is_string refl refl refl (description_parses m) (undescribed_parses n h le))))
 
-  abbrev extension_rule : ℕ → Rule _
+  abbrev extension_rule : ℕ → Rule (KindTree P)
   extension_rule n = rule.such_that has_part (SchemaKind <$> tg.schema_extension m n ∣ tg.type_definition m n)
 
   pub extension_parses : (n h : ℕ) → n ≤ h → Parses 1 n (extension_rule n) (d.extension m n) (d.extension m h) (next_is begins_kind) after_definition

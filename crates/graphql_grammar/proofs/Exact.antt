@@ -205,7 +205,8 @@ unless false pr = pr
 pub such_that : {A : Type 0} {r : Rule A} {p : Parser A} {b e : Test} (passes : A → Bool) → Exact r p b e → Exact (rule.such_that passes r) (read.such_that passes p) b e
 such_that {A} {r} {p} passes pr = record {
   sound = λ i x o at. let h = then_ok (p i) (checked passes) (x, o) at in passed i h.0 h.1 h.2 x o (passes h.0) refl h.3;
-  complete = λ i x o h at. rw (pr.complete i x o h.0 at, h.1) refl;
+  complete = λ i x o h at.
+      ap (λ (y : Outcome A). and_then y (checked passes)) (pr.complete i x o h.0 at) ∙ ap (λ (b : Bool). cond b (done (x, o)) (Err (Unexpected, o))) h.1;
   first = λ i x o h at. pr.first i x o h.0 at;
 }
   where

@@ -1,5 +1,5 @@
 -- A parser leaves how the text ends as it is.
-use Rattle.std.proofs.Common.{◌≡◌, ℕ, zero, suc, Bool, true, false, cond, List, [], ◌∷◌, Option, Some, None, Ok, Err, refl, ◌∙◌}
+use Rattle.std.proofs.Common.{◌≡◌, ℕ, zero, suc, Bool, true, false, cond, List, [], ◌∷◌, length, Option, Some, None, Ok, Err, refl, ◌∙◌}
 use Rattle.graphql_values.specs.Placed.{Placed}
 use Rattle.graphql_lexer.specs.declared.terminal.Terminal.{Terminal}
 use Rattle.graphql_lexer.specs.Input.{Token, Input, Ending, next, past}
@@ -66,7 +66,7 @@ unless false pp = pp
 pub such_that : {A : Type 0} {p : Parser A} (passes : A → Bool) → Keeps p → Keeps (read.such_that passes p)
 such_that {A} passes pp = bound pp (λ x. by_test x (passes x))
   where
-    by_test : (x : A) (t : Bool) → Keeps (λ o. cond t (Ok (x, o)) (Err (Unexpected, o)))
+    by_test : (x : A) (t : Bool) → Keeps {A = A} (λ o. cond t (Ok (x, o)) (Err (Unexpected, o)))
     by_test x true = given x
     by_test x false = refused
 
@@ -90,7 +90,7 @@ module _ {A : Type 0} {p : Parser A} (begins : Terminal → Bool) (pp : Keeps p)
 
   pub several : Keeps (many begins p)
   unfolding many
-  several = record { ending = λ i. (many_kept _).ending i }
+  several = record { ending = λ i. (many_kept (length i.ahead)).ending i }
 
   pub one_or_more : Keeps (some begins p)
   unfolding some

@@ -11,3 +11,7 @@ pub mod Operations
 pub mod TypeSystem
 pub mod Documents
 pub mod Theorems
+pub mod Laws
+pub mod Opened
+pub mod Spans
+pub mod Rows

@@ -151,7 +151,7 @@ unless false pp = pp
 pub such_that : {A : Type 0} {n : ℕ} {q : Parser A} (passes : A → Bool) → Nested n q → Nested n (read.such_that passes q)
 such_that {A} {n} passes pp = bound pp (λ x. by_test x (passes x))
   where
-    by_test : (x : A) (t : Bool) → Nested n (λ o. cond t (Ok (x, o)) (Err (Unexpected, o)))
+    by_test : (x : A) (t : Bool) → Nested {A = A} n (λ o. cond t (Ok (x, o)) (Err (Unexpected, o)))
     by_test x true = given n x
     by_test x false = refused n
 

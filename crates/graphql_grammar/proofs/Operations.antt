@@ -25,7 +25,7 @@ use Rattle.graphql_grammar.proofs.Steady as t
 use Rattle.graphql_grammar.proofs.Nests as l
 use Rattle.graphql_grammar.proofs.Keeps as kept
 use Rattle.graphql_grammar.proofs.Parses.{Parses, token, mapped, mark, weaker, seq, opt, alternative, only, maybe, located, one_or_more, enclosed, none_deep, one_deep, restated}
-use Rattle.graphql_grammar.proofs.Values.{no, name_parses, variable_parses, type_parses, default_value_parses, arguments_parses, directives_parses}
+use Rattle.graphql_grammar.proofs.Values.{lacking, name_parses, variable_parses, type_parses, default_value_parses, arguments_parses, directives_parses}
 
 -- what may follow a selection
 abbrev pub after_selection : Test
@@ -49,7 +49,7 @@ module _ {P : Type 0} (m : Meaning P) where
   second first = (λ x. (Some first, x.1)) <&> read.mark is_colon ⊙ v.name m
 
   name_exact : Exact (vg.name m) (v.name m) (next_is is_name) any
-  name_exact = (name_parses m {0}).exact
+  name_exact = (name_parses m {n = 0}).exact
 
   second_exact : (first : Text P) → Exact ((λ x. (Some first, x.1)) <$> rule.mark is_colon · vg.name m) (second first) (next_is is_colon) any
   second_exact first = e.mapped (λ x. (Some first, x.1)) (e.seq (e.weaker (next_is is_colon) (next_is is_name) refl refl (e.mark is_colon)) name_exact)
@@ -76,7 +76,7 @@ module _ {P : Type 0} (m : Meaning P) where
   not_colon true h = absurd cc
   not_colon false h = refl
 
-  alias_complete : (i : Input) (x : Option (Text P) × Text P) (z : Input) → aliased i x z → no is_colon (next z) ≡ true → o.alias_and_name m i ≡ Ok (x, z)
+  alias_complete : (i : Input) (x : Option (Text P) × Text P) (z : Input) → aliased i x z → lacking is_colon (next z) ≡ true → o.alias_and_name m i ≡ Ok (x, z)
   unfolding o.alias_and_name
   alias_complete i (None, n) z h at =
       let is : v.name m i ≡ Ok (n, z) = name_exact.complete i n z (subst (λ (w : Input). vg.name m w n z) h.1 h.2) refl in
@@ -88,17 +88,17 @@ module _ {P : Type 0} (m : Meaning P) where
       let then : second k.0.0 k.1.0 ≡ Ok ((Some k.0.0, n), z) = (second_exact k.0.0).complete k.1.0 (Some k.0.0, n) z ((tt, n), (h.0, k.1.2, h.2), refl) refl in
       rw is (rw colon (then ∙ ap (λ (w : Text P). pair_at w n z) (sym k.2)))
 
-  alias_first : (i : Input) (x : Option (Text P) × Text P) (z : Input) → aliased i x z → no is_colon (next z) ≡ true → next_is is_name (next i) ≡ true
+  alias_first : (i : Input) (x : Option (Text P) × Text P) (z : Input) → aliased i x z → lacking is_colon (next z) ≡ true → next_is is_name (next i) ≡ true
   alias_first i (None, n) z h at = name_exact.first i n z (subst (λ (w : Input). vg.name m w n z) h.1 h.2) refl
   alias_first i (Some a, n) z h at = name_exact.first i h.1.0.0 h.1.1.0 h.1.1.1 refl
 
-  pub alias_parses : {n : ℕ} → Parses 1 n aliased (o.alias_and_name m) (o.alias_and_name m) (next_is is_name) (no is_colon)
+  pub alias_parses : {n : ℕ} → Parses 1 n aliased (o.alias_and_name m) (o.alias_and_name m) (next_is is_name) (lacking is_colon)
   unfolding o.alias_and_name
   alias_parses {n} = record {
     exact = record { sound = alias_sound; complete = alias_complete; first = alias_first };
-    steady = t.counted 1 (omega arith) (t.bound (name_parses m {n}).steady (λ first. t.choice is_colon (t.counted 0 (omega arith) (t.mapped (λ x. (Some first, x.1)) (t.seq (t.mark is_colon) (name_parses m {n}).steady))) (t.given (None, first))));
-    nested = l.bound (name_parses m {n}).nested (λ first. l.choice is_colon (l.mapped (λ x. (Some first, x.1)) (l.seq (l.mark n is_colon refl) (name_parses m {n}).nested)) (l.given n (None, first)));
-    keeps = kept.bound (name_parses m {n}).keeps (λ first. kept.choice is_colon (kept.mapped (λ x. (Some first, x.1)) (kept.seq (kept.mapped (λ _. tt) (kept.token is_colon)) (name_parses m {n}).keeps)) (kept.given (None, first)));
+    steady = t.counted 1 (omega arith) (t.bound (name_parses m {n = n}).steady (λ first. t.choice is_colon (t.counted 0 (omega arith) (t.mapped (λ x. (Some first, x.1)) (t.seq (t.mark is_colon) (name_parses m {n = n}).steady))) (t.given (None, first))));
+    nested = l.bound (name_parses m {n = n}).nested (λ first. l.choice is_colon (l.mapped (λ x. (Some first, x.1)) (l.seq (l.mark n is_colon refl) (name_parses m {n = n}).nested)) (l.given n (None, first)));
+    keeps = kept.bound (name_parses m {n = n}).keeps (λ first. kept.choice is_colon (kept.mapped (λ x. (Some first, x.1)) (kept.seq (kept.mapped (λ _. tt) (kept.token is_colon)) (name_parses m {n = n}).keeps)) (kept.given (None, first)));
   }
 
   -- ---- fields
@@ -143,7 +143,7 @@ module _ {P : Type 0} (m : Meaning P) where
   unfolding o.type_condition
   type_condition_parses = mapped (λ x. x.1) (seq refl (mark is_on refl) (name_parses m))
 
-  abbrev dotted_rule : ℕ → Rule (SelectionTrees P) → Rule (Dotted {P})
+  abbrev dotted_rule : ℕ → Rule (SelectionTrees P) → Rule (Dotted P)
   dotted_rule n set = inl <$> g.fragment_name m · rule.optional (vg.directives m false n) ∣ inr <$> rule.optional (g.type_condition m) · rule.optional (vg.directives m false n) · set
 
   abbrev begins_dotted : Test
@@ -166,7 +166,7 @@ module _ {P : Type 0} (m : Meaning P) where
     abbrev together : Rule (SelectionTree P)
     together = dotted_of <$> rule.placed m (rule.mark is_spread · dotted_rule n r)
 
-    to_dots_by : (i : Input) (x : SelectionTree P) (z mid : Input) (place : P) (y : Dotted {P}) → rule.mark is_spread i tt mid → place ≡ place_between m i z → x ≡ dotted_at place y → dotted_rule n r mid y z → dots i x z
+    to_dots_by : (i : Input) (x : SelectionTree P) (z mid : Input) (place : P) (y : Dotted P) → rule.mark is_spread i tt mid → place ≡ place_between m i z → x ≡ dotted_at place y → dotted_rule n r mid y z → dots i x z
     unfolding g.fragment_spread g.inline_fragment
     to_dots_by i x z mid place y mk at same (inl h) = inl (record { it = (tt, h.0); place = place }, ((mid, mk, h.1), at), same ∙ ap (dotted_at place) h.2)
     to_dots_by i x z mid place y mk at same (inr h) = inr (record { it = (tt, h.0); place = place }, ((mid, mk, h.1), at), same ∙ ap (dotted_at place) h.2)

@@ -118,7 +118,7 @@ module _ {A : Type 0} {n : ℕ} {r : Rule A} {p q : Parser A} {b m : Test} (begi
 
 -- none or one, and the next rule
 pub opt : {A B : Type 0} {k l n : ℕ} {r : Rule A} {s : Rule B} {p p' : Parser A} {q q' : Parser B} {b c m e : Test} (is : Terminal → Bool) → subset b (next_is is) ≡ true → subset c m ≡ true → apart c (next_is is) ≡ true → Parses k n r p p' b m → Parses l n s q q' c e → Parses l n (optional r · s) (try is p ⊙ q) (try is p' ⊙ q') (either (next_is is) c) e
-opt {A} {B} {k} {l} {n} {r} {s} {p} {p'} {q} {q'} {b} {c} {m} {e} is in_is fewer not_is h k = lead (same_test c) (maybe is c in_is fewer not_is h) k
+opt {c} is in_is fewer not_is h g = lead (same_test c) (maybe is c in_is fewer not_is h) g
 
 -- one or more with marks between
 pub separated : {A : Type 0} {n : ℕ} {r : Rule A} {p q : Parser A} {b m : Test} (is : Terminal → Bool) (e : Test) → apart (next_is is) bracket ≡ true → apart b (next_is is) ≡ true → subset (next_is is) m ≡ true → subset e m ≡ true → subset (either (next_is is) e) m ≡ true → apart e (next_is is) ≡ true → Parses 1 n r p q b m → Parses 1 n (rule.separated is r) (read.separated is p) (read.separated is q) (either (next_is is) b) e

@@ -130,7 +130,7 @@ unless false pp = pp
 pub such_that : {A : Type 0} {k : ℕ} {p p' : Parser A} (passes : A → Bool) → Steady k p p' → Steady k (read.such_that passes p) (read.such_that passes p')
 such_that {A} {k} passes pp = counted k (omega arith) (bound pp (λ x. by_test x (passes x)))
   where
-    by_test : (x : A) (t : Bool) → Steady 0 (λ o. cond t (Ok (x, o)) (Err (Unexpected, o))) (λ o. cond t (Ok (x, o)) (Err (Unexpected, o)))
+    by_test : (x : A) (t : Bool) → Steady {A = A} 0 (λ o. cond t (Ok (x, o)) (Err (Unexpected, o))) (λ o. cond t (Ok (x, o)) (Err (Unexpected, o)))
     by_test x true = given x
     by_test x false = refused 0
 

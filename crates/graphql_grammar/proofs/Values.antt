@@ -12,6 +12,7 @@ use Rattle.graphql_grammar.specs.Rules as rule
 use Rattle.graphql_grammar.specs.Rules.{Rule, ◌<$>◌, ◌∣◌, nothing}
 use Rattle.graphql_grammar.specs.ValueGrammar as g
 use Rattle.graphql_grammar.specs.ValueGrammar.{Const, items_of, entries_of, argument_of, directive_of, type_of}
+use Rattle.graphql_grammar.specs.Reading as read
 use Rattle.graphql_grammar.specs.Reading.{Parser, ◌<&>◌, refuse, too_deep, when}
 use Rattle.graphql_grammar.specs.ValueReading as v
 use Rattle.graphql_grammar.proofs.Tests.{Test, any, either, neither}
@@ -22,8 +23,8 @@ use Rattle.graphql_grammar.proofs.Keeps as kept
 use Rattle.graphql_grammar.proofs.Parses.{Parses, token, mapped, mark, weaker, seq, opt, alternative, only, maybe, unless, located, several, one_or_more, enclosed, none_deep, one_deep}
 
 -- what is next is of another class
-abbrev pub no : (Terminal → Bool) → Test
-no is next = cond (next_is is next) false true
+abbrev pub lacking : (Terminal → Bool) → Test
+lacking is next = cond (next_is is next) false true
 
 -- what may follow directives
 abbrev pub after_directives : Test
@@ -128,10 +129,10 @@ module _ {P : Type 0} (m : Meaning P) where
   arguments_parses c (suc n) (suc h) le =
       enclosed is_open_paren is_close_paren refl refl refl (one_or_more is_name (next_is is_close_paren) refl refl refl refl (located m (argument_parses c n h (omega arith))))
 
-  pub directive_parses : (c : Const) (n h : ℕ) → n ≤ h → Parses 1 n (g.directive m c n) (v.directive m c n) (v.directive m c h) (next_is is_at) (no is_open_paren)
+  pub directive_parses : (c : Const) (n h : ℕ) → n ≤ h → Parses 1 n (g.directive m c n) (v.directive m c n) (v.directive m c h) (next_is is_at) (lacking is_open_paren)
   unfolding g.directive v.directive
   directive_parses c n h le =
-      mapped directive_of (seq refl (mark is_at refl) (seq refl name_parses (maybe is_open_paren (no is_open_paren) refl refl refl (arguments_parses c n h le))))
+      mapped directive_of (seq refl (mark is_at refl) (seq refl name_parses (maybe is_open_paren (lacking is_open_paren) refl refl refl (arguments_parses c n h le))))
 
   pub directives_parses : (c : Const) (n h : ℕ) → n ≤ h → Parses 0 n (g.directives m c n) (v.directives m c n) (v.directives m c h) (next_is is_at) after_directives
   unfolding g.directives v.directives
@@ -142,11 +143,11 @@ module _ {P : Type 0} (m : Meaning P) where
   abbrev listed : Parser (TypeTree P) → Parser (TypeTree P)
   listed inner = when is_open_bracket (types.ListTree <&> inner) refuse
 
-  any_type_parses : {n : ℕ} {r : Rule _} {q q' : Parser _} → Parses 1 n (types.ListTree <$> r) (listed q) (listed q') (next_is is_open_bracket) any → Parses 1 n (g.any_type m r) (v.any_type m q) (v.any_type m q') (next_is begins_type) (no is_bang)
+  any_type_parses : {n : ℕ} {r : Rule (TypeTree P)} (q q' : Parser (TypeTree P)) → Parses 1 n (types.ListTree <$> r) (listed q) (listed q') (next_is is_open_bracket) any → Parses 1 n (g.any_type m r) (v.any_type m q) (v.any_type m q') (next_is begins_type) (lacking is_bang)
   unfolding v.any_type
-  any_type_parses h =
-      weaker (next_is begins_type) (no is_bang) refl refl
-      (mapped type_of (seq refl (alternative is_name refl refl (mapped NamedTree name_parses) h) (maybe is_bang (no is_bang) refl refl refl (mark is_bang refl))))
+  any_type_parses q q' h =
+      weaker (next_is begins_type) (lacking is_bang) refl refl
+      (mapped type_of (seq refl (alternative is_name refl refl (mapped NamedTree name_parses) h) (maybe is_bang (lacking is_bang) refl refl refl (mark is_bang refl))))
 
   none_listed : (q : Parser (TypeTree P)) → Parses 1 0 (types.ListTree <$> nothing) (listed too_deep) (listed q) (next_is is_open_bracket) any
   none_listed q = record {
@@ -156,10 +157,15 @@ module _ {P : Type 0} (m : Meaning P) where
     keeps = kept.choice is_open_bracket kept.deep kept.refused;
   }
 
-  pub type_parses : (n h : ℕ) → n ≤ h → Parses 1 n (g.type m n) (v.type m n) (v.type m h) (next_is begins_type) (no is_bang)
+  -- the type in a list
+  abbrev inner_type : ℕ → Parser (TypeTree P)
+  inner_type n = read.between is_open_bracket (v.type m n) is_close_bracket
+
+  pub type_parses : (n h : ℕ) → n ≤ h → Parses 1 n (g.type m n) (v.type m n) (v.type m h) (next_is begins_type) (lacking is_bang)
   unfolding g.type v.type
-  type_parses zero zero le = any_type_parses (none_listed _)
-  type_parses zero (suc h) le = any_type_parses (none_listed _)
+  type_parses zero zero le = any_type_parses too_deep too_deep (none_listed too_deep)
+  type_parses zero (suc h) le = any_type_parses too_deep (inner_type h) (none_listed (inner_type h))
   type_parses (suc n) zero le = absurd (omega arith)
   type_parses (suc n) (suc h) le =
-      any_type_parses (only is_open_bracket refl (mapped types.ListTree (enclosed is_open_bracket is_close_bracket refl refl refl (type_parses n h (omega arith)))))
+      any_type_parses (inner_type n) (inner_type h)
+      (only is_open_bracket refl (mapped types.ListTree (enclosed is_open_bracket is_close_bracket refl refl refl (type_parses n h (omega arith)))))

@@ -1,5 +1,5 @@
 -- The grammar of documents (GraphQL, October 2021, appendix B), and what it says of whole texts.
-use Rattle.std.specs.Prelude.{ℕ, Bool, true, false, ◌&&◌, not, List, [], ◌∷◌, Option, Some, None, ◌⊎◌}
+use Rattle.std.specs.Prelude.{◌≡◌, ℕ, Bool, true, false, ◌&&◌, not, List, [], ◌∷◌, Option, Some, None, ◌⊎◌}
 use Rattle.std.proofs.Common.{inl, inr}
 use Rattle.graphql_values.specs.Placed.{Placed, Text}
 use Rattle.graphql_values.specs.TypeTree.{TypeTree}
@@ -16,6 +16,10 @@ use Rattle.graphql_grammar.specs.OperationGrammar.{selections, operation_definit
 use Rattle.graphql_grammar.specs.TypeSystemGrammar.{KindTree, SchemaKind, ScalarKind, ObjectKind, InterfaceKind, UnionKind, EnumKind, InputObjectKind, description, schema_definition, type_definition, directive_definition, schema_extension}
 
 -- ---- the trees that the rules make
+
+abbrev pub is_empty : {A : Type 0} → List A → Bool
+is_empty [] = true
+is_empty (x ∷ xs) = false
 
 module _ {P : Type 0} where
   abbrev pub definition_of : P → Option (Text P) → KindTree P → DefinitionTree P
@@ -45,10 +49,6 @@ module _ {P : Type 0} where
 
   abbrev pub extension_of : Placed P (Unit {0} × KindTree P) → DefinitionTree P
   extension_of x = extended x.place x.it.1
-
-  abbrev pub is_empty : {A : Type 0} → List A → Bool
-  is_empty [] = true
-  is_empty (x ∷ xs) = false
 
   -- at least one part stands behind `schema` or behind the name
   abbrev pub has_part : KindTree P → Bool

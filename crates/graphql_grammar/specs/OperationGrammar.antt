@@ -20,10 +20,7 @@ module _ {P : Type 0} where
   selections_of [] = no_selections
   selections_of (x ∷ xs) = selection_then x (selections_of xs)
 
-  abbrev pub FieldParts : Type 0
-  FieldParts = Option (Text P) × (Text P × (Option (Arguments P) × (Option (Directives P) × Option (SelectionTrees P))))
-
-  abbrev pub field_of : Placed P FieldParts → SelectionTree P
+  abbrev pub field_of : Placed P (Option (Text P) × (Text P × (Option (Arguments P) × (Option (Directives P) × Option (SelectionTrees P))))) → SelectionTree P
   field_of x = FieldTree x.place (record {
     alias = x.it.0;
     name = x.it.1.0;
@@ -40,14 +37,11 @@ module _ {P : Type 0} where
   abbrev pub variable_definition_of : Text P × (Unit {0} × (Placed P (TypeTree P) × (Option (Placed P (ValueTree P)) × Option (Directives P)))) → VariableDefinitionTree P
   variable_definition_of x = record { name = x.0; ty = x.1.1.0; default_value = x.1.1.1.0; directives = unwrap_or x.1.1.1.1 [] }
 
-  abbrev pub VariableDefinitions : Type 0
-  VariableDefinitions = List (Placed P (VariableDefinitionTree P))
-
   -- a query that is its selections alone
   abbrev pub short_of : SelectionTrees P → OperationTree P
   short_of selections = record { operation_type = Query; name = None; variables = []; directives = []; selections = selections }
 
-  abbrev pub operation_of : OperationType × (Option (Text P) × (Option VariableDefinitions × (Option (Directives P) × SelectionTrees P))) → OperationTree P
+  abbrev pub operation_of : OperationType × (Option (Text P) × (Option (List (Placed P (VariableDefinitionTree P))) × (Option (Directives P) × SelectionTrees P))) → OperationTree P
   operation_of x = record {
     operation_type = x.0;
     name = x.1.0;

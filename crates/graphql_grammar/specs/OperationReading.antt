@@ -21,16 +21,16 @@ operation_type =
     (when is_mutation ((λ _. Mutation) <&> mark is_mutation)
     (when is_subscription ((λ _. Subscription) <&> mark is_subscription) refuse))
 
-module _ {P : Type 0} where
-  -- what stands behind three dots
-  abbrev pub Dotted : Type 0
-  Dotted = (Text P × Option (Directives P)) ⊎ (Option (Text P) × (Option (Directives P) × SelectionTrees P))
+-- what stands behind three dots
+abbrev pub Dotted : Type 0 → Type 0
+Dotted P = (Text P × Option (Directives P)) ⊎ (Option (Text P) × (Option (Directives P) × SelectionTrees P))
 
-  abbrev pub dotted_at : P → Dotted → SelectionTree P
+module _ {P : Type 0} where
+  abbrev pub dotted_at : P → Dotted P → SelectionTree P
   dotted_at p (inl x) = spread_of (record { it = (tt, x); place = p })
   dotted_at p (inr x) = inline_of (record { it = (tt, x); place = p })
 
-  abbrev pub dotted_of : Placed P (Unit {0} × Dotted) → SelectionTree P
+  abbrev pub dotted_of : Placed P (Unit {0} × Dotted P) → SelectionTree P
   dotted_of x = dotted_at x.place x.it.1
 
 module _ {P : Type 0} (m : Meaning P) where
@@ -51,7 +51,7 @@ module _ {P : Type 0} (m : Meaning P) where
   unfoldable pub type_condition : Parser (Text P)
   type_condition = (λ x. x.1) <&> mark is_on ⊙ name m
 
-  unfoldable pub dotted : ℕ → Parser (SelectionTrees P) → Parser (Dotted {P})
+  unfoldable pub dotted : ℕ → Parser (SelectionTrees P) → Parser (Dotted P)
   dotted n selection_set =
       when is_fragment_name (inl <&> fragment_name ⊙ try is_at (directives m with_variables n))
       (inr <&> try is_on type_condition ⊙ try is_at (directives m with_variables n) ⊙ selection_set)

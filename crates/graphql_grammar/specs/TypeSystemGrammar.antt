@@ -26,17 +26,23 @@ pub data KindTree (P : Type 0) : Type 0 where
   EnumKind : EnumParts P → KindTree P
   InputObjectKind : InputObjectParts P → KindTree P
 
+abbrev pub Roots : Type 0 → Type 0
+Roots P = List (Placed P (RootOperationTree P))
+
+abbrev pub Fields : Type 0 → Type 0
+Fields P = List (Placed P (FieldDefinitionTree P))
+
+abbrev pub Values : Type 0 → Type 0
+Values P = List (Placed P (EnumValueTree P))
+
 module _ {P : Type 0} where
   abbrev pub root_of : OperationType × (Unit {0} × Text P) → RootOperationTree P
   root_of x = record { operation_type = x.0; name = x.1.1 }
 
-  abbrev pub Roots : Type 0
-  Roots = List (Placed P (RootOperationTree P))
-
-  abbrev pub schema_of : Unit {0} × (Option (Directives P) × Roots) → SchemaParts P
+  abbrev pub schema_of : Unit {0} × (Option (Directives P) × Roots P) → SchemaParts P
   schema_of x = record { directives = unwrap_or x.1.0 []; roots = x.1.1 }
 
-  abbrev pub schema_extension_of : Unit {0} × (Option (Directives P) × Option Roots) → SchemaParts P
+  abbrev pub schema_extension_of : Unit {0} × (Option (Directives P) × Option (Roots P)) → SchemaParts P
   schema_extension_of x = record { directives = unwrap_or x.1.0 []; roots = unwrap_or x.1.1 [] }
 
   abbrev pub input_value_of : Option (Text P) × (Text P × (Unit {0} × (Placed P (TypeTree P) × (Option (Placed P (ValueTree P)) × Option (Directives P))))) → InputValueTree P
@@ -63,26 +69,17 @@ module _ {P : Type 0} where
   abbrev pub scalar_of : Unit {0} × (Text P × Option (Directives P)) → ScalarParts P
   scalar_of x = record { name = x.1.0; directives = unwrap_or x.1.1 [] }
 
-  abbrev pub Fields : Type 0
-  Fields = List (Placed P (FieldDefinitionTree P))
-
-  abbrev pub fields_of : Unit {0} × (Text P × (Option (List (Text P)) × (Option (Directives P) × Option Fields))) → FieldsParts P
+  abbrev pub fields_of : Unit {0} × (Text P × (Option (List (Text P)) × (Option (Directives P) × Option (Fields P)))) → FieldsParts P
   fields_of x = record { name = x.1.0; interfaces = unwrap_or x.1.1.0 []; directives = unwrap_or x.1.1.1.0 []; fields = unwrap_or x.1.1.1.1 [] }
 
   abbrev pub union_of : Unit {0} × (Text P × (Option (Directives P) × Option (List (Text P)))) → UnionParts P
   union_of x = record { name = x.1.0; directives = unwrap_or x.1.1.0 []; members = unwrap_or x.1.1.1 [] }
 
-  abbrev pub Values : Type 0
-  Values = List (Placed P (EnumValueTree P))
-
-  abbrev pub enum_of : Unit {0} × (Text P × (Option (Directives P) × Option Values)) → EnumParts P
+  abbrev pub enum_of : Unit {0} × (Text P × (Option (Directives P) × Option (Values P))) → EnumParts P
   enum_of x = record { name = x.1.0; directives = unwrap_or x.1.1.0 []; values = unwrap_or x.1.1.1 [] }
 
   abbrev pub input_object_of : Unit {0} × (Text P × (Option (Directives P) × Option (InputValues P))) → InputObjectParts P
   input_object_of x = record { name = x.1.0; directives = unwrap_or x.1.1.0 []; fields = unwrap_or x.1.1.1 [] }
-
-  abbrev pub Locations : Type 0
-  Locations = List DirectiveLocation
 
   -- without its description
   abbrev pub directive_definition_of : Unit {0} × (Unit {0} × (Text P × (Option (InputValues P) × (Option (Unit {0}) × (Unit {0} × List DirectiveLocation))))) → DirectiveDefinitionTree P
@@ -96,6 +93,10 @@ module _ {P : Type 0} where
 
 -- ---- the rules
 
+-- DirectiveLocations: "|"? DirectiveLocation ("|" DirectiveLocation)*
+unfoldable pub directive_locations : Rule (List DirectiveLocation)
+directive_locations = separated is_pipe ((λ t. location_of t.text) <$> one is_location)
+
 module _ {P : Type 0} (m : Meaning P) where
   -- Description: StringValue
   abbrev pub description : Rule (Text P)
@@ -106,7 +107,7 @@ module _ {P : Type 0} (m : Meaning P) where
   root_operation_type_definition = root_of <$> operation_type · mark is_colon · name m
 
   -- "{" RootOperationTypeDefinition+ "}"
-  unfoldable pub roots : ℕ → Rule (List (Placed P (RootOperationTree P)))
+  unfoldable pub roots : ℕ → Rule (Roots P)
   roots zero = nothing
   roots (suc n) = between is_open_brace (some (placed m root_operation_type_definition)) is_close_brace
 
@@ -138,7 +139,7 @@ module _ {P : Type 0} (m : Meaning P) where
       field_definition_of <$> optional description · name m · optional (arguments_definition n) · mark is_colon · type m n · optional (directives m constant n)
 
   -- FieldsDefinition: "{" FieldDefinition+ "}"
-  unfoldable pub fields_definition : ℕ → Rule (List (Placed P (FieldDefinitionTree P)))
+  unfoldable pub fields_definition : ℕ → Rule (Fields P)
   fields_definition zero = nothing
   fields_definition (suc n) = between is_open_brace (some (placed m (field_definition n))) is_close_brace
 
@@ -165,7 +166,7 @@ module _ {P : Type 0} (m : Meaning P) where
   enum_value_definition n = enum_value_definition_of <$> optional description · enum_value m · optional (directives m constant n)
 
   -- EnumValuesDefinition: "{" EnumValueDefinition+ "}"
-  unfoldable pub enum_values_definition : ℕ → Rule (List (Placed P (EnumValueTree P)))
+  unfoldable pub enum_values_definition : ℕ → Rule (Values P)
   enum_values_definition zero = nothing
   enum_values_definition (suc n) = between is_open_brace (some (placed m (enum_value_definition n))) is_close_brace
 
@@ -191,10 +192,6 @@ module _ {P : Type 0} (m : Meaning P) where
       ∣ UnionKind <$> union_type n
       ∣ EnumKind <$> enum_type n
       ∣ InputObjectKind <$> input_object_type n
-
-  -- DirectiveLocations: "|"? DirectiveLocation ("|" DirectiveLocation)*
-  unfoldable pub directive_locations : Rule (List DirectiveLocation)
-  directive_locations = separated is_pipe ((λ t. location_of t.text) <$> one is_location)
 
   -- DirectiveDefinition, behind its description: "directive" "@" Name ArgumentsDefinition? "repeatable"? "on" DirectiveLocations
   unfoldable pub directive_definition : ℕ → Rule (DirectiveDefinitionTree P)
