@@ -1,7 +1,9 @@
 pub mod Tests
 pub mod Exact
+pub mod ExactLists
 pub mod Moves
 pub mod Steady
+pub mod SteadyLists
 pub mod Nests
 pub mod Keeps
 pub mod Parses
@@ -14,4 +16,6 @@ pub mod Theorems
 pub mod Laws
 pub mod Opened
 pub mod Spans
+pub mod Views
 pub mod Rows
+pub mod TreeRows

@@ -12,9 +12,12 @@ use Rattle.graphql_grammar.specs.Reading as read
 use Rattle.graphql_grammar.specs.Reading.{Outcome, Parser, ◌⊙◌, ◌<&>◌, refuse, too_deep, take, when, try}
 use Rattle.graphql_grammar.proofs.Tests.{Test, any, either, subset, apart, same_test, all_any}
 use Rattle.graphql_grammar.proofs.Exact as ex
-use Rattle.graphql_grammar.proofs.Exact.{Exact, Takes}
+use Rattle.graphql_grammar.proofs.Exact.{Exact}
+use Rattle.graphql_grammar.proofs.ExactLists as exl
+use Rattle.graphql_grammar.proofs.ExactLists.{Takes}
 use Rattle.graphql_grammar.proofs.Steady as st
 use Rattle.graphql_grammar.proofs.Steady.{Steady, Shorter}
+use Rattle.graphql_grammar.proofs.SteadyLists as stl
 use Rattle.graphql_grammar.proofs.Keeps as ke
 use Rattle.graphql_grammar.proofs.Keeps.{Keeps}
 use Rattle.graphql_grammar.proofs.Nests as ne
@@ -102,16 +105,16 @@ located m h = record { exact = ex.located m h.exact; steady = st.located m h.ste
 module _ {A : Type 0} {n : ℕ} {r : Rule A} {p q : Parser A} {b m : Test} (begins : Terminal → Bool) (e : Test) (in_begins : subset b (next_is begins) ≡ true) (goes_on : subset (next_is begins) m ≡ true) (may_end : subset e m ≡ true) (ends : apart e (next_is begins) ≡ true) (h : Parses 1 n r p q b m) where
   pub several : Parses 0 n (rule.many r) (read.many begins p) (read.many begins q) (either (next_is begins) e) e
   several = record {
-    exact = ex.several begins e in_begins goes_on may_end ends (takes h.steady) h.exact;
-    steady = st.several begins h.steady;
+    exact = exl.several begins e in_begins goes_on may_end ends (takes h.steady) h.exact;
+    steady = stl.several begins h.steady;
     nested = ne.several begins h.nested;
     keeps = ke.several begins h.keeps;
   }
 
   pub one_or_more : Parses 0 n (rule.some r) (read.some begins p) (read.some begins q) b e
   one_or_more = record {
-    exact = ex.one_or_more begins e in_begins goes_on may_end ends (takes h.steady) h.exact;
-    steady = st.one_or_more begins h.steady;
+    exact = exl.one_or_more begins e in_begins goes_on may_end ends (takes h.steady) h.exact;
+    steady = stl.one_or_more begins h.steady;
     nested = ne.one_or_more begins h.nested;
     keeps = ke.one_or_more begins h.keeps;
   }

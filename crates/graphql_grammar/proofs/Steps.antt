@@ -1,6 +1,7 @@
 -- What each step of the cursor, and each turn of a loop, does to what is read.
 use Rattle.std.proofs.Common.{◌≡◌, ◌≢◌, ℕ, zero, suc, ◌+◌, ◌<◌, ◌≤◌, Bool, true, false, cond, List, [], ◌∷◌, ◌++◌, length, Option, Some, None, Result, Ok, Err, refl, sym, ap, subst, ◌∙◌, arith, append_assoc}
-use Rattle.std.proofs.lemmas.List.{append-nil}
+use Rattle.std.specs.Prelude.{map}
+use Rattle.std.proofs.lemmas.List.{append-nil, map-append}
 use Rattle.graphql_lexer.specs.declared.terminal.Terminal.{Terminal}
 use Rattle.graphql_grammar.specs.declared.stop.Stop.{Stop}
 use Rattle.graphql_grammar.specs.declared.stop.Stop.TheVariants.{Unexpected, Memory}
@@ -95,3 +96,18 @@ module _ {A : Type 0} {q : Parser A} (begins : Terminal → Bool) (st : Steady 1
   pub some_not : (i : Input) → next_is begins (next i) ≡ false → some begins q i ≡ Err (Unexpected, i)
   unfolding some
   some_not i h = rw h refl
+
+-- ---- loops of code, where the list in memory shows the trees by a view
+
+module _ {X A : Type 0} {q : Parser A} (view : X → A) (begins : Terminal → Bool) (st : Steady 1 q q) where
+  pub viewed_turn : (front : List X) (i o : Input) (x : X) (whole : Outcome (List A)) → with_front (map view front) (many begins q i) ≡ whole → next_is begins (next i) ≡ true → q i ≡ Ok (view x, o) → with_front (map view (front ++ x ∷ [])) (many begins q o) ≡ whole
+  viewed_turn front i o x whole e h is =
+      subst (λ (xs : List A). with_front xs (many begins q o) ≡ whole) (sym (map-append view front (x ∷ []))) (turn begins st (map view front) i o (view x) whole e h is)
+
+  -- before the first turn, where any number may come
+  pub viewed_start : (i : Input) → with_front (map view []) (many begins q i) ≡ many begins q i
+  viewed_start i = empty_front (many begins q i)
+    where
+      empty_front : (y : Outcome (List A)) → with_front [] y ≡ y
+      empty_front (Ok z) = refl
+      empty_front (Err f) = refl
