@@ -1,5 +1,5 @@
 -- Documents are read exactly, steadily, and within the limit.
-use Rattle.std.proofs.Common.{◌≡◌, ℕ, ◌≤◌, Bool, true, false, List, Option, refl, inl, inr, ◌⊎◌}
+use Rattle.std.proofs.Common.{ℕ, ◌≤◌, refl, inl, inr, ◌⊎◌}
 use Rattle.graphql_ast.specs.DefinitionTree.{Operation, Fragment}
 use Rattle.graphql_grammar.specs.Meaning.{Meaning}
 use Rattle.graphql_grammar.specs.Kinds.{next_is, is_string, is_schema, is_directive, is_fragment, is_extend}
@@ -12,7 +12,7 @@ use Rattle.graphql_values.specs.DirectiveTree.{DirectiveDefinitionTree}
 use Rattle.graphql_grammar.specs.Grammar as g
 use Rattle.graphql_grammar.specs.Grammar.{type_system_of, extension_of, has_part}
 use Rattle.graphql_grammar.specs.DocumentReading as d
-use Rattle.graphql_grammar.proofs.Tests.{Test, any, either, at_end}
+use Rattle.graphql_grammar.proofs.Tests.{either, at_end}
 use Rattle.graphql_grammar.proofs.Parses.{Parses, mapped, mark, weaker, seq, opt, alternative, only, such_that, located, one_or_more}
 use Rattle.graphql_grammar.proofs.Operations.{operation_definition_parses, fragment_definition_parses}
 use Rattle.graphql_grammar.proofs.TypeSystem.{after_definition, description_parses, schema_definition_parses, type_definition_parses, directive_definition_parses, schema_extension_parses}

@@ -1,16 +1,15 @@
 -- A parser reads what a rule derives, where the rest goes on as it may.
-use Rattle.std.proofs.Common.{◌≡◌, ℕ, zero, suc, ◌+◌, ◌<◌, ◌≤◌, Bool, true, false, cond, List, [], ◌∷◌, length, Option, Some, None, Result, Ok, Err, refl, sym, ap, subst, ◌∙◌, arith, inl, inr, ◌⊎◌}
+use Rattle.std.proofs.Common.{◌≡◌, ◌<◌, Bool, true, false, cond, List, [], ◌∷◌, Option, Some, None, Ok, Err, refl, sym, ap, subst, ◌∙◌, inl, inr, ◌⊎◌}
 use Rattle.graphql_lexer.specs.declared.terminal.Terminal.{Terminal}
 use Rattle.graphql_values.specs.Placed.{Placed}
-use Rattle.graphql_grammar.specs.declared.stop.Stop.{Stop}
 use Rattle.graphql_grammar.specs.declared.stop.Stop.TheVariants.{Unexpected}
-use Rattle.graphql_lexer.specs.Input.{Token, Input, next, next_of, past}
+use Rattle.graphql_lexer.specs.Input.{Token, Input, next, past}
 use Rattle.graphql_grammar.specs.Meaning.{Meaning, place_between}
 use Rattle.graphql_grammar.specs.Kinds.{next_is}
 use Rattle.graphql_grammar.specs.Rules as rule
 use Rattle.graphql_grammar.specs.Rules.{Rule, one, ◌·◌, ◌<$>◌, ◌∣◌, nothing, optional, optional_unless, lacks}
 use Rattle.graphql_grammar.specs.Reading as read
-use Rattle.graphql_grammar.specs.Reading.{checked, Outcome, Parser, and_then, pure, ◌⊙◌, ◌<&>◌, refuse, too_deep, take_from, take, when, try, many_within, many, some, placed, between}
+use Rattle.graphql_grammar.specs.Reading.{checked, Outcome, Parser, and_then, pure, ◌⊙◌, ◌<&>◌, refuse, too_deep, take_from, take, when, try, placed, between}
 use Rattle.graphql_grammar.proofs.Tests.{Test, any, either, subset, apart, from_subset, from_apart, same_test, all_any}
 
 pub record Exact {A : Type 0} (r : Rule A) (p : Parser A) (begins ends : Test) : Type 0 where

@@ -1,5 +1,5 @@
 -- The three symbols of calls: what the reading of all tokens says of each, and that tokens derive one tree.
-use Rattle.std.proofs.Common.{◌≡◌, ◌≢◌, ℕ, ◌≤◌, zero, List, Ok, Err, refl}
+use Rattle.std.proofs.Common.{◌≡◌, ◌≢◌, ℕ, ◌≤◌, List, Ok, Err, refl}
 use Rattle.graphql_values.specs.TypeTree.{TypeTree}
 use Rattle.graphql_values.specs.SelectionTree.{SelectionTrees}
 use Rattle.graphql_ast.specs.DefinitionTree.{DefinitionTree}

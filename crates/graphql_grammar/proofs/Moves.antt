@@ -1,12 +1,12 @@
 -- What a step of the cursor does.
-use Rattle.std.proofs.Common.{◌≡◌, ℕ, suc, Bool, true, false, cond, List, [], ◌∷◌, Option, Some, None, Result, Ok, Err, refl, sym, ap}
+use Rattle.std.proofs.Common.{◌≡◌, ℕ, suc, Bool, true, false, cond, List, [], ◌∷◌, Ok, Err, refl, sym}
 use Rattle.graphql_lexer.specs.declared.terminal.Terminal.{Terminal}
 use Rattle.graphql_grammar.specs.declared.stop.Stop.TheVariants.{Unexpected}
-use Rattle.graphql_lexer.specs.Input.{Token, Input, next, next_of, past}
+use Rattle.graphql_lexer.specs.Input.{Token, Input, next, next_of}
 use Rattle.graphql_grammar.specs.Cursor.{skipped, skipped_from}
 use Rattle.graphql_grammar.specs.Kinds.{next_is}
 use Rattle.graphql_grammar.specs.Reading as read
-use Rattle.graphql_grammar.specs.Reading.{Parser, Outcome, and_then, ◌<&>◌, ◌⊙◌, take_from, take, between}
+use Rattle.graphql_grammar.specs.Reading.{Parser, and_then, ◌<&>◌, ◌⊙◌, take_from, take, between}
 
 takes_from : (is : Terminal → Bool) (i : Input) (ts : List Token) → next_is is (next_of ts) ≡ true → (t : Token) × (us : List Token) × (ts ≡ t ∷ us) × (take_from is i ts ≡ Ok (t, skipped_from i ts))
 takes_from is i [] h = absurd cc

@@ -1,16 +1,16 @@
 -- Where a parser stops, and how deep it has gone.
-use Rattle.std.proofs.Common.{◌≡◌, ℕ, zero, suc, ◌+◌, ◌-◌, ◌<◌, ◌≤◌, Bool, true, false, cond, List, [], ◌∷◌, ◌++◌, length, Option, Some, None, Result, Ok, Err, refl, sym, ap, subst, ◌∙◌, arith, append_assoc, inl, inr, ◌⊎◌}
+use Rattle.std.proofs.Common.{◌≡◌, ℕ, zero, suc, ◌+◌, ◌-◌, ◌<◌, ◌≤◌, Bool, true, false, cond, List, [], ◌∷◌, ◌++◌, length, Some, None, Ok, Err, refl, sym, ap, ◌∙◌, arith, append_assoc}
 use Rattle.graphql_lexer.specs.declared.terminal.Terminal.{Terminal}
 use Rattle.graphql_grammar.specs.declared.stop.Stop.{Stop}
 use Rattle.graphql_grammar.specs.declared.stop.Stop.TheVariants.{Unexpected, Nesting, Memory}
-use Rattle.graphql_lexer.specs.Input.{Token, Input, next, next_of, past}
+use Rattle.graphql_lexer.specs.Input.{Token, Input, next, past}
 use Rattle.graphql_values.specs.Placed.{Placed}
 use Rattle.graphql_grammar.specs.Meaning.{Meaning, place_between}
 use Rattle.graphql_grammar.specs.Kinds.{next_is}
 use Rattle.graphql_grammar.specs.Depth.{is_opening, is_closing, count, depth}
 use Rattle.graphql_grammar.proofs.Tests.{Test, apart, from_apart, subset, from_subset}
 use Rattle.graphql_grammar.specs.Reading as read
-use Rattle.graphql_grammar.specs.Reading.{Outcome, Parser, and_then, ◌⊙◌, ◌<&>◌, refuse, too_deep, take_from, take, when, try, many_within, many, some, placed, between, checked}
+use Rattle.graphql_grammar.specs.Reading.{Outcome, Parser, and_then, ◌⊙◌, ◌<&>◌, refuse, too_deep, take_from, take, when, try, many_within, many, some, placed, between}
 
 abbrev pub opens : List Token → ℕ
 opens = count is_opening

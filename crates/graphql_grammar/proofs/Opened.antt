@@ -4,7 +4,7 @@ use Rattle.graphql_lexer.specs.Input.{Input}
 use Rattle.graphql_grammar.specs.Meaning.{Meaning}
 use Rattle.graphql_grammar.specs.Kinds.{is_name, is_dollar, is_operation_type, is_open_bracket, is_close_bracket, is_open_brace, is_close_brace, is_open_paren, is_close_paren}
 use Rattle.graphql_grammar.specs.Begins.{begins_described_name}
-use Rattle.graphql_grammar.specs.Reading.{Parser, some, placed, between}
+use Rattle.graphql_grammar.specs.Reading.{some, placed, between}
 use Rattle.graphql_grammar.specs.ValueReading as v
 use Rattle.graphql_grammar.specs.OperationReading as o
 use Rattle.graphql_grammar.specs.TypeSystemReading as y

@@ -1,20 +1,20 @@
 -- Selections, operations and fragments are read exactly, steadily, and within the limit.
-use Rattle.std.proofs.Common.{◌≡◌, ℕ, zero, suc, ◌+◌, ◌≤◌, Bool, true, false, cond, List, Option, Some, None, Ok, Err, refl, sym, ap, subst, ◌∙◌, inl, inr, ◌⊎◌, arith}
-use Rattle.graphql_values.specs.Placed.{Placed, Text}
+use Rattle.std.proofs.Common.{◌≡◌, ℕ, zero, suc, ◌≤◌, Bool, true, false, cond, Option, Some, None, Ok, refl, sym, ap, subst, ◌∙◌, inl, inr, arith}
+use Rattle.graphql_values.specs.Placed.{Text}
 use Rattle.graphql_values.specs.DirectiveTree.{Arguments, Directives}
 use Rattle.graphql_values.specs.SelectionTree.{SelectionTree, SelectionTrees}
 use Rattle.graphql_values.specs.declared.operation.OperationType.TheVariants.{Query, Mutation, Subscription}
-use Rattle.graphql_lexer.specs.Input.{Token, Input, next}
+use Rattle.graphql_lexer.specs.Input.{Input, next}
 use Rattle.graphql_grammar.specs.Meaning.{Meaning, name_of, place_between}
 use Rattle.graphql_grammar.specs.Kinds.{next_is, is_name, is_fragment_name, is_colon, is_spread, is_on, is_at, is_equals, is_dollar, is_fragment, is_query, is_mutation, is_subscription, is_operation_type, is_open_brace, is_close_brace, is_open_paren, is_close_paren}
 use Rattle.graphql_grammar.specs.Begins.{begins_selection, begins_operation}
 use Rattle.graphql_grammar.specs.Rules as rule
-use Rattle.graphql_grammar.specs.Rules.{Rule, ◌·◌, ◌<$>◌, ◌∣◌, nothing}
+use Rattle.graphql_grammar.specs.Rules.{Rule, ◌·◌, ◌<$>◌, ◌∣◌}
 use Rattle.graphql_grammar.specs.ValueGrammar as vg
 use Rattle.graphql_grammar.specs.OperationGrammar as g
-use Rattle.graphql_grammar.specs.OperationGrammar.{selections_of, field_of, spread_of, inline_of, variable_definition_of, short_of, operation_of, fragment_of}
+use Rattle.graphql_grammar.specs.OperationGrammar.{selections_of, field_of, variable_definition_of, short_of, operation_of, fragment_of}
 use Rattle.graphql_grammar.specs.Reading as read
-use Rattle.graphql_grammar.specs.Reading.{Parser, Outcome, ◌⊙◌, ◌<&>◌, try}
+use Rattle.graphql_grammar.specs.Reading.{Parser, Outcome, ◌⊙◌, ◌<&>◌}
 use Rattle.graphql_grammar.specs.ValueReading as v
 use Rattle.graphql_grammar.specs.OperationReading as o
 use Rattle.graphql_grammar.specs.OperationReading.{Dotted, dotted_at, dotted_of}

@@ -1,8 +1,7 @@
 -- A parser at two limits reads a rule exactly, steadily, and within its limit: the three properties at once, for each way to put rules together.
-use Rattle.std.proofs.Common.{◌≡◌, ℕ, zero, suc, ◌+◌, ◌<◌, ◌≤◌, Bool, true, false, List, ◌∷◌, length, Option, Some, None, Result, Ok, Err, refl, ap, arith}
-use Rattle.graphql_values.specs.Placed.{Placed}
+use Rattle.std.proofs.Common.{◌≡◌, ℕ, suc, ◌+◌, ◌<◌, ◌≤◌, Bool, true, ◌∷◌, length, Ok, Err, ap, arith}
 use Rattle.graphql_lexer.specs.declared.terminal.Terminal.{Terminal}
-use Rattle.graphql_lexer.specs.Input.{Token, Input}
+use Rattle.graphql_lexer.specs.Input.{Input}
 use Rattle.graphql_grammar.specs.Meaning.{Meaning}
 use Rattle.graphql_grammar.specs.Kinds.{next_is}
 use Rattle.graphql_grammar.specs.Depth.{is_opening, is_closing}

@@ -1,17 +1,16 @@
 -- Rows: token lists that are read, and others with the number of tokens that are left where reading stops.
-use Rattle.std.proofs.Common.{◌≡◌, ℕ, List, [], ◌∷◌, length, Result, Ok, Err, refl, Option, Some, None}
-use Rattle.std.specs.Prelude.{map, codes}
+use Rattle.std.proofs.Common.{◌≡◌, ℕ, List, [], ◌∷◌, length, Ok, Err, refl, Option, Some, None}
+use Rattle.std.specs.Prelude.{map}
 use Rattle.graphql_lexer.specs.declared.terminal.Terminal.{Terminal}
 use Rattle.graphql_lexer.specs.declared.terminal.Terminal.TheVariants as k
 use Rattle.graphql_lexer.specs.Input.{Token, Input}
 use Rattle.graphql_grammar.specs.Meaning.{Meaning, start}
-use Rattle.graphql_grammar.specs.Reading.{Outcome, Parser, whole, take, many, many_within, some}
+use Rattle.graphql_grammar.specs.Reading.{Outcome, whole, take, many, many_within, some}
 use Rattle.graphql_grammar.specs.ValueReading as v
 use Rattle.graphql_grammar.specs.OperationReading as o
 use Rattle.graphql_grammar.specs.TypeSystemReading as y
 use Rattle.graphql_grammar.specs.DocumentReading as d
 use Rattle.graphql_grammar.specs.Locations.{location_of}
-use Rattle.graphql_grammar.specs.ValueGrammar as vg
 
 abbrev plain : Meaning (Unit {0})
 plain = record { place = λ begin end. tt; string = λ t. t.text }

@@ -1,12 +1,11 @@
 -- A span that code makes is the place that the grammar means.
-use Rattle.std.proofs.Common.{◌≡◌, ℕ, ◌+◌, ◌-◌, ◌<◌, ◌^◌, Bool, true, false, Option, Some, None, refl, sym, ap, subst, ◌∙◌, arith}
+use Rattle.std.proofs.Common.{◌≡◌, ℕ, ◌+◌, ◌-◌, ◌<◌, ◌^◌, Bool, true, false, Some, refl, ap, arith}
 use Rattle.std.proofs.lemmas.Bool.{lt-ltb, ltb-true}
 use Rattle.std.proofs.Props.{props}
 use Rattle.std.specs.Prelude.{ltb}
 use mathlib.Core.HLevel.{is_prop→PathP}
 use Rattle.graphql_names.specs.declared.span.FileId.{FileId}
 use Rattle.graphql_names.specs.declared.span.SourceSpan.{SourceSpan}
-use Rattle.graphql_values.specs.Placed.{Place}
 use Rattle.graphql_grammar.specs.Places.{place_if, place_in}
 
 same_span : (s t : SourceSpan) → s.file_id ≡ t.file_id → s.offset ≡ t.offset → s.length ≡ t.length → s ≡ t

@@ -1,5 +1,5 @@
 -- A parser looks at no token behind the first that it does not take, and a higher limit changes nothing but a `Nesting`.
-use Rattle.std.proofs.Common.{◌≡◌, ℕ, zero, suc, ◌+◌, ◌-◌, ◌<◌, ◌≤◌, Bool, true, false, cond, List, [], ◌∷◌, length, Option, Some, None, Result, Ok, Err, refl, sym, ap, subst, ◌∙◌, arith, inl, inr, ◌⊎◌}
+use Rattle.std.proofs.Common.{◌≡◌, ℕ, ◌+◌, ◌<◌, ◌≤◌, Bool, true, false, cond, List, [], ◌∷◌, length, Some, None, Ok, Err, refl, sym, ap, ◌∙◌, arith, inl, inr, ◌⊎◌}
 use Rattle.graphql_lexer.specs.declared.terminal.Terminal.{Terminal}
 use Rattle.graphql_values.specs.Placed.{Placed}
 use Rattle.graphql_grammar.specs.declared.stop.Stop.{Stop}
@@ -9,7 +9,7 @@ use Rattle.graphql_grammar.specs.Meaning.{Meaning, place_between, begin_of}
 use Rattle.graphql_grammar.specs.Kinds.{next_is}
 use Rattle.graphql_grammar.specs.Reading as read
 use Rattle.graphql_grammar.proofs.Moves.{between_no}
-use Rattle.graphql_grammar.specs.Reading.{Outcome, Parser, and_then, pure, ◌⊙◌, ◌<&>◌, refuse, too_deep, take_from, take, when, try, many_within, many, some, placed, between, checked}
+use Rattle.graphql_grammar.specs.Reading.{Outcome, Parser, and_then, ◌⊙◌, ◌<&>◌, refuse, too_deep, take_from, take, when, try, placed, between}
 
 -- Where two lists of tokens part: behind the token b, after which come r and s, if fewer than `far` tokens are left there.
 pub record Fork : Type 0 where

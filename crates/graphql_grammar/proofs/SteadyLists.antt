@@ -1,5 +1,5 @@
 -- A parser of lists looks at no token behind the first that it does not take, and a higher limit changes nothing but a `Nesting`.
-use Rattle.std.proofs.Common.{◌≡◌, ℕ, zero, suc, ◌+◌, ◌<◌, ◌≤◌, Bool, true, false, cond, List, [], ◌∷◌, length, Option, Some, None, Result, Ok, Err, refl, ap, arith, inl, inr, ◌⊎◌}
+use Rattle.std.proofs.Common.{◌≡◌, ℕ, zero, suc, ◌+◌, ◌≤◌, Bool, true, false, cond, List, [], ◌∷◌, length, None, Ok, Err, refl, ap, arith, inl, inr}
 use Rattle.graphql_lexer.specs.declared.terminal.Terminal.{Terminal}
 use Rattle.graphql_lexer.specs.Input.{Token, Input, next, next_of}
 use Rattle.graphql_grammar.specs.declared.stop.Stop.{Stop}

@@ -1,5 +1,5 @@
 -- What each step of the cursor, and each turn of a loop, does to what is read.
-use Rattle.std.proofs.Common.{◌≡◌, ◌≢◌, ℕ, zero, suc, ◌+◌, ◌<◌, ◌≤◌, Bool, true, false, cond, List, [], ◌∷◌, ◌++◌, length, Option, Some, None, Result, Ok, Err, refl, sym, ap, subst, ◌∙◌, arith, append_assoc}
+use Rattle.std.proofs.Common.{◌≡◌, ◌≢◌, ℕ, zero, suc, ◌+◌, ◌<◌, ◌≤◌, Bool, true, false, cond, List, [], ◌∷◌, ◌++◌, length, None, Ok, Err, refl, sym, ap, subst, ◌∙◌, arith, append_assoc}
 use Rattle.std.specs.Prelude.{map}
 use Rattle.std.proofs.lemmas.List.{append-nil, map-append}
 use Rattle.graphql_lexer.specs.declared.terminal.Terminal.{Terminal}
@@ -7,8 +7,7 @@ use Rattle.graphql_grammar.specs.declared.stop.Stop.{Stop}
 use Rattle.graphql_grammar.specs.declared.stop.Stop.TheVariants.{Unexpected, Memory}
 use Rattle.graphql_lexer.specs.Input.{Token, Input, next, next_of}
 use Rattle.graphql_grammar.specs.Kinds.{next_is}
-use Rattle.graphql_grammar.specs.Reading as read
-use Rattle.graphql_grammar.specs.Reading.{Outcome, Parser, and_then, when, refuse, many_within, many, some}
+use Rattle.graphql_grammar.specs.Reading.{Outcome, Parser, and_then, many_within, many, some}
 use Rattle.graphql_grammar.proofs.Steady.{Steady, Shorter}
 use Rattle.graphql_grammar.proofs.Parses.{takes}
 

@@ -1,5 +1,5 @@
 -- What the reading of all tokens says of a symbol.
-use Rattle.std.proofs.Common.{◌≡◌, ◌≢◌, ℕ, zero, suc, ◌+◌, ◌<◌, ◌≤◌, Bool, true, false, cond, List, [], ◌∷◌, ◌++◌, length, Option, Some, None, Result, Ok, Err, refl, sym, ap, subst, ◌∙◌, arith, append_assoc, inl, inr, ◌⊎◌}
+use Rattle.std.proofs.Common.{◌≡◌, ◌≢◌, ℕ, suc, ◌+◌, ◌≤◌, true, List, [], ◌∷◌, ◌++◌, length, Option, Some, None, Ok, Err, refl, sym, ap, subst, ◌∙◌, arith, append_assoc, inl, inr}
 use Rattle.std.proofs.lemmas.List.{append-nil}
 use Rattle.graphql_lexer.specs.declared.terminal.Terminal.{Terminal}
 use Rattle.graphql_lexer.specs.declared.terminal.Terminal.TheVariants as terminal
@@ -12,9 +12,9 @@ use Rattle.graphql_grammar.specs.Rules.{Rule}
 use Rattle.graphql_grammar.specs.Grammar.{DerivesAs}
 use Rattle.graphql_grammar.specs.Depth.{is_opening, is_closing, depth}
 use Rattle.graphql_grammar.specs.Faults as faults
-use Rattle.graphql_grammar.specs.Faults.{Says, IsTooDeep, IsUnexpected}
+use Rattle.graphql_grammar.specs.Faults.{Says, IsTooDeep}
 use Rattle.graphql_grammar.specs.Stops.{fault_of, unexpected_at, ending_fault}
-use Rattle.graphql_grammar.specs.Reading.{Outcome, Parser, and_then, ended, ended_at, whole}
+use Rattle.graphql_grammar.specs.Reading.{Outcome, Parser, ended, ended_at, whole}
 use Rattle.graphql_grammar.proofs.Tests.{Test}
 use Rattle.graphql_grammar.proofs.Exact.{then_ok, ok_is}
 use Rattle.graphql_grammar.proofs.Steady as t

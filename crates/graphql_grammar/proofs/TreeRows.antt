@@ -1,20 +1,20 @@
 -- Rows with whole trees, where a place is where something begins and where it ends.
-use Rattle.std.proofs.Common.{◌≡◌, ℕ, List, [], ◌∷◌, Result, Ok, Err, refl, Option, Some, None, true, false}
+use Rattle.std.proofs.Common.{◌≡◌, ℕ, List, [], ◌∷◌, Ok, refl, Some, None, true}
 use Rattle.std.specs.Prelude.{codes}
 use Rattle.graphql_values.specs.Placed.{Placed, Text}
-use Rattle.graphql_values.specs.ValueTree.{ValueTree, IntTree, ListTree, item_then, no_items, VariableTree}
-use Rattle.graphql_values.specs.TypeTree.{NamedTree, NonNullNamedTree}
+use Rattle.graphql_values.specs.ValueTree.{IntTree, ListTree, item_then, no_items, VariableTree}
+use Rattle.graphql_values.specs.TypeTree.{NonNullNamedTree}
 use Rattle.graphql_values.specs.SelectionTree.{FieldTree, selection_then, no_selections}
 use Rattle.graphql_values.specs.declared.operation.OperationType.TheVariants.{Query}
 use Rattle.graphql_values.specs.declared.directive_location.DirectiveLocation.TheVariants as location
 use Rattle.graphql_ast.specs.DefinitionTree.{DefinitionTree, Operation, ScalarType, DirectiveDefinition, ExtendUnion, ObjectType}
 use Rattle.graphql_lexer.specs.declared.terminal.Terminal.{Terminal}
 use Rattle.graphql_lexer.specs.declared.terminal.Terminal.TheVariants as k
-use Rattle.graphql_lexer.specs.Input.{Token, Input}
+use Rattle.graphql_lexer.specs.Input.{Token}
 use Rattle.graphql_grammar.specs.Meaning.{Meaning, start}
 use Rattle.graphql_grammar.specs.Grammar.{Derives}
 use Rattle.graphql_grammar.specs.Locations.{location_of}
-use Rattle.graphql_grammar.specs.Reading.{Outcome, whole, take, many, many_within, some}
+use Rattle.graphql_grammar.specs.Reading.{whole, take, many, many_within, some}
 use Rattle.graphql_grammar.specs.ValueReading as v
 use Rattle.graphql_grammar.specs.OperationReading as o
 use Rattle.graphql_grammar.specs.TypeSystemReading as y

@@ -1,8 +1,7 @@
 -- The type system is read exactly, steadily, and within the limit.
-use Rattle.std.proofs.Common.{◌≡◌, ℕ, zero, suc, ◌+◌, ◌≤◌, Bool, true, false, List, Option, refl, arith}
-use Rattle.graphql_values.specs.Placed.{Placed, Text}
+use Rattle.std.proofs.Common.{ℕ, zero, suc, ◌≤◌, true, refl, arith}
 use Rattle.graphql_grammar.specs.Meaning.{Meaning, text_of}
-use Rattle.graphql_grammar.specs.Kinds.{next_is, is_name, is_enum_value, is_string, is_colon, is_at, is_equals, is_ampersand, is_pipe, is_on, is_location, is_repeatable, is_implements, is_schema, is_scalar, is_type, is_interface, is_union, is_enum, is_input, is_directive, is_operation_type, is_open_brace, is_close_brace, is_open_paren, is_close_paren}
+use Rattle.graphql_grammar.specs.Kinds.{next_is, is_string, is_colon, is_at, is_equals, is_ampersand, is_pipe, is_on, is_location, is_repeatable, is_implements, is_schema, is_scalar, is_type, is_interface, is_union, is_enum, is_input, is_directive, is_operation_type, is_open_brace, is_close_brace, is_open_paren, is_close_paren}
 use Rattle.graphql_grammar.specs.Begins.{begins_described_name, begins_type_definition, begins_definition}
 use Rattle.graphql_grammar.specs.Locations.{location_of}
 use Rattle.graphql_grammar.specs.TypeSystemGrammar as g

@@ -1,6 +1,5 @@
 -- Values, arguments, directives and types are read exactly, steadily, and within the limit.
-use Rattle.std.proofs.Common.{◌≡◌, ℕ, zero, suc, ◌+◌, ◌≤◌, Bool, true, false, cond, List, Option, refl, arith}
-use Rattle.graphql_values.specs.Placed.{Placed, Text}
+use Rattle.std.proofs.Common.{ℕ, zero, suc, ◌≤◌, Bool, true, false, cond, refl, arith}
 use Rattle.graphql_values.specs.ValueTree.{ValueTree, NullTree, EnumTree, VariableTree, StringTree, FloatTree, IntTree, BooleanTree, ListTree, ObjectTree}
 use Rattle.graphql_values.specs.TypeTree.{TypeTree, NamedTree}
 use Rattle.graphql_values.specs.TypeTree as types
@@ -8,7 +7,6 @@ use Rattle.graphql_lexer.specs.declared.terminal.Terminal.{Terminal}
 use Rattle.graphql_grammar.specs.Meaning.{Meaning, name_of}
 use Rattle.graphql_grammar.specs.Kinds.{next_is, is_name, is_enum_value, is_string, is_int, is_float, is_true, is_false, is_boolean, is_null, is_dollar, is_colon, is_at, is_equals, is_bang, is_open_bracket, is_close_bracket, is_open_brace, is_close_brace, is_open_paren, is_close_paren}
 use Rattle.graphql_grammar.specs.Begins.{begins_value, begins_type}
-use Rattle.graphql_grammar.specs.Rules as rule
 use Rattle.graphql_grammar.specs.Rules.{Rule, ◌<$>◌, ◌∣◌, nothing}
 use Rattle.graphql_grammar.specs.ValueGrammar as g
 use Rattle.graphql_grammar.specs.ValueGrammar.{Const, items_of, entries_of, argument_of, directive_of, type_of}
@@ -20,7 +18,7 @@ use Rattle.graphql_grammar.proofs.Exact as e
 use Rattle.graphql_grammar.proofs.Steady as t
 use Rattle.graphql_grammar.proofs.Nests as l
 use Rattle.graphql_grammar.proofs.Keeps as kept
-use Rattle.graphql_grammar.proofs.Parses.{Parses, token, mapped, mark, weaker, seq, opt, alternative, only, maybe, unless, located, several, one_or_more, enclosed, none_deep, one_deep}
+use Rattle.graphql_grammar.proofs.Parses.{Parses, token, mapped, mark, weaker, seq, alternative, only, maybe, unless, located, several, one_or_more, enclosed, none_deep, one_deep}
 
 -- what is next is of another class
 abbrev pub lacking : (Terminal → Bool) → Test

@@ -1,5 +1,5 @@
 -- The names of directive locations (GraphQL, October 2021, section 3.13).
-use Rattle.std.specs.Prelude.{ℕ, Bool, List, [], ◌∷◌, if◌then◌else◌, bytes_eq}
+use Rattle.std.specs.Prelude.{ℕ, List, [], ◌∷◌, if◌then◌else◌, bytes_eq}
 use Rattle.graphql_values.specs.OperationQueries.{location_keyword}
 use Rattle.graphql_values.specs.declared.directive_location.DirectiveLocation.{DirectiveLocation}
 use Rattle.graphql_values.specs.declared.directive_location.DirectiveLocation.TheVariants as location

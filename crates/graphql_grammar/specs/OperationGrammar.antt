@@ -1,5 +1,5 @@
 -- The grammar of selections, operations and fragments (GraphQL, October 2021, appendix B): a rule for each symbol.
-use Rattle.std.specs.Prelude.{ℕ, zero, suc, List, [], ◌∷◌, Option, Some, None, unwrap_or}
+use Rattle.std.specs.Prelude.{ℕ, zero, suc, List, [], ◌∷◌, Option, None, unwrap_or}
 use Rattle.graphql_values.specs.Placed.{Placed, Text}
 use Rattle.graphql_values.specs.ValueTree.{ValueTree}
 use Rattle.graphql_values.specs.TypeTree.{TypeTree}
@@ -9,7 +9,7 @@ use Rattle.graphql_values.specs.OperationTree.{VariableDefinitionTree, Operation
 use Rattle.graphql_values.specs.declared.operation.OperationType.{OperationType}
 use Rattle.graphql_values.specs.declared.operation.OperationType.TheVariants.{Query, Mutation, Subscription}
 use Rattle.graphql_grammar.specs.Meaning.{Meaning, name_of}
-use Rattle.graphql_grammar.specs.Kinds.{is_name, is_fragment_name, is_colon, is_spread, is_on, is_fragment, is_query, is_mutation, is_subscription, is_open_brace, is_close_brace, is_open_paren, is_close_paren}
+use Rattle.graphql_grammar.specs.Kinds.{is_fragment_name, is_colon, is_spread, is_on, is_fragment, is_query, is_mutation, is_subscription, is_open_brace, is_close_brace, is_open_paren, is_close_paren}
 use Rattle.graphql_grammar.specs.Rules.{Rule, one, mark, ◌·◌, ◌<$>◌, ◌∣◌, nothing, optional, some, between, placed}
 use Rattle.graphql_grammar.specs.ValueGrammar.{constant, with_variables, name, variable, default_value, arguments, directives, type}
 

@@ -8,7 +8,7 @@ use Rattle.graphql_values.specs.OperationTree.{VariableDefinitionTree, Operation
 use Rattle.graphql_values.specs.declared.operation.OperationType.{OperationType}
 use Rattle.graphql_values.specs.declared.operation.OperationType.TheVariants.{Query, Mutation, Subscription}
 use Rattle.graphql_grammar.specs.Meaning.{Meaning, name_of}
-use Rattle.graphql_grammar.specs.Kinds.{is_name, is_fragment_name, is_colon, is_spread, is_on, is_at, is_equals, is_dollar, is_fragment, is_query, is_mutation, is_subscription, is_operation_type, is_open_brace, is_close_brace, is_open_paren, is_close_paren}
+use Rattle.graphql_grammar.specs.Kinds.{is_name, is_fragment_name, is_colon, is_spread, is_on, is_at, is_equals, is_dollar, is_fragment, is_query, is_mutation, is_subscription, is_open_brace, is_close_brace, is_open_paren, is_close_paren}
 use Rattle.graphql_grammar.specs.Begins.{begins_selection}
 use Rattle.graphql_grammar.specs.ValueGrammar.{constant, with_variables}
 use Rattle.graphql_grammar.specs.OperationGrammar.{selections_of, field_of, spread_of, inline_of, variable_definition_of, short_of, operation_of, fragment_of}

@@ -1,5 +1,5 @@
 -- Private layer: how values, arguments, directives and types are read. No public clause cites it.
-use Rattle.std.specs.Prelude.{ℕ, zero, suc, Bool, true, false, List, Option}
+use Rattle.std.specs.Prelude.{ℕ, zero, suc, true, false}
 use Rattle.graphql_values.specs.Placed.{Placed, Text}
 use Rattle.graphql_values.specs.ValueTree.{ValueTree, NullTree, EnumTree, VariableTree, StringTree, FloatTree, IntTree, BooleanTree, ListTree, ObjectTree}
 use Rattle.graphql_values.specs.DirectiveTree.{ArgumentTree, Arguments, DirectiveTree, Directives}
