@@ -17,5 +17,6 @@ pub mod Laws
 pub mod Opened
 pub mod Spans
 pub mod Views
+pub mod Depths
 pub mod Rows
 pub mod TreeRows

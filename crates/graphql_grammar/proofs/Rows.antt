@@ -3,7 +3,7 @@ use Rattle.std.proofs.Common.{◌≡◌, ℕ, List, [], ◌∷◌, length, Ok, E
 use Rattle.std.specs.Prelude.{map}
 use Rattle.graphql_lexer.specs.declared.terminal.Terminal.{Terminal}
 use Rattle.graphql_lexer.specs.declared.terminal.Terminal.TheVariants as k
-use Rattle.graphql_lexer.specs.Input.{Token, Input}
+use Rattle.graphql_lexer.specs.Input.{Token}
 use Rattle.graphql_grammar.specs.Meaning.{Meaning, start}
 use Rattle.graphql_grammar.specs.Reading.{Outcome, whole, take, many, many_within, some}
 use Rattle.graphql_grammar.specs.ValueReading as v

@@ -1,8 +1,10 @@
 //! Reads values, arguments, directives and types from tokens.
 #![tactic(auto)]
 
-mod arguments;
+mod argument_list;
+mod directive_list;
 mod source;
 mod steps;
 
-pub use arguments::arguments;
+pub use argument_list::arguments;
+pub use directive_list::directives;

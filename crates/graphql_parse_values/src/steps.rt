@@ -90,7 +90,6 @@ pub fn open(tokens: &mut Source<'_>, terminal: Terminal, depth: usize) -> Result
 }
 
 /// The place from where something begins to the last token that was passed over.
-#[tactic(auto, using(graphql_grammar::proofs::Spans::place_is))]
 pub fn since(tokens: &Source<'_>, file: FileId, begin: usize) -> SourceSpan
     ensures { Some result ≡ place_in file.0 begin tokens.now.last }
 {

@@ -15,7 +15,7 @@ use Rattle.graphql_grammar.proofs.Parses.{located}
 use Rattle.graphql_grammar.proofs.Values.{argument_parses}
 use Rattle.graphql_grammar.proofs.Steps.{turn, turn_stops_with, turns_end, turn_takes, some_starts, some_not}
 use Rattle.graphql_parse_values.specs.Meanings.{in_file}
-use Rattle.graphql_parse_values.proofs.arguments.some_arguments.Goals as goal
+use Rattle.graphql_parse_values.proofs.argument_list.some_arguments.Goals as goal
 
 item : (file : FileId) (constant : Bool) (depth : ℕ) → Steady 1 (read.placed (in_file file) (reading.argument (in_file file) constant depth)) (read.placed (in_file file) (reading.argument (in_file file) constant depth))
 item file constant depth = (located (in_file file) (argument_parses (in_file file) constant depth depth (omega arith))).steady

@@ -7,7 +7,7 @@ use Rattle.graphql_grammar.specs.Reading as read
 use Rattle.graphql_grammar.specs.ValueReading as reading
 use Rattle.graphql_grammar.proofs.Steps.{with_front}
 use Rattle.graphql_parse_values.specs.Meanings.{in_file}
-use Rattle.graphql_parse_values.proofs.arguments.some_arguments.Given as goal
+use Rattle.graphql_parse_values.proofs.argument_list.some_arguments.Given as goal
 
 abbrev pub invariant-turns : goal.invariant-turns
 invariant-turns l =

@@ -1,7 +1,7 @@
 use Rattle.std.proofs.Common.{◌≡◌, rules}
 use Rattle.graphql_grammar.proofs.Opened.{arguments_is}
 use Rattle.graphql_parse_values.specs.Meanings.{in_file}
-use Rattle.graphql_parse_values.proofs.arguments.arguments.Goals as goal
+use Rattle.graphql_parse_values.proofs.argument_list.arguments.Goals as goal
 
 pub returns-in_err-open : goal.returns-in_err-open
 returns-in_err-open c = rw (arguments_is (in_file c.args.file) c.args.constant c.args.depth c.args.tokens.now) (search rules)
