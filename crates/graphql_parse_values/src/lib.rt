@@ -5,6 +5,8 @@ mod argument_list;
 mod directive_list;
 mod source;
 mod steps;
+mod value_list;
 
 pub use argument_list::arguments;
 pub use directive_list::directives;
+pub use value_list::list_value;
