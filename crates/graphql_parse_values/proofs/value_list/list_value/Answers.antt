@@ -7,4 +7,4 @@ use Rattle.graphql_parse_values.proofs.value_list.list_value.Goals as goal
 
 pub returns : goal.returns
 unfolding reading.list_value
-returns c = rw (value_tree_list c.in_ok-found.field-0, ← items_viewed c.in_ok-found.field-0.items) (search rules)
+returns c = rw (value_tree_list c.in_ok-found.found, ← items_viewed c.in_ok-found.found.items) (search rules)
