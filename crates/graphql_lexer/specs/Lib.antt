@@ -1,1 +1,11 @@
 pub mod Input
+pub mod Bytes
+pub mod Numbers
+pub mod Strings
+pub mod Blocks
+pub mod Tokens
+pub mod Terminals
+pub mod Lex
+pub mod Cursor
+pub mod Values
+pub mod Forms
