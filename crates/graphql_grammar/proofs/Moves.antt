@@ -3,12 +3,12 @@ use Rattle.std.proofs.Common.{◌≡◌, ℕ, suc, Bool, true, false, cond, List
 use Rattle.graphql_lexer.specs.declared.terminal.Terminal.{Terminal}
 use Rattle.graphql_grammar.specs.declared.stop.Stop.TheVariants.{Unexpected}
 use Rattle.graphql_lexer.specs.Input.{Token, Input, next, next_of}
-use Rattle.graphql_grammar.specs.Cursor.{skipped, skipped_from}
+use Rattle.graphql_lexer.specs.Cursor.{skipped, skipped_in}
 use Rattle.graphql_grammar.specs.Kinds.{next_is}
 use Rattle.graphql_grammar.specs.Reading as read
 use Rattle.graphql_grammar.specs.Reading.{Parser, and_then, ◌<&>◌, ◌⊙◌, take_from, take, between}
 
-takes_from : (is : Terminal → Bool) (i : Input) (ts : List Token) → next_is is (next_of ts) ≡ true → (t : Token) × (us : List Token) × (ts ≡ t ∷ us) × (take_from is i ts ≡ Ok (t, skipped_from i ts))
+takes_from : (is : Terminal → Bool) (i : Input) (ts : List Token) → next_is is (next_of ts) ≡ true → (t : Token) × (us : List Token) × (ts ≡ t ∷ us) × (take_from is i ts ≡ Ok (t, skipped_in i ts))
 takes_from is i [] h = absurd cc
 takes_from is i (t ∷ us) h = (t, us, refl, rw h refl)
 
@@ -17,7 +17,7 @@ refuses_from is i [] h = refl
 refuses_from is i (t ∷ us) h = rw h refl
 
 pub mark_yes : (is : Terminal → Bool) (i : Input) → next_is is (next i) ≡ true → read.mark is i ≡ Ok (tt, skipped i)
-unfolding take skipped
+unfolding take
 mark_yes is i h = let k = takes_from is i i.ahead h in rw k.3 refl
 
 pub mark_no : (is : Terminal → Bool) (i : Input) → next_is is (next i) ≡ false → read.mark is i ≡ Err (Unexpected, i)
@@ -26,7 +26,7 @@ mark_no is i h = rw (refuses_from is i i.ahead h) refl
 
 -- what f makes of the next token
 pub taken_yes : {A : Type 0} (f : Token → A) (is : Terminal → Bool) (i : Input) (x : A) → next_is is (next i) ≡ true → ((t : Token) (ts : List Token) → i.ahead ≡ t ∷ ts → x ≡ f t) → (f <&> take is) i ≡ Ok (x, skipped i)
-unfolding take skipped
+unfolding take
 taken_yes f is i x h made = let k = takes_from is i i.ahead h in rw (k.3, made k.0 k.1 k.2) refl
 
 pub taken_no : {A : Type 0} (f : Token → A) (is : Terminal → Bool) (i : Input) → next_is is (next i) ≡ false → (f <&> take is) i ≡ Err (Unexpected, i)

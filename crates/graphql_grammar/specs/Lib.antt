@@ -16,5 +16,4 @@ pub mod ValueReading
 pub mod OperationReading
 pub mod TypeSystemReading
 pub mod DocumentReading
-pub mod Cursor
 pub mod Stops

@@ -8,10 +8,9 @@ ghost use Rattle.graphql_grammar.specs.Reading.{Reads};
 ghost use Rattle.graphql_grammar.specs.ValueReading as reading;
 ghost use Rattle.graphql_parse_values.specs.Meanings.{in_file};
 
-use crate::source::Source;
-use crate::steps::{expect, name, next_is_name, open, since, value};
+use crate::steps::{begin, expect, name, next_is_name, open, since, value};
 use graphql_grammar::Stop;
-use graphql_lexer::Terminal;
+use graphql_lexer::{Source, Terminal};
 use graphql_names::{FileId, Node};
 use graphql_values::Argument;
 use std::alloc::Global;
@@ -27,7 +26,7 @@ fn argument(
 ) -> Result<Node<Argument>, Stop>
     ensures { Reads (node_tree argument_tree) (read.placed (in_file file) (reading.argument (in_file file) constant depth) tokens.old) result tokens.new }
 {
-    let begin = tokens.begin();
+    let begin = begin(tokens);
     let name = name(alloc, tokens, file)?;
     expect(tokens, Terminal::Colon)?;
     let value = value(alloc, tokens, file, constant, depth)?;

@@ -8,10 +8,9 @@ ghost use Rattle.graphql_grammar.specs.ValueReading as reading;
 ghost use Rattle.graphql_parse_values.specs.Meanings.{in_file};
 
 use crate::argument_list::arguments;
-use crate::source::Source;
-use crate::steps::{expect, name, next_is, since};
+use crate::steps::{begin, expect, name, next_is, since};
 use graphql_grammar::Stop;
-use graphql_lexer::Terminal;
+use graphql_lexer::{Source, Terminal};
 use graphql_names::{FileId, Node};
 use graphql_values::{Directive, DirectiveList};
 use std::alloc::Global;
@@ -27,7 +26,7 @@ fn directive(
 ) -> Result<Node<Directive>, Stop>
     ensures { Reads (node_tree directive_tree) (read.placed (in_file file) (reading.directive (in_file file) constant depth) tokens.old) result tokens.new }
 {
-    let begin = tokens.begin();
+    let begin = begin(tokens);
     expect(tokens, Terminal::At)?;
     let name = name(alloc, tokens, file)?;
     let arguments = if next_is(tokens, Terminal::OpenParen) {

@@ -3,10 +3,11 @@
 
 mod argument_list;
 mod directive_list;
-mod source;
+mod name_token;
 mod steps;
 mod value_list;
 
 pub use argument_list::arguments;
 pub use directive_list::directives;
+pub use name_token::taken_name;
 pub use value_list::list_value;

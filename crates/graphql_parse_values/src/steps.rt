@@ -1,18 +1,18 @@
 //! Steps of a cursor over tokens.
-ghost use Rattle.std.specs.Prelude.{◌≡◌, ◌<◌, OnOk, Some};
+ghost use Rattle.std.specs.Prelude.{◌≡◌, ◌<◌, ◌-◌, OnOk, Some};
 ghost use Rattle.graphql_lexer.specs.Input as input;
 ghost use Rattle.graphql_values.specs.Placed.{name_tree, node_tree};
 ghost use Rattle.graphql_values.specs.ValueTree.{value_tree};
 ghost use Rattle.graphql_grammar.specs.Kinds as kinds;
+ghost use Rattle.graphql_grammar.specs.Meaning.{begin_of};
 ghost use Rattle.graphql_grammar.specs.Places.{place_in};
 ghost use Rattle.graphql_grammar.specs.Reading as read;
 ghost use Rattle.graphql_grammar.specs.Reading.{Reads};
 ghost use Rattle.graphql_grammar.specs.ValueReading as reading;
 ghost use Rattle.graphql_parse_values.specs.Meanings.{in_file};
 
-use crate::source::Source;
 use graphql_grammar::Stop;
-use graphql_lexer::Terminal;
+use graphql_lexer::{Source, Terminal};
 use graphql_names::{FileId, Name, Node, SourceSpan};
 use graphql_values::Value;
 use std::alloc::Global;
@@ -61,6 +61,16 @@ pub fn is_name(terminal: Terminal) -> bool
     }
 }
 
+/// Where the next token begins; 0 where none is left.
+pub fn begin(tokens: &Source<'_>) -> usize
+    ensures { result ≡ begin_of tokens.now.ahead }
+{
+    if tokens.peek().is_none() {
+        return 0;
+    }
+    tokens.offset()
+}
+
 /// Takes this terminal.
 #[tactic(auto, using(graphql_grammar::proofs::Moves::mark_yes, graphql_grammar::proofs::Moves::mark_no))]
 pub fn expect(tokens: &mut Source<'_>, terminal: Terminal) -> Result<(), Stop>
@@ -91,7 +101,8 @@ pub fn open(tokens: &mut Source<'_>, terminal: Terminal, depth: usize) -> Result
 
 /// The place from where something begins to the last token that was passed over.
 pub fn since(tokens: &Source<'_>, file: FileId, begin: usize) -> SourceSpan
-    ensures { Some result ≡ place_in file.0 begin tokens.now.last }
+    ensures place { Some result ≡ place_in file.0 begin tokens.now.last }
+    ensures length { result.length ≡ tokens.now.last - begin }
 {
     SourceSpan {
         file_id: file,

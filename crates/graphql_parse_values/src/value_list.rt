@@ -10,10 +10,9 @@ ghost use Rattle.graphql_grammar.specs.Reading.{Reads};
 ghost use Rattle.graphql_grammar.specs.ValueReading as reading;
 ghost use Rattle.graphql_parse_values.specs.Meanings.{in_file};
 
-use crate::source::Source;
 use crate::steps::{expect, is_name, value};
 use graphql_grammar::Stop;
-use graphql_lexer::Terminal;
+use graphql_lexer::{Source, Terminal};
 use graphql_names::{FileId, Node};
 use graphql_values::Value;
 use std::alloc::Global;
