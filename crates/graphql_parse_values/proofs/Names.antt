@@ -1,5 +1,5 @@
 -- A name that is taken is the rule's.
-use Rattle.std.proofs.Common.{◌≡◌, ℕ, ◌+◌, ◌-◌, true, List, [], ◌∷◌, length, Some, refl, ap, ◌∙◌, arith}
+use Rattle.std.proofs.Common.{◌≡◌, ℕ, ◌+◌, ◌-◌, true, List, [], ◌∷◌, length, Some, Ok, refl, sym, ap, ◌∙◌, arith}
 use Rattle.graphql_names.specs.NameSyntax.{IsName}
 use Rattle.graphql_names.specs.declared.span.FileId.{FileId}
 use Rattle.graphql_values.specs.Placed.{Place, Text}
@@ -10,6 +10,9 @@ use Rattle.graphql_lexer.specs.declared.terminal.Terminal.{Terminal}
 use Rattle.graphql_grammar.specs.Kinds.{next_is, is_name}
 use Rattle.graphql_grammar.specs.Meaning.{begin_of, name_of}
 use Rattle.graphql_grammar.specs.Places.{place_in}
+use Rattle.graphql_grammar.specs.Reading.{Outcome}
+use Rattle.graphql_grammar.specs.ValueReading as reading
+use Rattle.graphql_grammar.proofs.Moves.{taken_yes}
 use Rattle.graphql_grammar.proofs.Tests.{from_subset}
 use Rattle.graphql_parse_values.specs.Meanings.{in_file}
 
@@ -38,3 +41,12 @@ name_made file i text place is at t ts e = both text place t.text (place_in file
   where
     both : (a : List ℕ) (p : Place) (b : List ℕ) (q : Place) → a ≡ b → p ≡ q → named a p ≡ named b q
     both a p b q e f = ap (λ (x : List ℕ). named x p) e ∙ ap (λ (x : Place). named b x) f
+
+abbrev done : Text Place → Input → Outcome (Text Place)
+done x z = Ok (x, z)
+
+pub name_taken : (file : FileId) (i new : Input) (text : List ℕ) (place : Place) → next_is is_name (next i) ≡ true → new ≡ skipped i → text ≡ text_of i.ahead → place ≡ place_in file.0 (begin_of i.ahead) new.last → reading.name (in_file file) i ≡ Ok (named text place, new)
+unfolding reading.name
+name_taken file i new text place yes behind is at =
+    taken_yes (name_of (in_file file)) is_name i (named text place) yes (name_made file i text place is (at ∙ ap (λ (z : Input). place_in file.0 (begin_of i.ahead) z.last) behind))
+    ∙ ap (λ (z : Input). done (named text place) z) (sym behind)

@@ -8,7 +8,8 @@ ghost use Rattle.graphql_grammar.specs.ValueReading as reading;
 ghost use Rattle.graphql_parse_values.specs.Meanings.{in_file};
 
 use crate::argument_list::arguments;
-use crate::steps::{begin, expect, name, next_is, since};
+use crate::name_token::name;
+use crate::steps::{begin, expect, next_is, since};
 use graphql_grammar::Stop;
 use graphql_lexer::{Source, Terminal};
 use graphql_names::{FileId, Node};

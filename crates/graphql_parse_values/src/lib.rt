@@ -9,5 +9,5 @@ mod value_list;
 
 pub use argument_list::arguments;
 pub use directive_list::directives;
-pub use name_token::taken_name;
+pub use name_token::name;
 pub use value_list::list_value;

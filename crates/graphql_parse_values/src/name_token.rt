@@ -13,7 +13,7 @@ use std::alloc::Global;
 
 /// Takes a name.
 #[tactic(auto, using(crate::proofs::Names::first_is_name, crate::proofs::Names::skipped_length, graphql_grammar::proofs::Moves::taken_no), unfolding(graphql_grammar::specs::ValueReading::name))]
-pub fn taken_name(alloc: Global, tokens: &mut Source<'_>, file: FileId) -> Result<Name, Stop>
+pub fn name(alloc: Global, tokens: &mut Source<'_>, file: FileId) -> Result<Name, Stop>
     ensures { Reads name_tree (reading.name (in_file file) tokens.old) result tokens.new }
 {
     if !next_is_name(tokens) {

@@ -1,7 +1,7 @@
 //! Steps of a cursor over tokens.
 ghost use Rattle.std.specs.Prelude.{◌≡◌, ◌<◌, ◌-◌, OnOk, Some};
 ghost use Rattle.graphql_lexer.specs.Input as input;
-ghost use Rattle.graphql_values.specs.Placed.{name_tree, node_tree};
+ghost use Rattle.graphql_values.specs.Placed.{node_tree};
 ghost use Rattle.graphql_values.specs.ValueTree.{value_tree};
 ghost use Rattle.graphql_grammar.specs.Kinds as kinds;
 ghost use Rattle.graphql_grammar.specs.Meaning.{begin_of};
@@ -13,7 +13,7 @@ ghost use Rattle.graphql_parse_values.specs.Meanings.{in_file};
 
 use graphql_grammar::Stop;
 use graphql_lexer::{Source, Terminal};
-use graphql_names::{FileId, Name, Node, SourceSpan};
+use graphql_names::{FileId, Node, SourceSpan};
 use graphql_values::Value;
 use std::alloc::Global;
 
@@ -109,14 +109,6 @@ pub fn since(tokens: &Source<'_>, file: FileId, begin: usize) -> SourceSpan
         offset: begin,
         length: tokens.last().saturating_sub(begin),
     }
-}
-
-/// Takes a name.
-pub fn name(_alloc: Global, tokens: &mut Source<'_>, file: FileId) -> Result<Name, Stop>
-    ensures { Reads name_tree (reading.name (in_file file) tokens.old) result tokens.new }
-{
-    tokens.skip();
-    Err(Stop::Memory)
 }
 
 /// Reads a value, as a node.
