@@ -17,6 +17,7 @@ pub mod Laws
 pub mod Opened
 pub mod Spans
 pub mod Views
+pub mod Words
 pub mod Depths
 pub mod Rows
 pub mod TreeRows
