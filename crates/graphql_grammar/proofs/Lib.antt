@@ -18,6 +18,7 @@ pub mod Opened
 pub mod Spans
 pub mod Views
 pub mod Words
+pub mod Arms
 pub mod Depths
 pub mod Rows
 pub mod TreeRows
