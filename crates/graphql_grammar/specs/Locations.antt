@@ -1,0 +1,36 @@
+-- The names of directive locations (GraphQL, October 2021, section 3.13).
+use Rattle.std.specs.Prelude.{ℕ, List, [], ◌∷◌, if◌then◌else◌, bytes_eq}
+use Rattle.graphql_values.specs.OperationQueries.{location_keyword}
+use Rattle.graphql_directives.specs.declared.directive_location.DirectiveLocation.{DirectiveLocation}
+use Rattle.graphql_directives.specs.declared.directive_location.DirectiveLocation.TheVariants as location
+
+abbrev pub locations : List DirectiveLocation
+locations =
+    location.Query
+    ∷ location.Mutation
+    ∷ location.Subscription
+    ∷ location.Field
+    ∷ location.FragmentDefinition
+    ∷ location.FragmentSpread
+    ∷ location.InlineFragment
+    ∷ location.VariableDefinition
+    ∷ location.Schema
+    ∷ location.Scalar
+    ∷ location.Object
+    ∷ location.FieldDefinition
+    ∷ location.ArgumentDefinition
+    ∷ location.Interface
+    ∷ location.Union
+    ∷ location.Enum
+    ∷ location.EnumValue
+    ∷ location.InputObject
+    ∷ []
+
+-- the first of these that is so written, and the last of the nineteen where none is
+abbrev pub named_among : List DirectiveLocation → List ℕ → DirectiveLocation
+named_among [] text = location.InputFieldDefinition
+named_among (x ∷ xs) text = if bytes_eq (location_keyword x) text then x else named_among xs text
+
+-- the location with this name; a token of the class Location has the name of one of the nineteen
+unfoldable pub location_of : List ℕ → DirectiveLocation
+location_of text = named_among locations text
