@@ -111,7 +111,7 @@ pub fn since(tokens: &Source<'_>, file: FileId, begin: usize) -> SourceSpan
     }
 }
 
-/// Reads a value, as a node.
+/// A value with its place. Not written yet: it stands in for the reader of values and answers want of memory alone.
 pub fn value(
     _alloc: Global,
     tokens: &mut Source<'_>,
