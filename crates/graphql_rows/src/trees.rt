@@ -1,57 +1,84 @@
 //! The trees that rows name, built without places.
 
+use crate::by_print::{Form, Named, by_tree};
+use crate::case::{Case, Tally};
+use crate::problem::Problem;
+use crate::row_file::Field;
 use graphql_ast::{
-    Definition, Directive, DirectiveDefinition, DirectiveList, Document, Field, FieldDefinition,
+    Definition, Directive, DirectiveDefinition, DirectiveList, Document, FieldDefinition,
     FragmentDefinition, InputValueDefinition, Name, Node, NodeStr, ObjectTypeDefinition,
     OperationDefinition, OperationType, Selection, Type,
 };
 use std::alloc::{AllocError, Global};
 
-/// A tree that is printed.
-#[derive(Drop)]
-pub(crate) enum Shape {
-    Type(Type),
-    Operation(OperationDefinition),
-    Fragment(FragmentDefinition),
-    Directive(DirectiveDefinition),
-    Document(Document),
-}
-
-impl Shape {
-    /// Whether the tree is writable, as a row says it.
-    pub(crate) fn writability(&self) -> &'static str {
-        let is_writable = match self {
-            Shape::Type(tree) => tree.is_writable(),
-            Shape::Operation(tree) => tree.is_writable(),
-            Shape::Fragment(tree) => tree.is_writable(),
-            Shape::Directive(tree) => tree.is_writable(),
-            Shape::Document(tree) => tree.is_writable(),
-        };
-        if is_writable {
-            "0 writable"
-        } else {
-            "1 not writable"
-        }
+impl Named for Type {
+    fn writable(&self) -> bool {
+        self.is_writable()
     }
 }
 
-/// The tree of this name, if there is one.
-pub(crate) fn tree_named(alloc: Global, name: &str) -> Result<Option<Shape>, AllocError> {
-    let tree = match name {
-        "list type" => Shape::Type(list_type(alloc)?),
-        "operation" => Shape::Operation(operation(alloc, true)?),
-        "operation with a directive" => Shape::Operation(directed(alloc)?),
-        "operation without selections" => Shape::Operation(operation(alloc, false)?),
-        "fragment named on" => Shape::Fragment(fragment(alloc)?),
-        "directive without locations" => Shape::Directive(directive(alloc)),
-        "document without definitions" => Shape::Document(Document::new(alloc)),
-        "two operations" => Shape::Document(two_operations(alloc)?),
-        "described argument" => Shape::Document(described(alloc, None, "d")?),
-        "described type" => Shape::Document(described(alloc, Some("x\ny"), "d")?),
-        "operations and a type" => Shape::Document(document(alloc)?),
-        _ => return Ok(None),
+impl Named for OperationDefinition {
+    fn writable(&self) -> bool {
+        self.is_writable()
+    }
+}
+
+impl Named for FragmentDefinition {
+    fn writable(&self) -> bool {
+        self.is_writable()
+    }
+}
+
+impl Named for DirectiveDefinition {
+    fn writable(&self) -> bool {
+        self.is_writable()
+    }
+}
+
+impl Named for Document {
+    fn writable(&self) -> bool {
+        self.is_writable()
+    }
+}
+
+/// Judges what the row asks of the tree that it names.
+pub(crate) fn by_name(
+    rt: &HostRuntime,
+    case: Case<'_>,
+    form: Option<(Form, usize)>,
+    tally: &mut Tally,
+) -> Result<(), Problem> {
+    let alloc = rt.alloc();
+    let field = case.row.needed("tree")?;
+    match field.value {
+        "list type" => by_tree(rt, case, list_type(alloc), form, tally),
+        "operation" => by_tree(rt, case, operation(alloc, true), form, tally),
+        "operation with a directive" => by_tree(rt, case, directed(alloc), form, tally),
+        "operation without selections" => by_tree(rt, case, operation(alloc, false), form, tally),
+        "fragment named on" => by_tree(rt, case, fragment(alloc), form, tally),
+        "directive without locations" => by_tree(rt, case, Ok(directive(alloc)), form, tally),
+        _ => by_document(rt, case, field, form, tally),
+    }
+}
+
+/// Judges what the row asks of the document that the field names.
+fn by_document(
+    rt: &HostRuntime,
+    case: Case<'_>,
+    field: Field<'_>,
+    form: Option<(Form, usize)>,
+    tally: &mut Tally,
+) -> Result<(), Problem> {
+    let alloc = rt.alloc();
+    let document = match field.value {
+        "document without definitions" => Ok(Document::new(alloc)),
+        "two operations" => two_operations(alloc),
+        "described argument" => described(alloc, None, "d"),
+        "described type" => described(alloc, Some("x\ny"), "d"),
+        "operations and a type" => document(alloc),
+        _ => return Err(field.problem("there is no such tree")),
     };
-    Ok(Some(tree))
+    by_tree(rt, case, document, form, tally)
 }
 
 /// `[[[Obj]!]]!`
@@ -65,7 +92,7 @@ fn list_type(alloc: Global) -> Result<Type, AllocError> {
 fn selections(alloc: Global, is_there: bool) -> Result<Vec<Selection>, AllocError> {
     let mut selection_set = Vec::new(alloc);
     if is_there {
-        let field = Field {
+        let field = graphql_ast::Field {
             alias: None,
             name: Name::new_static_unchecked("field"),
             arguments: Vec::new(alloc),
@@ -140,10 +167,11 @@ fn push_argument(
     text: Option<&str>,
     name: Name,
 ) -> Result<(), AllocError> {
+    let ty = Node::new(alloc, int())?;
     let argument = InputValueDefinition {
         description: description(alloc, text)?,
         name,
-        ty: Node::new(alloc, int())?,
+        ty,
         default_value: None,
         directives: DirectiveList(Vec::new(alloc)),
     };
