@@ -25,16 +25,24 @@ fn form_of(case: Case<'_>) -> Result<(Form, usize), Problem> {
     let Some(layout) = case.row.one("layout")? else {
         return Ok((Form::Unsaid, level));
     };
-    let form = match layout.value {
-        "line" => Form::OneLine,
-        "empty" => Form::Prefix(""),
-        "one" => Form::Prefix(" "),
-        "two" => Form::Prefix("  "),
-        "four" => Form::Prefix("    "),
-        "tab" => Form::Prefix("\t"),
-        _ => return Err(layout.problem("there is no such layout")),
+    match form_named(layout.value) {
+        Some(form) => Ok((form, level)),
+        None => Err(layout.problem("there is no such layout")),
+    }
+}
+
+/// The layout of this word.
+fn form_named(word: &str) -> Option<Form> {
+    let prefix = match word {
+        "line" => return Some(Form::OneLine),
+        "empty" => "",
+        "one" => " ",
+        "two" => "  ",
+        "four" => "    ",
+        "tab" => "\t",
+        _ => return None,
     };
-    Ok((form, level))
+    Some(Form::Prefix(prefix))
 }
 
 /// The tree under its layout.
@@ -108,8 +116,8 @@ fn prints<T: Tree>(
     tally: &mut Tally,
 ) -> Result<(), Problem> {
     displays(rt, case, tree, form, tally)?;
-    for plan in plans(rt.alloc(), case)? {
-        write_answer(rt, case, tree, form, plan, tally)?;
+    for plan in &plans(rt.alloc(), case)? {
+        write_answer(rt, case, tree, form, *plan, tally)?;
     }
     Ok(())
 }

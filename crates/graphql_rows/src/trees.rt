@@ -70,15 +70,26 @@ fn by_document(
     tally: &mut Tally,
 ) -> Result<(), Problem> {
     let alloc = rt.alloc();
-    let document = match field.value {
-        "document without definitions" => Ok(Document::new(alloc)),
+    let definitions = match field.value {
+        "document without definitions" => Ok(Vec::new(alloc)),
         "two operations" => two_operations(alloc),
         "described argument" => described(alloc, None, "d"),
         "described type" => described(alloc, Some("x\ny"), "d"),
-        "operations and a type" => document(alloc),
+        "operations and a type" => operations_and_type(alloc),
         _ => return Err(field.problem("there is no such tree")),
     };
-    by_tree(rt, case, document, form, tally)
+    by_tree(rt, case, document(alloc, definitions), form, tally)
+}
+
+/// The document of these definitions.
+fn document(
+    alloc: Global,
+    definitions: Result<Vec<Definition>, AllocError>,
+) -> Result<Document, AllocError> {
+    let definitions = definitions?;
+    let mut document = Document::new(alloc);
+    document.definitions = definitions;
+    Ok(document)
 }
 
 /// `[[[Obj]!]]!`
@@ -106,33 +117,41 @@ fn selections(alloc: Global, is_there: bool) -> Result<Vec<Selection>, AllocErro
 
 /// `{ field }`, or without the field.
 fn operation(alloc: Global, has_field: bool) -> Result<OperationDefinition, AllocError> {
+    let selection_set = selections(alloc, has_field)?;
     Ok(OperationDefinition {
         operation_type: OperationType::Query,
         name: None,
         variables: Vec::new(alloc),
         directives: DirectiveList(Vec::new(alloc)),
-        selection_set: selections(alloc, has_field)?,
+        selection_set,
     })
 }
 
 /// `{ field }` with `@dir` pushed to it.
 fn directed(alloc: Global) -> Result<OperationDefinition, AllocError> {
     let mut operation = operation(alloc, true)?;
+    push_directive(alloc, &mut operation.directives)?;
+    Ok(operation)
+}
+
+/// Adds `@dir`.
+fn push_directive(alloc: Global, directives: &mut DirectiveList) -> Result<(), AllocError> {
     let directive = Directive {
         name: Name::new_static_unchecked("dir"),
         arguments: Vec::new(alloc),
     };
-    operation.directives.0.push(Node::new(alloc, directive)?)?;
-    Ok(operation)
+    directives.0.push(Node::new(alloc, directive)?)?;
+    Ok(())
 }
 
 /// `fragment on on T { field }`
 fn fragment(alloc: Global) -> Result<FragmentDefinition, AllocError> {
+    let selection_set = selections(alloc, true)?;
     Ok(FragmentDefinition {
         name: Name::new_static_unchecked("on"),
         type_condition: Name::new_static_unchecked("T"),
         directives: DirectiveList(Vec::new(alloc)),
-        selection_set: selections(alloc, true)?,
+        selection_set,
     })
 }
 
@@ -202,38 +221,36 @@ fn field(alloc: Global, text: &str) -> Result<Node<FieldDefinition>, AllocError>
 /// Adds the type `Query` with that field.
 fn push_object(
     alloc: Global,
-    document: &mut Document,
+    definitions: &mut Vec<Definition>,
     type_text: Option<&str>,
     argument_text: &str,
 ) -> Result<(), AllocError> {
-    let mut definition = ObjectTypeDefinition {
+    let fields = vec![in alloc; field(alloc, argument_text)?]?;
+    let definition = ObjectTypeDefinition {
         description: description(alloc, type_text)?,
         name: Name::new_static_unchecked("Query"),
         implements_interfaces: Vec::new(alloc),
         directives: DirectiveList(Vec::new(alloc)),
-        fields: Vec::new(alloc),
+        fields,
     };
-    definition.fields.push(field(alloc, argument_text)?)?;
-    let definition = Definition::ObjectTypeDefinition(Node::new(alloc, definition)?);
-    document.definitions.push(definition)?;
+    let node = Node::new(alloc, definition)?;
+    definitions.push(Definition::ObjectTypeDefinition(node))?;
     Ok(())
 }
 
 /// Adds `{ field }`.
-fn push_operation(alloc: Global, document: &mut Document) -> Result<(), AllocError> {
+fn push_operation(alloc: Global, definitions: &mut Vec<Definition>) -> Result<(), AllocError> {
     let node = Node::new(alloc, operation(alloc, true)?)?;
-    document
-        .definitions
-        .push(Definition::OperationDefinition(node))?;
+    definitions.push(Definition::OperationDefinition(node))?;
     Ok(())
 }
 
 /// `{ field }` twice.
-fn two_operations(alloc: Global) -> Result<Document, AllocError> {
-    let mut document = Document::new(alloc);
-    push_operation(alloc, &mut document)?;
-    push_operation(alloc, &mut document)?;
-    Ok(document)
+fn two_operations(alloc: Global) -> Result<Vec<Definition>, AllocError> {
+    let mut definitions = Vec::new(alloc);
+    push_operation(alloc, &mut definitions)?;
+    push_operation(alloc, &mut definitions)?;
+    Ok(definitions)
 }
 
 /// The type `Query`, with the descriptions that are given.
@@ -241,17 +258,17 @@ fn described(
     alloc: Global,
     type_text: Option<&str>,
     argument_text: &str,
-) -> Result<Document, AllocError> {
-    let mut document = Document::new(alloc);
-    push_object(alloc, &mut document, type_text, argument_text)?;
-    Ok(document)
+) -> Result<Vec<Definition>, AllocError> {
+    let mut definitions = Vec::new(alloc);
+    push_object(alloc, &mut definitions, type_text, argument_text)?;
+    Ok(definitions)
 }
 
 /// `{ field }`, the type `Query` with descriptions that need escapes, `{ field }`.
-fn document(alloc: Global) -> Result<Document, AllocError> {
-    let mut document = Document::new(alloc);
-    push_operation(alloc, &mut document)?;
-    push_object(alloc, &mut document, Some("x\n\"\"\"\"y"), "\"\u{7F}d")?;
-    push_operation(alloc, &mut document)?;
-    Ok(document)
+fn operations_and_type(alloc: Global) -> Result<Vec<Definition>, AllocError> {
+    let mut definitions = Vec::new(alloc);
+    push_operation(alloc, &mut definitions)?;
+    push_object(alloc, &mut definitions, Some("x\n\"\"\"\"y"), "\"\u{7F}d")?;
+    push_operation(alloc, &mut definitions)?;
+    Ok(definitions)
 }
