@@ -1,22 +1,18 @@
 //! Printed trees, and whether trees are writable.
 
-ghost use Rattle.std.specs.Prelude.{◌≡◌, false};
-ghost use Rattle.graphql_names.specs.Device.{device_failed};
-
 use crate::by_calls::answer_of;
 use crate::case::{Answer, Case, Tally, Way, compare};
 use crate::plan::{Plan, device, whole};
 use crate::plans::{compare_cut, plans};
 use crate::problem::Problem;
 use crate::settings::number;
-use crate::trees::{Shape, tree_named};
+use crate::trees::by_name;
 use graphql_ast::{Cause, Serialize, Tree, WriteFault};
-use graphql_names::{Cut, Device};
 use std::alloc::{AllocError, Global};
 
 /// How a tree is laid out.
 #[derive(Clone, Copy)]
-enum Form {
+pub(crate) enum Form {
     /// As `serialize` does it.
     Unsaid,
     OneLine,
@@ -29,16 +25,24 @@ fn form_of(case: Case<'_>) -> Result<(Form, usize), Problem> {
     let Some(layout) = case.row.one("layout")? else {
         return Ok((Form::Unsaid, level));
     };
-    let form = match layout.value {
-        "line" => Form::OneLine,
-        "empty" => Form::Prefix(""),
-        "one" => Form::Prefix(" "),
-        "two" => Form::Prefix("  "),
-        "four" => Form::Prefix("    "),
-        "tab" => Form::Prefix("\t"),
-        _ => return Err(layout.problem("there is no such layout")),
+    match form_named(layout.value) {
+        Some(form) => Ok((form, level)),
+        None => Err(layout.problem("there is no such layout")),
+    }
+}
+
+/// The layout of this word.
+fn form_named(word: &str) -> Option<Form> {
+    let prefix = match word {
+        "line" => return Some(Form::OneLine),
+        "empty" => "",
+        "one" => " ",
+        "two" => "  ",
+        "four" => "    ",
+        "tab" => "\t",
+        _ => return None,
     };
-    Ok((form, level))
+    Some(Form::Prefix(prefix))
 }
 
 /// The tree under its layout.
@@ -51,79 +55,85 @@ fn laid_out<'a, T: Tree>(tree: &'a T, form: (Form, usize)) -> Serialize<'a, T> {
     }
 }
 
-/// The row's tree.
-fn tree_of(alloc: Global, case: Case<'_>) -> Result<Shape, Problem> {
-    let field = case.row.needed("tree")?;
-    match tree_named(alloc, field.value)? {
-        Some(tree) => Ok(tree),
-        None => Err(field.problem("there is no such tree")),
-    }
+/// A tree that rows name.
+pub(crate) trait Named: Tree + Drop {
+    /// Its `is_writable`.
+    fn writable(&self) -> bool;
 }
 
-impl Shape {
-    /// The text by `Display`.
-    fn displayed(&self, alloc: Global, form: (Form, usize)) -> Result<String, AllocError> {
-        match self {
-            Shape::Type(tree) => laid_out(tree, form).to_string(alloc),
-            Shape::Operation(tree) => laid_out(tree, form).to_string(alloc),
-            Shape::Fragment(tree) => laid_out(tree, form).to_string(alloc),
-            Shape::Directive(tree) => laid_out(tree, form).to_string(alloc),
-            Shape::Document(tree) => laid_out(tree, form).to_string(alloc),
-        }
-    }
-
-    /// The text by `write_to`.
-    fn write(
-        &self,
-        form: (Form, usize),
-        writer: &mut Device<Cut<&mut Vec<u8>>>,
-    ) -> Result<(), WriteFault>
-        requires { device_failed writer.old ≡ false }
-    {
-        match self {
-            Shape::Type(tree) => laid_out(tree, form).write_to(writer),
-            Shape::Operation(tree) => laid_out(tree, form).write_to(writer),
-            Shape::Fragment(tree) => laid_out(tree, form).write_to(writer),
-            Shape::Directive(tree) => laid_out(tree, form).write_to(writer),
-            Shape::Document(tree) => laid_out(tree, form).write_to(writer),
-        }
+/// Judges what the row asks of this tree: what is printed of it under the layout, or whether it is writable.
+pub(crate) fn by_tree<T: Named>(
+    rt: &HostRuntime,
+    case: Case<'_>,
+    tree: Result<T, AllocError>,
+    form: Option<(Form, usize)>,
+    tally: &mut Tally,
+) -> Result<(), Problem> {
+    let tree = tree?;
+    match form {
+        Some(form) => prints(rt, case, &tree, form, tally),
+        None => tells_writable(rt, case, tree.writable(), tally),
     }
 }
 
 /// Judges the row: what is printed of its tree, by `Display`, and by `write_to` by each of its plans.
 pub(crate) fn by_print(rt: &HostRuntime, case: Case<'_>, tally: &mut Tally) -> Result<(), Problem> {
     let form = form_of(case)?;
-    let tree = tree_of(rt.alloc(), case)?;
-    prints(rt, case, &tree, form, tally)
+    by_name(rt, case, Some(form), tally)
+}
+
+/// Judges the row: whether its tree is writable.
+pub(crate) fn by_writable(
+    rt: &HostRuntime,
+    case: Case<'_>,
+    tally: &mut Tally,
+) -> Result<(), Problem> {
+    by_name(rt, case, None, tally)
+}
+
+/// The answer whether a tree is writable.
+fn tells_writable(
+    rt: &HostRuntime,
+    case: Case<'_>,
+    is_writable: bool,
+    tally: &mut Tally,
+) -> Result<(), Problem> {
+    let status = if is_writable {
+        "0 writable"
+    } else {
+        "1 not writable"
+    };
+    let answer = answer_of(rt.alloc(), status, "")?;
+    compare(rt, case, way_of("is_writable", whole()), &answer, tally)
 }
 
 /// Judges what is printed of the tree.
-fn prints(
+fn prints<T: Tree>(
     rt: &HostRuntime,
     case: Case<'_>,
-    tree: &Shape,
+    tree: &T,
     form: (Form, usize),
     tally: &mut Tally,
 ) -> Result<(), Problem> {
     displays(rt, case, tree, form, tally)?;
-    for plan in plans(rt.alloc(), case)? {
-        write_answer(rt, case, tree, form, plan, tally)?;
+    for plan in &plans(rt.alloc(), case)? {
+        write_answer(rt, case, tree, form, *plan, tally)?;
     }
     Ok(())
 }
 
 /// The text by `Display`, where it comes to its end.
-fn displays(
+fn displays<T: Tree>(
     rt: &HostRuntime,
     case: Case<'_>,
-    tree: &Shape,
+    tree: &T,
     form: (Form, usize),
     tally: &mut Tally,
 ) -> Result<(), Problem> {
     if case.status != "0" {
         return Ok(());
     }
-    let text = tree.displayed(rt.alloc(), form)?;
+    let text = laid_out(tree, form).to_string(rt.alloc())?;
     let answer = answer_of(rt.alloc(), "0", &text)?;
     compare(
         rt,
@@ -145,10 +155,10 @@ fn way_of(call: &str, plan: Plan) -> Way<'_> {
 }
 
 /// The answer by this plan.
-fn write_answer(
+fn write_answer<T: Tree>(
     rt: &HostRuntime,
     case: Case<'_>,
-    tree: &Shape,
+    tree: &T,
     form: (Form, usize),
     plan: Plan,
     tally: &mut Tally,
@@ -160,15 +170,15 @@ fn write_answer(
 }
 
 /// The status of `write_to` by the plan, with its output behind `out`.
-fn written(
+fn written<T: Tree>(
     alloc: Global,
-    tree: &Shape,
+    tree: &T,
     form: (Form, usize),
     plan: Plan,
     out: &mut Vec<u8>,
 ) -> Result<String, AllocError> {
     let mut writer = device(out, plan, plan.write);
-    let answer = tree.write(form, &mut writer);
+    let answer = laid_out(tree, form).write_to(&mut writer);
     if writer.failed() != answer.is_err() {
         return String::from_str(alloc, "the device tells otherwise than the answer");
     }
@@ -182,20 +192,4 @@ fn written(
         ) => format!(in alloc; "3 output failed {out}"),
         Err(WriteFault { out, .. }) => format!(in alloc; "3 too long {out}"),
     }
-}
-
-/// Judges the row: whether its tree is writable.
-pub(crate) fn by_writable(
-    rt: &HostRuntime,
-    case: Case<'_>,
-    tally: &mut Tally,
-) -> Result<(), Problem> {
-    let answer = answer_of(rt.alloc(), writable_status(rt.alloc(), case)?, "")?;
-    compare(rt, case, way_of("is_writable", whole()), &answer, tally)
-}
-
-/// The status of the row's tree.
-fn writable_status(alloc: Global, case: Case<'_>) -> Result<&'static str, Problem> {
-    let tree = tree_of(alloc, case)?;
-    Ok(tree.writability())
 }

@@ -19,10 +19,11 @@ pub(crate) fn by_run(
     given: Texts<'_>,
     tally: &mut Tally,
 ) -> Result<(), Problem> {
-    for plan in plans(rt.alloc(), case)? {
-        run_answer(rt, case, given, plan, tally)?;
-        if is_each(case, "read")? && plan.write == case.out.len() {
-            readers_end(rt, case, given, plan, tally)?;
+    let is_each = is_each(case, "read")?;
+    for plan in &plans(rt.alloc(), case)? {
+        run_answer(rt, case, given, *plan, tally)?;
+        if is_each && plan.write == case.out.len() {
+            readers_end(rt, case, given, *plan, tally)?;
         }
     }
     Ok(())

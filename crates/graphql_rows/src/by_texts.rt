@@ -43,8 +43,7 @@ fn by_documents(
     given: Texts<'_>,
     tally: &mut Tally,
 ) -> Result<(), Problem> {
-    let documents = texts(rt.alloc(), case.row, "document")?;
-    for document in &documents {
+    for document in &texts(rt.alloc(), case.row, "document")? {
         let document = document.as_slice();
         by_call(rt, case, call, Texts { document, ..given }, tally)?;
     }
@@ -61,13 +60,12 @@ fn by_call(
 ) -> Result<(), Problem> {
     match call {
         "run" => by_run(rt, case, given, tally),
-        "calls" => calls_answer(rt, case, given, tally),
-        "check_texts" => check_texts_answers(rt, case, given, tally),
-        _ => {
+        "all" => {
             by_run(rt, case, given, tally)?;
-            calls_answer(rt, case, given, tally)?;
-            check_texts_answers(rt, case, given, tally)
+            judge_call(rt, case, "calls", given, tally)?;
+            judge_call(rt, case, "check_texts", given, tally)
         }
+        _ => judge_call(rt, case, call, given, tally),
     }
 }
 
@@ -102,37 +100,40 @@ fn text_of<'a>(case: Case<'_>, bytes: &'a [u8]) -> Result<&'a str, Problem> {
     }
 }
 
-/// The answer call by call.
-fn calls_answer(
+/// The answer of `check_texts`, or the one call by call. `check_texts` writes no texts: of those accepted the row's
+/// first line is wanted.
+fn judge_call(
     rt: &HostRuntime,
     case: Case<'_>,
+    call: &str,
     given: Texts<'_>,
     tally: &mut Tally,
 ) -> Result<(), Problem> {
-    let schemas = schemas_of(rt.alloc(), case, given.schemas)?;
-    let document = text_of(case, given.document)?;
-    let answer = by_calls(rt.alloc(), &schemas, document, given.nesting)?;
-    compare(rt, case, way_of("calls", given), &answer, tally)
+    let answer = answer_by(rt.alloc(), case, call, given)?;
+    let out = if call == "calls" {
+        case.out
+    } else {
+        first_line(case.out)
+    };
+    let wanted = Case { out, ..case };
+    compare(rt, wanted, way_of(call, given), &answer, tally)
 }
 
-/// The answer of `check_texts`, which writes no texts: of those accepted the row's first line is wanted.
-fn check_texts_answers(
-    rt: &HostRuntime,
+/// What `check_texts` answers, or the calls.
+fn answer_by(
+    alloc: Global,
     case: Case<'_>,
+    call: &str,
     given: Texts<'_>,
-    tally: &mut Tally,
-) -> Result<(), Problem> {
-    let schemas = schemas_of(rt.alloc(), case, given.schemas)?;
+) -> Result<Answer, Problem> {
     let document = text_of(case, given.document)?;
-    let answer = by_check_texts(rt.alloc(), &schemas, document, given.nesting)?;
-    let out = first_line(case.out);
-    compare(
-        rt,
-        Case { out, ..case },
-        way_of("check_texts", given),
-        &answer,
-        tally,
-    )
+    let schemas = schemas_of(alloc, case, given.schemas)?;
+    let answer = if call == "calls" {
+        by_calls(alloc, &schemas, document, given.nesting)
+    } else {
+        by_check_texts(alloc, &schemas, document, given.nesting)
+    };
+    Ok(answer?)
 }
 
 /// The first line of an output that begins with `accepted`, and every other output whole.

@@ -56,8 +56,8 @@ fn judge_case(rt: &HostRuntime, case: Case<'_>, tally: &mut Tally) -> Result<(),
 /// Judges the rows of a file.
 fn judge_file(rt: &HostRuntime, file: &str, text: &str, tally: &mut Tally) -> Result<(), Problem> {
     let fields = fields_of(rt.alloc(), text)?;
-    for row in rows_of(rt.alloc(), &fields)? {
-        judge_row(rt, file, row, tally)?;
+    for row in &rows_of(rt.alloc(), &fields)? {
+        judge_row(rt, file, *row, tally)?;
     }
     tally.files = tally.files.saturating_add(1);
     Ok(())

@@ -4,7 +4,7 @@ use crate::case::{Answer, Case, Tally, Way, compare};
 use crate::plan::{Plan, endings, whole};
 use crate::problem::Problem;
 use crate::settings::{number, numbers};
-use std::alloc::Global;
+use std::alloc::{AllocError, Global};
 
 /// The plans of the row: at each of its numbers of bytes a call and for each ending, the writer ends where the
 /// output does, and where the row says `write: each` also after each smaller number of bytes.
@@ -16,24 +16,32 @@ pub(crate) fn plans(alloc: Global, case: Case<'_>) -> Result<Vec<Plan>, Problem>
         case.out.len()
     };
     let mut list = Vec::new(alloc);
-    for step in numbers(alloc, case.row, "step", usize::MAX)? {
-        for write in least..=case.out.len() {
-            let plan = Plan {
-                step,
-                text,
-                write,
-                ..whole()
-            };
-            push_endings(&mut list, plan)?;
-        }
+    for step in &numbers(alloc, case.row, "step", usize::MAX)? {
+        let plan = Plan {
+            step: *step,
+            text,
+            ..whole()
+        };
+        push_cuts(&mut list, plan, least, case.out.len())?;
     }
     Ok(list)
 }
 
-/// Adds the plan with each ending.
-fn push_endings(list: &mut Vec<Plan>, plan: Plan) -> Result<(), Problem> {
-    for ending in endings() {
-        list.push(Plan { ending, ..plan })?;
+/// Adds the plan with each ending, and with a writer that ends after each number of bytes from the least to the most.
+fn push_cuts(
+    list: &mut Vec<Plan>,
+    plan: Plan,
+    least: usize,
+    most: usize,
+) -> Result<(), AllocError> {
+    for write in least..=most {
+        for ending in endings() {
+            list.push(Plan {
+                write,
+                ending,
+                ..plan
+            })?;
+        }
     }
     Ok(())
 }

@@ -50,8 +50,8 @@ fn words(alloc: Global, field: Field<'_>) -> Result<Vec<usize>, Problem> {
 /// The texts of the fields of this name.
 pub(crate) fn texts(alloc: Global, row: Row<'_>, name: &str) -> Result<Vec<Vec<u8>>, Problem> {
     let mut list = Vec::new(alloc);
-    for field in row.all(alloc, name)? {
-        list.push(bytes_of(alloc, field)?)?;
+    for field in &row.all(alloc, name)? {
+        list.push(bytes_of(alloc, *field)?)?;
     }
     Ok(list)
 }

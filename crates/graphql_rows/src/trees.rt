@@ -1,57 +1,95 @@
 //! The trees that rows name, built without places.
 
+use crate::by_print::{Form, Named, by_tree};
+use crate::case::{Case, Tally};
+use crate::problem::Problem;
+use crate::row_file::Field;
 use graphql_ast::{
-    Definition, Directive, DirectiveDefinition, DirectiveList, Document, Field, FieldDefinition,
+    Definition, Directive, DirectiveDefinition, DirectiveList, Document, FieldDefinition,
     FragmentDefinition, InputValueDefinition, Name, Node, NodeStr, ObjectTypeDefinition,
     OperationDefinition, OperationType, Selection, Type,
 };
 use std::alloc::{AllocError, Global};
 
-/// A tree that is printed.
-#[derive(Drop)]
-pub(crate) enum Shape {
-    Type(Type),
-    Operation(OperationDefinition),
-    Fragment(FragmentDefinition),
-    Directive(DirectiveDefinition),
-    Document(Document),
-}
-
-impl Shape {
-    /// Whether the tree is writable, as a row says it.
-    pub(crate) fn writability(&self) -> &'static str {
-        let is_writable = match self {
-            Shape::Type(tree) => tree.is_writable(),
-            Shape::Operation(tree) => tree.is_writable(),
-            Shape::Fragment(tree) => tree.is_writable(),
-            Shape::Directive(tree) => tree.is_writable(),
-            Shape::Document(tree) => tree.is_writable(),
-        };
-        if is_writable {
-            "0 writable"
-        } else {
-            "1 not writable"
-        }
+impl Named for Type {
+    fn writable(&self) -> bool {
+        self.is_writable()
     }
 }
 
-/// The tree of this name, if there is one.
-pub(crate) fn tree_named(alloc: Global, name: &str) -> Result<Option<Shape>, AllocError> {
-    let tree = match name {
-        "list type" => Shape::Type(list_type(alloc)?),
-        "operation" => Shape::Operation(operation(alloc, true)?),
-        "operation with a directive" => Shape::Operation(directed(alloc)?),
-        "operation without selections" => Shape::Operation(operation(alloc, false)?),
-        "fragment named on" => Shape::Fragment(fragment(alloc)?),
-        "directive without locations" => Shape::Directive(directive(alloc)),
-        "document without definitions" => Shape::Document(Document::new(alloc)),
-        "two operations" => Shape::Document(two_operations(alloc)?),
-        "described argument" => Shape::Document(described(alloc, None, "d")?),
-        "described type" => Shape::Document(described(alloc, Some("x\ny"), "d")?),
-        "operations and a type" => Shape::Document(document(alloc)?),
-        _ => return Ok(None),
+impl Named for OperationDefinition {
+    fn writable(&self) -> bool {
+        self.is_writable()
+    }
+}
+
+impl Named for FragmentDefinition {
+    fn writable(&self) -> bool {
+        self.is_writable()
+    }
+}
+
+impl Named for DirectiveDefinition {
+    fn writable(&self) -> bool {
+        self.is_writable()
+    }
+}
+
+impl Named for Document {
+    fn writable(&self) -> bool {
+        self.is_writable()
+    }
+}
+
+/// Judges what the row asks of the tree that it names.
+pub(crate) fn by_name(
+    rt: &HostRuntime,
+    case: Case<'_>,
+    form: Option<(Form, usize)>,
+    tally: &mut Tally,
+) -> Result<(), Problem> {
+    let alloc = rt.alloc();
+    let field = case.row.needed("tree")?;
+    match field.value {
+        "list type" => by_tree(rt, case, list_type(alloc), form, tally),
+        "operation" => by_tree(rt, case, operation(alloc, true), form, tally),
+        "operation with a directive" => by_tree(rt, case, directed(alloc), form, tally),
+        "operation without selections" => by_tree(rt, case, operation(alloc, false), form, tally),
+        "fragment named on" => by_tree(rt, case, fragment(alloc), form, tally),
+        "directive without locations" => by_tree(rt, case, Ok(directive(alloc)), form, tally),
+        _ => by_document(rt, case, field, form, tally),
+    }
+}
+
+/// Judges what the row asks of the document that the field names.
+fn by_document(
+    rt: &HostRuntime,
+    case: Case<'_>,
+    field: Field<'_>,
+    form: Option<(Form, usize)>,
+    tally: &mut Tally,
+) -> Result<(), Problem> {
+    let alloc = rt.alloc();
+    let definitions = match field.value {
+        "document without definitions" => Ok(Vec::new(alloc)),
+        "two operations" => two_operations(alloc),
+        "described argument" => described(alloc, None, "d"),
+        "described type" => described(alloc, Some("x\ny"), "d"),
+        "operations and a type" => operations_and_type(alloc),
+        _ => return Err(field.problem("there is no such tree")),
     };
-    Ok(Some(tree))
+    by_tree(rt, case, document(alloc, definitions), form, tally)
+}
+
+/// The document of these definitions.
+fn document(
+    alloc: Global,
+    definitions: Result<Vec<Definition>, AllocError>,
+) -> Result<Document, AllocError> {
+    let definitions = definitions?;
+    let mut document = Document::new(alloc);
+    document.definitions = definitions;
+    Ok(document)
 }
 
 /// `[[[Obj]!]]!`
@@ -65,7 +103,7 @@ fn list_type(alloc: Global) -> Result<Type, AllocError> {
 fn selections(alloc: Global, is_there: bool) -> Result<Vec<Selection>, AllocError> {
     let mut selection_set = Vec::new(alloc);
     if is_there {
-        let field = Field {
+        let field = graphql_ast::Field {
             alias: None,
             name: Name::new_static_unchecked("field"),
             arguments: Vec::new(alloc),
@@ -79,33 +117,41 @@ fn selections(alloc: Global, is_there: bool) -> Result<Vec<Selection>, AllocErro
 
 /// `{ field }`, or without the field.
 fn operation(alloc: Global, has_field: bool) -> Result<OperationDefinition, AllocError> {
+    let selection_set = selections(alloc, has_field)?;
     Ok(OperationDefinition {
         operation_type: OperationType::Query,
         name: None,
         variables: Vec::new(alloc),
         directives: DirectiveList(Vec::new(alloc)),
-        selection_set: selections(alloc, has_field)?,
+        selection_set,
     })
 }
 
 /// `{ field }` with `@dir` pushed to it.
 fn directed(alloc: Global) -> Result<OperationDefinition, AllocError> {
     let mut operation = operation(alloc, true)?;
+    push_directive(alloc, &mut operation.directives)?;
+    Ok(operation)
+}
+
+/// Adds `@dir`.
+fn push_directive(alloc: Global, directives: &mut DirectiveList) -> Result<(), AllocError> {
     let directive = Directive {
         name: Name::new_static_unchecked("dir"),
         arguments: Vec::new(alloc),
     };
-    operation.directives.0.push(Node::new(alloc, directive)?)?;
-    Ok(operation)
+    directives.0.push(Node::new(alloc, directive)?)?;
+    Ok(())
 }
 
 /// `fragment on on T { field }`
 fn fragment(alloc: Global) -> Result<FragmentDefinition, AllocError> {
+    let selection_set = selections(alloc, true)?;
     Ok(FragmentDefinition {
         name: Name::new_static_unchecked("on"),
         type_condition: Name::new_static_unchecked("T"),
         directives: DirectiveList(Vec::new(alloc)),
-        selection_set: selections(alloc, true)?,
+        selection_set,
     })
 }
 
@@ -140,10 +186,11 @@ fn push_argument(
     text: Option<&str>,
     name: Name,
 ) -> Result<(), AllocError> {
+    let ty = Node::new(alloc, int())?;
     let argument = InputValueDefinition {
         description: description(alloc, text)?,
         name,
-        ty: Node::new(alloc, int())?,
+        ty,
         default_value: None,
         directives: DirectiveList(Vec::new(alloc)),
     };
@@ -174,38 +221,36 @@ fn field(alloc: Global, text: &str) -> Result<Node<FieldDefinition>, AllocError>
 /// Adds the type `Query` with that field.
 fn push_object(
     alloc: Global,
-    document: &mut Document,
+    definitions: &mut Vec<Definition>,
     type_text: Option<&str>,
     argument_text: &str,
 ) -> Result<(), AllocError> {
-    let mut definition = ObjectTypeDefinition {
+    let fields = vec![in alloc; field(alloc, argument_text)?]?;
+    let definition = ObjectTypeDefinition {
         description: description(alloc, type_text)?,
         name: Name::new_static_unchecked("Query"),
         implements_interfaces: Vec::new(alloc),
         directives: DirectiveList(Vec::new(alloc)),
-        fields: Vec::new(alloc),
+        fields,
     };
-    definition.fields.push(field(alloc, argument_text)?)?;
-    let definition = Definition::ObjectTypeDefinition(Node::new(alloc, definition)?);
-    document.definitions.push(definition)?;
+    let node = Node::new(alloc, definition)?;
+    definitions.push(Definition::ObjectTypeDefinition(node))?;
     Ok(())
 }
 
 /// Adds `{ field }`.
-fn push_operation(alloc: Global, document: &mut Document) -> Result<(), AllocError> {
+fn push_operation(alloc: Global, definitions: &mut Vec<Definition>) -> Result<(), AllocError> {
     let node = Node::new(alloc, operation(alloc, true)?)?;
-    document
-        .definitions
-        .push(Definition::OperationDefinition(node))?;
+    definitions.push(Definition::OperationDefinition(node))?;
     Ok(())
 }
 
 /// `{ field }` twice.
-fn two_operations(alloc: Global) -> Result<Document, AllocError> {
-    let mut document = Document::new(alloc);
-    push_operation(alloc, &mut document)?;
-    push_operation(alloc, &mut document)?;
-    Ok(document)
+fn two_operations(alloc: Global) -> Result<Vec<Definition>, AllocError> {
+    let mut definitions = Vec::new(alloc);
+    push_operation(alloc, &mut definitions)?;
+    push_operation(alloc, &mut definitions)?;
+    Ok(definitions)
 }
 
 /// The type `Query`, with the descriptions that are given.
@@ -213,17 +258,17 @@ fn described(
     alloc: Global,
     type_text: Option<&str>,
     argument_text: &str,
-) -> Result<Document, AllocError> {
-    let mut document = Document::new(alloc);
-    push_object(alloc, &mut document, type_text, argument_text)?;
-    Ok(document)
+) -> Result<Vec<Definition>, AllocError> {
+    let mut definitions = Vec::new(alloc);
+    push_object(alloc, &mut definitions, type_text, argument_text)?;
+    Ok(definitions)
 }
 
 /// `{ field }`, the type `Query` with descriptions that need escapes, `{ field }`.
-fn document(alloc: Global) -> Result<Document, AllocError> {
-    let mut document = Document::new(alloc);
-    push_operation(alloc, &mut document)?;
-    push_object(alloc, &mut document, Some("x\n\"\"\"\"y"), "\"\u{7F}d")?;
-    push_operation(alloc, &mut document)?;
-    Ok(document)
+fn operations_and_type(alloc: Global) -> Result<Vec<Definition>, AllocError> {
+    let mut definitions = Vec::new(alloc);
+    push_operation(alloc, &mut definitions)?;
+    push_object(alloc, &mut definitions, Some("x\n\"\"\"\"y"), "\"\u{7F}d")?;
+    push_operation(alloc, &mut definitions)?;
+    Ok(definitions)
 }

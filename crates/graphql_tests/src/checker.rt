@@ -4,22 +4,28 @@ ghost use Rattle.std.specs.Prelude.{◌+◌, ◌<◌, ◌^◌};
 use crate::hold::{hold, same_text};
 use graphql_ast::{FileId, SourceSpan};
 use graphql_checked::{
-    CheckedSchema, Checker, Details, DiagnosticList, Layout, Limits, Refusal, RunFault,
+    CheckedDocument, CheckedSchema, Checker, Details, DiagnosticList, Layout, Limits, Refusal,
+    RunFault,
 };
 use std::alloc::{AllocError, Global};
 use std::process::Abort;
 use std::test::Fail;
 
-/// The schema of the text, which is accepted.
-fn schema_of(alloc: Global, text: &str) -> Result<CheckedSchema, Fail> {
+/// The schema of the text.
+fn schema_of(alloc: Global, text: &str) -> Result<CheckedSchema, Refusal> {
     let mut checker = Checker::new(alloc, Limits { nesting: 1 });
-    if checker.add_schema(text).is_err() {
-        return Err("the text is not added")?;
-    }
-    match checker.finish() {
-        Ok(schema) => Ok(schema),
-        Err(_) => Err("the schema is refused")?,
-    }
+    checker.add_schema(text)?;
+    checker.finish()
+}
+
+/// The document is written so.
+fn is_written(
+    rt: &impl Abort,
+    document: &CheckedDocument<'_>,
+    wanted: &str,
+) -> Result<(), AllocError> {
+    same_text(rt, &document.written(Layout::OneLine)?, wanted);
+    Ok(())
 }
 
 /// The document is accepted over the schema, and written so.
@@ -28,12 +34,11 @@ fn accepts(
     schema: &CheckedSchema,
     document: &str,
     wanted: &str,
-) -> Result<(), Fail> {
+) -> Result<(), AllocError> {
     match schema.check(document) {
-        Ok(checked) => same_text(rt, &checked.written(Layout::OneLine)?, wanted),
-        Err(_refusal) => hold(rt, false, document),
+        Ok(checked) => is_written(rt, &checked, wanted),
+        Err(_refusal) => Ok(hold(rt, false, document)),
     }
-    Ok(())
 }
 
 /// The document is refused over the schema with one fault, at this offset and so long, with no field told but `name`.
@@ -67,36 +72,58 @@ fn names_field(rt: &impl Abort, details: &Details, name: &str) {
     }
 }
 
-/// A schema serves many documents, and stays as it is.
-#[test]
-fn serves_many_documents(rt: HostRuntime) -> Result<(), Fail> {
-    let schema = schema_of(rt.alloc(), "type Query { a: Int bcd: ID! }")?;
-    accepts(&rt, &schema, "{ a }", "{ a }")?;
-    refuses(&rt, &schema, "{ missing }", span(2, 2, 7), "missing");
-    match schema.check("{ a } {") {
-        Err(Refusal::NotYet { file, offset }) => {
-            hold(&rt, file == FileId(2) && offset == 6, "one definition");
-        }
-        _other => hold(&rt, false, "one definition"),
+/// The document is not judged yet: its file and the place.
+fn is_not_yet(schema: &CheckedSchema, document: &str, wanted: (FileId, usize)) -> bool {
+    match schema.check(document) {
+        Err(Refusal::NotYet { file, offset }) => file == wanted.0 && offset == wanted.1,
+        _other => false,
     }
-    accepts(&rt, &schema, "{ bcd, a }", "{ bcd a }")?;
+}
+
+/// The schema `type Query { a: Int bcd: ID! }` serves many documents, and stays as it is.
+fn serves(rt: &impl Abort, schema: &CheckedSchema) -> Result<(), AllocError> {
+    accepts(rt, schema, "{ a }", "{ a }")?;
+    refuses(rt, schema, "{ missing }", span(2, 2, 7), "missing");
+    let is_not_yet = is_not_yet(schema, "{ a } {", (FileId(2), 6));
+    hold(rt, is_not_yet, "one definition");
+    accepts(rt, schema, "{ bcd, a }", "{ bcd a }")?;
     let text = schema.written(Layout::OneLine)?;
-    same_text(&rt, &text, "type Query { a: Int bcd: ID! }");
+    same_text(rt, &text, "type Query { a: Int bcd: ID! }");
     Ok(())
 }
 
-/// Two documents are checked over one schema at once.
+#[test]
+fn serves_many_documents(rt: HostRuntime) -> Result<(), Fail> {
+    match schema_of(rt.alloc(), "type Query { a: Int bcd: ID! }") {
+        Ok(schema) => Ok(serves(&rt, &schema)?),
+        Err(_refusal) => Err("the schema is refused")?,
+    }
+}
+
+/// Two documents are checked over the schema `type Query { a: Int b: ID! }` at once.
+fn lends(rt: &impl Abort, schema: &CheckedSchema) -> Result<(), AllocError> {
+    match schema.check("{ a }") {
+        Ok(first) => stays(rt, schema, &first),
+        Err(_refusal) => Ok(hold(rt, false, "it is accepted")),
+    }
+}
+
+/// Another document is checked over the schema, and the first, `{ a }`, is as it was.
+fn stays(
+    rt: &impl Abort,
+    schema: &CheckedSchema,
+    first: &CheckedDocument<'_>,
+) -> Result<(), AllocError> {
+    accepts(rt, schema, "{ b, a }", "{ b a }")?;
+    is_written(rt, first, "{ a }")
+}
+
 #[test]
 fn lends_its_schema(rt: HostRuntime) -> Result<(), Fail> {
-    let schema = schema_of(rt.alloc(), "type Query { a: Int b: ID! }")?;
-    match schema.check("{ a }") {
-        Ok(first) => {
-            accepts(&rt, &schema, "{ b, a }", "{ b a }")?;
-            same_text(&rt, &first.written(Layout::OneLine)?, "{ a }");
-        }
-        Err(_refusal) => hold(&rt, false, "it is accepted"),
+    match schema_of(rt.alloc(), "type Query { a: Int b: ID! }") {
+        Ok(schema) => Ok(lends(&rt, &schema)?),
+        Err(_refusal) => Err("the schema is refused")?,
     }
-    Ok(())
 }
 
 fn span(file: u64, offset: usize, length: usize) -> SourceSpan
@@ -109,20 +136,34 @@ fn span(file: u64, offset: usize, length: usize) -> SourceSpan
     }
 }
 
+/// Whether the list has nothing.
+fn has_nothing(list: &DiagnosticList) -> bool {
+    list.is_empty() && list.len() == 0 && list.as_slice().is_empty()
+}
+
+/// Adds two faults, one without a place.
+fn push_two(list: &mut DiagnosticList) -> Result<(), AllocError> {
+    list.push(Some(span(3, 7, 1)), Details::Nesting)?;
+    list.push(None, Details::Spent)?;
+    Ok(())
+}
+
+/// Whether the list has the two, in order.
+fn has_two(list: &DiagnosticList) -> bool {
+    match list.as_slice() {
+        [(first, Details::Nesting), (None, Details::Spent)] => {
+            *first == Some(span(3, 7, 1)) && !list.is_empty() && list.len() == 2
+        }
+        _ => false,
+    }
+}
+
 #[test]
 fn grows_at_its_end(rt: HostRuntime) -> Result<(), Fail> {
     let mut list = DiagnosticList::new(rt.alloc());
-    hold(&rt, list.is_empty() && list.len() == 0, "nothing");
-    hold(&rt, list.as_slice().is_empty(), "no fault");
-    list.push(Some(span(3, 7, 1)), Details::Nesting)?;
-    list.push(None, Details::Spent)?;
-    hold(&rt, !list.is_empty() && list.len() == 2, "two");
-    match list.as_slice() {
-        [(first, Details::Nesting), (None, Details::Spent)] => {
-            hold(&rt, *first == Some(span(3, 7, 1)), "the first place");
-        }
-        _ => hold(&rt, false, "both are there, in order"),
-    }
+    hold(&rt, has_nothing(&list), "nothing");
+    push_two(&mut list)?;
+    hold(&rt, has_two(&list), "both are there, in order");
     Ok(())
 }
 

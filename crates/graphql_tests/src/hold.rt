@@ -1,5 +1,7 @@
 //! What tests assert.
 
+use graphql_names::Node;
+use std::alloc::{AllocError, Global};
 use std::hash::{DefaultHasher, Hash, Hasher};
 use std::process::Abort;
 
@@ -13,9 +15,32 @@ pub(crate) fn same_text(rt: &impl Abort, text: &str, wanted: &str) {
     assert!(rt; text == wanted, "{text} is not {wanted}");
 }
 
+/// Whether the values are equal, and their hashes.
+pub(crate) fn are_alike<T: PartialEq + Hash>(one: &T, other: &T) -> bool {
+    *one == *other && hash_of(one) == hash_of(other)
+}
+
 /// The hash of a value.
-pub(crate) fn hash_of<T: Hash>(value: &T) -> u64 {
+fn hash_of<T: Hash>(value: &T) -> u64 {
     let mut hasher = DefaultHasher::default();
     value.hash(&mut hasher);
     hasher.finish()
+}
+
+/// Whether the value's copy equals it.
+pub(crate) fn is_copied<T: Clone + PartialEq>(value: &T) -> Result<bool, AllocError> {
+    Ok(value.clone()? == *value)
+}
+
+/// Whether the value equals the one that is wanted.
+pub(crate) fn equals<T: PartialEq + Drop>(
+    value: &T,
+    wanted: Result<T, AllocError>,
+) -> Result<bool, AllocError> {
+    Ok(*value == wanted?)
+}
+
+/// A node without a place.
+pub(crate) fn node<T: Drop>(alloc: Global, value: T) -> Result<Node<T>, AllocError> {
+    Ok(Node::new(alloc, value)?)
 }

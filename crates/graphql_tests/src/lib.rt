@@ -7,6 +7,10 @@ mod checker;
 #[cfg(test)]
 mod definitions;
 #[cfg(test)]
+mod directives;
+#[cfg(test)]
+mod documents;
+#[cfg(test)]
 mod hold;
 #[cfg(test)]
 mod values;
