@@ -1,0 +1,4 @@
+pub mod Samples
+pub mod FoldRows
+pub mod AdoptionRows
+pub mod BreachRows

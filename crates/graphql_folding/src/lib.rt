@@ -1,0 +1,2 @@
+//! The fold of a list of definitions to a schema.
+#![tactic(auto)]
