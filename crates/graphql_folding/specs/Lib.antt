@@ -5,3 +5,5 @@ pub mod Fold
 pub mod BuildErrors
 pub mod Adoption
 pub mod BuiltIn
+pub mod FaultView
+pub mod PartsView

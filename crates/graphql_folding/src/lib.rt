@@ -1,2 +1,16 @@
-//! The fold of a list of definitions to a schema.
+//! The fold of definitions and extensions to types, and the faults of folding.
+//!
+//! For the layer above: what a type folds to is stated by positions in the whole list of definitions
+//! (`specs/Fold.antt`); each folding rule is a predicate on that list (`specs/BuildErrors.antt`).
+//!
+//! Begin with `specs/Fold.antt` and `fold_type.rt`.
 #![tactic(auto)]
+
+mod build_error;
+mod collected;
+mod keep;
+mod parts;
+
+pub use build_error::{BuildError, Repeat};
+pub use keep::Keyed;
+pub use parts::{Parts, extension_parts, type_parts};
