@@ -2,3 +2,5 @@ pub mod Samples
 pub mod FoldRows
 pub mod AdoptionRows
 pub mod BreachRows
+pub mod Keeping
+pub mod Collecting

@@ -7,3 +7,5 @@ pub mod Adoption
 pub mod BuiltIn
 pub mod FaultView
 pub mod PartsView
+pub mod Keeping
+pub mod Collected

@@ -12,5 +12,6 @@ mod keep;
 mod parts;
 
 pub use build_error::{BuildError, Repeat};
-pub use keep::Keyed;
+pub use collected::Collected;
+pub use keep::{Keyed, keep_components, keep_names};
 pub use parts::{Parts, extension_parts, type_parts};

@@ -5,3 +5,5 @@ pub mod OriginsLeft
 pub mod Plain
 pub mod TypeParts
 pub mod Out
+pub mod Looks
+pub mod Addresses
