@@ -4,3 +4,4 @@ pub mod AdoptionRows
 pub mod BreachRows
 pub mod Keeping
 pub mod Collecting
+pub mod Grown

@@ -1,5 +1,5 @@
 -- All components of a type, class by class, repeated ones too (private: it leads to `specs/Fold.antt`).
-use Rattle.std.specs.Prelude.{List, ◌++◌, map}
+use Rattle.std.specs.Prelude.{◌≡◌, List, ◌++◌, map}
 use Rattle.std.specs.List.{flat_map}
 use Rattle.graphql_values.specs.Placed.{Placed, Place, Text}
 use Rattle.graphql_values.specs.DirectiveTree.{DirectiveTree, InputValueTree, directive_tree, input_value_tree}
@@ -52,3 +52,7 @@ collected_and all g = record {
   values = all.values ++ all_given g.extension g.it.values;
   inputs = all.inputs ++ all_given g.extension g.it.inputs;
 }
+
+-- where all components were those of some parts, they now are those of these parts too
+abbrev pub Collects : AllComponents → List (Given Place (TypeParts Place)) → AllComponents → Type 0
+Collects all more all' = (gs : List (Given Place (TypeParts Place))) → all ≡ collected_from gs → all' ≡ collected_from (gs ++ more)

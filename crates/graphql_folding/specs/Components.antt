@@ -16,17 +16,17 @@ use Rattle.graphql_folding.specs.Listed.{Definitions, Listed, numbered}
 abbrev pub all_given : {A : Type 0} → Option (ExtensionTree Place) → List A → List (Given Place A)
 all_given giver xs = map (λ x. record { extension = giver; it = x }) xs
 
--- these are of that type's name and kind
-abbrev pub is_part_of : TypeDefinition Place → TypeParts Place → Bool
-is_part_of t parts = bytes_eq t.parts.name.it parts.name.it && same_kind t.parts.kind parts.kind
+-- these parts are of the same name and kind
+abbrev pub go_together : TypeParts Place → TypeParts Place → Bool
+go_together defined parts = bytes_eq defined.name.it parts.name.it && same_kind defined.kind parts.kind
 
 -- the parts that are given here, if it is an extension of that type and of its kind
-abbrev pub extension_here : TypeDefinition Place → Listed → List (Given Place (TypeParts Place))
-extension_here t l = option_map_or (λ parts. if is_part_of t parts then record { extension = l.extension; it = parts } ∷ [] else []) (type_extension_here l.definition) []
+abbrev pub extension_here : TypeParts Place → Listed → List (Given Place (TypeParts Place))
+extension_here defined l = option_map_or (λ parts. if go_together defined parts then record { extension = l.extension; it = parts } ∷ [] else []) (type_extension_here l.definition) []
 
 -- all parts of a type: those of its definition, and then those of its kind's extensions by position, wherever they stand
 abbrev pub parts_of : ℕ → Definitions → TypeDefinition Place → List (Given Place (TypeParts Place))
-parts_of first ds t = record { extension = None; it = t.parts } ∷ flat_map (extension_here t) (numbered first ds)
+parts_of first ds t = record { extension = None; it = t.parts } ∷ flat_map (extension_here t.parts) (numbered first ds)
 
 -- its components of one class, repeated ones too, each with what gave it
 abbrev pub components : {A : Type 0} → (TypeParts Place → List A) → ℕ → Definitions → TypeDefinition Place → List (Given Place A)

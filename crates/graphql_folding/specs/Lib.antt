@@ -9,3 +9,5 @@ pub mod FaultView
 pub mod PartsView
 pub mod Keeping
 pub mod Collected
+pub mod ListedView
+pub mod Kept

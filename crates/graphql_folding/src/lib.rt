@@ -8,10 +8,16 @@
 
 mod build_error;
 mod collected;
+mod gather;
 mod keep;
+mod kept_classes;
+mod listed;
 mod parts;
 
 pub use build_error::{BuildError, Repeat};
 pub use collected::Collected;
+pub use gather::collect_type;
 pub use keep::{Keyed, keep_components, keep_names};
+pub use kept_classes::{Kept, keep_all};
+pub use listed::Listed;
 pub use parts::{Parts, extension_parts, type_parts};

@@ -27,5 +27,5 @@ returns-clause-faults g c =
     let key = content_key g.T.Keyed.key_of in
     let note = component_fault g.T.Keyed.key_of c.args.repeat c.args.type_name.now.text in
     let gives = c.into_iter-component-iterator.ensures.into_iter_gives in
-    let end = YieldsList-end (YieldsList-from_vec c.args.all.items gives.0 cc) c.loop-component.yielded _ c.loop-component.yielded_by _ _ c.in-None.is c.next.ensures.steps in
+    let end = YieldsList-end (YieldsList-from_vec c.args.all.items gives.0 cc) c.loop-component.yielded c.loop-component.component-iterator c.loop-component.yielded_by c.next.result c.next.new.self c.in-None.is c.next.ensures.steps in
     c.loop-component.invariant.told ∙ ap (λ xs. faults_of c.args.faults.now ++ map note (repeats key (given_contents xs))) (sym (map-id c.loop-component.yielded) ∙ end.0)

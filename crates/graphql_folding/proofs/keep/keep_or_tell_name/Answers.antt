@@ -13,7 +13,7 @@ returns-then-contains c =
     let type_name = c.args.type_name.now.text in
     let there = sym c.contains.ensures ∙ c.if-contains.true in
     IfOk-weaker _ _ _ (λ _ h. names_seen given_name (name_fault c.args.repeat type_name) component_name_tree c.args.kept.now.keys (component_name_tree x) (faults_of c.args.faults.now) (faults_of c.note_repeat.new.faults) there
-        (h ∙ (λ i. faults_of c.args.faults.now ++ record { place = c.location.ensures.value i; breach = repeat_breach c.args.repeat type_name x.name.text } ∷ []))) c.note_repeat.ensures
+    (h ∙ (λ i. faults_of c.args.faults.now ++ record { place = c.location.ensures.value i; breach = repeat_breach c.args.repeat type_name x.name.text } ∷ []))) c.note_repeat.ensures
 
 pub returns-in_ok-insert : goal.returns-in_ok-insert
 returns-in_ok-insert c =
