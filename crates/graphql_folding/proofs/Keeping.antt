@@ -81,3 +81,11 @@ module _ {X : Type 0} (key : X → List ℕ) (note : X → Fault) where
     pub names_told_on : (kept kept' : List X) (start faults faults' : List Fault) → kept ≡ firsts key (map view vs) → faults ≡ start ++ map note (repeats key (map view vs)) → KeepsNames key note (view v) kept faults kept' faults'
         → faults' ≡ start ++ map note (repeats key (map view (vs ++ v ∷ [])))
     names_told_on kept kept' start faults faults' is was step = told_more (map view vs) (view v) start faults faults' was (step (map view vs) is).1 ∙ ap (λ l. start ++ map note (repeats key l)) (sym front)
+
+-- five lists behind a first one
+pub behind : {F : Type 0} (a b c d e f p q r s t : List F) → b ≡ a ++ p → c ≡ b ++ q → d ≡ c ++ r → e ≡ d ++ s → f ≡ e ++ t → f ≡ a ++ (p ++ (q ++ (r ++ (s ++ t))))
+behind a b c d e f p q r s t hb hc hd he hf =
+    hf ∙ ap (λ l. l ++ t) he ∙ append_assoc d s t
+    ∙ ap (λ l. l ++ (s ++ t)) hd ∙ append_assoc c r (s ++ t)
+    ∙ ap (λ l. l ++ (r ++ (s ++ t))) hc ∙ append_assoc b q (r ++ (s ++ t))
+    ∙ ap (λ l. l ++ (q ++ (r ++ (s ++ t)))) hb ∙ append_assoc a p (q ++ (r ++ (s ++ t)))

@@ -11,3 +11,4 @@ pub mod Keeping
 pub mod Collected
 pub mod ListedView
 pub mod Kept
+pub mod Made

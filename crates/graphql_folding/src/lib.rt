@@ -12,6 +12,7 @@ mod gather;
 mod keep;
 mod kept_classes;
 mod listed;
+mod make;
 mod parts;
 
 pub use build_error::{BuildError, Repeat};
@@ -20,4 +21,5 @@ pub use gather::collect_type;
 pub use keep::{Keyed, keep_components, keep_names};
 pub use kept_classes::{Kept, keep_all};
 pub use listed::Listed;
-pub use parts::{Parts, extension_parts, type_parts};
+pub use make::make_type;
+pub use parts::{Defined, Parts, extension_parts, type_definition};
