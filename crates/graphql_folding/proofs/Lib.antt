@@ -5,3 +5,4 @@ pub mod BreachRows
 pub mod Keeping
 pub mod Collecting
 pub mod Grown
+pub mod OfKind

@@ -12,7 +12,7 @@ use Rattle.graphql_schema_types.specs.SchemaTree.{same_kind}
 use Rattle.graphql_schema_types.specs.TypeParts.{TypeParts, TypeDefinition, type_here, type_extension_here}
 use Rattle.graphql_schema_types.specs.declared.type_kind.TypeKind.{TypeKind}
 use Rattle.graphql_schema_types.specs.declared.type_kind.TypeKind.TheVariants as kind
-use Rattle.graphql_folding.specs.Listed.{Definitions, type_name, types_in, type_named, directive_here, directive_name, directives_in}
+use Rattle.graphql_folding.specs.Listed.{Definitions, numbered, type_name, types_in, type_named, directive_here, directive_name, directives_in}
 use Rattle.graphql_folding.specs.Components.{components, field_key, value_key, input_key}
 use Rattle.graphql_folding.specs.SchemaFold.{Root, schema_here, schema_extension_here, schema_definition_in, schema_is_defined, roots_given, root_key}
 
@@ -116,7 +116,7 @@ module _ (built_in texts : Definitions) where
   -- in a type of that kind a component of some class stands behind another one of its name
   abbrev pub RepeatedIn : {A : Type 0} → TypeKind → (TypeParts Place → List A) → (Given Place A → List ℕ) → (A → Place) → (List ℕ → List ℕ → Breach) → ℕ → Fault → Type 0
   RepeatedIn {A} kind of key place breach first fault = (t : TypeDefinition Place) × ((g : Given Place A) × (
-      Contains (firsts type_name (types_in all)) t × (same_kind t.parts.kind kind ≡ true) × IsRepeated key (components of first all t) g
+      Contains (firsts type_name (types_in all)) t × (same_kind t.parts.kind kind ≡ true) × IsRepeated key (components of (numbered first all) t) g
       × (fault ≡ record { place = place g.it; breach = breach (type_name t) (key g) })))
 
   abbrev pub DuplicateImplementsInterfaceInObjectIn : ℕ → Fault → Type 0

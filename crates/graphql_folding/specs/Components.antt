@@ -10,7 +10,7 @@ use Rattle.graphql_components.specs.Given.{Given, ExtensionTree}
 use Rattle.graphql_components.specs.Lists.{firsts}
 use Rattle.graphql_schema_types.specs.SchemaTree.{same_kind}
 use Rattle.graphql_schema_types.specs.TypeParts.{TypeParts, TypeDefinition, type_extension_here}
-use Rattle.graphql_folding.specs.Listed.{Definitions, Listed, numbered}
+use Rattle.graphql_folding.specs.Listed.{Listed}
 
 -- each of these, from the definition or that extension
 abbrev pub all_given : {A : Type 0} → Option (ExtensionTree Place) → List A → List (Given Place A)
@@ -25,12 +25,12 @@ abbrev pub extension_here : TypeParts Place → Listed → List (Given Place (Ty
 extension_here defined l = option_map_or (λ parts. if go_together defined parts then record { extension = l.extension; it = parts } ∷ [] else []) (type_extension_here l.definition) []
 
 -- all parts of a type: those of its definition, and then those of its kind's extensions by position, wherever they stand
-abbrev pub parts_of : ℕ → Definitions → TypeDefinition Place → List (Given Place (TypeParts Place))
-parts_of first ds t = record { extension = None; it = t.parts } ∷ flat_map (extension_here t.parts) (numbered first ds)
+abbrev pub parts_of : List Listed → TypeDefinition Place → List (Given Place (TypeParts Place))
+parts_of list t = record { extension = None; it = t.parts } ∷ flat_map (extension_here t.parts) list
 
 -- its components of one class, repeated ones too, each with what gave it
-abbrev pub components : {A : Type 0} → (TypeParts Place → List A) → ℕ → Definitions → TypeDefinition Place → List (Given Place A)
-components of first ds t = flat_map (λ g. all_given g.extension (of g.it)) (parts_of first ds t)
+abbrev pub components : {A : Type 0} → (TypeParts Place → List A) → List Listed → TypeDefinition Place → List (Given Place A)
+components of list t = flat_map (λ g. all_given g.extension (of g.it)) (parts_of list t)
 
 -- the names by which components are told apart
 abbrev pub field_key : Given Place (Placed Place (FieldDefinitionTree Place)) → List ℕ

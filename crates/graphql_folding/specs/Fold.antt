@@ -1,5 +1,5 @@
 -- The fold of a list of definitions: what a schema has of each type and directive, by positions in the whole list.
-use Rattle.std.specs.Prelude.{ℕ, ◌++◌, map}
+use Rattle.std.specs.Prelude.{ℕ, List, ◌++◌, map}
 use Rattle.std.specs.List.{find}
 use Rattle.std.specs.Option.{option_map_or}
 use Rattle.std.specs.Str.{bytes_eq}
@@ -10,28 +10,28 @@ use Rattle.graphql_components.specs.Names.{Entries}
 use Rattle.graphql_components.specs.Given.{given_name}
 use Rattle.graphql_schema_types.specs.SchemaTree.{SchemaType, SchemaTree}
 use Rattle.graphql_schema_types.specs.TypeParts.{TypeDefinition}
-use Rattle.graphql_folding.specs.Listed.{Definitions, type_name, types_in, directive_name, directives_in}
+use Rattle.graphql_folding.specs.Listed.{Definitions, Listed, numbered, type_name, types_in, directive_name, directives_in}
 use Rattle.graphql_folding.specs.Components.{components, field_key, value_key, input_key, keyed_firsts}
 use Rattle.graphql_folding.specs.SchemaFold.{folded_schema}
 
 -- what a schema has of a type: of interfaces, fields, members and values the first of each name, of applied directives all
-abbrev pub folded_type : ℕ → Definitions → TypeDefinition Place → SchemaType Place
-folded_type first ds t = record {
+abbrev pub folded_type : List Listed → TypeDefinition Place → SchemaType Place
+folded_type list t = record {
   kind = t.parts.kind;
   place = t.place;
   description = t.description;
   name = t.parts.name;
-  directives = components (λ p. p.directives) first ds t;
-  interfaces = firsts given_name (components (λ p. p.interfaces) first ds t);
-  fields = keyed_firsts field_key (components (λ p. p.fields) first ds t);
-  members = firsts given_name (components (λ p. p.members) first ds t);
-  values = keyed_firsts value_key (components (λ p. p.values) first ds t);
-  inputs = keyed_firsts input_key (components (λ p. p.inputs) first ds t);
+  directives = components (λ p. p.directives) list t;
+  interfaces = firsts given_name (components (λ p. p.interfaces) list t);
+  fields = keyed_firsts field_key (components (λ p. p.fields) list t);
+  members = firsts given_name (components (λ p. p.members) list t);
+  values = keyed_firsts value_key (components (λ p. p.values) list t);
+  inputs = keyed_firsts input_key (components (λ p. p.inputs) list t);
 }
 
 -- the types, in the order of their definitions
 abbrev pub folded_types : ℕ → Definitions → Entries (SchemaType Place)
-folded_types first ds = map (λ t. (type_name t, folded_type first ds t)) (firsts type_name (types_in ds))
+folded_types first ds = map (λ t. (type_name t, folded_type (numbered first ds) t)) (firsts type_name (types_in ds))
 
 -- the definition of a directive: the first of the texts, or else the built-in one
 abbrev pub chosen_directive : Definitions → Placed Place (DirectiveDefinitionTree Place) → Placed Place (DirectiveDefinitionTree Place)

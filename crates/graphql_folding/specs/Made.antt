@@ -1,9 +1,10 @@
 -- A type made of its definition and of what it keeps (private: it leads to `specs/Fold.antt`).
-use Rattle.std.specs.Prelude.{◌≡◌, [], map}
+use Rattle.std.specs.Prelude.{◌≡◌, [], Some}
 use Rattle.std.specs.Option.{option_map}
 use Rattle.graphql_values.specs.Placed.{Place, text_tree}
+use Rattle.graphql_ast.specs.DefinitionTree.{DefinitionTree}
 use Rattle.graphql_schema_types.specs.SchemaTree.{SchemaType}
-use Rattle.graphql_schema_types.specs.TypeParts.{TypeDefinition}
+use Rattle.graphql_schema_types.specs.TypeParts.{TypeDefinition, type_here}
 use Rattle.graphql_schema_types.specs.declared.type_kind.TypeKind.{TypeKind}
 use Rattle.graphql_schema_types.specs.declared.type_kind.TypeKind.TheVariants.{Scalar, Object, Interface, Union, Enum, InputObject}
 use Rattle.graphql_folding.specs.Kept.{KeptComponents}
@@ -35,3 +36,7 @@ IsOfKind Interface kept = (kept.members ≡ []) × (kept.values ≡ []) × (kept
 IsOfKind Union kept = (kept.interfaces ≡ []) × (kept.fields ≡ []) × (kept.values ≡ []) × (kept.inputs ≡ [])
 IsOfKind Enum kept = (kept.interfaces ≡ []) × (kept.fields ≡ []) × (kept.members ≡ []) × (kept.inputs ≡ [])
 IsOfKind InputObject kept = (kept.interfaces ≡ []) × (kept.fields ≡ []) × (kept.members ≡ []) × (kept.values ≡ [])
+
+-- t is what some definition of a type tells
+abbrev pub IsDefinition : TypeDefinition Place → Type 0
+IsDefinition t = (d : DefinitionTree Place) × (type_here d ≡ Some t)

@@ -3,11 +3,12 @@
 //! For the layer above: what a type folds to is stated by positions in the whole list of definitions
 //! (`specs/Fold.antt`); each folding rule is a predicate on that list (`specs/BuildErrors.antt`).
 //!
-//! Begin with `specs/Fold.antt` and `fold_type.rt`.
+//! Begin with `specs/Fold.antt` and `fold.rt`.
 #![tactic(auto)]
 
 mod build_error;
 mod collected;
+mod fold;
 mod gather;
 mod keep;
 mod kept_classes;
@@ -17,6 +18,7 @@ mod parts;
 
 pub use build_error::{BuildError, Repeat};
 pub use collected::Collected;
+pub use fold::fold_type;
 pub use gather::collect_type;
 pub use keep::{Keyed, keep_components, keep_names};
 pub use kept_classes::{Kept, keep_all};
