@@ -1,11 +1,9 @@
 use Rattle.std.proofs.Common.{map, sym, ap, ◌∙◌}
 use Rattle.graphql_names.specs.Node.{place}
 use Rattle.graphql_values.specs.Placed.{name_tree}
-use Rattle.graphql_values.specs.DirectiveTree.{directive_tree, input_value_tree}
-use Rattle.graphql_ast.specs.TypeSystemTree.{field_definition_tree, enum_value_tree}
-use Rattle.graphql_components.specs.Names.{entries_of}
-use Rattle.graphql_components.specs.Given.{component_tree, component_name_tree}
-use Rattle.graphql_schema_types.specs.TypeView.{name_text, scalar_type}
+use Rattle.graphql_values.specs.DirectiveTree.{directive_tree}
+use Rattle.graphql_components.specs.Given.{component_tree}
+use Rattle.graphql_schema_types.specs.TypeView.{scalar_type}
 use Rattle.graphql_folding.proofs.make.make_scalar.Goals as goal
 
 pub returns : goal.returns
