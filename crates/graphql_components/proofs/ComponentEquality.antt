@@ -1,5 +1,5 @@
 -- `==` of components decides whether they are the same without places and origins.
-use Rattle.std.proofs.Common.{◌≡◌, ℕ, List, ap, refl}
+use Rattle.std.proofs.Common.{◌≡◌, ℕ, List}
 use Rattle.std.specs.Bool.{Decides}
 use Rattle.std.specs.Str.{bytes_eq}
 use Rattle.std.proofs.lemmas.Slice.Eq.{bytes_eq-Decides}

@@ -1,10 +1,9 @@
 -- Copies have the trees of the originals.
-use Rattle.std.proofs.Common.{◌≡◌, ℕ, List, [], ◌∷◌, map, refl}
+use Rattle.std.proofs.Common.{◌≡◌, List, [], ◌∷◌, map, refl}
 use Rattle.std.specs.List.{AllZip}
 use Rattle.graphql_names.specs.Node.{content, place}
-use Rattle.graphql_components.specs.Given.{origin_tree, component_tree, component_name_tree}
+use Rattle.graphql_components.specs.Given.{origin_tree, component_tree}
 use Rattle.graphql_components.specs.declared.component.Component.{Component}
-use Rattle.graphql_components.specs.declared.component_name.ComponentName.{ComponentName}
 
 -- a shared component, from the same origin
 abbrev pub IsShared : {A : Type 0} → Component A → Component A → Type 0

@@ -1,7 +1,6 @@
 -- What a schema is given by its definitions and extensions: something, and where it comes from.
 use Rattle.std.specs.Prelude.{ℕ, List, Option, None, Some}
 use Rattle.std.specs.Option.{option_map}
-use Rattle.graphql_names.specs.NameValue.{NameValue}
 use Rattle.graphql_values.specs.Placed.{Placed, Place, Text, name_tree, node_tree}
 use Rattle.graphql_components.specs.declared.extension.ExtensionId.{ExtensionId}
 use Rattle.graphql_components.specs.declared.component.Component.{Component}

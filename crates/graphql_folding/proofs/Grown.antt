@@ -1,11 +1,11 @@
 -- Trees in the place of contents change nothing in which components come first.
 use Rattle.std.proofs.Common.{◌≡◌, ℕ, Bool, true, false, List, [], ◌∷◌, ◌++◌, map, refl, sym, ap, ◌∙◌, if◌then◌else◌}
-use Rattle.std.proofs.lemmas.List.{append_assoc, append-nil, map-append}
+use Rattle.std.proofs.lemmas.List.{map-append}
 use Rattle.indexmap.specs.IndexMap.{IndexMap}
 use Rattle.graphql_names.specs.NameValue.{NameValue}
 use Rattle.graphql_values.specs.Placed.{Placed, Place}
 use Rattle.graphql_components.specs.Lists.{each_place_after, firsts, repeats, has_name, is_among}
-use Rattle.graphql_components.specs.Names.{Entries, entries_of}
+use Rattle.graphql_components.specs.Names.{entries_of}
 use Rattle.graphql_components.specs.Given.{Given, component_tree}
 use Rattle.graphql_components.specs.declared.component.Component.{Component}
 use Rattle.graphql_schema_types.specs.TypeView.{name_text}

@@ -1,11 +1,11 @@
 -- Lemmas on keeping the first component of each name.
-use Rattle.std.proofs.Common.{◌≡◌, ℕ, Bool, true, false, ◌||◌, List, [], ◌∷◌, ◌++◌, map, refl, sym, ap, ◌∙◌, cond, if◌then◌else◌, is_some}
+use Rattle.std.proofs.Common.{◌≡◌, ℕ, true, false, ◌||◌, List, [], ◌∷◌, ◌++◌, map, refl, sym, ap, ◌∙◌, cond, if◌then◌else◌, is_some}
 use Rattle.std.specs.List.{list_any}
 use Rattle.std.specs.Str.{bytes_eq}
 use Rattle.std.specs.Map.{lookup}
 use Rattle.std.proofs.lemmas.List.{append_assoc, append-nil, map-append}
 use Rattle.graphql_names.specs.NameValue.{NameValue}
-use Rattle.graphql_components.specs.Lists.{firsts, repeats, has_name, is_among}
+use Rattle.graphql_components.specs.Lists.{firsts, repeats, has_name}
 use Rattle.graphql_components.specs.Names.{Entries}
 use Rattle.graphql_components.proofs.Places.{each_place-push}
 use Rattle.graphql_components.proofs.Firsts.{kept_seen, kept_new, is_some-firsts, has_name-firsts, firsts-push_new, firsts-push_seen}

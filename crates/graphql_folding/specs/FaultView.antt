@@ -1,5 +1,5 @@
 -- What contracts see of the faults of folding.
-use Rattle.std.specs.Prelude.{ℕ, List, map, Option, Vec}
+use Rattle.std.specs.Prelude.{ℕ, List, map, Vec}
 use Rattle.std.specs.declared.alloc.Global.{Global}
 use Rattle.graphql_values.specs.Placed.{Place}
 use Rattle.graphql_folding.specs.BuildErrors as breach

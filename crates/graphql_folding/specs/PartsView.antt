@@ -1,7 +1,5 @@
 -- What contracts see of the parts of a type, of what is collected and of what is kept.
-use Rattle.std.specs.Prelude.{ℕ, List, map, Vec}
-use Rattle.std.specs.declared.alloc.Global.{Global}
-use Rattle.graphql_names.specs.NameValue.{NameValue}
+use Rattle.std.specs.Prelude.{List, map}
 use Rattle.graphql_values.specs.Placed.{Placed, Place, name_tree, node_tree}
 use Rattle.graphql_values.specs.DirectiveTree.{directives_tree, input_value_tree}
 use Rattle.graphql_ast.specs.TypeSystemTree.{field_definition_tree, enum_value_tree}

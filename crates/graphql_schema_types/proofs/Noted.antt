@@ -1,9 +1,8 @@
 -- Extensions that are noted one after another are those of the origins, each once.
-use Rattle.std.proofs.Common.{◌≡◌, ℕ, Bool, true, false, ◌&&◌, ◌||◌, ◌==◌, List, [], ◌∷◌, ◌++◌, map, refl, sym, ap, ◌∙◌, cond, option_to_list, if◌then◌else◌}
+use Rattle.std.proofs.Common.{◌≡◌, ℕ, Bool, true, false, ◌&&◌, ◌||◌, ◌==◌, List, [], ◌∷◌, ◌++◌, refl, sym, ap, ◌∙◌, option_to_list, if◌then◌else◌}
 use Rattle.std.proofs.lemmas.List.{append_assoc, append-nil}
 use Rattle.std.specs.List.{list_any, flat_map}
-use Rattle.std.specs.Str.{bytes_eq}
-use Rattle.graphql_components.specs.Lists.{firsts, has_name, is_among}
+use Rattle.graphql_components.specs.Lists.{firsts, has_name}
 use Rattle.graphql_components.specs.Given.{number_of, extension_id}
 use Rattle.graphql_components.specs.declared.extension.ExtensionId.{ExtensionId}
 use Rattle.graphql_components.specs.declared.component.ComponentOrigin.{ComponentOrigin}

@@ -1,5 +1,5 @@
 -- `==` of types and schema definitions decides whether they are the same without places, origins and order.
-use Rattle.std.proofs.Common.{◌≡◌, ℕ, List, map, ap, refl, arith}
+use Rattle.std.proofs.Common.{◌≡◌, ap, refl, arith}
 use Rattle.std.specs.Bool.{Decides}
 use Rattle.graphql_names.specs.Node.{content, place}
 use Rattle.graphql_names.specs.declared.node.Node.{Node}

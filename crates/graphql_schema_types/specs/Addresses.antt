@@ -13,7 +13,7 @@ use Rattle.graphql_ast.specs.TypeSystemTree.{FieldDefinitionTree, EnumValueTree}
 use Rattle.graphql_components.specs.Names.{Entries}
 use Rattle.graphql_components.specs.Given.{Given, given_name}
 use Rattle.graphql_components.specs.Applied.{Applied}
-use Rattle.graphql_schema_types.specs.SchemaTree.{SchemaType, SchemaRoots, SchemaTree}
+use Rattle.graphql_schema_types.specs.SchemaTree.{SchemaType, SchemaTree}
 
 pub data Address : Type 0 where
   -- the schema definition, and the name of a root

@@ -15,7 +15,6 @@ use Rattle.graphql_components.specs.declared.extension.ExtensionId.{ExtensionId}
 use Rattle.graphql_components.specs.declared.component.Component.{Component}
 use Rattle.graphql_components.specs.declared.component.ComponentOrigin.{ComponentOrigin}
 use Rattle.graphql_components.specs.declared.component_name.ComponentName.{ComponentName}
-use Rattle.graphql_components.specs.declared.directive_list.DirectiveList.{DirectiveList}
 use Rattle.graphql_schema_types.specs.declared.kinds.ScalarType.{ScalarType}
 use Rattle.graphql_schema_types.specs.declared.kinds.ObjectType.{ObjectType}
 use Rattle.graphql_schema_types.specs.declared.kinds.InterfaceType.{InterfaceType}

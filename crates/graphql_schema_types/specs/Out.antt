@@ -1,7 +1,7 @@
 -- What is written of a schema, and in which order.
-use Rattle.std.specs.Prelude.{◌≡◌, ℕ, Bool, true, false, not, ◌&&◌, ◌==◌, if◌then◌else◌, List, [], ◌∷◌, ◌++◌, map, Option, None, Some, is_none, is_some, option_to_list, codes}
-use Rattle.std.specs.List.{flat_map, filter, find, list_any}
-use Rattle.std.specs.Option.{option_map, option_map_or}
+use Rattle.std.specs.Prelude.{ℕ, Bool, true, false, not, ◌&&◌, ◌==◌, if◌then◌else◌, List, [], ◌∷◌, ◌++◌, map, Option, None, Some, is_none, is_some, option_to_list}
+use Rattle.std.specs.List.{flat_map, filter, find}
+use Rattle.std.specs.Option.{option_map_or}
 use Rattle.std.specs.Str.{bytes_eq}
 use Rattle.graphql_names.specs.Places.{is_built_in}
 use Rattle.graphql_values.specs.Placed.{Placed, Place, Text}

@@ -1,5 +1,5 @@
 -- A schema without places, origins and the order of what has names. Applied directives and arguments are in order.
-use Rattle.std.specs.Prelude.{ℕ, List, map, Option}
+use Rattle.std.specs.Prelude.{ℕ, List, Option}
 use Rattle.std.specs.Option.{option_map}
 use Rattle.graphql_values.specs.Placed.{Text, Placed, unplaced_text}
 use Rattle.graphql_values.specs.DirectiveTree.{DirectiveTree, InputValueTree, DirectiveDefinitionTree, unplaced_input_value, unplaced_directive_definition}
