@@ -1,0 +1,8 @@
+pub mod Places
+pub mod Firsts
+pub mod NamedEquality
+pub mod NamedFacts
+pub mod NamedLookups
+pub mod NamedWrites
+pub mod ComponentEquality
+pub mod Copies

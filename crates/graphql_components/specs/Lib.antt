@@ -1,0 +1,5 @@
+pub mod Lists
+pub mod Names
+pub mod Given
+pub mod Applied
+pub mod LeftNamed

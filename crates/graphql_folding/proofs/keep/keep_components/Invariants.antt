@@ -1,0 +1,16 @@
+use Rattle.std.proofs.Common.{◌≡◌, ◌++◌, map}
+use Rattle.graphql_components.specs.Lists.{repeats}
+use Rattle.graphql_components.specs.Names.{entries_of}
+use Rattle.graphql_components.specs.Given.{component_tree}
+use Rattle.graphql_schema_types.specs.TypeView.{name_text}
+use Rattle.graphql_folding.specs.Components.{keyed_firsts}
+use Rattle.graphql_folding.specs.FaultView.{faults_of}
+use Rattle.graphql_folding.specs.PartsView.{itself, given_contents}
+use Rattle.graphql_folding.specs.Keeping.{content_key, component_fault}
+use Rattle.graphql_folding.proofs.keep.keep_components.Given as goal
+
+abbrev pub invariant-loop-component : goal.invariant-loop-component
+invariant-loop-component g l = record {
+  kept : entries_of name_text (component_tree itself) l.kept ≡ keyed_firsts (content_key g.T.Keyed.key_of) (given_contents l.yielded);
+  told : faults_of l.faults ≡ faults_of l.fn.faults ++ map (component_fault g.T.Keyed.key_of l.repeat l.type_name.text) (repeats (content_key g.T.Keyed.key_of) (given_contents l.yielded));
+}

@@ -1,0 +1,14 @@
+pub mod Listed
+pub mod Components
+pub mod SchemaFold
+pub mod Fold
+pub mod BuildErrors
+pub mod Adoption
+pub mod BuiltIn
+pub mod FaultView
+pub mod PartsView
+pub mod Keeping
+pub mod Collected
+pub mod ListedView
+pub mod Kept
+pub mod Made

@@ -1,0 +1,9 @@
+-- What contracts see of a definition of the list.
+use Rattle.std.specs.Option.{option_map}
+use Rattle.graphql_ast.specs.DefinitionTree.{definition_tree}
+use Rattle.graphql_components.specs.Given.{extension_tree}
+use Rattle.graphql_folding.specs.Listed.{Listed}
+use Rattle.graphql_folding.specs.declared.listed.Listed.{Listed as Rust}
+
+abbrev pub listed_view : Rust → Listed
+listed_view l = record { definition = definition_tree l.definition; extension = option_map extension_tree l.extension }

@@ -1,0 +1,42 @@
+-- A type made of its definition and of what it keeps (private: it leads to `specs/Fold.antt`).
+use Rattle.std.specs.Prelude.{◌≡◌, [], Some}
+use Rattle.std.specs.Option.{option_map}
+use Rattle.graphql_values.specs.Placed.{Place, text_tree}
+use Rattle.graphql_ast.specs.DefinitionTree.{DefinitionTree}
+use Rattle.graphql_schema_types.specs.SchemaTree.{SchemaType}
+use Rattle.graphql_schema_types.specs.TypeParts.{TypeDefinition, type_here}
+use Rattle.graphql_schema_types.specs.declared.type_kind.TypeKind.{TypeKind}
+use Rattle.graphql_schema_types.specs.declared.type_kind.TypeKind.TheVariants.{Scalar, Object, Interface, Union, Enum, InputObject}
+use Rattle.graphql_folding.specs.Kept.{KeptComponents}
+use Rattle.graphql_folding.specs.PartsView.{parts_view}
+use Rattle.graphql_folding.specs.declared.parts.Defined.{Defined}
+
+abbrev pub defined_view : Defined → TypeDefinition Place
+defined_view d = record { place = d.location; description = option_map (λ t. text_tree t.now) d.description; parts = parts_view d.parts }
+
+abbrev pub made : TypeDefinition Place → KeptComponents → SchemaType Place
+made t kept = record {
+  kind = t.parts.kind;
+  place = t.place;
+  description = t.description;
+  name = t.parts.name;
+  directives = kept.directives;
+  interfaces = kept.interfaces;
+  fields = kept.fields;
+  members = kept.members;
+  values = kept.values;
+  inputs = kept.inputs;
+}
+
+-- the classes that a kind has not are empty
+abbrev pub IsOfKind : TypeKind → KeptComponents → Type 0
+IsOfKind Scalar kept = (kept.interfaces ≡ []) × (kept.fields ≡ []) × (kept.members ≡ []) × (kept.values ≡ []) × (kept.inputs ≡ [])
+IsOfKind Object kept = (kept.members ≡ []) × (kept.values ≡ []) × (kept.inputs ≡ [])
+IsOfKind Interface kept = (kept.members ≡ []) × (kept.values ≡ []) × (kept.inputs ≡ [])
+IsOfKind Union kept = (kept.interfaces ≡ []) × (kept.fields ≡ []) × (kept.values ≡ []) × (kept.inputs ≡ [])
+IsOfKind Enum kept = (kept.interfaces ≡ []) × (kept.fields ≡ []) × (kept.members ≡ []) × (kept.inputs ≡ [])
+IsOfKind InputObject kept = (kept.interfaces ≡ []) × (kept.fields ≡ []) × (kept.members ≡ []) × (kept.values ≡ [])
+
+-- t is what some definition of a type tells
+abbrev pub IsDefinition : TypeDefinition Place → Type 0
+IsDefinition t = (d : DefinitionTree Place) × (type_here d ≡ Some t)

@@ -1,0 +1,96 @@
+//! All that a type is given, repeated components too.
+ghost use Rattle.std.specs.Prelude.{◌≡◌, ◌++◌, [], map, IfOk, OnOk};
+ghost use Rattle.graphql_values.specs.Placed.{name_tree, node_tree};
+ghost use Rattle.graphql_components.specs.Given.{origin_tree, component_tree, component_name_tree};
+ghost use Rattle.graphql_folding.specs.Components.{all_given};
+ghost use Rattle.graphql_folding.specs.PartsView.{itself, given_contents, parts_view};
+ghost use Rattle.graphql_folding.specs.Collected.{collected, collected_from, collected_and};
+
+use crate::parts::Parts;
+use graphql_ast::{
+    Directive, EnumValueDefinition, FieldDefinition, InputValueDefinition, Name, Node,
+};
+use graphql_components::{Component, ComponentName, ComponentOrigin};
+use std::alloc::{AllocError, Global};
+
+/// The node, shared, from that origin.
+fn shared_component<T: Drop>(
+    origin: ComponentOrigin,
+    node: &Node<T>,
+) -> Result<Component<T>, AllocError>
+    ensures { IfOk result (λ c. component_tree itself c ≡ record { extension = origin_tree origin; it = node_tree itself node.now }) }
+{
+    Ok(Component {
+        origin,
+        node: node.clone()?,
+    })
+}
+
+/// Adds these nodes, from that origin.
+pub(crate) fn add_components<T: Drop>(
+    all: &mut Vec<Component<T>>,
+    origin: ComponentOrigin,
+    nodes: &[Node<T>],
+) -> Result<(), AllocError>
+    ensures { OnOk result (given_contents all.new.items ≡ given_contents all.old.items ++ all_given (origin_tree origin) (map (node_tree itself) nodes.now)) }
+{
+    for node in nodes {
+        let component = shared_component(origin, node)?;
+        all.push(component)?;
+    }
+    Ok(())
+}
+
+/// Adds these names, from that origin.
+pub(crate) fn add_names(
+    all: &mut Vec<ComponentName>,
+    origin: ComponentOrigin,
+    names: &[Name],
+) -> Result<(), AllocError>
+    ensures { OnOk result (map component_name_tree all.new.items ≡ map component_name_tree all.old.items ++ all_given (origin_tree origin) (map name_tree names.now)) }
+{
+    for name in names {
+        let name = name.clone()?;
+        all.push(ComponentName { origin, name })?;
+    }
+    Ok(())
+}
+
+/// All that a type is given, in order, repeated components too.
+#[derive(Drop)]
+pub struct Collected {
+    pub directives: Vec<Component<Directive>>,
+    pub interfaces: Vec<ComponentName>,
+    pub fields: Vec<Component<FieldDefinition>>,
+    pub members: Vec<ComponentName>,
+    pub values: Vec<Component<EnumValueDefinition>>,
+    pub inputs: Vec<Component<InputValueDefinition>>,
+}
+
+impl Collected {
+    /// Nothing.
+    pub fn new(alloc: Global) -> Collected
+        ensures { collected result ≡ collected_from [] }
+    {
+        Collected {
+            directives: Vec::new(alloc),
+            interfaces: Vec::new(alloc),
+            fields: Vec::new(alloc),
+            members: Vec::new(alloc),
+            values: Vec::new(alloc),
+            inputs: Vec::new(alloc),
+        }
+    }
+
+    /// Adds these parts, from that origin.
+    pub fn add(&mut self, origin: ComponentOrigin, parts: &Parts<'_>) -> Result<(), AllocError>
+        ensures { OnOk result (collected self.new ≡ collected_and (collected self.old) (record { extension = origin_tree origin; it = parts_view parts.now })) }
+    {
+        add_components(&mut self.directives, origin, &parts.directives.0)?;
+        add_names(&mut self.interfaces, origin, parts.interfaces)?;
+        add_components(&mut self.fields, origin, parts.fields)?;
+        add_names(&mut self.members, origin, parts.members)?;
+        add_components(&mut self.values, origin, parts.values)?;
+        add_components(&mut self.inputs, origin, parts.inputs)
+    }
+}

@@ -1,0 +1,56 @@
+//! What the definition of a type and its extensions give.
+ghost use Rattle.std.specs.Prelude.{◌≡◌, ◌&&◌, ◌++◌, ◌∷◌, map, None, IfOk, OnOk};
+ghost use Rattle.std.specs.List.{flat_map};
+ghost use Rattle.graphql_folding.specs.Components.{go_together, extension_here};
+ghost use Rattle.graphql_folding.specs.PartsView.{parts_view};
+ghost use Rattle.graphql_folding.specs.ListedView.{listed_view};
+ghost use Rattle.graphql_folding.specs.Collected.{collected, collected_from, Collects};
+
+use crate::collected::Collected;
+use crate::listed::Listed;
+use crate::parts::{Parts, extension_parts};
+use graphql_components::ComponentOrigin;
+use std::alloc::{AllocError, Global};
+
+/// All components of a type: those of its definition, and then those of each of these that extends it, in order.
+pub fn collect_type(
+    alloc: Global,
+    defined: &Parts<'_>,
+    list: &[Listed],
+) -> Result<Collected, AllocError>
+    ensures { IfOk result (λ all. collected all ≡ collected_from (record { extension = None; it = parts_view defined.now } ∷ flat_map (extension_here (parts_view defined.now)) (map listed_view list.now))) }
+{
+    let mut all = Collected::new(alloc);
+    all.add(ComponentOrigin::Definition, defined)?;
+    for listed in list {
+        collect_extension(&mut all, defined, listed)?;
+    }
+    Ok(all)
+}
+
+/// Adds what is given here, if it is an extension of that type and of its kind.
+fn collect_extension(
+    all: &mut Collected,
+    defined: &Parts<'_>,
+    listed: &Listed,
+) -> Result<(), AllocError>
+    ensures { OnOk result (Collects (collected all.old) (extension_here (parts_view defined.now) (listed_view listed.now)) (collected all.new)) }
+{
+    match extension_parts(&listed.definition) {
+        None => Ok(()),
+        Some(parts) => {
+            if is_together(defined, &parts) {
+                all.add(listed.origin(), &parts)
+            } else {
+                Ok(())
+            }
+        }
+    }
+}
+
+/// Whether the parts are of the same name and kind.
+fn is_together(defined: &Parts<'_>, parts: &Parts<'_>) -> bool
+    ensures { result ≡ go_together (parts_view defined.now) (parts_view parts.now) }
+{
+    *defined.name == *parts.name && defined.kind.is(parts.kind)
+}

@@ -1,0 +1,144 @@
+//! The first component of each name.
+ghost use Rattle.std.specs.Prelude.{◌≡◌, ◌++◌, [], ◌∷◌, map, IfOk, OnOk, None};
+ghost use Rattle.indexmap.specs.IndexMap.{get};
+ghost use Rattle.graphql_names.specs.NameValue.{NameValue};
+ghost use Rattle.graphql_names.specs.Node.{content};
+ghost use Rattle.graphql_components.specs.Lists.{firsts, repeats};
+ghost use Rattle.graphql_components.specs.Names.{entries_of, same_text};
+ghost use Rattle.graphql_components.specs.Given.{component_tree, component_name_tree, given_name};
+ghost use Rattle.graphql_schema_types.specs.TypeView.{name_text};
+ghost use Rattle.graphql_folding.specs.Components.{keyed_firsts};
+ghost use Rattle.graphql_folding.specs.FaultView.{faults_of};
+ghost use Rattle.graphql_folding.specs.PartsView.{itself, given_contents};
+ghost use Rattle.graphql_folding.specs.Keeping.{content_key, component_fault, name_fault, KeepsOn, KeepsNames};
+
+use crate::build_error::{BuildError, Repeat, note_repeat};
+use graphql_ast::{EnumValueDefinition, FieldDefinition, InputValueDefinition, Name, SourceSpan};
+use graphql_components::{Component, ComponentName};
+use indexmap::{IndexMap, IndexSet};
+use std::alloc::{AllocError, Global};
+
+/// Something that a type has under its name.
+pub trait Keyed {
+    /// Its name.
+    ghost key_of: { Self → NameValue };
+
+    /// Its name.
+    fn key(&self) -> &Name
+        ensures { result.now ≡ key_of self.now };
+}
+
+impl Keyed for FieldDefinition {
+    ghost key_of = { λ f. f.name };
+
+    fn key(&self) -> &Name {
+        &self.name
+    }
+}
+
+impl Keyed for EnumValueDefinition {
+    ghost key_of = { λ v. v.value };
+
+    fn key(&self) -> &Name {
+        &self.value
+    }
+}
+
+impl Keyed for InputValueDefinition {
+    ghost key_of = { λ v. v.name };
+
+    fn key(&self) -> &Name {
+        &self.name
+    }
+}
+
+/// Keeps the first component of each name, and tells the others.
+pub fn keep_components<T: Keyed + Drop>(
+    alloc: Global,
+    type_name: &Name,
+    repeat: Repeat,
+    all: Vec<Component<T>>,
+    faults: &mut Vec<(Option<SourceSpan>, BuildError)>,
+) -> Result<IndexMap<Name, Component<T>>, AllocError>
+    ensures kept { IfOk result (λ m. entries_of name_text (component_tree itself) m ≡ keyed_firsts (content_key T.key_of) (given_contents all.items)) }
+    ensures faults { OnOk result (faults_of faults.new ≡ faults_of faults.old ++ map (component_fault T.key_of repeat type_name.now.text) (repeats (content_key T.key_of) (given_contents all.items))) }
+{
+    let mut kept = IndexMap::new(alloc);
+    for component in all {
+        keep_or_tell(type_name, repeat, component, &mut kept, faults)?;
+    }
+    Ok(kept)
+}
+
+/// Keeps a component behind those before it, or tells that an earlier one has its name.
+fn keep_or_tell<T: Keyed + Drop>(
+    type_name: &Name,
+    repeat: Repeat,
+    component: Component<T>,
+    kept: &mut IndexMap<Name, Component<T>>,
+    faults: &mut Vec<(Option<SourceSpan>, BuildError)>,
+) -> Result<(), AllocError>
+    ensures { OnOk result (KeepsOn (content_key T.key_of) (component_fault T.key_of repeat type_name.now.text) (component_tree itself component) (entries_of name_text (component_tree itself) kept.old) (faults_of faults.old) (entries_of name_text (component_tree itself) kept.new) (faults_of faults.new)) }
+{
+    let name = component.node.content().key();
+    if kept.contains_key(name) {
+        note_repeat(faults, repeat, type_name, name, component.node.location())
+    } else {
+        keep_component(kept, component)
+    }
+}
+
+/// Keeps a component that no other has the name of.
+fn keep_component<T: Keyed + Drop>(
+    kept: &mut IndexMap<Name, Component<T>>,
+    component: Component<T>,
+) -> Result<(), AllocError>
+    requires { get (same_text name_text) kept.old (T.key_of (content component.node)) ≡ None }
+    ensures { OnOk result (entries_of name_text (component_tree itself) kept.new ≡ entries_of name_text (component_tree itself) kept.old ++ ((T.key_of (content component.node)).text, component_tree itself component) ∷ []) }
+{
+    let name = component.node.content().key().clone()?;
+    kept.insert(name, component)?;
+    Ok(())
+}
+
+/// Keeps the first component of each name, and tells the others.
+pub fn keep_names(
+    alloc: Global,
+    type_name: &Name,
+    repeat: Repeat,
+    all: Vec<ComponentName>,
+    faults: &mut Vec<(Option<SourceSpan>, BuildError)>,
+) -> Result<IndexSet<ComponentName>, AllocError>
+    ensures kept { IfOk result (λ s. map component_name_tree s.keys ≡ firsts given_name (map component_name_tree all.items)) }
+    ensures faults { OnOk result (faults_of faults.new ≡ faults_of faults.old ++ map (name_fault repeat type_name.now.text) (repeats given_name (map component_name_tree all.items))) }
+{
+    let mut kept = IndexSet::new(alloc);
+    for component in all {
+        keep_or_tell_name(type_name, repeat, component, &mut kept, faults)?;
+    }
+    Ok(kept)
+}
+
+/// Keeps a name behind those before it, or tells that it is among them.
+fn keep_or_tell_name(
+    type_name: &Name,
+    repeat: Repeat,
+    component: ComponentName,
+    kept: &mut IndexSet<ComponentName>,
+    faults: &mut Vec<(Option<SourceSpan>, BuildError)>,
+) -> Result<(), AllocError>
+    ensures { OnOk result (KeepsNames given_name (name_fault repeat type_name.now.text) (component_name_tree component) (map component_name_tree kept.old.keys) (faults_of faults.old) (map component_name_tree kept.new.keys) (faults_of faults.new)) }
+{
+    if kept.contains(&component) {
+        note_repeat(
+            faults,
+            repeat,
+            type_name,
+            &component.name,
+            component.name.location(),
+        )
+    } else {
+        kept.insert(component)?;
+        Ok(())
+    }
+}

@@ -1,0 +1,27 @@
+//! The fold of definitions and extensions to types, and the faults of folding.
+//!
+//! For the layer above: what a type folds to is stated by positions in the whole list of definitions
+//! (`specs/Fold.antt`); each folding rule is a predicate on that list (`specs/BuildErrors.antt`).
+//!
+//! Begin with `specs/Fold.antt` and `fold.rt`.
+#![tactic(auto)]
+
+mod build_error;
+mod collected;
+mod fold;
+mod gather;
+mod keep;
+mod kept_classes;
+mod listed;
+mod make;
+mod parts;
+
+pub use build_error::{BuildError, Repeat};
+pub use collected::Collected;
+pub use fold::fold_type;
+pub use gather::collect_type;
+pub use keep::{Keyed, keep_components, keep_names};
+pub use kept_classes::{Kept, keep_all};
+pub use listed::Listed;
+pub use make::make_type;
+pub use parts::{Defined, Parts, extension_parts, type_definition};

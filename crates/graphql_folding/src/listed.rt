@@ -1,0 +1,26 @@
+//! The list of definitions, each extension with its number.
+ghost use Rattle.std.specs.Prelude.{◌≡◌};
+ghost use Rattle.std.specs.Option.{option_map};
+ghost use Rattle.graphql_components.specs.Given.{extension_tree, origin_tree};
+
+use graphql_ast::Definition;
+use graphql_components::{ComponentOrigin, ExtensionId};
+
+/// A definition of the list, and its number if it is an extension.
+#[derive(Drop)]
+pub struct Listed {
+    pub definition: Definition,
+    pub extension: Option<ExtensionId>,
+}
+
+impl Listed {
+    /// Where its components come from.
+    pub fn origin(&self) -> ComponentOrigin
+        ensures { origin_tree result ≡ option_map extension_tree self.now.extension }
+    {
+        match self.extension {
+            None => ComponentOrigin::Definition,
+            Some(id) => ComponentOrigin::Extension(id),
+        }
+    }
+}

@@ -1,0 +1,2 @@
+pub mod TypeEquality
+pub mod Noted
