@@ -1,5 +1,5 @@
 //! Documents and members of types: places, sources, arguments and copies.
-ghost use Rattle.std.specs.Prelude.{◌+◌, ◌<◌, ◌^◌};
+ghost use Rattle.std.specs.Prelude.{◌≡◌, ◌+◌, ◌<◌, ◌^◌};
 ghost use Rattle.graphql_names.specs.NameSyntax.{IsName};
 
 use crate::hold::{are_alike, hold, is_copied};
@@ -31,6 +31,7 @@ fn scalar(alloc: Global, read: bool) -> Result<Node<ScalarTypeDefinition>, Alloc
 /// So many bytes of the file from this offset on.
 fn place(offset: usize, length: usize) -> SourceSpan
     requires { offset + length < 2 ^ 64 }
+    ensures { result.length ≡ length }
 {
     SourceSpan {
         file_id: FileId(1),
