@@ -1,5 +1,5 @@
 -- A token begins and ends with a byte of ASCII, so that a text may be cut before it and behind it.
-use Rattle.std.proofs.Common.{◌≡◌, ◌⊎◌, ℕ, suc, ◌+◌, ◌-◌, ◌<◌, ◌≤◌, Bool, true, false, cond, ◌||◌, ◌==◌, List, [], ◌∷◌, length, drop, get_or, Option, Some, None, refl, sym, ap, ◌∙◌, subst, inl, inr, arith, one-add, eqb-true, leb-true, IsUtf8, IsCharBoundary}
+use Rattle.std.proofs.Common.{◌≡◌, ◌⊎◌, ℕ, suc, ◌+◌, ◌-◌, ◌<◌, ◌≤◌, Bool, true, false, cond, ◌||◌, ◌==◌, List, [], ◌∷◌, length, drop, get_or, Option, Some, None, sym, ap, ◌∙◌, subst, inl, inr, arith, one-add, eqb-true, leb-true, IsUtf8, IsCharBoundary}
 use Rattle.std.specs.List.{prefix_len}
 use Rattle.std.specs.Char.{is_ascii_alphabetic, is_ascii_digit}
 use Rattle.std.specs.Int.{is_in_range}
@@ -8,34 +8,14 @@ use Rattle.std.proofs.lemmas.List.{get_or-drop, length-drop}
 use Rattle.std.proofs.lemmas.List.Sums.{prefix_len_passes, prefix_len-le-length}
 use Rattle.std.proofs.lemmas.Str.{IsCharBoundary-before_ascii, IsCharBoundary-after_ascii}
 use Rattle.graphql_names.specs.NameSyntax.{is_name_start, is_name_continue}
-use Rattle.graphql_lexer.specs.Bytes.{begins_by, begins_with, ◌>>=◌, run_len}
+use Rattle.graphql_lexer.specs.Bytes.{begins_by, begins_with, run_len}
 use Rattle.graphql_lexer.specs.Numbers.{is_zero, is_point, is_exponent_mark, is_sign, sign_len, whole_len, digits_behind, fraction_len, exponent_len, goes_on, number_kind, number_at}
 use Rattle.graphql_lexer.specs.Strings.{part_len, closed_len, quoted_len}
 use Rattle.graphql_lexer.specs.Blocks.{quotes, block_character_len, block_len}
 use Rattle.graphql_lexer.specs.Tokens.{punctuator, one_byte, of_kind, string_at, token_at}
 use Rattle.graphql_lexer.specs.declared.token.TokenKind.{TokenKind}
 use Rattle.graphql_lexer.specs.declared.token.TokenKind.TheVariants as k
-
--- ---- choices
-
-pub some_if : {A : Type 0} (t : Bool) (x y : A) (other : Option A) → cond t (Some x) other ≡ Some y → ((t ≡ true) × (x ≡ y)) ⊎ (other ≡ Some y)
-some_if true x y other e = inl (refl, cc)
-some_if false x y other e = inr e
-
-pub some_unless : {A : Type 0} (t : Bool) (x : Option A) (y : A) → cond t None x ≡ Some y → x ≡ Some y
-some_unless true x y e = absurd cc
-some_unless false x y e = e
-
-pub choice : {A : Type 0} (t : Bool) (x other : Option A) (y : A) → cond t x other ≡ Some y → ((t ≡ true) × (x ≡ Some y)) ⊎ (other ≡ Some y)
-choice true x other y e = inl (refl, e)
-choice false x other y e = inr e
-
-pub bind_some : {A B : Type 0} (o : Option A) (f : A → Option B) (y : B) → (o >>= f) ≡ Some y → (x : A) × ((o ≡ Some x) × (f x ≡ Some y))
-bind_some None f y e = absurd cc
-bind_some (Some x) f y e = (x, (refl, e))
-
-pub same_some : {A : Type 0} (x y : A) → Some x ≡ Some y → x ≡ y
-same_some x y e = cc
+use Rattle.graphql_lexer.proofs.Choices.{bind_some, choice, same_some, some_if, some_unless}
 
 -- ---- bytes
 

@@ -19,7 +19,8 @@ use Rattle.graphql_lexer.specs.declared.token.TokenKind.TheVariants as k
 use Rattle.graphql_lexer.specs.declared.token.TokenKind.TheVariants.{Name, String, BlockString, Bang, Dollar, Ampersand, OpenParen, CloseParen, Spread, Colon, Equals, At, OpenBracket, CloseBracket, OpenBrace, Pipe, CloseBrace, Int, Float}
 use Rattle.graphql_lexer.specs.declared.terminal.Terminal.{Terminal}
 use Rattle.graphql_lexer.specs.declared.terminal.Terminal.TheVariants as t
-use Rattle.graphql_lexer.proofs.Ends.{some_if, some_unless, choice, bind_some, same_some, of_kind_is, one_byte_is}
+use Rattle.graphql_lexer.proofs.Ends.{of_kind_is, one_byte_is}
+use Rattle.graphql_lexer.proofs.Choices.{some_if, some_unless, choice, bind_some, same_some}
 
 -- ---- words
 
@@ -33,11 +34,11 @@ all_words (w ∷ ws) h text =
     go true here more = here
     go false here more = more
 
-spelled_word : (text : List ℕ) → is_word (spelled words text) ≡ true
+pub spelled_word : (text : List ℕ) → is_word (spelled words text) ≡ true
 unfolding words
 spelled_word text = all_words words refl text
 
-not_word : (symbol other : Terminal) → is_word symbol ≡ true → is_word other ≡ false → symbol ≡ other → ⊥
+pub not_word : (symbol other : Terminal) → is_word symbol ≡ true → is_word other ≡ false → symbol ≡ other → ⊥
 not_word symbol other word other_word e = let both : true ≡ false = sym word ∙ ap is_word e ∙ other_word in absurd cc
 
 word_form : (text : List ℕ) → IsName text → Form (spelled words text) text
@@ -47,7 +48,7 @@ word_form text name = record {
   block = λ e. absurd (not_word (spelled words text) t.BlockString (spelled_word text) refl e);
 }
 
-front_passes : (p : ℕ → Bool) (xs : List ℕ) → list_all p (take (prefix_len p xs) xs) ≡ true
+pub front_passes : (p : ℕ → Bool) (xs : List ℕ) → list_all p (take (prefix_len p xs) xs) ≡ true
 front_passes p [] = refl
 front_passes p (x ∷ xs) = go (p x) refl (front_passes p xs)
   where

@@ -5,7 +5,8 @@ use Rattle.graphql_lexer.specs.Input.{Token, Ending, Ended, NoTokenAt}
 use Rattle.graphql_lexer.specs.Tokens.{ignored_at, token_at}
 use Rattle.graphql_lexer.specs.Lex.{Piece, piece_at, ArePieces, with_token, tokens_among, Lex, NothingBegins}
 use Rattle.graphql_lexer.specs.Cursor.{Rest, rest_from, EndsAs}
-use Rattle.graphql_lexer.proofs.Rests.{piece_takes, rest_piece}
+use Rattle.graphql_lexer.proofs.Rests.{rest_piece}
+use Rattle.graphql_lexer.proofs.Takes.{piece_takes}
 
 -- ---- how a text is lexed
 

@@ -1,92 +1,20 @@
 -- What a `Source` shows, from one token to the next.
-use Rattle.std.proofs.Common.{◌≡◌, ℕ, zero, suc, ◌+◌, ◌-◌, ◌<◌, ◌≤◌, Bool, true, false, ◌&&◌, ◌==◌, cond, List, [], ◌∷◌, length, take, drop, Option, Some, None, refl, sym, ap, ◌∙◌, subst, inl, inr, arith, one-add, add-zero, eqb-true}
-use Rattle.std.specs.List.{prefix_len}
-use Rattle.std.proofs.lemmas.Bool.{and_parts}
+use Rattle.std.proofs.Common.{◌≡◌, ℕ, zero, suc, ◌+◌, ◌-◌, ◌<◌, ◌≤◌, Bool, true, false, ◌&&◌, List, [], ◌∷◌, length, take, drop, Option, Some, None, refl, sym, ap, ◌∙◌, subst, arith, one-add, add-zero}
 use Rattle.std.proofs.lemmas.List.{drop-drop, length-drop, length-take-le}
-use Rattle.std.proofs.lemmas.List.Sums.{prefix_len-le-length}
 use Rattle.std.proofs.lemmas.Bool.{lt-ltb, le-ltb}
 use Rattle.std.specs.Prelude.{nat_lt, not, is_some}
 use Rattle.graphql_lexer.specs.Input.{Token, Ending, Ended, NoTokenAt, Input, next}
-use Rattle.graphql_lexer.specs.Bytes.{begins_with, run_on, run_len}
-use Rattle.graphql_lexer.specs.Blocks.{is_line_feed}
-use Rattle.graphql_lexer.specs.Tokens.{is_ignored_byte, is_in_line, return_len, ignored_at, token_at}
+use Rattle.graphql_lexer.specs.Bytes.{run_on, run_len}
+use Rattle.graphql_lexer.specs.Tokens.{ignored_at, token_at}
 use Rattle.graphql_lexer.specs.Terminals.{terminal_of}
 use Rattle.graphql_lexer.specs.Lex.{Piece, piece_of, piece_at, with_token, past_ignored, NothingBegins}
 use Rattle.graphql_lexer.specs.Cursor.{Rest, rest_by, rest_from, input_from, with_terminal, symbol_at, text_of, skipped, next_offset, is_stuck}
 use Rattle.graphql_lexer.specs.declared.token.TokenKind.{TokenKind}
 use Rattle.graphql_lexer.specs.declared.terminal.Terminal.{Terminal}
-use Rattle.graphql_lexer.specs.Forms.{FirstForm, Taken}
+use Rattle.graphql_lexer.specs.Forms.{FormOf, Taken}
 use Rattle.graphql_lexer.proofs.Forms.{token_form}
-use Rattle.graphql_lexer.proofs.Ends.{token_ends, some_if}
-
--- ---- how long pieces are
-
--- some bytes, of which there are enough
-pub record Takes (bytes : List ℕ) (n : ℕ) : Type 0 where
-  pub some : 0 < n
-  pub within : n ≤ length bytes
-
-takes_one : (b : ℕ) (bytes : List ℕ) → Takes (b ∷ bytes) 1
-takes_one b bytes = record { some = omega arith; within = omega arith }
-
-takes_return : (b : ℕ) (bytes : List ℕ) → Takes (b ∷ bytes) (return_len bytes)
-takes_return b [] = takes_one b []
-takes_return b (c ∷ bytes) = go (is_line_feed c)
-  where
-    go : (t : Bool) → Takes (b ∷ c ∷ bytes) (cond t 2 1)
-    go true = record { some = omega arith; within = omega arith }
-    go false = takes_one b (c ∷ bytes)
-
-takes_mark : (b : ℕ) (bytes : List ℕ) → begins_with (187 ∷ 191 ∷ []) bytes ≡ true → Takes (b ∷ bytes) 3
-takes_mark b [] h = absurd cc
-takes_mark b (c ∷ []) h = let p = (and_parts (c == 187) false h).1 in absurd cc
-takes_mark b (c ∷ d ∷ bytes) h = record { some = omega arith; within = omega arith }
-
-takes_line : (b : ℕ) (bytes : List ℕ) → is_in_line b ≡ true → Takes (b ∷ bytes) (prefix_len is_in_line (b ∷ bytes))
-takes_line b bytes h =
-    let more : prefix_len is_in_line (b ∷ bytes) ≡ suc (prefix_len is_in_line bytes) = rw h (one-add (prefix_len is_in_line bytes)) in
-    let fits : prefix_len is_in_line bytes ≤ length bytes = prefix_len-le-length is_in_line bytes in
-    record { some = omega arith; within = omega arith }
-
-takes_comment : (b : ℕ) (bytes : List ℕ) → (b == 35) ≡ true → Takes (b ∷ bytes) (prefix_len is_in_line (b ∷ bytes))
-takes_comment b bytes h = let is : b ≡ 35 = eqb-true b 35 h in subst (λ (c : ℕ). Takes (c ∷ bytes) (prefix_len is_in_line (c ∷ bytes))) (sym is) (takes_line 35 bytes refl)
-
-ignored_takes : (bytes : List ℕ) (n : ℕ) → ignored_at bytes ≡ Some n → Takes bytes n
-unfolding ignored_at
-ignored_takes [] n h = absurd cc
-ignored_takes (b ∷ bytes) n h = elim (some_if (is_ignored_byte b) 1 n _ h) [
-  | inl e ↦ subst (Takes (b ∷ bytes)) e.1 (takes_one b bytes)
-  | inr h ↦ elim (some_if (b == 13) (return_len bytes) n _ h) [
-    | inl e ↦ subst (Takes (b ∷ bytes)) e.1 (takes_return b bytes)
-    | inr h ↦ elim (some_if (b == 35) (prefix_len is_in_line (b ∷ bytes)) n _ h) [
-      | inl e ↦ subst (Takes (b ∷ bytes)) e.1 (takes_comment b bytes e.0)
-      | inr h ↦ elim (some_if (b == 239 && begins_with (187 ∷ 191 ∷ []) bytes) 3 n None h) [
-        | inl e ↦ subst (Takes (b ∷ bytes)) e.1 (takes_mark b bytes (and_parts (b == 239) _ e.0).1)
-        | inr h ↦ absurd cc
-      ]
-    ]
-  ]
-]
-
-pub piece_takes : (bytes : List ℕ) (p : Piece) → piece_at bytes ≡ Some p → Takes bytes p.length
-unfolding piece_at
-piece_takes bytes p h = go (ignored_at bytes) (token_at bytes) refl refl h
-  where
-    go : (o : Option ℕ) (t : Option (TokenKind × ℕ)) → ignored_at bytes ≡ o → token_at bytes ≡ t → piece_of o t ≡ Some p → Takes bytes p.length
-    go None None i e is = absurd cc
-    go None (Some t) i e is =
-        let ends = (token_ends bytes t e).ends in
-        let same : t.1 ≡ p.length = ap (λ (q : Piece). q.length) (same_piece (record { kind = Some t.0; length = t.1 }) p is) in
-        subst (Takes bytes) same (record { some = ends.some; within = ends.within })
-      where
-        same_piece : (p q : Piece) → Some p ≡ Some q → p ≡ q
-        same_piece p q e = cc
-    go (Some n) t i e is =
-        let same : n ≡ p.length = ap (λ (q : Piece). q.length) (same_piece (record { kind = None; length = n }) p is) in
-        subst (Takes bytes) same (ignored_takes bytes n i)
-      where
-        same_piece : (p q : Piece) → Some p ≡ Some q → p ≡ q
-        same_piece p q e = cc
+use Rattle.graphql_lexer.proofs.Ends.{token_ends}
+use Rattle.graphql_lexer.proofs.Takes.{piece_takes}
 
 -- ---- one piece more
 
@@ -299,16 +227,20 @@ token_is bytes kind n token found is =
     let size : n ≡ length token = sym (ap (length {A = ℕ}) is ∙ length-take-le n bytes (token_ends bytes (kind, n) found).ends.within) in
     (found ∙ ap (λ (m : ℕ). Some (kind, m)) size, is ∙ ap (λ (m : ℕ). take m bytes) size)
 
-pub first_form : (text : List ℕ) (at last : ℕ) → ignored_at (drop at text) ≡ None → FirstForm (input_from last at text).ahead
+-- the text of the next token
+abbrev pub HasForm : Input → Type 0
+HasForm i = FormOf (next i) (text_of i.ahead)
+
+pub first_form : (text : List ℕ) (at last : ℕ) → ignored_at (drop at text) ≡ None → HasForm (input_from last at text)
 first_form text at last none = go (token_at (drop at text)) refl
   where
-    go : (o : Option (TokenKind × ℕ)) → token_at (drop at text) ≡ o → FirstForm (input_from last at text).ahead
-    go None e = subst (λ (i : Input). FirstForm i.ahead) (sym (input_none text at last none e)) tt
+    go : (o : Option (TokenKind × ℕ)) → token_at (drop at text) ≡ o → HasForm (input_from last at text)
+    go None e = subst HasForm (sym (input_none text at last none e)) tt
     go (Some token) e =
         let bytes : List ℕ = drop at text in
         let is = token_is bytes token.0 token.1 (take token.1 bytes) e refl in
         let taken : Taken (terminal_of token.0 (take token.1 bytes)) (take token.1 bytes) = record { bytes = bytes; kind = token.0; found = is.0; front = is.1; is = refl } in
-        subst (λ (i : Input). FirstForm i.ahead) (sym (input_token text at last 0 token.0 token.1 none e)) (token_form bytes token e, taken)
+        subst HasForm (sym (input_token text at last 0 token.0 token.1 none e)) (token_form bytes token e, taken)
 
 -- ---- the next token of a text
 

@@ -1,10 +1,9 @@
 -- What the text of a token is, by its terminal symbol.
-use Rattle.std.specs.Prelude.{◌≡◌, ◌≤◌, ◌<◌, ℕ, ◌+◌, ◌-◌, Bool, true, false, List, [], ◌∷◌, ◌++◌, length, take, slice_index, Some}
+use Rattle.std.specs.Prelude.{◌≡◌, ◌≤◌, ◌<◌, ℕ, ◌+◌, ◌-◌, Bool, true, false, List, [], ◌∷◌, ◌++◌, length, take, slice_index, Option, Some, None}
 use Rattle.graphql_names.specs.NameSyntax.{IsName}
 use Rattle.graphql_lexer.specs.Blocks.{quotes}
 use Rattle.graphql_lexer.specs.Tokens.{token_at}
 use Rattle.graphql_lexer.specs.Terminals.{terminal_of}
-use Rattle.graphql_lexer.specs.Input.{Token}
 use Rattle.graphql_lexer.specs.declared.token.TokenKind.{TokenKind}
 use Rattle.graphql_lexer.specs.declared.terminal.Terminal.{Terminal}
 use Rattle.graphql_lexer.specs.declared.terminal.Terminal.TheVariants.{Bang, Dollar, Ampersand, OpenParen, CloseParen, Spread, Colon, Equals, At, OpenBracket, CloseBracket, OpenBrace, Pipe, CloseBrace, Int, Float, String, BlockString}
@@ -49,10 +48,10 @@ pub record Form (symbol : Terminal) (text : List ℕ) : Type 0 where
   pub string : symbol ≡ String → Enclosed (34 ∷ []) text
   pub block : symbol ≡ BlockString → Enclosed quotes text
 
--- the first token's text has the form of its symbol, and is taken as one
-abbrev pub FirstForm : List Token → Type 0
-FirstForm [] = Unit {0}
-FirstForm (t ∷ ts) = Form t.kind t.text × Taken t.kind t.text
+-- the text of a token of this symbol, where there is one
+abbrev pub FormOf : Option Terminal → List ℕ → Type 0
+FormOf None text = Unit {0}
+FormOf (Some symbol) text = Form symbol text × Taken symbol text
 
 -- marks of this length stand at both ends, for the private functions that take them off
 pub record Marked (n : ℕ) (text : List ℕ) : Type 0 where

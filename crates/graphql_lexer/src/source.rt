@@ -2,7 +2,7 @@
 ghost use Rattle.std.specs.Prelude.{◌≡◌, ◌≤◌, length, drop};
 ghost use Rattle.graphql_lexer.specs.Input as input;
 ghost use Rattle.graphql_lexer.specs.Cursor as spec;
-ghost use Rattle.graphql_lexer.specs.Forms.{FirstForm};
+ghost use Rattle.graphql_lexer.specs.Forms.{FormOf};
 
 use crate::next::{past_ignored, token_from, token_text};
 use crate::terminal::Terminal;
@@ -77,7 +77,7 @@ impl<'a> Source<'a> {
     pub fn skip(&mut self) -> &'a str
         ensures text { result.now ≡ spec.text_of self.old.ahead }
         ensures behind { self.new ≡ spec.skipped self.old }
-        ensures form { FirstForm self.old.ahead }
+        ensures form { FormOf (input.next self.old) result.now }
     {
         let Some((_, length)) = self.next else {
             return "";

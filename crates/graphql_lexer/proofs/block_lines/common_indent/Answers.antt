@@ -1,7 +1,7 @@
 use Rattle.std.proofs.Common.{ℕ, Option, sym, ap, ◌∙◌}
 use Rattle.graphql_lexer.specs.Blocks.{lines_of, common_indent}
 use Rattle.graphql_lexer.specs.Values.{least_of}
-use Rattle.graphql_lexer.proofs.Lines.{common_step, common_end, empty_is}
+use Rattle.graphql_lexer.proofs.LineSteps.{common_step, common_end, empty_is}
 use Rattle.graphql_lexer.proofs.block_lines.common_indent.Goals as goal
 
 pub lines-preserved : goal.lines-preserved

@@ -1,7 +1,7 @@
 use Rattle.std.proofs.Common.{ℕ, ◌+◌, length, sym, ap, ◌∙◌}
 use Rattle.graphql_lexer.specs.Blocks.{lines_of}
 use Rattle.graphql_lexer.specs.Values.{kept_of}
-use Rattle.graphql_lexer.proofs.Lines.{kept_start, kept_step, kept_end, empty_is, full_is, fits_more, fits_none}
+use Rattle.graphql_lexer.proofs.LineSteps.{kept_start, kept_step, kept_end, empty_is, full_is, fits_more, fits_none}
 use Rattle.graphql_lexer.proofs.block_lines.kept_lines.Goals as goal
 
 pub lines-init : goal.lines-init

@@ -2,7 +2,8 @@ use Rattle.std.proofs.Common.{◌≡◌, ℕ, List, ◌++◌, sym, ap, ◌∙◌
 use Rattle.std.specs.String.{string_bytes}
 use Rattle.graphql_lexer.specs.Blocks.{lines_of, is_blank, common_indent, or_zero, without_blank_front, without_blank_back, block_string_value}
 use Rattle.graphql_lexer.specs.Values.{Cut, AtMost, further_lines, kept_from, first_kept}
-use Rattle.graphql_lexer.proofs.Lines.{value_is, blank_value, full_value, at_most_own, on_ok_then, added}
+use Rattle.graphql_lexer.proofs.Lines.{value_is, at_most_own}
+use Rattle.graphql_lexer.proofs.LineSteps.{blank_value, full_value, on_ok_then, added}
 use Rattle.graphql_lexer.proofs.block_lines.push_block.Goals as goal
 
 pub push_from-requires : goal.push_from-requires

@@ -2,7 +2,7 @@ use Rattle.std.proofs.Common.{◌≡◌, ℕ, List, [], ◌++◌, drop, sym, ap,
 use Rattle.std.specs.String.{string_bytes}
 use Rattle.graphql_lexer.specs.Blocks.{lines_of, is_blank, without_blank_front, without_blank_back}
 use Rattle.graphql_lexer.specs.Values.{Cut, further_lines, kept_from}
-use Rattle.graphql_lexer.proofs.Lines.{ready_first, under_behind, front_step, front_end, front_here, empty_is, on_ok_then, added}
+use Rattle.graphql_lexer.proofs.LineSteps.{ready_first, under_behind, front_step, front_end, front_here, empty_is, on_ok_then, added}
 use Rattle.graphql_lexer.proofs.block_lines.push_from.Goals as goal
 
 pub lines-init : goal.lines-init

@@ -4,7 +4,7 @@ use denote.Shadow.{shadow}
 use Rattle.std.specs.String.{string_bytes}
 use Rattle.graphql_lexer.specs.Blocks.{lines_of, without_blank_front}
 use Rattle.graphql_lexer.specs.Values.{kept_from}
-use Rattle.graphql_lexer.proofs.Lines.{Ready}
+use Rattle.graphql_lexer.proofs.LineSteps.{Ready}
 use Rattle.graphql_lexer.proofs.block_lines.push_from.Given as goal
 
 abbrev pub invariant-lines : goal.invariant-lines

@@ -2,7 +2,7 @@ use Rattle.std.proofs.Common.{◌≡◌, ℕ, suc, ◌-◌, List, ◌∷◌, ◌
 use Rattle.std.specs.String.{string_bytes}
 use Rattle.graphql_lexer.specs.Blocks.{lines_of, without_blank_back}
 use Rattle.graphql_lexer.specs.Values.{Cut, further_lines}
-use Rattle.graphql_lexer.proofs.Lines.{Ready, ready_start, ready_first, ready_more, back_taken, further_more}
+use Rattle.graphql_lexer.proofs.LineSteps.{Ready, ready_start, ready_first, ready_more, back_taken, further_more}
 use Rattle.graphql_lexer.proofs.block_lines.push_kept.Goals as goal
 
 pub lines-init : goal.lines-init

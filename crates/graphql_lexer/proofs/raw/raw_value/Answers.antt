@@ -1,7 +1,8 @@
 use Rattle.std.proofs.Common.{ℕ, List, [], ◌++◌, take, sym, ap, ◌∙◌, arith}
 use Rattle.std.specs.String.{string_bytes}
 use Rattle.graphql_lexer.specs.Blocks.{block_character_at}
-use Rattle.graphql_lexer.proofs.Values.{Begins, plain_of, block_keeps, character_ends, plain_utf8, plain_begins, plain_within, plain_so_far, piece_utf8, piece_shorter, piece_so_far, begins_now, so_far_end}
+use Rattle.graphql_lexer.proofs.Values.{block_keeps, character_ends}
+use Rattle.graphql_lexer.proofs.Pieces.{Begins, plain_of, plain_utf8, plain_begins, plain_within, plain_so_far, piece_utf8, piece_shorter, piece_so_far, begins_now, so_far_end}
 use Rattle.graphql_lexer.proofs.raw.raw_value.Goals as goal
 
 pub characters-init : goal.characters-init

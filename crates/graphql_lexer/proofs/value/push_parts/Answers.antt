@@ -1,7 +1,8 @@
 use Rattle.std.proofs.Common.{sym, ◌∙◌, arith}
 use Rattle.std.specs.String.{string_bytes}
 use Rattle.graphql_lexer.specs.Strings.{part_at}
-use Rattle.graphql_lexer.proofs.Values.{Begins, part_keeps, part_ends, plain_utf8, plain_begins, plain_within, plain_so_far, piece_utf8, piece_shorter, piece_so_far, begins_now, so_far_end}
+use Rattle.graphql_lexer.proofs.Values.{part_keeps, part_ends}
+use Rattle.graphql_lexer.proofs.Pieces.{Begins, plain_utf8, plain_begins, plain_within, plain_so_far, piece_utf8, piece_shorter, piece_so_far, begins_now, so_far_end}
 use Rattle.graphql_lexer.proofs.value.push_parts.Goals as goal
 
 pub parts-init : goal.parts-init

@@ -1,8 +1,8 @@
-use Rattle.std.proofs.Common.{ℕ, ◌+◌, sym, ap, ◌∙◌, subst}
-use Rattle.graphql_lexer.specs.Input.{Input}
+use Rattle.std.proofs.Common.{ℕ, List, ◌+◌, sym, ap, ◌∙◌, subst}
+use Rattle.graphql_lexer.specs.Input.{Input, next}
 use Rattle.graphql_lexer.specs.Cursor.{input_from, text_of, skipped}
-use Rattle.graphql_lexer.specs.Forms.{FirstForm}
-use Rattle.graphql_lexer.proofs.Rests.{skip_text, skip_behind, skip_none, first_form}
+use Rattle.graphql_lexer.specs.Forms.{FormOf}
+use Rattle.graphql_lexer.proofs.Rests.{skip_text, skip_behind, skip_none, HasForm, first_form}
 use Rattle.graphql_lexer.proofs.source.Source.skip.Goals as goal
 
 pub returns-in_default-clause-text : goal.returns-in_default-clause-text
@@ -23,7 +23,16 @@ returns-clause-behind c =
     ∙ ap skipped c.self.view_is
 
 pub returns-in_default-clause-form : goal.returns-in_default-clause-form
-returns-in_default-clause-form c = subst (λ (i : Input). FirstForm i.ahead) c.self.view_is (first_form c.self.inside.text.now c.self.inside.at c.self.inside.last c.self.invariant.begins)
+returns-in_default-clause-form c =
+    let text = (skip_none c.self.inside.text.now c.self.inside.at c.self.inside.last c.self.invariant.begins (sym c.self.invariant.token ∙ c.in_default.is)).0
+    ∙ ap (λ (i : Input). text_of i.ahead) c.self.view_is in
+    subst (λ (bytes : List ℕ). FormOf (next c.args.self.now) bytes) (sym text)
+    (subst HasForm c.self.view_is (first_form c.self.inside.text.now c.self.inside.at c.self.inside.last c.self.invariant.begins))
 
 pub returns-clause-form : goal.returns-clause-form
-returns-clause-form c = subst (λ (i : Input). FirstForm i.ahead) c.self.view_is (first_form c.self.inside.text.now c.self.inside.at c.self.inside.last c.self.invariant.begins)
+returns-clause-form c =
+    let text = c.token_text-token.ensures
+    ∙ skip_text c.self.inside.text.now c.self.inside.at c.self.inside.last _ c.self.invariant.begins (sym c.self.invariant.token ∙ c.in-Some.is)
+    ∙ ap (λ (i : Input). text_of i.ahead) c.self.view_is in
+    subst (λ (bytes : List ℕ). FormOf (next c.args.self.now) bytes) (sym text)
+    (subst HasForm c.self.view_is (first_form c.self.inside.text.now c.self.inside.at c.self.inside.last c.self.invariant.begins))
