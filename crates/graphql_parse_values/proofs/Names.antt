@@ -1,10 +1,10 @@
 -- A name that is taken is the rule's.
-use Rattle.std.proofs.Common.{◌≡◌, ℕ, ◌+◌, ◌-◌, true, List, [], ◌∷◌, length, Some, Ok, refl, sym, ap, ◌∙◌, arith}
+use Rattle.std.proofs.Common.{◌≡◌, ℕ, ◌+◌, ◌-◌, true, List, [], ◌∷◌, length, Option, Some, None, Ok, refl, sym, ap, ◌∙◌, arith}
 use Rattle.graphql_names.specs.NameSyntax.{IsName}
 use Rattle.graphql_names.specs.declared.span.FileId.{FileId}
 use Rattle.graphql_values.specs.Placed.{Place, Text}
 use Rattle.graphql_lexer.specs.Cursor.{skipped, skipped_in, text_of}
-use Rattle.graphql_lexer.specs.Forms.{is_word, FirstForm}
+use Rattle.graphql_lexer.specs.Forms.{is_word, FormOf}
 use Rattle.graphql_lexer.specs.Input.{Token, Input, next, next_of, end_of}
 use Rattle.graphql_lexer.specs.declared.terminal.Terminal.{Terminal}
 use Rattle.graphql_grammar.specs.Kinds.{next_is, is_name}
@@ -19,12 +19,12 @@ use Rattle.graphql_parse_values.specs.Meanings.{in_file}
 word_is : (kind : Terminal) → is_name kind ≡ true → is_word kind ≡ true
 word_is kind h = from_subset (next_is is_name) (next_is is_word) refl (Some kind) h
 
-pub first_is_name : (i : Input) → next_is is_name (next i) ≡ true → FirstForm i.ahead → IsName (text_of i.ahead)
-first_is_name i h f = go i.ahead h f
+pub first_is_name : (i : Input) (text : List ℕ) → next_is is_name (next i) ≡ true → FormOf (next i) text → IsName text
+first_is_name i text h f = go (next i) h f
   where
-    go : (ts : List Token) → next_is is_name (next_of ts) ≡ true → FirstForm ts → IsName (text_of ts)
-    go [] h f = absurd cc
-    go (t ∷ ts) h f = f.0.name (word_is t.kind h)
+    go : (n : Option Terminal) → next_is is_name n ≡ true → FormOf n text → IsName text
+    go None h f = absurd cc
+    go (Some kind) h f = f.0.name (word_is kind h)
 
 pub skipped_length : (i : Input) → next_is is_name (next i) ≡ true → (skipped i).last - begin_of i.ahead ≡ length (text_of i.ahead)
 skipped_length i h = go i.ahead h

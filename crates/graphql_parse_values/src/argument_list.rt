@@ -9,7 +9,8 @@ ghost use Rattle.graphql_grammar.specs.ValueReading as reading;
 ghost use Rattle.graphql_parse_values.specs.Meanings.{in_file};
 
 use crate::name_token::name;
-use crate::steps::{begin, expect, next_is_name, open, since, value};
+use crate::steps::{begin, expect, next_is_name, open, since};
+use crate::value_reader::placed_value;
 use graphql_grammar::Stop;
 use graphql_lexer::{Source, Terminal};
 use graphql_names::{FileId, Node};
@@ -30,7 +31,7 @@ fn argument(
     let begin = begin(tokens);
     let name = name(alloc, tokens, file)?;
     expect(tokens, Terminal::Colon)?;
-    let value = value(alloc, tokens, file, constant, depth)?;
+    let value = placed_value(alloc, tokens, file, constant, depth)?;
     let place = since(tokens, file, begin);
     Ok(Node::new_parsed(alloc, Argument { name, value }, place)?)
 }

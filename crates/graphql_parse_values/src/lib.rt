@@ -4,10 +4,18 @@
 mod argument_list;
 mod directive_list;
 mod name_token;
+mod number_token;
 mod steps;
-mod value_list;
+mod string_token;
+mod type_reader;
+mod value_reader;
+mod value_token;
 
 pub use argument_list::arguments;
 pub use directive_list::directives;
 pub use name_token::name;
-pub use value_list::list_value;
+pub use steps::{begin, expect, next_is, next_is_name, open, since};
+pub use string_token::{description, next_is_string};
+pub use type_reader::ty;
+pub use value_reader::{default_value, placed_value};
+pub use value_token::{enum_value, variable};

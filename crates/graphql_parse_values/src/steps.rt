@@ -1,21 +1,15 @@
 //! Steps of a cursor over tokens.
 ghost use Rattle.std.specs.Prelude.{◌≡◌, ◌<◌, ◌-◌, OnOk, Some};
 ghost use Rattle.graphql_lexer.specs.Input as input;
-ghost use Rattle.graphql_values.specs.Placed.{node_tree};
-ghost use Rattle.graphql_values.specs.ValueTree.{value_tree};
 ghost use Rattle.graphql_grammar.specs.Kinds as kinds;
 ghost use Rattle.graphql_grammar.specs.Meaning.{begin_of};
 ghost use Rattle.graphql_grammar.specs.Places.{place_in};
 ghost use Rattle.graphql_grammar.specs.Reading as read;
 ghost use Rattle.graphql_grammar.specs.Reading.{Reads};
-ghost use Rattle.graphql_grammar.specs.ValueReading as reading;
-ghost use Rattle.graphql_parse_values.specs.Meanings.{in_file};
 
 use graphql_grammar::Stop;
 use graphql_lexer::{Source, Terminal};
-use graphql_names::{FileId, Node, SourceSpan};
-use graphql_values::Value;
-use std::alloc::Global;
+use graphql_names::{FileId, SourceSpan};
 
 /// Whether the next token is this terminal.
 pub fn next_is(tokens: &Source<'_>, terminal: Terminal) -> bool
@@ -109,18 +103,4 @@ pub fn since(tokens: &Source<'_>, file: FileId, begin: usize) -> SourceSpan
         offset: begin,
         length: tokens.last().saturating_sub(begin),
     }
-}
-
-/// A value with its place. Not written yet: it stands in for the reader of values and answers want of memory alone.
-pub fn value(
-    _alloc: Global,
-    tokens: &mut Source<'_>,
-    file: FileId,
-    constant: bool,
-    depth: usize,
-) -> Result<Node<Value>, Stop>
-    ensures { Reads (node_tree value_tree) (read.placed (in_file file) (reading.value (in_file file) constant depth) tokens.old) result tokens.new }
-{
-    tokens.skip();
-    Err(Stop::Memory)
 }
