@@ -35,8 +35,8 @@ one_of None h = absurd cc
 one_of (Some kind) h = one_in (is_open_bracket kind) (is_open_brace kind) h
 
 other_of : (n : Option Terminal) → next_is begins_nested n ≡ true → next_is is_open_bracket n ≡ false → next_is is_open_brace n ≡ true
-other_of n h no = elim (one_of n h) [
-  | inl b ↦ let both : true ≡ false = sym b ∙ no in absurd cc
+other_of n h none = elim (one_of n h) [
+  | inl b ↦ let both : true ≡ false = sym b ∙ none in absurd cc
   | inr b ↦ b
 ]
 
@@ -107,18 +107,21 @@ module _ {P : Type 0} (m : Meaning P) where
   value_list c n i lt h = ap (λ (p : Parser (ValueTree P)). p i) (value_above m c n lt) ∙ any_bracket c _ _ i h
 
   pub value_object : (c : Bool) (n : ℕ) (i : Input) → 0 < n → next_is begins_nested (next i) ≡ true → next_is is_open_bracket (next i) ≡ false → v.value m c n i ≡ v.object_value m (v.value m c (n - 1)) i
-  value_object c n i lt h no = ap (λ (p : Parser (ValueTree P)). p i) (value_above m c n lt) ∙ any_brace c _ _ i (other_of (next i) h no)
+  value_object c n i lt h none = ap (λ (p : Parser (ValueTree P)). p i) (value_above m c n lt) ∙ any_brace c _ _ i (other_of (next i) h none)
 
   -- ---- boolean values
+
+  abbrev pub read_false : Parser (ValueTree P)
+  read_false = (λ _. BooleanTree false) <&> mark is_false
 
   pub boolean_true : (i : Input) → next_is is_true (next i) ≡ true → v.boolean_value m i ≡ Ok (BooleanTree true, skipped i)
   unfolding v.boolean_value
   boolean_true i h = rw h (rw (mark_yes is_true i h) refl)
 
-  pub boolean_false : (i : Input) → next_is is_true (next i) ≡ false → v.boolean_value m i ≡ ((λ _. BooleanTree false) <&> mark is_false) i
+  pub boolean_false : (i : Input) → next_is is_true (next i) ≡ false → v.boolean_value m i ≡ read_false i
   unfolding v.boolean_value
   boolean_false i h = rw h (go (next_is is_false (next i)) refl)
     where
-      go : (t : Bool) → next_is is_false (next i) ≡ t → cond t (((λ _. BooleanTree false) <&> mark is_false) i) (Err (Unexpected, i)) ≡ ((λ _. BooleanTree false) <&> mark is_false) i
+      go : (t : Bool) → next_is is_false (next i) ≡ t → cond t (read_false i) (Err (Unexpected, i)) ≡ read_false i
       go true e = refl
       go false e = rw (mark_no is_false i e) refl

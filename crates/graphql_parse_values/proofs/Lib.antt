@@ -1,4 +1,5 @@
 pub mod Arms
+pub mod Leaves
 pub mod Names
 pub mod Numbers
 pub mod Tokens

@@ -12,7 +12,7 @@ use Rattle.graphql_grammar.specs.Kinds.{next_is, is_name, is_bang, is_open_brack
 use Rattle.graphql_grammar.specs.Reading.{Parser, Outcome, and_then, mark, when, try, refuse, too_deep, between, ◌⊙◌, ◌<&>◌}
 use Rattle.graphql_grammar.specs.ValueGrammar.{non_null, type_of}
 use Rattle.graphql_grammar.specs.ValueReading as v
-use Rattle.graphql_grammar.proofs.Moves.{mark_yes, bracketed_is, between_no}
+use Rattle.graphql_grammar.proofs.Moves.{mark_yes, bracketed, bracketed_is, between_no}
 use Rattle.graphql_parse_values.specs.TypeSteps.{bracketed_type, unmarked_type}
 
 sub_one : (n : ℕ) → suc n - 1 ≡ n
@@ -44,8 +44,8 @@ module _ {P : Type 0} (m : Meaning P) where
       listed : Outcome (TypeTree P) → Outcome (TypeTree P)
       listed y = and_then y (λ x o. Ok (types.ListTree x, o))
 
-      lower : _ ≡ bracketed_type m (suc n) i
-      lower = rw (sub_one n) refl
+      lower : bracketed is_open_bracket (suc n) (v.type m n) is_close_bracket i ≡ bracketed_type m (suc n) i
+      lower = ap (λ (h : ℕ). bracketed is_open_bracket (suc n) (v.type m h) is_close_bracket i) (sym (sub_one n))
 
       go : (t : Bool) → next_is is_open_bracket (next i) ≡ t → cond t (listed (between is_open_bracket (v.type m n) is_close_bracket i)) (Err (Unexpected, i)) ≡ listed (between is_open_bracket (v.type m n) is_close_bracket i)
       go true e = refl
@@ -61,7 +61,7 @@ module _ {P : Type 0} (m : Meaning P) where
   type_is (suc n) i = ap (λ (y : Outcome (TypeTree P)). behind (cond (next_is is_name (next i)) ((NamedTree <&> v.name m) i) y)) (in_brackets (suc n) i)
 
   pub type_plain : (n : ℕ) (i k : Input) (x : TypeTree P) → unmarked_type m n i ≡ Ok (x, k) → next_is is_bang (next k) ≡ false → v.type m n i ≡ Ok (x, k)
-  type_plain n i k x h no = type_is n i ∙ ap behind h ∙ rw no refl
+  type_plain n i k x h none = type_is n i ∙ ap behind h ∙ rw none refl
 
   pub type_marked : (n : ℕ) (i k : Input) (x y : TypeTree P) → unmarked_type m n i ≡ Ok (x, k) → next_is is_bang (next k) ≡ true → y ≡ non_null_type x → v.type m n i ≡ Ok (y, skipped k)
   type_marked n i k x y h bang e = type_is n i ∙ ap behind h ∙ rw bang (rw (mark_yes is_bang k bang) (ap (λ (z : TypeTree P). done z (skipped k)) (marked x ∙ sym e)))

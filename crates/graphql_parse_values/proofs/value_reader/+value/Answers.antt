@@ -11,13 +11,13 @@ use Rattle.graphql_grammar.specs.Kinds as kinds
 use Rattle.graphql_grammar.specs.Kinds.{next_is}
 use Rattle.graphql_grammar.specs.Reading as read
 use Rattle.graphql_grammar.specs.ValueReading as reading
-use Rattle.graphql_grammar.proofs.Opened.{value_above}
 use Rattle.graphql_grammar.proofs.Steady.{Steady}
 use Rattle.graphql_grammar.proofs.Parses.{located}
 use Rattle.graphql_grammar.proofs.Values.{value_parses, object_field_parses}
 use Rattle.graphql_grammar.proofs.Views.{items_viewed, entries_viewed}
 use Rattle.graphql_grammar.proofs.Steps.{viewed_turn, viewed_start, turn_stops_with, turns_end, turn_takes}
-use Rattle.graphql_parse_values.specs.Meanings.{in_file, entry_view}
+use Rattle.graphql_parse_values.specs.Meanings.{in_file, entry_view, begins_nested}
+use Rattle.graphql_parse_values.proofs.Arms.{value_plain, value_deep, value_list, value_object}
 use Rattle.graphql_parse_values.proofs.value_reader.+value.Goals as goal
 
 item : (file : FileId) (constant : Bool) (depth : ℕ) → Steady 1 (read.placed (in_file file) (reading.value (in_file file) constant depth)) (read.placed (in_file file) (reading.value (in_file file) constant depth))
@@ -77,3 +77,27 @@ list_value-returns t c = rw (value_tree_list c.in_ok-found.found, ← items_view
 pub object_value-returns : goal.object_value-returns
 unfolding reading.object_value
 object_value-returns t c = rw (value_tree_object c.in_ok-found.found, ← entries_viewed c.in_ok-found.found.items) (search rules)
+
+pub value-returns-then-not-opens_value : goal.value-returns-then-not-opens_value
+value-returns-then-not-opens_value t c =
+    let plain : next_is begins_nested (next c.args.tokens.now) ≡ false = cc in
+    rw (value_plain (in_file c.args.file) c.args.constant c.args.depth c.args.tokens.now plain) c.plain_value.ensures
+
+pub value-returns-then-depth-eq0 : goal.value-returns-then-depth-eq0
+value-returns-then-depth-eq0 t c =
+    let opens : next_is begins_nested (next c.args.tokens.now) ≡ true = cc in
+    let none : c.args.depth ≡ 0 = omega arith in
+    λ other. value_deep (in_file c.args.file) c.args.constant c.args.depth c.args.tokens.now none opens
+
+pub value-returns-then-next_is : goal.value-returns-then-next_is
+value-returns-then-next_is t c =
+    let above : 0 < c.args.depth = omega arith in
+    let goes : next_is kinds.is_open_bracket (next c.args.tokens.now) ≡ true = cc in
+    rw (value_list (in_file c.args.file) c.args.constant c.args.depth c.args.tokens.now above goes) c.list_value.ensures
+
+pub value-returns : goal.value-returns
+value-returns t c =
+    let above : 0 < c.args.depth = omega arith in
+    let opens : next_is begins_nested (next c.args.tokens.now) ≡ true = cc in
+    let other : next_is kinds.is_open_bracket (next c.args.tokens.now) ≡ false = cc in
+    rw (value_object (in_file c.args.file) c.args.constant c.args.depth c.args.tokens.now above opens other) c.object_value.ensures
