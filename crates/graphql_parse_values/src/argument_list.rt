@@ -17,9 +17,25 @@ use graphql_names::{FileId, Node};
 use graphql_values::Argument;
 use std::alloc::Global;
 
-/// Argument: `Name ":" Value`, as a node.
+/// Argument: `Name ":" Value`.
 #[tactic(auto, unfolding(graphql_grammar::specs::ValueReading::argument))]
 fn argument(
+    alloc: Global,
+    tokens: &mut Source<'_>,
+    file: FileId,
+    constant: bool,
+    depth: usize,
+) -> Result<Argument, Stop>
+    ensures { Reads argument_tree (reading.argument (in_file file) constant depth tokens.old) result tokens.new }
+{
+    let name = name(alloc, tokens, file)?;
+    expect(tokens, Terminal::Colon)?;
+    let value = placed_value(alloc, tokens, file, constant, depth)?;
+    Ok(Argument { name, value })
+}
+
+/// An argument with its place.
+fn placed_argument(
     alloc: Global,
     tokens: &mut Source<'_>,
     file: FileId,
@@ -29,11 +45,9 @@ fn argument(
     ensures { Reads (node_tree argument_tree) (read.placed (in_file file) (reading.argument (in_file file) constant depth) tokens.old) result tokens.new }
 {
     let begin = begin(tokens);
-    let name = name(alloc, tokens, file)?;
-    expect(tokens, Terminal::Colon)?;
-    let value = placed_value(alloc, tokens, file, constant, depth)?;
+    let found = argument(alloc, tokens, file, constant, depth)?;
     let place = since(tokens, file, begin);
-    Ok(Node::new_parsed(alloc, Argument { name, value }, place)?)
+    Ok(Node::new_parsed(alloc, found, place)?)
 }
 
 /// One or more arguments.
@@ -51,7 +65,7 @@ fn some_arguments(
     }
     let mut found = Vec::new(alloc);
     'turns: while next_is_name(tokens) {
-        found.push(argument(alloc, tokens, file, constant, depth)?)?;
+        found.push(placed_argument(alloc, tokens, file, constant, depth)?)?;
     }
     Ok(found)
 }

@@ -16,9 +16,31 @@ use graphql_names::{FileId, Node};
 use graphql_values::{Directive, DirectiveList};
 use std::alloc::Global;
 
-/// Directive: `"@" Name Arguments?`, as a node.
+/// Directive: `"@" Name Arguments?`.
 #[tactic(auto, unfolding(graphql_grammar::specs::ValueReading::directive))]
 fn directive(
+    alloc: Global,
+    tokens: &mut Source<'_>,
+    file: FileId,
+    constant: bool,
+    depth: usize,
+) -> Result<Directive, Stop>
+    ensures { Reads directive_tree (reading.directive (in_file file) constant depth tokens.old) result tokens.new }
+{
+    expect(tokens, Terminal::At)?;
+    let name = name(alloc, tokens, file)?;
+    if !next_is(tokens, Terminal::OpenParen) {
+        return Ok(Directive {
+            name,
+            arguments: Vec::new(alloc),
+        });
+    }
+    let arguments = arguments(alloc, tokens, file, constant, depth)?;
+    Ok(Directive { name, arguments })
+}
+
+/// A directive with its place.
+fn placed_directive(
     alloc: Global,
     tokens: &mut Source<'_>,
     file: FileId,
@@ -28,15 +50,9 @@ fn directive(
     ensures { Reads (node_tree directive_tree) (read.placed (in_file file) (reading.directive (in_file file) constant depth) tokens.old) result tokens.new }
 {
     let begin = begin(tokens);
-    expect(tokens, Terminal::At)?;
-    let name = name(alloc, tokens, file)?;
-    let arguments = if next_is(tokens, Terminal::OpenParen) {
-        arguments(alloc, tokens, file, constant, depth)?
-    } else {
-        Vec::new(alloc)
-    };
+    let found = directive(alloc, tokens, file, constant, depth)?;
     let place = since(tokens, file, begin);
-    Ok(Node::new_parsed(alloc, Directive { name, arguments }, place)?)
+    Ok(Node::new_parsed(alloc, found, place)?)
 }
 
 /// Directives: one or more.
@@ -54,7 +70,7 @@ pub fn directives(
     }
     let mut found = Vec::new(alloc);
     'turns: while next_is(tokens, Terminal::At) {
-        found.push(directive(alloc, tokens, file, constant, depth)?)?;
+        found.push(placed_directive(alloc, tokens, file, constant, depth)?)?;
     }
     Ok(DirectiveList(found))
 }

@@ -32,22 +32,22 @@ turns-init c =
 
 pub turns-smaller : goal.turns-smaller
 turns-smaller c =
-    turn_takes kinds.is_name (item c.args.file c.args.constant c.args.depth) c.turns.tokens c.argument.new.tokens (node_tree argument_tree c.in_ok-argument.field-0) c.in_ok-argument.ensures
+    turn_takes kinds.is_name (item c.args.file c.args.constant c.args.depth) c.turns.tokens c.placed_argument.new.tokens (node_tree argument_tree c.in_ok-placed_argument.field-0) c.in_ok-placed_argument.ensures
 
 pub turns-preserved : goal.turns-preserved
 turns-preserved c =
     let yes : next_is kinds.is_name (next c.turns.tokens) ≡ true = cc in
-    rw (c.in_ok-push.ensures.items, map-append (node_tree argument_tree) c.turns.found.items (c.in_ok-argument.field-0 ∷ []))
-    (turn kinds.is_name (item c.args.file c.args.constant c.args.depth) (map (node_tree argument_tree) c.turns.found.items) c.turns.tokens c.argument.new.tokens (node_tree argument_tree c.in_ok-argument.field-0) _ c.turns.invariant yes c.in_ok-argument.ensures)
+    rw (c.in_ok-push.ensures.items, map-append (node_tree argument_tree) c.turns.found.items (c.in_ok-placed_argument.field-0 ∷ []))
+    (turn kinds.is_name (item c.args.file c.args.constant c.args.depth) (map (node_tree argument_tree) c.turns.found.items) c.turns.tokens c.placed_argument.new.tokens (node_tree argument_tree c.in_ok-placed_argument.field-0) _ c.turns.invariant yes c.in_ok-placed_argument.ensures)
 
 pub returns : goal.returns
 returns c =
     let not : next_is kinds.is_name (next c.turns.tokens) ≡ false = cc in
     turns_end kinds.is_name (item c.args.file c.args.constant c.args.depth) (map (node_tree argument_tree) c.turns.found.items) c.turns.tokens _ c.turns.invariant not
 
-pub returns-in_err-argument : goal.returns-in_err-argument
-returns-in_err-argument c =
+pub returns-in_err-placed_argument : goal.returns-in_err-placed_argument
+returns-in_err-placed_argument c =
     let yes : next_is kinds.is_name (next c.turns.tokens) ≡ true = cc in
     let p = err_from_is_err_and c.from_residual.result c.from_residual.ensures.1 in
     rw (p.1, p.2)
-    (turn_stops_with kinds.is_name (item c.args.file c.args.constant c.args.depth) (map (node_tree argument_tree) c.turns.found.items) c.turns.tokens _ c.argument.new.tokens _ c.turns.invariant yes c.in_err-argument.ensures)
+    (turn_stops_with kinds.is_name (item c.args.file c.args.constant c.args.depth) (map (node_tree argument_tree) c.turns.found.items) c.turns.tokens _ c.placed_argument.new.tokens _ c.turns.invariant yes c.in_err-placed_argument.ensures)

@@ -33,22 +33,22 @@ turns-init c =
 
 pub turns-smaller : goal.turns-smaller
 turns-smaller c =
-    turn_takes kinds.is_at (item c.args.file c.args.constant c.args.depth) c.turns.tokens c.directive.new.tokens (node_tree directive_tree c.in_ok-directive.field-0) c.in_ok-directive.ensures
+    turn_takes kinds.is_at (item c.args.file c.args.constant c.args.depth) c.turns.tokens c.placed_directive.new.tokens (node_tree directive_tree c.in_ok-placed_directive.field-0) c.in_ok-placed_directive.ensures
 
 pub turns-preserved : goal.turns-preserved
 turns-preserved c =
     let yes : next_is kinds.is_at (next c.turns.tokens) ≡ true = cc in
     rw c.in_ok-push.ensures.items
-    (viewed_turn (node_tree directive_tree) kinds.is_at (item c.args.file c.args.constant c.args.depth) c.turns.found.items c.turns.tokens c.directive.new.tokens c.in_ok-directive.field-0 _ c.turns.invariant yes c.in_ok-directive.ensures)
+    (viewed_turn (node_tree directive_tree) kinds.is_at (item c.args.file c.args.constant c.args.depth) c.turns.found.items c.turns.tokens c.placed_directive.new.tokens c.in_ok-placed_directive.field-0 _ c.turns.invariant yes c.in_ok-placed_directive.ensures)
 
 pub returns : goal.returns
 returns c =
     let not : next_is kinds.is_at (next c.turns.tokens) ≡ false = cc in
     turns_end kinds.is_at (item c.args.file c.args.constant c.args.depth) (map (node_tree directive_tree) c.turns.found.items) c.turns.tokens _ c.turns.invariant not
 
-pub returns-in_err-directive : goal.returns-in_err-directive
-returns-in_err-directive c =
+pub returns-in_err-placed_directive : goal.returns-in_err-placed_directive
+returns-in_err-placed_directive c =
     let yes : next_is kinds.is_at (next c.turns.tokens) ≡ true = cc in
     let p = err_from_is_err_and c.from_residual.result c.from_residual.ensures.1 in
     rw (p.1, p.2)
-    (turn_stops_with kinds.is_at (item c.args.file c.args.constant c.args.depth) (map (node_tree directive_tree) c.turns.found.items) c.turns.tokens _ c.directive.new.tokens _ c.turns.invariant yes c.in_err-directive.ensures)
+    (turn_stops_with kinds.is_at (item c.args.file c.args.constant c.args.depth) (map (node_tree directive_tree) c.turns.found.items) c.turns.tokens _ c.placed_directive.new.tokens _ c.turns.invariant yes c.in_err-placed_directive.ensures)
