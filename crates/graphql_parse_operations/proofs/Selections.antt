@@ -1,12 +1,22 @@
 -- Selections are read part by part.
-use Rattle.std.proofs.Common.{◌≡◌, ◌⊎◌, ℕ, Bool, true, false, cond, Option, Some, None, Ok, Err, inl, inr, refl}
+use Rattle.std.proofs.Common.{◌≡◌, ◌⊎◌, ℕ, Bool, true, false, cond, Option, Some, None, Ok, Err, inl, inr, refl, ap, ◌∙◌}
 use Rattle.std.specs.Prelude.{[], unwrap_or}
-use Rattle.graphql_values.specs.Placed.{Placed, Text}
-use Rattle.graphql_values.specs.DirectiveTree.{Arguments, Directives}
-use Rattle.graphql_values.specs.SelectionTree.{FieldHead, SelectionTree, SelectionTrees, FieldTree, SpreadTree, InlineTree, no_selections}
+use Rattle.graphql_names.specs.Node.{content, place}
+use Rattle.graphql_names.specs.declared.node.Node.{Node}
+use Rattle.graphql_values.specs.Placed.{Placed, Place, Text, name_tree}
+use Rattle.graphql_values.specs.DirectiveTree.{Arguments, Directives, directives_tree}
+use Rattle.graphql_values.specs.SelectionTree.{FieldHead, SelectionTree, SelectionTrees, FieldTree, SpreadTree, InlineTree, no_selections, AtPlace, field_step, inline_step, selection_step, selection_tree}
+use Rattle.graphql_values.specs.declared.selection.Selection.{Selection}
+use Rattle.graphql_values.specs.declared.selection.Field.{Field}
+use Rattle.graphql_values.specs.declared.selection.FragmentSpread.{FragmentSpread}
+use Rattle.graphql_values.specs.declared.selection.InlineFragment.{InlineFragment}
+use Rattle.graphql_values.specs.declared.selection.Selection.TheVariants.{FragmentSpread as Spread}
+use Rattle.graphql_values.specs.declared.selection.Selection.TheViews.{outs-FragmentSpread}
+use Rattle.graphql_values.specs.declared.selection.Selection.TheFolds.{map-Selection, fold_out-Selection}
+use Rattle.graphql_values.proofs.Trees.{field_at, inline_at}
 use Rattle.graphql_lexer.specs.Input.{Input, next}
 use Rattle.graphql_grammar.specs.Meaning.{Meaning, place_between}
-use Rattle.graphql_grammar.specs.Kinds.{next_is, is_on, is_at, is_spread, is_fragment_name, is_open_paren, is_open_brace}
+use Rattle.graphql_grammar.specs.Kinds.{next_is, is_on, is_at, is_spread, is_fragment_name, is_name, is_open_paren, is_open_brace}
 use Rattle.graphql_grammar.specs.OperationGrammar.{field_of}
 use Rattle.graphql_grammar.specs.OperationReading as o
 use Rattle.graphql_grammar.specs.OperationReading.{Dotted, dotted_of}
@@ -75,6 +85,19 @@ module _ {P : Type 0} (m : Meaning P) where
       two u false a (Err e) = refl
 
       go : (y : Outcome (Unit {0})) → and_then (and_then (and_then y (λ u k. and_then (o.dotted m n s k) (λ x z. done (u, x) z))) (λ x z. done (put x (place_between m i z)) z)) (λ x z. done (dotted_of x) z) ≡ dots_from n s i y
-      unfolding o.dotted
       go (Err e) = refl
       go (Ok k) = two k.0 (next_is is_fragment_name (next k.1)) ((o.fragment_name m ⊙ try is_at (directives m with_variables n)) k.1) ((try is_on (o.type_condition m) ⊙ try is_at (directives m with_variables n) ⊙ s) k.1)
+
+  pub selection_field : (n : ℕ) (s : Parser (SelectionTrees P)) (i : Input) → next_is is_name (next i) ≡ true → o.selection m n s i ≡ o.field m n s i
+  unfolding o.selection
+  selection_field n s i h = rw h refl
+
+  pub selection_dots : (n : ℕ) (s : Parser (SelectionTrees P)) (i : Input) → next_is is_name (next i) ≡ false → o.selection m n s i ≡ dots m n s i
+  unfolding o.selection
+  selection_dots n s i h = rw h refl
+
+-- the tree of a fragment spread
+pub selection_tree_spread : (n : Node FragmentSpread) → selection_tree (Spread n) ≡ SpreadTree (place n) (name_tree (content n).fragment_name) (directives_tree (content n).directives)
+selection_tree_spread n =
+    fold_out-Selection (SelectionTree Place) AtPlace AtPlace selection_step field_step inline_step (Spread n)
+    ∙ ap (λ x. selection_step (map-Selection Selection Field InlineFragment (SelectionTree Place) AtPlace AtPlace selection_tree field_at inline_at x)) (outs-FragmentSpread n)
