@@ -1,0 +1,6 @@
+pub mod Arms
+pub mod Leaves
+pub mod Names
+pub mod Numbers
+pub mod Tokens
+pub mod Types

@@ -1,0 +1,37 @@
+//! Numbers (sections 2.9.1 and 2.9.2).
+ghost use Rattle.std.specs.Prelude.{◌≡◌};
+ghost use Rattle.graphql_values.specs.ValueTree.{value_tree};
+ghost use Rattle.graphql_grammar.specs.Reading.{Reads};
+ghost use Rattle.graphql_grammar.specs.ValueReading as reading;
+ghost use Rattle.graphql_parse_values.specs.Meanings.{in_file};
+
+use crate::steps::next_is;
+use graphql_grammar::Stop;
+use graphql_lexer::{Source, Terminal};
+use graphql_names::FileId;
+use graphql_values::{FloatValue, IntValue, Value};
+use std::alloc::Global;
+
+/// IntValue.
+#[tactic(auto, using(crate::proofs::Tokens::next_is_int, crate::proofs::Tokens::int_refused))]
+pub fn int_value(alloc: Global, tokens: &mut Source<'_>, file: FileId) -> Result<Value, Stop>
+    ensures { Reads value_tree (reading.int_value (in_file file) tokens.old) result tokens.new }
+{
+    if !next_is(tokens, Terminal::Int) {
+        return Err(Stop::Unexpected);
+    }
+    let text = tokens.skip();
+    Ok(Value::Int(IntValue::new_parsed(alloc, text)?))
+}
+
+/// FloatValue.
+#[tactic(auto, using(crate::proofs::Tokens::next_is_float, crate::proofs::Tokens::float_refused))]
+pub fn float_value(alloc: Global, tokens: &mut Source<'_>, file: FileId) -> Result<Value, Stop>
+    ensures { Reads value_tree (reading.float_value (in_file file) tokens.old) result tokens.new }
+{
+    if !next_is(tokens, Terminal::Float) {
+        return Err(Stop::Unexpected);
+    }
+    let text = tokens.skip();
+    Ok(Value::Float(FloatValue::new_parsed(alloc, text)?))
+}

@@ -1,0 +1,79 @@
+//! References to types (section 2.11).
+ghost use Rattle.std.specs.Prelude.{◌≡◌};
+ghost use Rattle.graphql_values.specs.Placed.{node_tree};
+ghost use Rattle.graphql_values.specs.TypeTree.{type_tree};
+ghost use Rattle.graphql_grammar.specs.Reading as read;
+ghost use Rattle.graphql_grammar.specs.Reading.{Reads};
+ghost use Rattle.graphql_grammar.specs.ValueReading as reading;
+ghost use Rattle.graphql_parse_values.specs.Meanings.{in_file};
+ghost use Rattle.graphql_parse_values.specs.TypeSteps.{bracketed_type, unmarked_type};
+
+use crate::name_token::name;
+use crate::steps::{begin, expect, next_is, next_is_name, open, since};
+use graphql_grammar::Stop;
+use graphql_lexer::{Source, Terminal};
+use graphql_names::{FileId, Node};
+use graphql_values::Type;
+use std::alloc::Global;
+
+/// A type in brackets: `"[" Type "]"`.
+#[cycle(ty)]
+fn bracketed(
+    alloc: Global,
+    tokens: &mut Source<'_>,
+    file: FileId,
+    depth: usize,
+) -> Result<Type, Stop>
+    ensures { Reads type_tree (bracketed_type (in_file file) depth tokens.old) result tokens.new }
+{
+    open(tokens, Terminal::OpenBracket, depth)?;
+    let found = ty(alloc, tokens, file, depth - 1)?;
+    expect(tokens, Terminal::CloseBracket)?;
+    Ok(found)
+}
+
+/// A type without the mark `!` behind it.
+#[cycle(ty)]
+#[tactic(auto, using(graphql_values::proofs::Trees::type_tree_rules))]
+fn unmarked(
+    alloc: Global,
+    tokens: &mut Source<'_>,
+    file: FileId,
+    depth: usize,
+) -> Result<Type, Stop>
+    ensures { Reads type_tree (unmarked_type (in_file file) depth tokens.old) result tokens.new }
+{
+    if next_is_name(tokens) {
+        return Ok(Type::Named(name(alloc, tokens, file)?));
+    }
+    let item = bracketed(alloc, tokens, file, depth)?;
+    Ok(item.list(alloc)?)
+}
+
+/// Type: `(Name / "[" Type "]") "!"?`.
+#[cycle(ty)]
+pub fn ty(alloc: Global, tokens: &mut Source<'_>, file: FileId, depth: usize) -> Result<Type, Stop>
+    ensures { Reads type_tree (reading.type (in_file file) depth tokens.old) result tokens.new }
+{
+    let found = unmarked(alloc, tokens, file, depth)?;
+    if !next_is(tokens, Terminal::Bang) {
+        return Ok(found);
+    }
+    tokens.skip();
+    Ok(found.non_null())
+}
+
+/// A type with its place.
+pub fn placed_type(
+    alloc: Global,
+    tokens: &mut Source<'_>,
+    file: FileId,
+    depth: usize,
+) -> Result<Node<Type>, Stop>
+    ensures { Reads (node_tree type_tree) (read.placed (in_file file) (reading.type (in_file file) depth) tokens.old) result tokens.new }
+{
+    let begin = begin(tokens);
+    let found = ty(alloc, tokens, file, depth)?;
+    let place = since(tokens, file, begin);
+    Ok(Node::new_parsed(alloc, found, place)?)
+}
