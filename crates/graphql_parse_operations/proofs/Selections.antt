@@ -13,7 +13,7 @@ use Rattle.graphql_operations.specs.declared.selection.InlineFragment.{InlineFra
 use Rattle.graphql_operations.specs.declared.selection.Selection.TheVariants.{FragmentSpread as Spread}
 use Rattle.graphql_operations.specs.declared.selection.Selection.TheViews.{outs-FragmentSpread}
 use Rattle.graphql_operations.specs.declared.selection.Selection.TheFolds.{map-Selection, fold_out-Selection}
-use Rattle.graphql_values.proofs.Trees.{field_at, inline_at}
+use Rattle.graphql_operations.proofs.SelectionTrees.{field_at, inline_at}
 use Rattle.graphql_lexer.specs.Input.{Input, next}
 use Rattle.graphql_grammar.specs.Meaning.{Meaning, place_between}
 use Rattle.graphql_grammar.specs.Kinds.{next_is, is_on, is_at, is_spread, is_fragment_name, is_name, is_open_paren, is_open_brace}

@@ -34,7 +34,7 @@ fn bracketed(
 
 /// A type without the mark `!` behind it.
 #[cycle(ty)]
-#[tactic(auto, using(graphql_values::proofs::Trees::type_tree_rules))]
+#[tactic(auto, using(graphql_literals::proofs::Trees::type_tree_rules))]
 fn unmarked(
     alloc: Global,
     tokens: &mut Source<'_>,

@@ -12,7 +12,7 @@ use Rattle.graphql_grammar.proofs.Steady.{Steady}
 use Rattle.graphql_grammar.proofs.Steps.{viewed_turn, turn_stops_with, turns_end, turn_takes, some_starts, some_not}
 use Rattle.graphql_grammar.proofs.Opened.{selection_set_is}
 use Rattle.graphql_grammar.proofs.Views.{selections_viewed}
-use Rattle.graphql_values.proofs.Trees.{selection_tree_field, selection_tree_inline}
+use Rattle.graphql_operations.proofs.SelectionTrees.{selection_tree_field, selection_tree_inline}
 use Rattle.graphql_parse_operations.proofs.Selections.{field_is, dots_is, selection_field, selection_dots, selection_tree_spread}
 use Rattle.graphql_parse_values.specs.Meanings.{in_file}
 use Rattle.graphql_parse_operations.proofs.selection_list.+selection.Goals as goal

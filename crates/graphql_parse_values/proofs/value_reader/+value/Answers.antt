@@ -4,7 +4,7 @@ use Rattle.std.specs.Prelude.{map}
 use Rattle.graphql_names.specs.declared.span.FileId.{FileId}
 use Rattle.graphql_values.specs.Placed.{node_tree}
 use Rattle.graphql_values.specs.ValueTree.{value_tree}
-use Rattle.graphql_values.proofs.Trees.{value_tree_list, value_tree_object}
+use Rattle.graphql_literals.proofs.Trees.{value_tree_list, value_tree_object}
 use Rattle.graphql_lexer.specs.Input.{next}
 use Rattle.graphql_grammar.specs.Begins as begins
 use Rattle.graphql_grammar.specs.Kinds as kinds
