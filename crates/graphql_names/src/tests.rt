@@ -8,6 +8,7 @@ use crate::{
 use std::cmp::Ordering;
 use std::hash::{DefaultHasher, Hash, Hasher};
 use std::io::ErrorKind;
+use std::process::Abort;
 use std::test::Fail;
 
 #[test]
@@ -229,7 +230,7 @@ fn keeps_a_failure(rt: HostRuntime) -> Result<(), Fail> {
 }
 
 /// Two calls that a device passes on are two calls, the first of which was interrupted.
-fn two_calls(rt: HostRuntime, first: bool, second: bool, failed: bool, calls: usize) {
+fn two_calls(rt: &impl Abort, first: bool, second: bool, failed: bool, calls: usize) {
     assert!(rt; first && second && failed && calls == 2);
 }
 
@@ -243,7 +244,7 @@ fn passes_one_call_on(rt: HostRuntime) {
     let second = device.read(&mut chunk).is_ok_and(|n| n == 1);
     let failed = device.failed();
     drop(device);
-    two_calls(rt, first, second, failed, reader.calls());
+    two_calls(&rt, first, second, failed, reader.calls());
     let mut written = Vec::new(rt.alloc());
     let mut writer = Cut::new(&mut written, 1, 0, ending);
     let mut device = Device::new(&mut writer);
@@ -251,5 +252,5 @@ fn passes_one_call_on(rt: HostRuntime) {
     let second = device.write(b"ab").is_ok_and(|n| n == 1);
     let failed = device.failed();
     drop(device);
-    two_calls(rt, first, second, failed, writer.calls());
+    two_calls(&rt, first, second, failed, writer.calls());
 }
