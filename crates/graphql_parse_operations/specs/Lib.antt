@@ -1,2 +1,0 @@
-pub mod OperationSteps
-pub mod SelectionSteps
