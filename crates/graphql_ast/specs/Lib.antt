@@ -1,4 +1,4 @@
-pub mod Descriptions
+pub use Rattle.graphql_definitions.specs.Descriptions
 pub use Rattle.graphql_type_members.specs.TypeSystemTree
 pub use Rattle.graphql_type_members.specs.TypeSystemLayout
 pub use Rattle.graphql_type_members.specs.ArgumentQueries

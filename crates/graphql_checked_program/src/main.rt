@@ -6,6 +6,7 @@
 
 ghost use Rattle.std.specs.Prelude.{◌≡◌, false, IfOk};
 ghost use Rattle.graphql_names.specs.Device.{device_failed};
+ghost use Rattle.graphql_checked.specs.ExitStatus.{status_of};
 
 use graphql_checked::{Layout, Limits, Outcome, RunFault, exit_status, run};
 use graphql_names::Device;
@@ -72,7 +73,9 @@ fn run_files(rt: &HostRuntime, document: &str, schemas: &[String]) -> Result<Out
 }
 
 /// Tells of a fault, if there is one, and gives the status.
-fn told(rt: &impl Eprint, answer: Result<Outcome, RunFault>) -> u8 {
+fn told(rt: &impl Eprint, answer: Result<Outcome, RunFault>) -> u8
+    ensures { result ≡ status_of answer }
+{
     if let Err(fault) = answer {
         let _ = eprintln!(rt; "{fault}");
     }

@@ -1,3 +1,5 @@
 pub mod Copies
 pub mod DocumentExamples
 pub mod PrefixExamples
+pub mod TreeEquality
+pub mod DefinitionEquality

@@ -1,3 +1,4 @@
+pub mod Descriptions
 pub mod DefinitionTree
 pub mod Queries
 pub mod Sources

@@ -12,6 +12,7 @@ mod definition_from;
 mod definition_queries;
 mod definition_variants;
 mod document;
+pub mod laws;
 mod print_document;
 mod serialize_document;
 mod writable;

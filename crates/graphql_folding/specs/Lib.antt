@@ -6,6 +6,8 @@ pub mod BuildErrors
 pub mod Adoption
 pub mod BuiltIn
 pub mod FaultView
+pub mod Messages
+pub mod FilledTemplate
 pub mod PartsView
 pub mod Keeping
 pub mod Collected

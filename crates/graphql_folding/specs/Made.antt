@@ -1,7 +1,7 @@
 -- A type made of its definition and of what it keeps (private: it leads to `specs/Fold.antt`).
-use Rattle.std.specs.Prelude.{◌≡◌, [], Some}
+use Rattle.std.specs.Prelude.{◌≡◌, [], Option, Some}
 use Rattle.std.specs.Option.{option_map}
-use Rattle.graphql_values.specs.Placed.{Place, text_tree}
+use Rattle.graphql_values.specs.Placed.{Place, Text, name_tree, text_tree}
 use Rattle.graphql_ast.specs.DefinitionTree.{DefinitionTree}
 use Rattle.graphql_schema_types.specs.SchemaTree.{SchemaType}
 use Rattle.graphql_schema_types.specs.TypeParts.{TypeDefinition, type_here}
@@ -10,16 +10,17 @@ use Rattle.graphql_schema_types.specs.declared.type_kind.TypeKind.TheVariants.{S
 use Rattle.graphql_folding.specs.Kept.{KeptComponents}
 use Rattle.graphql_folding.specs.PartsView.{parts_view}
 use Rattle.graphql_folding.specs.declared.parts.Defined.{Defined}
+use Rattle.graphql_folding.specs.declared.make.Head.{Head}
 
 abbrev pub defined_view : Defined → TypeDefinition Place
 defined_view d = record { place = d.location; description = option_map (λ t. text_tree t.now) d.description; parts = parts_view d.parts }
 
-abbrev pub made : TypeDefinition Place → KeptComponents → SchemaType Place
-made t kept = record {
-  kind = t.parts.kind;
-  place = t.place;
-  description = t.description;
-  name = t.parts.name;
+abbrev pub made_at : TypeKind → Place → Option (Text Place) → Text Place → KeptComponents → SchemaType Place
+made_at kind place description name kept = record {
+  kind = kind;
+  place = place;
+  description = description;
+  name = name;
   directives = kept.directives;
   interfaces = kept.interfaces;
   fields = kept.fields;
@@ -27,6 +28,12 @@ made t kept = record {
   values = kept.values;
   inputs = kept.inputs;
 }
+
+abbrev pub made : TypeDefinition Place → KeptComponents → SchemaType Place
+made t kept = made_at t.parts.kind t.place t.description t.parts.name kept
+
+abbrev pub headed : TypeKind → Place → Head → KeptComponents → SchemaType Place
+headed kind place head kept = made_at kind place (option_map text_tree head.description) (name_tree head.name) kept
 
 -- the classes that a kind has not are empty
 abbrev pub IsOfKind : TypeKind → KeptComponents → Type 0

@@ -7,6 +7,7 @@
 #![tactic(auto)]
 
 mod build_error;
+mod build_error_text;
 mod collected;
 mod fold;
 mod gather;

@@ -1,2 +1,0 @@
-pub mod TreeEquality
-pub mod DefinitionEquality

@@ -1,0 +1,2 @@
+pub mod OperationSteps
+pub mod SelectionSteps

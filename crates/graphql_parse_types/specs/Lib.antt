@@ -1,0 +1,2 @@
+pub mod KindTrees
+pub mod KindSteps

@@ -1,0 +1,9 @@
+pub mod Makes
+pub mod MakesValues
+pub mod MakesOperations
+pub mod MakesTypeSystem
+pub mod MakesDocuments
+pub mod Soundness
+pub mod Endings
+pub mod Texts
+pub mod Symbols

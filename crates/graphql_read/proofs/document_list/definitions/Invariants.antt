@@ -1,0 +1,17 @@
+use Rattle.std.proofs.Common.{◌≡◌, length}
+use Rattle.std.specs.Prelude.{map}
+use Rattle.graphql_definitions.specs.DefinitionTree.{definition_tree}
+use Rattle.graphql_grammar.specs.Begins as begins
+use Rattle.graphql_grammar.specs.Reading as read
+use Rattle.graphql_grammar.specs.DocumentReading as reading
+use Rattle.graphql_grammar.proofs.Steps.{with_front}
+use Rattle.graphql_parse_values.specs.Meanings.{in_file}
+use Rattle.graphql_read.proofs.document_list.definitions.Given as goal
+
+abbrev pub invariant-turns : goal.invariant-turns
+invariant-turns l =
+    with_front (map definition_tree l.found.items) (read.many begins.begins_definition (reading.definition (in_file l.file) l.depth) l.tokens)
+    ≡ read.some begins.begins_definition (reading.definition (in_file l.file) l.depth) l.initial.tokens
+
+abbrev pub decreases-turns : goal.decreases-turns
+decreases-turns l = length l.tokens.ahead

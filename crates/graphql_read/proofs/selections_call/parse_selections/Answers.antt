@@ -1,0 +1,26 @@
+use Rattle.std.proofs.Common.{refl, sym, subst, ◌∙◌}
+use Rattle.graphql_grammar.specs.Grammar.{DerivesSelections}
+use Rattle.graphql_grammar.proofs.Operations.{selections_parses}
+use Rattle.graphql_parse_values.specs.Meanings.{in_file}
+use Rattle.graphql_read.specs.ReadFaults.{selections_tree}
+use Rattle.graphql_read.specs.Reads.{IsDue}
+use Rattle.graphql_read.proofs.Texts.{begins, found, only, memory, due}
+use Rattle.graphql_read.proofs.Soundness.{selections_sound}
+use Rattle.graphql_read.proofs.selections_call.parse_selections.Goals as goal
+
+pub returns-in-Ok-clause-found : goal.returns-in-Ok-clause-found
+returns-in-Ok-clause-found c = found (selections_parses (in_file c.args.file)) refl c.args.nesting c.args.text.now c.new-tokens.result (begins c.args.text.now c.new-tokens.result c.new-tokens.ensures.shows) c.new-tokens.ensures.lexed (selections_tree c.in-Ok.found) c.whole_selections.new.tokens c.in-Ok.ensures
+
+pub returns-in-Ok-clause-only : goal.returns-in-Ok-clause-only
+returns-in-Ok-clause-only c = λ tree d. only (selections_parses (in_file c.args.file)) refl c.args.nesting c.args.text.now c.new-tokens.result (begins c.args.text.now c.new-tokens.result c.new-tokens.ensures.shows) c.new-tokens.ensures.lexed (selections_tree c.in-Ok.found) tree c.whole_selections.new.tokens c.in-Ok.ensures d
+
+pub returns-in-Err-clause-only : goal.returns-in-Err-clause-only
+returns-in-Err-clause-only c = λ tree d. c.fault.ensures ∙ memory (selections_parses (in_file c.args.file)) refl c.args.nesting c.args.text.now c.new-tokens.result (begins c.args.text.now c.new-tokens.result c.new-tokens.ensures.shows) c.new-tokens.ensures.lexed c.in-Err.stop c.whole_selections.new.tokens tree c.in-Err.ensures d
+
+pub returns-in-Err-clause-fault : goal.returns-in-Err-clause-fault
+returns-in-Err-clause-fault c =
+    subst (IsDue (DerivesSelections (in_file c.args.file)) c.args.nesting c.args.text.now) (sym c.fault.ensures)
+    (due (selections_parses (in_file c.args.file)) refl c.args.nesting c.args.text.now c.new-tokens.result (begins c.args.text.now c.new-tokens.result c.new-tokens.ensures.shows) c.new-tokens.ensures.lexed c.in-Err.stop c.whole_selections.new.tokens c.in-Err.ensures)
+
+pub returns-in-Ok-clause-sound : goal.returns-in-Ok-clause-sound
+returns-in-Ok-clause-sound c = selections_sound c.args.file c.args.nesting c.args.text.now (selections_tree c.in-Ok.found) (found (selections_parses (in_file c.args.file)) refl c.args.nesting c.args.text.now c.new-tokens.result (begins c.args.text.now c.new-tokens.result c.new-tokens.ensures.shows) c.new-tokens.ensures.lexed (selections_tree c.in-Ok.found) c.whole_selections.new.tokens c.in-Ok.ensures)

@@ -1,0 +1,22 @@
+use Rattle.std.proofs.Common.{refl, sym, subst, ◌∙◌}
+use Rattle.graphql_values.specs.TypeTree.{type_tree}
+use Rattle.graphql_grammar.specs.Grammar.{DerivesType}
+use Rattle.graphql_read.proofs.Symbols.{any_type_parses}
+use Rattle.graphql_parse_values.specs.Meanings.{in_file}
+use Rattle.graphql_read.specs.Reads.{IsDue}
+use Rattle.graphql_read.proofs.Texts.{begins, found, only, memory, due}
+use Rattle.graphql_read.proofs.type_call.parse_type.Goals as goal
+
+pub returns-in-Ok-clause-found : goal.returns-in-Ok-clause-found
+returns-in-Ok-clause-found c = found (any_type_parses (in_file c.args.file)) refl c.args.nesting c.args.text.now c.new-tokens.result (begins c.args.text.now c.new-tokens.result c.new-tokens.ensures.shows) c.new-tokens.ensures.lexed (type_tree c.in-Ok.found) c.whole_type.new.tokens c.in-Ok.ensures
+
+pub returns-in-Ok-clause-only : goal.returns-in-Ok-clause-only
+returns-in-Ok-clause-only c = λ tree d. only (any_type_parses (in_file c.args.file)) refl c.args.nesting c.args.text.now c.new-tokens.result (begins c.args.text.now c.new-tokens.result c.new-tokens.ensures.shows) c.new-tokens.ensures.lexed (type_tree c.in-Ok.found) tree c.whole_type.new.tokens c.in-Ok.ensures d
+
+pub returns-in-Err-clause-only : goal.returns-in-Err-clause-only
+returns-in-Err-clause-only c = λ tree d. c.fault.ensures ∙ memory (any_type_parses (in_file c.args.file)) refl c.args.nesting c.args.text.now c.new-tokens.result (begins c.args.text.now c.new-tokens.result c.new-tokens.ensures.shows) c.new-tokens.ensures.lexed c.in-Err.stop c.whole_type.new.tokens tree c.in-Err.ensures d
+
+pub returns-in-Err-clause-fault : goal.returns-in-Err-clause-fault
+returns-in-Err-clause-fault c =
+    subst (IsDue (DerivesType (in_file c.args.file)) c.args.nesting c.args.text.now) (sym c.fault.ensures)
+    (due (any_type_parses (in_file c.args.file)) refl c.args.nesting c.args.text.now c.new-tokens.result (begins c.args.text.now c.new-tokens.result c.new-tokens.ensures.shows) c.new-tokens.ensures.lexed c.in-Err.stop c.whole_type.new.tokens c.in-Err.ensures)

@@ -1,0 +1,19 @@
+-- Private layer: how a text is read up to its end. No public clause cites it.
+use Rattle.std.specs.Prelude.{Option, Some, None, Ok, Err, if◌then◌else◌}
+use Rattle.graphql_lexer.specs.declared.terminal.Terminal.{Terminal}
+use Rattle.graphql_lexer.specs.Input.{next}
+use Rattle.graphql_lexer.specs.Cursor.{is_stuck}
+use Rattle.graphql_grammar.specs.declared.stop.Stop.TheVariants.{Unexpected}
+use Rattle.graphql_grammar.specs.Reading.{Parser, and_then}
+
+-- nothing is left, and no text behind the tokens that is none
+abbrev pub end_of_text_at : Option Terminal → Parser (Unit {0})
+end_of_text_at None o = if is_stuck o then Err (Unexpected, o) else Ok (tt, o)
+end_of_text_at (Some kind) o = Err (Unexpected, o)
+
+abbrev pub end_of_text : Parser (Unit {0})
+end_of_text o = end_of_text_at (next o) o
+
+-- a symbol, and nothing behind it
+abbrev pub all_of : {A : Type 0} → Parser A → Parser A
+all_of p i = and_then (p i) (λ x o. and_then (end_of_text o) (λ u z. Ok (x, z)))

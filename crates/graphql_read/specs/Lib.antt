@@ -1,0 +1,4 @@
+pub mod Sound
+pub mod Reads
+pub mod ReadFaults
+pub mod Calls

@@ -1,0 +1,100 @@
+//! Documents, from texts (section 2.2).
+ghost use Rattle.std.specs.Prelude.{◌≡◌, IfOk, IfErr, List, [], ◌∷◌, map};
+ghost use Rattle.graphql_values.specs.Placed.{Place};
+ghost use Rattle.graphql_definitions.specs.DefinitionTree.{DefinitionTree, document_tree};
+ghost use Rattle.graphql_definitions.specs.Sources.{source_of, numbered_source, sources_of};
+ghost use Rattle.graphql_grammar.specs.DocumentReading as reading;
+ghost use Rattle.graphql_grammar.specs.Grammar.{Derives};
+ghost use Rattle.graphql_grammar.specs.Reading as read;
+ghost use Rattle.graphql_parse_values.specs.Meanings.{in_file};
+ghost use Rattle.graphql_read.specs.Calls.{all_of};
+ghost use Rattle.graphql_read.specs.ReadFaults.{fault_view, definitions_tree, unnamed_source, IsTreeUnlessMemory};
+ghost use Rattle.graphql_read.specs.Reads.{Reads, IsDue};
+ghost use Rattle.graphql_read.specs.Sound.{IsSound};
+
+use crate::document_list::definitions;
+use crate::fault::ReadFault;
+use crate::finish::{end_of_text, fault};
+use graphql_ast::{Definition, Document, SourceFile};
+use graphql_grammar::Stop;
+use graphql_lexer::Source;
+use graphql_names::FileId;
+use indexmap::IndexMap;
+use std::alloc::{AllocError, Global};
+
+/// Document, and nothing behind it.
+#[tactic(auto, unfolding(graphql_grammar::specs::DocumentReading::document))]
+fn whole_document(
+    alloc: Global,
+    tokens: &mut Source<'_>,
+    file: FileId,
+    nesting: usize,
+) -> Result<Vec<Definition>, Stop>
+    ensures { read.Reads definitions_tree (all_of (reading.document (in_file file) nesting) tokens.old) result tokens.new }
+{
+    let found = definitions(alloc, tokens, file, nesting)?;
+    end_of_text(tokens)?;
+    Ok(found)
+}
+
+/// The definitions that a text is.
+fn parse_definitions(
+    alloc: Global,
+    text: &str,
+    file: FileId,
+    nesting: usize,
+) -> Result<Vec<Definition>, ReadFault>
+    ensures found { IfOk result (λ x. Reads (Derives (in_file file)) nesting text.now (definitions_tree x)) }
+    ensures only { (tree : List (DefinitionTree Place)) → Reads (Derives (in_file file)) nesting text.now tree → IsTreeUnlessMemory definitions_tree tree result }
+    ensures fault { IfErr result (λ e. IsDue (Derives (in_file file)) nesting text.now (fault_view e)) }
+{
+    let mut tokens = Source::new(text);
+    match whole_document(alloc, &mut tokens, file, nesting) {
+        Ok(found) => Ok(found),
+        Err(stop) => Err(fault(&tokens, stop)),
+    }
+}
+
+/// A file without a path, with this text.
+fn source_file(alloc: Global, text: &str) -> Result<SourceFile, AllocError>
+    ensures { IfOk result (λ f. source_of f ≡ unnamed_source text.now) }
+{
+    Ok(SourceFile {
+        path: String::new(alloc),
+        text: String::from_str(alloc, text)?,
+    })
+}
+
+/// The text under the number of its file.
+fn sources(
+    alloc: Global,
+    text: &str,
+    file: FileId,
+) -> Result<IndexMap<FileId, SourceFile>, AllocError>
+    ensures { IfOk result (λ m. map numbered_source m.entries ≡ (file.0, unnamed_source text.now) ∷ []) }
+{
+    let mut sources = IndexMap::new(alloc);
+    sources.insert(file, source_file(alloc, text)?)?;
+    Ok(sources)
+}
+
+/// The document that a text is, with at most `nesting` brackets open at once. Its sources hold the text, without a path.
+pub fn parse_document(
+    alloc: Global,
+    text: &str,
+    file: FileId,
+    nesting: usize,
+) -> Result<Document, ReadFault>
+    ensures found { IfOk result (λ d. Reads (Derives (in_file file)) nesting text.now (document_tree d)) }
+    ensures sound { IfOk result (λ d. IsSound file.0 (document_tree d)) }
+    ensures sources { IfOk result (λ d. sources_of d ≡ (file.0, unnamed_source text.now) ∷ []) }
+    ensures only { (tree : List (DefinitionTree Place)) → Reads (Derives (in_file file)) nesting text.now tree → IsTreeUnlessMemory document_tree tree result }
+    ensures fault { IfErr result (λ e. IsDue (Derives (in_file file)) nesting text.now (fault_view e)) }
+{
+    let definitions = parse_definitions(alloc, text, file, nesting)?;
+    let sources = sources(alloc, text, file)?;
+    Ok(Document {
+        sources,
+        definitions,
+    })
+}

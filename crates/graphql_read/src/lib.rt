@@ -1,0 +1,24 @@
+//! Reads GraphQL texts (October 2021, sections 2 and 3, appendix B).
+//!
+//! [`parse_document`], [`parse_type`] and [`parse_selections`] answer the tree of a text, or the fault of a text that is
+//! none of the symbol, or nests its brackets too deep. Each ensures:
+//! - `found`: the tree answered is the text's, and its brackets nest within the limit;
+//! - `only`: where the text has a tree within the limit, that tree is answered, or that memory ran out;
+//! - `fault`: the fault answered is due.
+//!
+//! Begin with `specs/Reads.antt`, which says what these words mean of a text; tokens and grammar are those of
+//! `graphql_lexer` and `graphql_grammar`.
+#![tactic(auto)]
+
+mod document_call;
+mod document_list;
+mod fault;
+mod finish;
+mod selections_call;
+mod type_call;
+
+pub use document_call::parse_document;
+pub use fault::{ReadFault, SyntaxFault, SyntaxFaultKind};
+pub use graphql_lexer::{NextToken, Token, TokenKind, next_token};
+pub use selections_call::parse_selections;
+pub use type_call::parse_type;

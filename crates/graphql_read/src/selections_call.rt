@@ -1,0 +1,54 @@
+//! Selections, from texts (section 2.4).
+ghost use Rattle.std.specs.Prelude.{IfOk, IfErr};
+ghost use Rattle.graphql_values.specs.Placed.{Place};
+ghost use Rattle.graphql_values.specs.SelectionTree.{SelectionTrees};
+ghost use Rattle.graphql_grammar.specs.OperationReading as operations;
+ghost use Rattle.graphql_grammar.specs.Reading as read;
+ghost use Rattle.graphql_grammar.specs.Grammar.{DerivesSelections};
+ghost use Rattle.graphql_parse_values.specs.Meanings.{in_file};
+ghost use Rattle.graphql_read.specs.Calls.{all_of};
+ghost use Rattle.graphql_read.specs.ReadFaults.{fault_view, selections_tree, IsTreeUnlessMemory};
+ghost use Rattle.graphql_read.specs.Reads.{Reads, IsDue};
+ghost use Rattle.graphql_read.specs.Sound.{AreSound};
+
+use crate::fault::ReadFault;
+use crate::finish::{end_of_text, fault};
+use graphql_grammar::Stop;
+use graphql_lexer::Source;
+use graphql_names::FileId;
+use graphql_parse_operations::selections;
+use graphql_values::Selection;
+use std::alloc::Global;
+
+/// `Selection+`, and nothing behind it.
+fn whole_selections(
+    alloc: Global,
+    tokens: &mut Source<'_>,
+    file: FileId,
+    nesting: usize,
+) -> Result<Vec<Selection>, Stop>
+    ensures { read.Reads selections_tree (all_of (operations.selections (in_file file) nesting) tokens.old) result tokens.new }
+{
+    let found = selections(alloc, tokens, file, nesting)?;
+    end_of_text(tokens)?;
+    Ok(found)
+}
+
+/// The selections that a text is, one or more and without braces round them, with at most `nesting` brackets open at once.
+pub fn parse_selections(
+    alloc: Global,
+    text: &str,
+    file: FileId,
+    nesting: usize,
+) -> Result<Vec<Selection>, ReadFault>
+    ensures found { IfOk result (λ x. Reads (DerivesSelections (in_file file)) nesting text.now (selections_tree x)) }
+    ensures sound { IfOk result (λ x. AreSound (selections_tree x)) }
+    ensures only { (tree : SelectionTrees Place) → Reads (DerivesSelections (in_file file)) nesting text.now tree → IsTreeUnlessMemory selections_tree tree result }
+    ensures fault { IfErr result (λ e. IsDue (DerivesSelections (in_file file)) nesting text.now (fault_view e)) }
+{
+    let mut tokens = Source::new(text);
+    match whole_selections(alloc, &mut tokens, file, nesting) {
+        Ok(found) => Ok(found),
+        Err(stop) => Err(fault(&tokens, stop)),
+    }
+}

@@ -1,0 +1,52 @@
+//! References to types, from texts (section 2.11).
+ghost use Rattle.std.specs.Prelude.{IfOk, IfErr};
+ghost use Rattle.graphql_values.specs.Placed.{Place};
+ghost use Rattle.graphql_values.specs.TypeTree.{TypeTree, type_tree};
+ghost use Rattle.graphql_grammar.specs.ValueReading as values;
+ghost use Rattle.graphql_grammar.specs.Reading as read;
+ghost use Rattle.graphql_grammar.specs.Grammar.{DerivesType};
+ghost use Rattle.graphql_parse_values.specs.Meanings.{in_file};
+ghost use Rattle.graphql_read.specs.Calls.{all_of};
+ghost use Rattle.graphql_read.specs.ReadFaults.{fault_view, IsTreeUnlessMemory};
+ghost use Rattle.graphql_read.specs.Reads.{Reads, IsDue};
+
+use crate::fault::ReadFault;
+use crate::finish::{end_of_text, fault};
+use graphql_grammar::Stop;
+use graphql_lexer::Source;
+use graphql_names::FileId;
+use graphql_parse_values::ty;
+use graphql_values::Type;
+use std::alloc::Global;
+
+/// Type, and nothing behind it.
+fn whole_type(
+    alloc: Global,
+    tokens: &mut Source<'_>,
+    file: FileId,
+    nesting: usize,
+) -> Result<Type, Stop>
+    ensures { read.Reads type_tree (all_of (values.type (in_file file) nesting) tokens.old) result tokens.new }
+{
+    let found = ty(alloc, tokens, file, nesting)?;
+    end_of_text(tokens)?;
+    Ok(found)
+}
+
+/// The type that a text is, with at most `nesting` brackets open at once.
+pub fn parse_type(
+    alloc: Global,
+    text: &str,
+    file: FileId,
+    nesting: usize,
+) -> Result<Type, ReadFault>
+    ensures found { IfOk result (λ x. Reads (DerivesType (in_file file)) nesting text.now (type_tree x)) }
+    ensures only { (tree : TypeTree Place) → Reads (DerivesType (in_file file)) nesting text.now tree → IsTreeUnlessMemory type_tree tree result }
+    ensures fault { IfErr result (λ e. IsDue (DerivesType (in_file file)) nesting text.now (fault_view e)) }
+{
+    let mut tokens = Source::new(text);
+    match whole_type(alloc, &mut tokens, file, nesting) {
+        Ok(found) => Ok(found),
+        Err(stop) => Err(fault(&tokens, stop)),
+    }
+}

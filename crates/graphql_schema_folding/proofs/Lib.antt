@@ -1,0 +1,9 @@
+pub mod Listing
+pub mod Named
+pub mod Telling
+pub mod Gathering
+pub mod KeepingRoots
+pub mod FoldedSchema
+pub mod Choosing
+pub mod DirectiveFaults
+pub mod TypeFaults

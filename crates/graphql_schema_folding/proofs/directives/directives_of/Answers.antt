@@ -1,0 +1,18 @@
+use Rattle.std.proofs.Common.{◌<◌, ◌∷◌, [], ◌++◌, map, take, length, sym, ap, ◌∙◌, arith}
+use Rattle.graphql_ast.specs.DefinitionTree.{definition_tree}
+use Rattle.graphql_folding.specs.Listed.{directives_in}
+use Rattle.graphql_folding.specs.ListedView.{listed_view}
+use Rattle.graphql_schema_folding.specs.ListFold.{definitions_of}
+use Rattle.graphql_schema_folding.proofs.Choosing.{definitions_more, directives_append}
+use Rattle.graphql_schema_folding.proofs.directives.directives_of.Goals as goal
+
+pub loop-listed-preserved : goal.loop-listed-preserved
+loop-listed-preserved c =
+    let xs = c.args.list.now in
+    let i = c.loop-listed.listed-index in
+    let x = c.listed-item.result in
+    let h : i < length xs = omega arith in
+    let before = definitions_of (map listed_view (take i xs)) in
+    let front = definitions_more xs i x h ∙ ap (λ y. before ++ definition_tree y.definition ∷ []) (sym c.listed-item.is) in
+    c.in_ok-add_directive.ensures ∙ ap (λ l. l ++ directives_in (definition_tree x.definition ∷ [])) c.loop-listed.invariant
+    ∙ sym (directives_append before (definition_tree x.definition ∷ [])) ∙ ap directives_in (sym front)

@@ -1,0 +1,197 @@
+//! What the definitions of directives fold to.
+ghost use Rattle.std.specs.Prelude.{◌≡◌, ◌++◌, ◌∷◌, [], None, Some, map, IfOk, OnOk};
+ghost use Rattle.indexmap.specs.IndexMap.{get};
+ghost use Rattle.graphql_names.specs.Node.{content};
+ghost use Rattle.graphql_components.specs.Names.{same_text};
+ghost use Rattle.graphql_schema_types.specs.TypeView.{name_text};
+ghost use Rattle.graphql_ast.specs.DefinitionTree.{definition_tree};
+ghost use Rattle.graphql_folding.specs.Listed.{directive_name, directives_in};
+ghost use Rattle.graphql_folding.specs.Components.{keyed_firsts};
+ghost use Rattle.graphql_folding.specs.Fold.{folded_directives};
+ghost use Rattle.graphql_folding.specs.FaultView.{faults_of};
+ghost use Rattle.graphql_folding.specs.BuildErrors.{DirectiveDefinitionCollision};
+ghost use Rattle.graphql_folding.specs.Keeping.{KeepsOn};
+ghost use Rattle.graphql_folding.specs.ListedView.{listed_view};
+ghost use Rattle.graphql_schema_folding.specs.ListFold.{definitions_of};
+ghost use Rattle.graphql_schema_folding.specs.DirectiveFold.{directive_fault, directive_faults, chosen_of, chosen_firsts, Chooses, TellsDirectives};
+ghost use Rattle.graphql_schema_folding.specs.DirectivesView.{directive_view, directives_view, entries_view};
+
+use graphql_ast::{Definition, DirectiveDefinition, Name, Node, SourceSpan};
+use graphql_folding::{BuildError, Listed};
+use indexmap::IndexMap;
+use std::alloc::{AllocError, Global};
+
+/// Folds the definitions of directives (section 3.13): the first of each name in the texts, which stands in the place
+/// of a built-in one of its name, and the other built-in ones. Tells each that is not the first of its name in the texts.
+pub fn fold_directives(
+    alloc: Global,
+    built_in: &[Listed],
+    texts: &[Listed],
+    faults: &mut Vec<(Option<SourceSpan>, BuildError)>,
+) -> Result<IndexMap<Name, Node<DirectiveDefinition>>, AllocError>
+    ensures folded { IfOk result (λ m. entries_view m ≡ folded_directives (definitions_of (map listed_view built_in.now)) (definitions_of (map listed_view texts.now))) }
+    ensures faults { OnOk result (faults_of faults.new ≡ faults_of faults.old ++ directive_faults (directives_in (definitions_of (map listed_view texts.now)))) }
+    ensures tells { OnOk result (TellsDirectives (definitions_of (map listed_view built_in.now)) (definitions_of (map listed_view texts.now)) (faults_of faults.old) (faults_of faults.new)) }
+{
+    let own = directives_of(alloc, texts)?;
+    let named = keep_directives(alloc, &own, faults)?;
+    choose_directives(alloc, &named, built_in, &own)
+}
+
+/// Chooses a definition for each name of what is built in and of the texts.
+fn choose_directives(
+    alloc: Global,
+    own: &IndexMap<Name, Node<DirectiveDefinition>>,
+    built_in: &[Listed],
+    texts: &[Node<DirectiveDefinition>],
+) -> Result<IndexMap<Name, Node<DirectiveDefinition>>, AllocError>
+    ensures { IfOk result (λ m. entries_view m ≡ chosen_firsts (entries_view own.now) (directives_in (definitions_of (map listed_view built_in.now)) ++ directives_view texts.now)) }
+{
+    let mut chosen = IndexMap::new(alloc);
+    choose_built_in(alloc, own, built_in, &mut chosen)?;
+    choose_all(own, texts, &mut chosen)?;
+    Ok(chosen)
+}
+
+/// Chooses a definition for each new name of the list.
+fn choose_built_in(
+    alloc: Global,
+    own: &IndexMap<Name, Node<DirectiveDefinition>>,
+    list: &[Listed],
+    chosen: &mut IndexMap<Name, Node<DirectiveDefinition>>,
+) -> Result<(), AllocError>
+    ensures { OnOk result (Chooses (entries_view own.now) (directives_in (definitions_of (map listed_view list.now))) (entries_view chosen.old) (entries_view chosen.new)) }
+{
+    let nodes = directives_of(alloc, list)?;
+    choose_all(own, &nodes, chosen)
+}
+
+/// The definitions of directives of the list, shared, in order.
+fn directives_of(
+    alloc: Global,
+    list: &[Listed],
+) -> Result<Vec<Node<DirectiveDefinition>>, AllocError>
+    ensures { IfOk result (λ v. directives_view v.items ≡ directives_in (definitions_of (map listed_view list.now))) }
+{
+    let mut all = Vec::new(alloc);
+    for listed in list {
+        add_directive(&mut all, &listed.definition)?;
+    }
+    Ok(all)
+}
+
+/// Adds the definition, if it is one of a directive.
+fn add_directive(all: &mut Vec<Node<DirectiveDefinition>>, d: &Definition) -> Result<(), AllocError>
+    ensures { OnOk result (directives_view all.new.items ≡ directives_view all.old.items ++ directives_in (definition_tree d.now ∷ [])) }
+{
+    match d {
+        Definition::DirectiveDefinition(node) => {
+            let node = node.clone()?;
+            all.push(node)?;
+            Ok(())
+        }
+        _ => Ok(()),
+    }
+}
+
+/// Keeps the first definition of each name, and tells the others.
+fn keep_directives(
+    alloc: Global,
+    own: &[Node<DirectiveDefinition>],
+    faults: &mut Vec<(Option<SourceSpan>, BuildError)>,
+) -> Result<IndexMap<Name, Node<DirectiveDefinition>>, AllocError>
+    ensures kept { IfOk result (λ m. entries_view m ≡ keyed_firsts directive_name (directives_view own.now)) }
+    ensures faults { OnOk result (faults_of faults.new ≡ faults_of faults.old ++ directive_faults (directives_view own.now)) }
+{
+    let mut kept = IndexMap::new(alloc);
+    for node in own {
+        keep_directive(&mut kept, node, faults)?;
+    }
+    Ok(kept)
+}
+
+/// Keeps a definition behind those before it, or tells that an earlier one has its name.
+fn keep_directive(
+    kept: &mut IndexMap<Name, Node<DirectiveDefinition>>,
+    node: &Node<DirectiveDefinition>,
+    faults: &mut Vec<(Option<SourceSpan>, BuildError)>,
+) -> Result<(), AllocError>
+    ensures { OnOk result (KeepsOn directive_name directive_fault (directive_view node.now) (entries_view kept.old) (faults_of faults.old) (entries_view kept.new) (faults_of faults.new)) }
+{
+    let name = &node.content().name;
+    if kept.contains_key(name) {
+        directive_definition_collision(faults, name, node.location())
+    } else {
+        insert_directive(kept, name, node)
+    }
+}
+
+/// Tells that an earlier definition has the name.
+fn directive_definition_collision(
+    faults: &mut Vec<(Option<SourceSpan>, BuildError)>,
+    name: &Name,
+    location: Option<SourceSpan>,
+) -> Result<(), AllocError>
+    ensures { OnOk result (faults_of faults.new ≡ faults_of faults.old ++ record { place = location; breach = DirectiveDefinitionCollision name.now.text } ∷ []) }
+{
+    let name = name.clone()?;
+    faults.push((location, BuildError::DirectiveDefinitionCollision { name }))?;
+    Ok(())
+}
+
+/// Inserts a definition, shared, under a name that no other has.
+fn insert_directive(
+    kept: &mut IndexMap<Name, Node<DirectiveDefinition>>,
+    name: &Name,
+    node: &Node<DirectiveDefinition>,
+) -> Result<(), AllocError>
+    requires { get (same_text name_text) kept.old name.now ≡ None }
+    ensures { OnOk result (entries_view kept.new ≡ entries_view kept.old ++ (name.now.text, directive_view node.now) ∷ []) }
+{
+    let name = name.clone()?;
+    let node = node.clone()?;
+    kept.insert(name, node)?;
+    Ok(())
+}
+
+/// Chooses a definition for each new name of these.
+fn choose_all(
+    own: &IndexMap<Name, Node<DirectiveDefinition>>,
+    nodes: &[Node<DirectiveDefinition>],
+    chosen: &mut IndexMap<Name, Node<DirectiveDefinition>>,
+) -> Result<(), AllocError>
+    ensures { OnOk result (Chooses (entries_view own.now) (directives_view nodes.now) (entries_view chosen.old) (entries_view chosen.new)) }
+{
+    for node in nodes {
+        choose(own, node, chosen)?;
+    }
+    Ok(())
+}
+
+/// Chooses a definition for the name of this one, if the name is new: that of the texts, or else this one.
+fn choose(
+    own: &IndexMap<Name, Node<DirectiveDefinition>>,
+    node: &Node<DirectiveDefinition>,
+    chosen: &mut IndexMap<Name, Node<DirectiveDefinition>>,
+) -> Result<(), AllocError>
+    ensures { OnOk result (Chooses (entries_view own.now) (directive_view node.now ∷ []) (entries_view chosen.old) (entries_view chosen.new)) }
+{
+    let name = &node.content().name;
+    if chosen.contains_key(name) {
+        return Ok(());
+    }
+    insert_directive(chosen, name, own_or(own, node))
+}
+
+/// The definition of the texts of that name, or else this one.
+fn own_or<'a>(
+    own: &'a IndexMap<Name, Node<DirectiveDefinition>>,
+    node: &'a Node<DirectiveDefinition>,
+) -> &'a Node<DirectiveDefinition>
+    ensures { directive_view result.now ≡ chosen_of (entries_view own.now) (directive_view node.now) }
+{
+    match own.get(&node.content().name) {
+        Some(own) => own,
+        None => node,
+    }
+}

@@ -1,0 +1,52 @@
+//! The roots of a schema without a schema definition.
+ghost use Rattle.std.specs.Prelude.{◌≡◌, ◌++◌, None, map, OnOk};
+ghost use Rattle.graphql_values.specs.OperationQueries.{default_root_name};
+ghost use Rattle.graphql_folding.specs.Components.{all_given};
+ghost use Rattle.graphql_folding.specs.SchemaFold.{implicit_root, implicit_roots};
+ghost use Rattle.graphql_folding.specs.ListedView.{listed_view};
+ghost use Rattle.graphql_schema_folding.specs.ListFold.{definitions_of};
+ghost use Rattle.graphql_schema_folding.specs.RootsView.{roots_given_by};
+
+use crate::defined::is_object;
+use graphql_ast::{Name, NamedType, Node, OperationType};
+use graphql_components::{Component, ComponentOrigin};
+use graphql_folding::Listed;
+use std::alloc::{AllocError, Global};
+
+/// Adds the implicit roots: without a schema definition the objects with the default names are the roots (section 3.3.1).
+pub(crate) fn add_implicit_roots(
+    alloc: Global,
+    list: &[Listed],
+    roots: &mut Vec<Component<(OperationType, NamedType)>>,
+) -> Result<(), AllocError>
+    ensures { OnOk result (roots_given_by roots.new.items ≡ roots_given_by roots.old.items ++ all_given None (implicit_roots (definitions_of (map listed_view list.now)))) }
+{
+    add_implicit_root(alloc, list, OperationType::Query, roots)?;
+    add_implicit_root(alloc, list, OperationType::Mutation, roots)?;
+    add_implicit_root(alloc, list, OperationType::Subscription, roots)
+}
+
+/// Adds the object with the operation's default name, if there is one.
+fn add_implicit_root(
+    alloc: Global,
+    list: &[Listed],
+    operation: OperationType,
+    roots: &mut Vec<Component<(OperationType, NamedType)>>,
+) -> Result<(), AllocError>
+    ensures { OnOk result (roots_given_by roots.new.items ≡ roots_given_by roots.old.items ++ all_given None (implicit_root (definitions_of (map listed_view list.now)) operation)) }
+{
+    if !is_object(list, operation.default_type_name()) {
+        return Ok(());
+    }
+    let root = Node::new(alloc, (operation, default_name(operation)))?;
+    roots.push(Component::new(ComponentOrigin::Definition, root))?;
+    Ok(())
+}
+
+/// The default name of the root of an operation.
+fn default_name(operation: OperationType) -> Name
+    ensures text { result.text ≡ default_root_name operation }
+    ensures location { result.location ≡ None }
+{
+    Name::new_static_unchecked(operation.default_type_name())
+}

@@ -1,0 +1,97 @@
+//! The first root of each operation.
+ghost use Rattle.std.specs.Prelude.{◌≡◌, ◌++◌, ◌∷◌, [], IfOk, OnOk, is_some};
+ghost use Rattle.graphql_ast.specs.DefinitionTree.{root_tree};
+ghost use Rattle.graphql_components.specs.Given.{component_tree, component_name_tree};
+ghost use Rattle.graphql_folding.specs.FaultView.{faults_of};
+ghost use Rattle.graphql_folding.specs.BuildErrors.{DuplicateRootOperation};
+ghost use Rattle.graphql_schema_folding.specs.ListFold.{root_faults};
+ghost use Rattle.graphql_schema_folding.specs.RootFold.{root_for, with_root, first_roots, KeepsRoot};
+ghost use Rattle.graphql_schema_folding.specs.RootsView.{root_names, roots_given_by};
+
+use graphql_ast::{NamedType, OperationType, SourceSpan};
+use graphql_components::{Component, ComponentName};
+use graphql_folding::BuildError;
+use std::alloc::AllocError;
+
+/// The roots that are kept.
+#[derive(Drop)]
+pub(crate) struct Roots {
+    pub(crate) query: Option<ComponentName>,
+    pub(crate) mutation: Option<ComponentName>,
+    pub(crate) subscription: Option<ComponentName>,
+}
+
+impl Roots {
+    /// Whether the operation has a root.
+    fn has(&self, operation: OperationType) -> bool
+        ensures { result ≡ is_some (root_for operation (root_names self.now)) }
+    {
+        match operation {
+            OperationType::Query => self.query.is_some(),
+            OperationType::Mutation => self.mutation.is_some(),
+            OperationType::Subscription => self.subscription.is_some(),
+        }
+    }
+
+    /// Sets the root of an operation.
+    fn set(&mut self, operation: OperationType, root: ComponentName)
+        ensures { root_names self.new ≡ with_root operation (component_name_tree root) (root_names self.old) }
+    {
+        match operation {
+            OperationType::Query => self.query = Some(root),
+            OperationType::Mutation => self.mutation = Some(root),
+            OperationType::Subscription => self.subscription = Some(root),
+        }
+    }
+}
+
+/// Keeps the first root of each operation, and tells the others.
+pub(crate) fn keep_roots(
+    all: &[Component<(OperationType, NamedType)>],
+    faults: &mut Vec<(Option<SourceSpan>, BuildError)>,
+) -> Result<Roots, AllocError>
+    ensures kept { IfOk result (λ r. root_names r ≡ first_roots (roots_given_by all.now)) }
+    ensures faults { OnOk result (faults_of faults.new ≡ faults_of faults.old ++ root_faults (roots_given_by all.now)) }
+{
+    let mut kept = Roots {
+        query: None,
+        mutation: None,
+        subscription: None,
+    };
+    for root in all {
+        keep_root(&mut kept, root, faults)?;
+    }
+    Ok(kept)
+}
+
+/// Keeps a root behind those before it, or tells that its operation has one.
+fn keep_root(
+    kept: &mut Roots,
+    root: &Component<(OperationType, NamedType)>,
+    faults: &mut Vec<(Option<SourceSpan>, BuildError)>,
+) -> Result<(), AllocError>
+    ensures { OnOk result (KeepsRoot (component_tree root_tree root.now) (root_names kept.old) (faults_of faults.old) (root_names kept.new) (faults_of faults.new)) }
+{
+    let (operation, name) = root.node.content();
+    if kept.has(*operation) {
+        return duplicate_root_operation(faults, *operation, root.node.location());
+    }
+    let name = name.clone()?;
+    kept.set(*operation, ComponentName::new(root.origin, name));
+    Ok(())
+}
+
+/// Tells that the operation has a root already (section 3.3.1).
+fn duplicate_root_operation(
+    faults: &mut Vec<(Option<SourceSpan>, BuildError)>,
+    operation_type: OperationType,
+    location: Option<SourceSpan>,
+) -> Result<(), AllocError>
+    ensures { OnOk result (faults_of faults.new ≡ faults_of faults.old ++ record { place = location; breach = DuplicateRootOperation operation_type } ∷ []) }
+{
+    faults.push((
+        location,
+        BuildError::DuplicateRootOperation { operation_type },
+    ))?;
+    Ok(())
+}

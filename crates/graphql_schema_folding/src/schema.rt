@@ -1,0 +1,123 @@
+//! What the schema definition folds to.
+ghost use Rattle.std.specs.Prelude.{◌≡◌, ◌++◌, ◌∷◌, None, map, IfOk, OnOk};
+ghost use Rattle.std.specs.List.{flat_map};
+ghost use Rattle.std.specs.Option.{option_map};
+ghost use Rattle.graphql_names.specs.Node.{place, content};
+ghost use Rattle.graphql_values.specs.Placed.{text_tree};
+ghost use Rattle.graphql_ast.specs.DefinitionTree.{schema_parts};
+ghost use Rattle.graphql_schema_types.specs.TypeView.{schema_roots};
+ghost use Rattle.graphql_folding.specs.SchemaFold.{extends_schema};
+ghost use Rattle.graphql_folding.specs.FaultView.{faults_of};
+ghost use Rattle.graphql_folding.specs.ListedView.{listed_view};
+ghost use Rattle.graphql_schema_folding.specs.ListFold.{parts_given, roots_from, implicit_parts, schema_from, schema_of, root_faults, IsFoldOf, TellsRoots};
+ghost use Rattle.graphql_schema_folding.specs.RootFold.{all_from, made_from};
+ghost use Rattle.graphql_schema_folding.specs.RootsView.{all_of_schema, schema_made};
+
+use crate::defined::first_schema;
+use crate::given::SchemaComponents;
+use crate::implicit::add_implicit_roots;
+use crate::roots::keep_roots;
+use graphql_ast::{Node, NodeStr, SchemaDefinition as SchemaNode, SourceSpan};
+use graphql_components::{ComponentOrigin, DirectiveList};
+use graphql_folding::{BuildError, Listed};
+use graphql_schema_types::SchemaDefinition;
+use graphql_type_members::clone_description;
+use std::alloc::{AllocError, Global};
+
+/// Folds the schema definition (section 3.3): the first one or, where there is none, the implicit roots; and then
+/// each schema extension, where they apply. Tells each root that is not the first of its operation.
+pub fn fold_schema(
+    alloc: Global,
+    list: &[Listed],
+    faults: &mut Vec<(Option<SourceSpan>, BuildError)>,
+) -> Result<Node<SchemaDefinition>, AllocError>
+    ensures folded { IfOk result (λ n. schema_roots n ≡ schema_of (map listed_view list.now)) }
+    ensures faults { OnOk result (faults_of faults.new ≡ faults_of faults.old ++ root_faults (roots_from (parts_given (map listed_view list.now)))) }
+    ensures is_fold { IfOk result (λ n. IsFoldOf (map listed_view list.now) (schema_roots n)) }
+    ensures tells { OnOk result (TellsRoots (map listed_view list.now) (faults_of faults.old) (faults_of faults.new)) }
+{
+    match first_schema(list) {
+        None => fold_implicit(alloc, list, faults),
+        Some(defined) => fold_defined(alloc, defined, list, faults),
+    }
+}
+
+/// Folds a schema definition and each schema extension of the list.
+fn fold_defined(
+    alloc: Global,
+    defined: &Node<SchemaNode>,
+    list: &[Listed],
+    faults: &mut Vec<(Option<SourceSpan>, BuildError)>,
+) -> Result<Node<SchemaDefinition>, AllocError>
+    ensures folded { IfOk result (λ n. schema_roots n ≡ schema_from (place defined.now) (option_map text_tree (content defined.now).description) (record { extension = None; it = schema_parts (content defined.now) } ∷ flat_map extends_schema (map listed_view list.now))) }
+    ensures faults { OnOk result (faults_of faults.new ≡ faults_of faults.old ++ root_faults (roots_from (record { extension = None; it = schema_parts (content defined.now) } ∷ flat_map extends_schema (map listed_view list.now)))) }
+{
+    let all = collect_defined(alloc, defined.content(), list)?;
+    let description = clone_description(&defined.content().description)?;
+    let made = make_schema(description, all, faults)?;
+    Ok(defined.same_location(alloc, made)?)
+}
+
+/// Folds the implicit roots and, where there is one, each schema extension of the list.
+fn fold_implicit(
+    alloc: Global,
+    list: &[Listed],
+    faults: &mut Vec<(Option<SourceSpan>, BuildError)>,
+) -> Result<Node<SchemaDefinition>, AllocError>
+    ensures folded { IfOk result (λ n. schema_roots n ≡ schema_from None None (implicit_parts (map listed_view list.now))) }
+    ensures faults { OnOk result (faults_of faults.new ≡ faults_of faults.old ++ root_faults (roots_from (implicit_parts (map listed_view list.now)))) }
+{
+    let all = collect_implicit(alloc, list)?;
+    let made = make_schema(None, all, faults)?;
+    Ok(Node::new(alloc, made)?)
+}
+
+/// What a schema definition and each schema extension of the list gives.
+fn collect_defined(
+    alloc: Global,
+    defined: &SchemaNode,
+    list: &[Listed],
+) -> Result<SchemaComponents, AllocError>
+    ensures { IfOk result (λ all. all_of_schema all ≡ all_from (record { extension = None; it = schema_parts defined.now } ∷ flat_map extends_schema (map listed_view list.now))) }
+{
+    let mut all = SchemaComponents::new(alloc);
+    all.add(
+        ComponentOrigin::Definition,
+        &defined.directives,
+        &defined.root_operations,
+    )?;
+    all.add_extensions(list)?;
+    Ok(all)
+}
+
+/// The implicit roots and, where there is one, what each schema extension of the list gives.
+fn collect_implicit(alloc: Global, list: &[Listed]) -> Result<SchemaComponents, AllocError>
+    ensures { IfOk result (λ all. all_of_schema all ≡ all_from (implicit_parts (map listed_view list.now))) }
+{
+    let mut all = SchemaComponents::new(alloc);
+    add_implicit_roots(alloc, list, &mut all.roots)?;
+    if all.roots.is_empty() {
+        return Ok(all);
+    }
+    all.add_extensions(list)?;
+    Ok(all)
+}
+
+/// The schema definition that is made of these: the first root of each operation, and all applied directives.
+fn make_schema(
+    description: Option<NodeStr>,
+    all: SchemaComponents,
+    faults: &mut Vec<(Option<SourceSpan>, BuildError)>,
+) -> Result<SchemaDefinition, AllocError>
+    ensures made { IfOk result (λ s. (p : _) → schema_made p s ≡ made_from p (option_map text_tree description) (all_of_schema all)) }
+    ensures faults { OnOk result (faults_of faults.new ≡ faults_of faults.old ++ root_faults (all_of_schema all).roots) }
+{
+    let roots = keep_roots(&all.roots, faults)?;
+    Ok(SchemaDefinition {
+        description,
+        directives: DirectiveList(all.directives),
+        query: roots.query,
+        mutation: roots.mutation,
+        subscription: roots.subscription,
+    })
+}
