@@ -1,5 +1,6 @@
 pub mod SchemaTree
 pub mod TypeView
+pub mod SchemaView
 pub mod Origins
 pub mod OriginsLeft
 pub mod Plain
