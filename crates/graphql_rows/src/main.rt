@@ -6,21 +6,17 @@ mod by_calls;
 mod by_print;
 mod by_run;
 mod by_texts;
+mod calls;
 mod case;
-mod escape;
 mod plan;
 mod plans;
-mod problem;
-mod row_file;
-mod settings;
 mod trees;
 
 use crate::by_print::{by_print, by_writable};
 use crate::by_texts::by_texts;
+use crate::calls::call_of;
 use crate::case::{Case, Tally};
-use crate::problem::Problem;
-use crate::row_file::{Row, fields_of, rows_of};
-use crate::settings::{call_of, output};
+use graphql_row_files::{Problem, Row, fields_of, output, rows_of};
 use std::fs;
 use std::process::ExitCode;
 

@@ -5,7 +5,7 @@ use std::io;
 
 /// Why rows are not judged.
 #[derive(Clone, Copy)]
-pub(crate) enum Problem {
+pub enum Problem {
     /// Memory ran out.
     Memory,
     /// A file cannot be read, or the output failed.
@@ -16,7 +16,7 @@ pub(crate) enum Problem {
 
 impl Problem {
     /// What it is, in words.
-    pub(crate) fn what(self) -> &'static str {
+    pub fn what(self) -> &'static str {
         match self {
             Problem::Memory => "out of memory",
             Problem::Device => "input or output failed",
@@ -25,7 +25,7 @@ impl Problem {
     }
 
     /// The line of the row file, or 0.
-    pub(crate) fn line(self) -> usize {
+    pub fn line(self) -> usize {
         match self {
             Problem::Malformed { line, .. } => line,
             _ => 0,

@@ -5,16 +5,16 @@ use std::alloc::{AllocError, Global};
 
 /// A line of a row file: `name: value`.
 #[derive(Clone, Copy)]
-pub(crate) struct Field<'a> {
+pub struct Field<'a> {
     /// Counted from 1.
-    pub(crate) line: usize,
-    pub(crate) name: &'a str,
-    pub(crate) value: &'a str,
+    pub line: usize,
+    pub name: &'a str,
+    pub value: &'a str,
 }
 
 impl Field<'_> {
     /// The problem that its line is not as it must be.
-    pub(crate) fn problem(self, what: &'static str) -> Problem {
+    pub fn problem(self, what: &'static str) -> Problem {
         Problem::Malformed {
             line: self.line,
             what,
@@ -28,7 +28,7 @@ impl Field<'_> {
 }
 
 /// The fields of a row file, in order. Empty lines and those that begin with `#` are passed over.
-pub(crate) fn fields_of<'a>(alloc: Global, text: &'a str) -> Result<Vec<Field<'a>>, Problem> {
+pub fn fields_of<'a>(alloc: Global, text: &'a str) -> Result<Vec<Field<'a>>, Problem> {
     let mut fields = Vec::new(alloc);
     for (index, content) in text.lines().enumerate() {
         if !content.is_empty() && !content.starts_with('#') {
@@ -62,15 +62,15 @@ fn field_of<'a>(line: usize, content: &'a str) -> Result<Field<'a>, Problem> {
 
 /// A row: its name, its own fields, and the fields of the `common` that it stands under.
 #[derive(Clone, Copy)]
-pub(crate) struct Row<'a> {
-    pub(crate) head: Field<'a>,
-    pub(crate) common: &'a [Field<'a>],
-    pub(crate) own: &'a [Field<'a>],
+pub struct Row<'a> {
+    pub head: Field<'a>,
+    pub common: &'a [Field<'a>],
+    pub own: &'a [Field<'a>],
 }
 
 impl<'a> Row<'a> {
     /// The fields of this name: the row's own, and where it has none those in common.
-    pub(crate) fn all(self, alloc: Global, name: &str) -> Result<Vec<Field<'a>>, AllocError> {
+    pub fn all(self, alloc: Global, name: &str) -> Result<Vec<Field<'a>>, AllocError> {
         let own = named(alloc, self.own, name)?;
         if own.is_empty() {
             return named(alloc, self.common, name);
@@ -79,7 +79,7 @@ impl<'a> Row<'a> {
     }
 
     /// The one field of this name, if there is one.
-    pub(crate) fn one(self, name: &str) -> Result<Option<Field<'a>>, Problem> {
+    pub fn one(self, name: &str) -> Result<Option<Field<'a>>, Problem> {
         match only(self.own, name)? {
             Some(field) => Ok(Some(field)),
             None => only(self.common, name),
@@ -87,7 +87,7 @@ impl<'a> Row<'a> {
     }
 
     /// The one field of this name, which must be there.
-    pub(crate) fn needed(self, name: &str) -> Result<Field<'a>, Problem> {
+    pub fn needed(self, name: &str) -> Result<Field<'a>, Problem> {
         match self.one(name)? {
             Some(field) => Ok(field),
             None => Err(self.head.problem("the row lacks a field")),
@@ -125,7 +125,7 @@ fn only<'a>(fields: &'a [Field<'a>], name: &str) -> Result<Option<Field<'a>>, Pr
 }
 
 /// The rows of a file, in order.
-pub(crate) fn rows_of<'a>(alloc: Global, fields: &'a [Field<'a>]) -> Result<Vec<Row<'a>>, Problem> {
+pub fn rows_of<'a>(alloc: Global, fields: &'a [Field<'a>]) -> Result<Vec<Row<'a>>, Problem> {
     let mut rows = Vec::new(alloc);
     let mut common = body(fields, 0);
     if let Some(field) = common.first() {

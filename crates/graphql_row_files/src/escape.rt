@@ -19,7 +19,7 @@ enum Escape {
 
 /// The bytes that the value of a field stands for: `\n` is LF, `\r` CR, `\t` a tab, `\\` a backslash, `\xNN` the
 /// byte of these two hexadecimal digits, and every other byte stands for itself.
-pub(crate) fn bytes_of(alloc: Global, field: Field<'_>) -> Result<Vec<u8>, Problem> {
+pub fn bytes_of(alloc: Global, field: Field<'_>) -> Result<Vec<u8>, Problem> {
     let mut bytes = Vec::new(alloc);
     let mut escape = Escape::Outside;
     for byte in field.value.bytes() {

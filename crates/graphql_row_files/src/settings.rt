@@ -17,7 +17,7 @@ fn number_of(field: Field<'_>, text: &str) -> Result<usize, Problem> {
 }
 
 /// The number of the field of this name, or `other` where there is none.
-pub(crate) fn number(row: Row<'_>, name: &str, other: usize) -> Result<usize, Problem> {
+pub fn number(row: Row<'_>, name: &str, other: usize) -> Result<usize, Problem> {
     match row.one(name)? {
         Some(field) => number_of(field, field.value),
         None => Ok(other),
@@ -26,7 +26,7 @@ pub(crate) fn number(row: Row<'_>, name: &str, other: usize) -> Result<usize, Pr
 
 /// The numbers of the field of this name, which stand there with a space between each two, or `other` alone
 /// where there is none.
-pub(crate) fn numbers(
+pub fn numbers(
     alloc: Global,
     row: Row<'_>,
     name: &str,
@@ -48,7 +48,7 @@ fn words(alloc: Global, field: Field<'_>) -> Result<Vec<usize>, Problem> {
 }
 
 /// The texts of the fields of this name.
-pub(crate) fn texts(alloc: Global, row: Row<'_>, name: &str) -> Result<Vec<Vec<u8>>, Problem> {
+pub fn texts(alloc: Global, row: Row<'_>, name: &str) -> Result<Vec<Vec<u8>>, Problem> {
     let mut list = Vec::new(alloc);
     for field in &row.all(alloc, name)? {
         list.push(bytes_of(alloc, *field)?)?;
@@ -57,7 +57,7 @@ pub(crate) fn texts(alloc: Global, row: Row<'_>, name: &str) -> Result<Vec<Vec<u
 }
 
 /// The output that the row wants: each `line` with an LF, and each `text` as it is.
-pub(crate) fn output(alloc: Global, row: Row<'_>) -> Result<Vec<u8>, Problem> {
+pub fn output(alloc: Global, row: Row<'_>) -> Result<Vec<u8>, Problem> {
     let mut out = Vec::new(alloc);
     for field in row.own {
         match field.name {
@@ -78,49 +78,4 @@ fn push_text(alloc: Global, out: &mut Vec<u8>, field: Field<'_>) -> Result<(), P
 fn push_line(alloc: Global, out: &mut Vec<u8>, field: Field<'_>) -> Result<(), Problem> {
     push_text(alloc, out, field)?;
     Ok(out.push(b'\n')?)
-}
-
-/// The fields that rows of a call may have.
-fn names_of(call: &str) -> Option<&'static [&'static str]> {
-    match call {
-        "check_texts" | "calls" => Some(&["nesting", "schema", "document"]),
-        "all" => Some(&["nesting", "schema", "document", "step"]),
-        "run" => Some(&[
-            "nesting", "schema", "document", "step", "read", "write", "behind",
-        ]),
-        "print" => Some(&["tree", "layout", "prefix", "level", "step", "write"]),
-        "writable" => Some(&["tree"]),
-        _ => None,
-    }
-}
-
-/// The call that the row is for, where it has no field but those of the call.
-pub(crate) fn call_of<'a>(row: Row<'a>) -> Result<&'a str, Problem> {
-    let call = row.needed("call")?;
-    let Some(names) = names_of(call.value) else {
-        return Err(call.problem("there is no such call"));
-    };
-    known(row.common, names, &["call", "status"])?;
-    known(row.own, names, &["call", "status", "line", "text"])?;
-    Ok(call.value)
-}
-
-/// Each field has one of these names, or one that every call has.
-fn known(fields: &[Field<'_>], names: &[&str], shared: &[&str]) -> Result<(), Problem> {
-    for field in fields {
-        if !is_among(names, field.name) && !is_among(shared, field.name) {
-            return Err(field.problem("the call has no such field here"));
-        }
-    }
-    Ok(())
-}
-
-/// Whether the name is one of these.
-fn is_among(names: &[&str], name: &str) -> bool {
-    for other in names {
-        if *other == name {
-            return true;
-        }
-    }
-    false
 }
