@@ -12,6 +12,8 @@ fn names_of(call: &str) -> Option<&'static [&'static str]> {
         ]),
         "print" => Some(&["tree", "layout", "prefix", "level", "step", "write"]),
         "writable" => Some(&["tree"]),
+        "parse_document" | "parse_type" | "parse_selections" => Some(&["nesting", "input"]),
+        "next_token" => Some(&["input"]),
         _ => None,
     }
 }

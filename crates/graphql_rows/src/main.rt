@@ -4,6 +4,7 @@
 
 mod by_calls;
 mod by_print;
+mod by_read;
 mod by_run;
 mod by_texts;
 mod calls;
@@ -13,6 +14,7 @@ mod plans;
 mod trees;
 
 use crate::by_print::{by_print, by_writable};
+use crate::by_read::by_read;
 use crate::by_texts::by_texts;
 use crate::calls::call_of;
 use crate::case::{Case, Tally};
@@ -40,6 +42,9 @@ fn judge_case(rt: &HostRuntime, case: Case<'_>, tally: &mut Tally) -> Result<(),
     match call_of(case.row)? {
         "print" => by_print(rt, case, tally)?,
         "writable" => by_writable(rt, case, tally)?,
+        call @ ("parse_document" | "parse_type" | "parse_selections" | "next_token") => {
+            by_read(rt, case, call, tally)?;
+        }
         call => by_texts(rt, case, call, tally)?,
     }
     if tally.answers == answers {
