@@ -1,0 +1,4 @@
+pub mod FailsIs
+pub mod Seeing
+pub mod Judging
+pub mod Telling
