@@ -1,5 +1,5 @@
 -- What is told of a definition is what the rule on its position says.
-use Rattle.std.proofs.Common.{◌≡◌, ℕ, Bool, true, false, not, ◌&&◌, List, Option, None, Some, refl, sym, ap, subst, ◌∙◌, is_some, Contains}
+use Rattle.std.proofs.Common.{◌≡◌, ℕ, Bool, true, false, not, ◌&&◌, List, ◌++◌, Option, None, Some, refl, sym, ap, subst, ◌∙◌, is_some, Contains}
 use Rattle.std.specs.Prelude.{◌↔◌}
 use Rattle.std.specs.Option.{option_map, option_map_or, option_or}
 use Rattle.std.proofs.lemmas.Option.{same_Some}

@@ -93,6 +93,10 @@ module _ (es : List (NameValue × TypeKind)) (name : List ℕ) (kind : TypeKind)
       kept_new type_name kind_entry made entry_key (λ e. refl) (λ y. refl) es before t new is (ap found same_name ∙ absent)
       (added ∙ (λ i. map kind_entry es ++ (sym same_name i, sym same_kind i) ∷ []))
 
+pub is_absent : {A : Type 0} (o : Option A) → is_some o ≡ false → o ≡ None
+is_absent None e = refl
+is_absent (Some a) e = cc
+
 -- what a look-up in the map answers
 pub lookup_entry : (n : List ℕ) (es : List (NameValue × TypeKind)) → lookup (bytes_eq n) (map kind_entry es) ≡ lookup (λ k. bytes_eq n k.text) es
 lookup_entry n [] = refl

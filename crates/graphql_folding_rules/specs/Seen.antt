@@ -88,9 +88,6 @@ module _ (built_in own : Seen) where
   abbrev pub collision_told : List ℕ → Option Breach
   collision_told n = told_where (is_some (kind_seen built_in own n) && not (is_scalar_in built_in n)) (TypeDefinitionCollision n)
 
-  abbrev pub redefinition_told : List ℕ → Option Breach
-  redefinition_told n = told_where (is_scalar_in built_in n) (BuiltInScalarTypeRedefinition n)
-
   -- of the name and the kind of a type that is extended
   abbrev pub orphan_told : List ℕ → Option Breach
   orphan_told n = told_where (not (is_some (kind_seen built_in own n))) (OrphanTypeExtension n)

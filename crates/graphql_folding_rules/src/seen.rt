@@ -46,7 +46,7 @@ impl Seen {
     pub(crate) fn add(&mut self, d: &Definition) -> Result<(), AllocError>
         ensures { OnOk result (Sees (seen_view self.old) (definition_tree d.now) (seen_view self.new)) }
     {
-        self.schema = self.schema || is_schema_definition(d);
+        self.schema |= is_schema_definition(d);
         match type_definition(d) {
             None => Ok(()),
             Some(t) => self.add_type(t.parts.name, t.parts.kind),
