@@ -2,13 +2,12 @@
 use Rattle.std.proofs.Common.{◌≡◌, ℕ, Bool, true, false, not, ◌&&◌, List, ◌++◌, Option, None, Some, refl, sym, ap, subst, ◌∙◌, is_some, Contains}
 use Rattle.std.specs.Prelude.{◌↔◌}
 use Rattle.std.specs.Option.{option_map, option_map_or, option_or}
-use Rattle.std.proofs.lemmas.Option.{same_Some}
 use Rattle.graphql_values.specs.Placed.{Place}
 use Rattle.graphql_ast.specs.DefinitionTree.{DefinitionTree}
 use Rattle.graphql_ast.specs.Queries.{is_executable}
 use Rattle.graphql_components.proofs.Places.{not_in_nil, only, is_only}
 use Rattle.graphql_schema_types.specs.SchemaTree.{same_kind}
-use Rattle.graphql_schema_types.specs.TypeParts.{TypeDefinition, TypeParts, type_here, type_extension_here}
+use Rattle.graphql_schema_types.specs.TypeParts.{TypeDefinition, type_here, type_extension_here}
 use Rattle.graphql_schema_types.specs.declared.type_kind.TypeKind.{TypeKind}
 use Rattle.graphql_schema_types.specs.declared.type_kind.TypeKind.TheVariants.{Scalar}
 use Rattle.graphql_folding.specs.Listed.{Definitions, type_name, type_named}

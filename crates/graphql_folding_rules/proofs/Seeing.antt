@@ -1,5 +1,5 @@
 -- Lemmas on what a list defines.
-use Rattle.std.proofs.Common.{◌≡◌, ℕ, Bool, true, false, ◌||◌, List, [], ◌∷◌, ◌++◌, map, Option, None, Some, refl, sym, ap, ◌∙◌, cond, if◌then◌else◌, is_some, option_to_list, slice_get}
+use Rattle.std.proofs.Common.{◌≡◌, ℕ, Bool, true, false, ◌||◌, List, [], ◌∷◌, ◌++◌, map, Option, None, Some, refl, sym, ap, ◌∙◌, cond, is_some, option_to_list, slice_get}
 use Rattle.std.specs.List.{flat_map, find}
 use Rattle.std.specs.Map.{lookup}
 use Rattle.std.specs.Option.{option_map, option_map_or, option_or}
@@ -21,7 +21,7 @@ use Rattle.graphql_schema_types.specs.TypeParts.{TypeDefinition, type_here}
 use Rattle.graphql_schema_types.specs.declared.type_kind.TypeKind.{TypeKind}
 use Rattle.graphql_schema_types.specs.declared.type_kind.TypeKind.TheVariants.{Scalar, Object}
 use Rattle.graphql_folding.specs.Listed.{Definitions, type_name, types_in, type_named}
-use Rattle.graphql_folding.specs.SchemaFold.{Root, SchemaGiver, schema_here, schema_definition_in, is_object_in, implicit_root, implicit_roots, schema_is_defined}
+use Rattle.graphql_folding.specs.SchemaFold.{Root, SchemaGiver, schema_here, schema_definition_in, is_object_in, schema_is_defined}
 use Rattle.graphql_folding.specs.BuildErrors.{is_built_in_scalar}
 use Rattle.graphql_schema_folding.proofs.Gathering.{flat_map-push}
 use Rattle.graphql_schema_folding.proofs.Named.{named, some_named}
