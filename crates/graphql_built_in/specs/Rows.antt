@@ -1,6 +1,7 @@
 -- What the rows of the table say (private: it leads to `built_in_definitions`).
 use Rattle.std.specs.Prelude.{ℕ, Bool, false, List, [], ◌∷◌, ◌&&◌, map, codes, Option, None, Some}
 use Rattle.std.specs.List.{list_all}
+use Rattle.std.specs.Str.{bytes_eq}
 use Rattle.graphql_names.specs.NameSyntax.{is_name}
 use Rattle.graphql_values.specs.Placed.{Placed, Place}
 use Rattle.graphql_values.specs.TypeTree.{TypeTree}
@@ -40,6 +41,10 @@ row_definition (row.Directive n arguments locations) = directive n.now (map row_
 row_definition (row.Scalar n) = scalar n.now
 row_definition (row.Object n fields) = object n.now (map row_field fields.now)
 row_definition (row.Enum n values) = enum n.now (map (λ v. v.now) values.now)
+
+abbrev pub is_scalar_named : List ℕ → Row → Bool
+is_scalar_named name (row.Scalar n) = bytes_eq name n.now
+is_scalar_named name _ = false
 
 -- ---- all names are Name tokens
 

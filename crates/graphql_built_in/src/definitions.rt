@@ -1,11 +1,12 @@
 //! The definitions that each schema has.
 ghost use Rattle.std.specs.Prelude.{◌≡◌, ◌++◌, ◌∷◌, [], map, IfOk, OnOk, IsTrue};
-ghost use Rattle.std.specs.List.{list_all};
+ghost use Rattle.std.specs.List.{list_all, list_any};
 ghost use Rattle.graphql_names.specs.NameSyntax.{IsName, is_name};
 ghost use Rattle.graphql_ast.specs.DefinitionTree.{definition_tree};
 ghost use Rattle.graphql_folding.specs.BuiltIn.{directive, scalar, object, enum};
+ghost use Rattle.graphql_folding.specs.BuildErrors.{is_built_in_scalar};
 ghost use Rattle.graphql_built_in.specs.Table.{built_in_definitions};
-ghost use Rattle.graphql_built_in.specs.Rows.{row_argument, row_field, row_definition, has_argument_names, has_field_names, has_names};
+ghost use Rattle.graphql_built_in.specs.Rows.{row_argument, row_field, row_definition, is_scalar_named, has_argument_names, has_field_names, has_names};
 
 use crate::members::{fields_of, values_of};
 use crate::parts::{arguments_of, node_here};
@@ -53,11 +54,7 @@ fn scalar(alloc: Global, name: &'static str) -> Result<Definition, AllocError>
 }
 
 /// An object with the fields of the rows.
-fn object(
-    alloc: Global,
-    name: &'static str,
-    rows: &[FieldRow],
-) -> Result<Definition, AllocError>
+fn object(alloc: Global, name: &'static str, rows: &[FieldRow]) -> Result<Definition, AllocError>
     requires name { IsName name.now }
     requires fields { IsTrue (list_all has_field_names rows.now) }
     ensures { IfOk result (λ d. definition_tree d ≡ object name.now (map row_field rows.now)) }
@@ -138,4 +135,33 @@ pub fn built_in_definitions(alloc: Global) -> Result<Vec<Definition>, AllocError
     ensures { IfOk result (λ v. map definition_tree v.items ≡ built_in_definitions) }
 {
     definitions_of(alloc, ROWS)
+}
+
+/// Whether the row is a scalar of that name.
+fn is_scalar_named(row: Row, name: &str) -> bool
+    ensures { result ≡ is_scalar_named name.now row }
+{
+    match row {
+        Row::Scalar(scalar) => name == scalar,
+        Row::Directive(_, _, _) | Row::Object(_, _) | Row::Enum(_, _) => false,
+    }
+}
+
+/// Whether a scalar of that name is among the rows.
+fn has_scalar(rows: &[Row], name: &str) -> bool
+    ensures { result ≡ list_any (is_scalar_named name.now) rows.now }
+{
+    for row in rows {
+        if is_scalar_named(*row, name) {
+            return true;
+        }
+    }
+    false
+}
+
+/// Whether a scalar of that name is built in.
+pub fn is_built_in_scalar(name: &str) -> bool
+    ensures { result ≡ is_built_in_scalar built_in_definitions [] name.now }
+{
+    has_scalar(ROWS, name)
 }

@@ -32,11 +32,7 @@ pub(crate) enum DefaultRow {
 
 /// A field: its name, its arguments and its type.
 #[derive(Clone, Copy)]
-pub(crate) struct FieldRow(
-    pub &'static str,
-    pub &'static [ArgumentRow],
-    pub TypeRow,
-);
+pub(crate) struct FieldRow(pub &'static str, pub &'static [ArgumentRow], pub TypeRow);
 
 /// A reference to a type.
 #[derive(Clone, Copy)]
@@ -57,8 +53,11 @@ const INCLUDE_DEPRECATED: &[ArgumentRow] = &[ArgumentRow(
     DefaultRow::False,
 )];
 
-const CONDITION: &[ArgumentRow] =
-    &[ArgumentRow("if", TypeRow::NonNull("Boolean"), DefaultRow::Absent)];
+const CONDITION: &[ArgumentRow] = &[ArgumentRow(
+    "if",
+    TypeRow::NonNull("Boolean"),
+    DefaultRow::Absent,
+)];
 
 const REASON: &[ArgumentRow] = &[ArgumentRow(
     "reason",
@@ -66,8 +65,7 @@ const REASON: &[ArgumentRow] = &[ArgumentRow(
     DefaultRow::Text("No longer supported"),
 )];
 
-const URL: &[ArgumentRow] =
-    &[ArgumentRow("url", TypeRow::NonNull("String"), DefaultRow::Absent)];
+const URL: &[ArgumentRow] = &[ArgumentRow("url", TypeRow::NonNull("String"), DefaultRow::Absent)];
 
 const SELECTIONS: &[DirectiveLocation] = &[
     DirectiveLocation::Field,
@@ -99,8 +97,16 @@ const TYPE: &[FieldRow] = &[
     FieldRow("fields", INCLUDE_DEPRECATED, TypeRow::ListOf("__Field")),
     FieldRow("interfaces", &[], TypeRow::ListOf("__Type")),
     FieldRow("possibleTypes", &[], TypeRow::ListOf("__Type")),
-    FieldRow("enumValues", INCLUDE_DEPRECATED, TypeRow::ListOf("__EnumValue")),
-    FieldRow("inputFields", INCLUDE_DEPRECATED, TypeRow::ListOf("__InputValue")),
+    FieldRow(
+        "enumValues",
+        INCLUDE_DEPRECATED,
+        TypeRow::ListOf("__EnumValue"),
+    ),
+    FieldRow(
+        "inputFields",
+        INCLUDE_DEPRECATED,
+        TypeRow::ListOf("__InputValue"),
+    ),
     FieldRow("ofType", &[], TypeRow::Nullable("__Type")),
 ];
 
@@ -118,7 +124,11 @@ const TYPE_KIND: &[&str] = &[
 const FIELD: &[FieldRow] = &[
     FieldRow("name", &[], TypeRow::NonNull("String")),
     FieldRow("description", &[], TypeRow::Nullable("String")),
-    FieldRow("args", INCLUDE_DEPRECATED, TypeRow::NonNullListOf("__InputValue")),
+    FieldRow(
+        "args",
+        INCLUDE_DEPRECATED,
+        TypeRow::NonNullListOf("__InputValue"),
+    ),
     FieldRow("type", &[], TypeRow::NonNull("__Type")),
     FieldRow("isDeprecated", &[], TypeRow::NonNull("Boolean")),
     FieldRow("deprecationReason", &[], TypeRow::Nullable("String")),
@@ -143,8 +153,16 @@ const ENUM_VALUE: &[FieldRow] = &[
 const DIRECTIVE: &[FieldRow] = &[
     FieldRow("name", &[], TypeRow::NonNull("String")),
     FieldRow("description", &[], TypeRow::Nullable("String")),
-    FieldRow("locations", &[], TypeRow::NonNullListOf("__DirectiveLocation")),
-    FieldRow("args", INCLUDE_DEPRECATED, TypeRow::NonNullListOf("__InputValue")),
+    FieldRow(
+        "locations",
+        &[],
+        TypeRow::NonNullListOf("__DirectiveLocation"),
+    ),
+    FieldRow(
+        "args",
+        INCLUDE_DEPRECATED,
+        TypeRow::NonNullListOf("__InputValue"),
+    ),
     FieldRow("isRepeatable", &[], TypeRow::NonNull("Boolean")),
 ];
 
