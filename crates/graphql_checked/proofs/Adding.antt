@@ -6,8 +6,8 @@ use Rattle.graphql_values.specs.Placed.{Place}
 use Rattle.graphql_names.specs.declared.span.SourceSpan.{SourceSpan}
 use Rattle.graphql_ast.specs.DefinitionTree.{DefinitionTree}
 use Rattle.graphql_checked.specs.Grammar.{DerivesSchema}
-use Rattle.graphql_checked.specs.Thin.{ReadsSchema, GoesWrongAt}
-use Rattle.graphql_checked.specs.Faults.{Fault, Nesting, Spent, PassesNesting, PassesNumbers, NestingAt}
+use Rattle.graphql_thin.specs.Thin.{ReadsSchema, GoesWrongAt}
+use Rattle.graphql_thin.specs.Faults.{Fault, Nesting, Spent, PassesNesting, PassesNumbers, NestingAt}
 use Rattle.graphql_checked.specs.Judge.{ReadsAll, NotYetFrom, NotYetSchema, UnreadFault}
 use Rattle.graphql_checked.specs.Answer.{WithinBounds, AllWithinBounds, UnreadFaults}
 use Rattle.graphql_checked.specs.Added.{HaveTrees, IsNextNumber, AreAllThin}

@@ -6,15 +6,15 @@ use Rattle.std.proofs.lemmas.Simd.{map-map}
 use Rattle.graphql_names.specs.NameSyntax.{is_name}
 use Rattle.graphql_values.specs.Placed.{Place}
 use Rattle.graphql_ast.specs.DefinitionTree.{DefinitionTree}
-use Rattle.graphql_checked.specs.Lists.{fronts, largest}
+use Rattle.graphql_thin.specs.Lists.{fronts, largest}
 use Rattle.graphql_checked.specs.Lex.{Token, Piece, Ignored, Lexical, pieces_text, is_token, is_piece, are_pieces, tokens_from, LexesFront, Lex, offset_of, TokenBegins, NothingBegins, is_opening, is_closing, open_brackets, depth}
 use Rattle.graphql_checked.specs.Grammar.{DerivesSchema, DerivesDocument}
-use Rattle.graphql_checked.specs.Thin.{Symbol, Reads, ReadsDocument, AreSomeTokens, Begins, GoesWrongAt}
-use Rattle.graphql_checked.specs.Fold.{definition_list}
-use Rattle.graphql_checked.specs.Faults.{Fault, PassesNesting, NestingAt, SchemaFails, DocumentFails}
+use Rattle.graphql_thin.specs.Thin.{Symbol, Reads, ReadsDocument, AreSomeTokens, Begins, GoesWrongAt}
+use Rattle.graphql_thin.specs.Fold.{definition_list}
+use Rattle.graphql_thin.specs.Faults.{Fault, PassesNesting, NestingAt, SchemaFails, DocumentFails}
 use Rattle.graphql_checked.specs.Judge.{ReadsAll, document_number, JudgeSchemas, Judge, NotYetFrom, NotYetSchema, NotYetDocument, UnreadFault, UnreadFaultFrom, SaysSchema, SaysDocument}
 use Rattle.graphql_checked.specs.Answer.{WithinBounds, AllWithinBounds, UnreadFaults, AllSay, RefusesSchemas, RefusesDocument}
-use Rattle.graphql_checked.specs.FaultView.{faults_of}
+use Rattle.graphql_thin.specs.FaultView.{faults_of}
 use Rattle.graphql_checked.specs.Refusals.{AreSchemasAccepted, IsAccepted, RefusalOfSchemas, RefusalOfDocument}
 use Rattle.graphql_checked.specs.declared.refusal.Refusal.{Refusal}
 use Rattle.graphql_checked.specs.declared.refusal.Refusal.TheVariants.{Faults, NotYet, Memory, Failed}
@@ -23,7 +23,7 @@ use Rattle.graphql_checked.specs.declared.token.TokenKind.TheVariants.{Name, Ban
 use Rattle.graphql_checked.proofs.Fronts.{front_more}
 use Rattle.graphql_checked.proofs.Lexing.{lex_unique, token_of_lex, nothing_no_lex}
 use Rattle.graphql_checked.proofs.Unique.{schema_unique, document_unique}
-use Rattle.graphql_checked.proofs.Places.{Contains-first}
+use Rattle.graphql_thin.proofs.Places.{Contains-first}
 
 -- ---- a text that goes wrong
 

@@ -4,21 +4,21 @@ use Rattle.std.specs.Prelude.{Contains, ◌↔◌}
 use Rattle.std.proofs.Math.Nat.{lt_irrefl}
 use Rattle.graphql_names.specs.declared.span.FileId.{FileId}
 use Rattle.graphql_ast.specs.DefinitionTree.{document_tree}
-use Rattle.graphql_checked.specs.Fold.{built_in_definitions, definition_list}
-use Rattle.graphql_checked.specs.Faults.{Fault, FoldingFails, SchemaFails}
-use Rattle.graphql_checked.specs.FaultView.{faults_of}
-use Rattle.graphql_checked.specs.SchemaView.{IsSchemaOf}
+use Rattle.graphql_thin.specs.Fold.{built_in_definitions, definition_list}
+use Rattle.graphql_thin.specs.Faults.{Fault, FoldingFails, SchemaFails}
+use Rattle.graphql_thin.specs.FaultView.{faults_of}
+use Rattle.graphql_thin.specs.SchemaView.{IsSchemaOf}
 use Rattle.graphql_checked.specs.Added.{AreDefinitionsOf, IsNextNumber, IsDocumentNumber, AreAllThin}
 use Rattle.graphql_checked.specs.TextsView.{texts_of, IsReadingOf}
 use Rattle.graphql_checked.specs.Answer.{AllWithinBounds, UnreadFaults}
 use Rattle.graphql_checked.specs.Accepted.{IsAcceptedSchema}
 use Rattle.graphql_checked.specs.Refusals.{RefusalOfSchemas}
-use Rattle.graphql_checked.specs.declared.faults.DiagnosticList.{DiagnosticList}
+use Rattle.graphql_thin.specs.declared.faults.DiagnosticList.{DiagnosticList}
 use Rattle.graphql_checked.specs.declared.refusal.Refusal.TheVariants.{Faults}
-use Rattle.graphql_checked.specs.declared.schema.Schema.{Schema}
+use Rattle.graphql_thin.specs.declared.schema.Schema.{Schema}
 use Rattle.graphql_checked.specs.declared.schema_texts.SchemaTexts.{SchemaTexts}
 use Rattle.graphql_checked.proofs.Adding.{within_unread}
-use Rattle.graphql_checked.proofs.Places.{not_in_nil}
+use Rattle.graphql_thin.proofs.Places.{not_in_nil}
 use Rattle.graphql_checked.proofs.Deciding.{all_unique}
 use Rattle.graphql_checked.proofs.Saying.{unread_schemas}
 use Rattle.graphql_checked.proofs.TextsReading.{all_thin}

@@ -1,9 +1,9 @@
 -- Lists of faults of texts that are not read: each is so, and they stand alone.
 use Rattle.std.proofs.Common.{inl, inr, ◌≡◌, ◌≢◌, ℕ, ◌+◌, List, [], ◌∷◌, Contains, subst}
-use Rattle.graphql_checked.specs.Faults.{Fault}
+use Rattle.graphql_thin.specs.Faults.{Fault}
 use Rattle.graphql_checked.specs.Judge.{document_number, JudgeSchemas, UnreadFault, UnreadFaultFrom}
 use Rattle.graphql_checked.specs.Answer.{AllWithinBounds, UnreadFaults, UnreadAlone, RefusesSchemas, RefusesDocument}
-use Rattle.graphql_checked.proofs.Places.{not_in_nil, Contains-cons}
+use Rattle.graphql_thin.proofs.Places.{not_in_nil, Contains-cons}
 use Rattle.graphql_checked.proofs.Deciding.{not_unread, no_unread}
 
 says_unread : (nesting first : ℕ) (texts : List (List ℕ)) (faults : List Fault) → UnreadFaults nesting first texts faults → (fault : Fault) → Contains faults fault → UnreadFaultFrom nesting first texts fault

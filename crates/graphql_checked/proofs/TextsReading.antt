@@ -4,8 +4,8 @@ use Rattle.graphql_ast.specs.DefinitionTree.{document_tree}
 use Rattle.graphql_names.specs.declared.span.FileId.{FileId}
 use Rattle.graphql_values.specs.Placed.{Place}
 use Rattle.graphql_ast.specs.DefinitionTree.{DefinitionTree}
-use Rattle.graphql_checked.specs.Faults.{Fault}
-use Rattle.graphql_checked.specs.FaultView.{faults_of}
+use Rattle.graphql_thin.specs.Faults.{Fault}
+use Rattle.graphql_thin.specs.FaultView.{faults_of}
 use Rattle.graphql_checked.specs.Added.{AreAllThin, AreAdded}
 use Rattle.graphql_checked.specs.TextsView.{IsReadingOf}
 use Rattle.graphql_checked.specs.declared.schema_texts.SchemaTexts.{SchemaTexts}

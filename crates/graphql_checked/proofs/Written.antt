@@ -7,18 +7,18 @@ use Rattle.std.proofs.lemmas.List.Elements.{All-nil, All-cons, All-head, All-tai
 use Rattle.graphql_names.specs.Places.{is_built_in}
 use Rattle.graphql_values.specs.Placed.{Place}
 use Rattle.graphql_ast.specs.DefinitionTree.{DefinitionTree}
-use Rattle.graphql_checked.specs.Lists.{firsts}
+use Rattle.graphql_thin.specs.Lists.{firsts}
 use Rattle.graphql_checked.specs.Lex.{Token}
 use Rattle.graphql_checked.specs.Rules.{◌<$>◌, many, placed}
 use Rattle.graphql_checked.specs.Grammar as g
 use Rattle.graphql_checked.specs.Grammar.{DerivesSchema}
-use Rattle.graphql_checked.specs.Thin.{ReadsDocument}
-use Rattle.graphql_checked.specs.Fold.{Defined, built_in_definitions, definition_list, defined_name, definition_place, defined_types, has_type}
+use Rattle.graphql_thin.specs.Thin.{ReadsDocument}
+use Rattle.graphql_thin.specs.Fold.{Defined, built_in_definitions, definition_list, defined_name, definition_place, defined_types, has_type}
 use Rattle.graphql_checked.specs.Out.{is_written, Out, OutDoc}
-use Rattle.graphql_checked.specs.Faults.{Fault, TypeDefinitionCollision, TypeDefinitionCollisionIn, SchemaFails}
+use Rattle.graphql_thin.specs.Faults.{Fault, TypeDefinitionCollision, TypeDefinitionCollisionIn, SchemaFails}
 use Rattle.graphql_checked.specs.Judge.{ReadsAll}
-use Rattle.graphql_checked.proofs.Firsts.{firsts-push_new}
-use Rattle.graphql_checked.proofs.FoldSteps.{types_with}
+use Rattle.graphql_thin.proofs.Firsts.{firsts-push_new}
+use Rattle.graphql_thin.proofs.FoldSteps.{types_with}
 
 -- ---- a list of definitions without a collision
 

@@ -3,7 +3,7 @@
 ghost use Rattle.std.specs.Prelude.{◌≡◌, ◌++◌, codes, Some, IfOk, string_bytes};
 ghost use Rattle.std.specs.List.{flat_map};
 ghost use Rattle.graphql_checked.specs.Answer.{AcceptedBytes, fault_line, place_text};
-ghost use Rattle.graphql_checked.specs.FaultView.{fault_of, faults_of};
+ghost use Rattle.graphql_thin.specs.FaultView.{fault_of, faults_of};
 ghost use Rattle.graphql_checked.specs.Layouts.{layout_text};
 
 use crate::checked_document::CheckedDocument;

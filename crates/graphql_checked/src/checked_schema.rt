@@ -5,7 +5,7 @@ ghost use Rattle.graphql_ast.specs.DefinitionTree.{document_tree};
 ghost use Rattle.graphql_checked.specs.Added.{IsDocumentNumber};
 ghost use Rattle.graphql_checked.specs.Accepted.{IsReadBehind, IsUnreadBehind, TellsOnly};
 ghost use Rattle.graphql_checked.specs.Answer.{WritesSchema};
-ghost use Rattle.graphql_checked.specs.FaultView.{fault_of};
+ghost use Rattle.graphql_thin.specs.FaultView.{fault_of};
 ghost use Rattle.graphql_checked.specs.Layouts.{layout_text};
 ghost use Rattle.graphql_checked.specs.Refusals.{AreSchemasAccepted, IsAccepted, RefusalOfDocument};
 ghost use Rattle.graphql_checked.specs.declared.refusal.Refusal.TheVariants.{Memory};

@@ -2,7 +2,7 @@ use Rattle.std.proofs.Common.{◌+◌, ◌++◌, ◌∷◌, [], sym, subst}
 use Rattle.std.proofs.lemmas.Result.{IfOk-weaker}
 use Rattle.graphql_ast.specs.DefinitionTree.{document_tree}
 use Rattle.graphql_checked.specs.Added.{AreAllThin}
-use Rattle.graphql_checked.specs.FaultView.{faults_of}
+use Rattle.graphql_thin.specs.FaultView.{faults_of}
 use Rattle.graphql_checked.specs.Grammar.{DerivesSchema}
 use Rattle.graphql_checked.specs.WholeText.{UnreadIsDue}
 use Rattle.graphql_checked.specs.TextsView.{texts_of}

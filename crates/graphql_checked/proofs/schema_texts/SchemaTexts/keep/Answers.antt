@@ -1,0 +1,25 @@
+use Rattle.std.proofs.Common.{◌+◌, ◌++◌, ◌∷◌, [], Some, sym, ◌∙◌}
+use Rattle.std.proofs.lemmas.Result.{IfOk-weaker}
+use Rattle.graphql_ast.specs.DefinitionTree.{document_tree}
+use Rattle.graphql_checked.specs.TextsView.{texts_of}
+use Rattle.graphql_checked.proofs.TextsReading.{reading_of, behind_kept, thin_kept, outside_kept}
+use Rattle.graphql_checked.proofs.schema_texts.SchemaTexts.keep.Goals as goal
+
+pub returns-then-is_some-clause-reading : goal.returns-then-is_some-clause-reading
+returns-then-is_some-clause-reading c = λ text reads nests.
+    let old = c.args.self.now in
+    reading_of (texts_of old ++ text ∷ []) old (c.args.file.0 + 1) c.requires.number
+    (behind_kept old c.args.file c.requires text _ reads nests (sym c.is_some.ensures ∙ c.if-is_some.true))
+
+pub returns-in-None-clause-reading : goal.returns-in-None-clause-reading
+returns-in-None-clause-reading c =
+    let old = c.args.self.now in
+    IfOk-weaker _ _ _ (λ _ h text reads nests.
+    reading_of (texts_of old ++ text ∷ []) (record old { document = c.append.new.document }) (c.args.file.0 + 1) c.requires.number
+    (thin_kept old c.args.file c.requires text _ reads nests (sym c.is_some.ensures ∙ c.if-is_some.false) c.in-None.ensures (document_tree c.append.new.document) h)) c.append.ensures
+
+pub returns-in-Some-clause-reading : goal.returns-in-Some-clause-reading
+returns-in-Some-clause-reading c = λ text reads nests.
+    let old = c.args.self.now in
+    reading_of (texts_of old ++ text ∷ []) (record old { not_yet = Some (c.args.file, c.in-Some.offset) }) (c.args.file.0 + 1) c.requires.number
+    (outside_kept old c.args.file c.requires text _ reads nests c.in-Some.offset (sym c.is_some.ensures ∙ c.if-is_some.false) c.in-Some.ensures)
