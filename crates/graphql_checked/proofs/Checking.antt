@@ -50,7 +50,7 @@ module _ (nesting : ℕ) (texts : List (List ℕ)) (number : Option FileId) (def
         within = is.accepts.within;
         some = some;
         says = λ f h. inr (is.accepts.judged.trees, (tree, (is.accepts.judged.read, read.0, (told f).0 h)));
-        alone = inr read.1;
+        alone = inr (record { tree = tree; reads = read.0.reads; within = read.1 });
         full = λ bounds other read_other f fails. (told f).1 (subst (λ t. DocumentFails (definition_list is.accepts.judged.trees) t f) (read_unique (document_number texts) text other tree read_other read.0) fails);
       }
 

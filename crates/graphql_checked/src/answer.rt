@@ -8,9 +8,9 @@ ghost use Rattle.graphql_checked.specs.Layouts.{layout_text};
 
 use crate::checked_document::CheckedDocument;
 use crate::checked_schema::CheckedSchema;
-use crate::faults::{Details, DiagnosticList};
 use crate::layout::Layout;
 use graphql_names::{FileId, SourceSpan};
+use graphql_thin::{Details, DiagnosticList};
 use std::alloc::{AllocError, Global};
 
 /// `accepted`, and the texts of the schema and of the document under the layout, a line each.
