@@ -9,7 +9,8 @@ use Rattle.graphql_values.specs.Placed.{Place}
 use Rattle.graphql_ast.specs.DefinitionTree as tree
 use Rattle.graphql_ast.specs.DefinitionTree.{DefinitionTree}
 use Rattle.graphql_thin.specs.Lists.{firsts}
-use Rattle.graphql_read.specs.Sound.{is_not_built_in}
+use Rattle.graphql_read.specs.EachPlace.{all_in_definition, all_in_document}
+use Rattle.graphql_read.specs.Sound.{is_own}
 use Rattle.graphql_thin.specs.Thin.{is_thin_operation, ReadsSchema, ReadsDocument}
 use Rattle.graphql_thin.specs.Fold.{Defined, built_in_definitions, definition_list, defined_name, definition_place, defined_types, has_type, is_object}
 use Rattle.graphql_checked.specs.Out.{is_written, Out, has_no_name, OutDoc}
@@ -102,13 +103,33 @@ not_true : (b : Bool) → not b ≡ true → b ≡ false
 not_true true h = absurd cc
 not_true false h = refl
 
-objects_of_text : (ds : List (DefinitionTree Place)) → list_all is_object ds ≡ true → list_all is_not_built_in ds ≡ true → All IsOfText ds
+-- an object that was read is not built in
+own_object : (d : DefinitionTree Place) → is_object d ≡ true → all_in_definition is_own d ≡ true → is_built_in (definition_place d) ≡ false
+own_object (tree.ObjectType p d t) h own = not_true (is_built_in p) (and_parts (is_own p) _ own).0
+own_object (tree.Operation p o) h own = absurd cc
+own_object (tree.Fragment p f) h own = absurd cc
+own_object (tree.DirectiveDefinition p d) h own = absurd cc
+own_object (tree.Schema p d s) h own = absurd cc
+own_object (tree.ScalarType p d t) h own = absurd cc
+own_object (tree.InterfaceType p d t) h own = absurd cc
+own_object (tree.UnionType p d t) h own = absurd cc
+own_object (tree.EnumType p d t) h own = absurd cc
+own_object (tree.InputObjectType p d t) h own = absurd cc
+own_object (tree.ExtendSchema p s) h own = absurd cc
+own_object (tree.ExtendScalar p t) h own = absurd cc
+own_object (tree.ExtendObject p t) h own = absurd cc
+own_object (tree.ExtendInterface p t) h own = absurd cc
+own_object (tree.ExtendUnion p t) h own = absurd cc
+own_object (tree.ExtendEnum p t) h own = absurd cc
+own_object (tree.ExtendInputObject p t) h own = absurd cc
+
+objects_of_text : (ds : List (DefinitionTree Place)) → list_all is_object ds ≡ true → all_in_document is_own ds ≡ true → All IsOfText ds
 objects_of_text [] objects own = All-nil IsOfText
 objects_of_text (d ∷ ds) objects own =
     let o = and_parts (is_object d) (list_all is_object ds) objects in
-    let w = and_parts (is_not_built_in d) (list_all is_not_built_in ds) own in
+    let w = and_parts (all_in_definition is_own d) (all_in_document is_own ds) own in
     let named = object_name d o.0 in
-    All-cons IsOfText d ds (named.0, (named.1, not_true (is_built_in (definition_place d)) w.0)) (objects_of_text ds o.1 w.1)
+    All-cons IsOfText d ds (named.0, (named.1, own_object d o.0 w.0)) (objects_of_text ds o.1 w.1)
 
 tree_of_text : (file : ℕ) (text : List ℕ) (ds : List (DefinitionTree Place)) → file ≢ 0 → ReadsSchema file text ds → All IsOfText ds
 tree_of_text file text ds some h = objects_of_text ds (thin_schema_names ds h.thin) (own_definitions file text ds some h.reads)
