@@ -11,3 +11,4 @@ pub mod SelectionTrees
 pub mod RuleRows
 pub mod WholeTexts
 pub mod Reading
+pub mod TextRows

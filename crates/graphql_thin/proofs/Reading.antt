@@ -11,7 +11,7 @@ use Rattle.graphql_thin.specs.Thin.{is_thin_type_definition, is_thin_operation, 
 use Rattle.graphql_thin.specs.Fold.{is_object}
 use Rattle.graphql_thin.proofs.WholeTexts.{reads_unique}
 
-Trees : Type 0
+abbrev pub Trees : Type 0
 Trees = List (DefinitionTree Place)
 
 not_some : (o : Option ℕ) (n : ℕ) → o ≡ None → o ≡ Some n → ⊥
@@ -57,11 +57,11 @@ thin_is_object (tree.ExtendInputObject p t) h = absurd cc
 -- the definitions of a thin schema text are objects
 pub thin_schema_names : (tree : Trees) → schema_outside tree ≡ None → list_all is_object tree ≡ true
 thin_schema_names [] h = refl
-thin_schema_names (d ∷ ds) h = go (is_thin_type_definition d) refl h
+thin_schema_names (d ∷ ds) h = go (is_thin_type_definition d) refl h (thin_schema_names ds)
   where
-    go : (t : Bool) → is_thin_type_definition d ≡ t → cond t (schema_outside ds) (Some (begin_of (definition_place d))) ≡ None → list_all is_object (d ∷ ds) ≡ true
-    go true e h = rw (thin_is_object d e) (thin_schema_names ds h)
-    go false e h = absurd cc
+    go : (t : Bool) → is_thin_type_definition d ≡ t → cond t (schema_outside ds) (Some (begin_of (definition_place d))) ≡ None → (schema_outside ds ≡ None → list_all is_object ds ≡ true) → list_all is_object (d ∷ ds) ≡ true
+    go true e h more = rw (thin_is_object d e) (more h)
+    go false e h more = absurd cc
 
 -- a thin document is one operation
 pub thin_document_one : (tree : Trees) → document_outside tree ≡ None → has_some tree ≡ true → (d : DefinitionTree Place) × ((tree ≡ d ∷ []) × (is_thin_operation d ≡ true))

@@ -1,8 +1,9 @@
 -- What the laws of the reader say of whole texts: they have one tree at most, and none where a fault of reading is due.
-use Rattle.std.proofs.Common.{◌≡◌, ◌≢◌, ℕ, ◌+◌, ◌<◌, ◌≤◌, Bool, true, ◌&&◌, List, [], ◌∷◌, ◌++◌, length, take, drop, Option, Some, None, refl, sym, ap, subst, ◌∙◌, inl, inr, arith, append_assoc}
-use Rattle.std.specs.List.{list_all}
+use Rattle.std.proofs.Common.{◌≡◌, ◌≢◌, ℕ, ◌+◌, ◌-◌, ◌<◌, ◌≤◌, Bool, true, ◌&&◌, List, [], ◌∷◌, ◌++◌, length, take, drop, Option, Some, None, refl, sym, ap, subst, ◌∙◌, inl, inr, arith, append_assoc}
 use Rattle.std.proofs.lemmas.Bool.{and_parts}
 use Rattle.std.proofs.lemmas.List.{length-drop}
+use Rattle.graphql_names.specs.declared.span.FileId.{FileId}
+use Rattle.graphql_names.specs.declared.span.SourceSpan.{SourceSpan}
 use Rattle.graphql_values.specs.Placed.{Place}
 use Rattle.graphql_ast.specs.DefinitionTree.{DefinitionTree}
 use Rattle.graphql_ast.specs.Writable.{has_some}
@@ -21,12 +22,18 @@ use Rattle.graphql_grammar.proofs.Nests.{depth_front}
 use Rattle.graphql_grammar.proofs.Laws.{one_document}
 use Rattle.graphql_parse_values.specs.Meanings.{in_file}
 use Rattle.graphql_read.specs.Reads.{Reads, IsDue}
-use Rattle.graphql_read.specs.Sound.{IsSound, is_not_built_in}
+use Rattle.graphql_read.specs.ReadFaults.{fault_at}
+use Rattle.graphql_read.specs.declared.fault.SyntaxFaultKind.{SyntaxFaultKind}
+use Rattle.graphql_read.specs.declared.fault.SyntaxFaultKind.TheVariants.{NoToken, Unexpected, End}
+use Rattle.graphql_read.specs.EachPlace.{all_in_document}
+use Rattle.graphql_read.specs.Sound.{IsSound, is_own}
 use Rattle.graphql_read.proofs.Endings.{ends_whole}
 use Rattle.graphql_read.proofs.Soundness.{document_sound}
 use Rattle.graphql_thin.specs.ReadText.{DerivesIn, ReadsText, PassesNesting, IsRead}
-use Rattle.graphql_thin.specs.Faults.{Fault}
-use Rattle.graphql_thin.specs.Unread.{Tells, UnreadFault}
+use Rattle.graphql_thin.specs.Faults.{Fault, Syntax}
+use Rattle.graphql_thin.specs.Unread.{Tells, UnreadFault, TellsUnread, IsUnread}
+use Rattle.graphql_thin.specs.declared.unread.Unread.{Unread}
+use Rattle.graphql_thin.specs.declared.unread.Unread.TheVariants as unread
 
 -- ---- the tree of a text
 
@@ -41,8 +48,8 @@ reads_within file text tree r = record { tokens = r.tokens; lexed = r.lexed; der
 reads_sound : (file : ℕ) (text : List ℕ) (tree : List (DefinitionTree Place)) → ReadsText file text tree → IsSound file tree
 reads_sound file text tree r = document_sound (record { 0 = file }) (depth r.tokens) text tree (reads_within file text tree r)
 
--- of another file than that of the built-in definitions none of its definitions is built in
-pub own_definitions : (file : ℕ) (text : List ℕ) (tree : List (DefinitionTree Place)) → file ≢ 0 → ReadsText file text tree → list_all is_not_built_in tree ≡ true
+-- of another file than that of the built-in definitions no node in it is built in
+pub own_definitions : (file : ℕ) (text : List ℕ) (tree : List (DefinitionTree Place)) → file ≢ 0 → ReadsText file text tree → all_in_document is_own tree ≡ true
 own_definitions file text tree ne r = (reads_sound file text tree r).own ne
 
 -- there is a definition
@@ -60,7 +67,7 @@ same_piece : (p q : Piece) → Some p ≡ Some q → p ≡ q
 same_piece p q e = cc
 
 -- these tokens begin those
-Begin : List Token → List Token → Type 0
+abbrev Begin : List Token → List Token → Type 0
 Begin ts us = (more : List Token) × (us ≡ ts ++ more)
 
 with_token_begins : (kind : Option TokenKind) (text : List ℕ) (at : ℕ) (ts us : List Token) → Begin ts us → Begin (with_token kind text at ts) (with_token kind text at us)
@@ -89,6 +96,13 @@ within_all nesting text tokens lexed le passes =
     let deep : nesting < depth passes.0 = passes.1.1.1 in
     omega arith
 
+-- what the reader has read
+pub text_read : (file : FileId) (nesting : ℕ) (text : List ℕ) (tree : List (DefinitionTree Place)) → Reads (Derives (in_file file)) nesting text tree → ReadsText file.0 text tree
+text_read file nesting text tree r = record { tokens = r.tokens; lexed = r.lexed; derived = r.derived }
+
+pub text_within : (file : FileId) (nesting : ℕ) (text : List ℕ) (tree : List (DefinitionTree Place)) → Reads (Derives (in_file file)) nesting text tree → PassesNesting nesting text → ⊥
+text_within file nesting text tree r = within_all nesting text r.tokens r.lexed r.within
+
 -- ---- faults
 
 -- the tokens of a text, however it ends, are those of a front
@@ -104,15 +118,15 @@ module _ (nesting file : ℕ) (text : List ℕ) (r : IsRead nesting file text) w
   not_due read.Memory told tells due = tells
   not_due (read.NoToken offset) told tells due =
       let whole = ends_whole text due.tokens due.ending r.reads.tokens due.lexed r.reads.lexed in
-      not_both_ends whole.0 offset due.ending whole.1.0 due.says
+      not_both_ends whole.0 offset due.ending whole.1 due.says
   not_due (read.Unexpected offset) told tells due =
       let whole = ends_whole text due.tokens due.ending r.reads.tokens due.lexed r.reads.lexed in
       let says = due.says in
-      let parts : r.reads.tokens ≡ (says.front ++ says.token ∷ []) ++ says.stands.rest = whole.1.1 ∙ says.stands.parts ∙ sym (append_assoc says.front (says.token ∷ []) says.stands.rest) in
+      let parts : r.reads.tokens ≡ (says.front ++ says.token ∷ []) ++ says.stands.rest = whole.2 ∙ says.stands.parts ∙ sym (append_assoc says.front (says.token ∷ []) says.stands.rest) in
       says.begins_none says.stands.rest r.tree (subst (λ (ts : List Token). DerivesIn file ts r.tree) parts r.reads.derived)
   not_due (read.End offset) told tells due =
       let whole = ends_whole text due.tokens due.ending r.reads.tokens due.lexed r.reads.lexed in
-      due.says.1 r.tree (subst (λ (ts : List Token). DerivesIn file ts r.tree) whole.1.1 r.reads.derived)
+      due.says.1 r.tree (subst (λ (ts : List Token). DerivesIn file ts r.tree) whole.2 r.reads.derived)
   not_due (read.Nesting offset) told tells due =
       let says = due.says in
       let front = ends_front text due.tokens due.ending due.lexed in
@@ -121,6 +135,17 @@ module _ (nesting file : ℕ) (text : List ℕ) (r : IsRead nesting file text) w
       let parts : (says.front ++ says.token ∷ []) ++ says.stands.rest ≡ due.tokens = append_assoc says.front (says.token ∷ []) says.stands.rest ∙ sym says.stands.parts in
       let same : depth ((says.front ++ says.token ∷ []) ++ says.stands.rest) ≡ depth due.tokens = ap depth parts in
       r.within.nests (due.tokens, (front.0, (front.1, omega arith)))
+
+-- what is told of tokens that are wrong at an offset
+pub syntax_tells : (file : ℕ) (kind : SyntaxFaultKind) (span : SourceSpan) → span.file_id.0 ≡ file → span.length ≡ 0 → Tells file (fault_at kind span.offset) (record { place = Some span; breach = Syntax kind })
+syntax_tells file NoToken span f l = (refl, record { span = span; is = refl; of_file = f; at = refl; long = l })
+syntax_tells file Unexpected span f l = (refl, record { span = span; is = refl; of_file = f; at = refl; long = l })
+syntax_tells file End span f l = (refl, record { span = span; is = refl; of_file = f; at = refl; long = l })
+
+-- what is told of a fault that is due of a text
+pub unread_due : (nesting file : ℕ) (text : List ℕ) (fault : read.Fault) (told : Unread) → IsDue (DerivesIn file) nesting text fault → TellsUnread file fault told → IsUnread nesting file text told
+unread_due nesting file text fault unread.Memory due tells = tt
+unread_due nesting file text fault (unread.Fault place details) due tells = record { read = fault; due = due; tells = tells }
 
 -- a text of which a fault says that it is unread is not read
 pub unread_not_read : (nesting file : ℕ) (text : List ℕ) (fault : Fault) → UnreadFault nesting file text fault → IsRead nesting file text → ⊥
