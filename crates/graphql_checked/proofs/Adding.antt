@@ -1,5 +1,5 @@
 -- A text is added to texts that have been read.
-use Rattle.std.proofs.Common.{inl, inr, ◌≡◌, ℕ, ◌+◌, ◌<◌, ◌≤◌, ◌^◌, List, [], ◌∷◌, ◌++◌, length, length-append, Option, None, Some, refl, ap, ◌∙◌, subst, arith, append-nil}
+use Rattle.std.proofs.Common.{inl, inr, ◌≡◌, ℕ, ◌+◌, ◌<◌, ◌≤◌, ◌^◌, List, [], ◌∷◌, ◌++◌, length, length-append, Option, None, Some, refl, sym, ap, ◌∙◌, subst, arith, append-nil}
 use Rattle.std.proofs.Math.Nat.{lt_irrefl}
 use Rattle.std.proofs.lemmas.List.Concat.{flat_map-append}
 use Rattle.graphql_values.specs.Placed.{Place}
@@ -131,13 +131,13 @@ module _ (nesting number : ℕ) (texts : List (List ℕ)) (text : List ℕ) (def
           → AreAdded nesting (texts ++ text ∷ []) (number + 1) definitions faults (Some (file, offset))
       outside_added file offset is none outside = read_added definitions (Some (file, offset)) (λ silent.
           let so_far : AreDefinitionsOf texts definitions = subst (AreKept texts definitions) none (added.kept silent) in
-          subst (λ n. NotYetFrom 1 (texts ++ text ∷ []) n offset) (λ i. is (~ i))
+          subst (λ n. NotYetFrom 1 (texts ++ text ∷ []) n offset) (sym is)
           (leaves_more text number 1 texts so_far.trees offset here so_far.read (record { tree = tree; reads = reads; outside = outside })))
 
       -- behind one that is not thin: any
       pub behind_added : (file : FileId) (offset : ℕ) → not_yet ≡ Some (file, offset) → AreAdded nesting (texts ++ text ∷ []) (number + 1) definitions faults not_yet
       behind_added file offset some = read_added definitions not_yet (λ silent.
-          subst (AreKept (texts ++ text ∷ []) definitions) (λ i. some (~ i))
+          subst (AreKept (texts ++ text ∷ []) definitions) (sym some)
           (kept_from 1 texts (text ∷ []) file.0 offset (subst (AreKept texts definitions) some (added.kept silent))))
 
 -- ---- what the judge asks

@@ -1,5 +1,5 @@
 -- What is written of accepted texts is what was read.
-use Rattle.std.proofs.Common.{inl, ◌≡◌, ◌≢◌, ℕ, ◌+◌, Bool, true, false, not, cond, if◌then◌else◌, List, [], ◌∷◌, ◌++◌, map, Option, None, Some, refl, sym, ap, ◌∙◌, subst, arith, append_assoc, append-nil}
+use Rattle.std.proofs.Common.{inl, ◌≡◌, ◌≢◌, ℕ, ◌+◌, Bool, true, false, not, ◌&&◌, cond, if◌then◌else◌, List, [], ◌∷◌, ◌++◌, map, Option, None, Some, refl, sym, ap, ◌∙◌, subst, arith, append_assoc, append-nil}
 use Rattle.std.specs.Option.{option_map_or}
 use Rattle.std.specs.List.{All, flat_map, filter, list_all}
 use Rattle.std.proofs.lemmas.Bool.{and_parts, false_from_ne_true}
@@ -9,7 +9,7 @@ use Rattle.graphql_values.specs.Placed.{Place}
 use Rattle.graphql_ast.specs.DefinitionTree as tree
 use Rattle.graphql_ast.specs.DefinitionTree.{DefinitionTree}
 use Rattle.graphql_thin.specs.Lists.{firsts}
-use Rattle.graphql_read.specs.EachPlace.{all_in_definition, all_in_document}
+use Rattle.graphql_read.specs.EachPlace.{all_in_text, all_in_any, all_in_fields, all_in_definition, all_in_document}
 use Rattle.graphql_read.specs.Sound.{is_own}
 use Rattle.graphql_thin.specs.Thin.{is_thin_operation, ReadsSchema, ReadsDocument}
 use Rattle.graphql_thin.specs.Fold.{Defined, built_in_definitions, definition_list, defined_name, definition_place, defined_types, has_type, is_object}
@@ -105,7 +105,7 @@ not_true false h = refl
 
 -- an object that was read is not built in
 own_object : (d : DefinitionTree Place) → is_object d ≡ true → all_in_definition is_own d ≡ true → is_built_in (definition_place d) ≡ false
-own_object (tree.ObjectType p d t) h own = not_true (is_built_in p) (and_parts (is_own p) _ own).0
+own_object (tree.ObjectType p d t) h own = not_true (is_built_in p) (and_parts (is_own p) (all_in_any is_own (all_in_text is_own) d && all_in_fields is_own t) own).0
 own_object (tree.Operation p o) h own = absurd cc
 own_object (tree.Fragment p f) h own = absurd cc
 own_object (tree.DirectiveDefinition p d) h own = absurd cc
