@@ -5,11 +5,15 @@ use Rattle.graphql_names.specs.declared.span.FileId.{FileId}
 use Rattle.graphql_ast.specs.DefinitionTree.{DefinitionTree, document_tree}
 use Rattle.graphql_thin.specs.ReadText.{ReadsText, PassesNesting}
 use Rattle.graphql_thin.specs.Thin.{schema_outside}
-use Rattle.graphql_thin.specs.FaultView.{faults_of}
-use Rattle.graphql_checked.specs.Added.{AreAdded}
+use Rattle.graphql_thin.specs.Faults.{Fault}
+use Rattle.graphql_thin.specs.FaultView.{fault_of, faults_of}
+use Rattle.graphql_thin.specs.Unread.{IsUnread}
+use Rattle.graphql_thin.specs.declared.unread.Unread.{Unread}
+use Rattle.graphql_thin.specs.declared.unread.Unread.TheVariants as unread
+use Rattle.graphql_checked.specs.Added.{AreAdded, IsToldBehind}
 use Rattle.graphql_checked.specs.TextsView.{texts_of, IsReadingAt, IsReadingOf, IsBefore}
 use Rattle.graphql_checked.specs.declared.schema_texts.SchemaTexts.{SchemaTexts}
-use Rattle.graphql_checked.proofs.Adding.{thin_added, outside_added, behind_added}
+use Rattle.graphql_checked.proofs.Adding.{fault_added, thin_added, outside_added, behind_added}
 
 -- with the number that comes next
 pub reading_of : (texts : List (List ℕ)) (s : SchemaTexts) (number : ℕ) → s.files ≡ number → IsReadingAt texts number s → IsReadingOf texts s
@@ -22,6 +26,14 @@ some_is (Some x) h = (x, refl)
 none_is : {X : Type 0} (o : Option X) → is_some o ≡ false → o ≡ None
 none_is None h = refl
 none_is (Some x) h = absurd cc
+
+-- behind any texts, one that is not read
+pub unread_kept : (s : SchemaTexts) (file : FileId) → IsBefore (texts_of s) file s → (text : List ℕ) (u : Unread) → IsUnread s.nesting file.0 text u → (faults : List Fault) → IsToldBehind u (faults_of s.unread) faults
+    → AreAdded s.nesting (texts_of s ++ text ∷ []) (file.0 + 1) (document_tree s.document) faults s.not_yet
+unread_kept s file before text unread.Memory is faults told = absurd told
+unread_kept s file before text (unread.Fault place details) is faults told =
+    subst (λ fs. AreAdded s.nesting (texts_of s ++ text ∷ []) (file.0 + 1) (document_tree s.document) fs s.not_yet) (sym told)
+    (fault_added s.nesting file.0 (texts_of s) text (document_tree s.document) (faults_of s.unread) s.not_yet before.added before.left (fault_of (Some place, details)) is)
 
 module _ (s : SchemaTexts) (file : FileId) (before : IsBefore (texts_of s) file s) (text : List ℕ) (tree : List (DefinitionTree Place))
     (reads : ReadsText file.0 text tree) (nests : PassesNesting s.nesting text → ⊥) where

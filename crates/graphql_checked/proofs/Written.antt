@@ -103,9 +103,13 @@ not_true : (b : Bool) → not b ≡ true → b ≡ false
 not_true true h = absurd cc
 not_true false h = refl
 
+first_of : (a b c : Bool) → a && b && c ≡ true → a ≡ true
+first_of true b c h = refl
+first_of false b c h = h
+
 -- an object that was read is not built in
 own_object : (d : DefinitionTree Place) → is_object d ≡ true → all_in_definition is_own d ≡ true → is_built_in (definition_place d) ≡ false
-own_object (tree.ObjectType p d t) h own = not_true (is_built_in p) (and_parts (is_own p) (all_in_any is_own (all_in_text is_own) d && all_in_fields is_own t) own).0
+own_object (tree.ObjectType p d t) h own = not_true (is_built_in p) (first_of (is_own p) (all_in_any is_own (all_in_text is_own) d) (all_in_fields is_own t) own)
 own_object (tree.Operation p o) h own = absurd cc
 own_object (tree.Fragment p f) h own = absurd cc
 own_object (tree.DirectiveDefinition p d) h own = absurd cc

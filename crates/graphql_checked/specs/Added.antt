@@ -1,11 +1,14 @@
 -- Private. How a checker keeps the schema texts that it was given: what reading them gave.
-use Rattle.std.specs.Prelude.{◌≡◌, ℕ, ◌+◌, ◌^◌, ◌≤◌, ◌⊎◌, List, [], length, Option, None, Some}
+use Rattle.std.specs.Prelude.{◌≡◌, ℕ, ◌+◌, ◌^◌, ◌≤◌, ◌⊎◌, List, [], ◌∷◌, ◌++◌, length, Option, None, Some}
 use Rattle.std.specs.List.{flat_map}
 use Rattle.graphql_values.specs.Placed.{Place}
 use Rattle.graphql_ast.specs.DefinitionTree.{DefinitionTree}
 use Rattle.graphql_names.specs.declared.span.FileId.{FileId}
 use Rattle.graphql_thin.specs.ReadText.{PassesNumbers}
 use Rattle.graphql_thin.specs.Faults.{Fault}
+use Rattle.graphql_thin.specs.FaultView.{fault_of}
+use Rattle.graphql_thin.specs.declared.unread.Unread.{Unread}
+use Rattle.graphql_thin.specs.declared.unread.Unread.TheVariants as unread
 use Rattle.graphql_checked.specs.Judge.{ReadsAll, NotYetFrom, document_number}
 use Rattle.graphql_checked.specs.Answer.{UnreadFaults}
 
@@ -31,6 +34,11 @@ pub record AreAdded (nesting : ℕ) (texts : List (List ℕ)) (number : ℕ) (de
   pub unread : UnreadFaults nesting 1 texts faults
   pub kept : faults ≡ [] → AreKept texts definitions not_yet
   pub next : IsNextNumber texts number
+
+-- the fault of an unread text stands behind these
+abbrev pub IsToldBehind : Unread → List Fault → List Fault → Type 0
+IsToldBehind (unread.Fault place details) old new = new ≡ old ++ fault_of (Some place, details) ∷ []
+IsToldBehind unread.Memory old new = ⊥
 
 -- the number of the document, or that none is left for it
 abbrev pub IsDocumentNumber : List (List ℕ) → Option FileId → Type 0

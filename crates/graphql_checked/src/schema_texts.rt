@@ -3,7 +3,8 @@
 ghost use Rattle.std.specs.Prelude.{◌≡◌, ◌++◌, ◌∷◌, [], ℕ, List, OnOk, OnErr, IfOk, IfErr};
 ghost use Rattle.graphql_ast.specs.DefinitionTree.{document_tree};
 ghost use Rattle.graphql_thin.specs.ReadText.{ReadsText, PassesNesting};
-ghost use Rattle.graphql_checked.specs.Added.{IsNextNumber, IsDocumentNumber};
+ghost use Rattle.graphql_thin.specs.FaultView.{faults_of};
+ghost use Rattle.graphql_checked.specs.Added.{IsToldBehind, IsNextNumber, IsDocumentNumber};
 ghost use Rattle.graphql_checked.specs.Refusals.{AreSchemasAccepted, RefusalOfSchemas};
 ghost use Rattle.graphql_checked.specs.TextsView.{texts_of, IsReadingOf, IsBefore};
 
@@ -88,8 +89,7 @@ impl SchemaTexts {
     {
         match read(self.alloc, text, file, self.nesting) {
             Ok(document) => self.keep(document, file),
-            Err(Unread::Fault { place, details }) => self.unread.push(Some(place), details),
-            Err(Unread::Memory) => Err(AllocError),
+            Err(unread) => tell(&mut self.unread, unread),
         }
     }
 
@@ -139,6 +139,16 @@ impl SchemaTexts {
             document: self.document,
             schema: built.schema,
         })
+    }
+}
+
+/// Tells why a text is not read, behind the faults of the list.
+fn tell(list: &mut DiagnosticList, unread: Unread) -> Result<(), AllocError>
+    ensures { OnOk result (IsToldBehind unread (faults_of list.old) (faults_of list.new)) }
+{
+    match unread {
+        Unread::Fault { place, details } => list.push(Some(place), details),
+        Unread::Memory => Err(AllocError),
     }
 }
 
