@@ -1,25 +1,26 @@
 -- A text is added to texts that have been read.
-use Rattle.std.proofs.Common.{inl, inr, ◌≡◌, ℕ, ◌+◌, ◌<◌, ◌≤◌, ◌^◌, List, [], ◌∷◌, ◌++◌, length, length-append, None, Some, refl, ap, ◌∙◌, subst, arith, append-nil}
+use Rattle.std.proofs.Common.{inl, inr, ◌≡◌, ℕ, ◌+◌, ◌<◌, ◌≤◌, ◌^◌, List, [], ◌∷◌, ◌++◌, length, length-append, Option, None, Some, refl, sym, ap, ◌∙◌, subst, arith, append-nil}
 use Rattle.std.proofs.Math.Nat.{lt_irrefl}
 use Rattle.std.proofs.lemmas.List.Concat.{flat_map-append}
 use Rattle.graphql_values.specs.Placed.{Place}
-use Rattle.graphql_names.specs.declared.span.SourceSpan.{SourceSpan}
+use Rattle.graphql_names.specs.declared.span.FileId.{FileId}
 use Rattle.graphql_ast.specs.DefinitionTree.{DefinitionTree}
-use Rattle.graphql_checked.specs.Grammar.{DerivesSchema}
-use Rattle.graphql_checked.specs.Thin.{ReadsSchema, GoesWrongAt}
-use Rattle.graphql_checked.specs.Faults.{Fault, Nesting, Spent, PassesNesting, PassesNumbers, NestingAt}
-use Rattle.graphql_checked.specs.Judge.{ReadsAll, NotYetFrom, NotYetSchema, UnreadFault}
-use Rattle.graphql_checked.specs.Answer.{WithinBounds, AllWithinBounds, UnreadFaults}
-use Rattle.graphql_checked.specs.Added.{HaveTrees, IsNextNumber, AreAllThin}
+use Rattle.graphql_thin.specs.ReadText.{ReadsText, PassesNesting, PassesNumbers, WithinBounds, IsRead}
+use Rattle.graphql_thin.specs.Thin.{ReadsSchema, SchemaLeavesAt, schema_outside}
+use Rattle.graphql_thin.specs.Unread.{UnreadFault, IsFaultOfText}
+use Rattle.graphql_thin.specs.Faults.{Fault, Spent}
+use Rattle.graphql_checked.specs.Judge.{ReadsAll, NotYetFrom, AreRead}
+use Rattle.graphql_checked.specs.Answer.{AllWithinBounds, UnreadFaults}
+use Rattle.graphql_checked.specs.Added.{AreDefinitionsOf, AreKept, IsNextNumber, AreAdded}
 
 -- ---- a text at the end of the texts, where the first has any number
 
 module _ (text : List ℕ) (number : ℕ) where
-  within_more : (nesting first : ℕ) (texts : List (List ℕ)) (faults : List Fault) → number ≡ first + length texts → UnreadFaults nesting first texts faults
-      → WithinBounds nesting number text → UnreadFaults nesting first (texts ++ text ∷ []) faults
-  within_more nesting first [] faults e h within = inl (subst (λ n. WithinBounds nesting n text) (e ∙ omega arith) within, h)
-  within_more nesting first (t ∷ ts) faults e (inl h) within = inl (h.0, within_more nesting (first + 1) ts faults (omega (arith, e)) h.1 within)
-  within_more nesting first (t ∷ ts) faults e (inr h) within = inr (h.0, (h.1.0, (h.1.1.0, h.1.1.1, within_more nesting (first + 1) ts h.1.0 (omega (arith, e)) h.1.1.2 within)))
+  read_more : (nesting first : ℕ) (texts : List (List ℕ)) (faults : List Fault) → number ≡ first + length texts → UnreadFaults nesting first texts faults
+      → IsRead nesting number text → UnreadFaults nesting first (texts ++ text ∷ []) faults
+  read_more nesting first [] faults e h read = inl (subst (λ n. IsRead nesting n text) (e ∙ omega arith) read, h)
+  read_more nesting first (t ∷ ts) faults e (inl h) read = inl (h.0, read_more nesting (first + 1) ts faults (omega (arith, e)) h.1 read)
+  read_more nesting first (t ∷ ts) faults e (inr h) read = inr (h.0, (h.1.0, (h.1.1.0, h.1.1.1, read_more nesting (first + 1) ts h.1.0 (omega (arith, e)) h.1.1.2 read)))
 
   fault_more : (nesting first : ℕ) (texts : List (List ℕ)) (faults : List Fault) (fault : Fault) → number ≡ first + length texts → UnreadFaults nesting first texts faults
       → UnreadFault nesting number text fault → UnreadFaults nesting first (texts ++ text ∷ []) (faults ++ fault ∷ [])
@@ -36,16 +37,14 @@ module _ (text : List ℕ) (number : ℕ) where
   reads_more first (t ∷ ts) [] tree e h reads = absurd h
   reads_more first (t ∷ ts) (u ∷ us) tree e h reads = (h.0, reads_more (first + 1) ts us tree (omega (arith, e)) h.1 reads)
 
-  trees_more : (first : ℕ) (texts : List (List ℕ)) (tree : List (DefinitionTree Place)) → number ≡ first + length texts → HaveTrees first texts
-      → ReadsSchema number text tree → HaveTrees first (texts ++ text ∷ [])
-  trees_more first [] tree e h reads = ((tree, subst (λ n. ReadsSchema n text tree) (e ∙ omega arith) reads), tt)
-  trees_more first (t ∷ ts) tree e h reads = (h.0, trees_more (first + 1) ts tree (omega (arith, e)) h.1 reads)
+  leaves_more : (first : ℕ) (texts : List (List ℕ)) (trees : List (List (DefinitionTree Place))) (offset : ℕ) → number ≡ first + length texts → ReadsAll first texts trees
+      → SchemaLeavesAt number text offset → NotYetFrom first (texts ++ text ∷ []) number offset
+  leaves_more first [] [] offset e h leaves = inl (e ∙ omega arith, subst (λ n. SchemaLeavesAt n text offset) (e ∙ omega arith) leaves)
+  leaves_more first [] (u ∷ us) offset e h leaves = absurd h
+  leaves_more first (t ∷ ts) [] offset e h leaves = absurd h
+  leaves_more first (t ∷ ts) (u ∷ us) offset e h leaves = inr ((u, h.0), leaves_more (first + 1) ts us offset (omega (arith, e)) h.1 leaves)
 
-  wrong_more : (first : ℕ) (texts : List (List ℕ)) (offset : ℕ) → number ≡ first + length texts → HaveTrees first texts
-      → GoesWrongAt (DerivesSchema number) text offset → NotYetFrom first (texts ++ text ∷ []) number offset
-  wrong_more first [] offset e h wrong = inl (e ∙ omega arith, subst (λ n. GoesWrongAt (DerivesSchema n) text offset) (e ∙ omega arith) wrong)
-  wrong_more first (t ∷ ts) offset e h wrong = inr (h.0, wrong_more (first + 1) ts offset (omega (arith, e)) h.1 wrong)
-
+-- the first text that is not thin stays so where texts are added
 kept_from : (first : ℕ) (texts more : List (List ℕ)) (file offset : ℕ) → NotYetFrom first texts file offset → NotYetFrom first (texts ++ more) file offset
 kept_from first [] more file offset h = absurd h
 kept_from first (t ∷ ts) more file offset (inl h) = inl h
@@ -54,17 +53,15 @@ kept_from first (t ∷ ts) more file offset (inr h) = inr (h.0, kept_from (first
 -- ---- the texts of a checker
 
 -- where a number is left, it is that of the next text
-number_left : (texts : List (List ℕ)) (number : ℕ) → IsNextNumber texts number → number + 1 < 2 ^ 64 → (number ≡ 1 + length texts) × HaveTrees 1 texts
-number_left texts number (inl h) left = let e = h.0 in (omega (arith, e), h.1)
+number_left : (texts : List (List ℕ)) (number : ℕ) → IsNextNumber texts number → number + 1 < 2 ^ 64 → number ≡ 1 + length texts
+number_left texts number (inl e) left = omega (arith, e)
 number_left texts number (inr h) left = absurd (lt_irrefl (2 ^ 64) (omega (arith, left, h.0)))
 
-next_number : (texts : List (List ℕ)) (number : ℕ) (text : List ℕ) (tree : List (DefinitionTree Place)) → IsNextNumber texts number → number + 1 < 2 ^ 64 → ReadsSchema number text tree
-    → IsNextNumber (texts ++ text ∷ []) (number + 1)
-next_number texts number text tree next left reads =
-    let here = number_left texts number next left in
+next_number : (texts : List (List ℕ)) (number : ℕ) (text : List ℕ) → IsNextNumber texts number → number + 1 < 2 ^ 64 → IsNextNumber (texts ++ text ∷ []) (number + 1)
+next_number texts number text next left =
+    let e = number_left texts number next left in
     let l = length-append texts (text ∷ []) in
-    let e = here.0 in
-    inl (omega (arith, l, e), trees_more text number 1 texts tree e here.1 reads)
+    inl (omega (arith, l, e))
 
 -- where none is left
 no_number : (texts : List (List ℕ)) (number : ℕ) (text : List ℕ) → IsNextNumber texts number → number + 1 ≡ 2 ^ 64
@@ -75,66 +72,83 @@ no_number texts number text next spent =
     (omega (arith, spent, far), inr (spent, omega (arith, l, far)))
   where
     within : IsNextNumber texts number → number ≤ 1 + length texts
-    within (inl h) = let e = h.0 in omega (arith, e)
+    within (inl e) = omega (arith, e)
     within (inr h) = let le = h.1 in omega (arith, le)
 
 some_fault : (faults : List Fault) (fault : Fault) → faults ++ fault ∷ [] ≡ [] → ⊥
 some_fault [] fault e = absurd cc
 some_fault (f ∷ fs) fault e = absurd cc
 
-module _ (nesting number : ℕ) (texts : List (List ℕ)) (text : List ℕ) (definitions tree : List (DefinitionTree Place)) (faults : List Fault) where
-  -- a text that is read
-  pub read_added : AreAllThin nesting texts number definitions faults → number + 1 < 2 ^ 64 → ReadsSchema number text tree → (PassesNesting nesting text → ⊥)
-      → AreAllThin nesting (texts ++ text ∷ []) (number + 1) (definitions ++ tree) faults
-  read_added thin left reads nests =
-      let here = number_left texts number thin.next left in
-      record {
-        unread = within_more text number nesting 1 texts faults here.0 thin.unread (record { nests = nests; numbered = λ passes. lt_irrefl (2 ^ 64) (omega (arith, left, passes)) });
-        read = λ none. let so_far = thin.read none in record {
-          trees = so_far.trees ++ tree ∷ [];
-          read = reads_more text number 1 texts so_far.trees tree here.0 so_far.read reads;
-          are = flat_map-append (λ t. t) so_far.trees (tree ∷ []) ∙ ap (λ l. l ++ (tree ++ [])) so_far.are ∙ ap (λ l. definitions ++ l) (append-nil tree);
-        };
-        next = next_number texts number text tree thin.next left reads;
-      }
-
-  -- a text with a bracket that is too deep, of which no tree is kept
-  pub nesting_added : AreAllThin nesting texts number definitions faults → number + 1 < 2 ^ 64 → ReadsSchema number text tree
-      → (place : SourceSpan) → NestingAt nesting number text (Some place) → (definitions' : List (DefinitionTree Place))
-      → AreAllThin nesting (texts ++ text ∷ []) (number + 1) definitions' (faults ++ record { place = Some place; breach = Nesting } ∷ [])
-  nesting_added thin left reads place deep definitions' =
-      let here = number_left texts number thin.next left in
-      record {
-        unread = fault_more text number nesting 1 texts faults (record { place = Some place; breach = Nesting }) here.0 thin.unread (inl (refl, deep));
-        read = λ none. absurd (some_fault faults (record { place = Some place; breach = Nesting }) none);
-        next = next_number texts number text tree thin.next left reads;
-      }
-
-module _ (nesting number : ℕ) (texts : List (List ℕ)) (text : List ℕ) (definitions : List (DefinitionTree Place)) (faults : List Fault) (thin : AreAllThin nesting texts number definitions faults) where
+module _ (nesting number : ℕ) (texts : List (List ℕ)) (text : List ℕ) (definitions : List (DefinitionTree Place)) (faults : List Fault) (not_yet : Option (FileId × ℕ))
+    (added : AreAdded nesting texts number definitions faults not_yet) where
   -- a text without a number
-  pub spent_added : number + 1 ≡ 2 ^ 64 → (definitions' : List (DefinitionTree Place)) → AreAllThin nesting (texts ++ text ∷ []) number definitions' (faults ++ record { place = None; breach = Spent } ∷ [])
-  spent_added spent definitions' =
-      let none_left = no_number texts number text thin.next spent in
+  pub spent_added : number + 1 ≡ 2 ^ 64 → AreAdded nesting (texts ++ text ∷ []) number definitions (faults ++ record { place = None; breach = Spent } ∷ []) not_yet
+  spent_added spent =
+      let none_left = no_number texts number text added.next spent in
       record {
-        unread = fault_more text (1 + length texts) nesting 1 texts faults (record { place = None; breach = Spent }) refl thin.unread (inr (refl, refl, none_left.0));
-        read = λ none. absurd (some_fault faults (record { place = None; breach = Spent }) none);
+        unread = fault_more text (1 + length texts) nesting 1 texts faults (record { place = None; breach = Spent }) refl added.unread (inr (record { breach = refl; place = refl; passes = none_left.0 }));
+        kept = λ none. absurd (some_fault faults (record { place = None; breach = Spent }) none);
         next = none_left.1;
       }
 
-  -- a text that is not thin
-  pub not_yet_added : {offset : ℕ} → number + 1 < 2 ^ 64 → GoesWrongAt (DerivesSchema number) text offset → NotYetSchema (texts ++ text ∷ []) number offset
-  not_yet_added {offset} left wrong =
-      let here = number_left texts number thin.next left in
-      wrong_more text number 1 texts offset here.0 here.1 wrong
+  module _ (left : number + 1 < 2 ^ 64) where
+    here : number ≡ 1 + length texts
+    here = number_left texts number added.next left
 
--- the first text that is not thin stays so where texts are added
-pub not_yet_kept : (texts more : List (List ℕ)) (file offset : ℕ) → NotYetSchema texts file offset → NotYetSchema (texts ++ more) file offset
-not_yet_kept texts more file offset h = kept_from 1 texts more file offset h
+    -- a text that is not read, of which nothing is kept
+    pub fault_added : (fault : Fault) → IsFaultOfText nesting number text fault → AreAdded nesting (texts ++ text ∷ []) (number + 1) definitions (faults ++ fault ∷ []) not_yet
+    fault_added fault is = record {
+      unread = fault_more text number nesting 1 texts faults fault here added.unread (inl is);
+      kept = λ none. absurd (some_fault faults fault none);
+      next = next_number texts number text added.next left;
+    }
+
+    module _ (tree : List (DefinitionTree Place)) (reads : ReadsText number text tree) (nests : PassesNesting nesting text → ⊥) where
+      -- a text that is read, whatever is kept of it
+      read_added : (definitions' : List (DefinitionTree Place)) (not_yet' : Option (FileId × ℕ)) → (faults ≡ [] → AreKept (texts ++ text ∷ []) definitions' not_yet')
+          → AreAdded nesting (texts ++ text ∷ []) (number + 1) definitions' faults not_yet'
+      read_added definitions' not_yet' keeps = record {
+        unread = read_more text number nesting 1 texts faults here added.unread (record {
+          tree = tree;
+          reads = reads;
+          within = record { nests = nests; numbered = λ passes. lt_irrefl (2 ^ 64) (omega (arith, left, passes)) };
+        });
+        kept = keeps;
+        next = next_number texts number text added.next left;
+      }
+
+      -- behind thin texts: a thin one, of which the definitions are kept
+      pub thin_added : not_yet ≡ None → schema_outside tree ≡ None → AreAdded nesting (texts ++ text ∷ []) (number + 1) (definitions ++ tree) faults None
+      thin_added none thin = read_added (definitions ++ tree) None (λ silent.
+          let so_far : AreDefinitionsOf texts definitions = subst (AreKept texts definitions) none (added.kept silent) in record {
+            trees = so_far.trees ++ tree ∷ [];
+            read = reads_more text number 1 texts so_far.trees tree here so_far.read (record { reads = reads; thin = thin });
+            are = flat_map-append (λ t. t) so_far.trees (tree ∷ []) ∙ ap (λ l. l ++ (tree ++ [])) so_far.are ∙ ap (λ l. definitions ++ l) (append-nil tree);
+          })
+
+      -- behind thin texts: one that is not
+      pub outside_added : (file : FileId) (offset : ℕ) → file.0 ≡ number → not_yet ≡ None → schema_outside tree ≡ Some offset
+          → AreAdded nesting (texts ++ text ∷ []) (number + 1) definitions faults (Some (file, offset))
+      outside_added file offset is none outside = read_added definitions (Some (file, offset)) (λ silent.
+          let so_far : AreDefinitionsOf texts definitions = subst (AreKept texts definitions) none (added.kept silent) in
+          subst (λ n. NotYetFrom 1 (texts ++ text ∷ []) n offset) (sym is)
+          (leaves_more text number 1 texts so_far.trees offset here so_far.read (record { tree = tree; reads = reads; outside = outside })))
+
+      -- behind one that is not thin: any
+      pub behind_added : (file : FileId) (offset : ℕ) → not_yet ≡ Some (file, offset) → AreAdded nesting (texts ++ text ∷ []) (number + 1) definitions faults not_yet
+      behind_added file offset some = read_added definitions not_yet (λ silent.
+          subst (AreKept (texts ++ text ∷ []) definitions) (sym some)
+          (kept_from 1 texts (text ∷ []) file.0 offset (subst (AreKept texts definitions) some (added.kept silent))))
 
 -- ---- what the judge asks
 
--- without a fault no text passes a bound
-pub within_unread : (nesting first : ℕ) (texts : List (List ℕ)) → UnreadFaults nesting first texts [] → AllWithinBounds nesting first texts
-within_unread nesting first [] h = tt
-within_unread nesting first (t ∷ ts) (inl h) = (h.0, within_unread nesting (first + 1) ts h.1)
-within_unread nesting first (t ∷ ts) (inr h) = let e : [] ≡ h.0 ∷ h.1.0 = h.1.1.0 in absurd cc
+-- without a fault each text is read
+pub read_unread : (nesting first : ℕ) (texts : List (List ℕ)) → UnreadFaults nesting first texts [] → AreRead nesting first texts
+read_unread nesting first [] h = tt
+read_unread nesting first (t ∷ ts) (inl h) = (h.0, read_unread nesting (first + 1) ts h.1)
+read_unread nesting first (t ∷ ts) (inr h) = let e : [] ≡ h.0 ∷ h.1.0 = h.1.1.0 in absurd cc
+
+-- texts that are read pass no bound
+pub within_read : (nesting first : ℕ) (texts : List (List ℕ)) → AreRead nesting first texts → AllWithinBounds nesting first texts
+within_read nesting first [] h = tt
+within_read nesting first (t ∷ ts) h = (h.0.within, within_read nesting (first + 1) ts h.1)

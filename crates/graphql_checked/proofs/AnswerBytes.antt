@@ -5,8 +5,8 @@ use Rattle.std.specs.List.{flat_map}
 use Rattle.std.proofs.lemmas.List.{append_assoc, map_more, flat_map_more}
 use Rattle.graphql_names.specs.declared.span.SourceSpan.{SourceSpan}
 use Rattle.graphql_checked.specs.Answer.{fault_line}
-use Rattle.graphql_checked.specs.FaultView.{fault_of}
-use Rattle.graphql_checked.specs.declared.faults.Details.{Details}
+use Rattle.graphql_thin.specs.FaultView.{fault_of}
+use Rattle.graphql_thin.specs.declared.faults.Details.{Details}
 
 -- three texts, grouped from the end and from the front
 pub three_texts : (a b c : List ℕ) → a ++ (b ++ c) ≡ (a ++ b) ++ c

@@ -4,19 +4,19 @@ use Rattle.std.specs.Prelude.{Contains, ◌↔◌}
 use Rattle.graphql_names.specs.declared.span.FileId.{FileId}
 use Rattle.graphql_values.specs.Placed.{Place}
 use Rattle.graphql_ast.specs.DefinitionTree.{DefinitionTree}
-use Rattle.graphql_checked.specs.Fold.{definition_list}
-use Rattle.graphql_checked.specs.Faults.{Fault, DocumentFails}
+use Rattle.graphql_thin.specs.Fold.{definition_list}
+use Rattle.graphql_thin.specs.Faults.{Fault, DocumentFails}
 use Rattle.graphql_checked.specs.Judge.{document_number}
 use Rattle.graphql_checked.specs.Answer.{RefusesDocument, WritesSchema, WritesDocument}
-use Rattle.graphql_checked.specs.FaultView.{faults_of}
-use Rattle.graphql_checked.specs.SchemaView.{IsSchemaOf}
+use Rattle.graphql_thin.specs.FaultView.{faults_of}
+use Rattle.graphql_thin.specs.SchemaView.{IsSchemaOf}
 use Rattle.graphql_checked.specs.Accepted.{IsAcceptedSchema, IsAcceptedDocument, IsReadBehind, IsUnreadBehind}
 use Rattle.graphql_checked.specs.CheckerValue.{CheckedSchemaValue}
 use Rattle.graphql_checked.specs.Refusals.{RefusalOfDocument}
-use Rattle.graphql_checked.specs.declared.faults.DiagnosticList.{DiagnosticList}
+use Rattle.graphql_thin.specs.declared.faults.DiagnosticList.{DiagnosticList}
 use Rattle.graphql_checked.specs.declared.refusal.Refusal.{Refusal}
 use Rattle.graphql_checked.specs.declared.refusal.Refusal.TheVariants.{Faults, NotYet, Memory, Failed}
-use Rattle.graphql_checked.specs.declared.schema.Schema.{Schema}
+use Rattle.graphql_thin.specs.declared.schema.Schema.{Schema}
 use Rattle.graphql_checked.proofs.Deciding.{read_unique}
 use Rattle.graphql_checked.proofs.Saying.{unread_alone}
 use Rattle.graphql_checked.proofs.Finishing.{no_member}
@@ -50,7 +50,7 @@ module _ (nesting : ℕ) (texts : List (List ℕ)) (number : Option FileId) (def
         within = is.accepts.within;
         some = some;
         says = λ f h. inr (is.accepts.judged.trees, (tree, (is.accepts.judged.read, read.0, (told f).0 h)));
-        alone = inr read.1;
+        alone = inr (record { tree = tree; reads = read.0.reads; within = read.1 });
         full = λ bounds other read_other f fails. (told f).1 (subst (λ t. DocumentFails (definition_list is.accepts.judged.trees) t f) (read_unique (document_number texts) text other tree read_other read.0) fails);
       }
 

@@ -17,7 +17,7 @@ use Rattle.graphql_checked.specs.declared.run_fault.Outcome.{Outcome}
 use Rattle.graphql_checked.specs.declared.run_fault.Outcome.TheVariants.{Accepted, Refused}
 use Rattle.graphql_checked.specs.declared.run_fault.RunFault.{RunFault}
 use Rattle.graphql_checked.specs.declared.run_fault.RunFault.TheVariants.{Memory, Reader, NotUtf8, Writer, NotYet}
-use Rattle.graphql_checked.proofs.Deciding.{schemas_not_refused, document_not_refused, schemas_not_wrong, document_not_wrong}
+use Rattle.graphql_checked.proofs.Deciding.{schemas_not_refused, document_not_refused, schemas_not_left, document_not_left}
 
 -- ---- what readers tell
 
@@ -80,8 +80,8 @@ module _ (nesting : ℕ) (texts : List (List ℕ)) (document : List ℕ) (accept
   fault_of_accepted (Reader number) h = tt
   fault_of_accepted (NotUtf8 number) h = absurd h
   fault_of_accepted (Writer count) h = tt
-  fault_of_accepted (NotYet file offset) (inl wrong) = schemas_not_wrong texts file.0 offset accepted.judged.schema wrong
-  fault_of_accepted (NotYet file offset) (inr (schemas, wrong)) = document_not_wrong texts document file.0 offset accepted.judged wrong
+  fault_of_accepted (NotYet file offset) (inl wrong) = schemas_not_left nesting texts file.0 offset accepted.judged.schema wrong
+  fault_of_accepted (NotYet file offset) (inr (schemas, wrong)) = document_not_left nesting texts document file.0 offset accepted.judged wrong
 
 -- the texts that are read of readers that tell an accepted pair
 pub accepted_here : {R D : Type 0} (of_schema : R → Option (List ℕ)) (of_document : D → Option (List ℕ)) (nesting : ℕ) (schemas : List (Device R)) (document : Device D) (texts : List (List ℕ)) (text : List ℕ)

@@ -4,32 +4,32 @@ use Rattle.std.specs.Prelude.{Contains, ◌↔◌}
 use Rattle.std.proofs.Math.Nat.{lt_irrefl}
 use Rattle.graphql_names.specs.declared.span.FileId.{FileId}
 use Rattle.graphql_ast.specs.DefinitionTree.{document_tree}
-use Rattle.graphql_checked.specs.Fold.{built_in_definitions, definition_list}
-use Rattle.graphql_checked.specs.Faults.{Fault, FoldingFails, SchemaFails}
-use Rattle.graphql_checked.specs.FaultView.{faults_of}
-use Rattle.graphql_checked.specs.SchemaView.{IsSchemaOf}
-use Rattle.graphql_checked.specs.Added.{AreDefinitionsOf, IsNextNumber, IsDocumentNumber, AreAllThin}
+use Rattle.graphql_thin.specs.Fold.{built_in_definitions, definition_list}
+use Rattle.graphql_thin.specs.Faults.{Fault, FoldingFails, SchemaFails}
+use Rattle.graphql_thin.specs.FaultView.{faults_of}
+use Rattle.graphql_thin.specs.SchemaView.{IsSchemaOf}
+use Rattle.graphql_checked.specs.Added.{AreDefinitionsOf, AreKept, IsNextNumber, IsDocumentNumber}
 use Rattle.graphql_checked.specs.TextsView.{texts_of, IsReadingOf}
+use Rattle.graphql_checked.specs.Judge.{AreRead}
 use Rattle.graphql_checked.specs.Answer.{AllWithinBounds, UnreadFaults}
 use Rattle.graphql_checked.specs.Accepted.{IsAcceptedSchema}
 use Rattle.graphql_checked.specs.Refusals.{RefusalOfSchemas}
-use Rattle.graphql_checked.specs.declared.faults.DiagnosticList.{DiagnosticList}
-use Rattle.graphql_checked.specs.declared.refusal.Refusal.TheVariants.{Faults}
-use Rattle.graphql_checked.specs.declared.schema.Schema.{Schema}
+use Rattle.graphql_thin.specs.declared.faults.DiagnosticList.{DiagnosticList}
+use Rattle.graphql_checked.specs.declared.refusal.Refusal.TheVariants.{Faults, NotYet}
+use Rattle.graphql_thin.specs.declared.schema.Schema.{Schema}
 use Rattle.graphql_checked.specs.declared.schema_texts.SchemaTexts.{SchemaTexts}
-use Rattle.graphql_checked.proofs.Adding.{within_unread}
-use Rattle.graphql_checked.proofs.Places.{not_in_nil}
+use Rattle.graphql_checked.proofs.Adding.{read_unread, within_read}
+use Rattle.graphql_thin.proofs.Places.{not_in_nil}
 use Rattle.graphql_checked.proofs.Deciding.{all_unique}
 use Rattle.graphql_checked.proofs.Saying.{unread_schemas}
-use Rattle.graphql_checked.proofs.TextsReading.{all_thin}
 
 -- the next number, and that it is spent
 pub number_left : (texts : List (List ℕ)) (number : ℕ) (file : FileId) → IsNextNumber texts number → file.0 ≡ number → number + 1 < 2 ^ 64 → IsDocumentNumber texts (Some file)
-number_left texts number file (inl (e, thin)) is left = (is ∙ e, λ passes. lt_irrefl (number + 1) (omega (arith, e, passes, left)))
+number_left texts number file (inl e) is left = (is ∙ e, λ passes. lt_irrefl (number + 1) (omega (arith, e, passes, left)))
 number_left texts number file (inr (spent, le)) is left = absurd (lt_irrefl (number + 1) (omega (arith, spent, left)))
 
 pub number_spent : (texts : List (List ℕ)) (number : ℕ) → IsNextNumber texts number → number + 1 ≡ 2 ^ 64 → IsDocumentNumber texts None
-number_spent texts number (inl (e, thin)) spent = omega (arith, e, spent)
+number_spent texts number (inl e) spent = omega (arith, e, spent)
 number_spent texts number (inr (_, le)) spent = omega (arith, le, spent)
 
 -- an empty list has no member
@@ -43,19 +43,24 @@ is_none (Some x) h = absurd (h x refl)
 
 module _ (s : SchemaTexts) (is : IsReadingOf (texts_of s) s) where
   -- some text is not read
-  pub unread_refusal : s.not_yet ≡ None → faults_of s.unread ≢ [] → RefusalOfSchemas s.nesting (texts_of s) (Faults s.unread)
-  unread_refusal none some = unread_schemas s.nesting (texts_of s) (faults_of s.unread) some (all_thin (texts_of s) s none is).unread
+  pub unread_refusal : faults_of s.unread ≢ [] → RefusalOfSchemas s.nesting (texts_of s) (Faults s.unread)
+  unread_refusal some = unread_schemas s.nesting (texts_of s) (faults_of s.unread) some is.unread
+
+  module _ (silent : faults_of s.unread ≡ []) where
+    read : AreRead s.nesting 1 (texts_of s)
+    read = read_unread s.nesting 1 (texts_of s) (subst (UnreadFaults s.nesting 1 (texts_of s)) silent is.unread)
+
+    -- some text is not thin
+    pub not_yet_refusal : (file : FileId) (offset : ℕ) → s.not_yet ≡ Some (file, offset) → RefusalOfSchemas s.nesting (texts_of s) (NotYet file offset)
+    not_yet_refusal file offset some = record { read = read; leaves = subst (AreKept (texts_of s) (document_tree s.document)) some (is.kept silent) }
 
   module _ (none : s.not_yet ≡ None) (silent : faults_of s.unread ≡ []) (list : DiagnosticList)
       (told : (f : Fault) → Contains (faults_of list) f ↔ SchemaFails (built_in_definitions ++ document_tree s.document) f) where
-    thin : AreAllThin s.nesting (texts_of s) s.files (document_tree s.document) (faults_of s.unread)
-    thin = all_thin (texts_of s) s none is
-
     within : AllWithinBounds s.nesting 1 (texts_of s)
-    within = within_unread s.nesting 1 (texts_of s) (subst (UnreadFaults s.nesting 1 (texts_of s)) silent thin.unread)
+    within = within_read s.nesting 1 (texts_of s) (read silent)
 
     definitions : AreDefinitionsOf (texts_of s) (document_tree s.document)
-    definitions = thin.read silent
+    definitions = subst (AreKept (texts_of s) (document_tree s.document)) none (is.kept silent)
 
     told_here : (f : Fault) → Contains (faults_of list) f ↔ SchemaFails (definition_list definitions.trees) f
     told_here = subst (λ ds. (f : Fault) → Contains (faults_of list) f ↔ SchemaFails (built_in_definitions ++ ds) f) (sym definitions.are) told
@@ -65,7 +70,7 @@ module _ (s : SchemaTexts) (is : IsReadingOf (texts_of s) s) where
     built_refusal some = record {
       some = some;
       says = λ f h. inr (definitions.trees, (definitions.read, (told_here f).0 h));
-      alone = inr within;
+      alone = inr (read silent);
       full = λ bounds trees read f fails. (told_here f).1 (inl (subst (λ ts. FoldingFails (definition_list ts) f) (all_unique 1 (texts_of s) trees definitions.trees read definitions.read) fails));
     }
 

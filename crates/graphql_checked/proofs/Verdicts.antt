@@ -5,7 +5,7 @@ use Rattle.std.proofs.lemmas.List.{map_more}
 use Rattle.graphql_values.specs.Placed.{Place}
 use Rattle.graphql_ast.specs.DefinitionTree.{DefinitionTree}
 use Rattle.graphql_checked.specs.CheckerValue.{CheckerValue}
-use Rattle.graphql_checked.specs.FaultView.{faults_of}
+use Rattle.graphql_thin.specs.FaultView.{faults_of}
 use Rattle.graphql_checked.specs.Refusals.{AreSchemasAccepted, RefusalOfDocument}
 use Rattle.graphql_checked.specs.Verdicts.{IsVerdict, IsCheckError, refusal_verdict}
 use Rattle.graphql_checked.specs.Run.{BytesOf}

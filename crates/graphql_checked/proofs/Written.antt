@@ -1,24 +1,25 @@
 -- What is written of accepted texts is what was read.
-use Rattle.std.proofs.Common.{inl, ◌≡◌, ◌≢◌, ℕ, ◌+◌, ◌==◌, false, not, if◌then◌else◌, List, [], ◌∷◌, ◌++◌, map, Option, None, Some, refl, sym, ap, ◌∙◌, subst, arith, append_assoc, append-nil}
+use Rattle.std.proofs.Common.{inl, ◌≡◌, ◌≢◌, ℕ, ◌+◌, Bool, true, false, not, ◌&&◌, cond, if◌then◌else◌, List, [], ◌∷◌, ◌++◌, map, Option, None, Some, refl, sym, ap, ◌∙◌, subst, arith, append_assoc, append-nil}
 use Rattle.std.specs.Option.{option_map_or}
-use Rattle.std.specs.List.{All, flat_map, filter}
-use Rattle.std.proofs.lemmas.Bool.{ne_eqb, false_from_ne_true}
+use Rattle.std.specs.List.{All, flat_map, filter, list_all}
+use Rattle.std.proofs.lemmas.Bool.{and_parts, false_from_ne_true}
 use Rattle.std.proofs.lemmas.List.Elements.{All-nil, All-cons, All-head, All-tail, All-append}
 use Rattle.graphql_names.specs.Places.{is_built_in}
 use Rattle.graphql_values.specs.Placed.{Place}
+use Rattle.graphql_ast.specs.DefinitionTree as tree
 use Rattle.graphql_ast.specs.DefinitionTree.{DefinitionTree}
-use Rattle.graphql_checked.specs.Lists.{firsts}
-use Rattle.graphql_checked.specs.Lex.{Token}
-use Rattle.graphql_checked.specs.Rules.{◌<$>◌, many, placed}
-use Rattle.graphql_checked.specs.Grammar as g
-use Rattle.graphql_checked.specs.Grammar.{DerivesSchema}
-use Rattle.graphql_checked.specs.Thin.{ReadsDocument}
-use Rattle.graphql_checked.specs.Fold.{Defined, built_in_definitions, definition_list, defined_name, definition_place, defined_types, has_type}
-use Rattle.graphql_checked.specs.Out.{is_written, Out, OutDoc}
-use Rattle.graphql_checked.specs.Faults.{Fault, TypeDefinitionCollision, TypeDefinitionCollisionIn, SchemaFails}
+use Rattle.graphql_thin.specs.Lists.{firsts}
+use Rattle.graphql_read.specs.EachPlace.{all_in_text, all_in_any, all_in_fields, all_in_definition, all_in_document}
+use Rattle.graphql_read.specs.Sound.{is_own}
+use Rattle.graphql_thin.specs.Thin.{is_thin_operation, ReadsSchema, ReadsDocument}
+use Rattle.graphql_thin.specs.Fold.{Defined, built_in_definitions, definition_list, defined_name, definition_place, defined_types, has_type, is_object}
+use Rattle.graphql_checked.specs.Out.{is_written, Out, has_no_name, OutDoc}
+use Rattle.graphql_thin.specs.Faults.{Fault, TypeDefinitionCollision, TypeDefinitionCollisionIn, SchemaFails}
 use Rattle.graphql_checked.specs.Judge.{ReadsAll}
-use Rattle.graphql_checked.proofs.Firsts.{firsts-push_new}
-use Rattle.graphql_checked.proofs.FoldSteps.{types_with}
+use Rattle.graphql_thin.proofs.Firsts.{firsts-push_new}
+use Rattle.graphql_thin.proofs.FoldSteps.{types_with}
+use Rattle.graphql_thin.proofs.WholeTexts.{own_definitions, some_definition}
+use Rattle.graphql_thin.proofs.Reading.{thin_schema_names, thin_document_one}
 
 -- ---- a list of definitions without a collision
 
@@ -78,31 +79,71 @@ out_of_texts ds all holds =
     ap (λ ts. map (λ t. t.definition) (filter is_written ts)) (all_first (built_in_definitions ++ ds) holds)
     ∙ all_written ds all
 
--- a derived definition is a type of a text
-definition_of_text : (file : ℕ) (a b : List Token) (d : DefinitionTree Place) → file ≢ 0 → (g.definition_of <$> placed file (g.object_type file)) a d b → IsOfText d
-definition_of_text file a b d some h =
-    let spans = h.1.1 in (
-      h.0.it.name.it,
-      (
-        ap defined_name h.2,
-        ap (λ e. is_built_in (definition_place e)) h.2 ∙ ap is_built_in spans.is ∙ ap (λ n. n == 0) spans.of_file ∙ ne_eqb file 0 some,
-      ),
-    )
+-- an object has a name
+object_name : (d : DefinitionTree Place) → is_object d ≡ true → (n : List ℕ) × (defined_name d ≡ Some n)
+object_name (tree.ObjectType p d t) h = (t.name.it, refl)
+object_name (tree.Operation p o) h = absurd cc
+object_name (tree.Fragment p f) h = absurd cc
+object_name (tree.DirectiveDefinition p d) h = absurd cc
+object_name (tree.Schema p d s) h = absurd cc
+object_name (tree.ScalarType p d t) h = absurd cc
+object_name (tree.InterfaceType p d t) h = absurd cc
+object_name (tree.UnionType p d t) h = absurd cc
+object_name (tree.EnumType p d t) h = absurd cc
+object_name (tree.InputObjectType p d t) h = absurd cc
+object_name (tree.ExtendSchema p s) h = absurd cc
+object_name (tree.ExtendScalar p t) h = absurd cc
+object_name (tree.ExtendObject p t) h = absurd cc
+object_name (tree.ExtendInterface p t) h = absurd cc
+object_name (tree.ExtendUnion p t) h = absurd cc
+object_name (tree.ExtendEnum p t) h = absurd cc
+object_name (tree.ExtendInputObject p t) h = absurd cc
 
-many_of_text : (file : ℕ) (a b : List Token) (ds : List (DefinitionTree Place)) → file ≢ 0 → many (g.definition_of <$> placed file (g.object_type file)) a ds b → All IsOfText ds
-many_of_text file a b [] some h = All-nil IsOfText
-many_of_text file a b (d ∷ ds) some h = All-cons IsOfText d ds (definition_of_text file a h.0 d some h.1) (many_of_text file h.0 b ds some h.2)
+not_true : (b : Bool) → not b ≡ true → b ≡ false
+not_true true h = absurd cc
+not_true false h = refl
 
-tree_of_text : (file : ℕ) (tokens : List Token) (tree : List (DefinitionTree Place)) → file ≢ 0 → DerivesSchema file tokens tree → All IsOfText tree
-tree_of_text file tokens [] some h = absurd h
-tree_of_text file tokens (d ∷ ds) some h = many_of_text file tokens [] (d ∷ ds) some h
+first_of : (a b c : Bool) → a && b && c ≡ true → a ≡ true
+first_of true b c h = refl
+first_of false b c h = h
+
+-- an object that was read is not built in
+own_object : (d : DefinitionTree Place) → is_object d ≡ true → all_in_definition is_own d ≡ true → is_built_in (definition_place d) ≡ false
+own_object (tree.ObjectType p d t) h own = not_true (is_built_in p) (first_of (is_own p) (all_in_any is_own (all_in_text is_own) d) (all_in_fields is_own t) own)
+own_object (tree.Operation p o) h own = absurd cc
+own_object (tree.Fragment p f) h own = absurd cc
+own_object (tree.DirectiveDefinition p d) h own = absurd cc
+own_object (tree.Schema p d s) h own = absurd cc
+own_object (tree.ScalarType p d t) h own = absurd cc
+own_object (tree.InterfaceType p d t) h own = absurd cc
+own_object (tree.UnionType p d t) h own = absurd cc
+own_object (tree.EnumType p d t) h own = absurd cc
+own_object (tree.InputObjectType p d t) h own = absurd cc
+own_object (tree.ExtendSchema p s) h own = absurd cc
+own_object (tree.ExtendScalar p t) h own = absurd cc
+own_object (tree.ExtendObject p t) h own = absurd cc
+own_object (tree.ExtendInterface p t) h own = absurd cc
+own_object (tree.ExtendUnion p t) h own = absurd cc
+own_object (tree.ExtendEnum p t) h own = absurd cc
+own_object (tree.ExtendInputObject p t) h own = absurd cc
+
+objects_of_text : (ds : List (DefinitionTree Place)) → list_all is_object ds ≡ true → all_in_document is_own ds ≡ true → All IsOfText ds
+objects_of_text [] objects own = All-nil IsOfText
+objects_of_text (d ∷ ds) objects own =
+    let o = and_parts (is_object d) (list_all is_object ds) objects in
+    let w = and_parts (all_in_definition is_own d) (all_in_document is_own ds) own in
+    let named = object_name d o.0 in
+    All-cons IsOfText d ds (named.0, (named.1, own_object d o.0 w.0)) (objects_of_text ds o.1 w.1)
+
+tree_of_text : (file : ℕ) (text : List ℕ) (ds : List (DefinitionTree Place)) → file ≢ 0 → ReadsSchema file text ds → All IsOfText ds
+tree_of_text file text ds some h = objects_of_text ds (thin_schema_names ds h.thin) (own_definitions file text ds some h.reads)
 
 trees_of_texts : (first : ℕ) (texts : List (List ℕ)) (trees : List (List (DefinitionTree Place))) → first ≢ 0 → ReadsAll first texts trees → All IsOfText (flat_map (λ t. t) trees)
 trees_of_texts first [] [] some h = All-nil IsOfText
 trees_of_texts first [] (tree ∷ trees) some h = absurd h
 trees_of_texts first (text ∷ texts) [] some h = absurd h
 trees_of_texts first (text ∷ texts) (tree ∷ trees) some h =
-    All-append IsOfText tree (flat_map (λ t. t) trees) (tree_of_text first h.0.tokens tree some h.0.derived)
+    All-append IsOfText tree (flat_map (λ t. t) trees) (tree_of_text first text tree some h.0)
     (trees_of_texts (first + 1) texts trees (λ e. omega (arith, e)) h.1)
 
 -- ---- what is written
@@ -113,6 +154,32 @@ pub out_of_accepted : (texts : List (List ℕ)) (trees : List (List (DefinitionT
 out_of_accepted texts trees read holds =
     out_of_texts (flat_map (λ t. t) trees) (trees_of_texts 1 texts trees (λ e. omega (arith, e)) read) (λ fault h. holds fault (inl (inl h)))
 
+-- the written document of one operation
+one_operation : (d : DefinitionTree Place) → is_thin_operation d ≡ true → OutDoc (d ∷ []) ≡ d ∷ []
+one_operation (tree.Operation p o) h = by (has_no_name o)
+  where
+    by : (b : Bool) → cond b (tree.Operation p o ∷ []) [] ++ cond (not b) (tree.Operation p o ∷ []) [] ++ [] ≡ tree.Operation p o ∷ []
+    by true = refl
+    by false = refl
+one_operation (tree.ObjectType p d t) h = absurd cc
+one_operation (tree.Fragment p f) h = absurd cc
+one_operation (tree.DirectiveDefinition p d) h = absurd cc
+one_operation (tree.Schema p d s) h = absurd cc
+one_operation (tree.ScalarType p d t) h = absurd cc
+one_operation (tree.InterfaceType p d t) h = absurd cc
+one_operation (tree.UnionType p d t) h = absurd cc
+one_operation (tree.EnumType p d t) h = absurd cc
+one_operation (tree.InputObjectType p d t) h = absurd cc
+one_operation (tree.ExtendSchema p s) h = absurd cc
+one_operation (tree.ExtendScalar p t) h = absurd cc
+one_operation (tree.ExtendObject p t) h = absurd cc
+one_operation (tree.ExtendInterface p t) h = absurd cc
+one_operation (tree.ExtendUnion p t) h = absurd cc
+one_operation (tree.ExtendEnum p t) h = absurd cc
+one_operation (tree.ExtendInputObject p t) h = absurd cc
+
 -- what is written of a document
-pub out_doc_of_read : (number : ℕ) (text : List ℕ) (tree : List (DefinitionTree Place)) → ReadsDocument number text tree → OutDoc tree ≡ tree
-out_doc_of_read number text tree read = subst (λ t. OutDoc t ≡ t) (sym read.derived.2) refl
+pub out_doc_of_read : (number : ℕ) (text : List ℕ) (ds : List (DefinitionTree Place)) → ReadsDocument number text ds → OutDoc ds ≡ ds
+out_doc_of_read number text ds read =
+    let one = thin_document_one ds read.thin (some_definition number text ds read.reads) in
+    subst (λ t. OutDoc t ≡ t) (sym one.1.0) (one_operation one.0 one.1.1)

@@ -4,17 +4,18 @@ use Rattle.std.specs.List.{flat_map}
 use Rattle.graphql_values.specs.Placed.{Place}
 use Rattle.graphql_ast.specs.DefinitionTree.{DefinitionTree}
 use Rattle.graphql_names.specs.declared.span.FileId.{FileId}
-use Rattle.graphql_checked.specs.Thin.{ReadsDocument}
-use Rattle.graphql_checked.specs.Fold.{definition_list}
-use Rattle.graphql_checked.specs.Faults.{Fault}
+use Rattle.graphql_thin.specs.Thin.{ReadsDocument}
+use Rattle.graphql_thin.specs.Fold.{definition_list}
+use Rattle.graphql_thin.specs.Faults.{Fault}
 use Rattle.graphql_checked.specs.Judge.{document_number, NotYetDocument}
-use Rattle.graphql_checked.specs.Answer.{WithinBounds, UnreadAlone}
-use Rattle.graphql_checked.specs.FaultView.{faults_of}
-use Rattle.graphql_checked.specs.SchemaView.{IsSchemaOf}
+use Rattle.graphql_thin.specs.ReadText.{WithinBounds}
+use Rattle.graphql_checked.specs.Answer.{UnreadAlone}
+use Rattle.graphql_thin.specs.FaultView.{faults_of}
+use Rattle.graphql_thin.specs.SchemaView.{IsSchemaOf}
 use Rattle.graphql_checked.specs.Added.{IsDocumentNumber}
 use Rattle.graphql_checked.specs.CheckerValue.{CheckedSchemaValue}
 use Rattle.graphql_checked.specs.Refusals.{AreSchemasAccepted, IsAccepted}
-use Rattle.graphql_checked.specs.declared.schema.Schema.{Schema}
+use Rattle.graphql_thin.specs.declared.schema.Schema.{Schema}
 use Rattle.graphql_checked.specs.declared.refusal.Refusal.{Refusal}
 use Rattle.graphql_checked.specs.declared.refusal.Refusal.TheVariants.{Faults, NotYet, Memory, Failed}
 
@@ -32,14 +33,14 @@ pub record IsAcceptedDocument (schema : CheckedSchemaValue) (text : List ℕ) (d
 
 -- ---- reading a document with a number that it has behind these texts, if one is left for it
 
--- the document is read, and passes no bound
+-- the document is read and thin, and passes no bound
 abbrev pub IsReadBehind : ℕ → List (List ℕ) → List ℕ → List (DefinitionTree Place) → Type 0
 IsReadBehind nesting texts text tree = ReadsDocument (document_number texts) text tree × WithinBounds nesting (document_number texts) text
 
--- the document is not read
+-- the document is not read, or not thin
 abbrev pub IsUnreadBehind : ℕ → List (List ℕ) → List ℕ → Refusal → Type 0
 IsUnreadBehind nesting texts text (Faults list) = UnreadAlone nesting texts text (faults_of list)
-IsUnreadBehind nesting texts text (NotYet file offset) = NotYetDocument texts text file.0 offset
+IsUnreadBehind nesting texts text (NotYet file offset) = NotYetDocument nesting texts text file.0 offset
 IsUnreadBehind nesting texts text Memory = Unit {0}
 IsUnreadBehind nesting texts text Failed = ⊥
 

@@ -4,20 +4,14 @@ use Rattle.std.specs.Fmt.{decimal}
 use Rattle.graphql_names.specs.Places.{is_built_in}
 use Rattle.graphql_values.specs.Placed.{Place}
 use Rattle.graphql_ast.specs.DefinitionTree.{DefinitionTree}
-use Rattle.graphql_checked.specs.Thin.{ReadsDocument}
-use Rattle.graphql_checked.specs.Fold.{definition_list}
+use Rattle.graphql_thin.specs.Thin.{ReadsDocument}
+use Rattle.graphql_thin.specs.Fold.{definition_list}
 use Rattle.graphql_checked.specs.Out.{Out, OutDoc}
-use Rattle.graphql_checked.specs.Judge.{ReadsAll, JudgeSchemas, Judge, document_number, UnreadFault, SaysSchema, SaysDocument}
-use Rattle.graphql_checked.specs.Faults.{PassesNesting, PassesNumbers, FoldingFails, DocumentFails, Breach, Fault, Nesting, Spent, TypeDefinitionCollision, ObjectFieldNameCollision, QueryRootOperationType, UndefinedField}
-
--- the text of a fault
-abbrev pub message : Breach → List ℕ
-message Nesting = codes "too many open brackets"
-message Spent = codes "numbers are spent"
-message (TypeDefinitionCollision name) = codes "`" ++ name ++ codes "` is defined more than once"
-message (ObjectFieldNameCollision type_name name) = codes "`" ++ type_name ++ codes "` has `" ++ name ++ codes "` more than once"
-message QueryRootOperationType = codes "missing query root operation type in schema definition"
-message (UndefinedField type_name field_name) = codes "`" ++ type_name ++ codes "` has no field `" ++ field_name ++ codes "`"
+use Rattle.graphql_checked.specs.Judge.{ReadsAll, JudgeSchemas, Judge, document_number, AreRead, SaysSchema, SaysDocument}
+use Rattle.graphql_thin.specs.ReadText.{WithinBounds, IsRead}
+use Rattle.graphql_thin.specs.Unread.{UnreadFault}
+use Rattle.graphql_thin.specs.Messages.{message}
+use Rattle.graphql_thin.specs.Faults.{FoldingFails, DocumentFails, Fault}
 
 -- number and offset of a place; `-` without one, and in what is built in
 abbrev pub place_text : Place → List ℕ
@@ -30,23 +24,18 @@ fault_line fault = place_text fault.place ++ codes ": " ++ message fault.breach 
 
 -- ---- bounds
 
--- a text with this number passes no bound
-pub record WithinBounds (nesting file : ℕ) (text : List ℕ) : Type 0 where
-  pub nests : PassesNesting nesting text → ⊥
-  pub numbered : PassesNumbers file → ⊥
-
--- the same of each text, where the first has this number
+-- each text passes no bound, where the first has this number
 abbrev pub AllWithinBounds : ℕ → ℕ → List (List ℕ) → Type 0
 AllWithinBounds nesting first [] = Unit {0}
 AllWithinBounds nesting first (text ∷ texts) = WithinBounds nesting first text × AllWithinBounds nesting (first + 1) texts
 
 -- ---- lists of faults
 
--- each text that passes a bound has one fault, in order, where the first text has this number
+-- each text is read or has one fault, in order, where the first text has this number
 abbrev pub UnreadFaults : ℕ → ℕ → List (List ℕ) → List Fault → Type 0
 UnreadFaults nesting first [] faults = faults ≡ []
 UnreadFaults nesting first (text ∷ texts) faults =
-    (WithinBounds nesting first text × UnreadFaults nesting (first + 1) texts faults)
+    (IsRead nesting first text × UnreadFaults nesting (first + 1) texts faults)
     ⊎ ((fault : Fault) × ((others : List Fault) × (
     (faults ≡ fault ∷ others) × UnreadFault nesting first text fault × UnreadFaults nesting (first + 1) texts others)))
 
@@ -55,11 +44,11 @@ abbrev pub AllSay : (Fault → Type 0) → List Fault → Type 0
 AllSay says faults = (fault : Fault) → Contains faults fault → says fault
 
 -- The schema texts are refused with these faults: there are some, and each is so. Those of unread texts stand alone,
--- one for each; and of read texts each definition and each component that a folding rule refuses has one.
+-- one for each, or each text is read; and of read texts each definition and each component that a folding rule refuses has one.
 pub record RefusesSchemas (nesting : ℕ) (schemas : List (List ℕ)) (faults : List Fault) : Type 0 where
   pub some : faults ≢ []
   pub says : AllSay (SaysSchema nesting schemas) faults
-  pub alone : UnreadFaults nesting 1 schemas faults ⊎ AllWithinBounds nesting 1 schemas
+  pub alone : UnreadFaults nesting 1 schemas faults ⊎ AreRead nesting 1 schemas
   pub full : AllWithinBounds nesting 1 schemas → (trees : List (List (DefinitionTree Place))) → ReadsAll 1 schemas trees
       → (fault : Fault) → FoldingFails (definition_list trees) fault → Contains faults fault
 
@@ -74,7 +63,7 @@ pub record RefusesDocument (nesting : ℕ) (schemas : List (List ℕ)) (document
   pub within : AllWithinBounds nesting 1 schemas
   pub some : faults ≢ []
   pub says : AllSay (SaysDocument nesting schemas document) faults
-  pub alone : UnreadAlone nesting schemas document faults ⊎ WithinBounds nesting (document_number schemas) document
+  pub alone : UnreadAlone nesting schemas document faults ⊎ IsRead nesting (document_number schemas) document
   pub full : WithinBounds nesting (document_number schemas) document → (tree : List (DefinitionTree Place)) → ReadsDocument (document_number schemas) document tree
       → (fault : Fault) → DocumentFails (definition_list judged.trees) tree fault → Contains faults fault
 

@@ -1,11 +1,12 @@
 -- The verdict, and what an answer says of the texts.
-use Rattle.std.specs.Prelude.{◌≡◌, ℕ, ◌+◌, List, [], ◌∷◌, length, ◌⊎◌, None}
+use Rattle.std.specs.Prelude.{◌≡◌, ℕ, ◌+◌, List, [], ◌∷◌, length, ◌⊎◌}
 use Rattle.graphql_values.specs.Placed.{Place}
 use Rattle.graphql_ast.specs.DefinitionTree.{DefinitionTree}
-use Rattle.graphql_checked.specs.Grammar.{DerivesSchema, DerivesDocument}
-use Rattle.graphql_checked.specs.Thin.{ReadsSchema, ReadsDocument, GoesWrongAt}
-use Rattle.graphql_checked.specs.Fold.{definition_list}
-use Rattle.graphql_checked.specs.Faults.{Fault, Nesting, Spent, NestingAt, PassesNumbers, SchemaFails, DocumentFails}
+use Rattle.graphql_thin.specs.ReadText.{IsRead}
+use Rattle.graphql_thin.specs.Thin.{ReadsSchema, ReadsDocument, SchemaLeavesAt, DocumentLeavesAt}
+use Rattle.graphql_thin.specs.Unread.{UnreadFault}
+use Rattle.graphql_thin.specs.Fold.{definition_list}
+use Rattle.graphql_thin.specs.Faults.{Fault, SchemaFails, DocumentFails}
 
 -- each text has its tree, where the first has this file number and each next one the next
 abbrev pub ReadsAll : ℕ → List (List ℕ) → List (List (DefinitionTree Place)) → Type 0
@@ -32,29 +33,32 @@ pub record Judge (schemas : List (List ℕ)) (document : List ℕ) : Type 0 wher
 
 -- ---- what is not judged yet
 
--- the first of the schema texts that is not thin has this number, and goes wrong at the offset
+-- each text is read within the limit, where the first has this number
+abbrev pub AreRead : ℕ → ℕ → List (List ℕ) → Type 0
+AreRead nesting first [] = Unit {0}
+AreRead nesting first (text ∷ texts) = IsRead nesting first text × AreRead nesting (first + 1) texts
+
+-- the first of the schema texts that is not thin has this number, and its first definition outside begins at the offset
 abbrev pub NotYetFrom : ℕ → List (List ℕ) → ℕ → ℕ → Type 0
 NotYetFrom first [] file offset = ⊥
 NotYetFrom first (text ∷ texts) file offset =
-    ((file ≡ first) × GoesWrongAt (DerivesSchema first) text offset)
+    ((file ≡ first) × SchemaLeavesAt first text offset)
     ⊎ (((tree : List (DefinitionTree Place)) × ReadsSchema first text tree) × NotYetFrom (first + 1) texts file offset)
 
-abbrev pub NotYetSchema : List (List ℕ) → ℕ → ℕ → Type 0
-NotYetSchema schemas file offset = NotYetFrom 1 schemas file offset
+-- each schema text is read, and of the first that is not thin the first definition outside begins there
+pub record NotYetSchema (nesting : ℕ) (schemas : List (List ℕ)) (file offset : ℕ) : Type 0 where
+  pub read : AreRead nesting 1 schemas
+  pub leaves : NotYetFrom 1 schemas file offset
 
--- the document is not thin, and goes wrong at the offset
-abbrev pub NotYetDocument : List (List ℕ) → List ℕ → ℕ → ℕ → Type 0
-NotYetDocument schemas document file offset = (file ≡ document_number schemas) × GoesWrongAt (DerivesDocument file) document offset
+-- the document is read, and is not thin: its first definition outside begins at the offset
+pub record NotYetDocument (nesting : ℕ) (schemas : List (List ℕ)) (document : List ℕ) (file offset : ℕ) : Type 0 where
+  pub number : file ≡ document_number schemas
+  pub read : IsRead nesting (document_number schemas) document
+  pub leaves : DocumentLeavesAt (document_number schemas) document offset
 
 -- ---- what a fault says
 
--- a text with this number is not read: its brackets nest too deep, or it has no number
-abbrev pub UnreadFault : ℕ → ℕ → List ℕ → Fault → Type 0
-UnreadFault nesting file text fault =
-    ((fault.breach ≡ Nesting) × NestingAt nesting file text fault.place)
-    ⊎ ((fault.breach ≡ Spent) × (fault.place ≡ None) × PassesNumbers file)
-
--- the same of one of the texts, where the first has this number
+-- one of the texts is not read, and this fault says why, where the first has this number
 abbrev pub UnreadFaultFrom : ℕ → ℕ → List (List ℕ) → Fault → Type 0
 UnreadFaultFrom nesting first [] fault = ⊥
 UnreadFaultFrom nesting first (text ∷ texts) fault = UnreadFault nesting first text fault ⊎ UnreadFaultFrom nesting (first + 1) texts fault

@@ -5,8 +5,8 @@ use Rattle.graphql_names.specs.Places.{is_built_in}
 use Rattle.graphql_values.specs.Placed.{Place}
 use Rattle.graphql_ast.specs.DefinitionTree.{DefinitionTree, Operation, Fragment}
 use Rattle.graphql_values.specs.OperationTree.{OperationTree}
-use Rattle.graphql_checked.specs.Lists.{firsts}
-use Rattle.graphql_checked.specs.Fold.{Defined, defined_types, definition_place}
+use Rattle.graphql_thin.specs.Lists.{firsts}
+use Rattle.graphql_thin.specs.Fold.{Defined, defined_types, definition_place}
 
 -- a definition of a text, and not a built-in one
 abbrev pub is_written : Defined → Bool

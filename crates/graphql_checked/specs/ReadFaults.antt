@@ -8,7 +8,7 @@ use Rattle.graphql_ast.specs.DefinitionTree.{DefinitionTree}
 use Rattle.graphql_checked.specs.Judge.{NotYetSchema, NotYetDocument}
 use Rattle.graphql_checked.specs.Refusals.{AreSchemasAccepted}
 use Rattle.graphql_checked.specs.Answer.{fault_line}
-use Rattle.graphql_checked.specs.FaultView.{faults_of}
+use Rattle.graphql_thin.specs.FaultView.{faults_of}
 use Rattle.graphql_checked.specs.Run.{IsNotUtf8Of, IsNotUtf8At, HasFailedAt, BytesOf}
 use Rattle.graphql_checked.specs.declared.refusal.Refusal.{Refusal}
 use Rattle.graphql_checked.specs.declared.refusal.Refusal.TheVariants as refusal
@@ -46,7 +46,7 @@ IsReadFault remaining old new (run.NotYet file offset) = ⊥
 -- the texts get no answer: memory ran out, or a text is not judged yet
 abbrev pub IsJudgeFault : ℕ → List (List ℕ) → List ℕ → RunFault → Type 0
 IsJudgeFault nesting texts text run.Memory = Unit {0}
-IsJudgeFault nesting texts text (run.NotYet file offset) = NotYetSchema texts file.0 offset ⊎ (AreSchemasAccepted nesting texts × NotYetDocument texts text file.0 offset)
+IsJudgeFault nesting texts text (run.NotYet file offset) = NotYetSchema nesting texts file.0 offset ⊎ (AreSchemasAccepted nesting texts × NotYetDocument nesting texts text file.0 offset)
 IsJudgeFault nesting texts text (run.Reader number) = ⊥
 IsJudgeFault nesting texts text (run.NotUtf8 number) = ⊥
 IsJudgeFault nesting texts text (run.Writer count) = ⊥

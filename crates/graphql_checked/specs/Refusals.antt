@@ -1,8 +1,9 @@
 -- What the answers of the checker say of the texts.
 use Rattle.std.specs.Prelude.{ℕ, List}
 use Rattle.graphql_checked.specs.Judge.{JudgeSchemas, Judge, document_number, NotYetSchema, NotYetDocument}
-use Rattle.graphql_checked.specs.Answer.{WithinBounds, AllWithinBounds, RefusesSchemas, RefusesDocument}
-use Rattle.graphql_checked.specs.FaultView.{faults_of}
+use Rattle.graphql_thin.specs.ReadText.{WithinBounds}
+use Rattle.graphql_checked.specs.Answer.{AllWithinBounds, RefusesSchemas, RefusesDocument}
+use Rattle.graphql_thin.specs.FaultView.{faults_of}
 use Rattle.graphql_checked.specs.declared.refusal.Refusal.{Refusal}
 use Rattle.graphql_checked.specs.declared.refusal.Refusal.TheVariants.{Faults, NotYet, Memory, Failed}
 
@@ -20,13 +21,13 @@ pub record IsAccepted (nesting : ℕ) (schemas : List (List ℕ)) (document : Li
 -- The schema texts are not accepted, and why.
 abbrev pub RefusalOfSchemas : ℕ → List (List ℕ) → Refusal → Type 0
 RefusalOfSchemas nesting schemas (Faults list) = RefusesSchemas nesting schemas (faults_of list)
-RefusalOfSchemas nesting schemas (NotYet file offset) = NotYetSchema schemas file.0 offset
+RefusalOfSchemas nesting schemas (NotYet file offset) = NotYetSchema nesting schemas file.0 offset
 RefusalOfSchemas nesting schemas Memory = Unit {0}
 RefusalOfSchemas nesting schemas Failed = ⊥
 
 -- The document is not accepted over accepted schema texts, and why.
 abbrev pub RefusalOfDocument : ℕ → List (List ℕ) → List ℕ → Refusal → Type 0
 RefusalOfDocument nesting schemas document (Faults list) = RefusesDocument nesting schemas document (faults_of list)
-RefusalOfDocument nesting schemas document (NotYet file offset) = NotYetDocument schemas document file.0 offset
+RefusalOfDocument nesting schemas document (NotYet file offset) = NotYetDocument nesting schemas document file.0 offset
 RefusalOfDocument nesting schemas document Memory = Unit {0}
 RefusalOfDocument nesting schemas document Failed = ⊥

@@ -54,13 +54,13 @@ BytesOf layout nesting Accepted texts text bytes = AcceptedBytes layout nesting 
 BytesOf layout nesting Refused texts text bytes = RefusedBytes layout nesting texts text bytes
 
 module _ {R D : Type 0} (of_schema : R → Option (List ℕ)) (of_document : D → Option (List ℕ)) (nesting : ℕ) where
-  -- A text of the readers is not judged yet.
+  -- A text of the readers is not judged yet: it is read, and is outside the thin language.
   pub record IsNotYet (schemas : List (Device R)) (document : Device D) (file offset : ℕ) : Type 0 where
     pub texts : List (List ℕ)
     pub text : List ℕ
     pub schemas_are : AreTextsOf of_schema schemas texts
     pub document_is : IsTextOf of_document document text
-    pub goes_wrong : NotYetSchema texts file offset ⊎ (AreSchemasAccepted nesting texts × NotYetDocument texts text file offset)
+    pub leaves : NotYetSchema nesting texts file offset ⊎ (AreSchemasAccepted nesting texts × NotYetDocument nesting texts text file offset)
 
   -- The readers tell their texts, and the pair is accepted.
   pub record TellAccepted (schemas : List (Device R)) (document : Device D) : Type 0 where

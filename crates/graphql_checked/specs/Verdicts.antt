@@ -2,7 +2,7 @@
 use Rattle.std.specs.Prelude.{ℕ, List, ◌⊎◌, Result, Ok, Err}
 use Rattle.graphql_checked.specs.Judge.{NotYetSchema, NotYetDocument}
 use Rattle.graphql_checked.specs.Answer.{RefusesSchemas, RefusesDocument}
-use Rattle.graphql_checked.specs.FaultView.{faults_of}
+use Rattle.graphql_thin.specs.FaultView.{faults_of}
 use Rattle.graphql_checked.specs.Refusals.{AreSchemasAccepted, IsAccepted}
 use Rattle.graphql_checked.specs.declared.refusal.Refusal.{Refusal}
 use Rattle.graphql_checked.specs.declared.refusal.Refusal.TheVariants as refusal
@@ -19,7 +19,7 @@ IsVerdict nesting schemas document (Refused list) = RefusesSchemas nesting schem
 -- There is a reason for no verdict.
 abbrev pub IsCheckError : ℕ → List (List ℕ) → List ℕ → CheckError → Type 0
 IsCheckError nesting schemas document Memory = Unit {0}
-IsCheckError nesting schemas document (NotYet file offset) = NotYetSchema schemas file.0 offset ⊎ (AreSchemasAccepted nesting schemas × NotYetDocument schemas document file.0 offset)
+IsCheckError nesting schemas document (NotYet file offset) = NotYetSchema nesting schemas file.0 offset ⊎ (AreSchemasAccepted nesting schemas × NotYetDocument nesting schemas document file.0 offset)
 
 -- the verdict of a refusal, where a checker that has failed wants memory
 abbrev pub refusal_verdict : Refusal → Result Verdict CheckError

@@ -3,14 +3,14 @@
 ghost use Rattle.std.specs.Prelude.{◌≡◌, ◌++◌, codes, Some, IfOk, string_bytes};
 ghost use Rattle.std.specs.List.{flat_map};
 ghost use Rattle.graphql_checked.specs.Answer.{AcceptedBytes, fault_line, place_text};
-ghost use Rattle.graphql_checked.specs.FaultView.{fault_of, faults_of};
+ghost use Rattle.graphql_thin.specs.FaultView.{fault_of, faults_of};
 ghost use Rattle.graphql_checked.specs.Layouts.{layout_text};
 
 use crate::checked_document::CheckedDocument;
 use crate::checked_schema::CheckedSchema;
-use crate::faults::{Details, DiagnosticList};
 use crate::layout::Layout;
 use graphql_names::{FileId, SourceSpan};
+use graphql_thin::{Details, DiagnosticList};
 use std::alloc::{AllocError, Global};
 
 /// `accepted`, and the texts of the schema and of the document under the layout, a line each.

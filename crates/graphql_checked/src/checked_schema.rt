@@ -1,23 +1,22 @@
 //! Schemas of which every rule holds.
 
-ghost use Rattle.std.specs.Prelude.{◌≡◌, OnOk, IfOk, IfErr, string_bytes};
+ghost use Rattle.std.specs.Prelude.{◌≡◌, Some, OnOk, IfOk, IfErr, string_bytes};
 ghost use Rattle.graphql_ast.specs.DefinitionTree.{document_tree};
 ghost use Rattle.graphql_checked.specs.Added.{IsDocumentNumber};
 ghost use Rattle.graphql_checked.specs.Accepted.{IsReadBehind, IsUnreadBehind, TellsOnly};
 ghost use Rattle.graphql_checked.specs.Answer.{WritesSchema};
-ghost use Rattle.graphql_checked.specs.FaultView.{fault_of};
+ghost use Rattle.graphql_thin.specs.FaultView.{fault_of};
 ghost use Rattle.graphql_checked.specs.Layouts.{layout_text};
 ghost use Rattle.graphql_checked.specs.Refusals.{AreSchemasAccepted, IsAccepted, RefusalOfDocument};
 ghost use Rattle.graphql_checked.specs.declared.refusal.Refusal.TheVariants.{Memory};
 
 use crate::checked_document::CheckedDocument;
-use crate::faults::{Details, DiagnosticList};
 use crate::layout::{Layout, written};
-use crate::read::{TextKind, Unread, read};
 use crate::refusal::Refusal;
-use crate::schema::Schema;
-use crate::typing::check_document;
 use graphql_ast::{Document, FileId, SourceSpan};
+use graphql_thin::{
+    Details, DiagnosticList, Schema, Unread, check_document, document_outside, read,
+};
 use std::alloc::{AllocError, Global};
 use std::marker::Model;
 
@@ -51,8 +50,8 @@ impl CheckedSchema {
     /// The document, if it is accepted over the schema: it is read, every rule holds of it, and no bound is
     /// passed. Its number is the one behind those of the schema texts. The schema stays as it is.
     ///
-    /// Otherwise it tells what is wrong: [`Refusal::NotYet`] where the text is outside the language that is
-    /// judged so far; a fault where it passes a bound; else each rule that is broken. It never answers
+    /// Otherwise it tells what is wrong: a fault, alone, where the text is not read; [`Refusal::NotYet`] where it is
+    /// outside the language that is judged so far; else each rule that is broken. It never answers
     /// [`Refusal::Failed`].
     pub fn check(&self, text: &str) -> Result<CheckedDocument<'_>, Refusal>
         ensures document { IfOk result (λ d. d ≡ record { schema = self.now; text = text.now }) }
@@ -92,14 +91,30 @@ fn read_document(
     ensures read { IfOk result (λ d. (texts : _) → IsDocumentNumber texts number → IsReadBehind nesting texts text.now (document_tree d)) }
     ensures unread { IfErr result (λ refusal. (texts : _) → IsDocumentNumber texts number → IsUnreadBehind nesting texts text.now refusal) }
 {
-    let Some(file) = number else {
-        return Err(only(alloc, None, Details::Spent));
+    match number {
+        Some(file) => read_numbered(alloc, text, file, nesting),
+        None => Err(only(alloc, None, Details::Spent)),
+    }
+}
+
+/// Reads a document with this number.
+fn read_numbered(
+    alloc: Global,
+    text: &str,
+    file: FileId,
+    nesting: usize,
+) -> Result<Document, Refusal>
+    ensures read { IfOk result (λ d. (texts : _) → IsDocumentNumber texts (Some file) → IsReadBehind nesting texts text.now (document_tree d)) }
+    ensures unread { IfErr result (λ refusal. (texts : _) → IsDocumentNumber texts (Some file) → IsUnreadBehind nesting texts text.now refusal) }
+{
+    let document = match read(alloc, text, file, nesting) {
+        Ok(document) => document,
+        Err(Unread::Fault { place, details }) => return Err(only(alloc, Some(place), details)),
+        Err(Unread::Memory) => return Err(Refusal::Memory),
     };
-    match read(alloc, TextKind::Document, text, file, nesting) {
-        Ok(document) => Ok(document),
-        Err(Unread::NotYet(offset)) => Err(Refusal::NotYet { file, offset }),
-        Err(Unread::Nesting(place)) => Err(only(alloc, Some(place), Details::Nesting)),
-        Err(Unread::Memory) => Err(Refusal::Memory),
+    match document_outside(&document) {
+        None => Ok(document),
+        Some(offset) => Err(Refusal::NotYet { file, offset }),
     }
 }
 

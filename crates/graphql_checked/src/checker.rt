@@ -74,8 +74,8 @@ impl Checker {
     /// The schema of the texts, if they are accepted: they are read, every rule holds of them, and no bound
     /// is passed.
     ///
-    /// Otherwise it tells what is wrong: [`Refusal::NotYet`] of the first text outside the language that is
-    /// judged so far; else a fault for each text that passes a bound; else each rule that is broken.
+    /// Otherwise it tells what is wrong: a fault for each text that is not read, alone; else [`Refusal::NotYet`] of
+    /// the first text outside the language that is judged so far; else each rule that is broken.
     pub fn finish(self) -> Result<CheckedSchema, Refusal>
         ensures schema { IfOk result (λ s. s ≡ record { nesting = self.nesting; texts = self.texts }) }
         ensures running { OnOk result (self.failed ≡ false) }

@@ -1,7 +1,7 @@
 //! Why texts are not accepted.
 
-use crate::faults::DiagnosticList;
 use graphql_ast::FileId;
+use graphql_thin::DiagnosticList;
 use std::alloc::AllocError;
 
 /// Why texts are not accepted.
@@ -9,7 +9,8 @@ use std::alloc::AllocError;
 pub enum Refusal {
     /// What is wrong with them; the list is never empty.
     Faults(DiagnosticList),
-    /// A text is outside the language that is judged so far, and goes wrong at this byte.
+    /// A text is read and is outside the language that is judged so far; its first definition outside begins at
+    /// this byte.
     NotYet { file: FileId, offset: usize },
     /// Memory ran out.
     Memory,

@@ -28,7 +28,8 @@ pub enum RunFault {
     /// The writer has failed or took nothing; so many bytes are out.
     #[error("output failed")]
     Writer(usize),
-    /// A text is outside the language that is judged so far, and goes wrong at this byte.
+    /// A text is read and is outside the language that is judged so far; its first definition outside begins at
+    /// this byte.
     #[error("not yet")]
     NotYet { file: FileId, offset: usize },
 }

@@ -1,18 +1,18 @@
 //! The schema texts that a checker was given, and what reading them gave.
 
-ghost use Rattle.std.specs.Prelude.{◌≡◌, ◌++◌, ◌∷◌, [], OnOk, OnErr, IfOk, IfErr};
+ghost use Rattle.std.specs.Prelude.{◌≡◌, ◌++◌, ◌∷◌, [], ℕ, List, OnOk, OnErr, IfOk, IfErr};
 ghost use Rattle.graphql_ast.specs.DefinitionTree.{document_tree};
-ghost use Rattle.graphql_checked.specs.Added.{IsNextNumber, IsDocumentNumber};
+ghost use Rattle.graphql_thin.specs.ReadText.{ReadsText, PassesNesting};
+ghost use Rattle.graphql_thin.specs.FaultView.{faults_of};
+ghost use Rattle.graphql_checked.specs.Added.{IsToldBehind, IsNextNumber, IsDocumentNumber};
 ghost use Rattle.graphql_checked.specs.Refusals.{AreSchemasAccepted, RefusalOfSchemas};
 ghost use Rattle.graphql_checked.specs.TextsView.{texts_of, IsReadingOf, IsBefore};
 
-use crate::builder::build;
 use crate::checked_schema::CheckedSchema;
-use crate::faults::{Details, DiagnosticList};
-use crate::read::{TextKind, Unread, read};
 use crate::refusal::Refusal;
 use graphql_ast::{Document, FileId};
 use graphql_names::{Files, Spent};
+use graphql_thin::{Details, DiagnosticList, Unread, build, read, schema_outside};
 use std::alloc::{AllocError, Global};
 
 /// Schema texts in order, and what reading them gave.
@@ -25,12 +25,13 @@ pub(crate) struct SchemaTexts {
     pub(crate) files: Files,
     /// The texts.
     pub(crate) texts: Vec<String>,
-    /// The definitions of those that were read, in order.
+    /// The definitions of those that were read, in order, up to the first that is outside the language that is
+    /// judged so far.
     pub(crate) document: Document,
-    /// Those that pass a bound.
+    /// A fault of each that is not read.
     pub(crate) unread: DiagnosticList,
-    /// The first that is outside the language that is judged so far: its number, and where it goes wrong.
-    /// No text behind it is read.
+    /// The first that was read and is outside the language that is judged so far: its number, and where its first
+    /// definition outside begins.
     pub(crate) not_yet: Option<(FileId, usize)>,
 }
 
@@ -66,17 +67,13 @@ impl SchemaTexts {
         Ok(())
     }
 
-    /// Reads the text that comes next, if all before it are in the language that is judged so far, and a
-    /// number is left for it.
+    /// Reads the text that comes next, if a number is left for it.
     fn read_next(&mut self, text: &str) -> Result<(), AllocError>
         requires { IsReadingOf (texts_of self.old) self.old }
         ensures nesting { self.new.nesting ≡ self.old.nesting }
         ensures texts { self.new.texts ≡ self.old.texts }
         ensures reading { OnOk result (IsReadingOf (texts_of self.old ++ text.now ∷ []) self.new) }
     {
-        if self.not_yet.is_some() {
-            return Ok(());
-        }
         match self.files.next() {
             Ok(file) => self.read_numbered(text, file),
             Err(Spent) => self.unread.push(None, Details::Spent),
@@ -90,14 +87,30 @@ impl SchemaTexts {
         ensures texts { self.new.texts ≡ self.old.texts }
         ensures reading { OnOk result (IsReadingOf (texts_of self.old ++ text.now ∷ []) self.new) }
     {
-        match read(self.alloc, TextKind::Schema, text, file, self.nesting) {
-            Ok(document) => append(&mut self.document, document),
-            Err(Unread::NotYet(offset)) => {
+        match read(self.alloc, text, file, self.nesting) {
+            Ok(document) => self.keep(document, file),
+            Err(unread) => tell(&mut self.unread, unread),
+        }
+    }
+
+    /// Keeps the definitions of the text with this number, or where the first begins that is outside the language
+    /// that is judged so far. Behind a text outside nothing more is kept.
+    fn keep(&mut self, document: Document, file: FileId) -> Result<(), AllocError>
+        requires { IsBefore (texts_of self.old) file self.old }
+        ensures nesting { self.new.nesting ≡ self.old.nesting }
+        ensures texts { self.new.texts ≡ self.old.texts }
+        ensures reading { OnOk result ((text : List ℕ) → ReadsText file.0 text (document_tree document) → (PassesNesting self.old.nesting text → ⊥)
+            → IsReadingOf (texts_of self.old ++ text ∷ []) self.new) }
+    {
+        if self.not_yet.is_some() {
+            return Ok(());
+        }
+        match schema_outside(&document) {
+            None => append(&mut self.document, document),
+            Some(offset) => {
                 self.not_yet = Some((file, offset));
                 Ok(())
             }
-            Err(Unread::Nesting(place)) => self.unread.push(Some(place), Details::Nesting),
-            Err(Unread::Memory) => Err(AllocError),
         }
     }
 
@@ -108,11 +121,11 @@ impl SchemaTexts {
         ensures accepted { OnOk result (AreSchemasAccepted self.nesting (texts_of self)) }
         ensures refused { IfErr result (RefusalOfSchemas self.nesting (texts_of self)) }
     {
-        if let Some((file, offset)) = self.not_yet {
-            return Err(Refusal::NotYet { file, offset });
-        }
         if !self.unread.is_empty() {
             return Err(Refusal::Faults(self.unread));
+        }
+        if let Some((file, offset)) = self.not_yet {
+            return Err(Refusal::NotYet { file, offset });
         }
         let built = build(self.alloc, &self.document)?;
         if !built.faults.is_empty() {
@@ -126,6 +139,16 @@ impl SchemaTexts {
             document: self.document,
             schema: built.schema,
         })
+    }
+}
+
+/// Tells why a text is not read, behind the faults of the list.
+fn tell(list: &mut DiagnosticList, unread: Unread) -> Result<(), AllocError>
+    ensures { OnOk result (IsToldBehind unread (faults_of list.old) (faults_of list.new)) }
+{
+    match unread {
+        Unread::Fault { place, details } => list.push(Some(place), details),
+        Unread::Memory => Err(AllocError),
     }
 }
 

@@ -9,9 +9,9 @@ ghost use Rattle.graphql_checked.specs.declared.verdict.CheckError.TheVariants.{
 
 use crate::checked_schema::CheckedSchema;
 use crate::checker::{Checker, Limits};
-use crate::faults::DiagnosticList;
 use crate::refusal::Refusal;
 use graphql_ast::FileId;
+use graphql_thin::DiagnosticList;
 use std::alloc::Global;
 use std::convert::AsStr;
 
@@ -29,7 +29,8 @@ pub enum Verdict {
 pub enum CheckError {
     /// Memory ran out.
     Memory,
-    /// A text is outside the language that is judged so far, and goes wrong at this byte.
+    /// A text is read and is outside the language that is judged so far; its first definition outside begins at
+    /// this byte.
     NotYet { file: FileId, offset: usize },
 }
 

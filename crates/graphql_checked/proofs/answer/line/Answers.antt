@@ -1,6 +1,6 @@
 use Rattle.std.proofs.Common.{◌++◌, codes, string_bytes, ap, ◌∙◌}
-use Rattle.graphql_checked.specs.Answer.{message}
-use Rattle.graphql_checked.specs.FaultView.{breach_of}
+use Rattle.graphql_thin.specs.Messages.{message}
+use Rattle.graphql_thin.specs.FaultView.{breach_of}
 use Rattle.graphql_checked.proofs.AnswerBytes.{four_texts, made_as}
 use Rattle.graphql_checked.proofs.answer.line.Goals as goal
 

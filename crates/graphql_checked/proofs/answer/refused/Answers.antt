@@ -2,7 +2,7 @@ use Rattle.std.proofs.Common.{◌++◌, codes, map, string_bytes, ap, ◌∙◌}
 use Rattle.std.specs.List.{flat_map}
 use Rattle.std.proofs.lemmas.List.{take_all}
 use Rattle.graphql_checked.specs.Answer.{fault_line}
-use Rattle.graphql_checked.specs.FaultView.{fault_of}
+use Rattle.graphql_thin.specs.FaultView.{fault_of}
 use Rattle.graphql_checked.proofs.AnswerBytes.{lines_more}
 use Rattle.graphql_checked.proofs.answer.refused.Goals as goal
 

@@ -1,7 +1,7 @@
 use Rattle.std.proofs.Common.{◌≡◌, ◌++◌, map, take, codes, string_bytes}
 use Rattle.std.specs.List.{flat_map}
 use Rattle.graphql_checked.specs.Answer.{fault_line}
-use Rattle.graphql_checked.specs.FaultView.{fault_of}
+use Rattle.graphql_thin.specs.FaultView.{fault_of}
 use Rattle.graphql_checked.proofs.answer.refused.Given as goal
 
 abbrev pub invariant-loop-place : goal.invariant-loop-place

@@ -5,7 +5,7 @@ use Rattle.graphql_ast.specs.DefinitionTree.{document_tree}
 use Rattle.graphql_checked.specs.Refusals.{IsAccepted, RefusalOfDocument}
 use Rattle.graphql_checked.specs.Answer.{RefusesDocument}
 use Rattle.graphql_checked.specs.Accepted.{IsAcceptedDocument}
-use Rattle.graphql_checked.specs.FaultView.{faults_of}
+use Rattle.graphql_thin.specs.FaultView.{faults_of}
 use Rattle.graphql_checked.specs.declared.refusal.Refusal.TheVariants.{Faults}
 use Rattle.graphql_checked.proofs.Deciding.{refusal_of_document}
 use Rattle.graphql_checked.proofs.Checking.{unread_document, broken_document, accepted_document}

@@ -1,0 +1,10 @@
+pub mod Lists
+pub mod ReadText
+pub mod Thin
+pub mod Fold
+pub mod Faults
+pub mod Messages
+pub mod FaultView
+pub mod Unread
+pub mod SchemaView
+pub mod FaultList

@@ -1,0 +1,40 @@
+-- Which texts are read: they have a tree, and pass no bound.
+use Rattle.std.specs.Prelude.{ℕ, ◌+◌, ◌<◌, ◌≤◌, ◌^◌, List}
+use Rattle.graphql_values.specs.Placed.{Place}
+use Rattle.graphql_ast.specs.DefinitionTree.{DefinitionTree}
+use Rattle.graphql_lexer.specs.Input.{Token}
+use Rattle.graphql_lexer.specs.Lex.{LexesFront, Lex}
+use Rattle.graphql_grammar.specs.Depth.{depth}
+use Rattle.graphql_grammar.specs.Grammar.{Derives}
+use Rattle.graphql_parse_values.specs.Meanings.{in_file}
+
+-- these tokens, of the text with this file number, are a document with this tree
+abbrev pub DerivesIn : ℕ → List Token → List (DefinitionTree Place) → Type 0
+DerivesIn file = Derives (in_file (record { 0 = file }))
+
+-- The text with this file number has this tree.
+pub record ReadsText (file : ℕ) (text : List ℕ) (tree : List (DefinitionTree Place)) : Type 0 where
+  pub tokens : List Token
+  pub lexed : Lex text tokens
+  pub derived : DerivesIn file tokens tree
+
+-- ---- bounds
+
+-- a front of the text is lexed in which more brackets are open at once than this many
+abbrev pub PassesNesting : ℕ → List ℕ → Type 0
+PassesNesting limit text = (tokens : List Token) × ((behind : List ℕ) × (LexesFront text tokens behind × (limit < depth tokens)))
+
+-- a text would have this file number, which is the last that a file number can be, or passes it
+abbrev pub PassesNumbers : ℕ → Type 0
+PassesNumbers file = 2 ^ 64 ≤ file + 1
+
+-- a text with this number passes no bound
+pub record WithinBounds (nesting file : ℕ) (text : List ℕ) : Type 0 where
+  pub nests : PassesNesting nesting text → ⊥
+  pub numbered : PassesNumbers file → ⊥
+
+-- The text with this file number is read.
+pub record IsRead (nesting file : ℕ) (text : List ℕ) : Type 0 where
+  pub tree : List (DefinitionTree Place)
+  pub reads : ReadsText file text tree
+  pub within : WithinBounds nesting file text

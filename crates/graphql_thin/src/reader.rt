@@ -1,0 +1,69 @@
+//! One text, read: its tree, or the fault of an unread text.
+
+ghost use Rattle.std.specs.Prelude.{◌≡◌, ◌<◌, ℕ, length, IfOk, IfErr, OnOk};
+ghost use Rattle.graphql_ast.specs.DefinitionTree.{document_tree};
+ghost use Rattle.graphql_grammar.specs.Faults as faults;
+ghost use Rattle.graphql_read.specs.ReadFaults.{fault_at, fault_view};
+ghost use Rattle.graphql_read.specs.declared.fault.ReadFault.TheVariants.{Nesting};
+ghost use Rattle.graphql_thin.specs.ReadText.{ReadsText, PassesNesting};
+ghost use Rattle.graphql_thin.specs.Unread.{IsUnread, TellsUnread};
+
+use crate::faults::Details;
+use crate::unread::Unread;
+use graphql_ast::Document;
+use graphql_names::{FileId, SourceSpan};
+use graphql_read::{ReadFault, SyntaxFault, parse_document};
+use std::alloc::Global;
+
+/// Reads a text with this file number, with at most `nesting` brackets open at once.
+pub fn read(alloc: Global, text: &str, file: FileId, nesting: usize) -> Result<Document, Unread>
+    ensures tree { IfOk result (λ d. ReadsText file.0 text.now (document_tree d)) }
+    ensures within { OnOk result (PassesNesting nesting text.now → ⊥) }
+    ensures unread { IfErr result (IsUnread nesting file.0 text.now) }
+{
+    match parse_document(alloc, text, file, nesting) {
+        Ok(document) => Ok(document),
+        Err(fault) => Err(unread(text, file, fault)),
+    }
+}
+
+/// What is said of the text of which a fault is due.
+fn unread(text: &str, file: FileId, fault: ReadFault) -> Unread
+    requires { (offset : ℕ) → fault ≡ Nesting offset → offset < length text.now }
+    ensures { TellsUnread file.0 (fault_view fault) result }
+{
+    match fault {
+        ReadFault::Memory => Unread::Memory,
+        ReadFault::Syntax(fault) => syntax(file, fault),
+        ReadFault::Nesting { offset } => nesting(text, file, offset),
+    }
+}
+
+/// What is wrong with the tokens of the text, at a place without length.
+fn syntax(file: FileId, fault: SyntaxFault) -> Unread
+    ensures { TellsUnread file.0 (fault_at fault.kind fault.offset) result }
+{
+    Unread::Fault {
+        place: SourceSpan {
+            file_id: file,
+            offset: fault.offset,
+            length: 0,
+        },
+        details: Details::Syntax(fault.kind),
+    }
+}
+
+/// One bracket too many is open, from this one on.
+fn nesting(text: &str, file: FileId, offset: usize) -> Unread
+    requires { offset < length text.now }
+    ensures { TellsUnread file.0 (faults.Nesting offset) result }
+{
+    Unread::Fault {
+        place: SourceSpan {
+            file_id: file,
+            offset,
+            length: 1,
+        },
+        details: Details::Nesting,
+    }
+}
