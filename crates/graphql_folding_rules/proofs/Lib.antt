@@ -3,3 +3,4 @@ pub mod Seeing
 pub mod Judging
 pub mod Telling
 pub mod Turns
+pub mod MisplacedRows
