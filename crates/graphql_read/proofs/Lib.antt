@@ -8,6 +8,7 @@ pub mod StandsValues
 pub mod StandsOperations
 pub mod StandsTypeSystem
 pub mod StandsDocuments
+mod PlaceRows
 pub mod Soundness
 pub mod Endings
 pub mod Texts
