@@ -96,13 +96,15 @@ folded_own list t = record {
 }
 
 -- of all types
-pub types_under_own_names : (first : ℕ) (ds : Definitions) → TypesUnderOwnNames (folded_types first ds)
-types_under_own_names first ds =
-    let ts = firsts type_name (types_in ds) in
-    let folded = folded_type (numbered first ds) in (
-      firsts_named type_name folded (λ t. t.name.it) (λ t. refl) (types_in ds),
-      subst (All HasOwnNames) (sym (values_are type_name folded ts)) (All-map HasOwnNames folded ts (λ k d h. folded_own (numbered first ds) _)),
+pub types_own : (list : List Listed) (ts : List (TypeDefinition Place)) → TypesUnderOwnNames (map (λ t. (type_name t, folded_type list t)) (firsts type_name ts))
+types_own list ts =
+    let folded = folded_type list in (
+      firsts_named type_name folded (λ t. t.name.it) (λ t. refl) ts,
+      subst (All HasOwnNames) (sym (values_are type_name folded (firsts type_name ts))) (All-map HasOwnNames folded (firsts type_name ts) (λ k d h. folded_own list _)),
     )
+
+pub types_under_own_names : (first : ℕ) (ds : Definitions) → TypesUnderOwnNames (folded_types first ds)
+types_under_own_names first ds = types_own (numbered first ds) (types_in ds)
 
 -- of directives
 abbrev Directive : Type 0

@@ -52,29 +52,31 @@ module _ {V : Type 0} where
       by true h rest = cc
       by false h rest = rest h
 
-module _ {X : Type 0} (es : List (NameValue × Vec X Global)) (item : X) where
+module _ {X : Type 0} (es new : List (NameValue × Vec X Global)) (item : X) where
   abbrev items : Option (Vec X Global) → List X
   items o = option_map_or (λ v. v.items) o []
 
-  -- an item behind those that stand under a name
-  pub under_pushed : (name : List ℕ) (old new : Vec X Global) → lookup (test name) es ≡ Some old → new.items ≡ old.items ++ item ∷ []
-      → (n : List ℕ) → items (lookup (test n) (set_value (test name) es new)) ≡ items (lookup (test n) es) ++ (if bytes_eq n name then item ∷ [] else [])
-  under_pushed name old new found added n = by (bytes_eq n name) refl
-    where
-      here : items (lookup (test name) (set_value (test name) es new)) ≡ items (lookup (test name) es) ++ item ∷ []
-      here = ap items (written_same name new es (ap is_some found)) ∙ added ∙ ap (λ o. items o ++ item ∷ []) (sym found)
+  -- under the name the item is added, and nothing else changes
+  abbrev Adds : List ℕ → Type 0
+  Adds name = (n : List ℕ) → items (lookup (test n) new) ≡ items (lookup (test n) es) ++ (if bytes_eq n name then item ∷ [] else [])
 
-      by : (b : Bool) → bytes_eq n name ≡ b → items (lookup (test n) (set_value (test name) es new)) ≡ items (lookup (test n) es) ++ cond b (item ∷ []) []
-      by true t = subst (λ m. items (lookup (test m) (set_value (test name) es new)) ≡ items (lookup (test m) es) ++ item ∷ []) (sym ((bytes_eq-Decides n name).0 t)) here
-      by false t = ap items (written_other n name new t es) ∙ sym (append-nil (items (lookup (test n) es)))
-
-  -- an item under a new name
-  pub under_new : (name : NameValue) (new : Vec X Global) → lookup (test name.text) es ≡ None → new.items ≡ item ∷ []
-      → (n : List ℕ) → items (lookup (test n) (es ++ (name, new) ∷ [])) ≡ items (lookup (test n) es) ++ (if bytes_eq n name.text then item ∷ [] else [])
-  under_new name new absent added n = by (bytes_eq n name.text) refl
+  -- behind those that stand under it
+  pub under_pushed : (name : List ℕ) (v w : Vec X Global) → lookup (test name) es ≡ Some v → w.items ≡ v.items ++ item ∷ [] → new ≡ set_value (test name) es w → Adds name
+  under_pushed name v w found added is n = ap (λ l. items (lookup (test n) l)) is ∙ by (bytes_eq n name) refl
     where
-      by : (b : Bool) → bytes_eq n name.text ≡ b → items (lookup (test n) (es ++ (name, new) ∷ [])) ≡ items (lookup (test n) es) ++ cond b (item ∷ []) []
+      here : items (lookup (test name) (set_value (test name) es w)) ≡ items (lookup (test name) es) ++ item ∷ []
+      here = ap items (written_same name w es (ap is_some found)) ∙ added ∙ ap (λ o. items o ++ item ∷ []) (sym found)
+
+      by : (b : Bool) → bytes_eq n name ≡ b → items (lookup (test n) (set_value (test name) es w)) ≡ items (lookup (test n) es) ++ cond b (item ∷ []) []
+      by true t = subst (λ m. items (lookup (test m) (set_value (test name) es w)) ≡ items (lookup (test m) es) ++ item ∷ []) (sym ((bytes_eq-Decides n name).0 t)) here
+      by false t = ap items (written_other n name w t es) ∙ sym (append-nil (items (lookup (test n) es)))
+
+  -- where nothing stands under it
+  pub under_new : (name : NameValue) (w : Vec X Global) → lookup (test name.text) es ≡ None → w.items ≡ item ∷ [] → new ≡ es ++ (name, w) ∷ [] → Adds name.text
+  under_new name w absent added is n = ap (λ l. items (lookup (test n) l)) is ∙ by (bytes_eq n name.text) refl
+    where
+      by : (b : Bool) → bytes_eq n name.text ≡ b → items (lookup (test n) (es ++ (name, w) ∷ [])) ≡ items (lookup (test n) es) ++ cond b (item ∷ []) []
       by true t =
           let none = subst (λ m. lookup (test m) es ≡ None) (sym ((bytes_eq-Decides n name.text).0 t)) absent in
-          ap items (pushed_same n name new t es none) ∙ added ∙ ap (λ o. items o ++ item ∷ []) (sym none)
-      by false t = ap items (pushed_other n name new t es) ∙ sym (append-nil (items (lookup (test n) es)))
+          ap items (pushed_same n name w t es none) ∙ added ∙ ap (λ o. items o ++ item ∷ []) (sym none)
+      by false t = ap items (pushed_other n name w t es) ∙ sym (append-nil (items (lookup (test n) es)))

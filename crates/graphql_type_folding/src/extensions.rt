@@ -7,6 +7,7 @@ ghost use Rattle.graphql_schema_types.specs.TypeView.{name_text};
 ghost use Rattle.graphql_folding.specs.ListedView.{listed_view};
 ghost use Rattle.graphql_type_folding.specs.Filing.{items_under, extensions_under, extensions_named, Files};
 
+use crate::insert::insert_new;
 use graphql_ast::Name;
 use graphql_folding::{Listed, extension_parts};
 use indexmap::IndexMap;
@@ -79,11 +80,9 @@ fn insert_under<T: Drop>(
     requires { get (same_text name_text) index.old name.now ≡ None }
     ensures { OnOk result ((n : List ℕ) → items_under n index.new ≡ items_under n index.old ++ (if bytes_eq n name.now.text then item ∷ [] else [])) }
 {
-    let name = name.clone()?;
     let mut items = Vec::new(alloc);
     items.push(item)?;
-    index.insert(name, items)?;
-    Ok(())
+    insert_new(index, name, items)
 }
 
 /// The extensions under a name.

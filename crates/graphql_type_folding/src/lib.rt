@@ -8,6 +8,7 @@
 #![tactic(auto)]
 
 mod extensions;
+mod insert;
 mod types;
 
 pub use types::fold_types;

@@ -1,9 +1,6 @@
 //! What the definitions of types fold to.
-ghost use Rattle.std.specs.Prelude.{◌≡◌, ◌++◌, ◌∷◌, [], None, map, IfOk, OnOk};
-ghost use Rattle.indexmap.specs.IndexMap.{get};
+ghost use Rattle.std.specs.Prelude.{◌≡◌, ◌++◌, ◌∷◌, [], map, IfOk, OnOk};
 ghost use Rattle.graphql_ast.specs.DefinitionTree.{definition_tree};
-ghost use Rattle.graphql_components.specs.Names.{same_text};
-ghost use Rattle.graphql_schema_types.specs.TypeView.{name_text, extended_type};
 ghost use Rattle.graphql_schema_types.specs.SchemaView.{types_view};
 ghost use Rattle.graphql_folding.specs.FaultView.{faults_of};
 ghost use Rattle.graphql_folding.specs.Listed.{types_in};
@@ -11,9 +8,11 @@ ghost use Rattle.graphql_folding.specs.ListedView.{listed_view};
 ghost use Rattle.graphql_folding.specs.Made.{defined_view, IsDefinition};
 ghost use Rattle.graphql_schema_folding.specs.ListFold.{definitions_of};
 ghost use Rattle.graphql_type_folding.specs.ListTypes.{types_from, faults_from, FoldsTypes, TellsTypes};
+ghost use Rattle.graphql_type_folding.specs.OwnNames.{TypesUnderOwnNames};
 ghost use Rattle.graphql_type_folding.specs.Filing.{extensions_under, types_by, faults_by, FoldsOn};
 
 use crate::extensions::{extensions_of, index_extensions};
+use crate::insert::insert_new;
 use graphql_ast::{Definition, Name, SourceSpan};
 use graphql_folding::{BuildError, Defined, Listed, fold_type, type_definition};
 use graphql_schema_types::ExtendedType;
@@ -31,6 +30,7 @@ pub fn fold_types(
     ensures faults { OnOk result (faults_of faults.new ≡ faults_of faults.old ++ faults_from (map listed_view list.now)) }
     ensures folded { IfOk result (λ m. FoldsTypes (map listed_view list.now) (types_view m)) }
     ensures tells { OnOk result (TellsTypes (map listed_view list.now) (faults_of faults.old) (faults_of faults.new)) }
+    ensures own_names { IfOk result (λ m. TypesUnderOwnNames (types_view m)) }
 {
     let extensions = index_extensions(alloc, list)?;
     fold_each(alloc, list, &extensions, faults)
@@ -85,19 +85,5 @@ fn fold_first(
         return Ok(());
     }
     let folded = fold_type(alloc, defined, extensions_of(extensions, name), faults)?;
-    insert_type(types, name, folded)
-}
-
-/// Inserts a type under a name that no other has.
-fn insert_type(
-    types: &mut IndexMap<Name, ExtendedType>,
-    name: &Name,
-    folded: ExtendedType,
-) -> Result<(), AllocError>
-    requires { get (same_text name_text) types.old name.now ≡ None }
-    ensures { OnOk result (types_view types.new ≡ types_view types.old ++ (name.now.text, extended_type folded) ∷ []) }
-{
-    let name = name.clone()?;
-    types.insert(name, folded)?;
-    Ok(())
+    insert_new(types, name, folded)
 }
