@@ -1,9 +1,9 @@
 -- The extensions that stand under a type's name are all that its fold needs.
 use Rattle.std.proofs.Common.{◌≡◌, ℕ, Bool, true, false, ◌&&◌, List, [], ◌∷◌, ◌++◌, map, Option, None, Some, refl, sym, ap, ◌∙◌, cond, if◌then◌else◌}
-use Rattle.std.specs.List.{filter, flat_map}
+use Rattle.std.specs.List.{flat_map}
 use Rattle.std.specs.Option.{option_map_or}
 use Rattle.std.specs.Str.{bytes_eq}
-use Rattle.std.proofs.lemmas.List.{append_assoc, append-nil, map-append}
+use Rattle.std.proofs.lemmas.List.{append-nil, map-append}
 use Rattle.std.proofs.lemmas.List.Elements.{filter-append}
 use Rattle.graphql_values.specs.Placed.{Place}
 use Rattle.graphql_components.specs.Given.{Given}
@@ -102,8 +102,8 @@ pub files_one : (old new : List ℕ → List Rust) (item : Rust) (l : Listed) (p
 files_one old new item l parts is same added n =
     ap (map listed_view) (added n) ∙ map-append listed_view (old n) (if bytes_eq n parts.name.it then item ∷ [] else [])
     ∙ ap (λ r. map listed_view (old n) ++ r) (
-      by (bytes_eq n parts.name.it)
-      ∙ ap (λ o. cond (option_map_or (λ p. bytes_eq n p.name.it) o false) (l ∷ []) []) is)
+    by (bytes_eq n parts.name.it)
+    ∙ ap (λ o. cond (option_map_or (λ p. bytes_eq n p.name.it) o false) (l ∷ []) []) is)
   where
     by : (b : Bool) → map listed_view (cond b (item ∷ []) []) ≡ cond b (l ∷ []) []
     by true = ap (λ v. v ∷ []) same

@@ -1,5 +1,5 @@
 -- Lemmas on the fold of one type after another.
-use Rattle.std.proofs.Common.{◌≡◌, ℕ, true, false, List, [], ◌∷◌, ◌++◌, map, Option, None, Some, refl, sym, ap, ◌∙◌, is_some, option_to_list}
+use Rattle.std.proofs.Common.{◌≡◌, ℕ, true, false, List, [], ◌∷◌, ◌++◌, map, refl, sym, ap, ◌∙◌, is_some, option_to_list}
 use Rattle.std.specs.List.{flat_map}
 use Rattle.std.specs.Map.{lookup}
 use Rattle.std.specs.Str.{bytes_eq}
@@ -52,17 +52,19 @@ module _ (extensions : List ℕ → List Listed) where
   module _ (es : List (NameValue × ExtendedType)) (t : TypeDefinition Place) where
     pub folds_seen : (faults : List Fault) → is_some (lookup (λ k. bytes_eq (type_name t) k.text) es) ≡ true → FoldsOn extensions (t ∷ []) (map entry_view es) faults (map entry_view es) faults
     folds_seen faults there before start is was =
-        let seen = sym (is_some-firsts type_name entry_view made entry_key (λ e. refl) (λ x. refl) (type_name t) es before is) ∙ there in
-        (kept_seen type_name entry_view made entry_key (λ e. refl) (λ x. refl) es before t is there,
-        was ∙ ap (λ ts. start ++ flat_map tell ts) (sym (firsts-push_seen type_name before t seen)))
+        let seen = sym (is_some-firsts type_name entry_view made entry_key (λ e. refl) (λ x. refl) (type_name t) es before is) ∙ there in (
+          kept_seen type_name entry_view made entry_key (λ e. refl) (λ x. refl) es before t is there,
+          was ∙ ap (λ ts. start ++ flat_map tell ts) (sym (firsts-push_seen type_name before t seen)),
+        )
 
     pub folds_new : (new : Types) (faults faults' : List Fault) → is_some (lookup (λ k. bytes_eq (type_name t) k.text) es) ≡ false
         → new ≡ map entry_view es ++ made t ∷ [] → faults' ≡ faults ++ tell t → FoldsOn extensions (t ∷ []) (map entry_view es) faults new faults'
     folds_new new faults faults' absent added told before start is was =
-        let unseen = sym (is_some-firsts type_name entry_view made entry_key (λ e. refl) (λ x. refl) (type_name t) es before is) ∙ absent in
-        (kept_new type_name entry_view made entry_key (λ e. refl) (λ x. refl) es before t new is absent added,
-        told ∙ ap (λ l. l ++ tell t) was ∙ append_assoc start (flat_map tell (firsts type_name before)) (tell t)
-        ∙ ap (λ l. start ++ l) (sym (ap (flat_map tell) (firsts-push_new type_name before t unseen) ∙ flat_map-push tell (firsts type_name before) t)))
+        let unseen = sym (is_some-firsts type_name entry_view made entry_key (λ e. refl) (λ x. refl) (type_name t) es before is) ∙ absent in (
+          kept_new type_name entry_view made entry_key (λ e. refl) (λ x. refl) es before t new is absent added,
+          told ∙ ap (λ l. l ++ tell t) was ∙ append_assoc start (flat_map tell (firsts type_name before)) (tell t)
+              ∙ ap (λ l. start ++ l) (sym (ap (flat_map tell) (firsts-push_new type_name before t unseen) ∙ flat_map-push tell (firsts type_name before) t)),
+        )
 
 -- the types that are defined in some definitions and one more
 pub types_more : (ds : List (DefinitionTree Place)) (d : DefinitionTree Place) → types_in (ds ++ d ∷ []) ≡ types_in ds ++ types_in (d ∷ [])

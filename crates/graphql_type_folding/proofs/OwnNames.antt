@@ -1,5 +1,5 @@
 -- In what definitions fold to, each thing stands under its own name.
-use Rattle.std.proofs.Common.{◌≡◌, ℕ, Bool, true, false, ◌||◌, List, [], ◌∷◌, ◌++◌, map, Option, None, Some, refl, sym, ap, subst, ◌∙◌, cond, if◌then◌else◌, true≢false, All}
+use Rattle.std.proofs.Common.{◌≡◌, ℕ, Bool, true, false, ◌||◌, List, [], ◌∷◌, ◌++◌, map, Some, refl, sym, ap, subst, ◌∙◌, cond, if◌then◌else◌, true≢false, All}
 use Rattle.std.specs.List.{IsDistinct, AllByRecursion, find}
 use Rattle.std.specs.Map.{keys_of, values_of}
 use Rattle.std.specs.Option.{option_map_or}
@@ -12,7 +12,6 @@ use Rattle.graphql_components.specs.Lists.{each_place_after, firsts, has_name}
 use Rattle.graphql_components.specs.Names.{Entries}
 use Rattle.graphql_components.specs.Given.{given_name}
 use Rattle.graphql_components.proofs.Firsts.{has_name-push}
-use Rattle.graphql_schema_types.specs.SchemaTree.{SchemaType}
 use Rattle.graphql_schema_types.specs.TypeParts.{TypeDefinition}
 use Rattle.graphql_folding.specs.Listed.{Definitions, Listed, numbered, type_name, types_in, directive_name, directives_in}
 use Rattle.graphql_folding.specs.Components.{components, field_key, value_key, input_key}

@@ -86,10 +86,7 @@ fn insert_under<T: Drop>(
 }
 
 /// The extensions under a name.
-pub(crate) fn extensions_of<'a>(
-    index: &'a IndexMap<Name, Vec<Listed>>,
-    name: &Name,
-) -> &'a [Listed]
+pub(crate) fn extensions_of<'a>(index: &'a IndexMap<Name, Vec<Listed>>, name: &Name) -> &'a [Listed]
     ensures { map listed_view result.now ≡ extensions_under index.now name.now.text }
 {
     match index.get(name) {

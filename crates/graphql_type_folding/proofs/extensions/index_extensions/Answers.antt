@@ -1,7 +1,4 @@
 use Rattle.std.proofs.Common.{◌<◌, ◌∷◌, [], ◌++◌, map, take, length, sym, ap, ◌∙◌, arith}
-use Rattle.std.specs.Map.{lookup}
-use Rattle.std.specs.Option.{option_map_or}
-use Rattle.std.specs.Str.{bytes_eq}
 use Rattle.std.proofs.lemmas.List.{map_more}
 use Rattle.graphql_folding.specs.ListedView.{listed_view}
 use Rattle.graphql_type_folding.specs.Filing.{extensions_under, extensions_named}
