@@ -3,3 +3,4 @@ pub mod Filing
 pub mod Folding
 pub mod FoldedTypes
 pub mod OwnNames
+pub mod Lookups
