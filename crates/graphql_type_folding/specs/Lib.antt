@@ -1,0 +1,3 @@
+pub mod ListTypes
+pub mod Filing
+pub mod OwnNames
