@@ -1,5 +1,5 @@
 -- What the rows of the table say (private: it leads to `built_in_definitions`).
-use Rattle.std.specs.Prelude.{ℕ, Bool, false, List, [], ◌∷◌, ◌&&◌, map, codes, Option, None, Some}
+use Rattle.std.specs.Prelude.{ℕ, Bool, false, List, ◌&&◌, map, Option, None, Some}
 use Rattle.std.specs.List.{list_all}
 use Rattle.std.specs.Str.{bytes_eq}
 use Rattle.graphql_names.specs.NameSyntax.{is_name}

@@ -2,6 +2,8 @@
 ghost use Rattle.std.specs.Prelude.{◌≡◌, ◌++◌, ◌∷◌, [], map, IfOk, OnOk, IsTrue};
 ghost use Rattle.std.specs.List.{list_all, list_any};
 ghost use Rattle.graphql_names.specs.NameSyntax.{IsName, is_name};
+ghost use Rattle.graphql_values.specs.Placed.{node_tree};
+ghost use Rattle.graphql_values.specs.DirectiveTree.{input_value_tree};
 ghost use Rattle.graphql_ast.specs.DefinitionTree.{definition_tree};
 ghost use Rattle.graphql_folding.specs.BuiltIn.{directive, scalar, object, enum};
 ghost use Rattle.graphql_folding.specs.BuildErrors.{is_built_in_scalar};
@@ -12,10 +14,30 @@ use crate::members::{fields_of, values_of};
 use crate::parts::{arguments_of, node_here};
 use crate::table::{ArgumentRow, FieldRow, ROWS, Row};
 use graphql_ast::{
-    Definition, DirectiveDefinition, DirectiveList, DirectiveLocation, EnumTypeDefinition, Name,
-    ObjectTypeDefinition, ScalarTypeDefinition,
+    Definition, DirectiveDefinition, DirectiveList, DirectiveLocation, EnumTypeDefinition,
+    InputValueDefinition, Name, Node, ObjectTypeDefinition, ScalarTypeDefinition,
 };
 use std::alloc::{AllocError, Global};
+
+/// A directive of these parts.
+fn directive_with(
+    alloc: Global,
+    name: &'static str,
+    arguments: Vec<Node<InputValueDefinition>>,
+    locations: Vec<DirectiveLocation>,
+) -> Result<Definition, AllocError>
+    requires { IsName name.now }
+    ensures { IfOk result (λ d. definition_tree d ≡ directive name.now (map (node_tree input_value_tree) arguments.items) locations.items) }
+{
+    let definition = DirectiveDefinition {
+        description: None,
+        name: Name::new_static_unchecked(name),
+        arguments,
+        repeatable: false,
+        locations,
+    };
+    Ok(Definition::DirectiveDefinition(node_here(alloc, definition)?))
+}
 
 /// A directive with the arguments of the rows.
 fn directive(
@@ -30,14 +52,7 @@ fn directive(
 {
     let arguments = arguments_of(alloc, rows)?;
     let locations = Vec::from_slice(alloc, locations)?;
-    let definition = DirectiveDefinition {
-        description: None,
-        name: Name::new_static_unchecked(name),
-        arguments,
-        repeatable: false,
-        locations,
-    };
-    Ok(Definition::DirectiveDefinition(node_here(alloc, definition)?))
+    directive_with(alloc, name, arguments, locations)
 }
 
 /// A scalar.

@@ -1,16 +1,45 @@
 //! Fields and enum values, made of the rows of the table.
-ghost use Rattle.std.specs.Prelude.{◌≡◌, ◌++◌, ◌∷◌, [], map, IfOk, OnOk, IsTrue};
+ghost use Rattle.std.specs.Prelude.{◌≡◌, ◌++◌, ◌∷◌, [], map, None, IfOk, OnOk, IsTrue};
 ghost use Rattle.std.specs.List.{list_all};
 ghost use Rattle.graphql_names.specs.NameSyntax.{IsName, is_name};
-ghost use Rattle.graphql_values.specs.Placed.{node_tree};
+ghost use Rattle.graphql_values.specs.Placed.{name_tree, node_tree};
+ghost use Rattle.graphql_values.specs.TypeTree.{type_tree};
+ghost use Rattle.graphql_values.specs.DirectiveTree.{input_value_tree};
 ghost use Rattle.graphql_ast.specs.TypeSystemTree.{field_definition_tree, enum_value_tree};
-ghost use Rattle.graphql_folding.specs.BuiltIn.{value};
+ghost use Rattle.graphql_folding.specs.BuiltIn.{here, value};
 ghost use Rattle.graphql_built_in.specs.Rows.{row_field, has_field_names};
 
 use crate::parts::{arguments_of, node_here, type_of};
 use crate::table::FieldRow;
-use graphql_ast::{DirectiveList, EnumValueDefinition, FieldDefinition, Name, Node};
+use graphql_ast::{
+    DirectiveList, EnumValueDefinition, FieldDefinition, InputValueDefinition, Name, Node, Type,
+};
 use std::alloc::{AllocError, Global};
+
+/// A field of these parts.
+fn field_with(
+    alloc: Global,
+    name: Name,
+    arguments: Vec<Node<InputValueDefinition>>,
+    ty: Type,
+) -> Result<Node<FieldDefinition>, AllocError>
+    ensures { IfOk result (λ f. node_tree field_definition_tree f ≡ here (record {
+      description = None;
+      name = name_tree name;
+      arguments = map (node_tree input_value_tree) arguments.items;
+      ty = type_tree ty;
+      directives = [];
+    })) }
+{
+    let field = FieldDefinition {
+        description: None,
+        name,
+        arguments,
+        ty,
+        directives: DirectiveList(Vec::new(alloc)),
+    };
+    Ok(node_here(alloc, field)?)
+}
 
 /// The field of the row.
 fn field_of(alloc: Global, row: FieldRow) -> Result<Node<FieldDefinition>, AllocError>
@@ -19,14 +48,7 @@ fn field_of(alloc: Global, row: FieldRow) -> Result<Node<FieldDefinition>, Alloc
 {
     let arguments = arguments_of(alloc, row.1)?;
     let ty = type_of(alloc, row.2)?;
-    let field = FieldDefinition {
-        description: None,
-        name: Name::new_static_unchecked(row.0),
-        arguments,
-        ty,
-        directives: DirectiveList(Vec::new(alloc)),
-    };
-    Ok(node_here(alloc, field)?)
+    field_with(alloc, Name::new_static_unchecked(row.0), arguments, ty)
 }
 
 /// Adds the field of the row.

@@ -1,10 +1,10 @@
 //! The parts of built-in definitions, made of the rows of the table.
-ghost use Rattle.std.specs.Prelude.{◌≡◌, ◌++◌, ◌∷◌, [], map, Some, IfOk, OnOk, IsTrue};
+ghost use Rattle.std.specs.Prelude.{◌≡◌, ◌++◌, ◌∷◌, [], map, None, Some, IfOk, OnOk, IsTrue};
 ghost use Rattle.std.specs.List.{list_all};
 ghost use Rattle.std.specs.Option.{option_map};
 ghost use Rattle.graphql_names.specs.NameSyntax.{IsName};
 ghost use Rattle.graphql_names.specs.Node.{content, place};
-ghost use Rattle.graphql_values.specs.Placed.{node_tree};
+ghost use Rattle.graphql_values.specs.Placed.{name_tree, node_tree};
 ghost use Rattle.graphql_values.specs.TypeTree.{type_tree};
 ghost use Rattle.graphql_values.specs.ValueTree.{value_tree};
 ghost use Rattle.graphql_values.specs.DirectiveTree.{input_value_tree};
@@ -69,21 +69,48 @@ fn default_of(alloc: Global, row: DefaultRow) -> Result<Option<Node<Value>>, All
     Ok(Some(node_here(alloc, value)?))
 }
 
-/// The argument of the row.
-fn argument_of(alloc: Global, row: ArgumentRow) -> Result<Node<InputValueDefinition>, AllocError>
-    requires { IsTrue (has_argument_names row) }
-    ensures { IfOk result (λ a. node_tree input_value_tree a ≡ row_argument row) }
+/// The type of the row, at the place of what is built in.
+fn type_here(alloc: Global, row: TypeRow) -> Result<Node<Type>, AllocError>
+    requires { IsTrue (has_type_name row) }
+    ensures { IfOk result (λ n. node_tree type_tree n ≡ here (row_type row)) }
 {
-    let ty = node_here(alloc, type_of(alloc, row.1)?)?;
-    let default_value = default_of(alloc, row.2)?;
+    let ty = type_of(alloc, row)?;
+    Ok(node_here(alloc, ty)?)
+}
+
+/// An argument of these parts.
+fn argument_with(
+    alloc: Global,
+    name: Name,
+    ty: Node<Type>,
+    default_value: Option<Node<Value>>,
+) -> Result<Node<InputValueDefinition>, AllocError>
+    ensures { IfOk result (λ a. node_tree input_value_tree a ≡ here (record {
+      description = None;
+      name = name_tree name;
+      ty = node_tree type_tree ty;
+      default_value = option_map (node_tree value_tree) default_value;
+      directives = [];
+    })) }
+{
     let argument = InputValueDefinition {
         description: None,
-        name: Name::new_static_unchecked(row.0),
+        name,
         ty,
         default_value,
         directives: DirectiveList(Vec::new(alloc)),
     };
     Ok(node_here(alloc, argument)?)
+}
+
+/// The argument of the row.
+fn argument_of(alloc: Global, row: ArgumentRow) -> Result<Node<InputValueDefinition>, AllocError>
+    requires { IsTrue (has_argument_names row) }
+    ensures { IfOk result (λ a. node_tree input_value_tree a ≡ row_argument row) }
+{
+    let ty = type_here(alloc, row.1)?;
+    let default_value = default_of(alloc, row.2)?;
+    argument_with(alloc, Name::new_static_unchecked(row.0), ty, default_value)
 }
 
 /// Adds the argument of the row.

@@ -1,0 +1,4 @@
+pub mod Cutting
+pub mod Pieces
+pub mod Parsing
+pub mod Found
