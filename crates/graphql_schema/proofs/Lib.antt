@@ -1,0 +1,2 @@
+pub mod SchemaEquality
+pub mod Lookups

@@ -1,0 +1,34 @@
+-- What look-ups in maps with names as keys find in the tree.
+use Rattle.std.proofs.Common.{◌≡◌, ℕ, Bool, true, false, List, [], ◌∷◌, map, Option, None, Some, refl, sym, ap, ◌∙◌, if◌then◌else◌, Bor}
+use Rattle.std.specs.List.{find}
+use Rattle.std.specs.Map.{lookup}
+use Rattle.std.specs.Option.{option_map, option_copied}
+use Rattle.std.specs.Str.{bytes_eq}
+use Rattle.indexmap.specs.IndexMap.{IndexMap, get}
+use Rattle.graphql_names.specs.NameValue.{NameValue}
+use Rattle.graphql_components.specs.Names.{same_text, entries_of}
+use Rattle.graphql_schema_types.specs.TypeView.{name_text}
+use Rattle.graphql_schema_types.specs.Addresses.{under}
+
+module _ {X A : Type 0} (f : X → A) (k : NameValue) where
+  under-lookup : (es : List (NameValue × X)) → under k.text (map (λ e. (name_text e.0, f e.1)) es) ≡ option_map f (lookup (same_text name_text k) es)
+  under-lookup [] = refl
+  under-lookup (e ∷ es) = by (bytes_eq k.text e.0.text) refl (under-lookup es)
+    where
+      by : (b : Bool) → bytes_eq k.text e.0.text ≡ b → under k.text (map (λ e. (name_text e.0, f e.1)) es) ≡ option_map f (lookup (same_text name_text k) es)
+          → under k.text (map (λ e. (name_text e.0, f e.1)) (e ∷ es)) ≡ option_map f (lookup (same_text name_text k) (e ∷ es))
+      by true t rest =
+          ap (λ b. option_map (λ (p : List ℕ × A). p.1) (if b then Some (name_text e.0, f e.1) else find (λ (p : List ℕ × A). bytes_eq k.text p.0) (map (λ e. (name_text e.0, f e.1)) es))) t
+          ∙ sym (ap (λ b. option_map f (if b then Some e.1 else lookup (same_text name_text k) es)) t)
+      by false t rest =
+          ap (λ b. option_map (λ (p : List ℕ × A). p.1) (if b then Some (name_text e.0, f e.1) else find (λ (p : List ℕ × A). bytes_eq k.text p.0) (map (λ e. (name_text e.0, f e.1)) es))) t
+          ∙ rest
+          ∙ sym (ap (λ b. option_map f (if b then Some e.1 else lookup (same_text name_text k) es)) t)
+
+  copied : (r : Option (Bor X)) → option_map (λ x. f x.now) r ≡ option_map f (option_copied r)
+  copied None = refl
+  copied (Some x) = refl
+
+  -- what `get` finds
+  pub got : {S : Type 0} (m : IndexMap NameValue X S) (r : Option (Bor X)) → option_copied r ≡ get (same_text name_text) m k → option_map (λ x. f x.now) r ≡ under k.text (entries_of name_text f m)
+  got m r e = copied r ∙ ap (option_map f) e ∙ sym (under-lookup m.entries)
