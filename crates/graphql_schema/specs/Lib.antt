@@ -1,5 +1,7 @@
 pub mod SchemaOf
 pub mod LookUps
+pub mod Implementers
+pub mod ImplementersView
 pub use Rattle.graphql_components.specs.Names
 pub use Rattle.graphql_components.specs.Given
 pub use Rattle.graphql_components.specs.Applied

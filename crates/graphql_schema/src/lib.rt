@@ -8,6 +8,7 @@
 #![tactic(auto)]
 
 mod field_lookup;
+mod implementers;
 pub mod laws;
 mod schema;
 mod subtype;
@@ -23,4 +24,5 @@ pub use graphql_schema_types::{
     EnumType, ExtendedType, InputObjectType, InterfaceType, ObjectType, Origins, RootOperations,
     ScalarType, SchemaDefinition, TypeKind, UnionType,
 };
+pub use implementers::{Implementers, ImplementersNames};
 pub use schema::Schema;
