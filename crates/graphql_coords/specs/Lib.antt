@@ -1,0 +1,6 @@
+pub mod Coordinate
+pub mod CoordinateView
+pub mod Reading
+pub mod ParseErrors
+pub mod LookUps
+pub mod LookUpView

@@ -1,0 +1,49 @@
+-- What contracts see of the answers to look-ups.
+use Rattle.std.specs.Prelude.{ℕ, List, Result, Ok, Err}
+use Rattle.graphql_values.specs.Placed.{Place, node_tree}
+use Rattle.graphql_values.specs.DirectiveTree.{input_value_tree, directive_definition_tree}
+use Rattle.graphql_ast.specs.TypeSystemTree.{field_definition_tree, enum_value_tree}
+use Rattle.graphql_components.specs.Given.{component_tree}
+use Rattle.graphql_schema_types.specs.SchemaTree.{SchemaTree}
+use Rattle.graphql_schema_types.specs.TypeView.{extended_type}
+use Rattle.graphql_coords.specs.Coordinate.{Coordinate, OfType, OfAttribute, OfArgument, OfDirective, OfDirectiveArgument}
+use Rattle.graphql_coords.specs.LookUps.{Fault, MissingType, MissingAttribute, InvalidArgumentAttribute, MissingArgument, InvalidType, Attribute, OfField, OfInputField, OfEnumValue, Named, NamedType, NamedDirective, NamedAttribute, NamedArgument, found_as, type_lookup, attribute_lookup, argument_lookup, directive_lookup, directive_argument_lookup}
+use Rattle.graphql_coords.specs.declared.lookup_answers.SchemaLookupError.{SchemaLookupError}
+use Rattle.graphql_coords.specs.declared.lookup_answers.SchemaLookupError.TheVariants as error
+use Rattle.graphql_coords.specs.declared.lookup_answers.TypeAttributeLookup.{TypeAttributeLookup}
+use Rattle.graphql_coords.specs.declared.lookup_answers.TypeAttributeLookup.TheVariants as attribute
+use Rattle.graphql_coords.specs.declared.lookup_answers.SchemaCoordinateLookup.{SchemaCoordinateLookup}
+use Rattle.graphql_coords.specs.declared.lookup_answers.SchemaCoordinateLookup.TheVariants as any
+
+abbrev pub fault_of : SchemaLookupError → Fault
+fault_of (error.MissingType n) = MissingType n.now.text
+fault_of (error.MissingAttribute n) = MissingAttribute n.now.text
+fault_of (error.InvalidArgumentAttribute n) = InvalidArgumentAttribute n.now.text
+fault_of (error.MissingArgument n) = MissingArgument n.now.text
+fault_of (error.InvalidType t) = InvalidType (extended_type t.now)
+
+abbrev pub attribute_of : TypeAttributeLookup → Attribute
+attribute_of (attribute.Field f) = OfField (component_tree field_definition_tree f.now)
+attribute_of (attribute.InputField f) = OfInputField (component_tree input_value_tree f.now)
+attribute_of (attribute.EnumValue v) = OfEnumValue (component_tree enum_value_tree v.now)
+
+abbrev pub named_of : SchemaCoordinateLookup → Named
+named_of (any.Type t) = NamedType (extended_type t.now)
+named_of (any.Directive d) = NamedDirective (node_tree directive_definition_tree d.now)
+named_of (any.Field f) = NamedAttribute (OfField (component_tree field_definition_tree f.now))
+named_of (any.InputField f) = NamedAttribute (OfInputField (component_tree input_value_tree f.now))
+named_of (any.EnumValue v) = NamedAttribute (OfEnumValue (component_tree enum_value_tree v.now))
+named_of (any.Argument a) = NamedArgument (node_tree input_value_tree a.now)
+
+-- the answer, with what contracts see of what it lends
+abbrev pub answer : {A B : Type 0} → (A → B) → Result A SchemaLookupError → Result B Fault
+answer f (Ok x) = Ok (f x)
+answer f (Err e) = Err (fault_of e)
+
+-- what a coordinate of any form names
+abbrev pub lookup_of : SchemaTree Place → Coordinate → Result Named Fault
+lookup_of s (OfType n) = found_as NamedType (type_lookup s n)
+lookup_of s (OfAttribute n a) = found_as NamedAttribute (attribute_lookup s n a)
+lookup_of s (OfArgument n f a) = found_as NamedArgument (argument_lookup s n f a)
+lookup_of s (OfDirective d) = found_as NamedDirective (directive_lookup s d)
+lookup_of s (OfDirectiveArgument d a) = found_as NamedArgument (directive_argument_lookup s d a)

@@ -1,0 +1,99 @@
+-- What a coordinate names in a schema, or why it names nothing.
+use Rattle.std.specs.Prelude.{◌≡◌, ℕ, Bool, ◌||◌, List, [], ◌∷◌, Option, None, Some, Result, Ok, Err, ok_or, find, if◌then◌else◌}
+use Rattle.graphql_values.specs.Placed.{Placed, Place}
+use Rattle.graphql_values.specs.DirectiveTree.{InputValueTree, DirectiveDefinitionTree}
+use Rattle.graphql_directives.specs.DirectiveQueries.{input_value_has_name}
+use Rattle.graphql_ast.specs.TypeSystemTree.{FieldDefinitionTree, EnumValueTree}
+use Rattle.graphql_ast.specs.ArgumentQueries.{argument_named}
+use Rattle.graphql_components.specs.Given.{Given}
+use Rattle.graphql_schema_types.specs.SchemaTree.{SchemaType, SchemaTree, same_kind}
+use Rattle.graphql_schema_types.specs.Addresses.{under, type_at}
+use Rattle.graphql_schema_types.specs.declared.type_kind.TypeKind.TheVariants.{Object, Interface, Enum, InputObject}
+
+-- why nothing is found: the name that is missing or does not fit, or the type that has no attributes of that sort
+pub data Fault : Type 0 where
+  MissingType : (name : List ℕ) → Fault
+  MissingAttribute : (name : List ℕ) → Fault
+  InvalidArgumentAttribute : (name : List ℕ) → Fault
+  MissingArgument : (name : List ℕ) → Fault
+  InvalidType : (type : SchemaType Place) → Fault
+
+abbrev FieldOf : Type 0
+FieldOf = Given Place (Placed Place (FieldDefinitionTree Place))
+
+abbrev InputOf : Type 0
+InputOf = Given Place (Placed Place (InputValueTree Place))
+
+abbrev ValueOf : Type 0
+ValueOf = Given Place (Placed Place (EnumValueTree Place))
+
+abbrev ArgumentOf : Type 0
+ArgumentOf = Placed Place (InputValueTree Place)
+
+pub data Attribute : Type 0 where
+  OfField : FieldOf → Attribute
+  OfInputField : InputOf → Attribute
+  OfEnumValue : ValueOf → Attribute
+
+pub data Named : Type 0 where
+  NamedType : SchemaType Place → Named
+  NamedDirective : Placed Place (DirectiveDefinitionTree Place) → Named
+  NamedAttribute : Attribute → Named
+  NamedArgument : ArgumentOf → Named
+
+-- what is found, as something else; the same faults
+abbrev pub found_as : {A B : Type 0} → (A → B) → Result A Fault → Result B Fault
+found_as f (Ok x) = Ok (f x)
+found_as f (Err e) = Err e
+
+-- go on with what is found
+abbrev pub found_then : {A B : Type 0} → (A → Result B Fault) → Result A Fault → Result B Fault
+found_then f (Ok x) = f x
+found_then f (Err e) = Err e
+
+-- the fields, input fields and values of a type: only objects and interfaces, input objects and enums have any
+abbrev pub field_in : List ℕ → SchemaType Place → Result FieldOf Fault
+field_in a t = if same_kind t.kind Object || same_kind t.kind Interface then ok_or (under a t.fields) (MissingAttribute a) else Err (InvalidType t)
+
+abbrev pub input_field_in : List ℕ → SchemaType Place → Result InputOf Fault
+input_field_in a t = if same_kind t.kind InputObject then ok_or (under a t.inputs) (MissingAttribute a) else Err (InvalidType t)
+
+abbrev pub enum_value_in : List ℕ → SchemaType Place → Result ValueOf Fault
+enum_value_in a t = if same_kind t.kind Enum then ok_or (under a t.values) (MissingAttribute a) else Err (InvalidType t)
+
+abbrev pub attribute_in : List ℕ → SchemaType Place → Result Attribute Fault
+attribute_in a t =
+    if same_kind t.kind InputObject then found_as OfInputField (input_field_in a t) else
+    if same_kind t.kind Enum then found_as OfEnumValue (enum_value_in a t) else
+    found_as OfField (field_in a t)
+
+-- the argument of an attribute, which has to be a field
+abbrev pub argument_in : List ℕ → List ℕ → Attribute → Result ArgumentOf Fault
+argument_in f a (OfField g) = ok_or (argument_named a g.it.it.arguments) (MissingArgument a)
+argument_in f a (OfInputField g) = Err (InvalidArgumentAttribute f)
+argument_in f a (OfEnumValue g) = Err (InvalidArgumentAttribute f)
+
+module _ (s : SchemaTree Place) where
+  abbrev pub type_lookup : List ℕ → Result (SchemaType Place) Fault
+  type_lookup n = ok_or (type_at s n) (MissingType n)
+
+  abbrev pub attribute_lookup : List ℕ → List ℕ → Result Attribute Fault
+  attribute_lookup n a = found_then (attribute_in a) (type_lookup n)
+
+  abbrev pub field_lookup : List ℕ → List ℕ → Result FieldOf Fault
+  field_lookup n a = found_then (field_in a) (type_lookup n)
+
+  abbrev pub input_field_lookup : List ℕ → List ℕ → Result InputOf Fault
+  input_field_lookup n a = found_then (input_field_in a) (type_lookup n)
+
+  abbrev pub enum_value_lookup : List ℕ → List ℕ → Result ValueOf Fault
+  enum_value_lookup n a = found_then (enum_value_in a) (type_lookup n)
+
+  abbrev pub argument_lookup : List ℕ → List ℕ → List ℕ → Result ArgumentOf Fault
+  argument_lookup n f a = found_then (argument_in f a) (attribute_lookup n f)
+
+  abbrev pub directive_lookup : List ℕ → Result (Placed Place (DirectiveDefinitionTree Place)) Fault
+  directive_lookup d = ok_or (under d s.directives) (MissingType d)
+
+  abbrev pub directive_argument_lookup : List ℕ → List ℕ → Result ArgumentOf Fault
+  directive_argument_lookup d a = found_then (λ x. ok_or (find (input_value_has_name a) x.it.arguments) (MissingArgument a)) (directive_lookup d)

@@ -1,0 +1,160 @@
+//! What coordinates name in a schema.
+ghost use Rattle.std.specs.Prelude.{◌≡◌};
+ghost use Rattle.graphql_values.specs.Placed.{node_tree};
+ghost use Rattle.graphql_values.specs.DirectiveTree.{input_value_tree, directive_definition_tree};
+ghost use Rattle.graphql_ast.specs.TypeSystemTree.{field_definition_tree, enum_value_tree};
+ghost use Rattle.graphql_components.specs.Given.{component_tree};
+ghost use Rattle.graphql_schema_types.specs.TypeView.{extended_type};
+ghost use Rattle.graphql_schema.specs.SchemaOf.{schema_tree};
+ghost use Rattle.graphql_coords.specs.CoordinateView.{schema_coordinate};
+ghost use Rattle.graphql_coords.specs.LookUps.{type_lookup, attribute_lookup, field_lookup, input_field_lookup, enum_value_lookup, argument_lookup, directive_lookup, directive_argument_lookup};
+ghost use Rattle.graphql_coords.specs.LookUpView.{answer, attribute_of, named_of, lookup_of};
+
+use crate::coordinate::{
+    DirectiveArgumentCoordinate, DirectiveCoordinate, FieldArgumentCoordinate, SchemaCoordinate,
+    TypeAttributeCoordinate, TypeCoordinate,
+};
+use crate::find::{
+    argument_in, enum_value_in, field_in, find_attribute, find_directive, find_type, input_field_in,
+};
+use crate::lookup_answers::{SchemaCoordinateLookup, SchemaLookupError, TypeAttributeLookup};
+use graphql_ast::{
+    DirectiveDefinition, EnumValueDefinition, FieldDefinition, InputValueDefinition, Node,
+};
+use graphql_schema::{Component, ExtendedType, Schema};
+
+impl TypeCoordinate {
+    /// The type.
+    pub fn lookup<'coord, 'schema>(
+        &'coord self,
+        schema: &'schema Schema,
+    ) -> Result<&'schema ExtendedType, SchemaLookupError<'coord, 'schema>>
+        ensures { answer (λ t. extended_type t.now) result ≡ type_lookup (schema_tree schema.now) self.now.ty.text }
+    {
+        find_type(&self.ty, schema)
+    }
+}
+
+impl TypeAttributeCoordinate {
+    /// The field, input field or enum value.
+    pub fn lookup<'coord, 'schema>(
+        &'coord self,
+        schema: &'schema Schema,
+    ) -> Result<TypeAttributeLookup<'schema>, SchemaLookupError<'coord, 'schema>>
+        ensures { answer attribute_of result ≡ attribute_lookup (schema_tree schema.now) self.now.ty.text self.now.attribute.text }
+    {
+        find_attribute(&self.ty, &self.attribute, schema)
+    }
+
+    /// The field, of an object or an interface.
+    pub fn lookup_field<'coord, 'schema>(
+        &'coord self,
+        schema: &'schema Schema,
+    ) -> Result<&'schema Component<FieldDefinition>, SchemaLookupError<'coord, 'schema>>
+        ensures { answer (λ f. component_tree field_definition_tree f.now) result ≡ field_lookup (schema_tree schema.now) self.now.ty.text self.now.attribute.text }
+    {
+        match find_type(&self.ty, schema) {
+            Err(error) => Err(error),
+            Ok(ty) => field_in(&self.attribute, ty),
+        }
+    }
+
+    /// The input field, of an input object.
+    pub fn lookup_input_field<'coord, 'schema>(
+        &'coord self,
+        schema: &'schema Schema,
+    ) -> Result<&'schema Component<InputValueDefinition>, SchemaLookupError<'coord, 'schema>>
+        ensures { answer (λ f. component_tree input_value_tree f.now) result ≡ input_field_lookup (schema_tree schema.now) self.now.ty.text self.now.attribute.text }
+    {
+        match find_type(&self.ty, schema) {
+            Err(error) => Err(error),
+            Ok(ty) => input_field_in(&self.attribute, ty),
+        }
+    }
+
+    /// The value, of an enum.
+    pub fn lookup_enum_value<'coord, 'schema>(
+        &'coord self,
+        schema: &'schema Schema,
+    ) -> Result<&'schema Component<EnumValueDefinition>, SchemaLookupError<'coord, 'schema>>
+        ensures { answer (λ v. component_tree enum_value_tree v.now) result ≡ enum_value_lookup (schema_tree schema.now) self.now.ty.text self.now.attribute.text }
+    {
+        match find_type(&self.ty, schema) {
+            Err(error) => Err(error),
+            Ok(ty) => enum_value_in(&self.attribute, ty),
+        }
+    }
+}
+
+impl FieldArgumentCoordinate {
+    /// The definition of the argument.
+    pub fn lookup<'coord, 'schema>(
+        &'coord self,
+        schema: &'schema Schema,
+    ) -> Result<&'schema Node<InputValueDefinition>, SchemaLookupError<'coord, 'schema>>
+        ensures { answer (λ a. node_tree input_value_tree a.now) result ≡ argument_lookup (schema_tree schema.now) self.now.ty.text self.now.field.text self.now.argument.text }
+    {
+        match find_attribute(&self.ty, &self.field, schema) {
+            Err(error) => Err(error),
+            Ok(attribute) => argument_in(&self.field, &self.argument, attribute),
+        }
+    }
+}
+
+impl DirectiveCoordinate {
+    /// The definition of the directive.
+    pub fn lookup<'coord, 'schema>(
+        &'coord self,
+        schema: &'schema Schema,
+    ) -> Result<&'schema Node<DirectiveDefinition>, SchemaLookupError<'coord, 'schema>>
+        ensures { answer (λ d. node_tree directive_definition_tree d.now) result ≡ directive_lookup (schema_tree schema.now) self.now.directive.text }
+    {
+        find_directive(&self.directive, schema)
+    }
+}
+
+impl DirectiveArgumentCoordinate {
+    /// The definition of the argument.
+    pub fn lookup<'coord, 'schema>(
+        &'coord self,
+        schema: &'schema Schema,
+    ) -> Result<&'schema Node<InputValueDefinition>, SchemaLookupError<'coord, 'schema>>
+        ensures { answer (λ a. node_tree input_value_tree a.now) result ≡ directive_argument_lookup (schema_tree schema.now) self.now.directive.text self.now.argument.text }
+    {
+        let directive = match find_directive(&self.directive, schema) {
+            Err(error) => return Err(error),
+            Ok(directive) => directive.content(),
+        };
+        match directive.argument_by_name(self.argument.as_str()) {
+            None => Err(SchemaLookupError::MissingArgument(&self.argument)),
+            Some(argument) => Ok(argument),
+        }
+    }
+}
+
+impl SchemaCoordinate {
+    /// What it names.
+    pub fn lookup<'coord, 'schema>(
+        &'coord self,
+        schema: &'schema Schema,
+    ) -> Result<SchemaCoordinateLookup<'schema>, SchemaLookupError<'coord, 'schema>>
+        ensures { answer named_of result ≡ lookup_of (schema_tree schema.now) (schema_coordinate self.now) }
+    {
+        match self {
+            SchemaCoordinate::Type(own) => Ok(SchemaCoordinateLookup::Type(own.lookup(schema)?)),
+            SchemaCoordinate::TypeAttribute(own) => {
+                let attribute = own.lookup(schema)?;
+                Ok(SchemaCoordinateLookup::from(attribute))
+            }
+            SchemaCoordinate::FieldArgument(own) => {
+                Ok(SchemaCoordinateLookup::Argument(own.lookup(schema)?))
+            }
+            SchemaCoordinate::Directive(own) => {
+                Ok(SchemaCoordinateLookup::Directive(own.lookup(schema)?))
+            }
+            SchemaCoordinate::DirectiveArgument(own) => {
+                Ok(SchemaCoordinateLookup::Argument(own.lookup(schema)?))
+            }
+        }
+    }
+}

@@ -1,0 +1,56 @@
+//! What look-ups answer.
+ghost use Rattle.std.specs.Prelude.{◌≡◌};
+ghost use Rattle.graphql_coords.specs.LookUps.{NamedAttribute};
+ghost use Rattle.graphql_coords.specs.LookUpView.{attribute_of, named_of};
+
+use graphql_ast::{
+    DirectiveDefinition, EnumValueDefinition, FieldDefinition, InputValueDefinition, Name, Node,
+};
+use graphql_components::Component;
+use graphql_schema_types::ExtendedType;
+
+/// Why a coordinate names nothing in a schema: the name that was not found or does not fit, or the type.
+#[derive(Clone, Copy)]
+pub enum SchemaLookupError<'coord, 'schema> {
+    /// There is no type, or no directive, of that name.
+    MissingType(&'coord Name),
+    /// The type has no attribute of that name.
+    MissingAttribute(&'coord Name),
+    /// The attribute of that name is no field, so it has no arguments.
+    InvalidArgumentAttribute(&'coord Name),
+    /// There is no argument of that name.
+    MissingArgument(&'coord Name),
+    /// A type of that kind has no such attributes.
+    InvalidType(&'schema ExtendedType),
+}
+
+/// A field, an input field or an enum value.
+#[derive(Clone, Copy)]
+pub enum TypeAttributeLookup<'schema> {
+    Field(&'schema Component<FieldDefinition>),
+    InputField(&'schema Component<InputValueDefinition>),
+    EnumValue(&'schema Component<EnumValueDefinition>),
+}
+
+/// What a coordinate names.
+#[derive(Clone, Copy)]
+pub enum SchemaCoordinateLookup<'schema> {
+    Type(&'schema ExtendedType),
+    Directive(&'schema Node<DirectiveDefinition>),
+    Field(&'schema Component<FieldDefinition>),
+    InputField(&'schema Component<InputValueDefinition>),
+    EnumValue(&'schema Component<EnumValueDefinition>),
+    Argument(&'schema Node<InputValueDefinition>),
+}
+
+impl<'schema> From<TypeAttributeLookup<'schema>> for SchemaCoordinateLookup<'schema> {
+    ghost from_gives = { λ attribute any. named_of any ≡ NamedAttribute (attribute_of attribute) };
+
+    fn from(attribute: TypeAttributeLookup<'schema>) -> SchemaCoordinateLookup<'schema> {
+        match attribute {
+            TypeAttributeLookup::Field(field) => SchemaCoordinateLookup::Field(field),
+            TypeAttributeLookup::InputField(field) => SchemaCoordinateLookup::InputField(field),
+            TypeAttributeLookup::EnumValue(value) => SchemaCoordinateLookup::EnumValue(value),
+        }
+    }
+}

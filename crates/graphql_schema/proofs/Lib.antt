@@ -1,0 +1,3 @@
+pub mod SchemaEquality
+pub mod Lookups
+pub mod Implementing

@@ -1,0 +1,27 @@
+-- What contracts see of implementers.
+use Rattle.std.specs.Prelude.{ℕ, List, [], map, Option, ◌++◌}
+use Rattle.std.specs.Option.{option_map, option_map_or}
+pub use Rattle.std.specs.Map.Iter.{deref_pair}
+use Rattle.indexmap.specs.IndexMap.{IndexMap, get}
+use Rattle.graphql_names.specs.NameValue.{NameValue}
+use Rattle.graphql_components.specs.Names.{same_text}
+use Rattle.graphql_schema_types.specs.TypeView.{name_text, extended_type}
+use Rattle.graphql_schema_types.specs.declared.extended_type.ExtendedType.{ExtendedType}
+use Rattle.graphql_schema.specs.Implementers.{ImplementersTree, Naming, namings_of}
+use Rattle.graphql_schema.specs.declared.implementers.Implementers.{Implementers}
+use Rattle.graphql_schema.specs.declared.implementers.ImplementersNames.{ImplementersNames}
+
+abbrev pub implementers_tree : Implementers → ImplementersTree
+implementers_tree t = record { objects = map name_text t.objects.keys; interfaces = map name_text t.interfaces.keys }
+
+-- what a map has under the name
+abbrev pub implementers_at : {S : Type 0} → IndexMap NameValue Implementers S → NameValue → Option ImplementersTree
+implementers_at m i = option_map implementers_tree (get (same_text name_text) m i)
+
+-- the names that an iterator has still to give: of objects, then of interfaces
+abbrev pub left_implementers : ImplementersNames → List NameValue
+left_implementers s = s.objects.now ++ s.interfaces.now
+
+-- what the type of an entry names
+abbrev pub entry_namings : Option (NameValue × ExtendedType) → List Naming
+entry_namings o = option_map_or (λ e. namings_of (name_text e.0, extended_type e.1)) o []

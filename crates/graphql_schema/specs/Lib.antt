@@ -1,0 +1,14 @@
+pub mod SchemaOf
+pub mod LookUps
+pub mod Implementers
+pub mod ImplementersView
+pub use Rattle.graphql_components.specs.Names
+pub use Rattle.graphql_components.specs.Given
+pub use Rattle.graphql_components.specs.Applied
+pub use Rattle.graphql_schema_types.specs.SchemaTree
+pub use Rattle.graphql_schema_types.specs.TypeView
+pub use Rattle.graphql_schema_types.specs.SchemaView
+pub use Rattle.graphql_schema_types.specs.Origins
+pub use Rattle.graphql_schema_types.specs.Plain
+pub use Rattle.graphql_schema_types.specs.Looks
+pub use Rattle.graphql_schema_types.specs.Addresses

@@ -1,0 +1,8 @@
+-- What contracts see of a schema.
+use Rattle.graphql_values.specs.Placed.{Place}
+use Rattle.graphql_schema_types.specs.SchemaTree.{SchemaTree}
+use Rattle.graphql_schema_types.specs.SchemaView.{schema_view}
+use Rattle.graphql_schema.specs.declared.schema.Schema.{Schema}
+
+abbrev pub schema_tree : Schema → SchemaTree Place
+schema_tree s = schema_view s.schema_definition s.directive_definitions s.types

@@ -1,0 +1,170 @@
+//! Which types implement each interface.
+ghost use Rattle.std.specs.Prelude.{◌≡◌, ◌++◌, map, fold, IfOk, OnOk};
+ghost use Rattle.std.specs.Option.{option_map};
+ghost use Rattle.std.specs.Iterator.{YieldsFirstRef, item_count};
+ghost use Rattle.graphql_names.specs.NameValue.{NameValue};
+ghost use Rattle.graphql_components.specs.Given.{component_name_tree};
+ghost use Rattle.graphql_schema_types.specs.TypeView.{extended_type};
+ghost use Rattle.graphql_schema.specs.SchemaOf.{schema_tree};
+ghost use Rattle.graphql_schema.specs.Implementers.{nobody, and_type, and_naming, naming, namings_of, namings, implementers_in};
+ghost use Rattle.graphql_schema.specs.ImplementersView.{implementers_tree, implementers_at, left_implementers, entry_namings, deref_pair};
+
+use crate::schema::Schema;
+use graphql_ast::Name;
+use graphql_components::ComponentName;
+use graphql_schema_types::ExtendedType;
+use indexmap::{IndexMap, IndexSet};
+use std::alloc::{AllocError, Global};
+
+/// The names of the objects and of the interfaces that implement one interface.
+#[derive(PartialEq, Eq, Drop)]
+pub struct Implementers {
+    pub objects: IndexSet<Name>,
+    pub interfaces: IndexSet<Name>,
+}
+
+impl Implementers {
+    /// Nobody.
+    fn new(alloc: Global) -> Implementers
+        ensures { implementers_tree result ≡ nobody }
+    {
+        Implementers {
+            objects: IndexSet::new(alloc),
+            interfaces: IndexSet::new(alloc),
+        }
+    }
+
+    /// Adds a type.
+    fn add(&mut self, is_object: bool, type_name: &Name) -> Result<(), AllocError>
+        ensures { OnOk result (implementers_tree self.new ≡ and_type is_object type_name.now.text (implementers_tree self.old)) }
+    {
+        let name = type_name.clone()?;
+        if is_object {
+            self.objects.insert(name)?;
+        } else {
+            self.interfaces.insert(name)?;
+        }
+        Ok(())
+    }
+
+    /// All of them: the objects, then the interfaces.
+    pub fn iter(&self) -> ImplementersNames<'_>
+        ensures { left_implementers result ≡ self.now.objects.keys ++ self.now.interfaces.keys }
+    {
+        ImplementersNames {
+            objects: self.objects.as_slice(),
+            interfaces: self.interfaces.as_slice(),
+        }
+    }
+}
+
+/// The implementers that are left: objects, then interfaces.
+#[derive(Drop)]
+pub struct ImplementersNames<'a> {
+    objects: &'a [Name],
+    interfaces: &'a [Name],
+}
+
+impl<'a> Iterator for ImplementersNames<'a> {
+    type Item = &'a Name;
+
+    ghost next_gives = { YieldsFirstRef left_implementers };
+
+    ghost remaining = { item_count left_implementers };
+
+    fn next(&mut self) -> Option<&'a Name> {
+        if let Some((first, others)) = self.objects.split_first() {
+            self.objects = others;
+            return Some(first);
+        }
+        let (first, others) = self.interfaces.split_first()?;
+        self.interfaces = others;
+        Some(first)
+    }
+}
+
+impl Schema {
+    /// Under the name of each interface that a type names, the objects and interfaces that name it.
+    pub fn implementers_map(
+        &self,
+        alloc: Global,
+    ) -> Result<IndexMap<Name, Implementers>, AllocError>
+        ensures { IfOk result (λ m. (i : NameValue) → implementers_at m i ≡ implementers_in (namings (schema_tree self.now)) i.text) }
+    {
+        let mut noted = IndexMap::new(alloc);
+        for index in 0..self.types.len() {
+            note_entry(alloc, &mut noted, self.types.get_index(index))?;
+        }
+        Ok(noted)
+    }
+}
+
+/// Notes the interfaces that the type of an entry names, if there is one.
+fn note_entry(
+    alloc: Global,
+    noted: &mut IndexMap<Name, Implementers>,
+    entry: Option<(&Name, &ExtendedType)>,
+) -> Result<(), AllocError>
+    ensures { OnOk result ((i : NameValue) → implementers_at noted.new i ≡ fold (and_naming i.text) (implementers_at noted.old i) (entry_namings (option_map deref_pair entry.entry))) }
+{
+    match entry {
+        None => Ok(()),
+        Some((name, ty)) => note_type(alloc, noted, name, ty),
+    }
+}
+
+/// Notes the interfaces that a type names.
+fn note_type(
+    alloc: Global,
+    noted: &mut IndexMap<Name, Implementers>,
+    name: &Name,
+    ty: &ExtendedType,
+) -> Result<(), AllocError>
+    ensures { OnOk result ((i : NameValue) → implementers_at noted.new i ≡ fold (and_naming i.text) (implementers_at noted.old i) (namings_of (name.now.text, extended_type ty.now))) }
+{
+    match ty {
+        ExtendedType::Object(object) => {
+            note_names(alloc, noted, object.content().implements_interfaces.as_slice(), true, name)
+        }
+        ExtendedType::Interface(own) => {
+            note_names(alloc, noted, own.content().implements_interfaces.as_slice(), false, name)
+        }
+        _ => Ok(()),
+    }
+}
+
+/// Notes that the type names these interfaces.
+fn note_names(
+    alloc: Global,
+    noted: &mut IndexMap<Name, Implementers>,
+    interfaces: &[ComponentName],
+    is_object: bool,
+    name: &Name,
+) -> Result<(), AllocError>
+    ensures { OnOk result ((i : NameValue) → implementers_at noted.new i ≡ fold (and_naming i.text) (implementers_at noted.old i) (map (naming is_object name.now.text) (map component_name_tree interfaces.now))) }
+{
+    for interface in interfaces {
+        note_name(alloc, noted, interface, is_object, name)?;
+    }
+    Ok(())
+}
+
+/// Notes that the type names the interface.
+fn note_name(
+    alloc: Global,
+    noted: &mut IndexMap<Name, Implementers>,
+    interface: &ComponentName,
+    is_object: bool,
+    name: &Name,
+) -> Result<(), AllocError>
+    ensures { OnOk result ((i : NameValue) → implementers_at noted.new i ≡ and_naming i.text (implementers_at noted.old i) (naming is_object name.now.text (component_name_tree interface.now))) }
+{
+    if let Some(implementers) = noted.get_mut(&interface.name) {
+        return implementers.add(is_object, name);
+    }
+    let mut implementers = Implementers::new(alloc);
+    implementers.add(is_object, name)?;
+    let interface = interface.name.clone()?;
+    noted.insert(interface, implementers)?;
+    Ok(())
+}

@@ -1,0 +1,48 @@
+//! Whole schemas.
+ghost use Rattle.std.specs.Prelude.{◌≡◌};
+ghost use Rattle.std.specs.Option.{option_map};
+ghost use Rattle.graphql_values.specs.Placed.{name_tree};
+ghost use Rattle.graphql_schema_types.specs.Addresses.{root_at};
+ghost use Rattle.graphql_schema.specs.SchemaOf.{schema_tree};
+
+use graphql_ast::{DirectiveDefinition, FileId, Name, Node, OperationType, SourceFile};
+use graphql_components::ComponentName;
+use graphql_schema_types::{ExtendedType, SchemaDefinition};
+use indexmap::IndexMap;
+
+/// A schema (section 3): its schema definition, and its directive definitions and types under their names, in order;
+/// and the texts that it was read from, by the numbers of their files. Equality ignores these texts, places, origins
+/// and the order of what has names.
+#[derive(Drop)]
+#[derive_where(PartialEq, Eq)]
+pub struct Schema {
+    #[derive_where(skip)]
+    pub sources: IndexMap<FileId, SourceFile>,
+    pub schema_definition: Node<SchemaDefinition>,
+    pub directive_definitions: IndexMap<Name, Node<DirectiveDefinition>>,
+    pub types: IndexMap<Name, ExtendedType>,
+}
+
+impl Schema {
+    /// The name of the root of that operation, if there is one.
+    pub fn root_operation(&self, operation_type: OperationType) -> Option<&Name>
+        ensures { option_map (λ n. name_tree n.now) result ≡ root_at (schema_tree self.now) operation_type }
+    {
+        let definition = self.schema_definition.content();
+        match operation_type {
+            OperationType::Query => name_of(&definition.query),
+            OperationType::Mutation => name_of(&definition.mutation),
+            OperationType::Subscription => name_of(&definition.subscription),
+        }
+    }
+}
+
+/// The name, if there is one.
+fn name_of(root: &Option<ComponentName>) -> Option<&Name>
+    ensures { option_map (λ n. n.now) result ≡ option_map (λ c. c.name) root.now }
+{
+    match root {
+        None => None,
+        Some(component) => Some(&component.name),
+    }
+}

@@ -1,0 +1,58 @@
+//! Subtypes of unions and interfaces.
+ghost use Rattle.std.specs.Prelude.{◌≡◌, map};
+ghost use Rattle.graphql_components.specs.Lists.{is_among};
+ghost use Rattle.graphql_components.specs.Given.{component_name_tree, given_name};
+ghost use Rattle.graphql_schema_types.specs.TypeView.{extended_type};
+ghost use Rattle.graphql_schema.specs.SchemaOf.{schema_tree};
+ghost use Rattle.graphql_schema.specs.LookUps.{is_subtype, implements};
+
+use crate::schema::Schema;
+use graphql_ast::Name;
+use graphql_components::ComponentName;
+use graphql_schema_types::ExtendedType;
+
+impl Schema {
+    /// Whether `maybe_subtype` is a member of the union `abstract_type`, or an object or interface that names the
+    /// interface `abstract_type`.
+    pub fn is_subtype(&self, abstract_type: &Name, maybe_subtype: &Name) -> bool
+        ensures { result ≡ is_subtype (schema_tree self.now) abstract_type.now.text maybe_subtype.now.text }
+    {
+        match self.type_named(abstract_type) {
+            Some(ExtendedType::Union(union)) => {
+                has_name(union.content().members.as_slice(), maybe_subtype)
+            }
+            Some(ExtendedType::Interface(_)) => match self.type_named(maybe_subtype) {
+                None => false,
+                Some(ty) => implements(ty, abstract_type),
+            },
+            _ => false,
+        }
+    }
+}
+
+/// Whether the type names the interface.
+fn implements(ty: &ExtendedType, interface: &Name) -> bool
+    ensures { result ≡ is_among interface.now.text (map given_name (extended_type ty.now).interfaces) }
+{
+    match ty {
+        ExtendedType::Object(object) => {
+            has_name(object.content().implements_interfaces.as_slice(), interface)
+        }
+        ExtendedType::Interface(own) => {
+            has_name(own.content().implements_interfaces.as_slice(), interface)
+        }
+        _ => false,
+    }
+}
+
+/// Whether the name is among these.
+fn has_name(names: &[ComponentName], name: &Name) -> bool
+    ensures { result ≡ is_among name.now.text (map given_name (map component_name_tree names.now)) }
+{
+    for component in names {
+        if name.as_str() == component.name.as_str() {
+            return true;
+        }
+    }
+    false
+}

@@ -1,0 +1,88 @@
+//! Types by name.
+ghost use Rattle.std.specs.Prelude.{◌≡◌};
+ghost use Rattle.std.specs.Option.{option_map};
+ghost use Rattle.graphql_names.specs.Node.{content, place};
+ghost use Rattle.graphql_literals.specs.TypeTree.{type_tree};
+ghost use Rattle.graphql_schema_types.specs.SchemaTree.{is_input_kind, is_output_kind};
+ghost use Rattle.graphql_schema_types.specs.TypeView.{extended_type, scalar_type, object_type, interface_type, union_type, enum_type, input_object_type};
+ghost use Rattle.graphql_schema_types.specs.Addresses.{type_at};
+ghost use Rattle.graphql_schema_types.specs.declared.type_kind.TypeKind.TheVariants as kind;
+ghost use Rattle.graphql_schema.specs.SchemaOf.{schema_tree};
+ghost use Rattle.graphql_schema.specs.LookUps.{type_of_kind, inner_kind_is};
+
+use crate::schema::Schema;
+use graphql_ast::{Name, Node, Type};
+use graphql_schema_types::{
+    EnumType, ExtendedType, InputObjectType, InterfaceType, ObjectType, ScalarType, UnionType,
+};
+
+impl Schema {
+    /// The type of that name, if there is one.
+    pub(crate) fn type_named(&self, name: &Name) -> Option<&ExtendedType>
+        ensures { option_map (λ t. extended_type t.now) result ≡ type_at (schema_tree self.now) name.now.text }
+    {
+        self.types.get(name)
+    }
+
+    /// The scalar type of that name, if there is one.
+    pub fn get_scalar(&self, name: &Name) -> Option<&Node<ScalarType>>
+        ensures { option_map (λ n. scalar_type (place n.now) (content n.now)) result ≡ type_of_kind (schema_tree self.now) kind.Scalar name.now.text }
+    {
+        self.type_named(name)?.as_scalar()
+    }
+
+    /// The object type of that name, if there is one.
+    pub fn get_object(&self, name: &Name) -> Option<&Node<ObjectType>>
+        ensures { option_map (λ n. object_type (place n.now) (content n.now)) result ≡ type_of_kind (schema_tree self.now) kind.Object name.now.text }
+    {
+        self.type_named(name)?.as_object()
+    }
+
+    /// The interface type of that name, if there is one.
+    pub fn get_interface(&self, name: &Name) -> Option<&Node<InterfaceType>>
+        ensures { option_map (λ n. interface_type (place n.now) (content n.now)) result ≡ type_of_kind (schema_tree self.now) kind.Interface name.now.text }
+    {
+        self.type_named(name)?.as_interface()
+    }
+
+    /// The union type of that name, if there is one.
+    pub fn get_union(&self, name: &Name) -> Option<&Node<UnionType>>
+        ensures { option_map (λ n. union_type (place n.now) (content n.now)) result ≡ type_of_kind (schema_tree self.now) kind.Union name.now.text }
+    {
+        self.type_named(name)?.as_union()
+    }
+
+    /// The enum type of that name, if there is one.
+    pub fn get_enum(&self, name: &Name) -> Option<&Node<EnumType>>
+        ensures { option_map (λ n. enum_type (place n.now) (content n.now)) result ≡ type_of_kind (schema_tree self.now) kind.Enum name.now.text }
+    {
+        self.type_named(name)?.as_enum()
+    }
+
+    /// The input object type of that name, if there is one.
+    pub fn get_input_object(&self, name: &Name) -> Option<&Node<InputObjectType>>
+        ensures { option_map (λ n. input_object_type (place n.now) (content n.now)) result ≡ type_of_kind (schema_tree self.now) kind.InputObject name.now.text }
+    {
+        self.type_named(name)?.as_input_object()
+    }
+
+    /// Whether values of the type inside can be given (section 3.4.2, IsInputType); false if the type is missing.
+    pub fn is_input_type(&self, ty: &Type) -> bool
+        ensures { result ≡ inner_kind_is (schema_tree self.now) is_input_kind (type_tree ty.now) }
+    {
+        match self.type_named(ty.inner_named_type()) {
+            None => false,
+            Some(found) => found.is_input_type(),
+        }
+    }
+
+    /// Whether fields can have the type inside (section 3.4.2, IsOutputType); false if the type is missing.
+    pub fn is_output_type(&self, ty: &Type) -> bool
+        ensures { result ≡ inner_kind_is (schema_tree self.now) is_output_kind (type_tree ty.now) }
+    {
+        match self.type_named(ty.inner_named_type()) {
+            None => false,
+            Some(found) => found.is_output_type(),
+        }
+    }
+}
