@@ -2,11 +2,13 @@ pub mod Places
 pub mod Firsts
 pub mod FoldSteps
 pub mod Failing
-pub mod Built
+pub mod BuiltSchemas
 pub mod RootEntry
 pub mod RootKept
 pub mod Undefined
 pub mod FoundField
 pub mod SelectionTrees
-pub mod Trees
 pub mod RuleRows
+pub mod WholeTexts
+pub mod Reading
+pub mod TextRows

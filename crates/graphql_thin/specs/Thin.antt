@@ -28,6 +28,14 @@ is_reserved (a ∷ b ∷ text) = a == 95 && b == 95
 abbrev pub scalar_names : List (List ℕ)
 scalar_names = codes "Int" ∷ codes "Float" ∷ codes "String" ∷ codes "Boolean" ∷ codes "ID" ∷ []
 
+-- neither reserved nor that of a built-in scalar
+abbrev pub can_name_type : List ℕ → Bool
+can_name_type text = not (is_reserved text) && not (is_among text scalar_names)
+
+abbrev pub is_query : OperationType → Bool
+is_query Query = true
+is_query _ = false
+
 module _ {P : Type 0} where
   -- ---- schema texts: objects of fields, without description, interfaces, directives, arguments
 
@@ -37,15 +45,22 @@ module _ {P : Type 0} where
   is_thin_type (NonNullNamedTree n) = is_among n.it scalar_names
   is_thin_type _ = false
 
-  abbrev pub is_thin_field : FieldDefinitionTree P → Bool
-  is_thin_field f = is_none f.description && is_none_of f.arguments && is_none_of f.directives && not (is_reserved f.name.it) && is_thin_type f.ty
+  -- without description, arguments, directives
+  abbrev pub is_plain_field : FieldDefinitionTree P → Bool
+  is_plain_field f = is_none f.description && is_none_of f.arguments && is_none_of f.directives
 
-  -- one or more fields, each thin
+  abbrev pub is_thin_field : FieldDefinitionTree P → Bool
+  is_thin_field f = is_plain_field f && not (is_reserved f.name.it) && is_thin_type f.ty
+
   abbrev pub are_thin_fields : List (Placed P (FieldDefinitionTree P)) → Bool
-  are_thin_fields fields = has_some fields && list_all (λ f. is_thin_field f.it) fields
+  are_thin_fields fields = list_all (λ f. is_thin_field f.it) fields
+
+  -- without interfaces and directives, and with one or more fields
+  abbrev pub is_plain_object : FieldsParts P → Bool
+  is_plain_object t = is_none_of t.interfaces && is_none_of t.directives && has_some t.fields
 
   abbrev pub is_thin_object : FieldsParts P → Bool
-  is_thin_object t = is_none_of t.interfaces && is_none_of t.directives && not (is_reserved t.name.it) && not (is_among t.name.it scalar_names) && are_thin_fields t.fields
+  is_thin_object t = is_plain_object t && can_name_type t.name.it && are_thin_fields t.fields
 
   -- a definition of a thin schema text
   abbrev pub is_thin_type_definition : DefinitionTree P → Bool
@@ -54,23 +69,24 @@ module _ {P : Type 0} where
 
   -- ---- documents: one query of fields, without name, variables, directives, aliases, arguments, nested sets
 
-  abbrev pub is_thin_head : FieldHead P → Bool
-  is_thin_head h = is_none h.alias && is_none_of h.arguments && is_none_of h.directives && not (is_reserved h.name.it)
+  -- without alias, arguments, directives
+  abbrev pub is_plain_head : FieldHead P → Bool
+  is_plain_head h = is_none h.alias && is_none_of h.arguments && is_none_of h.directives
 
   abbrev pub is_thin_selection : SelectionTree P → Bool
-  is_thin_selection (FieldTree p h no_selections) = is_thin_head h
+  is_thin_selection (FieldTree p h ts) = is_plain_head h && not (is_reserved h.name.it) && not (has_selection ts)
   is_thin_selection _ = false
 
   abbrev pub are_thin_selections : SelectionTrees P → Bool
   are_thin_selections no_selections = true
   are_thin_selections (selection_then t ts) = is_thin_selection t && are_thin_selections ts
 
-  abbrev pub is_query : OperationType → Bool
-  is_query Query = true
-  is_query _ = false
+  -- a query without name, variables, directives
+  abbrev pub is_plain_query : OperationTree P → Bool
+  is_plain_query o = is_query o.operation_type && is_none o.name && is_none_of o.variables && is_none_of o.directives
 
   abbrev pub is_thin_query : OperationTree P → Bool
-  is_thin_query o = is_query o.operation_type && is_none o.name && is_none_of o.variables && is_none_of o.directives && has_selection o.selections && are_thin_selections o.selections
+  is_thin_query o = is_plain_query o && has_selection o.selections && are_thin_selections o.selections
 
   -- the one definition of a thin document
   abbrev pub is_thin_operation : DefinitionTree P → Bool

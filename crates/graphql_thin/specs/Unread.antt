@@ -47,3 +47,8 @@ UnreadFault nesting file text fault = IsFaultOfText nesting file text fault ⊎ 
 abbrev pub IsUnread : ℕ → ℕ → List ℕ → Unread → Type 0
 IsUnread nesting file text unread.Memory = Unit {0}
 IsUnread nesting file text (unread.Fault place details) = IsFaultOfText nesting file text (fault_of (Some place, details))
+
+-- private: what is told of a fault of the reader
+abbrev pub TellsUnread : ℕ → read.Fault → Unread → Type 0
+TellsUnread file fault unread.Memory = fault ≡ read.Memory
+TellsUnread file fault (unread.Fault place details) = Tells file fault (fault_of (Some place, details))

@@ -2,12 +2,11 @@
 
 ghost use Rattle.std.specs.Prelude.{◌≡◌, ◌<◌, ℕ, length, IfOk, IfErr, OnOk};
 ghost use Rattle.graphql_ast.specs.DefinitionTree.{document_tree};
-ghost use Rattle.graphql_grammar.specs.Faults.{Says};
-ghost use Rattle.graphql_read.specs.Reads.{IsDue};
-ghost use Rattle.graphql_read.specs.ReadFaults.{fault_view};
+ghost use Rattle.graphql_grammar.specs.Faults as faults;
+ghost use Rattle.graphql_read.specs.ReadFaults.{fault_at, fault_view};
 ghost use Rattle.graphql_read.specs.declared.fault.ReadFault.TheVariants.{Nesting};
-ghost use Rattle.graphql_thin.specs.ReadText.{DerivesIn, ReadsText, PassesNesting};
-ghost use Rattle.graphql_thin.specs.Unread.{IsUnread};
+ghost use Rattle.graphql_thin.specs.ReadText.{ReadsText, PassesNesting};
+ghost use Rattle.graphql_thin.specs.Unread.{IsUnread, TellsUnread};
 
 use crate::faults::Details;
 use crate::unread::Unread;
@@ -31,7 +30,7 @@ pub fn read(alloc: Global, text: &str, file: FileId, nesting: usize) -> Result<D
 /// What is said of the text of which a fault is due.
 fn unread(text: &str, file: FileId, fault: ReadFault) -> Unread
     requires { (offset : ℕ) → fault ≡ Nesting offset → offset < length text.now }
-    ensures { (nesting : ℕ) → IsDue (DerivesIn file.0) nesting text.now (fault_view fault) → IsUnread nesting file.0 text.now result }
+    ensures { TellsUnread file.0 (fault_view fault) result }
 {
     match fault {
         ReadFault::Memory => Unread::Memory,
@@ -42,6 +41,7 @@ fn unread(text: &str, file: FileId, fault: ReadFault) -> Unread
 
 /// What is wrong with the tokens of the text, at a place without length.
 fn syntax(file: FileId, fault: SyntaxFault) -> Unread
+    ensures { TellsUnread file.0 (fault_at fault.kind fault.offset) result }
 {
     Unread::Fault {
         place: SourceSpan {
@@ -56,6 +56,7 @@ fn syntax(file: FileId, fault: SyntaxFault) -> Unread
 /// One bracket too many is open, from this one on.
 fn nesting(text: &str, file: FileId, offset: usize) -> Unread
     requires { offset < length text.now }
+    ensures { TellsUnread file.0 (faults.Nesting offset) result }
 {
     Unread::Fault {
         place: SourceSpan {

@@ -5,7 +5,7 @@ use Rattle.graphql_thin.specs.Fold.{built_in_definitions, fold}
 use Rattle.graphql_thin.specs.FaultView.{faults_of}
 use Rattle.graphql_thin.specs.SchemaView.{type_entry, types_of}
 use Rattle.graphql_thin.specs.FaultList.{definition_faults, no_root_faults}
-use Rattle.graphql_thin.proofs.Built.{built}
+use Rattle.graphql_thin.proofs.BuiltSchemas.{built}
 use Rattle.graphql_thin.proofs.Failing.{schema_faults, root_faults-kept}
 use Rattle.graphql_thin.proofs.builder.build.Goals as goal
 
