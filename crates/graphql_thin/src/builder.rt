@@ -13,9 +13,7 @@ ghost use Rattle.graphql_thin.specs.FaultView.{faults_of};
 ghost use Rattle.graphql_thin.specs.SchemaView.{same_name, named_field, kept_here, fields_of, types_of, IsSchemaOf};
 ghost use Rattle.graphql_thin.specs.FaultList.{field_faults, KeepsOn, FoldsOn, no_root_faults, faults_in_order};
 
-use crate::definitions::{
-    built_in_definitions, defined_name, fields_here, is_object,
-};
+use crate::definitions::{built_in_definitions, defined_name, fields_here, is_object};
 use crate::faults::{Details, DiagnosticList};
 use crate::schema::{Schema, SchemaType};
 use graphql_ast::{Definition, Document, FieldDefinition, Name, Node};
