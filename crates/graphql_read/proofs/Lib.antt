@@ -3,6 +3,11 @@ pub mod MakesValues
 pub mod MakesOperations
 pub mod MakesTypeSystem
 pub mod MakesDocuments
+pub mod Stands
+pub mod StandsValues
+pub mod StandsOperations
+pub mod StandsTypeSystem
+pub mod StandsDocuments
 pub mod Soundness
 pub mod Endings
 pub mod Texts

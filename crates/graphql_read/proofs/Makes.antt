@@ -8,7 +8,7 @@ use Rattle.graphql_lexer.specs.declared.token.TokenKind.{TokenKind}
 use Rattle.graphql_lexer.specs.Terminals.{terminal_of}
 use Rattle.graphql_lexer.specs.Input.{Token, Input, past}
 use Rattle.graphql_lexer.specs.Lex.{Piece, with_token, tokens_among, LexesFront}
-use Rattle.graphql_grammar.specs.Meaning.{Meaning, begin_of}
+use Rattle.graphql_grammar.specs.Meaning.{Meaning}
 use Rattle.graphql_grammar.specs.Rules as rule
 use Rattle.graphql_grammar.specs.Rules.{Rule, one, ◌·◌, ◌<$>◌, ◌∣◌, nothing, optional, optional_unless}
 
@@ -157,12 +157,6 @@ separated {A} {r} {good} is rr =
 
 pub located : {P A : Type 0} {r : Rule A} {good : A → Bool} (m : Meaning P) → Makes r good → Makes (rule.placed m r) (λ x. good x.it)
 located m rr = record { holds = λ i x o known h. rr.holds i x.it o known h.0 }
-
--- where places pass, too
-pub placed_so : {P A : Type 0} {r : Rule A} {g : A → Bool} (m : Meaning P) (good : P → Bool) → ((begin end : ℕ) → good (m.place begin end) ≡ true) → Makes r g → Makes (rule.placed m r) (λ x. good x.place)
-placed_so {P} m good all rr = record {
-  holds = λ i x o known h. (subst (λ (p : P). good p ≡ true) (sym h.1) (all (begin_of i.ahead) o.last), (rr.holds i x.it o known h.0).1);
-}
 
 -- ---- tests put together otherwise
 

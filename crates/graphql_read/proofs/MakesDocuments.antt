@@ -1,29 +1,24 @@
--- What the grammar derives from the tokens of a text is writable, and its definitions stand in the file.
-use Rattle.std.proofs.Common.{◌≡◌, ◌≢◌, ℕ, ◌+◌, ◌-◌, ◌^◌, Bool, true, false, ◌&&◌, ◌||◌, not, ltb, ne_eqb, List, [], ◌∷◌, Option, refl, ap, inl, inr, ◌⊎◌}
+-- What the grammar derives from the tokens of a text is writable.
+use Rattle.std.proofs.Common.{◌≡◌, ℕ, Bool, true, ◌&&◌, ◌||◌, not, List, [], ◌∷◌, Option, refl, inl, inr, ◌⊎◌}
 use Rattle.std.specs.List.{list_all}
 use Rattle.std.proofs.lemmas.Bool.{and_from, and_parts}
-use Rattle.graphql_names.specs.Places.{is_built_in}
-use Rattle.graphql_values.specs.Placed.{Place, Text}
-use Rattle.graphql_values.specs.TypeTree.{TypeTree}
+use Rattle.graphql_values.specs.Placed.{Text}
 use Rattle.graphql_values.specs.SelectionTree.{SelectionTrees}
 use Rattle.graphql_values.specs.DirectiveTree.{DirectiveDefinitionTree}
-use Rattle.graphql_values.specs.Writable.{type_writable, has_selection, selections_writable, directives_writable, directive_definition_writable}
+use Rattle.graphql_values.specs.Writable.{has_selection, selections_writable, directives_writable, directive_definition_writable}
 use Rattle.graphql_ast.specs.DefinitionTree.{DefinitionTree, Operation, Fragment, DirectiveDefinition, Schema, ScalarType, ObjectType, InterfaceType, UnionType, EnumType, InputObjectType, ExtendSchema, ExtendScalar, ExtendObject, ExtendInterface, ExtendUnion, ExtendEnum, ExtendInputObject}
-use Rattle.graphql_ast.specs.Queries.{definition_place}
 use Rattle.graphql_ast.specs.Writable.{has_some, schema_writable, fields_writable, enum_writable, input_object_writable, definition_writable, document_writable}
 use Rattle.graphql_lexer.specs.Input.{Token}
 use Rattle.graphql_grammar.specs.Meaning.{Meaning, start}
 use Rattle.graphql_grammar.specs.Kinds.{is_extend}
-use Rattle.graphql_grammar.specs.Places.{place_if, place_in, meaning_in}
 use Rattle.graphql_grammar.specs.Rules as rule
 use Rattle.graphql_grammar.specs.Rules.{◌·◌, ◌<$>◌, ◌∣◌}
 use Rattle.graphql_grammar.specs.TypeSystemGrammar.{KindTree, SchemaKind, ScalarKind, ObjectKind, InterfaceKind, UnionKind, EnumKind, InputObjectKind}
 use Rattle.graphql_grammar.specs.TypeSystemGrammar as y
 use Rattle.graphql_grammar.specs.Grammar as g
-use Rattle.graphql_grammar.specs.Grammar.{is_empty, definition_of, described, type_system_of, extended, extension_of, has_part, Derives, DerivesType, DerivesSelections}
+use Rattle.graphql_grammar.specs.Grammar.{is_empty, definition_of, described, type_system_of, extended, extension_of, has_part, Derives, DerivesSelections}
 use Rattle.graphql_read.specs.Sound.{names_root}
-use Rattle.graphql_read.proofs.Makes.{AreTerminals, Makes, mapped, mark, seq, choice, such_that, maybe_any, one_or_more, some_all, located, placed_so}
-use Rattle.graphql_read.proofs.MakesValues.{type_is_writable}
+use Rattle.graphql_read.proofs.Makes.{AreTerminals, Makes, mapped, mark, seq, choice, such_that, maybe_any, one_or_more, located}
 use Rattle.graphql_read.proofs.MakesOperations.{selections_makes, operation_makes, fragment_makes}
 use Rattle.graphql_read.proofs.MakesTypeSystem.{kind_writable, description_makes, schema_definition_makes, type_definition_makes, directive_definition_makes, schema_extension_makes}
 
@@ -71,25 +66,6 @@ module _ {P : Type 0} where
   extended_good p (EnumKind x) h = two_parts (enum_writable x) x.directives x.values h
   extended_good p (InputObjectKind x) h = two_parts (input_object_writable x) x.directives x.fields h
 
-  described_place : (good : P → Bool) (p : P) (d : Option (Text P)) (x : KindTree P ⊎ DirectiveDefinitionTree P) → good p ≡ true → good (definition_place (described p d x)) ≡ true
-  described_place good p d (inl (SchemaKind x)) h = h
-  described_place good p d (inl (ScalarKind x)) h = h
-  described_place good p d (inl (ObjectKind x)) h = h
-  described_place good p d (inl (InterfaceKind x)) h = h
-  described_place good p d (inl (UnionKind x)) h = h
-  described_place good p d (inl (EnumKind x)) h = h
-  described_place good p d (inl (InputObjectKind x)) h = h
-  described_place good p d (inr x) h = h
-
-  extended_place : (good : P → Bool) (p : P) (x : KindTree P) → good p ≡ true → good (definition_place (extended p x)) ≡ true
-  extended_place good p (SchemaKind x) h = h
-  extended_place good p (ScalarKind x) h = h
-  extended_place good p (ObjectKind x) h = h
-  extended_place good p (InterfaceKind x) h = h
-  extended_place good p (UnionKind x) h = h
-  extended_place good p (EnumKind x) h = h
-  extended_place good p (InputObjectKind x) h = h
-
 module _ {P : Type 0} (m : Meaning P) where
   -- ---- definitions
 
@@ -126,38 +102,10 @@ module _ {P : Type 0} (m : Meaning P) where
   unfolding g.document
   document_makes n = one_or_more (definition_makes n)
 
-  -- ---- where definitions stand
-
-  module _ (good : P → Bool) (all : (begin end : ℕ) → good (m.place begin end) ≡ true) where
-    type_system_placed : (n : ℕ) → Makes (g.type_system_definition m n) (λ d. good (definition_place d))
-    unfolding g.type_system_definition
-    type_system_placed n = mapped type_system_of (placed_so m good all (seq (maybe_any (description_makes m)) (undescribed_makes n))) (λ x h. described_place good x.place x.it.0 x.it.1 h)
-
-    extension_placed : (n : ℕ) → Makes (g.type_system_extension m n) (λ d. good (definition_place d))
-    unfolding g.type_system_extension
-    extension_placed n = mapped extension_of (placed_so m good all (seq (mark is_extend) (extension_makes n))) (λ x h. extended_place good x.place x.it.1 h)
-
-    definition_placed : (n : ℕ) → Makes (g.definition m n) (λ d. good (definition_place d))
-    unfolding g.definition
-    definition_placed n =
-        choice (mapped (λ x. Operation x.place x.it) (placed_so m good all (operation_makes m n)) (λ x h. h))
-        (choice (mapped (λ x. Fragment x.place x.it) (placed_so m good all (fragment_makes m n)) (λ x h. h)) (choice (type_system_placed n) (extension_placed n)))
-
-    document_placed : (n : ℕ) → Makes (g.document m n) (λ ds. list_all (λ d. good (definition_place d)) ds)
-    unfolding g.document
-    document_placed n = some_all (definition_placed n)
-
-    -- each definition that is derived stands at a place that the meaning gives
-    pub definitions_stand : (tokens : List Token) (tree : List (DefinitionTree P)) → AreTerminals tokens → Derives m tokens tree → list_all (λ d. good (definition_place d)) tree ≡ true
-    definitions_stand tokens tree known d = ((document_placed d.0).holds (start tokens) tree d.1 known d.3).0
-
   -- ---- the three symbols
 
   pub document_is_writable : (tokens : List Token) (tree : List (DefinitionTree P)) → AreTerminals tokens → Derives m tokens tree → document_writable tree ≡ true
   document_is_writable tokens tree known d = ((document_makes d.0).holds (start tokens) tree d.1 known d.3).0
-
-  pub type_derived_writable : (tokens : List Token) (tree : TypeTree P) → DerivesType m tokens tree → type_writable tree ≡ true
-  type_derived_writable tokens tree d = type_is_writable tree
 
   pub selections_are_writable : (tokens : List Token) (tree : SelectionTrees P) → AreTerminals tokens → DerivesSelections m tokens tree → (has_selection tree ≡ true) × (selections_writable tree ≡ true)
   selections_are_writable tokens tree known d = and_parts (has_selection tree) (selections_writable tree) ((selections_makes m d.0).holds (start tokens) tree d.1 known d.3).0
@@ -191,17 +139,3 @@ have_roots (d ∷ ds) h =
 
 pub writable_names_roots : {P : Type 0} (ds : List (DefinitionTree P)) → document_writable ds ≡ true → list_all names_root ds ≡ true
 writable_names_roots ds h = have_roots ds (and_parts (has_some ds) (list_all definition_writable ds) h).1
-
--- ---- places in a file that is not the built-in one
-
-not_built_in_if : (file begin length : ℕ) (fits : Bool) (e : ltb (begin + length) (2 ^ 64) ≡ fits) → file ≢ 0 → not (is_built_in (place_if file begin length fits e)) ≡ true
-not_built_in_if file begin length true e ne = ap not (ne_eqb file 0 ne)
-not_built_in_if file begin length false e ne = refl
-
-not_built_in : (file : ℕ) → file ≢ 0 → (begin end : ℕ) → not (is_built_in (place_in file begin end)) ≡ true
-unfolding place_in
-not_built_in file ne begin end = not_built_in_if file begin (end - begin) (ltb (begin + (end - begin)) (2 ^ 64)) refl ne
-
--- no definition that is derived under another file number is built in
-pub none_built_in : (string : Token → List ℕ) (file : ℕ) → file ≢ 0 → (tokens : List Token) (tree : List (DefinitionTree Place)) → AreTerminals tokens → Derives (meaning_in string file) tokens tree → list_all (λ d. not (is_built_in (definition_place d))) tree ≡ true
-none_built_in string file ne = definitions_stand (meaning_in string file) (λ p. not (is_built_in p)) (not_built_in file ne)

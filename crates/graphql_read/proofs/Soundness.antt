@@ -2,14 +2,17 @@
 use Rattle.std.proofs.Common.{ℕ, List, []}
 use Rattle.graphql_names.specs.declared.span.FileId.{FileId}
 use Rattle.graphql_values.specs.Placed.{Place}
+use Rattle.graphql_values.specs.TypeTree.{TypeTree}
 use Rattle.graphql_values.specs.SelectionTree.{SelectionTrees}
 use Rattle.graphql_ast.specs.DefinitionTree.{DefinitionTree}
-use Rattle.graphql_grammar.specs.Grammar.{Derives, DerivesSelections}
+use Rattle.graphql_grammar.specs.Grammar.{Derives, DerivesType, DerivesSelections}
 use Rattle.graphql_parse_values.specs.Meanings.{in_file, string_of}
 use Rattle.graphql_read.specs.Reads.{Reads}
-use Rattle.graphql_read.specs.Sound.{IsSound, AreSound}
+use Rattle.graphql_read.specs.Sound.{IsSound, IsSoundType, AreSound}
 use Rattle.graphql_read.proofs.Makes.{are_terminals}
-use Rattle.graphql_read.proofs.MakesDocuments.{document_is_writable, writable_names_roots, none_built_in, selections_are_writable}
+use Rattle.graphql_read.proofs.MakesValues.{type_is_writable}
+use Rattle.graphql_read.proofs.MakesDocuments.{document_is_writable, writable_names_roots, selections_are_writable}
+use Rattle.graphql_read.proofs.StandsDocuments.{document_is_own, type_is_own, selections_are_own}
 
 module _ (file : FileId) (nesting : ℕ) (text : List ℕ) where
   pub document_sound : (tree : List (DefinitionTree Place)) → Reads (Derives (in_file file)) nesting text tree → IsSound file.0 tree
@@ -19,10 +22,17 @@ module _ (file : FileId) (nesting : ℕ) (text : List ℕ) where
       record {
         writable = writable;
         rooted = writable_names_roots tree writable;
-        own = λ ne. none_built_in string_of file.0 ne r.tokens tree known r.derived;
+        own = λ ne. document_is_own string_of file.0 ne r.tokens known tree r.derived;
       }
 
-  pub selections_sound : (trees : SelectionTrees Place) → Reads (DerivesSelections (in_file file)) nesting text trees → AreSound trees
+  pub type_sound : (tree : TypeTree Place) → Reads (DerivesType (in_file file)) nesting text tree → IsSoundType file.0 tree
+  type_sound tree r = record {
+    writable = type_is_writable tree;
+    own = λ ne. type_is_own string_of file.0 ne r.tokens (are_terminals text r.tokens [] r.lexed) tree r.derived;
+  }
+
+  pub selections_sound : (trees : SelectionTrees Place) → Reads (DerivesSelections (in_file file)) nesting text trees → AreSound file.0 trees
   selections_sound trees r =
-      let w = selections_are_writable (in_file file) r.tokens trees (are_terminals text r.tokens [] r.lexed) r.derived in
-      record { some = w.0; writable = w.1 }
+      let known = are_terminals text r.tokens [] r.lexed in
+      let w = selections_are_writable (in_file file) r.tokens trees known r.derived in
+      record { some = w.0; writable = w.1; own = λ ne. selections_are_own string_of file.0 ne r.tokens known trees r.derived }

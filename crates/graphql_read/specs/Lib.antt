@@ -1,3 +1,4 @@
+pub mod EachPlace
 pub mod Sound
 pub mod Reads
 pub mod ReadFaults

@@ -3,6 +3,8 @@
 //! [`parse_document`], [`parse_type`] and [`parse_selections`] answer the tree of a text, or the fault of a text that is
 //! none of the symbol, or nests its brackets too deep. Each ensures:
 //! - `found`: the tree answered is the text's, and its brackets nest within the limit;
+//! - `sound`: that tree can be written, each schema definition in it names a root, and no node is built in, at any depth, where
+//!   the file is another than that of the built-in definitions;
 //! - `only`: where the text has a tree within the limit, that tree is answered, or that memory ran out;
 //! - `fault`: the fault answered is due.
 //!

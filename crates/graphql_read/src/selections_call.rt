@@ -42,7 +42,7 @@ pub fn parse_selections(
     nesting: usize,
 ) -> Result<Vec<Selection>, ReadFault>
     ensures found { IfOk result (λ x. Reads (DerivesSelections (in_file file)) nesting text.now (selections_tree x)) }
-    ensures sound { IfOk result (λ x. AreSound (selections_tree x)) }
+    ensures sound { IfOk result (λ x. AreSound file.0 (selections_tree x)) }
     ensures only { (tree : SelectionTrees Place) → Reads (DerivesSelections (in_file file)) nesting text.now tree → IsTreeUnlessMemory selections_tree tree result }
     ensures fault { IfErr result (λ e. IsDue (DerivesSelections (in_file file)) nesting text.now (fault_view e)) }
 {

@@ -9,6 +9,7 @@ ghost use Rattle.graphql_parse_values.specs.Meanings.{in_file};
 ghost use Rattle.graphql_read.specs.Calls.{all_of};
 ghost use Rattle.graphql_read.specs.ReadFaults.{fault_view, IsTreeUnlessMemory};
 ghost use Rattle.graphql_read.specs.Reads.{Reads, IsDue};
+ghost use Rattle.graphql_read.specs.Sound.{IsSoundType};
 
 use crate::fault::ReadFault;
 use crate::finish::{end_of_text, fault};
@@ -41,6 +42,7 @@ pub fn parse_type(
     nesting: usize,
 ) -> Result<Type, ReadFault>
     ensures found { IfOk result (λ x. Reads (DerivesType (in_file file)) nesting text.now (type_tree x)) }
+    ensures sound { IfOk result (λ x. IsSoundType file.0 (type_tree x)) }
     ensures only { (tree : TypeTree Place) → Reads (DerivesType (in_file file)) nesting text.now tree → IsTreeUnlessMemory type_tree tree result }
     ensures fault { IfErr result (λ e. IsDue (DerivesType (in_file file)) nesting text.now (fault_view e)) }
 {

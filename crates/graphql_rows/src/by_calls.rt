@@ -1,12 +1,12 @@
 //! Answers of `check_texts`, and of the checker call by call.
 
 use crate::case::Answer;
-use crate::problem::Problem;
 use graphql_checked::{
     CheckError, CheckedDocument, CheckedSchema, Checker, Details, DiagnosticList, Layout, Limits,
     Refusal, Verdict, check_texts,
 };
 use graphql_names::{FileId, SourceSpan};
+use graphql_row_files::Problem;
 use std::alloc::{AllocError, Global};
 
 /// The answer of `check_texts`.

@@ -4,10 +4,9 @@ use crate::by_calls::answer_of;
 use crate::case::{Answer, Case, Tally, Way, compare};
 use crate::plan::{Plan, device, whole};
 use crate::plans::{compare_cut, plans};
-use crate::problem::Problem;
-use crate::settings::number;
 use crate::trees::by_name;
 use graphql_ast::{Cause, Serialize, Tree, WriteFault};
+use graphql_row_files::{Problem, number};
 use std::alloc::{AllocError, Global};
 
 /// How a tree is laid out.

@@ -7,9 +7,9 @@ use crate::by_texts::Texts;
 use crate::case::{Answer, Case, Tally, Way};
 use crate::plan::{Plan, device, reader};
 use crate::plans::{compare_cut, is_each, plans};
-use crate::problem::Problem;
 use graphql_checked::{Layout, Limits, Outcome, RunFault, exit_status, run};
 use graphql_names::{Cut, Device};
+use graphql_row_files::Problem;
 use std::alloc::{AllocError, Global};
 
 /// Judges the row by `run`, by each of its plans.

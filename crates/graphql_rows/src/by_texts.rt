@@ -4,8 +4,7 @@ use crate::by_calls::{by_calls, by_check_texts};
 use crate::by_run::by_run;
 use crate::case::{Answer, Case, Tally, Way, compare};
 use crate::plan::whole;
-use crate::problem::Problem;
-use crate::settings::{numbers, texts};
+use graphql_row_files::{Problem, numbers, texts};
 use std::alloc::Global;
 
 /// Texts under a limit.

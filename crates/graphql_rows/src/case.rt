@@ -1,8 +1,7 @@
 //! Answers, and whether they are as a row wants them.
 
 use crate::plan::Plan;
-use crate::problem::Problem;
-use crate::row_file::Row;
+use graphql_row_files::{Problem, Row};
 
 /// What a call answered: the status in words, and the output.
 #[derive(Drop)]

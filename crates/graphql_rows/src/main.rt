@@ -4,23 +4,21 @@
 
 mod by_calls;
 mod by_print;
+mod by_read;
 mod by_run;
 mod by_texts;
+mod calls;
 mod case;
-mod escape;
 mod plan;
 mod plans;
-mod problem;
-mod row_file;
-mod settings;
 mod trees;
 
 use crate::by_print::{by_print, by_writable};
+use crate::by_read::by_read;
 use crate::by_texts::by_texts;
+use crate::calls::call_of;
 use crate::case::{Case, Tally};
-use crate::problem::Problem;
-use crate::row_file::{Row, fields_of, rows_of};
-use crate::settings::{call_of, output};
+use graphql_row_files::{Problem, Row, fields_of, output, rows_of};
 use std::fs;
 use std::process::ExitCode;
 
@@ -44,6 +42,9 @@ fn judge_case(rt: &HostRuntime, case: Case<'_>, tally: &mut Tally) -> Result<(),
     match call_of(case.row)? {
         "print" => by_print(rt, case, tally)?,
         "writable" => by_writable(rt, case, tally)?,
+        call @ ("parse_document" | "parse_type" | "parse_selections" | "next_token") => {
+            by_read(rt, case, call, tally)?;
+        }
         call => by_texts(rt, case, call, tally)?,
     }
     if tally.answers == answers {

@@ -2,8 +2,7 @@
 
 use crate::case::{Answer, Case, Tally, Way, compare};
 use crate::plan::{Plan, endings, whole};
-use crate::problem::Problem;
-use crate::settings::{number, numbers};
+use graphql_row_files::{Problem, number, numbers};
 use std::alloc::{AllocError, Global};
 
 /// The plans of the row: at each of its numbers of bytes a call and for each ending, the writer ends where the

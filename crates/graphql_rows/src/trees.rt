@@ -2,13 +2,12 @@
 
 use crate::by_print::{Form, Named, by_tree};
 use crate::case::{Case, Tally};
-use crate::problem::Problem;
-use crate::row_file::Field;
 use graphql_ast::{
     Definition, Directive, DirectiveDefinition, DirectiveList, Document, FieldDefinition,
     FragmentDefinition, InputValueDefinition, Name, Node, NodeStr, ObjectTypeDefinition,
     OperationDefinition, OperationType, Selection, Type,
 };
+use graphql_row_files::{Field, Problem};
 use std::alloc::{AllocError, Global};
 
 impl Named for Type {

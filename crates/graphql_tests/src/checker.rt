@@ -84,8 +84,8 @@ fn is_not_yet(schema: &CheckedSchema, document: &str, wanted: (FileId, usize)) -
 fn serves(rt: &impl Abort, schema: &CheckedSchema) -> Result<(), AllocError> {
     accepts(rt, schema, "{ a }", "{ a }")?;
     refuses(rt, schema, "{ missing }", span(2, 2, 7), "missing");
-    let is_not_yet = is_not_yet(schema, "{ a } {", (FileId(2), 6));
-    hold(rt, is_not_yet, "one definition");
+    let is_not_yet = is_not_yet(schema, "{ a } { a }", (FileId(2), 6));
+    hold(rt, is_not_yet, "a second definition");
     accepts(rt, schema, "{ bcd, a }", "{ bcd a }")?;
     let text = schema.written(Layout::OneLine)?;
     same_text(rt, &text, "type Query { a: Int bcd: ID! }");

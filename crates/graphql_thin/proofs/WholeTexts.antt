@@ -1,6 +1,5 @@
 -- What the laws of the reader say of whole texts: they have one tree at most, and none where a fault of reading is due.
 use Rattle.std.proofs.Common.{◌≡◌, ◌≢◌, ℕ, ◌+◌, ◌-◌, ◌<◌, ◌≤◌, Bool, true, ◌&&◌, List, [], ◌∷◌, ◌++◌, length, take, drop, Option, Some, None, refl, sym, ap, subst, ◌∙◌, inl, inr, arith, append_assoc}
-use Rattle.std.specs.List.{list_all}
 use Rattle.std.proofs.lemmas.Bool.{and_parts}
 use Rattle.std.proofs.lemmas.List.{length-drop}
 use Rattle.graphql_names.specs.declared.span.FileId.{FileId}
@@ -26,7 +25,8 @@ use Rattle.graphql_read.specs.Reads.{Reads, IsDue}
 use Rattle.graphql_read.specs.ReadFaults.{fault_at}
 use Rattle.graphql_read.specs.declared.fault.SyntaxFaultKind.{SyntaxFaultKind}
 use Rattle.graphql_read.specs.declared.fault.SyntaxFaultKind.TheVariants.{NoToken, Unexpected, End}
-use Rattle.graphql_read.specs.Sound.{IsSound, is_not_built_in}
+use Rattle.graphql_read.specs.EachPlace.{all_in_document}
+use Rattle.graphql_read.specs.Sound.{IsSound, is_own}
 use Rattle.graphql_read.proofs.Endings.{ends_whole}
 use Rattle.graphql_read.proofs.Soundness.{document_sound}
 use Rattle.graphql_thin.specs.ReadText.{DerivesIn, ReadsText, PassesNesting, IsRead}
@@ -48,8 +48,8 @@ reads_within file text tree r = record { tokens = r.tokens; lexed = r.lexed; der
 reads_sound : (file : ℕ) (text : List ℕ) (tree : List (DefinitionTree Place)) → ReadsText file text tree → IsSound file tree
 reads_sound file text tree r = document_sound (record { 0 = file }) (depth r.tokens) text tree (reads_within file text tree r)
 
--- of another file than that of the built-in definitions none of its definitions is built in
-pub own_definitions : (file : ℕ) (text : List ℕ) (tree : List (DefinitionTree Place)) → file ≢ 0 → ReadsText file text tree → list_all is_not_built_in tree ≡ true
+-- of another file than that of the built-in definitions no node in it is built in
+pub own_definitions : (file : ℕ) (text : List ℕ) (tree : List (DefinitionTree Place)) → file ≢ 0 → ReadsText file text tree → all_in_document is_own tree ≡ true
 own_definitions file text tree ne r = (reads_sound file text tree r).own ne
 
 -- there is a definition

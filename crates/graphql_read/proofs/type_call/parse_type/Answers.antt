@@ -5,6 +5,7 @@ use Rattle.graphql_read.proofs.Symbols.{any_type_parses}
 use Rattle.graphql_parse_values.specs.Meanings.{in_file}
 use Rattle.graphql_read.specs.Reads.{IsDue}
 use Rattle.graphql_read.proofs.Texts.{begins, found, only, memory, due}
+use Rattle.graphql_read.proofs.Soundness.{type_sound}
 use Rattle.graphql_read.proofs.type_call.parse_type.Goals as goal
 
 pub returns-in-Ok-clause-found : goal.returns-in-Ok-clause-found
@@ -20,3 +21,6 @@ pub returns-in-Err-clause-fault : goal.returns-in-Err-clause-fault
 returns-in-Err-clause-fault c =
     subst (IsDue (DerivesType (in_file c.args.file)) c.args.nesting c.args.text.now) (sym c.fault.ensures)
     (due (any_type_parses (in_file c.args.file)) refl c.args.nesting c.args.text.now c.new-tokens.result (begins c.args.text.now c.new-tokens.result c.new-tokens.ensures.shows) c.new-tokens.ensures.lexed c.in-Err.stop c.whole_type.new.tokens c.in-Err.ensures)
+
+pub returns-in-Ok-clause-sound : goal.returns-in-Ok-clause-sound
+returns-in-Ok-clause-sound c = type_sound c.args.file c.args.nesting c.args.text.now (type_tree c.in-Ok.found) (found (any_type_parses (in_file c.args.file)) refl c.args.nesting c.args.text.now c.new-tokens.result (begins c.args.text.now c.new-tokens.result c.new-tokens.ensures.shows) c.new-tokens.ensures.lexed (type_tree c.in-Ok.found) c.whole_type.new.tokens c.in-Ok.ensures)

@@ -1,0 +1,14 @@
+//! What is built in: the definitions that each schema has, whatever its texts define.
+//!
+//! For the layer above: `built_in_definitions` answers the table (`specs/Table.antt`), each definition and each part at
+//! the place of what is built in; `specs/Marks.antt` says which parts of a schema come from it.
+//!
+//! Begin with `table.rt`: the table is data, and the other files build trees of its rows.
+#![tactic(auto)]
+
+mod definitions;
+mod members;
+mod parts;
+mod table;
+
+pub use definitions::{built_in_definitions, is_built_in_scalar};

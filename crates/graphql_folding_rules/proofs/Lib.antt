@@ -1,0 +1,5 @@
+pub mod FailsIs
+pub mod Seeing
+pub mod Judging
+pub mod Telling
+pub mod Turns

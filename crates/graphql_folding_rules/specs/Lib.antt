@@ -1,0 +1,3 @@
+pub mod Misplaced
+pub mod Seen
+pub mod SeenView

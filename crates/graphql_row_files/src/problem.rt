@@ -1,0 +1,52 @@
+//! Why rows are not judged.
+
+use std::alloc::{AllocError, AllocFailed};
+use std::io;
+
+/// Why rows are not judged.
+#[derive(Clone, Copy)]
+pub enum Problem {
+    /// Memory ran out.
+    Memory,
+    /// A file cannot be read, or the output failed.
+    Device,
+    /// A row file is not one: at this line, counted from 1.
+    Malformed { line: usize, what: &'static str },
+}
+
+impl Problem {
+    /// What it is, in words.
+    pub fn what(self) -> &'static str {
+        match self {
+            Problem::Memory => "out of memory",
+            Problem::Device => "input or output failed",
+            Problem::Malformed { what, .. } => what,
+        }
+    }
+
+    /// The line of the row file, or 0.
+    pub fn line(self) -> usize {
+        match self {
+            Problem::Malformed { line, .. } => line,
+            _ => 0,
+        }
+    }
+}
+
+impl From<AllocError> for Problem {
+    fn from(_refused: AllocError) -> Problem {
+        Problem::Memory
+    }
+}
+
+impl<T: Drop> From<AllocFailed<T>> for Problem {
+    fn from(_refused: AllocFailed<T>) -> Problem {
+        Problem::Memory
+    }
+}
+
+impl From<io::Error> for Problem {
+    fn from(_failed: io::Error) -> Problem {
+        Problem::Device
+    }
+}

@@ -1,0 +1,155 @@
+//! Row files: lines, and the rows that they make.
+
+use crate::problem::Problem;
+use std::alloc::{AllocError, Global};
+
+/// A line of a row file: `name: value`.
+#[derive(Clone, Copy)]
+pub struct Field<'a> {
+    /// Counted from 1.
+    pub line: usize,
+    pub name: &'a str,
+    pub value: &'a str,
+}
+
+impl Field<'_> {
+    /// The problem that its line is not as it must be.
+    pub fn problem(self, what: &'static str) -> Problem {
+        Problem::Malformed {
+            line: self.line,
+            what,
+        }
+    }
+
+    /// Whether rows or what is common to rows begins here.
+    fn is_head(self) -> bool {
+        self.name == "row" || self.name == "common"
+    }
+}
+
+/// The fields of a row file, in order. Empty lines and those that begin with `#` are passed over.
+pub fn fields_of<'a>(alloc: Global, text: &'a str) -> Result<Vec<Field<'a>>, Problem> {
+    let mut fields = Vec::new(alloc);
+    for (index, content) in text.lines().enumerate() {
+        if !content.is_empty() && !content.starts_with('#') {
+            fields.push(field_of(index.saturating_add(1), content)?)?;
+        }
+    }
+    Ok(fields)
+}
+
+/// The field in a line.
+fn field_of<'a>(line: usize, content: &'a str) -> Result<Field<'a>, Problem> {
+    if content.ends_with(' ') {
+        let what = "a line ends with a space";
+        return Err(Problem::Malformed { line, what });
+    }
+    if let Some((name, value)) = content.split_once(": ") {
+        return Ok(Field { line, name, value });
+    }
+    match content.strip_suffix(':') {
+        Some(name) => Ok(Field {
+            line,
+            name,
+            value: "",
+        }),
+        None => {
+            let what = "a line is `name: value`";
+            Err(Problem::Malformed { line, what })
+        }
+    }
+}
+
+/// A row: its name, its own fields, and the fields of the `common` that it stands under.
+#[derive(Clone, Copy)]
+pub struct Row<'a> {
+    pub head: Field<'a>,
+    pub common: &'a [Field<'a>],
+    pub own: &'a [Field<'a>],
+}
+
+impl<'a> Row<'a> {
+    /// The fields of this name: the row's own, and where it has none those in common.
+    pub fn all(self, alloc: Global, name: &str) -> Result<Vec<Field<'a>>, AllocError> {
+        let own = named(alloc, self.own, name)?;
+        if own.is_empty() {
+            return named(alloc, self.common, name);
+        }
+        Ok(own)
+    }
+
+    /// The one field of this name, if there is one.
+    pub fn one(self, name: &str) -> Result<Option<Field<'a>>, Problem> {
+        match only(self.own, name)? {
+            Some(field) => Ok(Some(field)),
+            None => only(self.common, name),
+        }
+    }
+
+    /// The one field of this name, which must be there.
+    pub fn needed(self, name: &str) -> Result<Field<'a>, Problem> {
+        match self.one(name)? {
+            Some(field) => Ok(field),
+            None => Err(self.head.problem("the row lacks a field")),
+        }
+    }
+}
+
+/// The fields of this name.
+fn named<'a>(
+    alloc: Global,
+    fields: &'a [Field<'a>],
+    name: &str,
+) -> Result<Vec<Field<'a>>, AllocError> {
+    let mut found = Vec::new(alloc);
+    for field in fields {
+        if field.name == name {
+            found.push(*field)?;
+        }
+    }
+    Ok(found)
+}
+
+/// The one field of this name, if there is one.
+fn only<'a>(fields: &'a [Field<'a>], name: &str) -> Result<Option<Field<'a>>, Problem> {
+    let mut found = None;
+    for field in fields {
+        if field.name == name {
+            if found.is_some() {
+                return Err(field.problem("the field stands there already"));
+            }
+            found = Some(*field);
+        }
+    }
+    Ok(found)
+}
+
+/// The rows of a file, in order.
+pub fn rows_of<'a>(alloc: Global, fields: &'a [Field<'a>]) -> Result<Vec<Row<'a>>, Problem> {
+    let mut rows = Vec::new(alloc);
+    let mut common = body(fields, 0);
+    if let Some(field) = common.first() {
+        return Err(field.problem("a field stands before the first row"));
+    }
+    for (index, head) in fields.iter().enumerate() {
+        let own = body(fields, index.saturating_add(1));
+        if head.name == "common" {
+            common = own;
+        } else if head.name == "row" {
+            let head = *head;
+            rows.push(Row { head, common, own })?;
+        }
+    }
+    Ok(rows)
+}
+
+/// The fields from this one on, up to the next head.
+fn body<'a>(fields: &'a [Field<'a>], from: usize) -> &'a [Field<'a>] {
+    let rest = fields.get(from..).unwrap_or(&[]);
+    for (count, field) in rest.iter().enumerate() {
+        if field.is_head() {
+            return rest.get(..count).unwrap_or(&[]);
+        }
+    }
+    rest
+}
