@@ -108,7 +108,11 @@ impl fmt::Display for Details {
 
     fn fmt<W: fmt::Write>(&self, f: &mut fmt::Formatter<W>) -> fmt::Result {
         let words = self.words();
-        write!(f, "{}{}{}{}{}", words.front, words.first, words.middle, words.second, words.back)
+        write!(
+            f,
+            "{}{}{}{}{}",
+            words.front, words.first, words.middle, words.second, words.back
+        )
     }
 }
 
