@@ -2,7 +2,7 @@ pub mod Places
 pub mod Firsts
 pub mod FoldSteps
 pub mod Failing
-pub mod BuiltSchemas
+pub mod Appended
 pub mod RootEntry
 pub mod RootKept
 pub mod Undefined

@@ -81,7 +81,7 @@ front_begins (p ∷ ps) [] text behind at a b = absurd (no_piece_of_none p text 
 front_begins (p ∷ ps) (q ∷ qs) text behind at a b =
     let same : q ≡ p = same_piece q p (sym b.0 ∙ a.0) in
     let more : Begin (tokens_among ps (drop p.length text) (at + p.length)) (tokens_among qs (drop p.length text) (at + p.length)) =
-        front_begins ps qs (drop p.length text) behind (at + p.length) a.1 (subst (λ (r : Piece). ArePieces qs (drop r.length text) []) same b.1) in
+    front_begins ps qs (drop p.length text) behind (at + p.length) a.1 (subst (λ (r : Piece). ArePieces qs (drop r.length text) []) same b.1) in
     subst (λ (r : Piece). Begin (tokens_among (p ∷ ps) text at) (tokens_among (r ∷ qs) text at)) (sym same)
     (with_token_begins p.kind (take p.length text) at _ _ more)
 

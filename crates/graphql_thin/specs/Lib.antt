@@ -5,6 +5,7 @@ pub mod Fold
 pub mod Faults
 pub mod Messages
 pub mod FaultView
+pub mod WordsView
 pub mod Unread
 pub mod SchemaView
 pub mod FaultList

@@ -13,9 +13,7 @@ ghost use Rattle.graphql_thin.specs.FaultView.{faults_of};
 ghost use Rattle.graphql_thin.specs.SchemaView.{same_name, named_field, kept_here, fields_of, types_of, IsSchemaOf};
 ghost use Rattle.graphql_thin.specs.FaultList.{field_faults, KeepsOn, FoldsOn, no_root_faults, faults_in_order};
 
-use crate::definitions::{
-    built_in_definitions, defined_name, fields_here, is_object,
-};
+use crate::definitions::{built_in_definitions, defined_name, fields_here, is_object};
 use crate::faults::{Details, DiagnosticList};
 use crate::schema::{Schema, SchemaType};
 use graphql_ast::{Definition, Document, FieldDefinition, Name, Node};
@@ -41,8 +39,7 @@ pub fn build(alloc: Global, document: &Document) -> Result<Built, AllocError>
         types: IndexMap::new(alloc),
     };
     let mut faults = DiagnosticList::new(alloc);
-    fold_built_in(alloc, &mut schema, &mut faults)?;
-    fold_definitions(alloc, &document.definitions, &mut schema, &mut faults)?;
+    fold_all(alloc, document, &mut schema, &mut faults)?;
     query_root_operation_type(&schema, &mut faults)?;
     Ok(Built { schema, faults })
 }
@@ -55,6 +52,20 @@ fn query_root_operation_type(schema: &Schema, faults: &mut DiagnosticList) -> Re
         Some(_) => Ok(()),
         None => faults.push(None, Details::QueryRootOperationType),
     }
+}
+
+/// Folds what is built in, and then the definitions of the document, behind the definitions before them.
+fn fold_all(
+    alloc: Global,
+    document: &Document,
+    schema: &mut Schema,
+    faults: &mut DiagnosticList,
+) -> Result<(), AllocError>
+    ensures { OnOk result (FoldsOn (built_in_definitions ++ document_tree document.now)
+        schema.old (faults_of faults.old) schema.new (faults_of faults.new)) }
+{
+    fold_built_in(alloc, schema, faults)?;
+    fold_definitions(alloc, &document.definitions, schema, faults)
 }
 
 /// Folds what is built in behind the definitions before it.

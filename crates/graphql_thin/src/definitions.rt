@@ -80,15 +80,23 @@ fn add_built_in_scalar(
     Ok(())
 }
 
-/// The definitions that each schema has: the built-in scalars (section 3.5).
+/// Adds the definitions of the built-in scalars (section 3.5).
+fn add_built_in_scalars(alloc: Global, definitions: &mut Vec<Definition>) -> Result<(), AllocError>
+    ensures { OnOk result (map definition_tree definitions.new.items
+        ≡ map definition_tree definitions.old.items ++ built_in_definitions) }
+{
+    add_built_in_scalar(alloc, definitions, "Int")?;
+    add_built_in_scalar(alloc, definitions, "Float")?;
+    add_built_in_scalar(alloc, definitions, "String")?;
+    add_built_in_scalar(alloc, definitions, "Boolean")?;
+    add_built_in_scalar(alloc, definitions, "ID")
+}
+
+/// The definitions that each schema has.
 pub(crate) fn built_in_definitions(alloc: Global) -> Result<Vec<Definition>, AllocError>
     ensures { IfOk result (λ v. map definition_tree v.items ≡ built_in_definitions) }
 {
     let mut definitions = Vec::new(alloc);
-    add_built_in_scalar(alloc, &mut definitions, "Int")?;
-    add_built_in_scalar(alloc, &mut definitions, "Float")?;
-    add_built_in_scalar(alloc, &mut definitions, "String")?;
-    add_built_in_scalar(alloc, &mut definitions, "Boolean")?;
-    add_built_in_scalar(alloc, &mut definitions, "ID")?;
+    add_built_in_scalars(alloc, &mut definitions)?;
     Ok(definitions)
 }

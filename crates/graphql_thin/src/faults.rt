@@ -2,6 +2,7 @@
 
 ghost use Rattle.std.specs.Prelude.{◌≡◌, ◌∷◌, ◌++◌, [], length, map, IfOk, OnOk, OnErr, Some, IsTrue, ◌↔◌};
 ghost use Rattle.graphql_thin.specs.FaultView.{fault_of, breach_of, faults_of};
+ghost use Rattle.graphql_thin.specs.WordsView.{words_text};
 ghost use Rattle.graphql_thin.specs.Messages.{message, syntax_message};
 
 use graphql_names::{Name, SourceSpan};
@@ -28,28 +29,26 @@ pub enum Details {
     UndefinedField { type_name: Name, field_name: Name },
 }
 
-impl fmt::Display for Details {
-    ghost output = { λ d. Some (message (breach_of d)) };
+/// The text of a fault: what stands round the names that it tells, of which there are two at the most.
+#[derive(Clone, Copy)]
+struct Words<'a> {
+    front: &'a str,
+    first: &'a str,
+    middle: &'a str,
+    second: &'a str,
+    back: &'a str,
+}
 
-    fn fmt<W: fmt::Write>(&self, f: &mut fmt::Formatter<W>) -> fmt::Result {
-        match self {
-            Details::Syntax(kind) => write!(f, "{}", syntax_message(*kind)),
-            Details::Nesting => write!(f, "too many open brackets"),
-            Details::Spent => write!(f, "numbers are spent"),
-            Details::TypeDefinitionCollision { name } => {
-                write!(f, "`{name}` is defined more than once")
-            }
-            Details::ObjectFieldNameCollision { type_name, name } => {
-                write!(f, "`{type_name}` has `{name}` more than once")
-            }
-            Details::QueryRootOperationType => {
-                write!(f, "missing query root operation type in schema definition")
-            }
-            Details::UndefinedField {
-                type_name,
-                field_name,
-            } => write!(f, "`{type_name}` has no field `{field_name}`"),
-        }
+/// What is wrong, in words without a name.
+fn plain_words(text: &'static str) -> Words<'static>
+    ensures { words_text result ≡ text.now }
+{
+    Words {
+        front: text,
+        first: "",
+        middle: "",
+        second: "",
+        back: "",
     }
 }
 
@@ -61,6 +60,59 @@ fn syntax_message(kind: SyntaxFaultKind) -> &'static str
         SyntaxFaultKind::NoToken => "no token starts here",
         SyntaxFaultKind::Unexpected => "unexpected token",
         SyntaxFaultKind::End => "unexpected end of text",
+    }
+}
+
+impl Details {
+    /// What is wrong, in words.
+    fn words(&self) -> Words<'_>
+        ensures { words_text result ≡ message (breach_of self.now) }
+    {
+        match self {
+            Details::Syntax(kind) => plain_words(syntax_message(*kind)),
+            Details::Nesting => plain_words("too many open brackets"),
+            Details::Spent => plain_words("numbers are spent"),
+            Details::QueryRootOperationType => {
+                plain_words("missing query root operation type in schema definition")
+            }
+            Details::TypeDefinitionCollision { name } => Words {
+                front: "`",
+                first: name.as_str(),
+                middle: "` is defined more than once",
+                second: "",
+                back: "",
+            },
+            Details::ObjectFieldNameCollision { type_name, name } => Words {
+                front: "`",
+                first: type_name.as_str(),
+                middle: "` has `",
+                second: name.as_str(),
+                back: "` more than once",
+            },
+            Details::UndefinedField {
+                type_name,
+                field_name,
+            } => Words {
+                front: "`",
+                first: type_name.as_str(),
+                middle: "` has no field `",
+                second: field_name.as_str(),
+                back: "`",
+            },
+        }
+    }
+}
+
+impl fmt::Display for Details {
+    ghost output = { λ d. Some (message (breach_of d)) };
+
+    fn fmt<W: fmt::Write>(&self, f: &mut fmt::Formatter<W>) -> fmt::Result {
+        let words = self.words();
+        write!(
+            f,
+            "{}{}{}{}{}",
+            words.front, words.first, words.middle, words.second, words.back
+        )
     }
 }
 
