@@ -1,1 +1,6 @@
 pub mod Givers
+pub mod Growing
+pub mod Keyless
+pub mod Extensions
+pub mod Implicit
+pub mod Written

@@ -1,0 +1,33 @@
+-- What is filed and given out by contents is so by trees.
+use Rattle.std.proofs.Common.{◌≡◌, Bool, true, false, cond, List, [], ◌∷◌, map, filter, Option, refl, sym, ap, ◌∙◌}
+use Rattle.std.specs.Borrow.{Bor}
+use Rattle.graphql_names.specs.declared.node.Node.{Node}
+use Rattle.graphql_values.specs.Placed.{Placed, Place, node_tree}
+use Rattle.graphql_components.specs.Given.{Given, ExtensionTree, origin_tree, component_tree}
+use Rattle.graphql_components.specs.declared.component.Component.{Component}
+use Rattle.graphql_schema_types.specs.Out.{same_giver, given_by}
+use Rattle.graphql_schema_writing.specs.Filed.{itself, given_contents, lent_node}
+use Rattle.graphql_schema_writing.specs.ContentsView.{grown, lent_trees}
+
+module _ {A B : Type 0} (f : A → B) where
+  trees_grown : (ns : List (Node A)) → map (node_tree f) ns ≡ map (grown f) (map (node_tree itself) ns)
+  trees_grown [] = refl
+  trees_grown (n ∷ ns) = ap (λ l. node_tree f n ∷ l) (trees_grown ns)
+
+  -- nodes that are given out
+  pub shared_grown : (vs : List (Node A)) (ns : List (Bor (Node A))) → map (node_tree itself) vs ≡ map lent_node ns → map (node_tree f) vs ≡ lent_trees f ns
+  shared_grown vs ns same = trees_grown vs ∙ ap (map (grown f)) same
+
+  given_grown : (giver : Option (ExtensionTree Place)) (cs : List (Component A)) → map (grown f) (given_by giver (given_contents cs)) ≡ given_by giver (map (component_tree f) cs)
+  given_grown giver [] = refl
+  given_grown giver (c ∷ cs) = by (same_giver giver (origin_tree c.origin)) (given_grown giver cs)
+    where
+      by : (b : Bool) → map (grown f) (given_by giver (given_contents cs)) ≡ given_by giver (map (component_tree f) cs)
+          → map (grown f) (map (λ g. g.it) (cond b (component_tree itself c ∷ filter (λ g. same_giver giver g.extension) (given_contents cs)) (filter (λ g. same_giver giver g.extension) (given_contents cs))))
+          ≡ map (λ g. g.it) (cond b (component_tree f c ∷ filter (λ g. same_giver giver g.extension) (map (component_tree f) cs)) (filter (λ g. same_giver giver g.extension) (map (component_tree f) cs)))
+      by true rest = ap (λ l. node_tree f c.node ∷ l) rest
+      by false rest = rest
+
+  -- nodes that are filed
+  pub filed_grown : (giver : Option (ExtensionTree Place)) (ns : List (Bor (Node A))) (cs : List (Component A)) → map lent_node ns ≡ given_by giver (given_contents cs) → lent_trees f ns ≡ given_by giver (map (component_tree f) cs)
+  filed_grown giver ns cs same = ap (map (grown f)) same ∙ given_grown giver cs
