@@ -1,8 +1,10 @@
 -- What is filed and given out by contents is so by trees.
-use Rattle.std.proofs.Common.{◌≡◌, Bool, true, false, cond, List, [], ◌∷◌, map, filter, Option, refl, sym, ap, ◌∙◌}
+use Rattle.std.proofs.Common.{◌≡◌, Bool, true, false, cond, List, [], ◌∷◌, map, filter, Option, None, Some, option_copied, refl, sym, ap, ◌∙◌}
 use Rattle.std.specs.Borrow.{Bor}
+use Rattle.std.specs.Option.{option_map}
+use Rattle.graphql_names.specs.NodeStrValue.{NodeStrValue}
 use Rattle.graphql_names.specs.declared.node.Node.{Node}
-use Rattle.graphql_values.specs.Placed.{Placed, Place, node_tree}
+use Rattle.graphql_values.specs.Placed.{Placed, Place, node_tree, text_tree}
 use Rattle.graphql_components.specs.Given.{Given, ExtensionTree, origin_tree, component_tree}
 use Rattle.graphql_components.specs.declared.component.Component.{Component}
 use Rattle.graphql_schema_types.specs.Out.{same_giver, given_by}
@@ -31,3 +33,8 @@ module _ {A B : Type 0} (f : A → B) where
   -- nodes that are filed
   pub filed_grown : (giver : Option (ExtensionTree Place)) (ns : List (Bor (Node A))) (cs : List (Component A)) → map lent_node ns ≡ given_by giver (given_contents cs) → lent_trees f ns ≡ given_by giver (map (component_tree f) cs)
   filed_grown giver ns cs same = ap (map (grown f)) same ∙ given_grown giver cs
+
+-- a description that is lent
+pub lent_description : (d : Option (Bor NodeStrValue)) → option_map (λ t. text_tree t.now) d ≡ option_map text_tree (option_copied d)
+lent_description None = refl
+lent_description (Some t) = refl

@@ -2,5 +2,5 @@ pub mod Givers
 pub mod Growing
 pub mod Keyless
 pub mod Extensions
-pub mod Implicit
+pub mod DefaultObject
 pub mod Written

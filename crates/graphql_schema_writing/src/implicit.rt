@@ -1,20 +1,38 @@
 //! Whether the schema definition is left out.
 ghost use Rattle.std.specs.Prelude.{◌≡◌, ◌&&◌, is_none, is_some};
 ghost use Rattle.std.specs.Option.{option_map};
+ghost use Rattle.graphql_names.specs.Node.{content};
 ghost use Rattle.graphql_values.specs.OperationQueries.{default_root_name};
 ghost use Rattle.graphql_components.specs.Given.{component_name_tree};
 ghost use Rattle.graphql_operations.specs.declared.operation.OperationType.TheVariants as operation;
 ghost use Rattle.graphql_schema_types.specs.SchemaView.{types_view};
 ghost use Rattle.graphql_schema_types.specs.TypeView.{schema_roots};
-ghost use Rattle.graphql_schema_types.specs.Out.{is_empty, is_implicit_root, is_object_named};
+ghost use Rattle.graphql_schema_types.specs.Origins.{schema_origins, extensions_in};
+ghost use Rattle.graphql_schema_types.specs.Out.{is_empty, is_implicit_root, is_left_out, is_object_named};
+ghost use Rattle.graphql_schema_writing.specs.SchemaParts.{schema_and_types};
 
 use graphql_ast::{Name, Node, OperationType};
 use graphql_components::{ComponentName, ExtensionId};
 use graphql_schema_types::{ExtendedType, SchemaDefinition};
 use indexmap::IndexMap;
 
+/// Whether the schema definition is left out: it says nothing but the implicit roots, and these extensions are none.
+pub(crate) fn is_left_out(
+    definition: &Node<SchemaDefinition>,
+    extensions: &[ExtensionId],
+    types: &IndexMap<Name, ExtendedType>,
+) -> bool
+    requires { extensions.now ≡ extensions_in (schema_origins (content definition.now)) }
+    ensures { result ≡ is_left_out (schema_and_types definition.now types.now) }
+{
+    if !is_bare(definition, extensions) {
+        return false;
+    }
+    has_implicit_roots(definition, types)
+}
+
 /// Whether the schema has no description, directives and extensions.
-pub(crate) fn is_bare(definition: &Node<SchemaDefinition>, extensions: &[ExtensionId]) -> bool
+fn is_bare(definition: &Node<SchemaDefinition>, extensions: &[ExtensionId]) -> bool
     ensures { result ≡ (is_none (schema_roots definition.now).description && is_empty (schema_roots definition.now).directives && is_empty extensions.now) }
 {
     let schema = definition.content();
@@ -22,7 +40,7 @@ pub(crate) fn is_bare(definition: &Node<SchemaDefinition>, extensions: &[Extensi
 }
 
 /// Whether the roots are the implicit ones, and there is a query root.
-pub(crate) fn has_implicit_roots(
+fn has_implicit_roots(
     definition: &Node<SchemaDefinition>,
     types: &IndexMap<Name, ExtendedType>,
 ) -> bool

@@ -1,18 +1,17 @@
 //! The schema definition and its extensions.
-ghost use Rattle.std.specs.Prelude.{◌≡◌, ◌++◌, [], map, None, Some, IfOk, OnOk};
+ghost use Rattle.std.specs.Prelude.{◌≡◌, ◌++◌, map, None, Some, IfOk, OnOk};
 ghost use Rattle.graphql_values.specs.DirectiveTree.{directive_tree};
 ghost use Rattle.graphql_ast.specs.DefinitionTree.{definition_tree};
 ghost use Rattle.graphql_components.specs.Given.{extension_tree};
-ghost use Rattle.graphql_schema_types.specs.SchemaView.{types_view};
 ghost use Rattle.graphql_schema_types.specs.TypeView.{schema_roots};
 ghost use Rattle.graphql_schema_types.specs.Out.{written_schema};
 ghost use Rattle.graphql_schema_writing.specs.Filed.{filed_under};
 ghost use Rattle.graphql_schema_writing.specs.ContentsView.{lent_trees};
-ghost use Rattle.graphql_schema_writing.specs.SchemaParts.{schema_from, schema_extended_from, whole_schema};
+ghost use Rattle.graphql_schema_writing.specs.SchemaParts.{schema_and_types, schema_from, schema_extended_from, whole_schema};
 
 use crate::definition_by::node_at;
 use crate::filing::{file_components, given_nodes};
-use crate::implicit::{has_implicit_roots, is_bare};
+use crate::implicit::is_left_out;
 use crate::roots::roots_of;
 use crate::types::shared_description;
 use graphql_ast::{
@@ -31,10 +30,10 @@ pub(crate) fn write_schema(
     types: &IndexMap<Name, ExtendedType>,
     out: &mut Vec<Definition>,
 ) -> Result<(), AllocError>
-    ensures { OnOk result (map definition_tree out.new.items ≡ map definition_tree out.old.items ++ written_schema (record { definition = schema_roots definition.now; directives = []; types = types_view types.now })) }
+    ensures { OnOk result (map definition_tree out.new.items ≡ map definition_tree out.old.items ++ written_schema (schema_and_types definition.now types.now)) }
 {
     let extensions = definition.content().extensions(alloc)?;
-    if is_bare(definition, extensions.as_slice()) && has_implicit_roots(definition, types) {
+    if is_left_out(definition, extensions.as_slice(), types) {
         return Ok(());
     }
     write_whole_schema(alloc, definition, extensions.as_slice(), out)

@@ -2,7 +2,7 @@ use Rattle.std.proofs.Common.{sym, ap, ◌∙◌, false, option_copied}
 use Rattle.std.specs.Option.{option_map_or}
 use Rattle.graphql_schema_types.specs.Out.{is_object_named}
 use Rattle.graphql_schema_types.specs.SchemaView.{types_view}
-use Rattle.graphql_schema_writing.proofs.Implicit.{is_object, found_object}
+use Rattle.graphql_schema_writing.proofs.DefaultObject.{is_object, found_object}
 use Rattle.graphql_schema_writing.proofs.implicit.is_default_object.Goals as goal
 
 pub returns-in-None : goal.returns-in-None
