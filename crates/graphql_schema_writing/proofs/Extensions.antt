@@ -14,8 +14,8 @@ use Rattle.graphql_directives.specs.declared.directive.Directive.{Directive}
 use Rattle.graphql_directives.specs.declared.input_value.InputValueDefinition.{InputValueDefinition}
 use Rattle.graphql_type_members.specs.declared.field_definition.FieldDefinition.{FieldDefinition}
 use Rattle.graphql_type_members.specs.declared.enum_value.EnumValueDefinition.{EnumValueDefinition}
-use Rattle.graphql_components.specs.Lists.{each_place_after, firsts, has_name, is_among}
-use Rattle.graphql_components.specs.Given.{Given, ExtensionTree, number_of, extension_id, extension_tree, origin_tree, component_tree, component_name_tree}
+use Rattle.graphql_components.specs.Lists.{each_place_after, has_name, is_among}
+use Rattle.graphql_components.specs.Given.{ExtensionTree, number_of, extension_id, extension_tree, origin_tree, component_tree, component_name_tree}
 use Rattle.graphql_components.specs.declared.extension.ExtensionId.{ExtensionId}
 use Rattle.graphql_components.specs.declared.component.Component.{Component}
 use Rattle.graphql_components.specs.declared.component.ComponentOrigin.{ComponentOrigin}
@@ -92,7 +92,7 @@ module _ (ds : List (Component Directive)) (query mutation subscription : Option
 
   all_named : named_by (origins_of ds (option_map origin_of query) (option_map origin_of mutation) (option_map origin_of subscription) ns fs vs is)
       ≡ givers (map (component_tree directive_tree) ds) ++ (root query ++ (root mutation ++ (root subscription ++ (givers (map component_name_tree ns)
-        ++ (givers (map (component_tree field_definition_tree) fs) ++ (givers (map (component_tree enum_value_tree) vs) ++ givers (map (component_tree input_value_tree) is)))))))
+      ++ (givers (map (component_tree field_definition_tree) fs) ++ (givers (map (component_tree enum_value_tree) vs) ++ givers (map (component_tree input_value_tree) is)))))))
   all_named =
       let seven = component_origins vs ++ component_origins is in
       let six = component_origins fs ++ seven in

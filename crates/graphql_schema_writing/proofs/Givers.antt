@@ -1,18 +1,15 @@
 -- Lemmas on what is filed under a giver.
-use Rattle.std.proofs.Common.{◌≡◌, ℕ, Bool, true, false, cond, ◌==◌, List, [], ◌∷◌, ◌++◌, map, filter, take, length, get_or, ◌<◌, ◌+◌, Option, None, Some, is_some, refl, sym, ap, ◌∙◌, subst, true≢false, Vec, if◌then◌else◌}
-use Rattle.std.specs.Option.{option_map_or, option_map}
+use Rattle.std.proofs.Common.{◌≡◌, ℕ, Bool, true, false, cond, ◌==◌, List, [], ◌∷◌, ◌++◌, Option, None, Some, is_some, refl, sym, ap, ◌∙◌, true≢false, Vec, if◌then◌else◌}
+use Rattle.std.specs.Option.{option_map_or}
 use Rattle.std.specs.Map.{lookup, set_value}
 use Rattle.std.specs.Global.{Global}
-use Rattle.std.proofs.lemmas.List.{append_assoc, append-nil, map-append, map_more}
-use Rattle.std.proofs.lemmas.List.Elements.{filter-append}
+use Rattle.std.proofs.lemmas.List.{append-nil}
 use Rattle.std.proofs.lemmas.Bool.Decides.{Decides-eqb}
-use Rattle.indexmap.specs.IndexMap.{IndexMap, get, insert_entry}
-use Rattle.indexmap.proofs.CallerLemmas.{insert_entry-new}
 use Rattle.graphql_values.specs.Placed.{Place}
-use Rattle.graphql_components.specs.Given.{Given, ExtensionTree, origin_tree}
+use Rattle.graphql_components.specs.Given.{ExtensionTree, origin_tree}
 use Rattle.graphql_components.specs.declared.component.ComponentOrigin.{ComponentOrigin}
 use Rattle.graphql_components.specs.declared.component.ComponentOrigin.TheVariants.{Definition, Extension}
-use Rattle.graphql_schema_types.specs.Out.{same_giver, given_by}
+use Rattle.graphql_schema_types.specs.Out.{same_giver}
 use Rattle.graphql_schema_writing.specs.Filed.{filed_under}
 
 abbrev Giver : Type 0
@@ -122,41 +119,6 @@ module _ {X : Type 0} (eq : ComponentOrigin → ComponentOrigin → Bool) (says 
           by false h =
               under-cons e (set_value (eq k) es w) false h ∙ rest (sym (ap (λ b. cond b (Some e.1) (lookup (eq k) es)) same) ∙ some)
               ∙ ap (λ l. l ++ more (x ∷ [])) (sym (under-cons e es false h))
-
--- ---- what was given
-
-module _ {A : Type 0} (giver : Giver) where
-  abbrev it_of : Given Place A → A
-  it_of g = g.it
-
-  abbrev by_giver : Given Place A → Bool
-  by_giver g = same_giver giver g.extension
-
-  given-one : (g : Given Place A) → given_by giver (g ∷ []) ≡ (if same_giver giver g.extension then g.it ∷ [] else [])
-  given-one g = by (same_giver giver g.extension) refl
-    where
-      by : (b : Bool) → same_giver giver g.extension ≡ b → given_by giver (g ∷ []) ≡ (if b then g.it ∷ [] else [])
-      by true h = ap (λ b. map it_of (cond b (g ∷ []) [])) h
-      by false h = ap (λ b. map it_of (cond b (g ∷ []) [])) h
-
-  -- what this giver gave of some and one more
-  pub given_push : (gs : List (Given Place A)) (g : Given Place A) → given_by giver (gs ++ g ∷ []) ≡ given_by giver gs ++ (if same_giver giver g.extension then g.it ∷ [] else [])
-  given_push gs g =
-      ap (map it_of) (filter-append by_giver gs (g ∷ [])) ∙ map-append it_of (filter by_giver gs) (filter by_giver (g ∷ []))
-      ∙ ap (λ l. given_by giver gs ++ l) (given-one g)
-
-  -- a turn of the loop that files
-  pub filed_push : {X C : Type 0} (view : X → A) (tree : C → Given Place A) (cs : List C) (c : C) (x : X) (old new : List X)
-      → map view old ≡ given_by giver (map tree cs) → new ≡ old ++ (if same_giver giver (tree c).extension then x ∷ [] else []) → view x ≡ (tree c).it
-      → map view new ≡ given_by giver (map tree (cs ++ c ∷ []))
-  filed_push {X} view tree cs c x old new is step same =
-      ap (map view) step ∙ map-append view old (if same_giver giver (tree c).extension then x ∷ [] else [])
-      ∙ (λ i. is i ++ shown (same_giver giver (tree c).extension) i)
-      ∙ sym (ap (given_by giver) (map-append tree cs (c ∷ [])) ∙ given_push (map tree cs) (tree c))
-    where
-      shown : (b : Bool) → map view (if b then x ∷ [] else []) ≡ (if b then (tree c).it ∷ [] else [])
-      shown true = ap (λ y. y ∷ []) same
-      shown false = refl
 
 -- whether two origins are equal
 pub origins_say : (eq : ComponentOrigin → ComponentOrigin → Bool) → eq Definition Definition ≡ true → ((e : _) → eq Definition (Extension e) ≡ false) → ((e : _) → eq (Extension e) Definition ≡ false)

@@ -1,15 +1,20 @@
 -- What is filed and given out by contents is so by trees.
-use Rattle.std.proofs.Common.{◌≡◌, Bool, true, false, cond, List, [], ◌∷◌, map, filter, Option, None, Some, option_copied, refl, sym, ap, ◌∙◌}
+use Rattle.std.proofs.Common.{◌≡◌, Bool, true, false, cond, List, [], ◌∷◌, map, filter, Option, None, Some, option_copied, refl, ap, ◌∙◌}
 use Rattle.std.specs.Borrow.{Bor}
 use Rattle.std.specs.Option.{option_map}
 use Rattle.graphql_names.specs.NodeStrValue.{NodeStrValue}
 use Rattle.graphql_names.specs.declared.node.Node.{Node}
-use Rattle.graphql_values.specs.Placed.{Placed, Place, node_tree, text_tree}
-use Rattle.graphql_components.specs.Given.{Given, ExtensionTree, origin_tree, component_tree}
+use Rattle.graphql_values.specs.Placed.{Place, node_tree, text_tree}
+use Rattle.graphql_values.specs.DirectiveTree.{directive_tree, input_value_tree}
+use Rattle.graphql_ast.specs.TypeSystemTree.{field_definition_tree, enum_value_tree}
+use Rattle.graphql_components.specs.Given.{ExtensionTree, origin_tree, component_tree, component_name_tree}
 use Rattle.graphql_components.specs.declared.component.Component.{Component}
 use Rattle.graphql_schema_types.specs.Out.{same_giver, given_by}
-use Rattle.graphql_schema_writing.specs.Filed.{itself, given_contents, lent_node}
-use Rattle.graphql_schema_writing.specs.ContentsView.{grown, lent_trees}
+use Rattle.graphql_schema_writing.specs.Filed.{itself, given_contents, filed_under, lent_node, lent_name}
+use Rattle.graphql_schema_writing.specs.Contents.{parts_given_by}
+use Rattle.graphql_schema_writing.specs.ContentsView.{contents_view, filed_parts, grown, lent_trees}
+use Rattle.graphql_schema_writing.specs.declared.contents.Contents.{Contents}
+use Rattle.graphql_schema_writing.specs.declared.parts.FiledType.{FiledType}
 
 module _ {A B : Type 0} (f : A → B) where
   trees_grown : (ns : List (Node A)) → map (node_tree f) ns ≡ map (grown f) (map (node_tree itself) ns)
@@ -38,3 +43,21 @@ module _ {A B : Type 0} (f : A → B) where
 pub lent_description : (d : Option (Bor NodeStrValue)) → option_map (λ t. text_tree t.now) d ≡ option_map text_tree (option_copied d)
 lent_description None = refl
 lent_description (Some t) = refl
+
+-- six classes are filed
+pub all_filed : (f : FiledType) (c : Contents)
+    → ((giver : Option (ExtensionTree Place)) → map lent_node (filed_under giver f.directives.entries) ≡ given_by giver (given_contents c.directives.now))
+    → ((giver : Option (ExtensionTree Place)) → map lent_name (filed_under giver f.interfaces.entries) ≡ given_by giver (map component_name_tree c.interfaces.now))
+    → ((giver : Option (ExtensionTree Place)) → map lent_node (filed_under giver f.fields.entries) ≡ given_by giver (given_contents c.fields.now))
+    → ((giver : Option (ExtensionTree Place)) → map lent_name (filed_under giver f.members.entries) ≡ given_by giver (map component_name_tree c.members.now))
+    → ((giver : Option (ExtensionTree Place)) → map lent_node (filed_under giver f.values.entries) ≡ given_by giver (given_contents c.values.now))
+    → ((giver : Option (ExtensionTree Place)) → map lent_node (filed_under giver f.inputs.entries) ≡ given_by giver (given_contents c.inputs.now))
+    → (giver : Option (ExtensionTree Place)) → filed_parts giver f ≡ parts_given_by giver (contents_view c)
+all_filed f c directives interfaces fields members values inputs giver = λ i. record {
+  directives = filed_grown directive_tree giver (filed_under giver f.directives.entries) c.directives.now (directives giver) i;
+  interfaces = interfaces giver i;
+  fields = filed_grown field_definition_tree giver (filed_under giver f.fields.entries) c.fields.now (fields giver) i;
+  members = members giver i;
+  values = filed_grown enum_value_tree giver (filed_under giver f.values.entries) c.values.now (values giver) i;
+  inputs = filed_grown input_value_tree giver (filed_under giver f.inputs.entries) c.inputs.now (inputs giver) i;
+}

@@ -1,21 +1,19 @@
 -- What is written of a type, and what is written of its contents without the keys of its maps, are the same.
 use Rattle.std.proofs.Common.{◌≡◌, ℕ, Bool, true, false, cond, List, [], ◌∷◌, ◌++◌, map, filter, Option, None, Some, refl, sym, ap, ◌∙◌, option_to_list, if◌then◌else◌}
-use Rattle.std.specs.Option.{option_map}
 use Rattle.std.proofs.lemmas.List.{append_assoc}
-use Rattle.graphql_names.specs.Node.{content, place}
+use Rattle.graphql_names.specs.Node.{content}
 use Rattle.graphql_names.specs.NameValue.{NameValue}
 use Rattle.graphql_names.specs.Places.{is_built_in}
-use Rattle.graphql_values.specs.Placed.{Placed, Place, text_tree}
+use Rattle.graphql_values.specs.Placed.{Place}
 use Rattle.graphql_values.specs.DirectiveTree.{input_value_tree}
 use Rattle.graphql_ast.specs.TypeSystemTree.{field_definition_tree, enum_value_tree}
-use Rattle.graphql_ast.specs.DefinitionTree.{DefinitionTree}
 use Rattle.graphql_components.specs.Names.{Entries}
 use Rattle.graphql_components.specs.Given.{Given, ExtensionTree, component_tree}
 use Rattle.graphql_components.specs.declared.component.Component.{Component}
 use Rattle.graphql_schema_types.specs.SchemaTree.{SchemaType}
 use Rattle.graphql_schema_types.specs.TypeView.{name_text, extended_type}
 use Rattle.graphql_schema_types.specs.TypeParts.{definition_by, extension_by}
-use Rattle.graphql_schema_types.specs.Out.{same_giver, given_by, entries_given_by, givers, entries_givers, each_once, extensions_of_type, type_parts_given_by, written_definition, written_type}
+use Rattle.graphql_schema_types.specs.Out.{same_giver, given_by, entries_given_by, givers, entries_givers, each_once, extensions_of_type, type_parts_given_by, written_type}
 use Rattle.graphql_schema_types.specs.declared.extended_type.ExtendedType.{ExtendedType}
 use Rattle.graphql_schema_types.specs.declared.extended_type.ExtendedType.TheVariants as rust
 use Rattle.graphql_schema_writing.specs.Contents.{TypeContents, type_contents, parts_given_by, named_parts, extensions_of_contents, written_contents}

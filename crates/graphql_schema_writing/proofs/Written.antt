@@ -1,7 +1,6 @@
 -- What is written piece by piece is what is written.
-use Rattle.std.proofs.Common.{◌≡◌, ℕ, Bool, true, false, ◌&&◌, List, [], ◌∷◌, ◌++◌, map, Option, None, Some, is_none, is_some, refl, sym, ap, ◌∙◌, if◌then◌else◌}
+use Rattle.std.proofs.Common.{◌≡◌, Bool, true, false, ◌&&◌, List, [], ◌∷◌, ◌++◌, map, Option, None, Some, is_none, is_some, refl, sym, ap, ◌∙◌, if◌then◌else◌}
 use Rattle.std.specs.List.{flat_map}
-use Rattle.std.specs.Option.{option_map}
 use Rattle.std.proofs.lemmas.List.{append_assoc, append-nil}
 use Rattle.graphql_names.specs.Node.{content}
 use Rattle.graphql_names.specs.NameValue.{NameValue}
@@ -83,9 +82,9 @@ pub left_out : (n : Node SchemaDefinition) (s : SchemaTree Place) (ids : List Ex
     → is_left_out s ≡ (bare && implicit)
 left_out n s ids bare implicit of are b i =
     ap (λ e. is_none s.definition.description && is_empty s.definition.directives && e && is_implicit_root s.types operation.Query s.definition.query && is_implicit_root s.types operation.Mutation s.definition.mutation
-      && is_implicit_root s.types operation.Subscription s.definition.subscription && is_some s.definition.query) (sym (sym (empty_trees ids) ∙ ap is_empty extensions))
+    && is_implicit_root s.types operation.Subscription s.definition.subscription && is_some s.definition.query) (sym (sym (empty_trees ids) ∙ ap is_empty extensions))
     ∙ and_four (is_none s.definition.description && is_empty s.definition.directives && is_empty ids) (is_implicit_root s.types operation.Query s.definition.query) (is_implicit_root s.types operation.Mutation s.definition.mutation)
-      (is_implicit_root s.types operation.Subscription s.definition.subscription) (is_some s.definition.query)
+    (is_implicit_root s.types operation.Subscription s.definition.subscription) (is_some s.definition.query)
     ∙ (λ j. sym b j && sym i j)
   where
     extensions : map extension_tree ids ≡ extensions_of_schema s.definition

@@ -1,5 +1,5 @@
 -- What contracts see of a type's contents that are lent, filed and given out (private: it leads to `specs/Out.antt` of `graphql_schema_types`).
-use Rattle.std.specs.Prelude.{List, map, Option}
+use Rattle.std.specs.Prelude.{◌≡◌, List, [], map, Option}
 use Rattle.std.specs.Option.{option_map}
 use Rattle.std.specs.Borrow.{Bor}
 use Rattle.graphql_names.specs.declared.node.Node.{Node}
@@ -55,3 +55,12 @@ parts_view p = record {
   values = map (node_tree enum_value_tree) p.values.items;
   inputs = map (node_tree input_value_tree) p.inputs.items;
 }
+
+-- nothing is filed
+pub record HoldsNothing (f : FiledType) : Type 0 where
+  pub directives : f.directives.entries ≡ []
+  pub interfaces : f.interfaces.entries ≡ []
+  pub fields : f.fields.entries ≡ []
+  pub members : f.members.entries ≡ []
+  pub values : f.values.entries ≡ []
+  pub inputs : f.inputs.entries ≡ []

@@ -53,9 +53,7 @@ fn scalar_definition(
         name,
         directives: parts.directives,
     };
-    Ok(Definition::ScalarTypeDefinition(node_at(
-        alloc, location, definition,
-    )?))
+    Ok(Definition::ScalarTypeDefinition(node_at(alloc, location, definition)?))
 }
 
 /// The definition of an object type (section 3.6).
@@ -75,9 +73,7 @@ fn object_definition(
         directives: parts.directives,
         fields: parts.fields,
     };
-    Ok(Definition::ObjectTypeDefinition(node_at(
-        alloc, location, definition,
-    )?))
+    Ok(Definition::ObjectTypeDefinition(node_at(alloc, location, definition)?))
 }
 
 /// The definition of an interface type (section 3.7).
@@ -97,9 +93,7 @@ fn interface_definition(
         directives: parts.directives,
         fields: parts.fields,
     };
-    Ok(Definition::InterfaceTypeDefinition(node_at(
-        alloc, location, definition,
-    )?))
+    Ok(Definition::InterfaceTypeDefinition(node_at(alloc, location, definition)?))
 }
 
 /// The definition of a union type (section 3.8).
@@ -118,9 +112,7 @@ fn union_definition(
         directives: parts.directives,
         members: parts.members,
     };
-    Ok(Definition::UnionTypeDefinition(node_at(
-        alloc, location, definition,
-    )?))
+    Ok(Definition::UnionTypeDefinition(node_at(alloc, location, definition)?))
 }
 
 /// The definition of an enum type (section 3.9).
@@ -139,9 +131,7 @@ fn enum_definition(
         directives: parts.directives,
         values: parts.values,
     };
-    Ok(Definition::EnumTypeDefinition(node_at(
-        alloc, location, definition,
-    )?))
+    Ok(Definition::EnumTypeDefinition(node_at(alloc, location, definition)?))
 }
 
 /// The definition of an input object type (section 3.10).
@@ -160,9 +150,7 @@ fn input_object_definition(
         directives: parts.directives,
         fields: parts.inputs,
     };
-    Ok(Definition::InputObjectTypeDefinition(node_at(
-        alloc, location, definition,
-    )?))
+    Ok(Definition::InputObjectTypeDefinition(node_at(alloc, location, definition)?))
 }
 
 /// A node of the value with that place.

@@ -49,9 +49,7 @@ fn scalar_extension(
         name,
         directives: parts.directives,
     };
-    Ok(Definition::ScalarTypeExtension(node_at(
-        alloc, location, extension,
-    )?))
+    Ok(Definition::ScalarTypeExtension(node_at(alloc, location, extension)?))
 }
 
 /// An extension of an object type (section 3.6.3).
@@ -69,9 +67,7 @@ fn object_extension(
         directives: parts.directives,
         fields: parts.fields,
     };
-    Ok(Definition::ObjectTypeExtension(node_at(
-        alloc, location, extension,
-    )?))
+    Ok(Definition::ObjectTypeExtension(node_at(alloc, location, extension)?))
 }
 
 /// An extension of an interface type (section 3.7.1).
@@ -89,9 +85,7 @@ fn interface_extension(
         directives: parts.directives,
         fields: parts.fields,
     };
-    Ok(Definition::InterfaceTypeExtension(node_at(
-        alloc, location, extension,
-    )?))
+    Ok(Definition::InterfaceTypeExtension(node_at(alloc, location, extension)?))
 }
 
 /// An extension of a union type (section 3.8.1).
@@ -108,9 +102,7 @@ fn union_extension(
         directives: parts.directives,
         members: parts.members,
     };
-    Ok(Definition::UnionTypeExtension(node_at(
-        alloc, location, extension,
-    )?))
+    Ok(Definition::UnionTypeExtension(node_at(alloc, location, extension)?))
 }
 
 /// An extension of an enum type (section 3.9.1).
@@ -127,9 +119,7 @@ fn enum_extension(
         directives: parts.directives,
         values: parts.values,
     };
-    Ok(Definition::EnumTypeExtension(node_at(
-        alloc, location, extension,
-    )?))
+    Ok(Definition::EnumTypeExtension(node_at(alloc, location, extension)?))
 }
 
 /// An extension of an input object type (section 3.10.1).
@@ -146,7 +136,5 @@ fn input_object_extension(
         directives: parts.directives,
         fields: parts.inputs,
     };
-    Ok(Definition::InputObjectTypeExtension(node_at(
-        alloc, location, extension,
-    )?))
+    Ok(Definition::InputObjectTypeExtension(node_at(alloc, location, extension)?))
 }

@@ -1,5 +1,5 @@
 //! Components filed under the definition or extension that gave them.
-ghost use Rattle.std.specs.Prelude.{◌≡◌, map, IfOk, OnOk};
+ghost use Rattle.std.specs.Prelude.{◌≡◌, [], map, IfOk, OnOk};
 ghost use Rattle.graphql_values.specs.Placed.{name_tree, node_tree};
 ghost use Rattle.graphql_components.specs.Given.{origin_tree, component_name_tree};
 ghost use Rattle.graphql_schema_types.specs.Out.{given_by};
@@ -29,32 +29,34 @@ fn file<X: Drop>(
     Ok(())
 }
 
-/// Nodes, filed under their givers. No node is copied.
+/// Files nodes under their givers. No node is copied.
 pub(crate) fn file_components<'a, T>(
     alloc: Global,
     components: &'a [Component<T>],
-) -> Result<IndexMap<ComponentOrigin, Vec<&'a Node<T>>>, AllocError>
-    ensures { IfOk result (λ filed. (giver : _) → map lent_node (filed_under giver filed.entries) ≡ given_by giver (given_contents components.now)) }
+    filed: &mut IndexMap<ComponentOrigin, Vec<&'a Node<T>>>,
+) -> Result<(), AllocError>
+    requires { filed.old.entries ≡ [] }
+    ensures { OnOk result ((giver : _) → map lent_node (filed_under giver filed.new.entries) ≡ given_by giver (given_contents components.now)) }
 {
-    let mut filed = IndexMap::new(alloc);
     for component in components {
-        file(alloc, &mut filed, component.origin, &component.node)?;
+        file(alloc, filed, component.origin, &component.node)?;
     }
-    Ok(filed)
+    Ok(())
 }
 
-/// Names, filed under their givers. No name is copied.
+/// Files names under their givers. No name is copied.
 pub(crate) fn file_names<'a>(
     alloc: Global,
     components: &'a [ComponentName],
-) -> Result<IndexMap<ComponentOrigin, Vec<&'a Name>>, AllocError>
-    ensures { IfOk result (λ filed. (giver : _) → map lent_name (filed_under giver filed.entries) ≡ given_by giver (map component_name_tree components.now)) }
+    filed: &mut IndexMap<ComponentOrigin, Vec<&'a Name>>,
+) -> Result<(), AllocError>
+    requires { filed.old.entries ≡ [] }
+    ensures { OnOk result ((giver : _) → map lent_name (filed_under giver filed.new.entries) ≡ given_by giver (map component_name_tree components.now)) }
 {
-    let mut filed = IndexMap::new(alloc);
     for component in components {
-        file(alloc, &mut filed, component.origin, &component.name)?;
+        file(alloc, filed, component.origin, &component.name)?;
     }
-    Ok(filed)
+    Ok(())
 }
 
 /// The nodes that this giver gave, shared.

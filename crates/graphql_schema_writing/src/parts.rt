@@ -1,8 +1,8 @@
 //! What each giver gave to a type.
-ghost use Rattle.std.specs.Prelude.{◌≡◌, IfOk};
+ghost use Rattle.std.specs.Prelude.{◌≡◌, IfOk, OnOk};
 ghost use Rattle.graphql_components.specs.Given.{origin_tree};
 ghost use Rattle.graphql_schema_writing.specs.Contents.{parts_given_by};
-ghost use Rattle.graphql_schema_writing.specs.ContentsView.{contents_view, filed_parts, parts_view};
+ghost use Rattle.graphql_schema_writing.specs.ContentsView.{HoldsNothing, contents_view, filed_parts, parts_view};
 
 use crate::contents::Contents;
 use crate::filing::{file_components, file_names, given_names, given_nodes};
@@ -25,27 +25,33 @@ pub(crate) struct FiledType<'a> {
     inputs: IndexMap<ComponentOrigin, Vec<&'a Node<InputValueDefinition>>>,
 }
 
-/// Files what a type has, each component once.
-pub(crate) fn file_type<'a>(
-    alloc: Global,
-    contents: &Contents<'a>,
-) -> Result<FiledType<'a>, AllocError>
-    ensures { IfOk result (λ f. (giver : _) → filed_parts giver f ≡ parts_given_by giver (contents_view contents.now)) }
-{
-    let directives = file_components(alloc, contents.directives)?;
-    let interfaces = file_names(alloc, contents.interfaces)?;
-    let fields = file_components(alloc, contents.fields)?;
-    let members = file_names(alloc, contents.members)?;
-    let values = file_components(alloc, contents.values)?;
-    let inputs = file_components(alloc, contents.inputs)?;
-    Ok(FiledType {
-        directives,
-        interfaces,
-        fields,
-        members,
-        values,
-        inputs,
-    })
+impl<'a> FiledType<'a> {
+    /// Nothing.
+    pub(crate) fn new(alloc: Global) -> FiledType<'a>
+        ensures { HoldsNothing result }
+    {
+        FiledType {
+            directives: IndexMap::new(alloc),
+            interfaces: IndexMap::new(alloc),
+            fields: IndexMap::new(alloc),
+            members: IndexMap::new(alloc),
+            values: IndexMap::new(alloc),
+            inputs: IndexMap::new(alloc),
+        }
+    }
+
+    /// Files what a type has, each component once.
+    pub(crate) fn file(&mut self, alloc: Global, contents: &Contents<'a>) -> Result<(), AllocError>
+        requires { HoldsNothing self.old }
+        ensures { OnOk result ((giver : _) → filed_parts giver self.new ≡ parts_given_by giver (contents_view contents.now)) }
+    {
+        file_components(alloc, contents.directives, &mut self.directives)?;
+        file_names(alloc, contents.interfaces, &mut self.interfaces)?;
+        file_components(alloc, contents.fields, &mut self.fields)?;
+        file_names(alloc, contents.members, &mut self.members)?;
+        file_components(alloc, contents.values, &mut self.values)?;
+        file_components(alloc, contents.inputs, &mut self.inputs)
+    }
 }
 
 /// What one giver gave to a type.

@@ -22,9 +22,27 @@ pub(crate) fn roots_of(
 {
     let schema = definition.content();
     let mut roots = Vec::new(alloc);
-    add_root(alloc, giver, OperationType::Query, &schema.query, &mut roots)?;
-    add_root(alloc, giver, OperationType::Mutation, &schema.mutation, &mut roots)?;
-    add_root(alloc, giver, OperationType::Subscription, &schema.subscription, &mut roots)?;
+    add_root(
+        alloc,
+        giver,
+        OperationType::Query,
+        &schema.query,
+        &mut roots,
+    )?;
+    add_root(
+        alloc,
+        giver,
+        OperationType::Mutation,
+        &schema.mutation,
+        &mut roots,
+    )?;
+    add_root(
+        alloc,
+        giver,
+        OperationType::Subscription,
+        &schema.subscription,
+        &mut roots,
+    )?;
     Ok(roots)
 }
 

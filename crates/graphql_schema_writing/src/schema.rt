@@ -48,7 +48,12 @@ fn write_whole_schema(
 ) -> Result<(), AllocError>
     ensures { OnOk result (map definition_tree out.new.items ≡ map definition_tree out.old.items ++ whole_schema (schema_roots definition.now) (map extension_tree extensions.now)) }
 {
-    let directives = file_components(alloc, definition.content().directives.0.as_slice())?;
+    let mut directives = IndexMap::new(alloc);
+    file_components(
+        alloc,
+        definition.content().directives.0.as_slice(),
+        &mut directives,
+    )?;
     let schema = schema_definition(alloc, definition, &directives)?;
     out.push(schema)?;
     write_schema_extensions(alloc, definition, &directives, extensions, out)
@@ -87,11 +92,7 @@ fn schema_definition(
         directives: DirectiveList(directives),
         root_operations,
     };
-    Ok(Definition::SchemaDefinition(node_at(
-        alloc,
-        definition.location(),
-        schema,
-    )?))
+    Ok(Definition::SchemaDefinition(node_at(alloc, definition.location(), schema)?))
 }
 
 /// An extension of the schema: what it gave, at its place.
@@ -109,9 +110,5 @@ fn schema_extension(
         directives: DirectiveList(directives),
         root_operations,
     };
-    Ok(Definition::SchemaExtension(node_at(
-        alloc,
-        id.location(),
-        extension,
-    )?))
+    Ok(Definition::SchemaExtension(node_at(alloc, id.location(), extension)?))
 }

@@ -7,12 +7,12 @@ ghost use Rattle.graphql_values.specs.Placed.{text_tree};
 ghost use Rattle.graphql_ast.specs.DefinitionTree.{definition_tree};
 ghost use Rattle.graphql_components.specs.Given.{extension_tree, place_of};
 ghost use Rattle.graphql_schema_writing.specs.Contents.{type_contents, written_contents, defined_from, extended_from};
-ghost use Rattle.graphql_schema_writing.specs.ContentsView.{contents_view, filed_parts};
+ghost use Rattle.graphql_schema_writing.specs.ContentsView.{HoldsNothing, contents_view, filed_parts};
 
 use crate::contents::{Contents, contents_of};
 use crate::definition_by::definition_by;
 use crate::extension_by::extension_by;
-use crate::parts::{FiledType, file_type, parts_of};
+use crate::parts::{FiledType, parts_of};
 use graphql_ast::{Definition, NodeStr};
 use graphql_components::{ComponentOrigin, ExtensionId};
 use graphql_schema_types::ExtendedType;
@@ -33,18 +33,32 @@ pub(crate) fn write_types(
 }
 
 /// Writes a type: its definition, if it is not built in, and then its extensions.
-fn write_type(
+fn write_type<'a>(
     alloc: Global,
-    t: &ExtendedType,
+    t: &'a ExtendedType,
     out: &mut Vec<Definition>,
 ) -> Result<(), AllocError>
     ensures { OnOk result (map definition_tree out.new.items ≡ map definition_tree out.old.items ++ written_contents (type_contents t.now)) }
 {
+    let mut filed: FiledType<'a> = FiledType::new(alloc);
+    write_filed(alloc, t, &mut filed, out)
+}
+
+/// Files what a type has, and writes its definition, if it is not built in, and then its extensions.
+fn write_filed<'a>(
+    alloc: Global,
+    t: &'a ExtendedType,
+    filed: &mut FiledType<'a>,
+    out: &mut Vec<Definition>,
+) -> Result<(), AllocError>
+    requires { HoldsNothing filed.old }
+    ensures { OnOk result (map definition_tree out.new.items ≡ map definition_tree out.old.items ++ written_contents (type_contents t.now)) }
+{
     let extensions = t.extensions(alloc)?;
     let contents = contents_of(t);
-    let filed = file_type(alloc, &contents)?;
-    write_definition(alloc, &contents, &filed, out)?;
-    write_extensions(alloc, &contents, &filed, extensions.as_slice(), out)
+    filed.file(alloc, &contents)?;
+    write_definition(alloc, &contents, filed, out)?;
+    write_extensions(alloc, &contents, filed, extensions.as_slice(), out)
 }
 
 /// Writes the definition of a type, if it is not built in.

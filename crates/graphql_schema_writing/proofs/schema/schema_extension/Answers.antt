@@ -1,4 +1,4 @@
-use Rattle.std.proofs.Common.{Some, sym, ap, ◌∙◌}
+use Rattle.std.proofs.Common.{Some, ap, ◌∙◌}
 use Rattle.graphql_names.specs.Node.{place}
 use Rattle.graphql_values.specs.DirectiveTree.{directive_tree}
 use Rattle.graphql_ast.specs.DefinitionTree.{ExtendSchema, schema_extension_parts}

@@ -1,4 +1,4 @@
-use Rattle.std.proofs.Common.{◌++◌, map, sym, ap, ◌∙◌}
+use Rattle.std.proofs.Common.{◌++◌, map, ap, ◌∙◌}
 use Rattle.std.specs.List.{flat_map}
 use Rattle.graphql_ast.specs.DefinitionTree.{definition_tree}
 use Rattle.graphql_schema_types.specs.SchemaView.{schema_view}
