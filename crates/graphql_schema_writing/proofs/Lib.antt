@@ -1,0 +1,6 @@
+pub mod Givers
+pub mod Growing
+pub mod Keyless
+pub mod Extensions
+pub mod DefaultObject
+pub mod Written

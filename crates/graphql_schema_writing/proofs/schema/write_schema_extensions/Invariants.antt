@@ -1,0 +1,12 @@
+use Rattle.std.proofs.Common.{◌≡◌, ◌++◌, map, take, Some}
+use Rattle.graphql_values.specs.DirectiveTree.{directive_tree}
+use Rattle.graphql_ast.specs.DefinitionTree.{definition_tree}
+use Rattle.graphql_components.specs.Given.{extension_tree}
+use Rattle.graphql_schema_types.specs.TypeView.{schema_roots}
+use Rattle.graphql_schema_writing.specs.Filed.{filed_under}
+use Rattle.graphql_schema_writing.specs.ContentsView.{lent_trees}
+use Rattle.graphql_schema_writing.specs.SchemaParts.{schema_extended_from}
+use Rattle.graphql_schema_writing.proofs.schema.write_schema_extensions.Given as goal
+
+abbrev pub invariant-loop-id : goal.invariant-loop-id
+invariant-loop-id l = map definition_tree l.out.items ≡ map definition_tree l.fn.out.items ++ map (λ id. schema_extended_from (schema_roots l.definition) (extension_tree id) (lent_trees directive_tree (filed_under (Some (extension_tree id)) l.directives.entries))) (take l.id-index l.extensions)

@@ -1,0 +1,66 @@
+-- What contracts see of a type's contents that are lent, filed and given out (private: it leads to `specs/Out.antt` of `graphql_schema_types`).
+use Rattle.std.specs.Prelude.{◌≡◌, List, [], map, Option}
+use Rattle.std.specs.Option.{option_map}
+use Rattle.std.specs.Borrow.{Bor}
+use Rattle.graphql_names.specs.declared.node.Node.{Node}
+use Rattle.graphql_values.specs.Placed.{Placed, Place, name_tree, text_tree, node_tree}
+use Rattle.graphql_values.specs.DirectiveTree.{directive_tree, directives_tree, input_value_tree}
+use Rattle.graphql_ast.specs.TypeSystemTree.{field_definition_tree, enum_value_tree}
+use Rattle.graphql_components.specs.Given.{ExtensionTree, component_tree, component_name_tree}
+use Rattle.graphql_schema_writing.specs.Filed.{filed_under, lent_node, lent_name}
+use Rattle.graphql_schema_writing.specs.Contents.{TypeContents, GivenParts}
+use Rattle.graphql_schema_writing.specs.declared.contents.Contents.{Contents}
+use Rattle.graphql_schema_writing.specs.declared.parts.FiledType.{FiledType}
+use Rattle.graphql_schema_writing.specs.declared.parts.Parts.{Parts}
+
+abbrev pub contents_view : Contents → TypeContents
+contents_view c = record {
+  kind = c.kind;
+  place = c.location;
+  description = option_map (λ d. text_tree d.now) c.description;
+  name = name_tree c.name.now;
+  directives = map (component_tree directive_tree) c.directives.now;
+  interfaces = map component_name_tree c.interfaces.now;
+  fields = map (component_tree field_definition_tree) c.fields.now;
+  members = map component_name_tree c.members.now;
+  values = map (component_tree enum_value_tree) c.values.now;
+  inputs = map (component_tree input_value_tree) c.inputs.now;
+}
+
+-- a tree in the place of a content
+abbrev pub grown : {A B : Type 0} → (A → B) → Placed Place A → Placed Place B
+grown f p = record { it = f p.it; place = p.place }
+
+-- lent nodes as trees
+abbrev pub lent_trees : {A B : Type 0} → (A → B) → List (Bor (Node A)) → List (Placed Place B)
+lent_trees f ns = map (grown f) (map lent_node ns)
+
+-- what is filed under this giver
+abbrev pub filed_parts : Option (ExtensionTree Place) → FiledType → GivenParts
+filed_parts giver f = record {
+  directives = lent_trees directive_tree (filed_under giver f.directives.entries);
+  interfaces = map lent_name (filed_under giver f.interfaces.entries);
+  fields = lent_trees field_definition_tree (filed_under giver f.fields.entries);
+  members = map lent_name (filed_under giver f.members.entries);
+  values = lent_trees enum_value_tree (filed_under giver f.values.entries);
+  inputs = lent_trees input_value_tree (filed_under giver f.inputs.entries);
+}
+
+abbrev pub parts_view : Parts → GivenParts
+parts_view p = record {
+  directives = directives_tree p.directives;
+  interfaces = map name_tree p.interfaces.items;
+  fields = map (node_tree field_definition_tree) p.fields.items;
+  members = map name_tree p.members.items;
+  values = map (node_tree enum_value_tree) p.values.items;
+  inputs = map (node_tree input_value_tree) p.inputs.items;
+}
+
+-- nothing is filed
+pub record HoldsNothing (f : FiledType) : Type 0 where
+  pub directives : f.directives.entries ≡ []
+  pub interfaces : f.interfaces.entries ≡ []
+  pub fields : f.fields.entries ≡ []
+  pub members : f.members.entries ≡ []
+  pub values : f.values.entries ≡ []
+  pub inputs : f.inputs.entries ≡ []

@@ -1,0 +1,4 @@
+pub mod Filed
+pub mod Contents
+pub mod ContentsView
+pub mod SchemaParts

@@ -1,0 +1,36 @@
+//! The definitions of directives.
+ghost use Rattle.std.specs.Prelude.{◌≡◌, ◌++◌, map, OnOk};
+ghost use Rattle.std.specs.List.{flat_map};
+ghost use Rattle.graphql_ast.specs.DefinitionTree.{definition_tree};
+ghost use Rattle.graphql_schema_writing.specs.SchemaParts.{written_node};
+
+use graphql_ast::{Definition, DirectiveDefinition, Node};
+use std::alloc::AllocError;
+
+/// Writes each definition of a directive that is not built in.
+pub(crate) fn write_directives(
+    directives: &[Node<DirectiveDefinition>],
+    out: &mut Vec<Definition>,
+) -> Result<(), AllocError>
+    ensures { OnOk result (map definition_tree out.new.items ≡ map definition_tree out.old.items ++ flat_map written_node directives.now) }
+{
+    for directive in directives {
+        write_directive(directive, out)?;
+    }
+    Ok(())
+}
+
+/// Writes the definition of a directive, if it is not built in.
+fn write_directive(
+    directive: &Node<DirectiveDefinition>,
+    out: &mut Vec<Definition>,
+) -> Result<(), AllocError>
+    ensures { OnOk result (map definition_tree out.new.items ≡ map definition_tree out.old.items ++ written_node directive.now) }
+{
+    if directive.is_built_in() {
+        return Ok(());
+    }
+    let definition = Definition::DirectiveDefinition(directive.clone()?);
+    out.push(definition)?;
+    Ok(())
+}

@@ -1,0 +1,89 @@
+//! The roots that each giver gave to the schema.
+ghost use Rattle.std.specs.Prelude.{◌≡◌, ◌++◌, map, None, Some, IfOk, OnOk};
+ghost use Rattle.std.specs.Option.{option_map};
+ghost use Rattle.graphql_values.specs.Placed.{node_tree};
+ghost use Rattle.graphql_ast.specs.DefinitionTree.{root_tree};
+ghost use Rattle.graphql_components.specs.Given.{origin_tree, component_name_tree};
+ghost use Rattle.graphql_schema_types.specs.TypeView.{schema_roots};
+ghost use Rattle.graphql_schema_types.specs.Out.{same_giver, root_given_by, schema_parts_given_by};
+
+use graphql_ast::{NamedType, Node, OperationType};
+use graphql_components::{ComponentName, ComponentOrigin};
+use graphql_schema_types::SchemaDefinition;
+use std::alloc::{AllocError, Global};
+
+/// The roots that this giver gave, in the order query, mutation, subscription.
+pub(crate) fn roots_of(
+    alloc: Global,
+    definition: &Node<SchemaDefinition>,
+    giver: ComponentOrigin,
+) -> Result<Vec<Node<(OperationType, NamedType)>>, AllocError>
+    ensures { IfOk result (λ v. map (node_tree root_tree) v.items ≡ (schema_parts_given_by None (origin_tree giver) (schema_roots definition.now)).roots) }
+{
+    let schema = definition.content();
+    let mut roots = Vec::new(alloc);
+    add_root(
+        alloc,
+        giver,
+        OperationType::Query,
+        &schema.query,
+        &mut roots,
+    )?;
+    add_root(
+        alloc,
+        giver,
+        OperationType::Mutation,
+        &schema.mutation,
+        &mut roots,
+    )?;
+    add_root(
+        alloc,
+        giver,
+        OperationType::Subscription,
+        &schema.subscription,
+        &mut roots,
+    )?;
+    Ok(roots)
+}
+
+/// Adds the root of an operation, if it is there and this giver gave it.
+fn add_root(
+    alloc: Global,
+    giver: ComponentOrigin,
+    operation: OperationType,
+    root: &Option<ComponentName>,
+    roots: &mut Vec<Node<(OperationType, NamedType)>>,
+) -> Result<(), AllocError>
+    ensures { OnOk result (map (node_tree root_tree) roots.new.items ≡ map (node_tree root_tree) roots.old.items ++ root_given_by None (origin_tree giver) operation (option_map component_name_tree root.now)) }
+{
+    match root {
+        None => Ok(()),
+        Some(root) => add_given_root(alloc, giver, operation, root, roots),
+    }
+}
+
+/// Adds the root of an operation, if this giver gave it. Of the pair no place was kept.
+fn add_given_root(
+    alloc: Global,
+    giver: ComponentOrigin,
+    operation: OperationType,
+    root: &ComponentName,
+    roots: &mut Vec<Node<(OperationType, NamedType)>>,
+) -> Result<(), AllocError>
+    ensures { OnOk result (map (node_tree root_tree) roots.new.items ≡ map (node_tree root_tree) roots.old.items ++ root_given_by None (origin_tree giver) operation (Some (component_name_tree root.now))) }
+{
+    if !is_same_giver(giver, root.origin) {
+        return Ok(());
+    }
+    let name = root.name.clone()?;
+    let node = Node::new(alloc, (operation, name))?;
+    roots.push(node)?;
+    Ok(())
+}
+
+/// Whether both are the definition, or both the extension of one number.
+fn is_same_giver(a: ComponentOrigin, b: ComponentOrigin) -> bool
+    ensures { result ≡ same_giver (origin_tree a) (origin_tree b) }
+{
+    a == b
+}

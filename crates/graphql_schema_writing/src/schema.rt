@@ -1,0 +1,114 @@
+//! The schema definition and its extensions.
+ghost use Rattle.std.specs.Prelude.{◌≡◌, ◌++◌, map, None, Some, IfOk, OnOk};
+ghost use Rattle.graphql_values.specs.DirectiveTree.{directive_tree};
+ghost use Rattle.graphql_ast.specs.DefinitionTree.{definition_tree};
+ghost use Rattle.graphql_components.specs.Given.{extension_tree};
+ghost use Rattle.graphql_schema_types.specs.TypeView.{schema_roots};
+ghost use Rattle.graphql_schema_types.specs.Out.{written_schema};
+ghost use Rattle.graphql_schema_writing.specs.Filed.{filed_under};
+ghost use Rattle.graphql_schema_writing.specs.ContentsView.{lent_trees};
+ghost use Rattle.graphql_schema_writing.specs.SchemaParts.{schema_and_types, schema_from, schema_extended_from, whole_schema};
+
+use crate::definition_by::node_at;
+use crate::filing::{file_components, given_nodes};
+use crate::implicit::is_left_out;
+use crate::roots::roots_of;
+use crate::types::shared_description;
+use graphql_ast::{
+    Definition, Directive, DirectiveList, Name, Node, SchemaDefinition as WrittenSchema,
+    SchemaExtension,
+};
+use graphql_components::{ComponentOrigin, ExtensionId};
+use graphql_schema_types::{ExtendedType, SchemaDefinition};
+use indexmap::IndexMap;
+use std::alloc::{AllocError, Global};
+
+/// Writes the schema definition and its extensions, unless they are left out.
+pub(crate) fn write_schema(
+    alloc: Global,
+    definition: &Node<SchemaDefinition>,
+    types: &IndexMap<Name, ExtendedType>,
+    out: &mut Vec<Definition>,
+) -> Result<(), AllocError>
+    ensures { OnOk result (map definition_tree out.new.items ≡ map definition_tree out.old.items ++ written_schema (schema_and_types definition.now types.now)) }
+{
+    let extensions = definition.content().extensions(alloc)?;
+    if is_left_out(definition, extensions.as_slice(), types) {
+        return Ok(());
+    }
+    write_whole_schema(alloc, definition, extensions.as_slice(), out)
+}
+
+/// Writes the schema definition and these extensions of it.
+fn write_whole_schema(
+    alloc: Global,
+    definition: &Node<SchemaDefinition>,
+    extensions: &[ExtensionId],
+    out: &mut Vec<Definition>,
+) -> Result<(), AllocError>
+    ensures { OnOk result (map definition_tree out.new.items ≡ map definition_tree out.old.items ++ whole_schema (schema_roots definition.now) (map extension_tree extensions.now)) }
+{
+    let mut directives = IndexMap::new(alloc);
+    file_components(
+        alloc,
+        definition.content().directives.0.as_slice(),
+        &mut directives,
+    )?;
+    let schema = schema_definition(alloc, definition, &directives)?;
+    out.push(schema)?;
+    write_schema_extensions(alloc, definition, &directives, extensions, out)
+}
+
+/// Writes these extensions of the schema, in order.
+fn write_schema_extensions(
+    alloc: Global,
+    definition: &Node<SchemaDefinition>,
+    directives: &IndexMap<ComponentOrigin, Vec<&Node<Directive>>>,
+    extensions: &[ExtensionId],
+    out: &mut Vec<Definition>,
+) -> Result<(), AllocError>
+    ensures { OnOk result (map definition_tree out.new.items ≡ map definition_tree out.old.items ++ map (λ id. schema_extended_from (schema_roots definition.now) (extension_tree id) (lent_trees directive_tree (filed_under (Some (extension_tree id)) directives.now.entries))) extensions.now) }
+{
+    for id in extensions {
+        let extension = schema_extension(alloc, definition, directives, *id)?;
+        out.push(extension)?;
+    }
+    Ok(())
+}
+
+/// The schema definition: what the definition gave.
+fn schema_definition(
+    alloc: Global,
+    definition: &Node<SchemaDefinition>,
+    directives: &IndexMap<ComponentOrigin, Vec<&Node<Directive>>>,
+) -> Result<Definition, AllocError>
+    ensures { IfOk result (λ d. definition_tree d ≡ schema_from (schema_roots definition.now) (lent_trees directive_tree (filed_under None directives.now.entries))) }
+{
+    let description = shared_description(definition.content().description.as_ref())?;
+    let directives = given_nodes(alloc, directives, ComponentOrigin::Definition)?;
+    let root_operations = roots_of(alloc, definition, ComponentOrigin::Definition)?;
+    let schema = WrittenSchema {
+        description,
+        directives: DirectiveList(directives),
+        root_operations,
+    };
+    Ok(Definition::SchemaDefinition(node_at(alloc, definition.location(), schema)?))
+}
+
+/// An extension of the schema: what it gave, at its place.
+fn schema_extension(
+    alloc: Global,
+    definition: &Node<SchemaDefinition>,
+    directives: &IndexMap<ComponentOrigin, Vec<&Node<Directive>>>,
+    id: ExtensionId,
+) -> Result<Definition, AllocError>
+    ensures { IfOk result (λ d. definition_tree d ≡ schema_extended_from (schema_roots definition.now) (extension_tree id) (lent_trees directive_tree (filed_under (Some (extension_tree id)) directives.now.entries))) }
+{
+    let directives = given_nodes(alloc, directives, ComponentOrigin::Extension(id))?;
+    let root_operations = roots_of(alloc, definition, ComponentOrigin::Extension(id))?;
+    let extension = SchemaExtension {
+        directives: DirectiveList(directives),
+        root_operations,
+    };
+    Ok(Definition::SchemaExtension(node_at(alloc, id.location(), extension)?))
+}
