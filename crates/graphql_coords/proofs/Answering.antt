@@ -1,5 +1,5 @@
 -- What is lent, or else an error, as an answer.
-use Rattle.std.proofs.Common.{◌≡◌, Option, None, Some, Bor, refl, sym, ap, ◌∙◌}
+use Rattle.std.proofs.Common.{◌≡◌, Option, None, Some, Bor, refl, ap, ◌∙◌}
 use Rattle.std.specs.Prelude.{ok_or}
 use Rattle.std.specs.Option.{option_map}
 use Rattle.std.specs.Option.{option_copied}

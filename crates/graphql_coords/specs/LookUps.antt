@@ -1,5 +1,5 @@
 -- What a coordinate names in a schema, or why it names nothing.
-use Rattle.std.specs.Prelude.{◌≡◌, ℕ, Bool, ◌||◌, List, [], ◌∷◌, Option, None, Some, Result, Ok, Err, ok_or, find, if◌then◌else◌}
+use Rattle.std.specs.Prelude.{ℕ, ◌||◌, List, Result, Ok, Err, ok_or, find, if◌then◌else◌}
 use Rattle.graphql_values.specs.Placed.{Placed, Place}
 use Rattle.graphql_values.specs.DirectiveTree.{InputValueTree, DirectiveDefinitionTree}
 use Rattle.graphql_directives.specs.DirectiveQueries.{input_value_has_name}

@@ -1,4 +1,4 @@
-use Rattle.std.proofs.Common.{◌≡◌, Bor, sym, ap, ◌∙◌}
+use Rattle.std.proofs.Common.{Bor, sym, ap, ◌∙◌}
 use Rattle.graphql_coords.specs.LookUpView.{answer}
 use Rattle.graphql_coords.specs.declared.lookup_answers.SchemaLookupError.TheVariants as error
 use Rattle.graphql_schema.proofs.Lookups.{got}
@@ -19,6 +19,6 @@ returns-in-Enum c =
     let view = λ (f : Bor (Component EnumValueDefinition)). component_tree enum_value_tree f.now in
     ap (answer view) c.ok_or.ensures.value
     ∙ answer_ok_or view (error.MissingAttribute c.args.name) c.get-found.result _
-      (got (component_tree enum_value_tree) c.args.name.now c.content.result.now.values c.get-found.result c.get-found.ensures.value
-      ∙ ap (λ (o : EnumType). under c.args.name.now.text (entries_of name_text (component_tree enum_value_tree) o.values)) c.content.ensures)
+    (got (component_tree enum_value_tree) c.args.name.now c.content.result.now.values c.get-found.result c.get-found.ensures.value
+    ∙ ap (λ (o : EnumType). under c.args.name.now.text (entries_of name_text (component_tree enum_value_tree) o.values)) c.content.ensures)
     ∙ ap (λ t. enum_value_in c.args.name.now.text (extended_type t)) (sym c.in-Enum.is)

@@ -1,4 +1,4 @@
-use Rattle.std.proofs.Common.{◌≡◌, Bor, sym, ap, ◌∙◌}
+use Rattle.std.proofs.Common.{Bor, sym, ap, ◌∙◌}
 use Rattle.graphql_coords.specs.LookUpView.{answer}
 use Rattle.graphql_coords.specs.declared.lookup_answers.SchemaLookupError.TheVariants as error
 use Rattle.graphql_schema.proofs.Lookups.{got}
@@ -20,8 +20,8 @@ returns-in-Object c =
     let view = λ (f : Bor (Component FieldDefinition)). component_tree field_definition_tree f.now in
     ap (answer view) c.ok_or.ensures.value
     ∙ answer_ok_or view (error.MissingAttribute c.args.name) c.get-found.result _
-      (got (component_tree field_definition_tree) c.args.name.now c.content.result.now.fields c.get-found.result c.get-found.ensures.value
-      ∙ ap (λ (o : ObjectType). under c.args.name.now.text (entries_of name_text (component_tree field_definition_tree) o.fields)) c.content.ensures)
+    (got (component_tree field_definition_tree) c.args.name.now c.content.result.now.fields c.get-found.result c.get-found.ensures.value
+    ∙ ap (λ (o : ObjectType). under c.args.name.now.text (entries_of name_text (component_tree field_definition_tree) o.fields)) c.content.ensures)
     ∙ ap (λ t. field_in c.args.name.now.text (extended_type t)) (sym c.in-Object.is)
 
 pub returns-in-Interface : goal.returns-in-Interface
@@ -29,6 +29,6 @@ returns-in-Interface c =
     let view = λ (f : Bor (Component FieldDefinition)). component_tree field_definition_tree f.now in
     ap (answer view) c.ok_or-in-Interface.ensures.value
     ∙ answer_ok_or view (error.MissingAttribute c.args.name) c.get-found-in-Interface.result _
-      (got (component_tree field_definition_tree) c.args.name.now c.content-in-Interface.result.now.fields c.get-found-in-Interface.result c.get-found-in-Interface.ensures.value
-      ∙ ap (λ (o : InterfaceType). under c.args.name.now.text (entries_of name_text (component_tree field_definition_tree) o.fields)) c.content-in-Interface.ensures)
+    (got (component_tree field_definition_tree) c.args.name.now c.content-in-Interface.result.now.fields c.get-found-in-Interface.result c.get-found-in-Interface.ensures.value
+    ∙ ap (λ (o : InterfaceType). under c.args.name.now.text (entries_of name_text (component_tree field_definition_tree) o.fields)) c.content-in-Interface.ensures)
     ∙ ap (λ t. field_in c.args.name.now.text (extended_type t)) (sym c.in-Interface.is)

@@ -1,4 +1,4 @@
-use Rattle.std.proofs.Common.{◌≡◌, Bor, sym, ap, ◌∙◌}
+use Rattle.std.proofs.Common.{Bor, sym, ap, ◌∙◌}
 use Rattle.graphql_coords.specs.LookUpView.{answer}
 use Rattle.graphql_coords.specs.declared.lookup_answers.SchemaLookupError.TheVariants as error
 use Rattle.graphql_schema.proofs.Lookups.{got}
@@ -19,6 +19,6 @@ returns-in-InputObject c =
     let view = λ (f : Bor (Component InputValueDefinition)). component_tree input_value_tree f.now in
     ap (answer view) c.ok_or.ensures.value
     ∙ answer_ok_or view (error.MissingAttribute c.args.name) c.get-found.result _
-      (got (component_tree input_value_tree) c.args.name.now c.content.result.now.fields c.get-found.result c.get-found.ensures.value
-      ∙ ap (λ (o : InputObjectType). under c.args.name.now.text (entries_of name_text (component_tree input_value_tree) o.fields)) c.content.ensures)
+    (got (component_tree input_value_tree) c.args.name.now c.content.result.now.fields c.get-found.result c.get-found.ensures.value
+    ∙ ap (λ (o : InputObjectType). under c.args.name.now.text (entries_of name_text (component_tree input_value_tree) o.fields)) c.content.ensures)
     ∙ ap (λ t. input_field_in c.args.name.now.text (extended_type t)) (sym c.in-InputObject.is)
