@@ -33,7 +33,7 @@ module _ (s : SchemaTree Place) where
   abbrev pub implements : SchemaType Place → List ℕ → Bool
   implements t i = is_among i (map given_name t.interfaces)
 
-  -- what is named t is a member of the union n, or names the interface n among its interfaces (section 3.4, IsValidImplementation..)
+  -- what is named t is a member of the union n, or names the interface n among its interfaces (sections 3.7 and 3.8)
   abbrev pub is_subtype : List ℕ → List ℕ → Bool
   is_subtype n t = option_map_or (λ a. (same_kind a.kind Union && is_among t (map given_name a.members))
       || (same_kind a.kind Interface && option_map_or (λ b. implements b n) (type_at s t) false)) (type_at s n) false
