@@ -1,15 +1,13 @@
 -- What is read is exactly the coordinate in whose form the text is written.
-use Rattle.std.proofs.Common.{◌≡◌, ◌≢◌, ℕ, Bool, true, false, not, ◌==◌, ◌||◌, ◌&&◌, List, [], ◌∷◌, ◌++◌, Option, None, Some, refl, sym, ap, ◌∙◌, subst, cond, if◌then◌else◌, arith, true≢false}
+use Rattle.std.proofs.Common.{◌≡◌, ◌≢◌, ℕ, Bool, true, false, not, ◌==◌, ◌||◌, List, [], ◌∷◌, ◌++◌, Option, None, Some, refl, sym, ap, ◌∙◌, subst, if◌then◌else◌, arith, true≢false}
 use Rattle.std.specs.Prelude.{codes, bytes_eq, option_and_then}
-use Rattle.std.specs.List.{list_all}
 use Rattle.std.specs.Option.{option_map, MatchOption}
 use denote.Ref.{Bor}
 use Rattle.std.specs.Cmp.{first_so, second_so}
 use Rattle.std.proofs.lemmas.Option.{same_Some}
 use Rattle.std.proofs.lemmas.Slice.Eq.{bytes_eq-Decides}
 use Rattle.std.proofs.lemmas.Bool.{ne_eqb}
-use Rattle.graphql_names.specs.NameSyntax.{is_name}
-use Rattle.graphql_coords.specs.Coordinate.{Coordinate, OfType, OfAttribute, OfArgument, OfDirective, OfDirectiveArgument, printed, parts, is_sign, has_no_sign, is_signless, is_named, HasForm}
+use Rattle.graphql_coords.specs.Coordinate.{Coordinate, OfType, OfAttribute, OfArgument, OfDirective, OfDirectiveArgument, printed, parts, is_sign, has_no_sign, is_signless, HasForm}
 use Rattle.graphql_coords.specs.CoordinateView.{any_form}
 use Rattle.graphql_coords.specs.Reading.{cut_at, argument_cut, type_cut, directive_cut, all_cut, read, of_form}
 use Rattle.graphql_coords.specs.ParseErrors.{ParseErrorIsDue, PartsErrorIsDue}
@@ -71,19 +69,19 @@ type_cut-by : (t : List ℕ) (o : Option (List ℕ × List ℕ)) → cut_at 46 t
 type_cut-by t o e = same (cut_at 46 t) ∙ ap (cut_type t) e
   where
     inner : (p : List ℕ × List ℕ) (q : Option (List ℕ × List ℕ)) → (elim q [
-        | None ↦ Some (OfAttribute p.0 p.1)
-        | Some q ↦ option_map (λ a. OfArgument p.0 q.0 a) (argument_cut q.1)
-      ]) ≡ cut_attribute p q
+      | None ↦ Some (OfAttribute p.0 p.1)
+      | Some q ↦ option_map (λ a. OfArgument p.0 q.0 a) (argument_cut q.1)
+    ]) ≡ cut_attribute p q
     inner p None = refl
     inner p (Some q) = refl
 
     same : (o : Option (List ℕ × List ℕ)) → (elim o [
-        | None ↦ Some (OfType t)
-        | Some p ↦ elim (cut_at 40 p.1) [
-            | None ↦ Some (OfAttribute p.0 p.1)
-            | Some q ↦ option_map (λ a. OfArgument p.0 q.0 a) (argument_cut q.1)
-          ]
-      ]) ≡ cut_type t o
+      | None ↦ Some (OfType t)
+      | Some p ↦ elim (cut_at 40 p.1) [
+        | None ↦ Some (OfAttribute p.0 p.1)
+        | Some q ↦ option_map (λ a. OfArgument p.0 q.0 a) (argument_cut q.1)
+      ]
+    ]) ≡ cut_type t o
     same None = refl
     same (Some p) = inner p (cut_at 40 p.1)
 
@@ -91,9 +89,9 @@ directive_cut-by : (t : List ℕ) (o : Option (List ℕ × List ℕ)) → cut_at
 directive_cut-by t o e = same (cut_at 40 t) ∙ ap (cut_directive t) e
   where
     same : (o : Option (List ℕ × List ℕ)) → (elim o [
-        | None ↦ Some (OfDirective t)
-        | Some p ↦ option_map (λ a. OfDirectiveArgument p.0 a) (argument_cut p.1)
-      ]) ≡ cut_directive t o
+      | None ↦ Some (OfDirective t)
+      | Some p ↦ option_map (λ a. OfDirectiveArgument p.0 a) (argument_cut p.1)
+    ]) ≡ cut_directive t o
     same None = refl
     same (Some p) = refl
 
@@ -125,7 +123,7 @@ cut_complete (OfDirectiveArgument d a) h =
     ∙ ap (option_map (λ a. OfDirectiveArgument d a)) (argument_complete a clean_a)
 
 none_is_none : {A : Type 0} (x : A) → None ≡ Some x → ⊥
-none_is_none x h = true≢false (ap (λ o. elim o [ | None ↦ true | Some y ↦ false ]) h)
+none_is_none x h = true≢false (ap (λ o. elim o [ None ↦ true | Some y ↦ false ]) h)
 
 argument_joins : (t a : List ℕ) → argument_cut t ≡ Some a → t ≡ a ++ codes ":)"
 argument_joins t a h = by (cut_at 58 t) refl h

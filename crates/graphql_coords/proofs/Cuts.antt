@@ -1,13 +1,12 @@
 -- A text cut at the first of a sign.
-use Rattle.std.proofs.Common.{◌≡◌, ◌≢◌, ℕ, ◌<◌, suc, Bool, true, false, not, ◌==◌, ◌||◌, ◌&&◌, List, [], ◌∷◌, ◌++◌, length, get_or, Option, None, Some, refl, sym, ap, ◌∙◌, cond, if◌then◌else◌, arith, true≢false}
+use Rattle.std.proofs.Common.{◌≡◌, ◌≢◌, ℕ, ◌<◌, suc, Bool, true, false, not, ◌==◌, ◌&&◌, List, [], ◌∷◌, ◌++◌, length, get_or, Option, None, Some, refl, sym, ap, ◌∙◌, if◌then◌else◌, arith, true≢false}
 use Rattle.std.specs.List.{list_all}
-use Rattle.std.specs.Option.{option_map, MatchOption}
+use Rattle.std.specs.Option.{option_map}
 use Rattle.std.specs.Cmp.{first_so, second_so}
 use Rattle.std.proofs.lemmas.Bool.{ne_eqb}
 use Rattle.std.proofs.lemmas.Str.Pattern.{IsSplitOnceResult, split_parts}
 use Rattle.std.proofs.lemmas.Option.{same_Some}
 use denote.Ref.{Bor}
-use Rattle.graphql_coords.specs.Coordinate.{is_sign, has_no_sign}
 use Rattle.graphql_coords.specs.Reading.{cut_at}
 
 -- the text has no such sign
@@ -52,11 +51,11 @@ later c p = (c ∷ p.0, p.1)
 
 -- a cut text is its parts with the sign between them
 pub cut-joins : (s : ℕ) (t a b : List ℕ) → cut_at s t ≡ Some (a, b) → t ≡ a ++ s ∷ b
-cut-joins s [] a b h = absurd (true≢false (ap (λ o. elim o [ | None ↦ true | Some x ↦ false ]) h))
+cut-joins s [] a b h = absurd (true≢false (ap (λ o. elim o [ None ↦ true | Some x ↦ false ]) h))
 cut-joins s (c ∷ cs) a b h = by (cut-joins s cs) (c == s) refl h
   where
     rest : ((x y : List ℕ) → cut_at s cs ≡ Some (x, y) → cs ≡ x ++ s ∷ y) → (o : Option (List ℕ × List ℕ)) → cut_at s cs ≡ o → option_map (λ (p : List ℕ × List ℕ). later c p) o ≡ Some (a, b) → c ∷ cs ≡ a ++ s ∷ b
-    rest inside None e k = absurd (true≢false (ap (λ o. elim o [ | None ↦ true | Some x ↦ false ]) k))
+    rest inside None e k = absurd (true≢false (ap (λ o. elim o [ None ↦ true | Some x ↦ false ]) k))
     rest inside (Some p) e k = ap (λ l. c ∷ l) (inside p.0 p.1 e) ∙ ap (λ (q : List ℕ × List ℕ). q.0 ++ s ∷ q.1) (same_Some _ _ k)
 
     by : ((x y : List ℕ) → cut_at s cs ≡ Some (x, y) → cs ≡ x ++ s ∷ y) → (b2 : Bool) → (c == s) ≡ b2 → (if b2 then Some ([], cs) else option_map (λ (p : List ℕ × List ℕ). later c p) (cut_at s cs)) ≡ Some (a, b) → c ∷ cs ≡ a ++ s ∷ b

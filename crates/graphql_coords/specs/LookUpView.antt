@@ -1,5 +1,5 @@
 -- What contracts see of the answers to look-ups.
-use Rattle.std.specs.Prelude.{ℕ, List, Result, Ok, Err}
+use Rattle.std.specs.Prelude.{Result, Ok, Err}
 use Rattle.graphql_values.specs.Placed.{Place, node_tree}
 use Rattle.graphql_values.specs.DirectiveTree.{input_value_tree, directive_definition_tree}
 use Rattle.graphql_ast.specs.TypeSystemTree.{field_definition_tree, enum_value_tree}

@@ -1,5 +1,5 @@
 -- What a coordinate names in a schema, or why it names nothing.
-use Rattle.std.specs.Prelude.{◌≡◌, ℕ, Bool, ◌||◌, List, [], ◌∷◌, Option, None, Some, Result, Ok, Err, ok_or, find, if◌then◌else◌}
+use Rattle.std.specs.Prelude.{ℕ, ◌||◌, List, Result, Ok, Err, ok_or, find, if◌then◌else◌}
 use Rattle.graphql_values.specs.Placed.{Placed, Place}
 use Rattle.graphql_values.specs.DirectiveTree.{InputValueTree, DirectiveDefinitionTree}
 use Rattle.graphql_directives.specs.DirectiveQueries.{input_value_has_name}
@@ -73,6 +73,10 @@ argument_in f a (OfField g) = ok_or (argument_named a g.it.it.arguments) (Missin
 argument_in f a (OfInputField g) = Err (InvalidArgumentAttribute f)
 argument_in f a (OfEnumValue g) = Err (InvalidArgumentAttribute f)
 
+-- the argument of a directive
+abbrev pub argument_of : List ℕ → DirectiveDefinitionTree Place → Result ArgumentOf Fault
+argument_of a d = ok_or (find (input_value_has_name a) d.arguments) (MissingArgument a)
+
 module _ (s : SchemaTree Place) where
   abbrev pub type_lookup : List ℕ → Result (SchemaType Place) Fault
   type_lookup n = ok_or (type_at s n) (MissingType n)
@@ -96,4 +100,4 @@ module _ (s : SchemaTree Place) where
   directive_lookup d = ok_or (under d s.directives) (MissingType d)
 
   abbrev pub directive_argument_lookup : List ℕ → List ℕ → Result ArgumentOf Fault
-  directive_argument_lookup d a = found_then (λ x. ok_or (find (input_value_has_name a) x.it.arguments) (MissingArgument a)) (directive_lookup d)
+  directive_argument_lookup d a = found_then (λ x. argument_of a x.it) (directive_lookup d)

@@ -24,19 +24,19 @@ argument_cut text = option_and_then (λ p. if bytes_eq p.1 (codes ")") then Some
 -- of a text that does not begin with `@`
 abbrev pub type_cut : List ℕ → Option Coordinate
 type_cut text = elim (cut_at 46 text) [
-    | None ↦ Some (OfType text)
-    | Some p ↦ elim (cut_at 40 p.1) [
-        | None ↦ Some (OfAttribute p.0 p.1)
-        | Some q ↦ option_map (λ a. OfArgument p.0 q.0 a) (argument_cut q.1)
-      ]
+  | None ↦ Some (OfType text)
+  | Some p ↦ elim (cut_at 40 p.1) [
+    | None ↦ Some (OfAttribute p.0 p.1)
+    | Some q ↦ option_map (λ a. OfArgument p.0 q.0 a) (argument_cut q.1)
   ]
+]
 
 -- of what stands behind `@`
 abbrev pub directive_cut : List ℕ → Option Coordinate
 directive_cut text = elim (cut_at 40 text) [
-    | None ↦ Some (OfDirective text)
-    | Some p ↦ option_map (λ a. OfDirectiveArgument p.0 a) (argument_cut p.1)
-  ]
+  | None ↦ Some (OfDirective text)
+  | Some p ↦ option_map (λ a. OfDirectiveArgument p.0 a) (argument_cut p.1)
+]
 
 abbrev pub all_cut : List ℕ → Option Coordinate
 all_cut [] = type_cut []

@@ -6,7 +6,7 @@ ghost use Rattle.graphql_ast.specs.TypeSystemTree.{field_definition_tree, enum_v
 ghost use Rattle.graphql_components.specs.Given.{component_tree};
 ghost use Rattle.graphql_schema_types.specs.TypeView.{extended_type};
 ghost use Rattle.graphql_schema.specs.SchemaOf.{schema_tree};
-ghost use Rattle.graphql_coords.specs.LookUps.{field_in, input_field_in, enum_value_in, attribute_in, argument_in, type_lookup, attribute_lookup, directive_lookup};
+ghost use Rattle.graphql_coords.specs.LookUps.{OfField, OfInputField, OfEnumValue, found_as, field_in, input_field_in, enum_value_in, attribute_in, argument_in, argument_of, type_lookup, attribute_lookup, directive_lookup};
 ghost use Rattle.graphql_coords.specs.LookUpView.{answer, attribute_of};
 
 use crate::lookup_answers::{SchemaLookupError, TypeAttributeLookup};
@@ -22,10 +22,8 @@ pub(crate) fn find_type<'coord, 'schema>(
 ) -> Result<&'schema ExtendedType, SchemaLookupError<'coord, 'schema>>
     ensures { answer (λ t. extended_type t.now) result ≡ type_lookup (schema_tree schema.now) name.now.text }
 {
-    match schema.types.get(name) {
-        None => Err(SchemaLookupError::MissingType(name)),
-        Some(ty) => Ok(ty),
-    }
+    let found = schema.types.get(name);
+    found.ok_or(SchemaLookupError::MissingType(name))
 }
 
 /// The directive of that name.
@@ -35,10 +33,8 @@ pub(crate) fn find_directive<'coord, 'schema>(
 ) -> Result<&'schema Node<DirectiveDefinition>, SchemaLookupError<'coord, 'schema>>
     ensures { answer (λ d. node_tree directive_definition_tree d.now) result ≡ directive_lookup (schema_tree schema.now) name.now.text }
 {
-    match schema.directive_definitions.get(name) {
-        None => Err(SchemaLookupError::MissingType(name)),
-        Some(directive) => Ok(directive),
-    }
+    let found = schema.directive_definitions.get(name);
+    found.ok_or(SchemaLookupError::MissingType(name))
 }
 
 /// The attribute of that name of the type of that name.
@@ -62,12 +58,17 @@ pub(crate) fn field_in<'coord, 'schema>(
 ) -> Result<&'schema Component<FieldDefinition>, SchemaLookupError<'coord, 'schema>>
     ensures { answer (λ f. component_tree field_definition_tree f.now) result ≡ field_in name.now.text (extended_type ty.now) }
 {
-    let found = match ty {
-        ExtendedType::Object(object) => object.content().fields.get(name),
-        ExtendedType::Interface(interface) => interface.content().fields.get(name),
-        _ => return Err(SchemaLookupError::InvalidType(ty)),
-    };
-    found.ok_or(SchemaLookupError::MissingAttribute(name))
+    match ty {
+        ExtendedType::Object(object) => {
+            let found = object.content().fields.get(name);
+            found.ok_or(SchemaLookupError::MissingAttribute(name))
+        }
+        ExtendedType::Interface(own) => {
+            let found = own.content().fields.get(name);
+            found.ok_or(SchemaLookupError::MissingAttribute(name))
+        }
+        _ => Err(SchemaLookupError::InvalidType(ty)),
+    }
 }
 
 /// The input field of that name of an input object.
@@ -109,12 +110,51 @@ fn attribute_in<'coord, 'schema>(
 ) -> Result<TypeAttributeLookup<'schema>, SchemaLookupError<'coord, 'schema>>
     ensures { answer attribute_of result ≡ attribute_in name.now.text (extended_type ty.now) }
 {
-    match ty {
-        ExtendedType::InputObject(_) => {
-            Ok(TypeAttributeLookup::InputField(input_field_in(name, ty)?))
-        }
-        ExtendedType::Enum(_) => Ok(TypeAttributeLookup::EnumValue(enum_value_in(name, ty)?)),
-        _ => Ok(TypeAttributeLookup::Field(field_in(name, ty)?)),
+    if ty.is_input_object() {
+        input_field_attribute(name, ty)
+    } else if ty.is_enum() {
+        enum_value_attribute(name, ty)
+    } else {
+        field_attribute(name, ty)
+    }
+}
+
+/// The field of that name as an attribute.
+fn field_attribute<'coord, 'schema>(
+    name: &'coord Name,
+    ty: &'schema ExtendedType,
+) -> Result<TypeAttributeLookup<'schema>, SchemaLookupError<'coord, 'schema>>
+    ensures { answer attribute_of result ≡ found_as OfField (field_in name.now.text (extended_type ty.now)) }
+{
+    match field_in(name, ty) {
+        Err(error) => Err(error),
+        Ok(field) => Ok(TypeAttributeLookup::Field(field)),
+    }
+}
+
+/// The input field of that name as an attribute.
+fn input_field_attribute<'coord, 'schema>(
+    name: &'coord Name,
+    ty: &'schema ExtendedType,
+) -> Result<TypeAttributeLookup<'schema>, SchemaLookupError<'coord, 'schema>>
+    ensures { answer attribute_of result ≡ found_as OfInputField (input_field_in name.now.text (extended_type ty.now)) }
+{
+    match input_field_in(name, ty) {
+        Err(error) => Err(error),
+        Ok(field) => Ok(TypeAttributeLookup::InputField(field)),
+    }
+}
+
+/// The enum value of that name as an attribute.
+fn enum_value_attribute<'coord, 'schema>(
+    name: &'coord Name,
+    ty: &'schema ExtendedType,
+) -> Result<TypeAttributeLookup<'schema>, SchemaLookupError<'coord, 'schema>>
+    ensures { answer attribute_of result ≡ found_as OfEnumValue (enum_value_in name.now.text (extended_type ty.now)) }
+{
+    match enum_value_in(name, ty) {
+        Err(error) => Err(error),
+        Ok(value) => Ok(TypeAttributeLookup::EnumValue(value)),
     }
 }
 
@@ -128,11 +168,20 @@ pub(crate) fn argument_in<'coord, 'schema>(
 {
     match attribute {
         TypeAttributeLookup::Field(own) => {
-            match own.node.content().argument_by_name(argument.as_str()) {
-                None => Err(SchemaLookupError::MissingArgument(argument)),
-                Some(found) => Ok(found),
-            }
+            let found = own.node.content().argument_by_name(argument.as_str());
+            found.ok_or(SchemaLookupError::MissingArgument(argument))
         }
         _ => Err(SchemaLookupError::InvalidArgumentAttribute(field)),
     }
+}
+
+/// The argument of that name of a directive.
+pub(crate) fn argument_of<'coord, 'schema>(
+    argument: &'coord Name,
+    directive: &'schema DirectiveDefinition,
+) -> Result<&'schema Node<InputValueDefinition>, SchemaLookupError<'coord, 'schema>>
+    ensures { answer (λ a. node_tree input_value_tree a.now) result ≡ argument_of argument.now.text (directive_definition_tree directive.now) }
+{
+    let found = directive.argument_by_name(argument.as_str());
+    found.ok_or(SchemaLookupError::MissingArgument(argument))
 }

@@ -33,10 +33,7 @@ fn check_name(text: &str) -> Result<(), SchemaCoordinateParseError>
 
 impl TypeCoordinate {
     /// The coordinate that is printed so: `T`.
-    pub fn from_str(
-        alloc: Global,
-        text: &str,
-    ) -> Result<TypeCoordinate, SchemaCoordinateParseError>
+    pub fn from_str(alloc: Global, text: &str) -> Result<TypeCoordinate, SchemaCoordinateParseError>
         ensures read { IfOk result (λ c. printed (type_coordinate c) ≡ text.now) }
         ensures error { IfErr result (ParseErrorIsDue type_form text.now) }
     {

@@ -6,7 +6,7 @@ ghost use Rattle.graphql_ast.specs.TypeSystemTree.{field_definition_tree, enum_v
 ghost use Rattle.graphql_components.specs.Given.{component_tree};
 ghost use Rattle.graphql_schema_types.specs.TypeView.{extended_type};
 ghost use Rattle.graphql_schema.specs.SchemaOf.{schema_tree};
-ghost use Rattle.graphql_coords.specs.CoordinateView.{schema_coordinate};
+ghost use Rattle.graphql_coords.specs.CoordinateView.{type_coordinate, attribute_coordinate, argument_coordinate, directive_coordinate, directive_argument_coordinate, schema_coordinate};
 ghost use Rattle.graphql_coords.specs.LookUps.{type_lookup, attribute_lookup, field_lookup, input_field_lookup, enum_value_lookup, argument_lookup, directive_lookup, directive_argument_lookup};
 ghost use Rattle.graphql_coords.specs.LookUpView.{answer, attribute_of, named_of, lookup_of};
 
@@ -15,7 +15,8 @@ use crate::coordinate::{
     TypeAttributeCoordinate, TypeCoordinate,
 };
 use crate::find::{
-    argument_in, enum_value_in, field_in, find_attribute, find_directive, find_type, input_field_in,
+    argument_in, argument_of, enum_value_in, field_in, find_attribute, find_directive, find_type,
+    input_field_in,
 };
 use crate::lookup_answers::{SchemaCoordinateLookup, SchemaLookupError, TypeAttributeLookup};
 use graphql_ast::{
@@ -121,13 +122,9 @@ impl DirectiveArgumentCoordinate {
     ) -> Result<&'schema Node<InputValueDefinition>, SchemaLookupError<'coord, 'schema>>
         ensures { answer (λ a. node_tree input_value_tree a.now) result ≡ directive_argument_lookup (schema_tree schema.now) self.now.directive.text self.now.argument.text }
     {
-        let directive = match find_directive(&self.directive, schema) {
-            Err(error) => return Err(error),
-            Ok(directive) => directive.content(),
-        };
-        match directive.argument_by_name(self.argument.as_str()) {
-            None => Err(SchemaLookupError::MissingArgument(&self.argument)),
-            Some(argument) => Ok(argument),
+        match find_directive(&self.directive, schema) {
+            Err(error) => Err(error),
+            Ok(directive) => argument_of(&self.argument, directive.content()),
         }
     }
 }
@@ -141,20 +138,86 @@ impl SchemaCoordinate {
         ensures { answer named_of result ≡ lookup_of (schema_tree schema.now) (schema_coordinate self.now) }
     {
         match self {
-            SchemaCoordinate::Type(own) => Ok(SchemaCoordinateLookup::Type(own.lookup(schema)?)),
-            SchemaCoordinate::TypeAttribute(own) => {
-                let attribute = own.lookup(schema)?;
-                Ok(SchemaCoordinateLookup::from(attribute))
-            }
-            SchemaCoordinate::FieldArgument(own) => {
-                Ok(SchemaCoordinateLookup::Argument(own.lookup(schema)?))
-            }
-            SchemaCoordinate::Directive(own) => {
-                Ok(SchemaCoordinateLookup::Directive(own.lookup(schema)?))
-            }
-            SchemaCoordinate::DirectiveArgument(own) => {
-                Ok(SchemaCoordinateLookup::Argument(own.lookup(schema)?))
-            }
+            SchemaCoordinate::Type(own) => own.find(schema),
+            SchemaCoordinate::TypeAttribute(own) => own.find(schema),
+            SchemaCoordinate::FieldArgument(own) => own.find(schema),
+            SchemaCoordinate::Directive(own) => own.find(schema),
+            SchemaCoordinate::DirectiveArgument(own) => own.find(schema),
+        }
+    }
+}
+
+impl TypeCoordinate {
+    /// What it names.
+    fn find<'coord, 'schema>(
+        &'coord self,
+        schema: &'schema Schema,
+    ) -> Result<SchemaCoordinateLookup<'schema>, SchemaLookupError<'coord, 'schema>>
+        ensures { answer named_of result ≡ lookup_of (schema_tree schema.now) (type_coordinate self.now) }
+    {
+        match self.lookup(schema) {
+            Err(error) => Err(error),
+            Ok(ty) => Ok(SchemaCoordinateLookup::Type(ty)),
+        }
+    }
+}
+
+impl TypeAttributeCoordinate {
+    /// What it names.
+    fn find<'coord, 'schema>(
+        &'coord self,
+        schema: &'schema Schema,
+    ) -> Result<SchemaCoordinateLookup<'schema>, SchemaLookupError<'coord, 'schema>>
+        ensures { answer named_of result ≡ lookup_of (schema_tree schema.now) (attribute_coordinate self.now) }
+    {
+        match self.lookup(schema) {
+            Err(error) => Err(error),
+            Ok(attribute) => Ok(SchemaCoordinateLookup::from(attribute)),
+        }
+    }
+}
+
+impl FieldArgumentCoordinate {
+    /// What it names.
+    fn find<'coord, 'schema>(
+        &'coord self,
+        schema: &'schema Schema,
+    ) -> Result<SchemaCoordinateLookup<'schema>, SchemaLookupError<'coord, 'schema>>
+        ensures { answer named_of result ≡ lookup_of (schema_tree schema.now) (argument_coordinate self.now) }
+    {
+        match self.lookup(schema) {
+            Err(error) => Err(error),
+            Ok(argument) => Ok(SchemaCoordinateLookup::Argument(argument)),
+        }
+    }
+}
+
+impl DirectiveCoordinate {
+    /// What it names.
+    fn find<'coord, 'schema>(
+        &'coord self,
+        schema: &'schema Schema,
+    ) -> Result<SchemaCoordinateLookup<'schema>, SchemaLookupError<'coord, 'schema>>
+        ensures { answer named_of result ≡ lookup_of (schema_tree schema.now) (directive_coordinate self.now) }
+    {
+        match self.lookup(schema) {
+            Err(error) => Err(error),
+            Ok(directive) => Ok(SchemaCoordinateLookup::Directive(directive)),
+        }
+    }
+}
+
+impl DirectiveArgumentCoordinate {
+    /// What it names.
+    fn find<'coord, 'schema>(
+        &'coord self,
+        schema: &'schema Schema,
+    ) -> Result<SchemaCoordinateLookup<'schema>, SchemaLookupError<'coord, 'schema>>
+        ensures { answer named_of result ≡ lookup_of (schema_tree schema.now) (directive_argument_coordinate self.now) }
+    {
+        match self.lookup(schema) {
+            Err(error) => Err(error),
+            Ok(argument) => Ok(SchemaCoordinateLookup::Argument(argument)),
         }
     }
 }

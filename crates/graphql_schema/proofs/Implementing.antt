@@ -1,5 +1,5 @@
 -- Implementers that are noted one after another.
-use Rattle.std.proofs.Common.{◌≡◌, ℕ, zero, suc, ◌+◌, take, add-one, Bool, true, false, ◌||◌, List, [], ◌∷◌, ◌++◌, map, Option, None, Some, refl, sym, ap, ◌∙◌, cond, if◌then◌else◌}
+use Rattle.std.proofs.Common.{◌≡◌, ℕ, zero, suc, ◌+◌, take, add-one, Bool, true, false, ◌||◌, List, [], ◌∷◌, ◌++◌, map, Option, Some, refl, sym, ap, ◌∙◌, cond, if◌then◌else◌}
 use Rattle.std.specs.Prelude.{unwrap_or, slice_get}
 use Rattle.std.specs.List.{list_any, flat_map}
 use Rattle.std.specs.Option.{option_map}
@@ -14,7 +14,7 @@ use Rattle.graphql_components.specs.Lists.{is_among}
 use Rattle.graphql_components.specs.Names.{same_text}
 use Rattle.graphql_schema_types.specs.TypeView.{name_text, extended_type}
 use Rattle.graphql_schema_types.specs.declared.extended_type.ExtendedType.{ExtendedType}
-use Rattle.graphql_schema.specs.Implementers.{ImplementersTree, Naming, nobody, with_name, and_type, and_naming, namings_of}
+use Rattle.graphql_schema.specs.Implementers.{Naming, nobody, with_name, and_type, and_naming, namings_of}
 use Rattle.graphql_schema.specs.ImplementersView.{implementers_tree, implementers_at, entry_namings}
 use Rattle.graphql_schema.specs.declared.implementers.Implementers.{Implementers}
 

@@ -45,7 +45,7 @@ module _ {X A : Type 0} (f : X → A) (k : NameValue) where
 
 -- the key that is found has the text that was asked for
 pub found_key : {X : Type 0} (k n : NameValue) (es : List (NameValue × X)) → Some n ≡ lookup_key (same_text name_text k) es → n.text ≡ k.text
-found_key k n [] e = absurd (true≢false (sym (ap (λ (o : Option NameValue). elim o [ | None ↦ false | Some x ↦ true ]) (sym e))))
+found_key k n [] e = absurd (true≢false (sym (ap (λ (o : Option NameValue). elim o [ None ↦ false | Some x ↦ true ]) (sym e))))
 found_key k n (x ∷ xs) e = by (bytes_eq k.text x.0.text) refl (found_key k n xs) e
   where
     by : (b : Bool) → bytes_eq k.text x.0.text ≡ b → (Some n ≡ lookup_key (same_text name_text k) xs → n.text ≡ k.text) → Some n ≡ (if b then Some x.0 else lookup_key (same_text name_text k) xs) → n.text ≡ k.text

@@ -1,5 +1,5 @@
 -- What contracts see of implementers.
-use Rattle.std.specs.Prelude.{ℕ, List, [], map, Option, ◌++◌}
+use Rattle.std.specs.Prelude.{List, [], map, Option, ◌++◌}
 use Rattle.std.specs.Option.{option_map, option_map_or}
 pub use Rattle.std.specs.Map.Iter.{deref_pair}
 use Rattle.indexmap.specs.IndexMap.{IndexMap, get}

@@ -1,20 +1,17 @@
 -- What look-ups in a schema answer.
-use Rattle.std.specs.Prelude.{◌≡◌, ℕ, Bool, true, false, ◌&&◌, ◌||◌, List, [], map, Option, None, Some, option_and_then, if◌then◌else◌}
-use Rattle.std.specs.List.{list_any}
-use Rattle.std.specs.Option.{option_map, option_map_or}
-use Rattle.std.specs.Str.{bytes_eq}
-use Rattle.graphql_values.specs.Placed.{Placed, Place, Text}
+use Rattle.std.specs.Prelude.{◌≡◌, ℕ, Bool, false, ◌&&◌, ◌||◌, List, map, Option, None, Some, option_and_then, if◌then◌else◌}
+use Rattle.std.specs.Option.{option_map_or}
+use Rattle.graphql_values.specs.Placed.{Placed, Place}
 use Rattle.graphql_literals.specs.TypeTree.{TypeTree}
 use Rattle.graphql_literals.specs.TypeQueries.{inner_name}
-use Rattle.graphql_ast.specs.TypeSystemTree.{FieldDefinitionTree, field_definition_tree}
+use Rattle.graphql_ast.specs.TypeSystemTree.{FieldDefinitionTree}
 use Rattle.graphql_components.specs.Lists.{is_among}
-use Rattle.graphql_components.specs.Given.{Given, given_name, component_tree}
-use Rattle.graphql_schema_types.specs.SchemaTree.{SchemaType, SchemaTree, same_kind, is_input_kind, is_output_kind}
-use Rattle.graphql_schema_types.specs.Addresses.{under, or_nothing, type_at}
+use Rattle.graphql_components.specs.Given.{Given, given_name}
+use Rattle.graphql_schema_types.specs.SchemaTree.{SchemaType, SchemaTree, same_kind}
+use Rattle.graphql_schema_types.specs.Addresses.{under, type_at}
 use Rattle.graphql_schema_types.specs.TypeView.{extended_type}
 use Rattle.graphql_schema_types.specs.declared.type_kind.TypeKind.{TypeKind}
 use Rattle.graphql_schema_types.specs.declared.type_kind.TypeKind.TheVariants.{Interface, Union}
-use Rattle.graphql_names.specs.NameValue.{NameValue}
 use Rattle.graphql_schema.specs.declared.field_lookup.FieldLookupError.{FieldLookupError}
 use Rattle.graphql_schema.specs.declared.field_lookup.FieldLookupError.TheVariants.{NoSuchType, NoSuchField}
 
@@ -36,7 +33,7 @@ module _ (s : SchemaTree Place) where
   abbrev pub implements : SchemaType Place → List ℕ → Bool
   implements t i = is_among i (map given_name t.interfaces)
 
-  -- what is named t is a member of the union n, or names the interface n among its interfaces (section 3.4, IsValidImplementation..)
+  -- what is named t is a member of the union n, or names the interface n among its interfaces (sections 3.7 and 3.8)
   abbrev pub is_subtype : List ℕ → List ℕ → Bool
   is_subtype n t = option_map_or (λ a. (same_kind a.kind Union && is_among t (map given_name a.members))
       || (same_kind a.kind Interface && option_map_or (λ b. implements b n) (type_at s t) false)) (type_at s n) false

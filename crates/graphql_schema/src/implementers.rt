@@ -124,10 +124,22 @@ fn note_type(
 {
     match ty {
         ExtendedType::Object(object) => {
-            note_names(alloc, noted, object.content().implements_interfaces.as_slice(), true, name)
+            note_names(
+                alloc,
+                noted,
+                object.content().implements_interfaces.as_slice(),
+                true,
+                name,
+            )
         }
         ExtendedType::Interface(own) => {
-            note_names(alloc, noted, own.content().implements_interfaces.as_slice(), false, name)
+            note_names(
+                alloc,
+                noted,
+                own.content().implements_interfaces.as_slice(),
+                false,
+                name,
+            )
         }
         _ => Ok(()),
     }

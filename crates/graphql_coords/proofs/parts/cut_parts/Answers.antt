@@ -1,7 +1,5 @@
 use Rattle.std.proofs.Common.{arith, sym, ◌∙◌, ap}
-use Rattle.std.specs.Option.{MatchOption}
 use Rattle.std.proofs.lemmas.Str.Pattern.{strip_prefix_char}
-use Rattle.graphql_coords.specs.Reading.{all_cut}
 use Rattle.graphql_coords.proofs.CoordinateReads.{stripped, stripped_cut}
 use Rattle.graphql_coords.proofs.parts.cut_parts.Goals as goal
 

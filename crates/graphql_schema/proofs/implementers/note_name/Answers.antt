@@ -1,4 +1,4 @@
-use Rattle.std.proofs.Common.{◌≡◌, None, Some, is_some, cond, refl, sym, ap, ◌∙◌}
+use Rattle.std.proofs.Common.{None, Some, is_some, cond, refl, sym, ap, ◌∙◌}
 use Rattle.std.specs.Option.{option_copied_mut}
 use Rattle.std.proofs.lemmas.Result.{IfOk-weaker}
 use Rattle.indexmap.specs.IndexMap.{get}
@@ -25,6 +25,6 @@ returns c =
     let was = sym c.get_mut.ensures.value ∙ ap option_copied_mut c.in_default.is in
     let is = c.in_ok-add.ensures ∙ ap (and_type c.args.is_object c.args.name.now.text) c.new-implementers.ensures in
     noted c.args.noted.now c.insert.new.self k x None v refl was is (λ q.
-        c.in_ok-insert.ensures.updates.0 q
-        ∙ ap (λ (n : NameValue). cond (same_text name_text n q) (Some v) (get (same_text name_text) c.get_mut.follows.lender-at-none q)) c.in_ok-interface.ensures.same
-        ∙ ap (λ m. cond (same_text name_text k q) (Some v) (get (same_text name_text) m q)) c.get_mut.follows.holds-at-none)
+    c.in_ok-insert.ensures.updates.0 q
+    ∙ ap (λ (n : NameValue). cond (same_text name_text n q) (Some v) (get (same_text name_text) c.get_mut.follows.lender-at-none q)) c.in_ok-interface.ensures.same
+    ∙ ap (λ m. cond (same_text name_text k q) (Some v) (get (same_text name_text) m q)) c.get_mut.follows.holds-at-none)

@@ -1,5 +1,4 @@
-use Rattle.std.proofs.Common.{◌≡◌, map, take, None}
-use Rattle.std.specs.Prelude.{fold}
+use Rattle.std.proofs.Common.{◌≡◌, map, take}
 use Rattle.std.specs.List.{flat_map}
 use Rattle.graphql_names.specs.NameValue.{NameValue}
 use Rattle.graphql_schema_types.specs.TypeView.{name_text, extended_type}

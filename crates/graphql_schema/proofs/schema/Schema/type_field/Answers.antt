@@ -1,4 +1,4 @@
-use Rattle.std.proofs.Common.{◌≡◌, Option, Some, Bor, sym, ap, ◌∙◌}
+use Rattle.std.proofs.Common.{◌≡◌, Some, Bor, sym, ap, ◌∙◌}
 use Rattle.std.specs.Prelude.{option_and_then}
 use Rattle.std.specs.Option.{option_map}
 use Rattle.graphql_names.specs.NameValue.{NameValue}
@@ -25,15 +25,18 @@ returns-in_default-clause-missing c =
 pub returns-in-None-clause-missing : goal.returns-in-None-clause-missing
 returns-in-None-clause-missing c =
     let at : type_at (schema_tree c.args.self.now) c.args.type_name.now.text ≡ Some (extended_type c.in-Some.ty.now) =
-        sym (got_pair extended_type c.args.type_name.now c.args.self.now.types c.get_key_value.result c.get_key_value.ensures.value) ∙ ap (option_map type_of) c.in-Some.is in
-    ( found_key c.args.type_name.now c.in-Some.name.now c.args.self.now.types.entries (sym (ap (option_map (λ (p : Bor NameValue × Bor ExtendedType). p.0.now)) c.in-Some.is) ∙ c.get_key_value.ensures.key)
-    , (at
-    , ap (option_and_then (λ (t : SchemaType Place). under c.args.field_name.now.text t.fields)) at ∙ sym c.field_of.ensures
-      ∙ ap (option_map (λ (f : Bor (Component FieldDefinition)). component_tree field_definition_tree f.now)) c.in-None.is))
+    sym (got_pair extended_type c.args.type_name.now c.args.self.now.types c.get_key_value.result c.get_key_value.ensures.value) ∙ ap (option_map type_of) c.in-Some.is in (
+      found_key c.args.type_name.now c.in-Some.name.now c.args.self.now.types.entries (sym (ap (option_map (λ (p : Bor NameValue × Bor ExtendedType). p.0.now)) c.in-Some.is) ∙ c.get_key_value.ensures.key),
+      (
+        at,
+        ap (option_and_then (λ (t : SchemaType Place). under c.args.field_name.now.text t.fields)) at ∙ sym c.field_of.ensures
+            ∙ ap (option_map (λ (f : Bor (Component FieldDefinition)). component_tree field_definition_tree f.now)) c.in-None.is,
+      ),
+    )
 
 pub returns-in-Some-field_of-clause-found : goal.returns-in-Some-field_of-clause-found
 returns-in-Some-field_of-clause-found c =
     let at : type_at (schema_tree c.args.self.now) c.args.type_name.now.text ≡ Some (extended_type c.in-Some.ty.now) =
-        sym (got_pair extended_type c.args.type_name.now c.args.self.now.types c.get_key_value.result c.get_key_value.ensures.value) ∙ ap (option_map type_of) c.in-Some.is in
+    sym (got_pair extended_type c.args.type_name.now c.args.self.now.types c.get_key_value.result c.get_key_value.ensures.value) ∙ ap (option_map type_of) c.in-Some.is in
     ap (option_and_then (λ (t : SchemaType Place). under c.args.field_name.now.text t.fields)) at ∙ sym c.field_of.ensures
     ∙ ap (option_map (λ (f : Bor (Component FieldDefinition)). component_tree field_definition_tree f.now)) c.in-Some-field_of.is

@@ -1,0 +1,24 @@
+use Rattle.std.proofs.Common.{Bor, sym, ap, ◌∙◌}
+use Rattle.graphql_coords.specs.LookUpView.{answer}
+use Rattle.graphql_coords.specs.declared.lookup_answers.SchemaLookupError.TheVariants as error
+use Rattle.graphql_schema.proofs.Lookups.{got}
+use Rattle.graphql_coords.proofs.Answering.{answer_ok_or}
+use Rattle.graphql_values.specs.DirectiveTree.{input_value_tree}
+use Rattle.graphql_directives.specs.declared.input_value.InputValueDefinition.{InputValueDefinition}
+use Rattle.graphql_components.specs.Names.{entries_of}
+use Rattle.graphql_components.specs.Given.{component_tree}
+use Rattle.graphql_components.specs.declared.component.Component.{Component}
+use Rattle.graphql_schema_types.specs.TypeView.{name_text, extended_type}
+use Rattle.graphql_schema_types.specs.Addresses.{under}
+use Rattle.graphql_coords.specs.LookUps.{input_field_in}
+use Rattle.graphql_schema_types.specs.declared.kinds.InputObjectType.{InputObjectType}
+use Rattle.graphql_coords.proofs.find.input_field_in.Goals as goal
+
+pub returns-in-InputObject : goal.returns-in-InputObject
+returns-in-InputObject c =
+    let view = λ (f : Bor (Component InputValueDefinition)). component_tree input_value_tree f.now in
+    ap (answer view) c.ok_or.ensures.value
+    ∙ answer_ok_or view (error.MissingAttribute c.args.name) c.get-found.result _
+    (got (component_tree input_value_tree) c.args.name.now c.content.result.now.fields c.get-found.result c.get-found.ensures.value
+    ∙ ap (λ (o : InputObjectType). under c.args.name.now.text (entries_of name_text (component_tree input_value_tree) o.fields)) c.content.ensures)
+    ∙ ap (λ t. input_field_in c.args.name.now.text (extended_type t)) (sym c.in-InputObject.is)
