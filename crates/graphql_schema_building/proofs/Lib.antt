@@ -1,0 +1,10 @@
+pub mod Numbering
+pub mod Adding
+pub mod Noting
+pub mod Sourcing
+pub mod Awaited
+pub mod Settled
+pub mod Folding
+pub mod Growing
+pub mod Keeping
+pub mod Schemas

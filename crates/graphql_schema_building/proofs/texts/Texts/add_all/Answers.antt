@@ -1,0 +1,28 @@
+use Rattle.std.proofs.Common.{◌<◌, ◌+◌, [], ◌∷◌, ◌++◌, map, take, drop, length, sym, subst, arith}
+use Rattle.std.proofs.lemmas.Result.{err_from_is_err_and}
+use Rattle.graphql_ast.specs.DefinitionTree.{definition_tree}
+use Rattle.graphql_schema_building.specs.TextsView.{texts_view}
+use Rattle.graphql_schema_building.specs.TextsList.{Adds, IsListRefusal}
+use Rattle.graphql_schema_building.proofs.Adding.{adds_then, refusal_more}
+use Rattle.graphql_schema_building.proofs.Growing.{front, split}
+use Rattle.graphql_schema_building.proofs.texts.Texts.add_all.Goals as goal
+
+pub loop-definition-preserved : goal.loop-definition-preserved
+loop-definition-preserved c =
+    let xs = c.args.definitions.now in
+    let i = c.loop-definition.definition-index in
+    let x = c.definition-item.result in
+    let h : i < length xs = omega arith in
+    subst (λ l. Adds l (texts_view c.args.self.now) (texts_view c.add.new.self)) (sym (front definition_tree xs i x h c.definition-item.is))
+    (adds_then (texts_view c.args.self.now) (texts_view c.loop-definition.self) (texts_view c.add.new.self) (map definition_tree (take i xs)) (definition_tree x ∷ []) c.loop-definition.invariant c.in_ok-add.ensures.added)
+
+pub returns-in_err-add-clause-refused : goal.returns-in_err-add-clause-refused
+returns-in_err-add-clause-refused c =
+    let xs = c.args.definitions.now in
+    let i = c.loop-definition.definition-index in
+    let x = c.definition-item.result in
+    let h : i < length xs = omega arith in
+    let start = texts_view c.args.self.now in
+    let p = err_from_is_err_and c.from_residual.result c.from_residual.ensures.1 in
+    rw (p.1, p.2) (subst (λ l. IsListRefusal l start c.in_err-add.field-0.0) (sym (split definition_tree xs i x h c.definition-item.is))
+    (refusal_more start (texts_view c.loop-definition.self) (map definition_tree (take i xs)) (definition_tree x) (map definition_tree (drop (i + 1) xs)) c.loop-definition.invariant c.in_err-add.field-0.0 c.in_err-add.ensures.refused))

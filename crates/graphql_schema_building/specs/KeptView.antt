@@ -1,0 +1,33 @@
+-- What a builder keeps (private: it leads to `specs/BuildingView.antt`).
+use Rattle.std.specs.Prelude.{◌≡◌, ℕ, ◌+◌, ◌-◌, Bool, false, List, map, Option}
+use Rattle.graphql_values.specs.Placed.{Place}
+use Rattle.graphql_components.specs.Given.{ExtensionTree}
+use Rattle.graphql_folding.specs.Listed.{Definitions, Listed, numbered}
+use Rattle.graphql_schema_folding.specs.ListFold.{definitions_of}
+use Rattle.graphql_schema_building.specs.Noted.{kinds_view, first_kinds, extended_in, defined_in}
+use Rattle.graphql_schema_building.specs.Numbers.{extension_count, HaveNumbers}
+use Rattle.graphql_schema_building.specs.TextsView.{texts_view}
+use Rattle.graphql_schema_building.specs.declared.orphans.Orphans.{Orphans}
+use Rattle.graphql_schema_building.specs.declared.texts.Texts.{Texts}
+
+abbrev pub definitions : Texts → Definitions
+definitions t = definitions_of (texts_view t).list
+
+-- the number from which its extensions were counted
+abbrev pub first_number : Texts → ℕ
+first_number t = t.extensions - extension_count (definitions t)
+
+abbrev pub numbers_of : List Listed → List (Option (ExtensionTree Place))
+numbers_of list = map (λ l. l.extension) list
+
+-- the extensions have their numbers, and the next number is the one behind theirs
+abbrev pub AreNumbered : ℕ → Definitions → Texts → Type 0
+AreNumbered first ds t = (numbers_of (texts_view t).list ≡ numbers_of (numbered first ds)) × (t.extensions ≡ first + extension_count ds) × HaveNumbers first ds
+
+-- the types are noted
+abbrev pub AreNoted : Definitions → Orphans → Type 0
+AreNoted ds o = (kinds_view o.extended ≡ first_kinds (extended_in ds)) × (kinds_view o.defined ≡ first_kinds (defined_in ds))
+
+-- so it is where the builder has not failed
+abbrev pub IsKept : Texts → Orphans → Bool → Type 0
+IsKept texts orphans failed = failed ≡ false → AreNumbered (first_number texts) (definitions texts) texts × AreNoted (definitions texts) orphans

@@ -1,0 +1,14 @@
+pub mod BuilderValue
+pub mod SourcesView
+pub mod KeptView
+pub mod BuildingView
+pub mod Building
+pub mod BuiltView
+pub mod Numbers
+pub mod TextsView
+pub mod TextsList
+pub mod Noted
+pub mod Waiting
+pub mod SettingsView
+pub mod Settling
+pub mod ListBuilt

@@ -1,0 +1,39 @@
+-- What is left of the types that are extended and not defined (private: it leads to `specs/Building.antt`).
+use Rattle.std.specs.Prelude.{ℕ, Bool, not, ◌&&◌, List, map, is_some}
+use Rattle.std.specs.Borrow.{Bor}
+use Rattle.std.specs.List.{filter}
+use Rattle.std.specs.Map.{lookup}
+use Rattle.std.specs.Str.{bytes_eq}
+use Rattle.graphql_names.specs.NameValue.{NameValue}
+use Rattle.graphql_values.specs.Placed.{Place, Text, name_tree}
+use Rattle.graphql_schema_types.specs.declared.type_kind.TypeKind.{TypeKind}
+use Rattle.graphql_folding.specs.Listed.{type_named}
+use Rattle.graphql_built_in.specs.Table.{built_in_definitions}
+use Rattle.graphql_schema_building.specs.Noted.{NamedKind, kind_view, kinds_view}
+use Rattle.graphql_schema_building.specs.declared.orphans.Orphans.{Orphans}
+use Rattle.graphql_schema_building.specs.declared.waiting.OrphanExtensionTypes.{OrphanExtensionTypes}
+use Rattle.indexmap.specs.IndexMap.{IndexMap}
+
+-- no type of that name is among these, or built in
+abbrev pub is_orphan_in : {S : Type 0} → IndexMap NameValue TypeKind S → List ℕ → Bool
+is_orphan_in defined n = not (is_some (lookup (λ k. bytes_eq n k.text) defined.entries)) && not (is_some (type_named n built_in_definitions))
+
+-- the names and kinds of which that is so
+abbrev pub orphans_of : {S : Type 0} → IndexMap NameValue TypeKind S → List NamedKind → List NamedKind
+orphans_of defined ks = filter (λ k. is_orphan_in defined k.0.it) ks
+
+abbrev pub orphan_kinds : Orphans → List NamedKind
+orphan_kinds o = orphans_of o.defined (kinds_view o.extended)
+
+-- those that are left
+abbrev pub left_kinds : OrphanExtensionTypes → List NamedKind
+left_kinds w = orphans_of w.defined.now (map kind_view w.extended)
+
+abbrev pub lent_kind : Bor NameValue × TypeKind → NamedKind
+lent_kind k = (name_tree k.0.now, k.1)
+
+abbrev pub left_names : OrphanExtensionTypes → List (Text Place)
+left_names w = map (λ k. k.0) (left_kinds w)
+
+abbrev pub lent_name : Bor NameValue → Text Place
+lent_name n = name_tree n.now

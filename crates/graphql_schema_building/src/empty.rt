@@ -1,0 +1,96 @@
+//! Definitions with nothing in them.
+ghost use Rattle.std.specs.Prelude.{◌≡◌, IfOk};
+ghost use Rattle.graphql_values.specs.Placed.{name_tree};
+ghost use Rattle.graphql_ast.specs.DefinitionTree.{definition_tree};
+ghost use Rattle.graphql_folding.specs.Adoption.{empty_schema};
+ghost use Rattle.graphql_built_in.specs.Table.{built_in_definitions};
+ghost use Rattle.graphql_schema_building.specs.Settling.{empty_of};
+
+use graphql_ast::{
+    Definition, DirectiveList, EnumTypeDefinition, InputObjectTypeDefinition,
+    InterfaceTypeDefinition, Name, Node, ObjectTypeDefinition, ScalarTypeDefinition,
+    SchemaDefinition, UnionTypeDefinition,
+};
+use graphql_schema_types::TypeKind;
+use std::alloc::{AllocError, Global};
+
+/// The definition of a type of that kind and name, with nothing in it and no place.
+pub(crate) fn empty_type(
+    alloc: Global,
+    kind: TypeKind,
+    name: Name,
+) -> Result<Definition, AllocError>
+    ensures { IfOk result (λ d. definition_tree d ≡ empty_of (name_tree name, kind)) }
+{
+    match kind {
+        TypeKind::Scalar => Ok(Definition::ScalarTypeDefinition(Node::new(
+            alloc,
+            ScalarTypeDefinition {
+                description: None,
+                name,
+                directives: DirectiveList::new(alloc),
+            },
+        )?)),
+        TypeKind::Object => Ok(Definition::ObjectTypeDefinition(Node::new(
+            alloc,
+            ObjectTypeDefinition {
+                description: None,
+                name,
+                implements_interfaces: Vec::new(alloc),
+                directives: DirectiveList::new(alloc),
+                fields: Vec::new(alloc),
+            },
+        )?)),
+        TypeKind::Interface => Ok(Definition::InterfaceTypeDefinition(Node::new(
+            alloc,
+            InterfaceTypeDefinition {
+                description: None,
+                name,
+                implements_interfaces: Vec::new(alloc),
+                directives: DirectiveList::new(alloc),
+                fields: Vec::new(alloc),
+            },
+        )?)),
+        TypeKind::Union => Ok(Definition::UnionTypeDefinition(Node::new(
+            alloc,
+            UnionTypeDefinition {
+                description: None,
+                name,
+                directives: DirectiveList::new(alloc),
+                members: Vec::new(alloc),
+            },
+        )?)),
+        TypeKind::Enum => Ok(Definition::EnumTypeDefinition(Node::new(
+            alloc,
+            EnumTypeDefinition {
+                description: None,
+                name,
+                directives: DirectiveList::new(alloc),
+                values: Vec::new(alloc),
+            },
+        )?)),
+        TypeKind::InputObject => Ok(Definition::InputObjectTypeDefinition(Node::new(
+            alloc,
+            InputObjectTypeDefinition {
+                description: None,
+                name,
+                directives: DirectiveList::new(alloc),
+                fields: Vec::new(alloc),
+            },
+        )?)),
+    }
+}
+
+/// The definition of a schema with nothing in it and no place.
+pub(crate) fn empty_schema(alloc: Global) -> Result<Definition, AllocError>
+    ensures { IfOk result (λ d. definition_tree d ≡ empty_schema built_in_definitions) }
+{
+    Ok(Definition::SchemaDefinition(Node::new(
+        alloc,
+        SchemaDefinition {
+            description: None,
+            directives: DirectiveList::new(alloc),
+            root_operations: Vec::new(alloc),
+        },
+    )?))
+}

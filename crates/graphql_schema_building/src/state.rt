@@ -1,0 +1,34 @@
+//! The state of a schema builder, and what it builds.
+ghost use Rattle.graphql_schema_building.specs.KeptView.{IsKept};
+
+use crate::orphans::Orphans;
+use crate::settle::Settings;
+use crate::texts::Texts;
+use graphql_ast::{DirectiveDefinition, FileId, Name, Node, SourceFile};
+use graphql_schema_types::{ExtendedType, SchemaDefinition};
+use indexmap::IndexMap;
+use std::alloc::Global;
+
+/// The state of a schema builder: the definitions that were added to it, with their numbers, and the types that wait
+/// for a definition.
+///
+/// Contracts see it by `builder_view` alone.
+#[derive(Drop)]
+pub struct Building {
+    pub(crate) alloc: Global,
+    pub(crate) settings: Settings,
+    pub(crate) texts: Texts,
+    pub(crate) orphans: Orphans,
+    pub(crate) sources: IndexMap<FileId, SourceFile>,
+    pub(crate) failed: bool,
+    ghost kept: { IsKept texts orphans failed },
+}
+
+/// What is built: the fold of the definitions, and the sources that they came from.
+#[derive(Drop)]
+pub struct Built {
+    pub sources: IndexMap<FileId, SourceFile>,
+    pub schema_definition: Node<SchemaDefinition>,
+    pub directive_definitions: IndexMap<Name, Node<DirectiveDefinition>>,
+    pub types: IndexMap<Name, ExtendedType>,
+}

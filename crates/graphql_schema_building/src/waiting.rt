@@ -1,0 +1,73 @@
+//! The types that are extended and not defined.
+ghost use Rattle.std.specs.Prelude.{◌≡◌, []};
+ghost use Rattle.std.specs.Iterator.{YieldsFirstBy, item_count};
+ghost use Rattle.graphql_schema_building.specs.Waiting.{is_orphan_in, orphan_kinds, left_kinds, lent_kind, left_names, lent_name};
+
+use crate::built_in_types::is_built_in_type;
+use crate::orphans::Orphans;
+use graphql_ast::Name;
+use graphql_schema_types::TypeKind;
+use indexmap::IndexMap;
+use indexmap::map::Slice;
+
+/// Lends the names of the types that are extended and not defined, in the order of their first extensions.
+#[derive(Drop)]
+pub struct OrphanExtensionTypes<'a> {
+    extended: Slice<'a, Name, TypeKind>,
+    defined: &'a IndexMap<Name, TypeKind>,
+}
+
+impl<'a> OrphanExtensionTypes<'a> {
+    /// All of them.
+    pub(crate) fn of(orphans: &'a Orphans) -> OrphanExtensionTypes<'a>
+        ensures { left_kinds result ≡ orphan_kinds orphans.now }
+    {
+        OrphanExtensionTypes {
+            extended: orphans.extended.as_slice(),
+            defined: &orphans.defined,
+        }
+    }
+
+    /// None of them.
+    pub(crate) fn none(orphans: &'a Orphans) -> OrphanExtensionTypes<'a>
+        ensures { left_kinds result ≡ [] }
+    {
+        OrphanExtensionTypes {
+            extended: Slice::new(),
+            defined: &orphans.defined,
+        }
+    }
+
+    /// The next one, with the kind of its first extension.
+    pub(crate) fn next_orphan(&mut self) -> Option<(&'a Name, TypeKind)>
+        ensures { YieldsFirstBy lent_kind left_kinds self.old result self.new }
+    {
+        while let Some(((name, kind), others)) = self.extended.split_first() {
+            self.extended = others;
+            if is_orphan(self.defined, name) {
+                return Some((name, *kind));
+            }
+        }
+        None
+    }
+}
+
+impl<'a> Iterator for OrphanExtensionTypes<'a> {
+    type Item = &'a Name;
+
+    ghost next_gives = { YieldsFirstBy lent_name left_names };
+
+    ghost remaining = { item_count left_names };
+
+    fn next(&mut self) -> Option<&'a Name> {
+        let (name, _) = self.next_orphan()?;
+        Some(name)
+    }
+}
+
+/// Whether no type of that name is defined, here or built in.
+fn is_orphan(defined: &IndexMap<Name, TypeKind>, name: &Name) -> bool
+    ensures { result ≡ is_orphan_in defined.now name.now.text }
+{
+    !defined.contains_key(name) && !is_built_in_type(name.as_str())
+}
