@@ -1,3 +1,4 @@
 pub mod SchemaEquality
 pub mod Lookups
 pub mod Implementing
+pub mod Subtyping

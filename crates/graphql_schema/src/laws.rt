@@ -1,7 +1,9 @@
-//! What equality of schemas means: exactly that they are the same, places, origins, sources and order aside.
+//! What equality of schemas means: exactly that they are the same, places, origins, sources and order aside. And the
+//! subtypes of an interface are its implementers.
 ghost use Rattle.std.specs.Prelude.{◌≡◌, ◌↔◌, IsTrue};
 ghost use Rattle.graphql_schema_types.specs.Plain.{plain};
 ghost use Rattle.graphql_schema.specs.SchemaOf.{schema_tree};
+ghost use Rattle.graphql_schema.specs.Subtypes.{SubtypesAreImplementers};
 
 use crate::schema::Schema;
 
@@ -11,4 +13,13 @@ pub fn equal_schemas(a: &Schema, b: &Schema) -> bool
     ensures { IsTrue result ↔ (plain (schema_tree a.now) ≡ plain (schema_tree b.now)) }
 {
     *a == *b
+}
+
+/// `is_subtype` is true of an interface and a name exactly where `implementers_map` has the name under the interface.
+#[tactic(auto, using(crate::proofs::Subtyping::schema_subtypes))]
+pub fn subtypes_are_implementers(schema: &Schema)
+    ensures { SubtypesAreImplementers (schema_tree schema.now) }
+{
+    // each name is in the map once
+    let _count = schema.types.len();
 }

@@ -3,23 +3,31 @@
 //! For the layer above: contracts see a schema as one tree (`specs/SchemaOf.antt`), look-ups answer by its entries
 //! (`specs/LookUps.antt`), and `==` decides whether two schemas are the same without places, origins and order.
 //!
-//! Types and components stand in `graphql_schema_types` and `graphql_components`, their making in `graphql_folding`;
-//! here are the whole schema, and the names of everything that a caller needs. Begin with `schema.rt`.
+//! A builder gives the fold of the definitions that were added, with each way in which a folding rule is broken
+//! (`builder.rt`), and `to_ast` gives the definitions that are written of a schema.
+//!
+//! Types and components stand in `graphql_schema_types` and `graphql_components`, a builder's state in
+//! `graphql_schema_building`, the write-out in `graphql_schema_writing`; here are the whole schema, and the names of
+//! everything that a caller needs. Begin with `schema.rt` and `builder.rt`.
 #![tactic(auto)]
 
+mod builder;
 mod field_lookup;
 mod implementers;
 pub mod laws;
 mod schema;
 mod subtype;
+mod to_ast;
 mod types_by_name;
 
+pub use builder::SchemaBuilder;
 pub use field_lookup::FieldLookupError;
 pub use graphql_components::{
     Component, ComponentName, ComponentOrigin, DirectiveList, ExtensionId, Extensions,
     NamedComponents,
 };
 pub use graphql_folding::BuildError;
+pub use graphql_schema_building::{BuilderRefusal, OrphanExtensionTypes};
 pub use graphql_schema_types::{
     EnumType, ExtendedType, InputObjectType, InterfaceType, ObjectType, Origins, RootOperations,
     ScalarType, SchemaDefinition, TypeKind, UnionType,

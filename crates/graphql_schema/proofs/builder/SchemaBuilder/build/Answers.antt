@@ -1,0 +1,12 @@
+use Rattle.std.proofs.Common.{sym, ◌∙◌, subst}
+use Rattle.graphql_built_in.specs.Table.{built_in_definitions}
+use Rattle.graphql_schema_building.specs.Building.{counted}
+use Rattle.graphql_schema_building.specs.BuildingView.{builder_view}
+use Rattle.graphql_type_folding.specs.OwnNames.{UnderOwnNames}
+use Rattle.graphql_type_folding.proofs.OwnNames.{under_own_names}
+use Rattle.graphql_schema.proofs.builder.SchemaBuilder.build.Goals as goal
+
+pub returns-clause-own_names : goal.returns-clause-own_names
+returns-clause-own_names c =
+    let b = builder_view c.args.self.building in
+    subst UnderOwnNames (sym (c.schema_of.ensures.schema ∙ c.in_ok-built.ensures.schema)) (under_own_names built_in_definitions b.first (counted b))

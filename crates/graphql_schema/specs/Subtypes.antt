@@ -1,0 +1,17 @@
+-- The subtypes of an interface are its implementers (GraphQL, October 2021, section 3.7).
+use Rattle.std.specs.Prelude.{◌≡◌, ℕ, Bool, true, false, ◌||◌, List, Option, is_some}
+use Rattle.std.specs.Option.{option_map_or}
+use Rattle.graphql_values.specs.Placed.{Place}
+use Rattle.graphql_components.specs.Lists.{is_among}
+use Rattle.graphql_schema_types.specs.SchemaTree.{SchemaTree}
+use Rattle.graphql_schema_types.specs.declared.type_kind.TypeKind.TheVariants.{Interface}
+use Rattle.graphql_schema.specs.Implementers.{ImplementersTree, namings, implementers_in}
+use Rattle.graphql_schema.specs.LookUps.{type_of_kind, is_subtype}
+
+-- the type is one of these objects and interfaces
+abbrev pub is_implementer : Option ImplementersTree → List ℕ → Bool
+is_implementer o t = option_map_or (λ x. is_among t x.objects || is_among t x.interfaces) o false
+
+-- what is a subtype of an interface i is one of those that stand under i, and no other is
+abbrev pub SubtypesAreImplementers : SchemaTree Place → Type 0
+SubtypesAreImplementers s = (i t : List ℕ) → is_some (type_of_kind s Interface i) ≡ true → is_subtype s i t ≡ is_implementer (implementers_in (namings s) i) t

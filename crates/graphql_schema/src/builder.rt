@@ -1,0 +1,139 @@
+//! The builder of schemas.
+ghost use Rattle.std.specs.Prelude.{◌≡◌, ◌↔◌, ◌++◌, [], true, false, IfOk, IfErr, OnOk, Contains};
+ghost use Rattle.graphql_ast.specs.DefinitionTree.{document_tree};
+ghost use Rattle.graphql_ast.specs.Sources.{sources_of};
+ghost use Rattle.graphql_built_in.specs.Table.{built_in_definitions};
+ghost use Rattle.graphql_folding.specs.BuildErrors.{FoldingRules};
+ghost use Rattle.graphql_folding.specs.FaultView.{faults_of};
+ghost use Rattle.graphql_folding.specs.Fold.{fold};
+ghost use Rattle.graphql_schema_building.specs.Building.{plain_settings, counted, folded, FailsIn, lent_names, IsAddRefusal, IsBuildRefusal};
+ghost use Rattle.graphql_schema_building.specs.BuiltView.{built_view};
+ghost use Rattle.graphql_schema_building.specs.Numbers.{HaveNumbers};
+ghost use Rattle.graphql_schema_building.specs.SourcesView.{sources_view, with_sources};
+ghost use Rattle.graphql_schema_building.specs.Waiting.{left_names};
+ghost use Rattle.graphql_type_folding.specs.OwnNames.{UnderOwnNames};
+ghost use Rattle.graphql_schema.specs.BuilderOf.{builder_value};
+ghost use Rattle.graphql_schema.specs.SchemaOf.{schema_tree};
+
+use crate::schema::Schema;
+use graphql_ast::{Document, SourceSpan};
+use graphql_components::Extensions;
+use graphql_folding::BuildError;
+use graphql_schema_building::{BuilderRefusal, Building, Built, OrphanExtensionTypes};
+use std::alloc::{AllocError, Global};
+
+/// Takes the definitions of documents, and builds the schema of them all behind what is built in.
+///
+/// Contracts see it by `builder_value` alone: the definitions that were added, in order, with the number of the first
+/// extension, the sources, the settings, and whether memory or numbers ran out.
+#[derive(Drop)]
+pub struct SchemaBuilder {
+    building: Building,
+}
+
+impl SchemaBuilder {
+    /// A builder of no definitions, which counts extensions from 1. It takes no memory.
+    pub fn new(alloc: Global) -> SchemaBuilder
+        ensures { builder_value result ≡ record { first = 1; texts = []; sources = []; settings = plain_settings; failed = false } }
+    {
+        SchemaBuilder {
+            building: Building::new(alloc),
+        }
+    }
+
+    /// A builder of no definitions, which takes the numbers of extensions from `extensions`. It takes no memory.
+    pub fn with_extensions(alloc: Global, extensions: Extensions) -> SchemaBuilder
+        ensures { builder_value result ≡ record { first = extensions; texts = []; sources = []; settings = plain_settings; failed = false } }
+    {
+        SchemaBuilder {
+            building: Building::with_extensions(alloc, extensions),
+        }
+    }
+
+    /// Lets it adopt extensions of types and of the schema that are not defined: they extend empty definitions.
+    pub fn adopt_orphan_extensions(self) -> SchemaBuilder
+        ensures { builder_value result ≡ record (builder_value self) { settings = record (builder_value self).settings { adopts = true } } }
+    {
+        SchemaBuilder {
+            building: self.building.adopt_orphan_extensions(),
+        }
+    }
+
+    /// Lets it pass over definitions of built-in types.
+    pub fn ignore_builtin_redefinitions(self) -> SchemaBuilder
+        ensures { builder_value result ≡ record (builder_value self) { settings = record (builder_value self).settings { ignores = true } } }
+    {
+        SchemaBuilder {
+            building: self.building.ignore_builtin_redefinitions(),
+        }
+    }
+
+    /// Adds the definitions and the sources of a document behind the others.
+    ///
+    /// Where memory or numbers run out it answers so, and from then on [`BuilderRefusal::Failed`].
+    pub fn add_ast(&mut self, document: &Document) -> Result<(), BuilderRefusal>
+        ensures running { OnOk result ((builder_value self.old).failed ≡ false) }
+        ensures added { OnOk result (builder_value self.new ≡ record (builder_value self.old) { texts = (builder_value self.old).texts ++ document_tree document.now; sources = with_sources (builder_value self.old).sources (sources_of document.now) }) }
+        ensures numbers { OnOk result (HaveNumbers (builder_value self.new).first (builder_value self.new).texts) }
+        ensures refused { IfErr result (IsAddRefusal (builder_value self.old) (document_tree document.now) (builder_value self.new)) }
+    {
+        self.building.add_ast(document)
+    }
+
+    /// Lends the names of the types that are extended and not defined so far, in the order of their first extensions.
+    /// A builder that has failed lends none.
+    pub fn iter_orphan_extension_types(&self) -> OrphanExtensionTypes<'_>
+        ensures { left_names result ≡ lent_names (builder_value self.now) }
+    {
+        self.building.iter_orphan_extension_types()
+    }
+
+    /// The schema that the definitions fold to, behind what is built in, and each way in which a folding rule is
+    /// broken. Each thing of the schema stands under its own name.
+    pub fn build(self) -> Result<(Schema, Vec<(Option<SourceSpan>, BuildError)>), BuilderRefusal>
+        ensures running { OnOk result ((builder_value self).failed ≡ false) }
+        ensures schema { IfOk result (λ r. schema_tree r.0 ≡ folded (builder_value self)) }
+        ensures own_names { IfOk result (λ r. UnderOwnNames (schema_tree r.0)) }
+        ensures sources { IfOk result (λ r. sources_view r.0.sources ≡ (builder_value self).sources) }
+        ensures faults { IfOk result (λ r. (f : _) → Contains (faults_of r.1) f ↔ FailsIn (builder_value self) f) }
+        ensures faultless { IfOk result (λ r. (faults_of r.1 ≡ []) ↔ FoldingRules built_in_definitions (builder_value self).first (counted (builder_value self))) }
+        ensures refused { IfErr result (IsBuildRefusal (builder_value self)) }
+    {
+        let (built, faults) = self.building.build()?;
+        Ok((schema_of(built), faults))
+    }
+}
+
+/// What is built, as a schema.
+fn schema_of(built: Built) -> Schema
+    ensures schema { schema_tree result ≡ built_view built }
+    ensures sources { result.sources ≡ built.sources }
+{
+    Schema {
+        sources: built.sources,
+        schema_definition: built.schema_definition,
+        directive_definitions: built.directive_definitions,
+        types: built.types,
+    }
+}
+
+impl Schema {
+    /// The schema of what is built in alone. It has no root.
+    pub fn new(alloc: Global) -> Result<Schema, AllocError>
+        ensures schema { IfOk result (λ s. schema_tree s ≡ fold built_in_definitions 1 []) }
+        ensures own_names { IfOk result (λ s. UnderOwnNames (schema_tree s)) }
+        ensures sources { IfOk result (λ s. sources_view s.sources ≡ []) }
+    {
+        match Schema::builder(alloc).build() {
+            Ok((schema, _)) => Ok(schema),
+            Err(_) => Err(AllocError),
+        }
+    }
+
+    /// A builder of no definitions. It takes no memory.
+    pub fn builder(alloc: Global) -> SchemaBuilder
+        ensures { builder_value result ≡ record { first = 1; texts = []; sources = []; settings = plain_settings; failed = false } }
+    {
+        SchemaBuilder::new(alloc)
+    }
+}

@@ -1,0 +1,31 @@
+//! Schemas as documents.
+ghost use Rattle.std.specs.Prelude.{◌≡◌, [], IfOk};
+ghost use Rattle.graphql_ast.specs.DefinitionTree.{document_tree};
+ghost use Rattle.graphql_schema_types.specs.Out.{written};
+ghost use Rattle.graphql_schema.specs.SchemaOf.{schema_tree};
+
+use crate::schema::Schema;
+use graphql_ast::Document;
+use graphql_schema_writing::written_definitions;
+use std::alloc::{AllocError, Global};
+
+impl Schema {
+    /// The schema as a document: its definition unless it is implicit, directives and types, each with its
+    /// extensions, without what is built in. What the definitions hold is shared with the schema; the document has
+    /// no sources.
+    pub fn to_ast(&self, alloc: Global) -> Result<Document, AllocError>
+        ensures definitions { IfOk result (λ d. document_tree d ≡ written (schema_tree self.now)) }
+        ensures sources { IfOk result (λ d. d.sources.entries ≡ []) }
+    {
+        let definitions = written_definitions(
+            alloc,
+            &self.schema_definition,
+            &self.directive_definitions,
+            &self.types,
+        )?;
+        Ok(Document {
+            definitions,
+            ..Document::new(alloc)
+        })
+    }
+}
