@@ -14,6 +14,7 @@ use Rattle.graphql_lexer.specs.Blocks.{quotes, block_len}
 use Rattle.graphql_lexer.specs.Tokens.{string_at, token_at, of_kind}
 use Rattle.graphql_lexer.specs.declared.token.TokenKind.TheVariants as k
 use Rattle.graphql_lexer.proofs.Bytes.{run_end}
+use Rattle.graphql_printed_strings.specs.Readings.{IsToken, MayFollow}
 use Rattle.graphql_printed_strings.proofs.Pieces.{Reads, Piece, reads_none, reads_piece, reads_both}
 
 -- ---- a byte
@@ -156,7 +157,7 @@ two_begin (b ∷ bytes) h = go (b == 34) h
     go true e = absurd cc
     go false e = refl
 
-no_block : (text behind : List ℕ) → (text ≡ [] → begins_with (34 ∷ []) behind ≡ false) → begins_with quotes (34 ∷ (escaped_text text ++ 34 ∷ behind)) ≡ false
+no_block : (text behind : List ℕ) → MayFollow text behind → begins_with quotes (34 ∷ (escaped_text text ++ 34 ∷ behind)) ≡ false
 unfolding joined
 no_block [] behind h = h refl
 no_block (b ∷ text) behind h =
@@ -169,7 +170,7 @@ string_found bytes = refl
 
 -- What is printed between quotation marks is one String token, whatever is behind it; but two quotation marks alone are
 -- one where no third follows.
-pub quoted_is_token : (text behind : List ℕ) → (text ≡ [] → begins_with (34 ∷ []) behind ≡ false) → token_at (quoted_text text ++ behind) ≡ Some (k.String, length (quoted_text text))
+pub quoted_is_token : (text behind : List ℕ) → MayFollow text behind → IsToken k.String (quoted_text text) behind
 unfolding string_at
 quoted_is_token text behind h =
     let whole : quoted_text text ++ behind ≡ 34 ∷ (escaped_text text ++ 34 ∷ behind) =

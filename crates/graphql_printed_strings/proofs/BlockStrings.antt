@@ -1,0 +1,110 @@
+-- What is printed as a block string is read as it was.
+use Rattle.std.proofs.Common.{◌≡◌, ℕ, zero, suc, ◌+◌, ◌-◌, ◌≤◌, Bool, true, false, cond, not, ◌&&◌, List, [], ◌∷◌, ◌++◌, length, take, drop, Option, Some, None, refl, sym, ap, ◌∙◌, subst, arith, append-nil, append_assoc, length-append}
+use Rattle.std.specs.List.{list_all, list_any}
+use Rattle.std.proofs.lemmas.Bool.{and_parts, not-true}
+use Rattle.std.proofs.lemmas.List.{drop_at, take_at}
+use Rattle.graphql_printing.specs.LineLayout.{line_start}
+use Rattle.graphql_printing.specs.StringLayout.{text_lines, has_byte, first_is_blank, last_is_blank, is_at_margin, can_be_block_string, block_text}
+use Rattle.graphql_lexer.specs.Bytes.{begins_with, run_len, replaced, between}
+use Rattle.graphql_lexer.specs.Strings.{closed_len}
+use Rattle.graphql_lexer.specs.Blocks.{quotes, block_character_len, block_character_at, block_len, raw_value, lines_of, is_white_space, without_indent, without_blank_front, without_blank_back, formatted, block_string_value, block_value}
+use Rattle.graphql_lexer.specs.Tokens.{string_at, token_at, of_kind}
+use Rattle.graphql_lexer.specs.declared.token.TokenKind.TheVariants as k
+use Rattle.graphql_lexer.proofs.Bytes.{run_end}
+use Rattle.graphql_printed_strings.specs.Readings.{IsToken, IsWhite}
+use Rattle.graphql_printed_strings.proofs.Written.{written, raw_of, block_is, white_start, written_reads}
+use Rattle.graphql_printed_strings.proofs.RawLines.{lines_in_line, white_in_line, raw_lines}
+use Rattle.graphql_printed_strings.proofs.Indents.{indent_removed, ends_removed, formatted_is}
+
+-- ---- the token
+
+ends_at_marks : (behind : List ℕ) → run_len block_character_len 0 (quotes ++ behind) ≡ 0
+unfolding block_character_len
+ends_at_marks behind = run_end block_character_len (quotes ++ behind) refl
+
+closed : (text behind : List ℕ) (n : ℕ) → n ≡ length text → closed_len quotes n (quotes ++ (text ++ (quotes ++ behind))) ≡ Some (3 + n + 3)
+closed text behind n e =
+    let next : 3 + n ≡ suc (suc (suc (length text))) = omega arith in
+    ap (λ (m : ℕ). cond (begins_with quotes (drop m (quotes ++ (text ++ (quotes ++ behind))))) (Some (3 + n + 3)) None) next
+    ∙ ap (λ (r : List ℕ). cond (begins_with quotes r) (Some (3 + n + 3)) None) (drop_at text (quotes ++ behind) (length text) refl)
+
+string_found : (bytes : List ℕ) → token_at (quotes ++ bytes) ≡ of_kind k.BlockString (block_len (quotes ++ bytes))
+unfolding token_at string_at
+string_found bytes = refl
+
+block_reach : (text behind : List ℕ) → run_len block_character_len 0 (text ++ (quotes ++ behind)) ≡ length text → block_len (quotes ++ (text ++ (quotes ++ behind))) ≡ Some (length (quotes ++ (text ++ quotes)))
+unfolding block_len
+block_reach text behind run =
+    let size : 3 + run_len block_character_len 0 (text ++ (quotes ++ behind)) + 3 ≡ length (quotes ++ (text ++ quotes)) =
+        (let inside : length (text ++ quotes) ≡ length text + 3 = length-append text quotes in omega arith) in
+    closed text behind (run_len block_character_len 0 (text ++ (quotes ++ behind))) run ∙ ap Some size
+
+-- What is printed as a block string is one BlockString token, whatever is behind it.
+pub block_is_token : (prefix : List ℕ) (level : ℕ) (text behind : List ℕ) → IsWhite prefix → IsToken k.BlockString (block_text prefix level text) behind
+block_is_token prefix level text behind white =
+    let inside = written prefix level (text_lines text) in
+    let is : block_text prefix level text ≡ quotes ++ (inside ++ quotes) = block_is prefix level text in
+    let run : run_len block_character_len 0 (inside ++ (quotes ++ behind)) ≡ length inside =
+        (let all = (written_reads prefix level (text_lines text) (quotes ++ behind) (white_start prefix level white)).passed in
+         let end = ends_at_marks behind in
+         omega arith) in
+    ap (λ (t : List ℕ). token_at (t ++ behind)) is
+    ∙ ap (λ (t : List ℕ). token_at (quotes ++ t)) (append_assoc inside quotes behind)
+    ∙ string_found (inside ++ (quotes ++ behind))
+    ∙ ap (of_kind k.BlockString) (block_reach inside behind run)
+    ∙ ap (λ (t : List ℕ). Some (k.BlockString, length t)) (sym is)
+
+-- ---- the value
+
+within_marks : (text : List ℕ) → between 3 (quotes ++ (text ++ quotes)) ≡ text
+within_marks text =
+    let size : length (text ++ quotes) ≡ length text + 3 = length-append text quotes in
+    let left : length (quotes ++ (text ++ quotes)) - 3 - 3 ≡ length text = omega arith in
+    ap (λ (n : ℕ). take n (text ++ quotes)) left ∙ take_at text quotes (length text) refl
+
+nothing : replaced block_character_at 0 [] ≡ []
+unfolding replaced
+nothing = refl
+
+raw_is : (prefix : List ℕ) (level : ℕ) (text : List ℕ) → IsWhite prefix → raw_value (block_text prefix level text) ≡ raw_of (line_start prefix level) (text_lines text)
+unfolding raw_value
+raw_is prefix level text white =
+    let inside = written prefix level (text_lines text) in
+    let raw = raw_of (line_start prefix level) (text_lines text) in
+    ap (λ (t : List ℕ). replaced block_character_at 0 (between 3 t)) (block_is prefix level text)
+    ∙ ap (replaced block_character_at 0) (within_marks inside ∙ sym (append-nil inside))
+    ∙ (written_reads prefix level (text_lines text) [] (white_start prefix level white)).stands
+    ∙ ap (λ (v : List ℕ). raw ++ v) nothing
+    ∙ append-nil raw
+
+record Lines (text : List ℕ) : Type 0 where
+  no_return : has_byte 13 text ≡ false
+  first : first_is_blank (text_lines text) ≡ false
+  last : last_is_blank (text_lines text) ≡ false
+  margin : list_any is_at_margin (text_lines text) ≡ true
+
+lines_from : (text : List ℕ) → can_be_block_string text ≡ true → Lines text
+lines_from text h = go (has_byte 13 text) (first_is_blank (text_lines text)) (last_is_blank (text_lines text)) (list_any is_at_margin (text_lines text)) refl refl refl refl h
+  where
+    go : (r f l m : Bool) → has_byte 13 text ≡ r → first_is_blank (text_lines text) ≡ f → last_is_blank (text_lines text) ≡ l → list_any is_at_margin (text_lines text) ≡ m
+        → (not r && not f && not l && m) ≡ true → Lines text
+    go false false false true er ef el em h = record { no_return = er; first = ef; last = el; margin = em }
+    go false false false false er ef el em h = absurd cc
+    go false false true m er ef el em h = absurd cc
+    go false true l m er ef el em h = absurd cc
+    go true f l m er ef el em h = absurd cc
+
+value_of_raw : (start text : List ℕ) → IsWhite start → Lines text → block_string_value (raw_of start (text_lines text)) ≡ text
+unfolding block_string_value
+value_of_raw start text white h =
+    ap (λ (ls : List (List ℕ)). formatted (without_blank_back (without_blank_front (without_indent ls)))) (raw_lines start (text_lines text) (white_in_line start white) (lines_in_line text h.no_return))
+    ∙ ap (λ (ls : List (List ℕ)). formatted (without_blank_back (without_blank_front ls))) (indent_removed start (text_lines text) white h.margin)
+    ∙ ap formatted (ends_removed (text_lines text) h.first h.last)
+    ∙ formatted_is text
+
+-- What is printed as a block string stands for the text, where that can be one.
+pub block_value_is : (prefix : List ℕ) (level : ℕ) (text : List ℕ) → IsWhite prefix → can_be_block_string text ≡ true → block_value (block_text prefix level text) ≡ text
+unfolding block_value
+block_value_is prefix level text white h =
+    ap block_string_value (raw_is prefix level text white)
+    ∙ value_of_raw (line_start prefix level) text (white_start prefix level white) (lines_from text h)
