@@ -1,13 +1,12 @@
 -- What is printed as a block string is read as it was.
-use Rattle.std.proofs.Common.{◌≡◌, ℕ, zero, suc, ◌+◌, ◌-◌, ◌≤◌, Bool, true, false, cond, not, ◌&&◌, List, [], ◌∷◌, ◌++◌, length, take, drop, Option, Some, None, refl, sym, ap, ◌∙◌, subst, arith, append-nil, append_assoc, length-append}
-use Rattle.std.specs.List.{list_all, list_any}
-use Rattle.std.proofs.lemmas.Bool.{and_parts, not-true}
+use Rattle.std.proofs.Common.{◌≡◌, ℕ, suc, ◌+◌, ◌-◌, Bool, true, false, cond, not, ◌&&◌, List, [], ◌++◌, length, take, drop, Some, None, refl, sym, ap, ◌∙◌, arith, append-nil, append_assoc, length-append}
+use Rattle.std.specs.List.{list_any}
 use Rattle.std.proofs.lemmas.List.{drop_at, take_at}
 use Rattle.graphql_printing.specs.LineLayout.{line_start}
 use Rattle.graphql_printing.specs.StringLayout.{text_lines, has_byte, first_is_blank, last_is_blank, is_at_margin, can_be_block_string, block_text}
 use Rattle.graphql_lexer.specs.Bytes.{begins_with, run_len, replaced, between}
 use Rattle.graphql_lexer.specs.Strings.{closed_len}
-use Rattle.graphql_lexer.specs.Blocks.{quotes, block_character_len, block_character_at, block_len, raw_value, lines_of, is_white_space, without_indent, without_blank_front, without_blank_back, formatted, block_string_value, block_value}
+use Rattle.graphql_lexer.specs.Blocks.{quotes, block_character_len, block_character_at, block_len, raw_value, without_indent, without_blank_front, without_blank_back, formatted, block_string_value, block_value}
 use Rattle.graphql_lexer.specs.Tokens.{string_at, token_at, of_kind}
 use Rattle.graphql_lexer.specs.declared.token.TokenKind.TheVariants as k
 use Rattle.graphql_lexer.proofs.Bytes.{run_end}
@@ -36,7 +35,7 @@ block_reach : (text behind : List ℕ) → run_len block_character_len 0 (text +
 unfolding block_len
 block_reach text behind run =
     let size : 3 + run_len block_character_len 0 (text ++ (quotes ++ behind)) + 3 ≡ length (quotes ++ (text ++ quotes)) =
-        (let inside : length (text ++ quotes) ≡ length text + 3 = length-append text quotes in omega arith) in
+    (let inside : length (text ++ quotes) ≡ length text + 3 = length-append text quotes in omega arith) in
     closed text behind (run_len block_character_len 0 (text ++ (quotes ++ behind))) run ∙ ap Some size
 
 -- What is printed as a block string is one BlockString token, whatever is behind it.
@@ -45,9 +44,9 @@ block_is_token prefix level text behind white =
     let inside = written prefix level (text_lines text) in
     let is : block_text prefix level text ≡ quotes ++ (inside ++ quotes) = block_is prefix level text in
     let run : run_len block_character_len 0 (inside ++ (quotes ++ behind)) ≡ length inside =
-        (let all = (written_reads prefix level (text_lines text) (quotes ++ behind) (white_start prefix level white)).passed in
-         let end = ends_at_marks behind in
-         omega arith) in
+    (let all = (written_reads prefix level (text_lines text) (quotes ++ behind) (white_start prefix level white)).passed in
+    let end = ends_at_marks behind in
+    omega arith) in
     ap (λ (t : List ℕ). token_at (t ++ behind)) is
     ∙ ap (λ (t : List ℕ). token_at (quotes ++ t)) (append_assoc inside quotes behind)
     ∙ string_found (inside ++ (quotes ++ behind))

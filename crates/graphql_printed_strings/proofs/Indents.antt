@@ -1,7 +1,7 @@
 -- The lines of a printed block string without their indent, and without the blank lines at both ends.
-use Rattle.std.proofs.Common.{◌≡◌, ◌⊎◌, ℕ, zero, suc, ◌+◌, ◌<◌, ◌≤◌, min, Bool, true, false, cond, not, ◌&&◌, ◌||◌, ◌==◌, List, [], ◌∷◌, ◌++◌, length, map, drop, Option, Some, None, refl, sym, ap, ◌∙◌, subst, arith, one-add, eqb-true}
-use Rattle.std.specs.List.{list_all, list_any, slice_split, onto_first, flat_map, prefix_len}
-use Rattle.std.proofs.lemmas.Bool.{and_parts, and_from, and_left, and_right, not-true}
+use Rattle.std.proofs.Common.{◌≡◌, ℕ, ◌+◌, ◌≤◌, min, Bool, true, false, cond, ◌||◌, ◌==◌, List, [], ◌∷◌, ◌++◌, length, map, drop, Option, Some, None, refl, ap, ◌∙◌, arith, eqb-true}
+use Rattle.std.specs.List.{list_all, list_any, onto_first, flat_map}
+use Rattle.std.proofs.lemmas.Bool.{and_parts, and_left, and_right, not-true}
 use Rattle.std.proofs.lemmas.List.{drop_at, drop_all}
 use Rattle.graphql_printing.specs.StringLayout.{text_lines, is_at_margin, first_is_blank, last_is_blank}
 use Rattle.graphql_lexer.specs.Blocks.{is_white_space, is_blank, indent_of, least, common_indent, or_zero, without_indent, without_blank_front, without_blank_back, formatted}

@@ -6,3 +6,4 @@ pub mod RawLines
 pub mod Indents
 pub mod BlockStrings
 pub mod Descriptions
+pub mod Rows

@@ -1,12 +1,12 @@
 -- Where `"""` may stand in what is printed of a line, and how the line is read.
-use Rattle.std.proofs.Common.{◌≡◌, ℕ, zero, suc, ◌+◌, ◌<◌, Bool, true, false, cond, ◌&&◌, ◌==◌, List, [], ◌∷◌, ◌++◌, length, Option, Some, None, refl, sym, ap, ◌∙◌, subst, arith, eqb-true}
+use Rattle.std.proofs.Common.{◌≡◌, ℕ, Bool, true, false, cond, ◌&&◌, ◌==◌, List, [], ◌∷◌, ◌++◌, refl, subst, arith, eqb-true}
 use Rattle.std.specs.List.{list_all}
 use Rattle.std.proofs.lemmas.Bool.{and_parts, and_left, and_right}
 use Rattle.std.proofs.lemmas.Grind.{common_steps}
 use Rattle.graphql_printing.specs.StringLayout.{is_quotes, block_escaped}
 use Rattle.graphql_lexer.specs.Bytes.{begins_with}
 use Rattle.graphql_lexer.specs.Blocks.{quotes, escaped_quotes, block_character_len, block_character_at, is_white_space}
-use Rattle.graphql_printed_strings.proofs.Pieces.{Reads, Piece, reads_none, reads_piece, reads_both}
+use Rattle.graphql_printed_strings.proofs.Pieces.{Reads, reads_none, reads_piece, reads_both}
 
 abbrev pub BlockReads : List ℕ → List ℕ → List ℕ → Type 0
 BlockReads text value rest = Reads block_character_len block_character_at text value rest
@@ -98,8 +98,8 @@ line_reads [] rest none = reads_none block_character_len block_character_at rest
 line_reads (a ∷ []) rest none = plain_byte a rest (no_marks [] rest none) (no_marks (a ∷ []) rest none)
 line_reads (a ∷ b ∷ []) rest none =
     reads_both block_character_len block_character_at (a ∷ []) (a ∷ []) (b ∷ []) (b ∷ []) rest
-        (plain_byte a (b ∷ rest) (no_marks (b ∷ []) rest none) (no_marks (a ∷ b ∷ []) rest none))
-        (plain_byte b rest (no_marks [] rest none) (no_marks (b ∷ []) rest none))
+    (plain_byte a (b ∷ rest) (no_marks (b ∷ []) rest none) (no_marks (a ∷ b ∷ []) rest none))
+    (plain_byte b rest (no_marks [] rest none) (no_marks (b ∷ []) rest none))
 line_reads (a ∷ b ∷ c ∷ line) rest none = go (is_quotes a b c) refl (no_marks (a ∷ b ∷ c ∷ line) rest none) (line_reads line rest none) (line_reads (b ∷ c ∷ line) rest none)
   where
     go : (t : Bool) → is_quotes a b c ≡ t
@@ -112,11 +112,11 @@ line_reads (a ∷ b ∷ c ∷ line) rest none = go (is_quotes a b c) refl (no_ma
         let three : c ≡ 34 = grind (arith, common_steps) in
         let same : quotes ++ line ≡ a ∷ b ∷ c ∷ line = rw (one, two, three) refl in
         subst (λ (v : List ℕ). BlockReads (92 ∷ 34 ∷ 34 ∷ 34 ∷ block_escaped line) v rest) same
-            (reads_both block_character_len block_character_at escaped_quotes quotes (block_escaped line) line rest (marks_read (block_escaped line ++ rest)) behind)
+        (reads_both block_character_len block_character_at escaped_quotes quotes (block_escaped line) line rest (marks_read (block_escaped line ++ rest)) behind)
     go false e here behind next =
         reads_both block_character_len block_character_at (a ∷ []) (a ∷ []) (block_escaped (b ∷ c ∷ line)) (b ∷ c ∷ line) rest
-            (plain_byte a (block_escaped (b ∷ c ∷ line) ++ rest) (no_marks (b ∷ c ∷ line) rest none) here)
-            next
+        (plain_byte a (block_escaped (b ∷ c ∷ line) ++ rest) (no_marks (b ∷ c ∷ line) rest none) here)
+        next
 
 -- white space stands for itself
 pub white_reads : (white rest : List ℕ) → list_all is_white_space white ≡ true → BlockReads white white rest
@@ -124,5 +124,5 @@ white_reads [] rest h = reads_none block_character_len block_character_at rest
 white_reads (b ∷ white) rest h =
     let parts = and_parts (is_white_space b) (list_all is_white_space white) h in
     reads_both block_character_len block_character_at (b ∷ []) (b ∷ []) white white rest
-        (other_byte b (white ++ rest) (no_mark b parts.0) (no_backslash b parts.0))
-        (white_reads white rest parts.1)
+    (other_byte b (white ++ rest) (no_mark b parts.0) (no_backslash b parts.0))
+    (white_reads white rest parts.1)

@@ -1,12 +1,12 @@
 -- What is printed between quotation marks is read as it was.
-use Rattle.std.proofs.Common.{◌≡◌, ◌⊎◌, ℕ, zero, suc, ◌+◌, ◌-◌, ◌<◌, ◌≤◌, Bool, true, false, cond, not, ◌&&◌, ◌||◌, ◌==◌, List, [], ◌∷◌, ◌++◌, length, take, drop, map, Option, Some, None, refl, sym, ap, ◌∙◌, subst, inl, inr, arith, one-add, eqb-true, ltb-true, append-nil, append_assoc, length-append}
+use Rattle.std.proofs.Common.{◌≡◌, ◌⊎◌, ℕ, zero, suc, ◌+◌, ◌-◌, ◌<◌, Bool, true, false, cond, ◌&&◌, ◌==◌, List, [], ◌∷◌, ◌++◌, length, take, drop, Some, None, refl, sym, ap, ◌∙◌, subst, inl, inr, arith, ltb-true, append-nil, append_assoc, length-append}
 use Rattle.std.specs.Char.{encode_utf8}
 use Rattle.std.specs.Prelude.{nat_lt}
 use Rattle.std.proofs.lemmas.Bool.{cases_order}
 use Rattle.std.proofs.lemmas.Grind.{common_steps}
 use Rattle.std.proofs.lemmas.List.{drop_at, take_at}
 use Rattle.graphql_printing.specs.Joined.{joined}
-use Rattle.graphql_printing.specs.StringLayout.{control_text, escaped_byte, escaped_text, quoted_text}
+use Rattle.graphql_printing.specs.StringLayout.{escaped_byte, escaped_text, quoted_text}
 use Rattle.graphql_printing.specs.EscapeRuns.{must_escape}
 use Rattle.graphql_lexer.specs.Bytes.{begins_with, run_len, replaced, between}
 use Rattle.graphql_lexer.specs.Strings.{unicode_at, escape_at, part_len, part_at, closed_len, quoted_len, string_value}
@@ -93,8 +93,8 @@ unfolding joined
 escaped_reads [] rest = reads_none part_len part_at rest
 escaped_reads (b ∷ text) rest =
     reads_both part_len part_at (escaped_byte b) (b ∷ []) (escaped_text text) text rest
-        (reads_piece part_len part_at (escaped_byte b) (b ∷ []) (escaped_text text ++ rest) (quoted_piece b (escaped_text text ++ rest)))
-        (escaped_reads text rest)
+    (reads_piece part_len part_at (escaped_byte b) (b ∷ []) (escaped_text text ++ rest) (quoted_piece b (escaped_text text ++ rest)))
+    (escaped_reads text rest)
 
 quoted_is : (text : List ℕ) → quoted_text text ≡ 34 ∷ (escaped_text text ++ 34 ∷ [])
 unfolding joined
@@ -137,11 +137,11 @@ quoted_reach : (text behind : List ℕ) → quoted_len (34 ∷ (escaped_text tex
 unfolding quoted_len
 quoted_reach text behind =
     let run : run_len part_len 0 (escaped_text text ++ 34 ∷ behind) ≡ length (escaped_text text) =
-        (let all = (escaped_reads text (34 ∷ behind)).passed in let end = ends_at_mark behind in omega arith) in
+    (let all = (escaped_reads text (34 ∷ behind)).passed in let end = ends_at_mark behind in omega arith) in
     let size : 1 + run_len part_len 0 (escaped_text text ++ 34 ∷ behind) + 1 ≡ length (quoted_text text) =
-        (let whole : length (quoted_text text) ≡ suc (length (escaped_text text ++ 34 ∷ [])) = ap length (quoted_is text) in
-         let inside : length (escaped_text text ++ 34 ∷ []) ≡ length (escaped_text text) + 1 = length-append (escaped_text text) (34 ∷ []) in
-         omega arith) in
+    (let whole : length (quoted_text text) ≡ suc (length (escaped_text text ++ 34 ∷ [])) = ap length (quoted_is text) in
+    let inside : length (escaped_text text ++ 34 ∷ []) ≡ length (escaped_text text) + 1 = length-append (escaped_text text) (34 ∷ []) in
+    omega arith) in
     closed (escaped_text text) behind (run_len part_len 0 (escaped_text text ++ 34 ∷ behind)) run ∙ ap Some size
 
 -- no escape begins with a quotation mark
@@ -174,7 +174,7 @@ pub quoted_is_token : (text behind : List ℕ) → MayFollow text behind → IsT
 unfolding string_at
 quoted_is_token text behind h =
     let whole : quoted_text text ++ behind ≡ 34 ∷ (escaped_text text ++ 34 ∷ behind) =
-        ap (λ (t : List ℕ). t ++ behind) (quoted_is text) ∙ ap (λ (t : List ℕ). 34 ∷ t) (append_assoc (escaped_text text) (34 ∷ []) behind) in
+    ap (λ (t : List ℕ). t ++ behind) (quoted_is text) ∙ ap (λ (t : List ℕ). 34 ∷ t) (append_assoc (escaped_text text) (34 ∷ []) behind) in
     ap token_at whole
     ∙ string_found (escaped_text text ++ 34 ∷ behind)
     ∙ ap (λ (t : Bool). cond t (of_kind k.BlockString (block_len (34 ∷ (escaped_text text ++ 34 ∷ behind)))) (of_kind k.String (quoted_len (34 ∷ (escaped_text text ++ 34 ∷ behind))))) (no_block text behind h)

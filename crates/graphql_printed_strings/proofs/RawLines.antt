@@ -1,7 +1,7 @@
 -- The lines of the raw value of a printed block string.
-use Rattle.std.proofs.Common.{◌≡◌, ◌⊎◌, ℕ, Bool, true, false, cond, not, ◌&&◌, ◌||◌, ◌==◌, List, [], ◌∷◌, ◌++◌, map, refl, sym, ap, ◌∙◌, arith}
-use Rattle.std.specs.List.{list_all, list_any, slice_split, onto_first}
-use Rattle.std.proofs.lemmas.Bool.{and_parts, and_from, not-true, cases_Bool}
+use Rattle.std.proofs.Common.{◌≡◌, ℕ, Bool, true, false, cond, ◌||◌, ◌==◌, List, [], ◌∷◌, ◌++◌, map, refl, ap, ◌∙◌, arith}
+use Rattle.std.specs.List.{list_all, onto_first}
+use Rattle.std.proofs.lemmas.Bool.{and_parts, and_from, not-true}
 use Rattle.std.proofs.lemmas.Grind.{common_steps}
 use Rattle.graphql_printing.specs.StringLayout.{text_lines, has_byte}
 use Rattle.graphql_lexer.specs.Tokens.{is_in_line}

@@ -1,12 +1,12 @@
 -- What stands between the marks of a printed block string, and its raw value.
-use Rattle.std.proofs.Common.{◌≡◌, ℕ, zero, suc, ◌+◌, Bool, true, false, ◌&&◌, ◌==◌, List, [], ◌∷◌, ◌++◌, length, map, replicate, Option, Some, None, refl, sym, ap, ◌∙◌, subst, arith, append-nil, append_assoc}
+use Rattle.std.proofs.Common.{◌≡◌, ℕ, zero, suc, Bool, true, List, [], ◌∷◌, ◌++◌, map, refl, sym, ap, ◌∙◌, subst, append-nil, append_assoc}
 use Rattle.std.specs.List.{list_all}
 use Rattle.std.proofs.lemmas.Bool.{and_parts, and_from}
 use Rattle.graphql_printing.specs.Joined.{joined}
 use Rattle.graphql_printing.specs.LineLayout.{line_start}
 use Rattle.graphql_printing.specs.StringLayout.{text_lines, block_escaped, block_line, block_text}
 use Rattle.graphql_lexer.specs.Blocks.{quotes, block_character_len, block_character_at, is_white_space}
-use Rattle.graphql_printed_strings.proofs.Pieces.{Reads, reads_both}
+use Rattle.graphql_printed_strings.proofs.Pieces.{reads_both}
 use Rattle.graphql_printed_strings.proofs.Marks.{BlockReads, NoMark, other_byte, line_reads, white_reads}
 
 -- ---- what begins a line
@@ -69,18 +69,18 @@ block_line_reads prefix level (b ∷ line) rest white none =
     let text : block_escaped (b ∷ line) ≡ block_escaped (b ∷ line) ++ [] = sym (append-nil (block_escaped (b ∷ line))) in
     let start = line_start prefix level in
     subst (λ (t : List ℕ). BlockReads (10 ∷ (start ++ t)) (10 ∷ (start ++ b ∷ line)) rest) text
-        (reads_both block_character_len block_character_at (10 ∷ []) (10 ∷ []) (start ++ block_escaped (b ∷ line)) (start ++ b ∷ line) rest
-            (feed_reads ((start ++ block_escaped (b ∷ line)) ++ rest))
-            (reads_both block_character_len block_character_at start start (block_escaped (b ∷ line)) (b ∷ line) rest
-                (white_reads start (block_escaped (b ∷ line) ++ rest) white)
-                (line_reads (b ∷ line) rest none)))
+    (reads_both block_character_len block_character_at (10 ∷ []) (10 ∷ []) (start ++ block_escaped (b ∷ line)) (start ++ b ∷ line) rest
+    (feed_reads ((start ++ block_escaped (b ∷ line)) ++ rest))
+    (reads_both block_character_len block_character_at start start (block_escaped (b ∷ line)) (b ∷ line) rest
+    (white_reads start (block_escaped (b ∷ line) ++ rest) white)
+    (line_reads (b ∷ line) rest none)))
 
 pub written_reads : (prefix : List ℕ) (level : ℕ) (lines : List (List ℕ)) (rest : List ℕ) → list_all is_white_space (line_start prefix level) ≡ true → BlockReads (written prefix level lines) (raw_of (line_start prefix level) lines) rest
 written_reads prefix level [] rest white =
     reads_both block_character_len block_character_at (10 ∷ []) (10 ∷ []) (line_start prefix level) (line_start prefix level) rest
-        (feed_reads (line_start prefix level ++ rest))
-        (white_reads (line_start prefix level) rest white)
+    (feed_reads (line_start prefix level ++ rest))
+    (white_reads (line_start prefix level) rest white)
 written_reads prefix level (line ∷ lines) rest white =
     reads_both block_character_len block_character_at (block_line prefix level line) (10 ∷ indented (line_start prefix level) line) (written prefix level lines) (raw_of (line_start prefix level) lines) rest
-        (block_line_reads prefix level line (written prefix level lines ++ rest) white (written_begins prefix level lines rest))
-        (written_reads prefix level lines rest white)
+    (block_line_reads prefix level line (written prefix level lines ++ rest) white (written_begins prefix level lines rest))
+    (written_reads prefix level lines rest white)

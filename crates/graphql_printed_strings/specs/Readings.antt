@@ -1,5 +1,5 @@
 -- What it means that a printed string is read as a text, and what may stand round it.
-use Rattle.std.specs.Prelude.{◌≡◌, ◌⊎◌, ℕ, true, false, List, [], ◌∷◌, ◌++◌, length, Option, Some, None}
+use Rattle.std.specs.Prelude.{◌≡◌, ◌⊎◌, ℕ, true, false, List, [], ◌∷◌, ◌++◌, length, Some, None}
 use Rattle.std.specs.List.{list_all}
 use Rattle.graphql_printing.specs.LineLayout.{Prefix}
 use Rattle.graphql_lexer.specs.Bytes.{begins_with}
