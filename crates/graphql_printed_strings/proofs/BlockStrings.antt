@@ -1,16 +1,15 @@
 -- What is printed as a block string is read as it was.
-use Rattle.std.proofs.Common.{◌≡◌, ℕ, suc, ◌+◌, ◌-◌, Bool, true, false, cond, not, ◌&&◌, List, [], ◌++◌, length, take, drop, Some, None, refl, sym, ap, ◌∙◌, arith, append-nil, append_assoc, length-append}
+use Rattle.std.proofs.Common.{◌≡◌, ℕ, Bool, true, false, not, ◌&&◌, List, [], ◌++◌, length, Some, refl, sym, ap, ◌∙◌, arith, append-nil, append_assoc}
 use Rattle.std.specs.List.{list_any}
-use Rattle.std.proofs.lemmas.List.{drop_at, take_at}
 use Rattle.graphql_printing.specs.LineLayout.{line_start}
 use Rattle.graphql_printing.specs.StringLayout.{text_lines, has_byte, first_is_blank, last_is_blank, is_at_margin, can_be_block_string, block_text}
-use Rattle.graphql_lexer.specs.Bytes.{begins_with, run_len, replaced, between}
-use Rattle.graphql_lexer.specs.Strings.{closed_len}
+use Rattle.graphql_lexer.specs.Bytes.{run_len, replaced, between}
 use Rattle.graphql_lexer.specs.Blocks.{quotes, block_character_len, block_character_at, block_len, raw_value, without_indent, without_blank_front, without_blank_back, formatted, block_string_value, block_value}
 use Rattle.graphql_lexer.specs.Tokens.{string_at, token_at, of_kind}
 use Rattle.graphql_lexer.specs.declared.token.TokenKind.TheVariants as k
 use Rattle.graphql_lexer.proofs.Bytes.{run_end}
 use Rattle.graphql_printed_strings.specs.Readings.{IsToken, IsWhite}
+use Rattle.graphql_printed_strings.proofs.Between.{closed, within}
 use Rattle.graphql_printed_strings.proofs.Written.{written, raw_of, block_is, white_start, written_reads}
 use Rattle.graphql_printed_strings.proofs.RawLines.{lines_in_line, white_in_line, raw_lines}
 use Rattle.graphql_printed_strings.proofs.Indents.{indent_removed, ends_removed, formatted_is}
@@ -21,45 +20,32 @@ ends_at_marks : (behind : List ℕ) → run_len block_character_len 0 (quotes ++
 unfolding block_character_len
 ends_at_marks behind = run_end block_character_len (quotes ++ behind) refl
 
-closed : (text behind : List ℕ) (n : ℕ) → n ≡ length text → closed_len quotes n (quotes ++ (text ++ (quotes ++ behind))) ≡ Some (3 + n + 3)
-closed text behind n e =
-    let next : 3 + n ≡ suc (suc (suc (length text))) = omega arith in
-    ap (λ (m : ℕ). cond (begins_with quotes (drop m (quotes ++ (text ++ (quotes ++ behind))))) (Some (3 + n + 3)) None) next
-    ∙ ap (λ (r : List ℕ). cond (begins_with quotes r) (Some (3 + n + 3)) None) (drop_at text (quotes ++ behind) (length text) refl)
-
 string_found : (bytes : List ℕ) → token_at (quotes ++ bytes) ≡ of_kind k.BlockString (block_len (quotes ++ bytes))
 unfolding token_at string_at
 string_found bytes = refl
 
+inside_length : (prefix : List ℕ) (level : ℕ) (lines : List (List ℕ)) (behind : List ℕ) → IsWhite prefix → run_len block_character_len 0 (written prefix level lines ++ (quotes ++ behind)) ≡ length (written prefix level lines)
+inside_length prefix level lines behind white =
+    let all = (written_reads prefix level lines (quotes ++ behind) (white_start prefix level white)).passed in
+    let end = ends_at_marks behind in
+    omega arith
+
 block_reach : (text behind : List ℕ) → run_len block_character_len 0 (text ++ (quotes ++ behind)) ≡ length text → block_len (quotes ++ (text ++ (quotes ++ behind))) ≡ Some (length (quotes ++ (text ++ quotes)))
 unfolding block_len
-block_reach text behind run =
-    let size : 3 + run_len block_character_len 0 (text ++ (quotes ++ behind)) + 3 ≡ length (quotes ++ (text ++ quotes)) =
-    (let inside : length (text ++ quotes) ≡ length text + 3 = length-append text quotes in omega arith) in
-    closed text behind (run_len block_character_len 0 (text ++ (quotes ++ behind))) run ∙ ap Some size
+block_reach text behind run = closed quotes text behind (run_len block_character_len 0 (text ++ (quotes ++ behind))) run
 
 -- What is printed as a block string is one BlockString token, whatever is behind it.
 pub block_is_token : (prefix : List ℕ) (level : ℕ) (text behind : List ℕ) → IsWhite prefix → IsToken k.BlockString (block_text prefix level text) behind
 block_is_token prefix level text behind white =
     let inside = written prefix level (text_lines text) in
     let is : block_text prefix level text ≡ quotes ++ (inside ++ quotes) = block_is prefix level text in
-    let run : run_len block_character_len 0 (inside ++ (quotes ++ behind)) ≡ length inside =
-    (let all = (written_reads prefix level (text_lines text) (quotes ++ behind) (white_start prefix level white)).passed in
-    let end = ends_at_marks behind in
-    omega arith) in
     ap (λ (t : List ℕ). token_at (t ++ behind)) is
     ∙ ap (λ (t : List ℕ). token_at (quotes ++ t)) (append_assoc inside quotes behind)
     ∙ string_found (inside ++ (quotes ++ behind))
-    ∙ ap (of_kind k.BlockString) (block_reach inside behind run)
+    ∙ ap (of_kind k.BlockString) (block_reach inside behind (inside_length prefix level (text_lines text) behind white))
     ∙ ap (λ (t : List ℕ). Some (k.BlockString, length t)) (sym is)
 
 -- ---- the value
-
-within_marks : (text : List ℕ) → between 3 (quotes ++ (text ++ quotes)) ≡ text
-within_marks text =
-    let size : length (text ++ quotes) ≡ length text + 3 = length-append text quotes in
-    let left : length (quotes ++ (text ++ quotes)) - 3 - 3 ≡ length text = omega arith in
-    ap (λ (n : ℕ). take n (text ++ quotes)) left ∙ take_at text quotes (length text) refl
 
 nothing : replaced block_character_at 0 [] ≡ []
 unfolding replaced
@@ -71,7 +57,7 @@ raw_is prefix level text white =
     let inside = written prefix level (text_lines text) in
     let raw = raw_of (line_start prefix level) (text_lines text) in
     ap (λ (t : List ℕ). replaced block_character_at 0 (between 3 t)) (block_is prefix level text)
-    ∙ ap (replaced block_character_at 0) (within_marks inside ∙ sym (append-nil inside))
+    ∙ ap (replaced block_character_at 0) (within quotes inside ∙ sym (append-nil inside))
     ∙ (written_reads prefix level (text_lines text) [] (white_start prefix level white)).stands
     ∙ ap (λ (v : List ℕ). raw ++ v) nothing
     ∙ append-nil raw

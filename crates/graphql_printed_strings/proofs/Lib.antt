@@ -1,4 +1,5 @@
 pub mod Pieces
+pub mod Between
 pub mod Quoted
 pub mod Marks
 pub mod Written
@@ -7,3 +8,4 @@ pub mod Indents
 pub mod BlockStrings
 pub mod Descriptions
 pub mod Rows
+pub mod StringPieces

@@ -1,20 +1,20 @@
 -- What is printed between quotation marks is read as it was.
-use Rattle.std.proofs.Common.{◌≡◌, ◌⊎◌, ℕ, zero, suc, ◌+◌, ◌-◌, ◌<◌, Bool, true, false, cond, ◌&&◌, ◌==◌, List, [], ◌∷◌, ◌++◌, length, take, drop, Some, None, refl, sym, ap, ◌∙◌, subst, inl, inr, arith, ltb-true, append-nil, append_assoc, length-append}
+use Rattle.std.proofs.Common.{◌≡◌, ◌⊎◌, ℕ, zero, suc, ◌<◌, Bool, true, false, cond, ◌&&◌, ◌==◌, List, [], ◌∷◌, ◌++◌, length, Some, refl, sym, ap, ◌∙◌, subst, inl, inr, arith, ltb-true, append-nil, append_assoc}
 use Rattle.std.specs.Char.{encode_utf8}
 use Rattle.std.specs.Prelude.{nat_lt}
 use Rattle.std.proofs.lemmas.Bool.{cases_order}
 use Rattle.std.proofs.lemmas.Grind.{common_steps}
-use Rattle.std.proofs.lemmas.List.{drop_at, take_at}
 use Rattle.graphql_printing.specs.Joined.{joined}
 use Rattle.graphql_printing.specs.StringLayout.{escaped_byte, escaped_text, quoted_text}
 use Rattle.graphql_printing.specs.EscapeRuns.{must_escape}
 use Rattle.graphql_lexer.specs.Bytes.{begins_with, run_len, replaced, between}
-use Rattle.graphql_lexer.specs.Strings.{unicode_at, escape_at, part_len, part_at, closed_len, quoted_len, string_value}
+use Rattle.graphql_lexer.specs.Strings.{unicode_at, escape_at, part_len, part_at, quoted_len, string_value}
 use Rattle.graphql_lexer.specs.Blocks.{quotes, block_len}
 use Rattle.graphql_lexer.specs.Tokens.{string_at, token_at, of_kind}
 use Rattle.graphql_lexer.specs.declared.token.TokenKind.TheVariants as k
 use Rattle.graphql_lexer.proofs.Bytes.{run_end}
 use Rattle.graphql_printed_strings.specs.Readings.{IsToken, MayFollow}
+use Rattle.graphql_printed_strings.proofs.Between.{closed, within}
 use Rattle.graphql_printed_strings.proofs.Pieces.{Reads, Piece, reads_none, reads_piece, reads_both}
 
 -- ---- a byte
@@ -100,13 +100,6 @@ quoted_is : (text : List ℕ) → quoted_text text ≡ 34 ∷ (escaped_text text
 unfolding joined
 quoted_is text = refl
 
--- a text within marks, and how long it is
-within_marks : (text : List ℕ) → between 1 (34 ∷ (text ++ 34 ∷ [])) ≡ text
-within_marks text =
-    let size : length (text ++ 34 ∷ []) ≡ length text + 1 = length-append text (34 ∷ []) in
-    let left : length (34 ∷ (text ++ 34 ∷ [])) - 1 - 1 ≡ length text = omega arith in
-    ap (λ (n : ℕ). take n (text ++ 34 ∷ [])) left ∙ take_at text (34 ∷ []) (length text) refl
-
 nothing : replaced part_at 0 [] ≡ []
 unfolding replaced
 nothing = refl
@@ -116,7 +109,7 @@ pub quoted_value : (text : List ℕ) → string_value (quoted_text text) ≡ tex
 unfolding string_value
 quoted_value text =
     ap (λ (t : List ℕ). replaced part_at 0 (between 1 t)) (quoted_is text)
-    ∙ ap (replaced part_at 0) (within_marks (escaped_text text) ∙ sym (append-nil (escaped_text text)))
+    ∙ ap (replaced part_at 0) (within (34 ∷ []) (escaped_text text) ∙ sym (append-nil (escaped_text text)))
     ∙ (escaped_reads text []).stands
     ∙ ap (λ (v : List ℕ). text ++ v) nothing
     ∙ append-nil text
@@ -127,22 +120,17 @@ ends_at_mark : (behind : List ℕ) → run_len part_len 0 (34 ∷ behind) ≡ 0
 unfolding part_len
 ends_at_mark behind = run_end part_len (34 ∷ behind) refl
 
-closed : (text behind : List ℕ) (n : ℕ) → n ≡ length text → closed_len (34 ∷ []) n (34 ∷ (text ++ 34 ∷ behind)) ≡ Some (1 + n + 1)
-closed text behind n e =
-    let next : 1 + n ≡ suc (length text) = omega arith in
-    ap (λ (m : ℕ). cond (begins_with (34 ∷ []) (drop m (34 ∷ (text ++ 34 ∷ behind)))) (Some (1 + n + 1)) None) next
-    ∙ ap (λ (r : List ℕ). cond (begins_with (34 ∷ []) r) (Some (1 + n + 1)) None) (drop_at text (34 ∷ behind) (length text) refl)
+escaped_length : (text behind : List ℕ) → run_len part_len 0 (escaped_text text ++ 34 ∷ behind) ≡ length (escaped_text text)
+escaped_length text behind =
+    let all = (escaped_reads text (34 ∷ behind)).passed in
+    let end = ends_at_mark behind in
+    omega arith
 
 quoted_reach : (text behind : List ℕ) → quoted_len (34 ∷ (escaped_text text ++ 34 ∷ behind)) ≡ Some (length (quoted_text text))
 unfolding quoted_len
 quoted_reach text behind =
-    let run : run_len part_len 0 (escaped_text text ++ 34 ∷ behind) ≡ length (escaped_text text) =
-    (let all = (escaped_reads text (34 ∷ behind)).passed in let end = ends_at_mark behind in omega arith) in
-    let size : 1 + run_len part_len 0 (escaped_text text ++ 34 ∷ behind) + 1 ≡ length (quoted_text text) =
-    (let whole : length (quoted_text text) ≡ suc (length (escaped_text text ++ 34 ∷ [])) = ap length (quoted_is text) in
-    let inside : length (escaped_text text ++ 34 ∷ []) ≡ length (escaped_text text) + 1 = length-append (escaped_text text) (34 ∷ []) in
-    omega arith) in
-    closed (escaped_text text) behind (run_len part_len 0 (escaped_text text ++ 34 ∷ behind)) run ∙ ap Some size
+    closed (34 ∷ []) (escaped_text text) behind (run_len part_len 0 (escaped_text text ++ 34 ∷ behind)) (escaped_length text behind)
+    ∙ ap (λ (t : List ℕ). Some (length t)) (sym (quoted_is text))
 
 -- no escape begins with a quotation mark
 escaped_begins : (b : ℕ) (rest : List ℕ) → begins_with (34 ∷ []) (escaped_byte b ++ rest) ≡ false
@@ -173,9 +161,8 @@ string_found bytes = refl
 pub quoted_is_token : (text behind : List ℕ) → MayFollow text behind → IsToken k.String (quoted_text text) behind
 unfolding string_at
 quoted_is_token text behind h =
-    let whole : quoted_text text ++ behind ≡ 34 ∷ (escaped_text text ++ 34 ∷ behind) =
-    ap (λ (t : List ℕ). t ++ behind) (quoted_is text) ∙ ap (λ (t : List ℕ). 34 ∷ t) (append_assoc (escaped_text text) (34 ∷ []) behind) in
-    ap token_at whole
+    ap (λ (t : List ℕ). token_at (t ++ behind)) (quoted_is text)
+    ∙ ap (λ (t : List ℕ). token_at (34 ∷ t)) (append_assoc (escaped_text text) (34 ∷ []) behind)
     ∙ string_found (escaped_text text ++ 34 ∷ behind)
     ∙ ap (λ (t : Bool). cond t (of_kind k.BlockString (block_len (34 ∷ (escaped_text text ++ 34 ∷ behind)))) (of_kind k.String (quoted_len (34 ∷ (escaped_text text ++ 34 ∷ behind))))) (no_block text behind h)
     ∙ ap (of_kind k.String) (quoted_reach text behind)
