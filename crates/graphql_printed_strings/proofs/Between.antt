@@ -1,9 +1,23 @@
--- A text between two marks, and what is behind them.
-use Rattle.std.proofs.Common.{◌≡◌, ℕ, ◌+◌, ◌-◌, Bool, true, cond, ◌==◌, List, [], ◌∷◌, ◌++◌, length, take, drop, Some, None, refl, sym, ap, ◌∙◌, arith, append_assoc, length-append}
+-- What begins with a quotation mark, and a text between two marks.
+use Rattle.std.proofs.Common.{◌≡◌, ℕ, ◌+◌, ◌-◌, Bool, true, false, cond, ◌&&◌, ◌==◌, List, [], ◌∷◌, ◌++◌, length, take, drop, Some, None, refl, sym, ap, ◌∙◌, arith, append_assoc, length-append}
 use Rattle.std.proofs.lemmas.Bool.{and_from, eq-eqb}
 use Rattle.std.proofs.lemmas.List.{drop_at, take_at}
 use Rattle.graphql_lexer.specs.Bytes.{begins_with, between}
 use Rattle.graphql_lexer.specs.Strings.{closed_len}
+
+-- no quotation mark begins it
+abbrev pub NoMark : List ℕ → Type 0
+NoMark bytes = begins_with (34 ∷ []) bytes ≡ false
+
+pub none_begin : (bytes others : List ℕ) → NoMark bytes → begins_with (34 ∷ others) bytes ≡ false
+none_begin [] others h = refl
+none_begin (b ∷ bytes) others h = go (b == 34) h
+  where
+    go : (t : Bool) → (t && true) ≡ false → (t && begins_with others bytes) ≡ false
+    go true e = absurd cc
+    go false e = refl
+
+-- ---- a text between marks
 
 begins_itself : (mark behind : List ℕ) → begins_with mark (mark ++ behind) ≡ true
 begins_itself [] behind = refl

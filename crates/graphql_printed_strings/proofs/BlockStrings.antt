@@ -1,5 +1,5 @@
 -- What is printed as a block string is read as it was.
-use Rattle.std.proofs.Common.{◌≡◌, ℕ, Bool, true, false, not, ◌&&◌, List, [], ◌++◌, length, Some, refl, sym, ap, ◌∙◌, arith, append-nil, append_assoc}
+use Rattle.std.proofs.Common.{◌≡◌, ◌⊎◌, ℕ, Bool, true, false, not, ◌&&◌, List, [], ◌∷◌, ◌++◌, length, Some, refl, sym, ap, ◌∙◌, subst, arith, append-nil, append_assoc}
 use Rattle.std.specs.List.{list_any}
 use Rattle.graphql_printing.specs.LineLayout.{line_start}
 use Rattle.graphql_printing.specs.StringLayout.{text_lines, has_byte, first_is_blank, last_is_blank, is_at_margin, can_be_block_string, block_text}
@@ -10,8 +10,9 @@ use Rattle.graphql_lexer.specs.declared.token.TokenKind.TheVariants as k
 use Rattle.graphql_lexer.proofs.Bytes.{run_end}
 use Rattle.graphql_printed_strings.specs.Readings.{IsToken, IsWhite}
 use Rattle.graphql_printed_strings.proofs.Between.{closed, within}
-use Rattle.graphql_printed_strings.proofs.Written.{written, raw_of, block_is, white_start, written_reads}
+use Rattle.graphql_printed_strings.proofs.Written.{written, indented, raw_of, block_is, white_start, written_reads}
 use Rattle.graphql_printed_strings.proofs.RawLines.{lines_in_line, white_in_line, raw_lines}
+use Rattle.graphql_printed_strings.proofs.Exact.{Either, value_can_be}
 use Rattle.graphql_printed_strings.proofs.Indents.{indent_removed, ends_removed, formatted_is}
 
 -- ---- the token
@@ -93,3 +94,15 @@ unfolding block_value
 block_value_is prefix level text white h =
     ap block_string_value (raw_is prefix level text white)
     ∙ value_of_raw (line_start prefix level) text (white_start prefix level white) (lines_from text h)
+
+raw_begins : (start : List ℕ) (lines : List (List ℕ)) → (rest : List ℕ) × (raw_of start lines ≡ 10 ∷ rest)
+raw_begins start [] = (start, refl)
+raw_begins start (line ∷ lines) = (indented start line ++ raw_of start lines, refl)
+
+-- What is printed as a block string stands for no other text, but for the empty one.
+pub block_exact : (prefix : List ℕ) (level : ℕ) (text : List ℕ) → IsWhite prefix → block_value (block_text prefix level text) ≡ text → (text ≡ []) ⊎ (can_be_block_string text ≡ true)
+unfolding block_value
+block_exact prefix level text white same =
+    let begins = raw_begins (line_start prefix level) (text_lines text) in
+    let value : block_string_value (10 ∷ begins.0) ≡ text = ap block_string_value (sym (raw_is prefix level text white ∙ begins.1)) ∙ same in
+    subst Either value (value_can_be begins.0)

@@ -5,6 +5,7 @@ pub mod Marks
 pub mod Written
 pub mod RawLines
 pub mod Indents
+pub mod Exact
 pub mod BlockStrings
 pub mod Descriptions
 pub mod Rows

@@ -6,24 +6,13 @@ use Rattle.std.proofs.lemmas.Grind.{common_steps}
 use Rattle.graphql_printing.specs.StringLayout.{is_quotes, block_escaped}
 use Rattle.graphql_lexer.specs.Bytes.{begins_with}
 use Rattle.graphql_lexer.specs.Blocks.{quotes, escaped_quotes, block_character_len, block_character_at, is_white_space}
+use Rattle.graphql_printed_strings.proofs.Between.{NoMark, none_begin}
 use Rattle.graphql_printed_strings.proofs.Pieces.{Reads, reads_none, reads_piece, reads_both}
 
 abbrev pub BlockReads : List ℕ → List ℕ → List ℕ → Type 0
 BlockReads text value rest = Reads block_character_len block_character_at text value rest
 
--- no quotation mark begins it
-abbrev pub NoMark : List ℕ → Type 0
-NoMark bytes = begins_with (34 ∷ []) bytes ≡ false
-
 -- ---- `"""` nowhere
-
-none_begin : (bytes others : List ℕ) → NoMark bytes → begins_with (34 ∷ others) bytes ≡ false
-none_begin [] others h = refl
-none_begin (b ∷ bytes) others h = go (b == 34) h
-  where
-    go : (t : Bool) → (t && true) ≡ false → (t && begins_with others bytes) ≡ false
-    go true e = absurd cc
-    go false e = refl
 
 -- a byte that is no quotation mark begins what is printed of it and of others, or a backslash does
 one_begins : (b : ℕ) (line rest : List ℕ) → (b == 34) ≡ false → NoMark (block_escaped (b ∷ line) ++ rest)

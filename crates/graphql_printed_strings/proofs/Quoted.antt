@@ -1,5 +1,5 @@
 -- What is printed between quotation marks is read as it was.
-use Rattle.std.proofs.Common.{◌≡◌, ◌⊎◌, ℕ, zero, suc, ◌<◌, Bool, true, false, cond, ◌&&◌, ◌==◌, List, [], ◌∷◌, ◌++◌, length, Some, refl, sym, ap, ◌∙◌, subst, inl, inr, arith, ltb-true, append-nil, append_assoc}
+use Rattle.std.proofs.Common.{◌≡◌, ◌⊎◌, ℕ, zero, suc, ◌<◌, Bool, true, false, cond, List, [], ◌∷◌, ◌++◌, length, Some, refl, sym, ap, ◌∙◌, subst, inl, inr, arith, ltb-true, append-nil, append_assoc}
 use Rattle.std.specs.Char.{encode_utf8}
 use Rattle.std.specs.Prelude.{nat_lt}
 use Rattle.std.proofs.lemmas.Bool.{cases_order}
@@ -14,7 +14,7 @@ use Rattle.graphql_lexer.specs.Tokens.{string_at, token_at, of_kind}
 use Rattle.graphql_lexer.specs.declared.token.TokenKind.TheVariants as k
 use Rattle.graphql_lexer.proofs.Bytes.{run_end}
 use Rattle.graphql_printed_strings.specs.Readings.{IsToken, MayFollow}
-use Rattle.graphql_printed_strings.proofs.Between.{closed, within}
+use Rattle.graphql_printed_strings.proofs.Between.{NoMark, none_begin, closed, within}
 use Rattle.graphql_printed_strings.proofs.Pieces.{Reads, Piece, reads_none, reads_piece, reads_both}
 
 -- ---- a byte
@@ -133,24 +133,16 @@ quoted_reach text behind =
     ∙ ap (λ (t : List ℕ). Some (length t)) (sym (quoted_is text))
 
 -- no escape begins with a quotation mark
-escaped_begins : (b : ℕ) (rest : List ℕ) → begins_with (34 ∷ []) (escaped_byte b ++ rest) ≡ false
+escaped_begins : (b : ℕ) (rest : List ℕ) → NoMark (escaped_byte b ++ rest)
 unfolding joined
 escaped_begins b rest = grind (arith, common_steps)
-
-two_begin : (bytes : List ℕ) → begins_with (34 ∷ []) bytes ≡ false → begins_with (34 ∷ 34 ∷ []) bytes ≡ false
-two_begin [] h = refl
-two_begin (b ∷ bytes) h = go (b == 34) h
-  where
-    go : (t : Bool) → (t && true) ≡ false → (t && begins_with (34 ∷ []) bytes) ≡ false
-    go true e = absurd cc
-    go false e = refl
 
 no_block : (text behind : List ℕ) → MayFollow text behind → begins_with quotes (34 ∷ (escaped_text text ++ 34 ∷ behind)) ≡ false
 unfolding joined
 no_block [] behind h = h refl
 no_block (b ∷ text) behind h =
     ap (begins_with (34 ∷ 34 ∷ [])) (append_assoc (escaped_byte b) (escaped_text text) (34 ∷ behind))
-    ∙ two_begin (escaped_byte b ++ (escaped_text text ++ 34 ∷ behind)) (escaped_begins b (escaped_text text ++ 34 ∷ behind))
+    ∙ none_begin (escaped_byte b ++ (escaped_text text ++ 34 ∷ behind)) (34 ∷ []) (escaped_begins b (escaped_text text ++ 34 ∷ behind))
 
 string_found : (bytes : List ℕ) → token_at (34 ∷ bytes) ≡ string_at (34 ∷ bytes)
 unfolding token_at

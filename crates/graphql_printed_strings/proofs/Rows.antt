@@ -110,3 +110,13 @@ last_line_blank = (refl, refl)
 none_at_margin : Lost (codes " a\n  b") (codes "a\n b")
 unfolding joined block_value raw_value block_string_value lines_of replaced block_character_at
 none_at_margin = (refl, refl)
+
+-- the empty text cannot be one either, though it would be read as it was
+nothing : Lost [] []
+unfolding joined block_value raw_value block_string_value lines_of replaced block_character_at
+nothing = (refl, refl)
+
+-- a prefix that is no white space would be read as text
+other_prefix : block_value (block_text (codes "#") 1 (codes "a\n\nb")) ≡ codes "#a\n\n#b\n#"
+unfolding joined block_value raw_value block_string_value lines_of replaced block_character_at
+other_prefix = refl

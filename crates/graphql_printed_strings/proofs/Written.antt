@@ -6,8 +6,9 @@ use Rattle.graphql_printing.specs.Joined.{joined}
 use Rattle.graphql_printing.specs.LineLayout.{line_start}
 use Rattle.graphql_printing.specs.StringLayout.{text_lines, block_escaped, block_line, block_text}
 use Rattle.graphql_lexer.specs.Blocks.{quotes, block_character_len, block_character_at, is_white_space}
+use Rattle.graphql_printed_strings.proofs.Between.{NoMark}
 use Rattle.graphql_printed_strings.proofs.Pieces.{reads_both}
-use Rattle.graphql_printed_strings.proofs.Marks.{BlockReads, NoMark, other_byte, line_reads, white_reads}
+use Rattle.graphql_printed_strings.proofs.Marks.{BlockReads, other_byte, line_reads, white_reads}
 
 -- ---- what begins a line
 

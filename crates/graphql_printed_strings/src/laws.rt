@@ -1,6 +1,6 @@
 //! Laws of the definitions, each the contract of a function. In all of them `behind` is what stands behind the printed
 //! string.
-ghost use Rattle.std.specs.Prelude.{◌≡◌, ℕ, true, List, ◌++◌};
+ghost use Rattle.std.specs.Prelude.{◌≡◌, ◌⊎◌, ℕ, true, List, [], ◌++◌};
 ghost use Rattle.graphql_lexer.specs.Strings.{string_value};
 ghost use Rattle.graphql_lexer.specs.Blocks.{block_value};
 ghost use Rattle.graphql_lexer.specs.declared.token.TokenKind.TheVariants as k;
@@ -14,13 +14,15 @@ pub fn quoted_strings_are_read()
     ensures value { (text : List ℕ) → string_value (quoted_text text) ≡ text }
 {}
 
-/// Whatever lines the text has, what is printed of it as a block string is one token, and stands for the text where the
-/// text can be a block string.
+/// Whatever lines the text has, what is printed of it as a block string is one token. It stands for the text where the
+/// text can be a block string, and, but for the empty text, nowhere else.
 pub fn block_strings_are_read()
     ensures token { (prefix : List ℕ) → (level : ℕ) → (text : List ℕ) → (behind : List ℕ)
         → IsWhite prefix → IsToken k.BlockString (block_text prefix level text) behind }
     ensures value { (prefix : List ℕ) → (level : ℕ) → (text : List ℕ)
         → IsWhite prefix → can_be_block_string text ≡ true → block_value (block_text prefix level text) ≡ text }
+    ensures exact { (prefix : List ℕ) → (level : ℕ) → (text : List ℕ)
+        → IsWhite prefix → block_value (block_text prefix level text) ≡ text → (text ≡ []) ⊎ (can_be_block_string text ≡ true) }
 {}
 
 /// What is printed of a description is one token and stands for its text, also with the end of its line behind it.
