@@ -72,12 +72,7 @@ fn as_it_stands<'a>(case: Case<'a>, input: &'a [u8]) -> Case<'a> {
 }
 
 /// The answer of the call.
-fn answer_by(
-    alloc: Global,
-    call: &str,
-    text: &str,
-    nesting: usize,
-) -> Result<Answer, AllocError> {
+fn answer_by(alloc: Global, call: &str, text: &str, nesting: usize) -> Result<Answer, AllocError> {
     match call {
         "parse_type" => type_answer(alloc, text, nesting),
         "parse_selections" => selections_answer(alloc, text, nesting),

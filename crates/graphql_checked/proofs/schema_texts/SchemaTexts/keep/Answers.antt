@@ -16,9 +16,9 @@ pub returns-in-None-clause-reading : goal.returns-in-None-clause-reading
 returns-in-None-clause-reading c =
     let old = c.args.self.now in
     let kept : document_tree c.append.new.document ≡ document_tree old.document ++ document_tree c.args.document
-        → (text : List ℕ) → ReadsText c.args.file.0 text (document_tree c.args.document) → (PassesNesting old.nesting text → ⊥) → IsReadingOf (texts_of old ++ text ∷ []) (record old { document = c.append.new.document }) =
-        λ h text reads nests. reading_of (texts_of old ++ text ∷ []) (record old { document = c.append.new.document }) (c.args.file.0 + 1) c.requires.number
-        (thin_kept old c.args.file c.requires text _ reads nests (sym c.is_some.ensures ∙ c.if-is_some.false) (sym c.in-None.ensures) (document_tree c.append.new.document) h) in
+    → (text : List ℕ) → ReadsText c.args.file.0 text (document_tree c.args.document) → (PassesNesting old.nesting text → ⊥) → IsReadingOf (texts_of old ++ text ∷ []) (record old { document = c.append.new.document }) =
+    λ h text reads nests. reading_of (texts_of old ++ text ∷ []) (record old { document = c.append.new.document }) (c.args.file.0 + 1) c.requires.number
+    (thin_kept old c.args.file c.requires text _ reads nests (sym c.is_some.ensures ∙ c.if-is_some.false) (sym c.in-None.ensures) (document_tree c.append.new.document) h) in
     on_ok_weaker c.append.result kept c.append.ensures
 
 pub returns-in-Some-clause-reading : goal.returns-in-Some-clause-reading

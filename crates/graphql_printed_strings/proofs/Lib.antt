@@ -1,0 +1,12 @@
+pub mod Pieces
+pub mod Between
+pub mod Quoted
+pub mod Marks
+pub mod Written
+pub mod RawLines
+pub mod Indents
+pub mod Exact
+pub mod BlockStrings
+pub mod Descriptions
+pub mod Rows
+pub mod StringPieces
