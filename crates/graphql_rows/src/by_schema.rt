@@ -5,7 +5,7 @@ use crate::case::{Answer, Case, Tally, Way, compare};
 use crate::plan::whole;
 use graphql_ast::{FileId, SourceSpan, Tree};
 use graphql_read::parse_document;
-use graphql_row_files::{Problem, number, texts};
+use graphql_row_files::{Problem, number, says, texts};
 use graphql_schema::{BuildError, BuilderRefusal, Extensions, Schema, SchemaBuilder};
 use std::alloc::{AllocError, Global};
 
@@ -53,22 +53,13 @@ fn builder_of(alloc: Global, case: Case<'_>) -> Result<SchemaBuilder, Problem> {
         return Err(case.row.head.problem("extensions are counted from 1 on"));
     }
     let mut builder = SchemaBuilder::with_extensions(alloc, Extensions::starting_at(first as u64));
-    if is_said(case, "adopt")? {
+    if says(case.row, "adopt", "yes")? {
         builder = builder.adopt_orphan_extensions();
     }
-    if is_said(case, "ignore")? {
+    if says(case.row, "ignore", "yes")? {
         builder = builder.ignore_builtin_redefinitions();
     }
     Ok(builder)
-}
-
-/// Whether the row says `yes` to a setting.
-fn is_said(case: Case<'_>, name: &str) -> Result<bool, Problem> {
-    match case.row.one(name)? {
-        None => Ok(false),
-        Some(field) if field.value == "yes" => Ok(true),
-        Some(field) => Err(field.problem("it says `yes` or is not there")),
-    }
 }
 
 /// Adds the texts, numbered from 1. Each must be read.
