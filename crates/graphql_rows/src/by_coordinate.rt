@@ -102,7 +102,7 @@ fn parse_words(error: SchemaCoordinateParseError) -> &'static str {
 /// What a coordinate names.
 fn named_words(named: SchemaCoordinateLookup<'_>) -> &'static str {
     match named {
-        SchemaCoordinateLookup::Type(_) => "0 type",
+        SchemaCoordinateLookup::Named(_) => "0 type",
         SchemaCoordinateLookup::Directive(_) => "0 directive",
         SchemaCoordinateLookup::Field(_) => "0 field",
         SchemaCoordinateLookup::InputField(_) => "0 input field",
