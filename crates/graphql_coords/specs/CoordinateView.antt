@@ -25,7 +25,7 @@ abbrev pub directive_argument_coordinate : DirectiveArgumentCoordinate → Coord
 directive_argument_coordinate c = OfDirectiveArgument c.directive.text c.argument.text
 
 abbrev pub schema_coordinate : SchemaCoordinate → Coordinate
-schema_coordinate (rust.Type c) = type_coordinate c
+schema_coordinate (rust.Named c) = type_coordinate c
 schema_coordinate (rust.TypeAttribute c) = attribute_coordinate c
 schema_coordinate (rust.FieldArgument c) = argument_coordinate c
 schema_coordinate (rust.Directive c) = directive_coordinate c

@@ -28,7 +28,7 @@ attribute_of (attribute.InputField f) = OfInputField (component_tree input_value
 attribute_of (attribute.EnumValue v) = OfEnumValue (component_tree enum_value_tree v.now)
 
 abbrev pub named_of : SchemaCoordinateLookup → Named
-named_of (any.Type t) = NamedType (extended_type t.now)
+named_of (any.Named t) = NamedType (extended_type t.now)
 named_of (any.Directive d) = NamedDirective (node_tree directive_definition_tree d.now)
 named_of (any.Field f) = NamedAttribute (OfField (component_tree field_definition_tree f.now))
 named_of (any.InputField f) = NamedAttribute (OfInputField (component_tree input_value_tree f.now))

@@ -41,7 +41,7 @@ pub struct DirectiveArgumentCoordinate {
 /// A coordinate of any form.
 #[derive(PartialEq, Eq, Hash, Drop)]
 pub enum SchemaCoordinate {
-    Type(TypeCoordinate),
+    Named(TypeCoordinate),
     TypeAttribute(TypeAttributeCoordinate),
     FieldArgument(FieldArgumentCoordinate),
     Directive(DirectiveCoordinate),
@@ -136,10 +136,10 @@ impl From<Name> for DirectiveCoordinate {
 }
 
 impl From<TypeCoordinate> for SchemaCoordinate {
-    ghost from_gives = { λ c any. any ≡ variant.Type c };
+    ghost from_gives = { λ c any. any ≡ variant.Named c };
 
     fn from(coordinate: TypeCoordinate) -> SchemaCoordinate {
-        SchemaCoordinate::Type(coordinate)
+        SchemaCoordinate::Named(coordinate)
     }
 }
 

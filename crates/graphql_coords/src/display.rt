@@ -54,7 +54,7 @@ impl fmt::Display for SchemaCoordinate {
 
     fn fmt<W: fmt::Write>(&self, f: &mut fmt::Formatter<W>) -> fmt::Result {
         match self {
-            SchemaCoordinate::Type(coordinate) => fmt::Display::fmt(coordinate, f),
+            SchemaCoordinate::Named(coordinate) => fmt::Display::fmt(coordinate, f),
             SchemaCoordinate::TypeAttribute(coordinate) => fmt::Display::fmt(coordinate, f),
             SchemaCoordinate::FieldArgument(coordinate) => fmt::Display::fmt(coordinate, f),
             SchemaCoordinate::Directive(coordinate) => fmt::Display::fmt(coordinate, f),

@@ -213,7 +213,7 @@ impl SchemaCoordinate {
         ensures error { IfErr result (PartsErrorIsDue (texts (parts_view parts.entry))) }
     {
         Ok(match parts {
-            Parts::Type(ty) => SchemaCoordinate::Type(TypeCoordinate::named(alloc, ty)?),
+            Parts::Type(ty) => SchemaCoordinate::Named(TypeCoordinate::named(alloc, ty)?),
             Parts::TypeAttribute(ty, attribute) => SchemaCoordinate::TypeAttribute(
                 TypeAttributeCoordinate::named(alloc, ty, attribute)?,
             ),

@@ -138,7 +138,7 @@ impl SchemaCoordinate {
         ensures { answer named_of result ≡ lookup_of (schema_tree schema.now) (schema_coordinate self.now) }
     {
         match self {
-            SchemaCoordinate::Type(own) => own.find(schema),
+            SchemaCoordinate::Named(own) => own.find(schema),
             SchemaCoordinate::TypeAttribute(own) => own.find(schema),
             SchemaCoordinate::FieldArgument(own) => own.find(schema),
             SchemaCoordinate::Directive(own) => own.find(schema),
@@ -157,7 +157,7 @@ impl TypeCoordinate {
     {
         match self.lookup(schema) {
             Err(error) => Err(error),
-            Ok(ty) => Ok(SchemaCoordinateLookup::Type(ty)),
+            Ok(ty) => Ok(SchemaCoordinateLookup::Named(ty)),
         }
     }
 }

@@ -35,7 +35,7 @@ pub enum TypeAttributeLookup<'schema> {
 /// What a coordinate names.
 #[derive(Clone, Copy)]
 pub enum SchemaCoordinateLookup<'schema> {
-    Type(&'schema ExtendedType),
+    Named(&'schema ExtendedType),
     Directive(&'schema Node<DirectiveDefinition>),
     Field(&'schema Component<FieldDefinition>),
     InputField(&'schema Component<InputValueDefinition>),
