@@ -1,0 +1,4 @@
+pub mod Sequences
+pub mod Tokens
+pub mod Punctuators
+pub mod Types
