@@ -78,10 +78,24 @@ nothing_ignored c bytes h =
     rw (apart_from is_name_start c 9 refl h) (rw (apart_from is_name_start c 32 refl h) (rw (apart_from is_name_start c 10 refl h) (rw (apart_from is_name_start c 44 refl h)
     (rw (apart_from is_name_start c 13 refl h) (rw (apart_from is_name_start c 35 refl h) (rw (apart_from is_name_start c 239 refl h) refl))))))
 
-no_or : (a b : Bool) → not (a || b) ≡ true → (a ≡ false) × (b ≡ false)
-no_or true b e = absurd cc
-no_or false true e = absurd cc
-no_or false false e = (refl, refl)
+abbrev is_token : Option (TokenKind × ℕ) → Bool
+is_token None = false
+is_token (Some x) = true
+
+-- where a token begins nothing is ignored
+token_not_ignored : (bytes : List ℕ) (x : TokenKind × ℕ) → token_at bytes ≡ Some x → ignored_at bytes ≡ None
+unfolding token_at ignored_at
+token_not_ignored [] x h = absurd cc
+token_not_ignored (c ∷ bytes) x h =
+    let begins : ℕ → Bool = λ (b : ℕ). is_token (token_at (b ∷ bytes)) in
+    let yea : begins c ≡ true = ap is_token h in
+    rw (apart_from begins c 9 refl yea) (rw (apart_from begins c 32 refl yea) (rw (apart_from begins c 10 refl yea) (rw (apart_from begins c 44 refl yea)
+    (rw (apart_from begins c 13 refl yea) (rw (apart_from begins c 35 refl yea) (rw (apart_from begins c 239 refl yea) refl))))))
+
+-- a token is a piece
+pub token_is_piece : (kind : TokenKind) (text behind : List ℕ) → token_at (text ++ behind) ≡ Some (kind, length text) → piece_at (text ++ behind) ≡ Some (token_piece kind text)
+unfolding piece_at
+token_is_piece kind text behind h = rw (token_not_ignored (text ++ behind) (kind, length text) h) (rw h refl)
 
 -- behind a word no name character stands
 pub word_ends : (behind : List ℕ) → ends_word behind ≡ true → begins_by is_name_continue behind ≡ false
