@@ -5,3 +5,5 @@ pub mod Types
 pub mod Lists
 pub mod Literals
 pub mod Values
+pub mod Nodes
+pub mod Directives

@@ -68,7 +68,7 @@ module _ {P : Type 0} (m : Meaning P) (lits : LiteralsRead m.string) where
       (λ behind fine. further_ends 44 (32 ∷ []) texts behind refl fine) (placed m p) q
 
   -- name: value
-  field_read : (r : Rule (ValueTree P)) (n : List ℕ) (t : ValueTree (Unit {0})) (text : List ℕ) → names.is_name n ≡ true → Printed r (IsValue t) ends_word text
+  pub field_read : (r : Rule (ValueTree P)) (n : List ℕ) (t : ValueTree (Unit {0})) (text : List ℕ) → names.is_name n ≡ true → Printed r (IsValue t) ends_word text
       → Printed (object_field m r) (λ x. (x.0.it ≡ n) × ((x.1.0 ≡ tt) × IsValue t x.1.1.it)) ends_word (named_value_text n text)
   unfolding joined
   field_read r n t text h p =
