@@ -7,3 +7,4 @@ pub mod Literals
 pub mod Values
 pub mod Nodes
 pub mod Directives
+pub mod Lines

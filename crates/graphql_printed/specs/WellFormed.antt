@@ -3,6 +3,8 @@
 use Rattle.std.specs.Prelude.{ℕ, suc, ◌+◌, Bool, true, ◌&&◌, List, [], ◌∷◌, Option, None, Some}
 use Rattle.std.specs.List.{list_all}
 use Rattle.graphql_names.specs.NameSyntax.{is_name}
+use Rattle.graphql_printing.specs.LineLayout.{Prefix}
+use Rattle.graphql_printing.specs.StringLayout.{is_tab_or_space}
 use Rattle.graphql_literals.specs.NumberSyntax.{is_int_value, is_float_value}
 use Rattle.graphql_values.specs.Placed.{Placed, Text}
 use Rattle.graphql_values.specs.TypeTree.{TypeTree, NamedTree, NonNullNamedTree, ListTree as ListTypeTree, NonNullListTree}
@@ -163,3 +165,8 @@ module _ {P : Type 0} where
 
   abbrev pub fragment_depth : FragmentTree P → ℕ
   fragment_depth f = directives_depth f.directives + suc (selections_depth f.selections)
+
+-- spaces and tabs alone begin a line
+abbrev pub is_white_prefix : Prefix → Bool
+is_white_prefix None = true
+is_white_prefix (Some prefix) = list_all is_tab_or_space prefix
