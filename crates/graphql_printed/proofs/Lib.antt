@@ -8,3 +8,4 @@ pub mod Values
 pub mod Nodes
 pub mod Directives
 pub mod Lines
+pub mod Selections

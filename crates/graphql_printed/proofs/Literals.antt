@@ -37,7 +37,7 @@ plain_text text = record { it = text; place = tt }
 
 -- ---- enum values
 
-not_word : (wanted text : List ℕ) → not (is_text wanted text) ≡ true → not (bytes_eq wanted text) ≡ true
+pub not_word : (wanted text : List ℕ) → not (is_text wanted text) ≡ true → not (bytes_eq wanted text) ≡ true
 not_word wanted text h = go (bytes_eq wanted text) refl
   where
     go : (b : Bool) → bytes_eq wanted text ≡ b → not b ≡ true

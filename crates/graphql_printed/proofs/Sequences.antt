@@ -72,6 +72,11 @@ module _ {A B : Type 0} {r : Rule A} {s : Rule B} {says : A → Type 0} {tells :
         };
   }
 
+-- a word, and a text that ends words
+module _ {A B : Type 0} {r : Rule A} {s : Rule B} {says : A → Type 0} {tells : B → Type 0} {a b : List ℕ} where
+  pub seq_word : ends_word b ≡ true → Printed r says ends_word a → Printed s tells ends_word b → Printed (r · s) (λ x. says x.0 × tells x.1) ends_word (a ++ b)
+  seq_word ends p q = seq {f = ends_word} (λ behind fine. ends_before b behind ends fine) p q
+
 -- a rule, and another that reads nothing there
 module _ {A B : Type 0} {r : Rule A} {s : Rule B} {says : A → Type 0} {tells : B → Type 0} {f g : Follow} {a : List ℕ} where
   pub then_nothing : ((behind : List ℕ) → g behind ≡ true → f behind ≡ true) → Printed r says f a → Printed s tells g [] → Printed (r · s) (λ x. says x.0 × tells x.1) g a
