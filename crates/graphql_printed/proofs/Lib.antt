@@ -9,3 +9,4 @@ pub mod Nodes
 pub mod Directives
 pub mod Lines
 pub mod Selections
+pub mod Operations

@@ -4,7 +4,7 @@ use Rattle.std.specs.List.{list_all}
 use Rattle.std.proofs.lemmas.Bool.{and_parts}
 use Rattle.graphql_printing.specs.Joined.{joined}
 use Rattle.graphql_printing.specs.StringLayout.{is_tab_or_space}
-use Rattle.graphql_printing.specs.LineLayout.{Prefix, Leveled, line_start, break_text, member_text, members_text, set_text}
+use Rattle.graphql_printing.specs.LineLayout.{Prefix, Leveled, line_start, break_text, member_text, members_text, braced_text, set_text}
 use Rattle.graphql_lexer.specs.Tokens.{is_ignored_byte}
 use Rattle.graphql_lexer.specs.Input.{Token, Ending}
 use Rattle.graphql_grammar.specs.Kinds.{is_open_brace, is_close_brace}
@@ -79,13 +79,18 @@ some_of_many {A} {r} {says} never p = record {
     go ending last tokens others [] end read said = absurd (never said)
     go ending last tokens others (x ∷ xs) end read said = record { tree = x ∷ xs; end = end; read = read; said = said }
 
--- behind something, { members }
+-- { members }
+pub braced : {A : Type 0} {r : Rule A} {says : A → Type 0} (prefix : Prefix) (level : ℕ) (member : Leveled) (members : List Leveled) → is_white_prefix prefix ≡ true
+    → Printed r says ends_word (members_text prefix (level + 1) (member ∷ members)) → Printed (between is_open_brace r is_close_brace) says any (braced_text prefix level (member ∷ members))
+unfolding joined
+braced {A} {r} {says} prefix level member members white p =
+    mapped (λ x. x.1.0) says (λ x said. said.1.0)
+    (seq {f = any} (λ behind fine. refl) open_brace
+    (seq {f = ends_word} (λ behind fine. subst (λ (l : List ℕ). ends_word l ≡ true) (sym (append_assoc (break_text prefix level) (125 ∷ []) behind)) (break_ends prefix level (125 ∷ behind)))
+    p (ignored (break_text prefix level) (break_ignored prefix level white) close_brace)))
+
+-- the same behind something and a space
 pub in_braces : {A : Type 0} {r : Rule A} {says : A → Type 0} (prefix : Prefix) (level : ℕ) (member : Leveled) (members : List Leveled) → is_white_prefix prefix ≡ true
     → Printed r says ends_word (members_text prefix (level + 1) (member ∷ members)) → Printed (between is_open_brace r is_close_brace) says any (set_text prefix level (member ∷ members))
 unfolding joined
-in_braces {A} {r} {says} prefix level member members white p =
-    ignored (32 ∷ []) refl
-    (mapped (λ x. x.1.0) says (λ x said. said.1.0)
-    (seq {f = any} (λ behind fine. refl) open_brace
-    (seq {f = ends_word} (λ behind fine. subst (λ (l : List ℕ). ends_word l ≡ true) (sym (append_assoc (break_text prefix level) (125 ∷ []) behind)) (break_ends prefix level (125 ∷ behind)))
-    p (ignored (break_text prefix level) (break_ignored prefix level white) close_brace))))
+in_braces prefix level member members white p = ignored (32 ∷ []) refl (braced prefix level member members white p)

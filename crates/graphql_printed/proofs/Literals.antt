@@ -149,6 +149,10 @@ module _ {P : Type 0} (m : Meaning P) where
         (mapped (λ (x : Token). StringTree (m.string x)) (IsValue (StringTree text)) (λ x said. ap StringTree (strings.stands_for text x said.0 said.1))
         (token is_string t.String (quoted_text text) ends_word (λ behind fine. token_is_piece t.String (quoted_text text) behind (strings.quoted text behind fine)) refl))
 
+  -- $name
+  pub variable_alone : (text : List ℕ) → names.is_name text ≡ true → Printed (variable m) (λ x. x.it ≡ text) ends_word (36 ∷ text)
+  variable_alone text h = mapped (λ x. x.1) (λ x. x.it ≡ text) (λ x said. said.1) (seq {f = any} (λ behind fine. refl) dollar (any_name m text h))
+
   pub variable_name : (text : List ℕ) → names.is_name text ≡ true → Printed (variable m) (λ x. x.it ≡ text) ends_word (36 ∷ (text ++ []))
   variable_name text h = mapped (λ x. x.1) (λ x. x.it ≡ text) (λ x said. said.1) (seq {f = any} (λ behind fine. refl) dollar (nothing_more (any_name m text h)))
 

@@ -4,7 +4,7 @@ use Rattle.std.specs.Str.{bytes_eq}
 use Rattle.std.proofs.lemmas.Bool.{and_parts}
 use Rattle.graphql_names.specs.NameSyntax as names
 use Rattle.graphql_printing.specs.Joined.{joined}
-use Rattle.graphql_printing.specs.LineLayout.{Prefix, Leveled, members_text, set_text, texts_of}
+use Rattle.graphql_printing.specs.LineLayout.{Prefix, Leveled, members_text, braced_text, set_text, texts_of}
 use Rattle.graphql_directives.specs.DirectiveLayout.{argument_text, arguments_text, directives_text}
 use Rattle.graphql_operations.specs.OperationLayout.{alias_text, condition_text, spread_text, selection_text, selection_texts}
 use Rattle.graphql_values.specs.Placed.{Placed, Text, unplaced_text}
@@ -28,7 +28,7 @@ use Rattle.graphql_printed.proofs.Punctuators.{colon, spread}
 use Rattle.graphql_printed.proofs.Literals.{not_word}
 use Rattle.graphql_printed.proofs.Nodes.{parenthesized_ends, AreAny}
 use Rattle.graphql_printed.proofs.Directives.{arguments_read, directives_read, directives_end}
-use Rattle.graphql_printed.proofs.Lines.{break_ignored, break_ends, set_ends, members_is, members_end, some_of_many, in_braces}
+use Rattle.graphql_printed.proofs.Lines.{break_ignored, break_ends, set_ends, members_is, members_end, some_of_many, braced, in_braces}
 
 -- the selection, and the selections, places aside
 abbrev pub IsSelection : {P : Type 0} → SelectionTree (Unit {0}) → SelectionTree P → Type 0
@@ -76,7 +76,7 @@ pub spelled_fragment : (text : List ℕ) → can_be_fragment text ≡ true → i
 unfolding words
 spelled_fragment text h = spelled_passes is_fragment_name words text refl (rw (not_word (codes "on") text h) refl)
 
-abbrev tail_of : List ℕ → List ℕ → List ℕ
+abbrev pub tail_of : List ℕ → List ℕ → List ℕ
 tail_of ds set = ds ++ (set ++ [])
 
 module _ {P Q : Type 0} (m : Meaning P) (lits : LiteralsRead m.string) where
@@ -165,6 +165,17 @@ module _ {P Q : Type 0} (m : Meaning P) (lits : LiteralsRead m.string) where
   unfolding selection_set selection_list
   set_read prefix n level x ts white p =
       in_braces prefix level (selection_text prefix x) (selection_texts prefix ts) white
+      (mapped selections_of (IsSet (unplaced_selections (selection_then x ts))) (λ xs said. said)
+      (some_of_many (never_none P (unplaced_selection x) (unplaced_selections ts)) p))
+
+  -- the same at the start of a text
+  pub bare_set_read : (prefix : Prefix) (n level : ℕ) (ts : SelectionTrees Q) → is_white_prefix prefix ≡ true → has_selection ts ≡ true
+      → Printed (many (selection m n (selection_set m n))) (AreSelections (unplaced_selections ts)) ends_word (members_text prefix (level + 1) (selection_texts prefix ts))
+      → Printed (selection_set m (suc n)) (IsSet (unplaced_selections ts)) any (braced_text prefix level (selection_texts prefix ts))
+  unfolding selection_set selection_list
+  bare_set_read prefix n level no_selections white has p = absurd cc
+  bare_set_read prefix n level (selection_then x ts) white has p =
+      braced prefix level (selection_text prefix x) (selection_texts prefix ts) white
       (mapped selections_of (IsSet (unplaced_selections (selection_then x ts))) (λ xs said. said)
       (some_of_many (never_none P (unplaced_selection x) (unplaced_selections ts)) p))
 
