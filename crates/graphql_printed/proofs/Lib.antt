@@ -10,3 +10,4 @@ pub mod Directives
 pub mod Lines
 pub mod Selections
 pub mod Operations
+pub mod Whole

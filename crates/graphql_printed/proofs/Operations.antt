@@ -92,6 +92,14 @@ operation_type_read Subscription =
     right ((λ _. Query) <$> mark kind.is_query)
     (right ((λ _. Mutation) <$> mark kind.is_mutation) (mapped (λ _. Subscription) (λ x. x ≡ Subscription) (λ x said. refl) (keyword kind.is_subscription (codes "subscription") refl refl)))
 
+module _ {P : Type 0} (m : Meaning P) where
+  -- on condition
+  on_read : (c : List ℕ) → names.is_name c ≡ true → Printed (type_condition m) (λ x. x.it ≡ c) ends_word (32 ∷ 111 ∷ 110 ∷ 32 ∷ c)
+  unfolding words
+  on_read c h =
+      ignored (32 ∷ []) refl
+      (mapped (λ x. x.1) (λ x. x.it ≡ c) (λ x said. said.1) (seq_word refl (keyword kind.is_on (codes "on") refl refl) (ignored (32 ∷ []) refl (any_name m c h))))
+
 module _ {P Q : Type 0} (m : Meaning P) (lits : LiteralsRead m.string) where
   variable_read : (n : ℕ) (v : Placed Q (VariableDefinitionTree Q)) → variable_well_formed v ≡ true → variable_writable v.it ≡ true → variable_depth v ≤ n → Printed (variable_definition m n) (λ x. unplaced_variable_definition x ≡ unplaced_variable_definition v.it) ends_word (variable_text v.it)
   unfolding joined variable_definition
@@ -171,3 +179,28 @@ module _ {P Q : Type 0} (m : Meaning P) (lits : LiteralsRead m.string) where
         go : (b : Bool) → (at_start && is_bare_query o) ≡ b → Printed (operation_definition m (suc n)) (IsOperation o) ends_word (cond b (braced_text prefix level (selection_texts prefix o.selections)) (full_operation_text prefix o level))
         go true e = short_read o n level (and_parts at_start (is_bare_query o) e).1 h w le
         go false e = full_read o n level h w le
+
+    -- the fragment, places aside
+    abbrev pub IsFragment : FragmentTree Q → FragmentTree P → Type 0
+    IsFragment f x = unplaced_fragment x ≡ unplaced_fragment f
+
+    pub fragment_read : (f : FragmentTree Q) (n level : ℕ) → fragment_well_formed f ≡ true → fragment_writable f ≡ true → fragment_depth f ≤ n → Printed (fragment_definition m n) (IsFragment f) ends_word (fragment_text prefix f level)
+    unfolding joined words fragment_definition
+    fragment_read f zero level h w le = absurd (omega arith)
+    fragment_read f (suc n) level h w le =
+        let (h123, h4) = and_parts _ _ h in
+        let (h12, h3) = and_parts _ _ h123 in
+        let (h1, h2) = and_parts _ _ h12 in
+        let (w123, w4) = and_parts _ _ w in
+        let (w12, w3) = and_parts _ _ w123 in
+        let (w1, w2) = and_parts _ _ w12 in
+        let set : List ℕ = set_text prefix level (selection_texts prefix f.selections) in
+        let end1 : ends_word (set ++ []) ≡ true = ends_before set [] (set_ends prefix level (selection_texts prefix f.selections)) refl in
+        let end2 : ends_word (directives_text f.directives ++ (set ++ [])) ≡ true = ends_before (directives_text f.directives) (set ++ []) (directives_end m lits f.directives) end1 in
+        mapped fragment_of (IsFragment f) (λ x said. one_fragment _ _ _ _ _ _ _ _ said.1.0 said.1.1.0 said.1.1.1.0 said.1.1.1.1)
+        (seq_word refl (keyword kind.is_fragment (codes "fragment") refl refl)
+        (ignored (32 ∷ []) refl
+        (seq_word refl (named m kind.is_fragment_name f.name.it h1 (spelled_fragment f.name.it w1))
+        (seq_word end2 (on_read m f.type_condition.it h2)
+        (seq_word end1 (directives_read m lits with_variables f.directives (suc n) h3 w2 (omega arith))
+        (nothing_more (full_set_read m lits prefix n level f.selections white w3 (selections_read m lits prefix white f.selections n (level + 1) h4 w4 (omega arith)))))))))
