@@ -11,3 +11,5 @@ pub mod Lines
 pub mod Selections
 pub mod Operations
 pub mod Whole
+pub mod Members
+pub mod InputValues

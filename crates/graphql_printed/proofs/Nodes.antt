@@ -16,10 +16,10 @@ use Rattle.graphql_printed.proofs.Sequences.{seq, mapped, placed, ignored, more,
 use Rattle.graphql_printed.proofs.Punctuators.{open_paren, close_paren}
 use Rattle.graphql_printed.proofs.Lists.{further_is, further_ends}
 
-one_more : {Z : Type 0} (x y : Z) (xs ys : List Z) → x ≡ y → xs ≡ ys → x ∷ xs ≡ y ∷ ys
+pub one_more : {Z : Type 0} (x y : Z) (xs ys : List Z) → x ≡ y → xs ≡ ys → x ∷ xs ≡ y ∷ ys
 one_more x y xs ys e f = rw e (rw f refl)
 
-abbrev unplaced_it : {Z : Type 0} → Z → Placed (Unit {0}) Z
+abbrev pub unplaced_it : {Z : Type 0} → Z → Placed (Unit {0}) Z
 unplaced_it z = record { it = z; place = tt }
 
 -- what parentheses hold ends a word

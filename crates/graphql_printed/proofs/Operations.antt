@@ -70,7 +70,7 @@ bare_is Query (Some n) vs ds ts us h e = absurd cc
 bare_is Mutation n vs ds ts us h e = absurd cc
 bare_is Subscription n vs ds ts us h e = absurd cc
 
-default_ends : {Q : Type 0} (v : Option (Placed Q (ValueTree Q))) → ends_word (default_text v) ≡ true
+pub default_ends : {Q : Type 0} (v : Option (Placed Q (ValueTree Q))) → ends_word (default_text v) ≡ true
 unfolding joined
 default_ends None = refl
 default_ends (Some v) = refl

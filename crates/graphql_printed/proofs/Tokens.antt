@@ -42,21 +42,24 @@ drop_front (b ∷ text) behind = drop_front text behind
 abbrev pub IsToken : TokenKind → List ℕ → Token → Type 0
 IsToken kind text token = (token.kind ≡ terminal_of kind text) × (token.text ≡ text)
 
--- a text that is one piece, a token's, before all that follows it
-pub token : (is : Terminal → Bool) (kind : TokenKind) (text : List ℕ) (f : Follow) → ((behind : List ℕ) → f behind ≡ true → piece_at (text ++ behind) ≡ Some (token_piece kind text)) → is (terminal_of kind text) ≡ true → Printed (one is) (IsToken kind text) f text
-token is kind text f pieces passes = record {
-  stands = λ behind at others fine lexed.
-      let this : Token = record { kind = terminal_of kind text; text = text; offset = at } in
-      record {
-        tokens = this ∷ others;
-        lexed = record {
-          pieces = token_piece kind text ∷ lexed.pieces;
-          are = (pieces behind fine, subst (λ (l : List ℕ). ArePieces lexed.pieces l []) (sym (drop_front text behind)) lexed.are);
-          found = rw (take_front text behind) (rw (drop_front text behind) (ap (λ (l : List Token). this ∷ l) lexed.found));
-        };
-        reads = λ ending last. record { tree = this; end = at + length text; read = (passes, (others, refl, refl)); said = (refl, refl) };
+-- a text that is one piece, a token's, before what is behind it
+pub token_here : (is : Terminal → Bool) (kind : TokenKind) (text behind : List ℕ) (at : ℕ) (others : List Token) → piece_at (text ++ behind) ≡ Some (token_piece kind text) → is (terminal_of kind text) ≡ true → LexesAt (at + length text) behind others
+    → PrintedBefore (one is) (IsToken kind text) text behind at others
+token_here is kind text behind at others piece passes lexed =
+    let this : Token = record { kind = terminal_of kind text; text = text; offset = at } in
+    record {
+      tokens = this ∷ others;
+      lexed = record {
+        pieces = token_piece kind text ∷ lexed.pieces;
+        are = (piece, subst (λ (l : List ℕ). ArePieces lexed.pieces l []) (sym (drop_front text behind)) lexed.are);
+        found = rw (take_front text behind) (rw (drop_front text behind) (ap (λ (l : List Token). this ∷ l) lexed.found));
       };
-}
+      reads = λ ending last. record { tree = this; end = at + length text; read = (passes, (others, refl, refl)); said = (refl, refl) };
+    }
+
+-- the same before all that follows it
+pub token : (is : Terminal → Bool) (kind : TokenKind) (text : List ℕ) (f : Follow) → ((behind : List ℕ) → f behind ≡ true → piece_at (text ++ behind) ≡ Some (token_piece kind text)) → is (terminal_of kind text) ≡ true → Printed (one is) (IsToken kind text) f text
+token is kind text f pieces passes = record { stands = λ behind at others fine lexed. token_here is kind text behind at others (pieces behind fine) passes lexed }
 
 -- a token that says nothing more
 pub marked : (is : Terminal → Bool) (kind : TokenKind) (text : List ℕ) (f : Follow) → ((behind : List ℕ) → f behind ≡ true → piece_at (text ++ behind) ≡ Some (token_piece kind text)) → is (terminal_of kind text) ≡ true → Printed (mark is) (λ x. x ≡ tt) f text

@@ -9,7 +9,7 @@ use Rattle.graphql_literals.specs.NumberSyntax.{is_int_value, is_float_value}
 use Rattle.graphql_values.specs.Placed.{Placed, Text}
 use Rattle.graphql_values.specs.TypeTree.{TypeTree, NamedTree, NonNullNamedTree, ListTree as ListTypeTree, NonNullListTree}
 use Rattle.graphql_values.specs.ValueTree.{ValueTree, NullTree, EnumTree, VariableTree, StringTree, FloatTree, IntTree, BooleanTree, ListTree, ObjectTree, ItemTrees, no_items, item_then, EntryTrees, no_entries, entry_then}
-use Rattle.graphql_values.specs.DirectiveTree.{ArgumentTree, Arguments, DirectiveTree, Directives}
+use Rattle.graphql_values.specs.DirectiveTree.{ArgumentTree, Arguments, DirectiveTree, Directives, InputValueTree, InputValues}
 use Rattle.graphql_values.specs.SelectionTree.{FieldHead, SelectionTree, FieldTree, SpreadTree, InlineTree, SelectionTrees, no_selections, selection_then}
 use Rattle.graphql_values.specs.OperationTree.{VariableDefinitionTree, OperationTree, FragmentTree}
 
@@ -104,6 +104,12 @@ module _ {P : Type 0} where
   abbrev pub fragment_well_formed : FragmentTree P → Bool
   fragment_well_formed f = is_name f.name.it && is_name f.type_condition.it && directives_well_formed f.directives && selections_well_formed f.selections
 
+  abbrev pub input_value_well_formed : Placed P (InputValueTree P) → Bool
+  input_value_well_formed v = is_name v.it.name.it && type_well_formed v.it.ty.it && default_well_formed v.it.default_value && directives_well_formed v.it.directives
+
+  abbrev pub input_values_well_formed : InputValues P → Bool
+  input_values_well_formed vs = list_all input_value_well_formed vs
+
   -- ---- how deep brackets nest, at most
 
   abbrev pub type_depth : TypeTree P → ℕ
@@ -165,6 +171,12 @@ module _ {P : Type 0} where
 
   abbrev pub fragment_depth : FragmentTree P → ℕ
   fragment_depth f = directives_depth f.directives + suc (selections_depth f.selections)
+
+  abbrev pub input_value_depth : Placed P (InputValueTree P) → ℕ
+  input_value_depth v = type_depth v.it.ty.it + default_depth v.it.default_value + directives_depth v.it.directives
+
+  abbrev pub input_values_depth : InputValues P → ℕ
+  input_values_depth vs = bracketed input_value_depth vs
 
 -- spaces and tabs alone begin a line
 abbrev pub is_white_prefix : Prefix → Bool
