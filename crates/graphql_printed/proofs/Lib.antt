@@ -13,3 +13,4 @@ pub mod Operations
 pub mod Whole
 pub mod Members
 pub mod InputValues
+pub mod TypeMembers

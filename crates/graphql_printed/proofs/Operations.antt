@@ -81,7 +81,7 @@ name_ends None = refl
 name_ends (Some n) = refl
 
 -- query, mutation, subscription
-operation_type_read : (t : OperationType) → Printed operation_type (λ x. x ≡ t) ends_word (operation_keyword t)
+pub operation_type_read : (t : OperationType) → Printed operation_type (λ x. x ≡ t) ends_word (operation_keyword t)
 unfolding words operation_type
 operation_type_read Query =
     left ((λ _. Mutation) <$> mark kind.is_mutation ∣ (λ _. Subscription) <$> mark kind.is_subscription) (mapped (λ _. Query) (λ x. x ≡ Query) (λ x said. refl) (keyword kind.is_query (codes "query") refl refl))

@@ -11,6 +11,7 @@ use Rattle.graphql_values.specs.TypeTree.{TypeTree, NamedTree, NonNullNamedTree,
 use Rattle.graphql_values.specs.ValueTree.{ValueTree, NullTree, EnumTree, VariableTree, StringTree, FloatTree, IntTree, BooleanTree, ListTree, ObjectTree, ItemTrees, no_items, item_then, EntryTrees, no_entries, entry_then}
 use Rattle.graphql_values.specs.DirectiveTree.{ArgumentTree, Arguments, DirectiveTree, Directives, InputValueTree, InputValues}
 use Rattle.graphql_values.specs.SelectionTree.{FieldHead, SelectionTree, FieldTree, SpreadTree, InlineTree, SelectionTrees, no_selections, selection_then}
+use Rattle.graphql_ast.specs.TypeSystemTree.{FieldDefinitionTree, EnumValueTree, RootOperationTree}
 use Rattle.graphql_values.specs.OperationTree.{VariableDefinitionTree, OperationTree, FragmentTree}
 
 -- of something that may be left out
@@ -110,6 +111,15 @@ module _ {P : Type 0} where
   abbrev pub input_values_well_formed : InputValues P → Bool
   input_values_well_formed vs = list_all input_value_well_formed vs
 
+  abbrev pub field_definition_well_formed : Placed P (FieldDefinitionTree P) → Bool
+  field_definition_well_formed f = is_name f.it.name.it && input_values_well_formed f.it.arguments && type_well_formed f.it.ty && directives_well_formed f.it.directives
+
+  abbrev pub enum_value_well_formed : Placed P (EnumValueTree P) → Bool
+  enum_value_well_formed v = is_name v.it.value.it && directives_well_formed v.it.directives
+
+  abbrev pub root_well_formed : Placed P (RootOperationTree P) → Bool
+  root_well_formed r = is_name r.it.name.it
+
   -- ---- how deep brackets nest, at most
 
   abbrev pub type_depth : TypeTree P → ℕ
@@ -177,6 +187,12 @@ module _ {P : Type 0} where
 
   abbrev pub input_values_depth : InputValues P → ℕ
   input_values_depth vs = bracketed input_value_depth vs
+
+  abbrev pub field_definition_depth : Placed P (FieldDefinitionTree P) → ℕ
+  field_definition_depth f = input_values_depth f.it.arguments + type_depth f.it.ty + directives_depth f.it.directives
+
+  abbrev pub enum_value_depth : Placed P (EnumValueTree P) → ℕ
+  enum_value_depth v = directives_depth v.it.directives
 
 -- spaces and tabs alone begin a line
 abbrev pub is_white_prefix : Prefix → Bool
