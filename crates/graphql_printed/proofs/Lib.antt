@@ -14,3 +14,4 @@ pub mod Whole
 pub mod Members
 pub mod InputValues
 pub mod TypeMembers
+pub mod Following

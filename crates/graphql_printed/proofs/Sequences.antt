@@ -85,11 +85,11 @@ module _ {A B : Type 0} {r : Rule A} {s : Rule B} {says : A → Type 0} {tells :
 -- ---- pieces
 
 -- no byte more
-from_here : (at : ℕ) (text : List ℕ) (tokens : List Token) → LexesAt (at + 0) text tokens → LexesAt at text tokens
+pub from_here : (at : ℕ) (text : List ℕ) (tokens : List Token) → LexesAt (at + 0) text tokens → LexesAt at text tokens
 from_here at text tokens l = let same : at + 0 ≡ at = omega arith in subst (λ (i : ℕ). LexesAt i text tokens) same l
 
 -- a byte that is ignored, and what is behind it
-ignored_piece : (b : ℕ) (text : List ℕ) → is_ignored_byte b ≡ true → piece_at (b ∷ text) ≡ Some (record { kind = None; length = 1 })
+pub ignored_piece : (b : ℕ) (text : List ℕ) → is_ignored_byte b ≡ true → piece_at (b ∷ text) ≡ Some (record { kind = None; length = 1 })
 unfolding piece_at ignored_at
 ignored_piece b text h = rw h refl
 

@@ -75,7 +75,7 @@ apart_from p c b nay yea = go (c == b) refl
     go false e = refl
     go true e = let both : true ≡ false = sym yea ∙ ap p (eqb-true c b e) ∙ nay in absurd cc
 
-nothing_ignored : (c : ℕ) (bytes : List ℕ) → is_name_start c ≡ true → ignored_at (c ∷ bytes) ≡ None
+pub nothing_ignored : (c : ℕ) (bytes : List ℕ) → is_name_start c ≡ true → ignored_at (c ∷ bytes) ≡ None
 unfolding ignored_at
 nothing_ignored c bytes h =
     rw (apart_from is_name_start c 9 refl h) (rw (apart_from is_name_start c 32 refl h) (rw (apart_from is_name_start c 10 refl h) (rw (apart_from is_name_start c 44 refl h)

@@ -8,9 +8,11 @@
 --
 -- So printed texts are put one behind the other (`Sequences`), with ignored bytes between them, and the rules of the grammar
 -- with them; no rule looks at what is behind it, but for those that forbid a `{` there, which ask it of `follow` too.
-use Rattle.std.specs.Prelude.{◌≡◌, ℕ, ◌+◌, ◌==◌, ◌||◌, not, Bool, true, List, [], ◌∷◌, ◌++◌, length}
+use Rattle.std.specs.Prelude.{◌≡◌, ℕ, ◌+◌, ◌==◌, ◌||◌, ◌&&◌, not, if◌then◌else◌, Bool, true, List, [], ◌∷◌, ◌++◌, length}
 use Rattle.graphql_lexer.specs.Input.{Token, Input, Ending}
 use Rattle.graphql_lexer.specs.Lex.{Piece, ArePieces, tokens_among}
+use Rattle.graphql_names.specs.NameSyntax.{is_name_start}
+use Rattle.graphql_lexer.specs.Tokens.{is_ignored_byte}
 use Rattle.graphql_lexer.specs.Numbers.{goes_on}
 use Rattle.graphql_grammar.specs.Rules.{Rule}
 
@@ -53,3 +55,12 @@ pub record PrintedBefore {A : Type 0} (r : Rule A) (says : A → Type 0) (text b
 pub record Printed {A : Type 0} (r : Rule A) (says : A → Type 0) (follow : Follow) (text : List ℕ) : Type 0 where
   pub stands : (behind : List ℕ) (at : ℕ) (others : List Token) → follow behind ≡ true → LexesAt (at + length text) behind others
       → PrintedBefore r says text behind at others
+
+-- ignored bytes, and then the end or what begins another definition: a keyword, or a description
+abbrev pub begins_definition : Follow
+begins_definition [] = true
+begins_definition (b ∷ behind) = if is_ignored_byte b then begins_definition behind else (is_name_start b || b == 34)
+
+-- what may stand behind a definition whose last part is left out, so that no `{` is behind it
+abbrev pub ends_definition : Follow
+ends_definition behind = ends_word behind && begins_definition behind
