@@ -15,3 +15,4 @@ pub mod Members
 pub mod InputValues
 pub mod TypeMembers
 pub mod Following
+pub mod Names
