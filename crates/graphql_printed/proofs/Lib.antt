@@ -16,3 +16,4 @@ pub mod InputValues
 pub mod TypeMembers
 pub mod Following
 pub mod Names
+pub mod TypeDefinitions

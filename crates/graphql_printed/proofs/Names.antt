@@ -81,7 +81,7 @@ module _ {P Q : Type 0} (m : Meaning P) where
       (mapped (λ x. x.1) (AreNames (n ∷ ns)) (λ x said. said.1)
       (seq {f = any} (λ behind fine. refl) equals (ignored (32 ∷ []) refl (separated_names m is_pipe 124 pipe n ns h))))))
 
-names_text_ends : {Q : Type 0} (front : List ℕ) (sign : List ℕ) (ns : List (Text Q)) → ends_word (names_text (32 ∷ front) sign ns) ≡ true
+pub names_text_ends : {Q : Type 0} (front : List ℕ) (sign : List ℕ) (ns : List (Text Q)) → ends_word (names_text (32 ∷ front) sign ns) ≡ true
 unfolding joined
 names_text_ends front sign [] = refl
 names_text_ends front sign (n ∷ ns) = refl

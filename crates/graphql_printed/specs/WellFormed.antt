@@ -11,7 +11,7 @@ use Rattle.graphql_values.specs.TypeTree.{TypeTree, NamedTree, NonNullNamedTree,
 use Rattle.graphql_values.specs.ValueTree.{ValueTree, NullTree, EnumTree, VariableTree, StringTree, FloatTree, IntTree, BooleanTree, ListTree, ObjectTree, ItemTrees, no_items, item_then, EntryTrees, no_entries, entry_then}
 use Rattle.graphql_values.specs.DirectiveTree.{ArgumentTree, Arguments, DirectiveTree, Directives, InputValueTree, InputValues}
 use Rattle.graphql_values.specs.SelectionTree.{FieldHead, SelectionTree, FieldTree, SpreadTree, InlineTree, SelectionTrees, no_selections, selection_then}
-use Rattle.graphql_ast.specs.TypeSystemTree.{FieldDefinitionTree, EnumValueTree, RootOperationTree}
+use Rattle.graphql_ast.specs.TypeSystemTree.{FieldDefinitionTree, EnumValueTree, RootOperationTree, ScalarParts, FieldsParts, UnionParts, EnumParts, InputObjectParts}
 use Rattle.graphql_values.specs.OperationTree.{VariableDefinitionTree, OperationTree, FragmentTree}
 
 -- of something that may be left out
@@ -120,6 +120,21 @@ module _ {P : Type 0} where
   abbrev pub root_well_formed : Placed P (RootOperationTree P) → Bool
   root_well_formed r = is_name r.it.name.it
 
+  abbrev pub names_well_formed : List (Text P) → Bool
+  names_well_formed ns = list_all (λ n. is_name n.it) ns
+
+  abbrev pub scalar_well_formed : ScalarParts P → Bool
+  scalar_well_formed t = is_name t.name.it && directives_well_formed t.directives
+
+  abbrev pub fields_well_formed : FieldsParts P → Bool
+  fields_well_formed t = is_name t.name.it && names_well_formed t.interfaces && directives_well_formed t.directives && list_all field_definition_well_formed t.fields
+
+  abbrev pub union_well_formed : UnionParts P → Bool
+  union_well_formed t = is_name t.name.it && directives_well_formed t.directives && names_well_formed t.members
+
+  abbrev pub enum_well_formed : EnumParts P → Bool
+  enum_well_formed t = is_name t.name.it && directives_well_formed t.directives && list_all enum_value_well_formed t.values
+
   -- ---- how deep brackets nest, at most
 
   abbrev pub type_depth : TypeTree P → ℕ
@@ -193,6 +208,12 @@ module _ {P : Type 0} where
 
   abbrev pub enum_value_depth : Placed P (EnumValueTree P) → ℕ
   enum_value_depth v = directives_depth v.it.directives
+
+  abbrev pub fields_depth : FieldsParts P → ℕ
+  fields_depth t = directives_depth t.directives + bracketed field_definition_depth t.fields
+
+  abbrev pub enum_depth : EnumParts P → ℕ
+  enum_depth t = directives_depth t.directives + bracketed enum_value_depth t.values
 
 -- spaces and tabs alone begin a line
 abbrev pub is_white_prefix : Prefix → Bool
