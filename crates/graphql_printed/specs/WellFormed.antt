@@ -11,7 +11,7 @@ use Rattle.graphql_values.specs.TypeTree.{TypeTree, NamedTree, NonNullNamedTree,
 use Rattle.graphql_values.specs.ValueTree.{ValueTree, NullTree, EnumTree, VariableTree, StringTree, FloatTree, IntTree, BooleanTree, ListTree, ObjectTree, ItemTrees, no_items, item_then, EntryTrees, no_entries, entry_then}
 use Rattle.graphql_values.specs.DirectiveTree.{ArgumentTree, Arguments, DirectiveTree, Directives, InputValueTree, InputValues}
 use Rattle.graphql_values.specs.SelectionTree.{FieldHead, SelectionTree, FieldTree, SpreadTree, InlineTree, SelectionTrees, no_selections, selection_then}
-use Rattle.graphql_ast.specs.TypeSystemTree.{FieldDefinitionTree, EnumValueTree, RootOperationTree, ScalarParts, FieldsParts, UnionParts, EnumParts, InputObjectParts}
+use Rattle.graphql_ast.specs.TypeSystemTree.{FieldDefinitionTree, EnumValueTree, RootOperationTree, SchemaParts, ScalarParts, FieldsParts, UnionParts, EnumParts, InputObjectParts}
 use Rattle.graphql_values.specs.OperationTree.{VariableDefinitionTree, OperationTree, FragmentTree}
 
 -- of something that may be left out
@@ -135,6 +135,12 @@ module _ {P : Type 0} where
   abbrev pub enum_well_formed : EnumParts P → Bool
   enum_well_formed t = is_name t.name.it && directives_well_formed t.directives && list_all enum_value_well_formed t.values
 
+  abbrev pub input_object_well_formed : InputObjectParts P → Bool
+  input_object_well_formed t = is_name t.name.it && directives_well_formed t.directives && input_values_well_formed t.fields
+
+  abbrev pub schema_well_formed : SchemaParts P → Bool
+  schema_well_formed s = directives_well_formed s.directives && list_all root_well_formed s.roots
+
   -- ---- how deep brackets nest, at most
 
   abbrev pub type_depth : TypeTree P → ℕ
@@ -214,6 +220,12 @@ module _ {P : Type 0} where
 
   abbrev pub enum_depth : EnumParts P → ℕ
   enum_depth t = directives_depth t.directives + bracketed enum_value_depth t.values
+
+  abbrev pub input_object_depth : InputObjectParts P → ℕ
+  input_object_depth t = directives_depth t.directives + input_values_depth t.fields
+
+  abbrev pub schema_depth : SchemaParts P → ℕ
+  schema_depth s = suc (directives_depth s.directives)
 
 -- spaces and tabs alone begin a line
 abbrev pub is_white_prefix : Prefix → Bool
