@@ -1,28 +1,25 @@
 -- Default values, arguments and directives are read as they are printed.
-use Rattle.std.proofs.Common.{◌≡◌, ◌≤◌, ◌+◌, ℕ, zero, suc, Bool, true, false, ◌&&◌, List, [], ◌∷◌, ◌++◌, map, codes, Option, Some, None, unwrap_or, option_map, refl, sym, ap, subst, ◌∙◌, append-nil, arith}
+use Rattle.std.proofs.Common.{◌≡◌, ◌≤◌, ℕ, zero, suc, true, List, [], ◌∷◌, ◌++◌, Option, Some, None, option_map, refl, ap, arith}
 use Rattle.std.proofs.lemmas.Bool.{and_parts}
-use Rattle.graphql_names.specs.NameSyntax as names
-use Rattle.graphql_printing.specs.Joined.{joined, further_text}
-use Rattle.graphql_printing.specs.LineLayout.{parenthesized_text, texts_of}
+use Rattle.graphql_printing.specs.Joined.{joined}
+use Rattle.graphql_printing.specs.LineLayout.{texts_of}
 use Rattle.graphql_literals.specs.ValueLayout.{value_text, default_text}
 use Rattle.graphql_directives.specs.DirectiveLayout.{argument_text, arguments_text, directive_text, directives_text}
-use Rattle.graphql_values.specs.Placed.{Placed, Text, unplaced_text, unplaced_node}
+use Rattle.graphql_values.specs.Placed.{Placed, unplaced_node}
 use Rattle.graphql_values.specs.Writable.{default_writable, argument_writable, arguments_writable, directive_writable, directives_writable}
 use Rattle.graphql_values.specs.ValueTree.{ValueTree, unplaced_value}
 use Rattle.graphql_values.specs.DirectiveTree.{ArgumentTree, Arguments, DirectiveTree, Directives, unplaced_argument, unplaced_arguments, unplaced_directive, unplaced_directives}
 use Rattle.graphql_grammar.specs.Meaning.{Meaning}
-use Rattle.graphql_grammar.specs.Rules as rule
-use Rattle.graphql_grammar.specs.Rules.{Rule, mark, ◌·◌, ◌<$>◌, optional, some}
-use Rattle.graphql_grammar.specs.ValueGrammar.{Const, constant, argument_of, directive_of, name, value, default_value, argument, arguments, directive, directives}
-use Rattle.graphql_printed.specs.Printed.{Follow, any, ends_word, Printed}
+use Rattle.graphql_grammar.specs.Rules.{optional}
+use Rattle.graphql_grammar.specs.ValueGrammar.{Const, constant, argument_of, directive_of, value, default_value, argument, arguments, directive, directives}
+use Rattle.graphql_printed.specs.Printed.{any, ends_word, Printed}
 use Rattle.graphql_printed.specs.Literals.{LiteralsRead}
 use Rattle.graphql_printed.specs.WellFormed.{default_well_formed, argument_well_formed, arguments_well_formed, directive_well_formed, directives_well_formed, default_depth, argument_depth, arguments_depth, directive_depth, directives_depth}
-use Rattle.graphql_printed.proofs.Sequences.{seq, mapped, placed, ignored, given, left_out, as_text, nothing_more, saying, before_any, ends_before}
+use Rattle.graphql_printed.proofs.Sequences.{seq, mapped, placed, ignored, given, left_out, nothing_more, saying, before_any, ends_before}
 use Rattle.graphql_printed.proofs.Tokens.{any_name}
 use Rattle.graphql_printed.proofs.Punctuators.{equals, at}
-use Rattle.graphql_printed.proofs.Literals.{IsValue}
 use Rattle.graphql_printed.proofs.Values.{field_read, value_read}
-use Rattle.graphql_printed.proofs.Nodes.{EachRead, AreNodes, each_read, parenthesized_ends, parenthesized, some_nodes, AreAny, none_there, some_there}
+use Rattle.graphql_printed.proofs.Nodes.{each_read, parenthesized_ends, parenthesized, some_nodes, AreAny, none_there, some_there}
 
 abbrev named_argument : List ℕ → ValueTree (Unit {0}) → ArgumentTree (Unit {0})
 named_argument n x = record { name = record { it = n; place = tt }; value = record { it = x; place = tt } }

@@ -1,9 +1,8 @@
 -- Behind a definition stands no `{`, so that its last part may be left out.
-use Rattle.std.proofs.Common.{◌≡◌, ◌⊎◌, ℕ, ◌+◌, ◌==◌, Bool, true, false, cond, ◌||◌, ◌&&◌, List, [], ◌∷◌, ◌++◌, map, take, drop, Option, Some, None, unwrap_or, refl, sym, ap, subst, ◌∙◌, inl, inr, eqb-true}
+use Rattle.std.proofs.Common.{◌≡◌, ◌⊎◌, ℕ, ◌+◌, ◌==◌, Bool, true, false, cond, ◌||◌, List, [], ◌∷◌, map, take, drop, Option, Some, None, unwrap_or, refl, sym, ap, subst, ◌∙◌, inl, inr, eqb-true}
 use Rattle.std.specs.List.{prefix_len}
 use Rattle.std.proofs.lemmas.Bool.{and_parts, or_cases}
 use Rattle.graphql_names.specs.NameSyntax.{is_name_start, is_name_continue}
-use Rattle.graphql_printing.specs.Joined.{joined}
 use Rattle.graphql_printing.specs.LineLayout.{Prefix, Leveled, set_text, texts_of}
 use Rattle.graphql_values.specs.Placed.{Placed, unplaced_node}
 use Rattle.graphql_lexer.specs.declared.terminal.Terminal.{Terminal}
@@ -14,13 +13,13 @@ use Rattle.graphql_lexer.specs.Strings.{quoted_len}
 use Rattle.graphql_lexer.specs.Blocks.{quotes, block_len}
 use Rattle.graphql_lexer.specs.Input.{Token, next_of}
 use Rattle.graphql_lexer.specs.Tokens.{is_ignored_byte, of_kind, ignored_at, string_at, token_at}
-use Rattle.graphql_lexer.specs.Terminals.{words, spelled, terminal_of}
+use Rattle.graphql_lexer.specs.Terminals.{words, terminal_of}
 use Rattle.graphql_lexer.specs.Lex.{Piece, piece_of, piece_at, ArePieces, with_token, tokens_among}
 use Rattle.graphql_grammar.specs.Meaning.{Meaning}
 use Rattle.graphql_grammar.specs.Kinds.{is_open_brace, is_close_brace}
 use Rattle.graphql_grammar.specs.Rules as rule
 use Rattle.graphql_grammar.specs.Rules.{Rule, lacks, optional_unless, some, between}
-use Rattle.graphql_printed.specs.Printed.{Follow, any, ends_word, begins_definition, ends_definition, LexesAt, before, ReadsUpTo, PrintedBefore, Printed}
+use Rattle.graphql_printed.specs.Printed.{Follow, any, ends_word, begins_definition, ends_definition, LexesAt, Printed}
 use Rattle.graphql_printed.specs.WellFormed.{is_white_prefix}
 use Rattle.graphql_printed.proofs.Sequences.{from_here, ignored_piece, saying, before_any}
 use Rattle.graphql_printed.proofs.Tokens.{nothing_ignored, spelled_passes}

@@ -1,27 +1,25 @@
 -- Descriptions and definitions of input values are read as they are printed, under both kinds of layout.
-use Rattle.std.proofs.Common.{◌≡◌, ◌≤◌, ◌+◌, ℕ, zero, suc, Bool, true, false, cond, ◌&&◌, List, [], ◌∷◌, ◌++◌, map, codes, Option, Some, None, unwrap_or, option_map, refl, sym, ap, subst, ◌∙◌, append_assoc, append-nil, arith}
+use Rattle.std.proofs.Common.{◌≡◌, ◌≤◌, ◌+◌, ℕ, zero, suc, Bool, true, false, cond, List, [], ◌∷◌, ◌++◌, map, Option, Some, None, option_map, refl, sym, ap, subst, ◌∙◌, append_assoc, append-nil, arith}
 use Rattle.std.proofs.lemmas.Bool.{and_parts}
-use Rattle.graphql_names.specs.NameSyntax as names
 use Rattle.graphql_printing.specs.Joined.{joined}
-use Rattle.graphql_printing.specs.LineLayout.{Prefix, Leveled, break_text, members_text, texts_of}
+use Rattle.graphql_printing.specs.LineLayout.{Prefix, break_text}
 use Rattle.graphql_printing.specs.StringLayout.{description_string, description_text}
-use Rattle.graphql_literals.specs.ValueLayout.{type_text, default_text}
+use Rattle.graphql_literals.specs.ValueLayout.{default_text}
 use Rattle.graphql_directives.specs.DirectiveLayout.{directives_text}
 use Rattle.graphql_directives.specs.InputLayout.{input_value_text, stand_on_lines, arguments_in_line, arguments_on_lines, argument_definitions_text}
 use Rattle.graphql_values.specs.Placed.{Placed, Text, unplaced_text, unplaced_node}
 use Rattle.graphql_values.specs.Writable.{input_value_writable, input_values_writable}
-use Rattle.graphql_values.specs.TypeTree.{TypeTree, unplaced_type}
-use Rattle.graphql_values.specs.ValueTree.{ValueTree, unplaced_value}
-use Rattle.graphql_values.specs.DirectiveTree.{Directives, InputValueTree, InputValues, unplaced_directives, unplaced_input_value}
+use Rattle.graphql_values.specs.TypeTree.{TypeTree}
+use Rattle.graphql_values.specs.ValueTree.{ValueTree}
+use Rattle.graphql_values.specs.DirectiveTree.{Directives, InputValueTree, InputValues, unplaced_input_value}
 use Rattle.graphql_grammar.specs.Meaning.{Meaning, text_of}
 use Rattle.graphql_grammar.specs.Kinds.{is_string}
-use Rattle.graphql_grammar.specs.Rules as rule
-use Rattle.graphql_grammar.specs.Rules.{Rule, one, mark, ◌·◌, ◌<$>◌, optional, some}
-use Rattle.graphql_grammar.specs.ValueGrammar.{constant, name, type, default_value, directives}
+use Rattle.graphql_grammar.specs.Rules.{Rule, ◌·◌, optional}
+use Rattle.graphql_grammar.specs.ValueGrammar.{constant}
 use Rattle.graphql_grammar.specs.TypeSystemGrammar.{input_value_of, description, input_value_definition, arguments_definition}
 use Rattle.graphql_printed.specs.Printed.{Follow, any, ends_word, Printed}
 use Rattle.graphql_printed.specs.Literals.{IsStringToken, LiteralsRead}
-use Rattle.graphql_printed.specs.WellFormed.{depths, is_white_prefix, default_well_formed, directives_well_formed, type_well_formed, input_value_well_formed, input_values_well_formed, type_depth, default_depth, directives_depth, input_value_depth, input_values_depth}
+use Rattle.graphql_printed.specs.WellFormed.{depths, is_white_prefix, input_value_well_formed, input_values_well_formed, input_value_depth, input_values_depth}
 use Rattle.graphql_printed.proofs.Sequences.{ends_before, seq, seq_word, mapped, placed, ignored, given, left_out, as_text, nothing_more, saying, before_any}
 use Rattle.graphql_printed.proofs.Tokens.{token_here, token_is_piece, any_name}
 use Rattle.graphql_printed.proofs.Punctuators.{colon}

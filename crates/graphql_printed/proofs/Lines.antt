@@ -1,17 +1,17 @@
 -- What stands between the members of a list in braces, under both kinds of layout.
-use Rattle.std.proofs.Common.{◌≡◌, ℕ, zero, suc, ◌+◌, ◌==◌, Bool, true, false, ◌&&◌, ◌||◌, subst, List, [], ◌∷◌, ◌++◌, map, replicate, codes, Option, Some, None, refl, sym, ap, ◌∙◌, append_assoc, append-nil}
+use Rattle.std.proofs.Common.{◌≡◌, ℕ, zero, suc, ◌+◌, ◌==◌, Bool, true, false, ◌||◌, subst, List, [], ◌∷◌, ◌++◌, Some, None, refl, sym, ap, ◌∙◌, append_assoc, append-nil}
 use Rattle.std.specs.List.{list_all}
 use Rattle.std.proofs.lemmas.Bool.{and_parts}
 use Rattle.graphql_printing.specs.Joined.{joined}
 use Rattle.graphql_printing.specs.StringLayout.{is_tab_or_space}
-use Rattle.graphql_printing.specs.LineLayout.{Prefix, Leveled, line_start, break_text, member_text, members_text, braced_text, set_text}
+use Rattle.graphql_printing.specs.LineLayout.{Prefix, Leveled, line_start, break_text, members_text, braced_text, set_text}
 use Rattle.graphql_lexer.specs.Tokens.{is_ignored_byte}
 use Rattle.graphql_lexer.specs.Input.{Token, Ending}
 use Rattle.graphql_grammar.specs.Kinds.{is_open_brace, is_close_brace}
 use Rattle.graphql_grammar.specs.Rules.{Rule, many, some, between}
 use Rattle.graphql_printed.specs.Printed.{Follow, any, ends_word, before, ReadsUpTo, Printed}
 use Rattle.graphql_printed.specs.WellFormed.{is_white_prefix}
-use Rattle.graphql_printed.proofs.Sequences.{ends_before, seq, mapped, ignored, as_text, nothing_more, before_any}
+use Rattle.graphql_printed.proofs.Sequences.{ends_before, seq, mapped, ignored}
 use Rattle.graphql_printed.proofs.Punctuators.{open_brace, close_brace}
 
 all_joined : (p : ℕ → Bool) (xs ys : List ℕ) → list_all p xs ≡ true → list_all p ys ≡ true → list_all p (xs ++ ys) ≡ true

@@ -1,31 +1,26 @@
 -- Values without brackets are read as they are printed.
-use Rattle.std.proofs.Common.{◌≡◌, ℕ, zero, suc, Bool, true, false, cond, not, ◌&&◌, ◌||◌, List, [], ◌∷◌, ◌++◌, codes, Option, Some, None, refl, sym, ap, subst, ◌∙◌, true≢false}
+use Rattle.std.proofs.Common.{◌≡◌, ℕ, Bool, true, false, not, ◌&&◌, List, [], ◌∷◌, ◌++◌, codes, refl, sym, ap, ◌∙◌, true≢false}
 use Rattle.std.specs.Str.{bytes_eq}
 use lib.Pointwise.{bytes_decides}
-use Rattle.std.proofs.lemmas.Bool.{and_parts, and_from}
+use Rattle.std.proofs.lemmas.Bool.{and_parts}
 use Rattle.graphql_names.specs.NameSyntax as names
-use Rattle.graphql_printing.specs.Joined.{joined}
 use Rattle.graphql_printing.specs.StringLayout.{quoted_text}
 use Rattle.graphql_literals.specs.NumberSyntax.{is_int_value, is_float_value}
 use Rattle.graphql_literals.specs.ValueLayout.{boolean_text}
 use Rattle.graphql_values.specs.Placed.{Text}
 use Rattle.graphql_values.specs.Writable.{is_text, can_be_enum}
-use Rattle.graphql_values.specs.ValueTree.{ValueTree, NullTree, EnumTree, VariableTree, StringTree, FloatTree, IntTree, BooleanTree, ListTree, ObjectTree, unplaced_value}
-use Rattle.graphql_lexer.specs.declared.terminal.Terminal.{Terminal}
-use Rattle.graphql_lexer.specs.declared.terminal.Terminal.TheVariants as k
+use Rattle.graphql_values.specs.ValueTree.{ValueTree, NullTree, EnumTree, VariableTree, StringTree, FloatTree, IntTree, BooleanTree, unplaced_value}
 use Rattle.graphql_lexer.specs.declared.token.TokenKind.TheVariants as t
 use Rattle.graphql_lexer.specs.Input.{Token}
-use Rattle.graphql_lexer.specs.Tokens.{ignored_at, token_at}
-use Rattle.graphql_lexer.specs.Lex.{piece_at}
-use Rattle.graphql_lexer.specs.Terminals.{words, spelled, terminal_of}
+use Rattle.graphql_lexer.specs.Terminals.{words, terminal_of}
 use Rattle.graphql_grammar.specs.Meaning.{Meaning}
 use Rattle.graphql_grammar.specs.Kinds.{is_enum_value, is_string, is_int, is_float, is_true, is_false, is_null}
-use Rattle.graphql_grammar.specs.Rules.{Rule, one, mark, ◌·◌, ◌<$>◌, ◌∣◌, unless, nothing}
+use Rattle.graphql_grammar.specs.Rules.{Rule, mark, ◌<$>◌, ◌∣◌, unless}
 use Rattle.graphql_grammar.specs.ValueGrammar.{Const, with_variables, variable, int_value, float_value, string_value, boolean_value, null_value, enum_value, any_value}
 use Rattle.graphql_printed.specs.Printed.{Follow, any, ends_word, Printed}
-use Rattle.graphql_printed.specs.Literals.{NumbersRead, StringsRead, LiteralsRead}
+use Rattle.graphql_printed.specs.Literals.{NumbersRead, StringsRead}
 use Rattle.graphql_printed.proofs.Sequences.{seq, mapped, left, right, nothing_more}
-use Rattle.graphql_printed.proofs.Tokens.{token, token_piece, token_is_piece, IsToken, keyword, named, any_name, spelled_passes, each_spelled}
+use Rattle.graphql_printed.proofs.Tokens.{token, token_is_piece, keyword, named, any_name, spelled_passes}
 use Rattle.graphql_printed.proofs.Punctuators.{dollar}
 
 -- the value, places aside

@@ -1,5 +1,5 @@
 -- Lists of nodes on lines of their own.
-use Rattle.std.proofs.Common.{◌≡◌, ℕ, suc, ◌+◌, true, List, [], ◌∷◌, ◌++◌, map, refl, sym, ap, subst, ◌∙◌, append_assoc}
+use Rattle.std.proofs.Common.{◌≡◌, ℕ, ◌+◌, true, List, [], ◌∷◌, ◌++◌, map, refl, sym, ap, subst, append_assoc}
 use Rattle.graphql_printing.specs.Joined.{joined}
 use Rattle.graphql_printing.specs.LineLayout.{Prefix, Leveled, break_text, members_text, texts_of}
 use Rattle.graphql_values.specs.Placed.{Placed, unplaced_node}
@@ -7,7 +7,7 @@ use Rattle.graphql_grammar.specs.Meaning.{Meaning}
 use Rattle.graphql_grammar.specs.Kinds.{is_open_paren, is_close_paren}
 use Rattle.graphql_grammar.specs.Rules as rule
 use Rattle.graphql_grammar.specs.Rules.{Rule, many, some, between}
-use Rattle.graphql_printed.specs.Printed.{Follow, any, ends_word, Printed}
+use Rattle.graphql_printed.specs.Printed.{any, ends_word, Printed}
 use Rattle.graphql_printed.specs.WellFormed.{is_white_prefix}
 use Rattle.graphql_printed.proofs.Sequences.{seq, mapped, placed, ignored, more, no_more, as_text, saying}
 use Rattle.graphql_printed.proofs.Punctuators.{open_paren, close_paren}

@@ -1,19 +1,19 @@
 -- Names with a punctuator between each two are read as they are printed: interfaces, and members of a union.
-use Rattle.std.proofs.Common.{◌≡◌, ℕ, Bool, true, ◌&&◌, List, [], ◌∷◌, ◌++◌, map, codes, Option, Some, None, unwrap_or, refl, sym, ap, ◌∙◌, append-nil}
+use Rattle.std.proofs.Common.{◌≡◌, ℕ, Bool, true, List, [], ◌∷◌, ◌++◌, map, codes, Option, unwrap_or, refl, sym, ap, ◌∙◌, append-nil}
 use Rattle.std.specs.List.{list_all}
 use Rattle.std.proofs.lemmas.Bool.{and_parts}
 use Rattle.graphql_names.specs.NameSyntax as names
 use Rattle.graphql_printing.specs.Joined.{joined, further_text}
 use Rattle.graphql_type_members.specs.TypeSystemLayout.{name_text, names_text}
-use Rattle.graphql_values.specs.Placed.{Placed, Text, unplaced_text}
+use Rattle.graphql_values.specs.Placed.{Text, unplaced_text}
 use Rattle.graphql_lexer.specs.declared.terminal.Terminal.{Terminal}
 use Rattle.graphql_lexer.specs.Terminals.{words}
 use Rattle.graphql_grammar.specs.Meaning.{Meaning}
-use Rattle.graphql_grammar.specs.Kinds.{is_implements, is_ampersand, is_equals, is_pipe}
-use Rattle.graphql_grammar.specs.Rules.{Rule, mark, ◌·◌, ◌<$>◌, optional, many, separated}
+use Rattle.graphql_grammar.specs.Kinds.{is_implements, is_ampersand, is_pipe}
+use Rattle.graphql_grammar.specs.Rules.{mark, ◌·◌, ◌<$>◌, optional, many, separated}
 use Rattle.graphql_grammar.specs.ValueGrammar.{name}
 use Rattle.graphql_grammar.specs.TypeSystemGrammar.{implements_interfaces, union_member_types}
-use Rattle.graphql_printed.specs.Printed.{Follow, any, ends_word, Printed}
+use Rattle.graphql_printed.specs.Printed.{any, ends_word, Printed}
 use Rattle.graphql_printed.proofs.Sequences.{seq, seq_word, mapped, ignored, given, left_out, more, no_more, as_text, saying}
 use Rattle.graphql_printed.proofs.Tokens.{any_name, keyword}
 use Rattle.graphql_printed.proofs.Punctuators.{ampersand, pipe, equals}

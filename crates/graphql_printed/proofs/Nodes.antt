@@ -1,5 +1,5 @@
 -- Lists of nodes, with ignored separators between them.
-use Rattle.std.proofs.Common.{◌≡◌, ◌≤◌, ◌+◌, ℕ, Bool, true, ◌&&◌, List, [], ◌∷◌, ◌++◌, map, codes, Option, Some, None, unwrap_or, refl, sym, ap, subst, ◌∙◌, append_assoc, append-nil, arith}
+use Rattle.std.proofs.Common.{◌≡◌, ◌≤◌, ℕ, Bool, true, List, [], ◌∷◌, ◌++◌, map, codes, Option, unwrap_or, refl, ap, ◌∙◌, append_assoc, arith}
 use Rattle.std.specs.List.{list_all}
 use Rattle.std.proofs.lemmas.Bool.{and_parts}
 use Rattle.graphql_printing.specs.Joined.{joined, further_text}
@@ -12,7 +12,7 @@ use Rattle.graphql_grammar.specs.Rules as rule
 use Rattle.graphql_grammar.specs.Rules.{Rule, optional, many, some, between}
 use Rattle.graphql_printed.specs.Printed.{Follow, any, ends_word, Printed}
 use Rattle.graphql_printed.specs.WellFormed.{depths}
-use Rattle.graphql_printed.proofs.Sequences.{seq, mapped, placed, ignored, more, one_or_more, no_more, given, left_out, as_text, nothing_more, saying, before_any, ends_before}
+use Rattle.graphql_printed.proofs.Sequences.{seq, mapped, placed, ignored, more, one_or_more, no_more, given, left_out, as_text, saying}
 use Rattle.graphql_printed.proofs.Punctuators.{open_paren, close_paren}
 use Rattle.graphql_printed.proofs.Lists.{further_is, further_ends}
 

@@ -1,41 +1,40 @@
 -- Operations and fragments are read as they are printed, under both kinds of layout.
-use Rattle.std.proofs.Common.{◌≡◌, ◌≤◌, ◌+◌, ℕ, zero, suc, Bool, true, false, cond, not, ◌&&◌, List, [], ◌∷◌, ◌++◌, map, codes, Option, Some, None, unwrap_or, option_map, refl, sym, ap, subst, ◌∙◌, append_assoc, append-nil, true≢false, arith}
+use Rattle.std.proofs.Common.{◌≡◌, ◌≤◌, ◌+◌, ℕ, zero, suc, Bool, true, false, cond, ◌&&◌, List, [], ◌∷◌, ◌++◌, map, codes, Option, Some, None, option_map, refl, ap, arith}
 use Rattle.std.proofs.lemmas.Bool.{and_parts}
 use Rattle.graphql_names.specs.NameSyntax as names
 use Rattle.graphql_printing.specs.Joined.{joined}
-use Rattle.graphql_printing.specs.LineLayout.{Prefix, Leveled, members_text, braced_text, set_text, texts_of}
-use Rattle.graphql_literals.specs.ValueLayout.{type_text, default_text}
+use Rattle.graphql_printing.specs.LineLayout.{Prefix, braced_text, set_text, texts_of}
+use Rattle.graphql_literals.specs.ValueLayout.{default_text}
 use Rattle.graphql_directives.specs.DirectiveLayout.{directives_text}
 use Rattle.graphql_operations.specs.OperationQueries.{operation_keyword}
 use Rattle.graphql_operations.specs.OperationLayout.{selection_texts, is_query, variable_text, variables_text, is_none, is_empty, is_bare_query, operation_name_text, full_operation_text, operation_text, fragment_text}
 use Rattle.graphql_operations.specs.declared.operation.OperationType.{OperationType}
 use Rattle.graphql_operations.specs.declared.operation.OperationType.TheVariants.{Query, Mutation, Subscription}
 use Rattle.graphql_values.specs.Placed.{Placed, Text, unplaced_text, unplaced_node}
-use Rattle.graphql_values.specs.Writable.{default_writable, directives_writable, can_be_fragment, has_selection, selections_writable, variable_writable, variables_writable, operation_writable, fragment_writable}
-use Rattle.graphql_values.specs.TypeTree.{TypeTree, unplaced_type}
-use Rattle.graphql_values.specs.ValueTree.{ValueTree, unplaced_value}
+use Rattle.graphql_values.specs.Writable.{variable_writable, variables_writable, operation_writable, fragment_writable}
+use Rattle.graphql_values.specs.TypeTree.{TypeTree}
+use Rattle.graphql_values.specs.ValueTree.{ValueTree}
 use Rattle.graphql_values.specs.DirectiveTree.{Directives, unplaced_directives}
-use Rattle.graphql_values.specs.SelectionTree.{SelectionTrees, unplaced_selections}
+use Rattle.graphql_values.specs.SelectionTree.{SelectionTrees}
 use Rattle.graphql_values.specs.OperationTree.{VariableDefinitionTree, OperationTree, FragmentTree, unplaced_variable_definition, unplaced_operation, unplaced_fragment}
 use Rattle.graphql_lexer.specs.Terminals.{words}
 use Rattle.graphql_grammar.specs.Meaning.{Meaning}
 use Rattle.graphql_grammar.specs.Kinds as kind
-use Rattle.graphql_grammar.specs.Rules as rule
-use Rattle.graphql_grammar.specs.Rules.{Rule, mark, ◌·◌, ◌<$>◌, ◌∣◌, optional, some}
-use Rattle.graphql_grammar.specs.ValueGrammar.{constant, with_variables, name, variable, type, default_value, directives}
-use Rattle.graphql_grammar.specs.OperationGrammar.{variable_definition_of, short_of, operation_of, fragment_of, operation_type, fragment_name, type_condition, selection_set, variable_definition, variable_definitions, operation_definition, fragment_definition}
-use Rattle.graphql_printed.specs.Printed.{Follow, any, ends_word, Printed}
+use Rattle.graphql_grammar.specs.Rules.{mark, ◌·◌, ◌<$>◌, ◌∣◌, optional}
+use Rattle.graphql_grammar.specs.ValueGrammar.{constant, with_variables, name, directives}
+use Rattle.graphql_grammar.specs.OperationGrammar.{variable_definition_of, short_of, operation_of, fragment_of, operation_type, type_condition, selection_set, variable_definition, variable_definitions, operation_definition, fragment_definition}
+use Rattle.graphql_printed.specs.Printed.{any, ends_word, Printed}
 use Rattle.graphql_printed.specs.Literals.{LiteralsRead}
-use Rattle.graphql_printed.specs.WellFormed.{is_white_prefix, name_well_formed, default_well_formed, directives_well_formed, type_well_formed, selections_well_formed, variable_well_formed, variables_well_formed, operation_well_formed, fragment_well_formed, type_depth, default_depth, directives_depth, selections_depth, variable_depth, variables_depth, operation_depth, fragment_depth}
-use Rattle.graphql_printed.proofs.Sequences.{ends_before, seq, seq_word, mapped, left, right, placed, ignored, given, left_out, as_text, nothing_more, saying, before_any}
+use Rattle.graphql_printed.specs.WellFormed.{is_white_prefix, name_well_formed, variable_well_formed, variables_well_formed, operation_well_formed, fragment_well_formed, variable_depth, variables_depth, operation_depth, fragment_depth}
+use Rattle.graphql_printed.proofs.Sequences.{ends_before, seq, seq_word, mapped, left, right, placed, ignored, given, left_out, nothing_more, saying, before_any}
 use Rattle.graphql_printed.proofs.Tokens.{any_name, named, keyword}
 use Rattle.graphql_printed.proofs.Punctuators.{colon}
 use Rattle.graphql_printed.proofs.Literals.{variable_alone}
 use Rattle.graphql_printed.proofs.Types.{type_read}
 use Rattle.graphql_printed.proofs.Nodes.{each_read, parenthesized_ends, parenthesized, AreAny, none_there, some_there}
-use Rattle.graphql_printed.proofs.Directives.{IsDefault, default_read, directives_read, directives_end}
+use Rattle.graphql_printed.proofs.Directives.{default_read, directives_read, directives_end}
 use Rattle.graphql_printed.proofs.Lines.{set_ends}
-use Rattle.graphql_printed.proofs.Selections.{IsAnyName, some_name, IsSet, spelled_fragment, bare_set_read, full_set_read, selections_read}
+use Rattle.graphql_printed.proofs.Selections.{IsAnyName, some_name, spelled_fragment, bare_set_read, full_set_read, selections_read}
 
 -- ---- the same trees
 

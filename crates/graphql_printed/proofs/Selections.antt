@@ -1,34 +1,32 @@
 -- Selections are read as they are printed, under both kinds of layout.
-use Rattle.std.proofs.Common.{◌≡◌, ◌≤◌, ◌+◌, ℕ, zero, suc, Bool, true, false, not, ◌&&◌, List, [], ◌∷◌, ◌++◌, map, codes, Option, Some, None, unwrap_or, option_map, refl, sym, ap, subst, ◌∙◌, append_assoc, append-nil, true≢false, arith}
-use Rattle.std.specs.Str.{bytes_eq}
+use Rattle.std.proofs.Common.{◌≡◌, ◌≤◌, ◌+◌, ℕ, zero, suc, true, ◌&&◌, List, [], ◌∷◌, ◌++◌, codes, Option, Some, None, unwrap_or, option_map, refl, sym, ap, ◌∙◌, append_assoc, arith}
 use Rattle.std.proofs.lemmas.Bool.{and_parts}
 use Rattle.graphql_names.specs.NameSyntax as names
 use Rattle.graphql_printing.specs.Joined.{joined}
-use Rattle.graphql_printing.specs.LineLayout.{Prefix, Leveled, members_text, braced_text, set_text, texts_of}
+use Rattle.graphql_printing.specs.LineLayout.{Prefix, members_text, braced_text, set_text, texts_of}
 use Rattle.graphql_directives.specs.DirectiveLayout.{argument_text, arguments_text, directives_text}
 use Rattle.graphql_operations.specs.OperationLayout.{alias_text, condition_text, spread_text, selection_text, selection_texts}
-use Rattle.graphql_values.specs.Placed.{Placed, Text, unplaced_text}
-use Rattle.graphql_values.specs.Writable.{arguments_writable, directives_writable, can_be_fragment, head_writable, has_selection, selection_writable, selections_writable}
-use Rattle.graphql_values.specs.DirectiveTree.{Arguments, Directives, unplaced_argument, unplaced_arguments, unplaced_directive, unplaced_directives}
-use Rattle.graphql_values.specs.SelectionTree.{FieldHead, SelectionTree, FieldTree, SpreadTree, InlineTree, SelectionTrees, no_selections, selection_then, unplaced_head, unplaced_selection, unplaced_selections}
+use Rattle.graphql_values.specs.Placed.{Text, unplaced_text}
+use Rattle.graphql_values.specs.Writable.{directives_writable, can_be_fragment, head_writable, has_selection, selection_writable, selections_writable}
+use Rattle.graphql_values.specs.DirectiveTree.{Arguments, Directives}
+use Rattle.graphql_values.specs.SelectionTree.{FieldHead, SelectionTree, FieldTree, SpreadTree, InlineTree, SelectionTrees, no_selections, selection_then, unplaced_selection, unplaced_selections}
 use Rattle.graphql_lexer.specs.declared.token.TokenKind.TheVariants as t
-use Rattle.graphql_lexer.specs.Terminals.{words, spelled, terminal_of}
-use Rattle.graphql_grammar.specs.Meaning.{Meaning, name_of}
-use Rattle.graphql_grammar.specs.Kinds.{is_fragment_name, is_colon, is_spread, is_on}
-use Rattle.graphql_grammar.specs.Rules as rule
-use Rattle.graphql_grammar.specs.Rules.{Rule, one, mark, ◌·◌, ◌<$>◌, ◌∣◌, optional, many, some}
-use Rattle.graphql_grammar.specs.ValueGrammar.{with_variables, name, arguments, directives}
-use Rattle.graphql_grammar.specs.OperationGrammar.{selections_of, field_of, spread_of, inline_of, alias, field, fragment_name, type_condition, fragment_spread, inline_fragment, selection, selection_list, selection_set}
+use Rattle.graphql_lexer.specs.Terminals.{words, terminal_of}
+use Rattle.graphql_grammar.specs.Meaning.{Meaning}
+use Rattle.graphql_grammar.specs.Kinds.{is_fragment_name, is_on}
+use Rattle.graphql_grammar.specs.Rules.{Rule, ◌·◌, ◌∣◌, optional, many}
+use Rattle.graphql_grammar.specs.ValueGrammar.{with_variables}
+use Rattle.graphql_grammar.specs.OperationGrammar.{selections_of, field_of, spread_of, inline_of, alias, field, type_condition, fragment_spread, inline_fragment, selection, selection_list, selection_set}
 use Rattle.graphql_printed.specs.Printed.{Follow, any, ends_word, Printed}
 use Rattle.graphql_printed.specs.Literals.{LiteralsRead}
-use Rattle.graphql_printed.specs.WellFormed.{is_white_prefix, name_well_formed, arguments_well_formed, directives_well_formed, head_well_formed, selection_well_formed, selections_well_formed, arguments_depth, directives_depth, head_depth, selection_depth, selections_depth}
+use Rattle.graphql_printed.specs.WellFormed.{is_white_prefix, name_well_formed, directives_well_formed, head_well_formed, selection_well_formed, selections_well_formed, directives_depth, head_depth, selection_depth, selections_depth}
 use Rattle.graphql_printed.proofs.Sequences.{ends_before, seq, seq_word, mapped, left, right, placed, ignored, given, left_out, more, no_more, as_text, nothing_more, saying, before_any}
 use Rattle.graphql_printed.proofs.Tokens.{any_name, named, keyword, spelled_passes}
 use Rattle.graphql_printed.proofs.Punctuators.{colon, spread}
 use Rattle.graphql_printed.proofs.Literals.{not_word}
-use Rattle.graphql_printed.proofs.Nodes.{parenthesized_ends, AreAny}
+use Rattle.graphql_printed.proofs.Nodes.{parenthesized_ends}
 use Rattle.graphql_printed.proofs.Directives.{arguments_read, directives_read, directives_end}
-use Rattle.graphql_printed.proofs.Lines.{break_ignored, break_ends, set_ends, members_is, members_end, some_of_many, braced, in_braces}
+use Rattle.graphql_printed.proofs.Lines.{break_ignored, set_ends, members_is, members_end, some_of_many, braced, in_braces}
 
 -- the selection, and the selections, places aside
 abbrev pub IsSelection : {P : Type 0} → SelectionTree (Unit {0}) → SelectionTree P → Type 0

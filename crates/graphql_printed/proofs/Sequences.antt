@@ -1,18 +1,14 @@
 -- Printed texts one behind the other, and the rules of the grammar with them.
-use Rattle.std.proofs.Common.{◌≡◌, ℕ, ◌+◌, Bool, true, false, cond, List, [], ◌∷◌, ◌++◌, length, take, drop, Option, Some, None, refl, sym, ap, subst, ◌∙◌, inl, inr, append_assoc, append-nil, length-append, add_assoc, arith}
+use Rattle.std.proofs.Common.{◌≡◌, ℕ, ◌+◌, true, List, [], ◌∷◌, ◌++◌, length, Some, None, refl, sym, subst, inl, inr, append_assoc, append-nil, length-append, arith}
 use Rattle.std.specs.List.{list_all}
 use Rattle.std.proofs.lemmas.Bool.{and_parts}
-use Rattle.graphql_values.specs.Placed.{Placed}
-use Rattle.graphql_lexer.specs.declared.terminal.Terminal.{Terminal}
-use Rattle.graphql_lexer.specs.declared.token.TokenKind.{TokenKind}
-use Rattle.graphql_lexer.specs.Input.{Token, Input, Ending}
-use Rattle.graphql_lexer.specs.Tokens.{is_ignored_byte, ignored_at, token_at}
-use Rattle.graphql_lexer.specs.Terminals.{terminal_of}
-use Rattle.graphql_lexer.specs.Lex.{Piece, piece_at, ArePieces, tokens_among}
+use Rattle.graphql_lexer.specs.Input.{Token}
+use Rattle.graphql_lexer.specs.Tokens.{is_ignored_byte, ignored_at}
+use Rattle.graphql_lexer.specs.Lex.{piece_at}
 use Rattle.graphql_grammar.specs.Meaning.{Meaning, place_between}
 use Rattle.graphql_grammar.specs.Rules as rule
 use Rattle.graphql_grammar.specs.Rules.{Rule, one, ◌·◌, ◌<$>◌, ◌∣◌, optional, many, some}
-use Rattle.graphql_printed.specs.Printed.{Follow, any, ends_word, LexesAt, before, ReadsUpTo, PrintedBefore, Printed}
+use Rattle.graphql_printed.specs.Printed.{Follow, any, ends_word, LexesAt, before, Printed}
 
 -- ---- what is behind
 
@@ -196,8 +192,8 @@ module _ {A : Type 0} (r : Rule A) where
   }
 
 module _ {A : Type 0} {r : Rule A} {says : A → Type 0} {tells : List A → Type 0} {f g : Follow} {a b : List ℕ} (told : List A → Type 0)
-  (so : (x : A) (xs : List A) → says x → tells xs → told (x ∷ xs)) (meets : (behind : List ℕ) → g behind ≡ true → f (b ++ behind) ≡ true)
-  (p : Printed r says f a) (q : Printed (many r) tells g b) where
+    (so : (x : A) (xs : List A) → says x → tells xs → told (x ∷ xs)) (meets : (behind : List ℕ) → g behind ≡ true → f (b ++ behind) ≡ true)
+    (p : Printed r says f a) (q : Printed (many r) tells g b) where
   -- one, and more
   pub more : Printed (many r) told g (a ++ b)
   more = let both = seq meets p q in record {

@@ -1,7 +1,6 @@
 -- Tokens as they are printed: punctuators, names, keywords.
-use Rattle.std.proofs.Common.{◌≡◌, ◌⊎◌, ℕ, suc, ◌+◌, Bool, true, false, cond, not, ◌||◌, ◌&&◌, ◌==◌, List, [], ◌∷◌, ◌++◌, length, take, drop, codes, Option, Some, None, refl, sym, ap, subst, ◌∙◌, inl, inr, one-add, eqb-true, arith}
+use Rattle.std.proofs.Common.{◌≡◌, ℕ, ◌+◌, Bool, true, false, cond, not, ◌||◌, ◌==◌, List, [], ◌∷◌, ◌++◌, length, take, drop, Option, Some, None, refl, sym, ap, subst, ◌∙◌, one-add, eqb-true}
 use Rattle.std.specs.List.{list_all, prefix_len}
-use Rattle.std.specs.Char.{is_ascii_digit}
 use Rattle.std.specs.Str.{bytes_eq}
 use Rattle.std.proofs.lemmas.Bool.{and_parts}
 use Rattle.graphql_names.specs.NameSyntax as names
@@ -12,16 +11,15 @@ use Rattle.graphql_lexer.specs.declared.terminal.Terminal.TheVariants as k
 use Rattle.graphql_lexer.specs.declared.token.TokenKind.{TokenKind}
 use Rattle.graphql_lexer.specs.declared.token.TokenKind.TheVariants as t
 use Rattle.graphql_lexer.specs.Bytes.{begins_by}
-use Rattle.graphql_lexer.specs.Numbers.{goes_on}
-use Rattle.graphql_lexer.specs.Input.{Token, Input, Ending}
-use Rattle.graphql_lexer.specs.Tokens.{is_ignored_byte, ignored_at, token_at}
+use Rattle.graphql_lexer.specs.Input.{Token}
+use Rattle.graphql_lexer.specs.Tokens.{ignored_at, token_at}
 use Rattle.graphql_lexer.specs.Terminals.{Word, words, spelled, terminal_of}
-use Rattle.graphql_lexer.specs.Lex.{Piece, piece_at, ArePieces, tokens_among}
+use Rattle.graphql_lexer.specs.Lex.{Piece, piece_at, ArePieces}
 use Rattle.graphql_grammar.specs.Meaning.{Meaning, name_of}
 use Rattle.graphql_grammar.specs.Kinds.{is_name}
-use Rattle.graphql_grammar.specs.Rules.{Rule, one, mark, ◌<$>◌}
+use Rattle.graphql_grammar.specs.Rules.{one, mark, ◌<$>◌}
 use Rattle.graphql_grammar.specs.ValueGrammar.{name}
-use Rattle.graphql_printed.specs.Printed.{Follow, any, ends_word, LexesAt, before, ReadsUpTo, PrintedBefore, Printed}
+use Rattle.graphql_printed.specs.Printed.{Follow, ends_word, LexesAt, PrintedBefore, Printed}
 use Rattle.graphql_printed.proofs.Sequences.{mapped}
 
 -- ---- one token

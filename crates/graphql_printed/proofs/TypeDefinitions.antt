@@ -1,17 +1,16 @@
 -- Definitions of types, behind their descriptions, are read as they are printed, under both kinds of layout.
-use Rattle.std.proofs.Common.{◌≡◌, ◌≤◌, ◌+◌, ℕ, zero, suc, Bool, true, ◌&&◌, List, [], ◌∷◌, ◌++◌, map, codes, Option, Some, None, refl, sym, ap, ◌∙◌, append_assoc, append-nil, arith}
+use Rattle.std.proofs.Common.{◌≡◌, ◌≤◌, ◌+◌, ℕ, zero, suc, Bool, true, List, [], ◌∷◌, ◌++◌, map, codes, refl, sym, ap, ◌∙◌, append_assoc, append-nil, arith}
 use Rattle.std.specs.List.{list_all}
 use Rattle.std.proofs.lemmas.Bool.{and_parts}
-use Rattle.graphql_names.specs.NameSyntax as names
 use Rattle.graphql_printing.specs.Joined.{joined}
-use Rattle.graphql_printing.specs.LineLayout.{Prefix, Leveled, set_text, texts_of}
+use Rattle.graphql_printing.specs.LineLayout.{Prefix, set_text, texts_of}
 use Rattle.graphql_directives.specs.DirectiveLayout.{directives_text}
 use Rattle.graphql_directives.specs.InputLayout.{input_value_text}
 use Rattle.graphql_type_members.specs.TypeSystemLayout.{names_text, head_text, field_definition_text, enum_value_text}
 use Rattle.graphql_type_members.specs.PartsWritable.{field_definition_writable, field_definitions_writable, enum_value_writable, enum_values_writable, fields_writable, enum_writable, input_object_writable}
-use Rattle.graphql_values.specs.Placed.{Placed, Text, unplaced_text, unplaced_node}
+use Rattle.graphql_values.specs.Placed.{Placed, Text, unplaced_node}
 use Rattle.graphql_values.specs.Writable.{directives_writable, input_values_writable}
-use Rattle.graphql_values.specs.DirectiveTree.{Directives, InputValues, unplaced_directives, unplaced_input_value}
+use Rattle.graphql_values.specs.DirectiveTree.{Directives, InputValues, unplaced_input_value}
 use Rattle.graphql_ast.specs.TypeSystemTree.{FieldDefinitionTree, EnumValueTree, ScalarParts, FieldsParts, UnionParts, EnumParts, InputObjectParts, unplaced_input_object, unplaced_field_definition, unplaced_enum_value, unplaced_scalar, unplaced_fields, unplaced_union, unplaced_enum}
 use Rattle.graphql_lexer.specs.declared.terminal.Terminal.{Terminal}
 use Rattle.graphql_lexer.specs.Terminals.{words}
@@ -19,11 +18,11 @@ use Rattle.graphql_grammar.specs.Meaning.{Meaning}
 use Rattle.graphql_grammar.specs.Kinds.{is_scalar, is_input, is_union, is_enum, is_type, is_interface, is_open_brace}
 use Rattle.graphql_grammar.specs.Rules.{Rule, mark, ◌·◌, ◌<$>◌, optional, optional_unless}
 use Rattle.graphql_grammar.specs.ValueGrammar.{constant, name, directives}
-use Rattle.graphql_grammar.specs.TypeSystemGrammar.{input_object_of, input_value_definition, input_fields_definition, input_object_type, scalar_of, fields_of, union_of, enum_of, scalar_type, implements_interfaces, union_member_types, field_definition, fields_definition, enum_value_definition, enum_values_definition, object_type, interface_type, union_type, enum_type}
-use Rattle.graphql_printed.specs.Printed.{Follow, any, ends_word, begins_definition, ends_definition, Printed}
+use Rattle.graphql_grammar.specs.TypeSystemGrammar.{input_object_of, input_value_definition, input_fields_definition, input_object_type, scalar_of, fields_of, union_of, enum_of, scalar_type, implements_interfaces, field_definition, fields_definition, enum_value_definition, enum_values_definition, object_type, interface_type, union_type, enum_type}
+use Rattle.graphql_printed.specs.Printed.{ends_word, begins_definition, ends_definition, Printed}
 use Rattle.graphql_printed.specs.Literals.{LiteralsRead}
-use Rattle.graphql_printed.specs.WellFormed.{is_white_prefix, bracketed, directives_well_formed, names_well_formed, field_definition_well_formed, enum_value_well_formed, scalar_well_formed, fields_well_formed, union_well_formed, enum_well_formed, directives_depth, field_definition_depth, enum_value_depth, fields_depth, enum_depth, input_values_well_formed, input_object_well_formed, input_values_depth, input_object_depth}
-use Rattle.graphql_printed.proofs.Sequences.{ends_before, seq, seq_word, mapped, ignored, as_text, nothing_more, saying, before_any}
+use Rattle.graphql_printed.specs.WellFormed.{is_white_prefix, bracketed, field_definition_well_formed, enum_value_well_formed, scalar_well_formed, fields_well_formed, union_well_formed, enum_well_formed, directives_depth, field_definition_depth, enum_value_depth, fields_depth, enum_depth, input_values_well_formed, input_object_well_formed, input_values_depth, input_object_depth}
+use Rattle.graphql_printed.proofs.Sequences.{ends_before, seq, seq_word, mapped, ignored, as_text, nothing_more}
 use Rattle.graphql_printed.proofs.Tokens.{any_name, keyword}
 use Rattle.graphql_printed.proofs.Nodes.{each_read, AreAny}
 use Rattle.graphql_printed.proofs.Directives.{directives_read, directives_end}
@@ -31,7 +30,7 @@ use Rattle.graphql_printed.proofs.Lines.{set_ends}
 use Rattle.graphql_printed.proofs.InputValues.{each_input_value}
 use Rattle.graphql_printed.proofs.TypeMembers.{field_definition_read, enum_value_read}
 use Rattle.graphql_printed.proofs.Following.{braced_nodes, part_left_out, part_there}
-use Rattle.graphql_printed.proofs.Names.{AreNames, AreAnyNames, implements_read, union_members_read, names_text_ends}
+use Rattle.graphql_printed.proofs.Names.{implements_read, union_members_read, names_text_ends}
 
 -- a word, and a text that ends words, where a last part may be left out
 module _ {A B : Type 0} {r : Rule A} {s : Rule B} {says : A → Type 0} {tells : B → Type 0} {a b : List ℕ} where

@@ -1,27 +1,23 @@
 -- Definitions of fields, enum values and root operations are read as they are printed, under both kinds of layout.
-use Rattle.std.proofs.Common.{◌≡◌, ◌≤◌, ◌+◌, ℕ, Bool, true, ◌&&◌, List, [], ◌∷◌, ◌++◌, map, codes, Option, Some, None, option_map, refl, sym, ap, ◌∙◌, arith}
+use Rattle.std.proofs.Common.{◌≡◌, ◌≤◌, ℕ, true, List, [], ◌∷◌, ◌++◌, Option, refl, arith}
 use Rattle.std.proofs.lemmas.Bool.{and_parts}
-use Rattle.graphql_names.specs.NameSyntax as names
 use Rattle.graphql_printing.specs.Joined.{joined}
-use Rattle.graphql_printing.specs.LineLayout.{Prefix, Leveled}
+use Rattle.graphql_printing.specs.LineLayout.{Prefix}
 use Rattle.graphql_literals.specs.ValueLayout.{type_text}
 use Rattle.graphql_directives.specs.DirectiveLayout.{directives_text}
 use Rattle.graphql_directives.specs.InputLayout.{argument_definitions_text}
-use Rattle.graphql_operations.specs.OperationQueries.{operation_keyword}
 use Rattle.graphql_operations.specs.declared.operation.OperationType.{OperationType}
-use Rattle.graphql_type_members.specs.TypeSystemLayout.{undescribed_field_text, field_definition_text, enum_value_text, root_text}
+use Rattle.graphql_type_members.specs.TypeSystemLayout.{field_definition_text, enum_value_text, root_text}
 use Rattle.graphql_type_members.specs.PartsWritable.{field_definition_writable, enum_value_writable}
-use Rattle.graphql_values.specs.Placed.{Placed, Text, unplaced_text, unplaced_node}
-use Rattle.graphql_values.specs.Writable.{can_be_enum}
-use Rattle.graphql_values.specs.TypeTree.{TypeTree, unplaced_type}
-use Rattle.graphql_values.specs.DirectiveTree.{Directives, InputValues, unplaced_directives}
+use Rattle.graphql_values.specs.Placed.{Placed, Text}
+use Rattle.graphql_values.specs.TypeTree.{TypeTree}
+use Rattle.graphql_values.specs.DirectiveTree.{Directives, InputValues}
 use Rattle.graphql_ast.specs.TypeSystemTree.{FieldDefinitionTree, EnumValueTree, RootOperationTree, unplaced_field_definition, unplaced_enum_value, unplaced_root}
 use Rattle.graphql_grammar.specs.Meaning.{Meaning}
 use Rattle.graphql_grammar.specs.Kinds.{is_enum_value}
-use Rattle.graphql_grammar.specs.Rules.{Rule, mark, ◌·◌, ◌<$>◌, optional}
-use Rattle.graphql_grammar.specs.ValueGrammar.{constant, name, enum_value, type, directives}
+use Rattle.graphql_grammar.specs.ValueGrammar.{constant}
 use Rattle.graphql_grammar.specs.TypeSystemGrammar.{field_definition_of, enum_value_definition_of, root_of, field_definition, enum_value_definition, root_operation_type_definition}
-use Rattle.graphql_printed.specs.Printed.{Follow, any, ends_word, Printed}
+use Rattle.graphql_printed.specs.Printed.{any, ends_word, Printed}
 use Rattle.graphql_printed.specs.Literals.{LiteralsRead}
 use Rattle.graphql_printed.specs.WellFormed.{is_white_prefix, field_definition_well_formed, enum_value_well_formed, root_well_formed, field_definition_depth, enum_value_depth}
 use Rattle.graphql_printed.proofs.Sequences.{ends_before, seq, seq_word, mapped, ignored, nothing_more}

@@ -1,17 +1,16 @@
 -- References to types are read as they are printed.
-use Rattle.std.proofs.Common.{◌≡◌, ◌≤◌, ℕ, zero, suc, Bool, true, false, List, [], ◌∷◌, ◌++◌, codes, Option, Some, None, refl, sym, ap, subst, ◌∙◌, append_assoc, arith}
+use Rattle.std.proofs.Common.{◌≡◌, ◌≤◌, ℕ, zero, suc, true, List, [], ◌∷◌, ◌++◌, Option, refl, sym, ap, subst, ◌∙◌, append_assoc, arith}
 use Rattle.graphql_names.specs.NameSyntax as names
 use Rattle.graphql_printing.specs.Joined.{joined}
 use Rattle.graphql_literals.specs.ValueLayout.{type_text}
-use Rattle.graphql_values.specs.Placed.{Text, unplaced_text}
 use Rattle.graphql_values.specs.TypeTree.{TypeTree, NamedTree, NonNullNamedTree, ListTree, NonNullListTree, unplaced_type}
 use Rattle.graphql_grammar.specs.Meaning.{Meaning}
 use Rattle.graphql_grammar.specs.Kinds.{is_bang, is_open_bracket, is_close_bracket}
-use Rattle.graphql_grammar.specs.Rules.{Rule, mark, ◌·◌, ◌<$>◌, ◌∣◌, nothing, optional, between}
+use Rattle.graphql_grammar.specs.Rules.{Rule, mark, ◌<$>◌, ◌∣◌, nothing, between}
 use Rattle.graphql_grammar.specs.ValueGrammar.{name, non_null, type_of, any_type, type}
 use Rattle.graphql_printed.specs.Printed.{Follow, any, ends_word, Printed}
 use Rattle.graphql_printed.specs.WellFormed.{type_well_formed, type_depth}
-use Rattle.graphql_printed.proofs.Sequences.{seq, mapped, left, right, given, then_nothing, left_out, as_text, nothing_more, before_any}
+use Rattle.graphql_printed.proofs.Sequences.{seq, mapped, left, right, given, then_nothing, left_out, as_text, before_any}
 use Rattle.graphql_printed.proofs.Tokens.{any_name}
 use Rattle.graphql_printed.proofs.Punctuators.{bang, open_bracket, close_bracket}
 

@@ -1,17 +1,17 @@
 -- Values are read as they are printed.
-use Rattle.std.proofs.Common.{◌≡◌, ◌≤◌, ◌+◌, ℕ, zero, suc, Bool, true, false, not, ◌&&◌, List, [], ◌∷◌, ◌++◌, codes, Option, Some, None, refl, sym, ap, subst, ◌∙◌, append-nil, true≢false, arith}
+use Rattle.std.proofs.Common.{◌≡◌, ◌≤◌, ℕ, zero, suc, true, false, ◌&&◌, List, [], ◌∷◌, ◌++◌, codes, refl, sym, ap, true≢false, arith}
 use Rattle.std.proofs.lemmas.Bool.{and_parts}
 use Rattle.graphql_names.specs.NameSyntax as names
 use Rattle.graphql_printing.specs.Joined.{joined, further_text, separated}
 use Rattle.graphql_literals.specs.ValueLayout.{value_text, item_texts, entry_texts, named_value_text}
-use Rattle.graphql_values.specs.Placed.{Placed, Text, unplaced_text}
-use Rattle.graphql_values.specs.Writable.{value_writable, items_writable, entries_writable, can_be_enum}
+use Rattle.graphql_values.specs.Placed.{Placed, Text}
+use Rattle.graphql_values.specs.Writable.{value_writable, items_writable, entries_writable}
 use Rattle.graphql_values.specs.ValueTree.{ValueTree, NullTree, EnumTree, VariableTree, StringTree, FloatTree, IntTree, BooleanTree, ListTree, ObjectTree, ItemTrees, no_items, item_then, EntryTrees, no_entries, entry_then, unplaced_value, unplaced_items, unplaced_entries}
 use Rattle.graphql_grammar.specs.Meaning.{Meaning}
 use Rattle.graphql_grammar.specs.Rules as rule
 use Rattle.graphql_grammar.specs.Rules.{Rule, mark, ◌·◌, ◌<$>◌, ◌∣◌, nothing, many, between}
-use Rattle.graphql_grammar.specs.ValueGrammar.{Const, constant, with_variables, items_of, entries_of, name, list_value, object_field, object_value, any_value, value}
-use Rattle.graphql_printed.specs.Printed.{Follow, any, ends_word, Printed}
+use Rattle.graphql_grammar.specs.ValueGrammar.{Const, with_variables, items_of, entries_of, list_value, object_field, object_value, any_value, value}
+use Rattle.graphql_printed.specs.Printed.{any, ends_word, Printed}
 use Rattle.graphql_printed.specs.Literals.{LiteralsRead}
 use Rattle.graphql_printed.specs.WellFormed.{value_well_formed, items_well_formed, entries_well_formed, value_depth, items_depth, entries_depth}
 use Rattle.graphql_printed.proofs.Sequences.{seq, mapped, placed, ignored, more, no_more, as_text, nothing_more, saying, before_any}

@@ -1,12 +1,12 @@
 -- A printed text with nothing behind it is a text of its symbol, and of one tree alone.
-use Rattle.std.proofs.Common.{◌≡◌, ℕ, true, List, [], ◌++◌, refl, sym, ap, subst, ◌∙◌, append-nil}
+use Rattle.std.proofs.Common.{◌≡◌, ℕ, List, [], refl, subst, append-nil}
 use Rattle.graphql_lexer.specs.Input.{Token, Ended}
 use Rattle.graphql_lexer.specs.Lex.{Lex}
 use Rattle.graphql_lexer.proofs.Lexed.{lex_unique}
 use Rattle.graphql_grammar.specs.Faults.{Symbol}
 use Rattle.graphql_grammar.specs.Rules.{Rule}
 use Rattle.graphql_grammar.specs.Grammar.{DerivesAs}
-use Rattle.graphql_printed.specs.Printed.{Follow, any, ends_word, LexesAt, before, ReadsUpTo, PrintedBefore, Printed}
+use Rattle.graphql_printed.specs.Printed.{ends_word, before, Printed}
 use Rattle.graphql_printed.specs.ReadsAlone.{ReadsAlone}
 
 -- the symbols with one tree at most

@@ -1,5 +1,5 @@
 -- That numbers and strings are read as they are printed: what the laws of values rest on. Private to the proofs.
-use Rattle.std.specs.Prelude.{◌≡◌, ℕ, Bool, true, List, ◌++◌, length, Some}
+use Rattle.std.specs.Prelude.{◌≡◌, ℕ, true, List, ◌++◌, length, Some}
 use Rattle.graphql_printing.specs.StringLayout.{quoted_text, description_string}
 use Rattle.graphql_printing.specs.LineLayout.{Prefix}
 use Rattle.graphql_literals.specs.NumberSyntax.{is_int_value, is_float_value}
