@@ -17,3 +17,5 @@ pub mod TypeMembers
 pub mod Following
 pub mod Names
 pub mod TypeDefinitions
+pub mod Schemas
+pub mod DirectiveDefinitions

@@ -11,7 +11,7 @@ use Rattle.graphql_operations.specs.OperationLayout.{selection_texts, is_query, 
 use Rattle.graphql_operations.specs.declared.operation.OperationType.{OperationType}
 use Rattle.graphql_operations.specs.declared.operation.OperationType.TheVariants.{Query, Mutation, Subscription}
 use Rattle.graphql_values.specs.Placed.{Placed, Text, unplaced_text, unplaced_node}
-use Rattle.graphql_values.specs.Writable.{variable_writable, variables_writable, operation_writable, fragment_writable}
+use Rattle.graphql_values.specs.Writable.{directives_writable, has_selection, selections_writable, variable_writable, variables_writable, operation_writable, fragment_writable}
 use Rattle.graphql_values.specs.TypeTree.{TypeTree}
 use Rattle.graphql_values.specs.ValueTree.{ValueTree}
 use Rattle.graphql_values.specs.DirectiveTree.{Directives, unplaced_directives}
@@ -25,7 +25,7 @@ use Rattle.graphql_grammar.specs.ValueGrammar.{constant, with_variables, name, d
 use Rattle.graphql_grammar.specs.OperationGrammar.{variable_definition_of, short_of, operation_of, fragment_of, operation_type, type_condition, selection_set, variable_definition, variable_definitions, operation_definition, fragment_definition}
 use Rattle.graphql_printed.specs.Printed.{any, ends_word, Printed}
 use Rattle.graphql_printed.specs.Literals.{LiteralsRead}
-use Rattle.graphql_printed.specs.WellFormed.{is_white_prefix, name_well_formed, variable_well_formed, variables_well_formed, operation_well_formed, fragment_well_formed, variable_depth, variables_depth, operation_depth, fragment_depth}
+use Rattle.graphql_printed.specs.WellFormed.{directives_well_formed, selections_well_formed, is_white_prefix, name_well_formed, variable_well_formed, variables_well_formed, operation_well_formed, fragment_well_formed, variable_depth, variables_depth, operation_depth, fragment_depth}
 use Rattle.graphql_printed.proofs.Sequences.{ends_before, seq, seq_word, mapped, left, right, placed, ignored, given, left_out, nothing_more, saying, before_any}
 use Rattle.graphql_printed.proofs.Tokens.{any_name, named, keyword}
 use Rattle.graphql_printed.proofs.Punctuators.{colon}
@@ -164,9 +164,9 @@ module _ {P Q : Type 0} (m : Meaning P) (lits : LiteralsRead m.string) where
     short_read : (o : OperationTree Q) (n level : ℕ) → is_bare_query o ≡ true → operation_well_formed o ≡ true → operation_writable o ≡ true → operation_depth o ≤ suc n → Printed (operation_definition m (suc n)) (IsOperation o) ends_word (braced_text prefix level (selection_texts prefix o.selections))
     unfolding operation_definition
     short_read o n level bare h w le =
-        let (h123, h4) = and_parts _ _ h in
-        let (w123, w4) = and_parts _ _ w in
-        let (w12, w3) = and_parts _ _ w123 in
+        let (h123, h4) = and_parts (name_well_formed o.name && variables_well_formed o.variables && directives_well_formed o.directives) (selections_well_formed o.selections) h in
+        let (w123, w4) = and_parts (variables_writable o.variables && directives_writable with_variables o.directives && has_selection o.selections) (selections_writable o.selections) w in
+        let (w12, w3) = and_parts (variables_writable o.variables && directives_writable with_variables o.directives) (has_selection o.selections) w123 in
         left (operation_of <$> operation_type · optional (name m) · optional (variable_definitions m (suc n)) · optional (directives m with_variables (suc n)) · selection_set m (suc n))
         (mapped short_of (IsOperation o) (λ x said. bare_is o.operation_type o.name o.variables o.directives _ _ bare said)
         (before_any (bare_set_read m lits prefix n level o.selections white w3 (selections_read m lits prefix white o.selections n (level + 1) h4 w4 (omega arith)))))
