@@ -3,20 +3,29 @@ use Rattle.std.proofs.Common.{◌≡◌, ◌≤◌, ◌+◌, ℕ, Bool, true, fa
 use Rattle.std.proofs.lemmas.Bool.{and_parts}
 use Rattle.graphql_names.specs.NameSyntax as names
 use Rattle.graphql_printing.specs.Joined.{joined, further_text}
+use Rattle.graphql_printing.specs.LineLayout.{Prefix}
 use Rattle.graphql_directives.specs.DirectivePlaces.{location_keyword}
+use Rattle.graphql_directives.specs.InputLayout.{argument_definitions_text, repeatable_text, locations_text}
+use Rattle.graphql_values.specs.Placed.{unplaced_node}
+use Rattle.graphql_values.specs.Writable.{input_values_writable}
+use Rattle.graphql_values.specs.DirectiveTree.{InputValues, DirectiveDefinitionTree, unplaced_input_value, unplaced_directive_definition}
 use Rattle.graphql_directives.specs.declared.directive_location.DirectiveLocation.{DirectiveLocation}
 use Rattle.graphql_directives.specs.declared.directive_location.DirectiveLocation.TheVariants as location
 use Rattle.graphql_lexer.specs.declared.token.TokenKind.TheVariants as t
 use Rattle.graphql_lexer.specs.Input.{Token}
 use Rattle.graphql_lexer.specs.Terminals.{words, terminal_of}
-use Rattle.graphql_grammar.specs.Kinds.{is_location, is_pipe}
+use Rattle.graphql_grammar.specs.Meaning.{Meaning}
+use Rattle.graphql_grammar.specs.Kinds.{is_location, is_pipe, is_directive, is_repeatable, is_on}
 use Rattle.graphql_grammar.specs.Locations.{location_of}
-use Rattle.graphql_grammar.specs.Rules.{Rule, one, mark, ◌·◌, ◌<$>◌, many, separated}
-use Rattle.graphql_grammar.specs.TypeSystemGrammar.{directive_locations}
+use Rattle.graphql_grammar.specs.Rules.{Rule, one, mark, ◌·◌, ◌<$>◌, optional, many, separated}
+use Rattle.graphql_grammar.specs.TypeSystemGrammar.{directive_definition_of, directive_locations, directive_definition}
 use Rattle.graphql_printed.specs.Printed.{Follow, any, ends_word, Printed}
-use Rattle.graphql_printed.proofs.Sequences.{seq, seq_word, mapped, ignored, left_out, more, no_more, as_text, saying}
-use Rattle.graphql_printed.proofs.Tokens.{word}
-use Rattle.graphql_printed.proofs.Punctuators.{pipe}
+use Rattle.graphql_printed.specs.Literals.{LiteralsRead}
+use Rattle.graphql_printed.specs.WellFormed.{is_white_prefix, input_values_well_formed, input_values_depth}
+use Rattle.graphql_printed.proofs.InputValues.{argument_definitions_read, argument_definitions_end}
+use Rattle.graphql_printed.proofs.Sequences.{ends_before, nothing_more, given, seq, seq_word, mapped, ignored, left_out, more, no_more, as_text, saying}
+use Rattle.graphql_printed.proofs.Tokens.{word, keyword, any_name}
+use Rattle.graphql_printed.proofs.Punctuators.{pipe, at}
 use Rattle.graphql_printed.proofs.Lists.{further_is, further_ends}
 
 -- a location is known by its word
@@ -110,3 +119,40 @@ locations_read l ls =
     mapped (λ x. x.1.0 ∷ x.1.1) (λ xs. xs ≡ l ∷ ls) (λ x said. next_location x.1.0 l x.1.1 ls said.1.0 said.1.1)
     (seq {f = any} (λ behind fine. refl) (left_out (mark is_pipe) any)
     (seq {f = ends_word} (λ behind fine. further_ends 32 (124 ∷ 32 ∷ []) (map location_keyword ls) behind refl fine) (location_read l) (further_locations ls)))
+
+abbrev directive_with : List ℕ → InputValues (Unit {0}) → Bool → List DirectiveLocation → DirectiveDefinitionTree (Unit {0})
+directive_with n vs r ls = record { description = None; name = record { it = n; place = tt }; arguments = vs; repeatable = r; locations = ls }
+
+one_directive : (l n : List ℕ) (vs ws : InputValues (Unit {0})) (r s : Bool) (ls ks : List DirectiveLocation) → l ≡ n → vs ≡ ws → r ≡ s → ls ≡ ks → directive_with l vs r ls ≡ directive_with n ws s ks
+one_directive l n vs ws r s ls ks e f g h = rw e (rw f (rw g (rw h refl)))
+
+repeatable_read : (r : Bool) → Printed (optional (mark is_repeatable)) (λ o. is_some o ≡ r) ends_word (repeatable_text r)
+unfolding joined words
+repeatable_read true = saying (λ o. is_some o ≡ true) (λ o e. ap (λ (x : Option (Unit {0})). is_some x) e.1) (given (ignored (32 ∷ []) refl (keyword is_repeatable (codes "repeatable") refl refl)))
+repeatable_read false = saying (λ o. is_some o ≡ false) (λ o e. ap (λ (x : Option (Unit {0})). is_some x) e) (left_out (mark is_repeatable) ends_word)
+
+repeatable_ends : (r : Bool) → ends_word (repeatable_text r) ≡ true
+unfolding joined
+repeatable_ends true = refl
+repeatable_ends false = refl
+
+module _ {P Q : Type 0} (m : Meaning P) (lits : LiteralsRead m.string) (prefix : Prefix) (white : is_white_prefix prefix ≡ true) where
+  pub directive_definition_read : (name : List ℕ) (vs : InputValues Q) (r : Bool) (l : DirectiveLocation) (ls : List DirectiveLocation) (n level : ℕ) → names.is_name name ≡ true → input_values_well_formed vs ≡ true → input_values_writable vs ≡ true → input_values_depth vs ≤ n
+      → Printed (directive_definition m n) (λ x. unplaced_directive_definition x ≡ directive_with name (map (unplaced_node unplaced_input_value) vs) r (l ∷ ls)) ends_word
+      (codes "directive @" ++ (name ++ (argument_definitions_text prefix vs level ++ (repeatable_text r ++ (locations_text (l ∷ ls) ++ [])))))
+  unfolding joined words directive_definition
+  directive_definition_read name vs r l ls n level h1 h2 w le =
+      let places : List ℕ = locations_text (l ∷ ls) ++ [] in
+      let end2 : ends_word (repeatable_text r ++ places) ≡ true = ends_before (repeatable_text r) places (repeatable_ends r) refl in
+      let end3 : ends_word (argument_definitions_text prefix vs level ++ (repeatable_text r ++ places)) ≡ true = ends_before (argument_definitions_text prefix vs level) (repeatable_text r ++ places) (argument_definitions_end m lits prefix vs level) end2 in
+      mapped directive_definition_of (λ x. unplaced_directive_definition x ≡ directive_with name (map (unplaced_node unplaced_input_value) vs) r (l ∷ ls)) (λ x said. one_directive _ _ _ _ _ _ _ _ said.1.1.0 said.1.1.1.0 said.1.1.1.1.0 said.1.1.1.1.1.1)
+      (seq_word refl (keyword is_directive (codes "directive") refl refl)
+      (ignored (32 ∷ []) refl
+      (seq {f = any} (λ behind fine. refl) at
+      (seq_word end3 (any_name m name h1)
+      (seq_word end2 (argument_definitions_read m lits prefix white vs n level h2 w le)
+      (seq_word refl (repeatable_read r)
+      (nothing_more
+      (ignored (32 ∷ []) refl
+      (seq_word refl (keyword is_on (codes "on") refl refl)
+      (ignored (32 ∷ []) refl (as_text _ (ap (λ (k : List ℕ). location_keyword l ++ k) (sym (append-nil (further_text (codes " | ") (map location_keyword ls))))) (locations_read l ls))))))))))))
