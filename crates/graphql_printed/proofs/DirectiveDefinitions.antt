@@ -1,6 +1,5 @@
 -- Definitions of directives, behind their descriptions, are read as they are printed, under both kinds of layout.
-use Rattle.std.proofs.Common.{◌≡◌, ◌≤◌, ◌+◌, ℕ, Bool, true, false, ◌&&◌, List, [], ◌∷◌, ◌++◌, map, codes, Option, Some, None, is_some, refl, sym, ap, ◌∙◌, append-nil, arith}
-use Rattle.std.proofs.lemmas.Bool.{and_parts}
+use Rattle.std.proofs.Common.{◌≡◌, ◌≤◌, ℕ, Bool, true, false, List, [], ◌∷◌, ◌++◌, map, codes, Option, None, is_some, refl, sym, ap, ◌∙◌, append-nil}
 use Rattle.graphql_names.specs.NameSyntax as names
 use Rattle.graphql_printing.specs.Joined.{joined, further_text}
 use Rattle.graphql_printing.specs.LineLayout.{Prefix}
@@ -17,9 +16,9 @@ use Rattle.graphql_lexer.specs.Terminals.{words, terminal_of}
 use Rattle.graphql_grammar.specs.Meaning.{Meaning}
 use Rattle.graphql_grammar.specs.Kinds.{is_location, is_pipe, is_directive, is_repeatable, is_on}
 use Rattle.graphql_grammar.specs.Locations.{location_of}
-use Rattle.graphql_grammar.specs.Rules.{Rule, one, mark, ◌·◌, ◌<$>◌, optional, many, separated}
+use Rattle.graphql_grammar.specs.Rules.{Rule, one, mark, ◌·◌, ◌<$>◌, optional, many}
 use Rattle.graphql_grammar.specs.TypeSystemGrammar.{directive_definition_of, directive_locations, directive_definition}
-use Rattle.graphql_printed.specs.Printed.{Follow, any, ends_word, Printed}
+use Rattle.graphql_printed.specs.Printed.{any, ends_word, Printed}
 use Rattle.graphql_printed.specs.Literals.{LiteralsRead}
 use Rattle.graphql_printed.specs.WellFormed.{is_white_prefix, input_values_well_formed, input_values_depth}
 use Rattle.graphql_printed.proofs.InputValues.{argument_definitions_read, argument_definitions_end}

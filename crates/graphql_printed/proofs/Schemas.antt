@@ -1,28 +1,28 @@
 -- Definitions of schemas, behind their descriptions, are read as they are printed, under both kinds of layout.
-use Rattle.std.proofs.Common.{◌≡◌, ◌≤◌, ◌+◌, ℕ, zero, suc, Bool, true, ◌&&◌, List, [], ◌∷◌, ◌++◌, map, codes, Option, Some, None, refl, sym, ap, ◌∙◌, append_assoc, append-nil, arith}
+use Rattle.std.proofs.Common.{◌≡◌, ◌≤◌, ◌+◌, ℕ, zero, suc, true, List, [], ◌∷◌, ◌++◌, map, codes, refl, arith}
 use Rattle.std.specs.List.{list_all}
 use Rattle.std.proofs.lemmas.Bool.{and_parts}
 use Rattle.graphql_printing.specs.Joined.{joined}
-use Rattle.graphql_printing.specs.LineLayout.{Prefix, Leveled, set_text, texts_of}
+use Rattle.graphql_printing.specs.LineLayout.{Prefix, set_text, texts_of}
 use Rattle.graphql_directives.specs.DirectiveLayout.{directives_text}
 use Rattle.graphql_type_members.specs.TypeSystemLayout.{root_text}
 use Rattle.graphql_type_members.specs.PartsWritable.{has_some}
 use Rattle.graphql_values.specs.Placed.{Placed, unplaced_node}
 use Rattle.graphql_values.specs.Writable.{directives_writable}
-use Rattle.graphql_values.specs.DirectiveTree.{Directives, unplaced_directives}
+use Rattle.graphql_values.specs.DirectiveTree.{Directives}
 use Rattle.graphql_ast.specs.TypeSystemTree.{RootOperationTree, SchemaParts, unplaced_root, unplaced_schema}
 use Rattle.graphql_lexer.specs.Terminals.{words}
 use Rattle.graphql_grammar.specs.Meaning.{Meaning}
 use Rattle.graphql_grammar.specs.Kinds.{is_schema, is_open_brace}
-use Rattle.graphql_grammar.specs.Rules.{Rule, mark, ◌·◌, ◌<$>◌, optional, optional_unless}
-use Rattle.graphql_grammar.specs.ValueGrammar.{constant, directives}
+use Rattle.graphql_grammar.specs.Rules.{optional_unless}
+use Rattle.graphql_grammar.specs.ValueGrammar.{constant}
 use Rattle.graphql_grammar.specs.TypeSystemGrammar.{schema_of, schema_extension_of, root_operation_type_definition, roots, schema_definition, schema_extension}
-use Rattle.graphql_printed.specs.Printed.{Follow, any, ends_word, ends_definition, Printed}
+use Rattle.graphql_printed.specs.Printed.{any, ends_word, ends_definition, Printed}
 use Rattle.graphql_printed.specs.Literals.{LiteralsRead}
-use Rattle.graphql_printed.specs.WellFormed.{is_white_prefix, root_well_formed, schema_well_formed, directives_depth, schema_depth}
+use Rattle.graphql_printed.specs.WellFormed.{is_white_prefix, root_well_formed, schema_well_formed, schema_depth}
 use Rattle.graphql_printed.proofs.Sequences.{ends_before, seq_word, mapped, nothing_more, before_any}
 use Rattle.graphql_printed.proofs.Tokens.{keyword}
-use Rattle.graphql_printed.proofs.Nodes.{EachRead, AreNodes, AreAny}
+use Rattle.graphql_printed.proofs.Nodes.{EachRead, AreAny}
 use Rattle.graphql_printed.proofs.Directives.{directives_read, directives_end}
 use Rattle.graphql_printed.proofs.Lines.{set_ends}
 use Rattle.graphql_printed.proofs.TypeMembers.{root_read}
