@@ -1,0 +1,4 @@
+pub mod Printed
+pub mod WellFormed
+pub mod Literals
+pub mod ReadsAlone
