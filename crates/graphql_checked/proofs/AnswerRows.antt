@@ -1,19 +1,17 @@
 -- Lines of faults, and texts as they are written.
-use Rattle.std.proofs.Common.{◌≡◌, ℕ, List, [], ◌∷◌, ◌++◌, codes, Some, None, refl, lit<}
-use Rattle.std.specs.Prelude.{flat_map}
+use Rattle.std.proofs.Common.{◌≡◌, ℕ, List, [], ◌∷◌, codes, None, refl}
 use Rattle.std.specs.Fmt.{digits}
 use Rattle.graphql_values.specs.Placed.{Place}
 use Rattle.graphql_values.specs.Joined.{joined}
 use Rattle.graphql_grammar.specs.Places.{place_in}
 use Rattle.graphql_read.specs.declared.fault.SyntaxFaultKind.TheVariants.{NoToken, Unexpected, End}
 use Rattle.graphql_thin.specs.Fold.{built_in, definition_list}
-use Rattle.graphql_thin.specs.Faults.{Breach, Fault, Syntax, Nesting, Spent, TypeDefinitionCollision, ObjectFieldNameCollision, QueryRootOperationType, UndefinedField}
-use Rattle.graphql_thin.specs.Messages.{message}
+use Rattle.graphql_thin.specs.Faults.{Breach, Syntax, Nesting, Spent, TypeDefinitionCollision, ObjectFieldNameCollision, QueryRootOperationType, UndefinedField}
 use Rattle.graphql_checked.specs.Answer.{place_text, fault_line}
 use Rattle.graphql_checked.specs.Layouts.{layout_text}
 use Rattle.graphql_checked.specs.declared.layout.Layout.TheVariants.{OneLine}
 use Rattle.graphql_checked.specs.Out.{Out, OutDoc}
-use Rattle.graphql_checked.proofs.SmallTexts.{one_field_tree, its_query_tree, two_missing_tree, query_twice_tree, field_twice_tree}
+use Rattle.graphql_checked.proofs.SmallTexts.{one_field_tree, its_query_tree, two_missing_tree, query_twice_tree}
 
 -- ---- places
 

@@ -24,7 +24,6 @@ use Rattle.graphql_thin.proofs.Undefined.{document_all}
 use Rattle.graphql_thin.proofs.TextRows.{Trees}
 use Rattle.graphql_thin.proofs.WholeTexts.{unread_not_read}
 use Rattle.graphql_checked.specs.Out.{Out, OutDoc}
-use Rattle.graphql_checked.specs.Judge.{JudgeSchemas}
 use Rattle.graphql_checked.specs.Answer.{fault_line, UnreadFaults, RefusesSchemas, RefusesDocument, AcceptedBytes, Answer}
 use Rattle.graphql_checked.specs.Refusals.{AreSchemasAccepted, IsAccepted}
 use Rattle.graphql_checked.specs.Layouts.{layout_text}
@@ -264,7 +263,7 @@ document_fault_missing : RefusesDocument 500 (one_field ∷ []) two_missing (mis
 unfolding place_in
 document_fault_missing refused =
     let h = full_of_document 500 one_field one_field_tree one_field_read two_missing two_missing_tree two_missing_read refl one_field_bounded two_missing_bounded (missing ∷ other ∷ []) (missing ∷ []) refl refused
-        other (Contains-rest missing (other ∷ []) other (Contains-first other [] other refl)) in
+    other (Contains-rest missing (other ∷ []) other (Contains-first other [] other refl)) in
     apart 2 10 (lit< tt) (sym (ap (λ f. offset_of_place f.place) (only missing other h)))
 
 -- ---- bytes that are no answer
@@ -287,11 +286,11 @@ written_document = refl
 one_answer : (bytes : List ℕ) → Answer (layout_text OneLine) 500 (one_field ∷ []) its_query bytes → bytes ≡ codes "accepted\ntype Query { field: Int }\n{ field }\n"
 one_answer bytes (inl a) =
     let schema : a.written_schema ≡ codes "type Query { field: Int }" =
-        a.writes_schema.1.1
-        ∙ ap (λ ts. layout_text OneLine (Out (definition_list ts))) (all_unique 1 (one_field ∷ []) a.writes_schema.0 (one_field_tree ∷ []) a.writes_schema.1.0 (one_field_read, tt))
-        ∙ written_schema in
+    a.writes_schema.1.1
+    ∙ ap (λ ts. layout_text OneLine (Out (definition_list ts))) (all_unique 1 (one_field ∷ []) a.writes_schema.0 (one_field_tree ∷ []) a.writes_schema.1.0 (one_field_read, tt))
+    ∙ written_schema in
     let document : a.written_document ≡ codes "{ field }" =
-        a.writes_document.1.1 ∙ ap (λ t. layout_text OneLine (OutDoc t)) (read_unique 2 its_query a.writes_document.0 its_query_tree a.writes_document.1.0 its_query_read) ∙ written_document in
+    a.writes_document.1.1 ∙ ap (λ t. layout_text OneLine (OutDoc t)) (read_unique 2 its_query a.writes_document.0 its_query_tree a.writes_document.1.0 its_query_read) ∙ written_document in
     a.is
     ∙ ap (λ w. codes "accepted\n" ++ w ++ codes "\n" ++ a.written_document ++ codes "\n") schema
     ∙ ap (λ w. codes "accepted\n" ++ codes "type Query { field: Int }" ++ codes "\n" ++ w ++ codes "\n") document

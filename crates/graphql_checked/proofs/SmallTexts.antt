@@ -1,9 +1,8 @@
 -- Small texts, evaluated: their trees, that they pass no bound, and the faults that are due of those that are not read.
-use Rattle.std.proofs.Common.{◌≡◌, ℕ, ◌+◌, ◌<◌, ◌≤◌, ◌^◌, List, [], ◌∷◌, length, codes, Some, None, Ok, Err, refl, subst, arith, lit<, lit≤}
+use Rattle.std.proofs.Common.{◌≡◌, ℕ, ◌+◌, ◌<◌, ◌≤◌, ◌^◌, List, [], ◌∷◌, length, codes, None, Err, refl, subst, arith, lit<, lit≤}
 use Rattle.std.proofs.Math.Nat.{lt_irrefl}
-use Rattle.graphql_names.specs.declared.span.FileId.{FileId}
 use Rattle.graphql_values.specs.Placed.{Placed, Place, Text}
-use Rattle.graphql_values.specs.TypeTree.{TypeTree, NamedTree, NonNullNamedTree}
+use Rattle.graphql_values.specs.TypeTree.{NamedTree, NonNullNamedTree}
 use Rattle.graphql_values.specs.SelectionTree.{SelectionTree, SelectionTrees, FieldTree, selection_then, no_selections}
 use Rattle.graphql_operations.specs.declared.operation.OperationType.TheVariants.{Query}
 use Rattle.graphql_ast.specs.TypeSystemTree.{FieldDefinitionTree}
@@ -12,7 +11,7 @@ use Rattle.graphql_lexer.specs.Bytes.{run_len}
 use Rattle.graphql_lexer.specs.Tokens.{ignored_at, token_at}
 use Rattle.graphql_lexer.specs.Terminals.{words}
 use Rattle.graphql_lexer.specs.Input.{Token, Input, Ending, Ended, NoTokenAt}
-use Rattle.graphql_lexer.specs.Lex.{piece_at, Lex}
+use Rattle.graphql_lexer.specs.Lex.{piece_at}
 use Rattle.graphql_lexer.specs.Cursor.{Rest, rest_from, EndsAs}
 use Rattle.graphql_lexer.specs.declared.terminal.Terminal.{Terminal}
 use Rattle.graphql_lexer.specs.declared.terminal.Terminal.TheVariants as k
