@@ -230,6 +230,11 @@ no_bracket =
 
 -- ---- lists of faults that are not told
 
+-- an unread text does not stand silent
+silent : UnreadFaults 500 1 ([] ∷ []) [] → ⊥
+silent (inl (reads, rest)) = unread_not_read 500 1 [] (syntax_at (empty_span 1) End) (empty_unread 1) reads
+silent (inr (fault, (others, (is, unread, rest)))) = let e : [] ≡ fault ∷ others = is in absurd cc
+
 abbrev offset_of_place : Place → ℕ
 offset_of_place None = 0
 offset_of_place (Some span) = span.offset
@@ -312,3 +317,10 @@ undefined_refused = refuses_document 500 one_field one_field_tree one_field_read
 not_accepted : (bytes : List ℕ) → AcceptedBytes (layout_text OneLine) 500 (one_field ∷ []) two_missing bytes → ⊥
 not_accepted bytes a =
     document_not_refused 500 (one_field ∷ []) two_missing (missing ∷ other ∷ []) (record { judged = a.judged; schemas_within = a.schemas_within; document_within = a.document_within }) undefined_refused
+
+-- nor does any accept an unread text
+unread_not_accepted : (d bytes : List ℕ) → AcceptedBytes (layout_text OneLine) 500 ([] ∷ []) d bytes → ⊥
+unread_not_accepted d bytes a =
+    let fault : Fault = syntax_at (empty_span 1) End in
+    schemas_not_refused 500 ([] ∷ []) (fault ∷ []) (record { judged = a.judged.schema; within = a.schemas_within })
+    (unread_schemas 500 ([] ∷ []) (fault ∷ []) (λ e. absurd cc) (inr (fault, ([], (refl, empty_unread 1, refl)))))
