@@ -9,3 +9,7 @@ pub mod Verdicts
 pub mod AnswerBytes
 pub mod Saying
 pub mod Completing
+pub mod SmallTexts
+pub mod VerdictRows
+pub mod PairRows
+pub mod AnswerRows
