@@ -19,3 +19,5 @@ pub mod Names
 pub mod TypeDefinitions
 pub mod Schemas
 pub mod DirectiveDefinitions
+pub mod StringTokens
+pub mod NumberTokens
