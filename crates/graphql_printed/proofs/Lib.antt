@@ -21,3 +21,4 @@ pub mod Schemas
 pub mod DirectiveDefinitions
 pub mod StringTokens
 pub mod NumberTokens
+pub mod Alone
