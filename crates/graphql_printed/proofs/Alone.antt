@@ -1,5 +1,5 @@
 -- Values, operations and fragments in a file: what is printed of each is a text of its symbol, of one tree alone.
-use Rattle.std.proofs.Common.{◌≡◌, ℕ, Bool, true, List, refl, le_refl}
+use Rattle.std.proofs.Common.{◌≡◌, ℕ, Bool, true, refl, le_refl}
 use Rattle.graphql_names.specs.declared.span.FileId.{FileId}
 use Rattle.graphql_printing.specs.LineLayout.{Prefix}
 use Rattle.graphql_literals.specs.ValueLayout.{value_text}
