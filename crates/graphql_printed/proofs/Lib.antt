@@ -22,3 +22,4 @@ pub mod DirectiveDefinitions
 pub mod StringTokens
 pub mod NumberTokens
 pub mod Alone
+pub mod Executable
