@@ -1,5 +1,6 @@
--- Values, operations and fragments in a file: what is printed of each is a text of its symbol, of one tree alone.
-use Rattle.std.proofs.Common.{◌≡◌, ℕ, Bool, true, refl, le_refl}
+-- Values, operations, fragments and documents of these in a file: what is printed of each is a text of its symbol, of one tree alone.
+use Rattle.std.proofs.Common.{◌≡◌, ℕ, Bool, true, List, ◌∷◌, refl, le_refl}
+use Rattle.std.specs.List.{list_all}
 use Rattle.graphql_names.specs.declared.span.FileId.{FileId}
 use Rattle.graphql_printing.specs.LineLayout.{Prefix}
 use Rattle.graphql_literals.specs.ValueLayout.{value_text}
@@ -8,7 +9,10 @@ use Rattle.graphql_values.specs.Placed.{Place}
 use Rattle.graphql_values.specs.Writable.{value_writable, operation_writable, fragment_writable}
 use Rattle.graphql_values.specs.ValueTree.{ValueTree, unplaced_value}
 use Rattle.graphql_values.specs.OperationTree.{OperationTree, FragmentTree, unplaced_operation, unplaced_fragment}
-use Rattle.graphql_grammar.specs.Grammar.{DerivesAs}
+use Rattle.graphql_ast.specs.DefinitionTree.{DefinitionTree, unplaced_document}
+use Rattle.graphql_ast.specs.DocumentLayout.{document_text}
+use Rattle.graphql_ast.specs.Writable.{definition_writable}
+use Rattle.graphql_grammar.specs.Grammar.{DerivesAs, Derives, document}
 use Rattle.graphql_grammar.specs.ValueGrammar.{Const, value}
 use Rattle.graphql_grammar.specs.OperationGrammar.{operation_definition, fragment_definition}
 use Rattle.graphql_grammar.specs.ValueReading as v
@@ -17,14 +21,17 @@ use Rattle.graphql_grammar.proofs.Parses.{any_count}
 use Rattle.graphql_grammar.proofs.Values.{value_parses}
 use Rattle.graphql_grammar.proofs.Operations.{operation_definition_parses, fragment_definition_parses}
 use Rattle.graphql_grammar.proofs.Theorems.{one_tree}
+use Rattle.graphql_grammar.proofs.Laws.{one_document}
 use Rattle.graphql_parse_values.specs.Meanings.{string_of, in_file}
 use Rattle.graphql_printed.specs.Literals.{LiteralsRead}
 use Rattle.graphql_printed.specs.ReadsAlone.{ReadsAlone}
-use Rattle.graphql_printed.specs.WellFormed.{is_white_prefix, value_well_formed, operation_well_formed, fragment_well_formed, value_depth, operation_depth, fragment_depth}
+use Rattle.graphql_printed.specs.Executable.{executable_well_formed, executable_depth}
+use Rattle.graphql_printed.specs.WellFormed.{depths, is_white_prefix, value_well_formed, operation_well_formed, fragment_well_formed, value_depth, operation_depth, fragment_depth}
 use Rattle.graphql_printed.proofs.NumberTokens.{numbers_read}
 use Rattle.graphql_printed.proofs.StringTokens.{strings_read}
 use Rattle.graphql_printed.proofs.Values.{value_read}
 use Rattle.graphql_printed.proofs.Operations.{operation_read, fragment_read}
+use Rattle.graphql_printed.proofs.Executable.{executable_read}
 use Rattle.graphql_printed.proofs.Whole.{OneTree, reads_alone}
 
 -- Numbers and strings stand for themselves.
@@ -58,3 +65,11 @@ module _ (file : FileId) where
   fragment_alone prefix level tree white formed writable =
       reads_alone (fragment_definition (in_file file)) unplaced_fragment (fragment_text prefix tree level) (unplaced_fragment tree) (fragment_depth tree) one_fragment
       (fragment_read (in_file file) literals_read prefix white tree (fragment_depth tree) level formed writable (le_refl (fragment_depth tree)))
+
+  pub executable_alone : (prefix : Prefix) (level : ℕ) (tree : DefinitionTree Place) (trees : List (DefinitionTree Place)) → is_white_prefix prefix ≡ true
+      → list_all executable_well_formed (tree ∷ trees) ≡ true → list_all definition_writable (tree ∷ trees) ≡ true
+      → ReadsAlone (Derives (in_file file)) unplaced_document (document_text prefix level (tree ∷ trees)) (unplaced_document (tree ∷ trees))
+  executable_alone prefix level tree trees white formed writable =
+      let n : ℕ = depths executable_depth (tree ∷ trees) in
+      reads_alone (document (in_file file)) unplaced_document (document_text prefix level (tree ∷ trees)) (unplaced_document (tree ∷ trees)) n (one_document (in_file file))
+      (executable_read (in_file file) literals_read prefix white tree trees n level formed writable (le_refl n))

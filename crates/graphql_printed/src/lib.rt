@@ -6,7 +6,8 @@
 //! Begin with `specs/ReadsAlone.antt`, then `specs/Printed.antt`, from which the proofs are put together.
 #![tactic(auto)]
 
-ghost use Rattle.std.specs.Prelude.{◌≡◌, ℕ, Bool, true};
+ghost use Rattle.std.specs.Prelude.{◌≡◌, ℕ, Bool, true, List, ◌∷◌};
+ghost use Rattle.std.specs.List.{list_all};
 ghost use Rattle.graphql_names.specs.declared.span.FileId.{FileId};
 ghost use Rattle.graphql_printing.specs.LineLayout.{Prefix};
 ghost use Rattle.graphql_literals.specs.ValueLayout.{type_text, value_text};
@@ -16,12 +17,16 @@ ghost use Rattle.graphql_values.specs.Writable.{value_writable, operation_writab
 ghost use Rattle.graphql_values.specs.TypeTree.{TypeTree, unplaced_type};
 ghost use Rattle.graphql_values.specs.ValueTree.{ValueTree, unplaced_value};
 ghost use Rattle.graphql_values.specs.OperationTree.{OperationTree, FragmentTree, unplaced_operation, unplaced_fragment};
+ghost use Rattle.graphql_ast.specs.DefinitionTree.{DefinitionTree, unplaced_document};
+ghost use Rattle.graphql_ast.specs.DocumentLayout.{document_text};
+ghost use Rattle.graphql_ast.specs.Writable.{definition_writable};
 ghost use Rattle.graphql_grammar.specs.Meaning.{Meaning};
-ghost use Rattle.graphql_grammar.specs.Grammar.{DerivesAs, DerivesType};
+ghost use Rattle.graphql_grammar.specs.Grammar.{DerivesAs, Derives, DerivesType};
 ghost use Rattle.graphql_grammar.specs.ValueGrammar.{Const, value};
 ghost use Rattle.graphql_grammar.specs.OperationGrammar.{operation_definition, fragment_definition};
 ghost use Rattle.graphql_parse_values.specs.Meanings.{in_file};
 ghost use Rattle.graphql_printed.specs.WellFormed.{is_white_prefix, type_well_formed, value_well_formed, operation_well_formed, fragment_well_formed};
+ghost use Rattle.graphql_printed.specs.Executable.{executable_well_formed};
 ghost use Rattle.graphql_printed.specs.ReadsAlone.{ReadsAlone};
 
 /// The text of a type whose names are names reads as it alone, places aside.
@@ -46,4 +51,12 @@ pub fn printed_operations_read()
     ensures fragment { (file : FileId) → (prefix : Prefix) → (level : ℕ) → (tree : FragmentTree Place)
         → is_white_prefix prefix ≡ true → fragment_well_formed tree ≡ true → fragment_writable tree ≡ true
         → ReadsAlone (DerivesAs (fragment_definition (in_file file))) unplaced_fragment (fragment_text prefix tree level) (unplaced_fragment tree) }
+{}
+
+/// The text of a document that is operations and fragments alone, one at least, each well-formed and writable, reads as it
+/// alone, places aside; under the same layouts.
+pub fn printed_executable_document_reads()
+    ensures { (file : FileId) → (prefix : Prefix) → (level : ℕ) → (tree : DefinitionTree Place) → (trees : List (DefinitionTree Place))
+        → is_white_prefix prefix ≡ true → list_all executable_well_formed (tree ∷ trees) ≡ true → list_all definition_writable (tree ∷ trees) ≡ true
+        → ReadsAlone (Derives (in_file file)) unplaced_document (document_text prefix level (tree ∷ trees)) (unplaced_document (tree ∷ trees)) }
 {}
