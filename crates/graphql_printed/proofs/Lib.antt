@@ -23,3 +23,4 @@ pub mod StringTokens
 pub mod NumberTokens
 pub mod Alone
 pub mod Executable
+pub mod Rows
