@@ -19,3 +19,8 @@ pub mod Names
 pub mod TypeDefinitions
 pub mod Schemas
 pub mod DirectiveDefinitions
+pub mod StringTokens
+pub mod NumberTokens
+pub mod Alone
+pub mod Executable
+pub mod Rows

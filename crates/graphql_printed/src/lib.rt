@@ -6,17 +6,57 @@
 //! Begin with `specs/ReadsAlone.antt`, then `specs/Printed.antt`, from which the proofs are put together.
 #![tactic(auto)]
 
-ghost use Rattle.std.specs.Prelude.{◌≡◌, true};
-ghost use Rattle.graphql_literals.specs.ValueLayout.{type_text};
+ghost use Rattle.std.specs.Prelude.{◌≡◌, ℕ, Bool, true, List, ◌∷◌};
+ghost use Rattle.std.specs.List.{list_all};
+ghost use Rattle.graphql_names.specs.declared.span.FileId.{FileId};
+ghost use Rattle.graphql_printing.specs.LineLayout.{Prefix};
+ghost use Rattle.graphql_literals.specs.ValueLayout.{type_text, value_text};
+ghost use Rattle.graphql_operations.specs.OperationLayout.{operation_text, fragment_text};
 ghost use Rattle.graphql_values.specs.Placed.{Place};
+ghost use Rattle.graphql_values.specs.Writable.{value_writable, operation_writable, fragment_writable};
 ghost use Rattle.graphql_values.specs.TypeTree.{TypeTree, unplaced_type};
+ghost use Rattle.graphql_values.specs.ValueTree.{ValueTree, unplaced_value};
+ghost use Rattle.graphql_values.specs.OperationTree.{OperationTree, FragmentTree, unplaced_operation, unplaced_fragment};
+ghost use Rattle.graphql_ast.specs.DefinitionTree.{DefinitionTree, unplaced_document};
+ghost use Rattle.graphql_ast.specs.DocumentLayout.{document_text};
+ghost use Rattle.graphql_ast.specs.Writable.{definition_writable};
 ghost use Rattle.graphql_grammar.specs.Meaning.{Meaning};
-ghost use Rattle.graphql_grammar.specs.Grammar.{DerivesType};
-ghost use Rattle.graphql_printed.specs.WellFormed.{type_well_formed};
+ghost use Rattle.graphql_grammar.specs.Grammar.{DerivesAs, Derives, DerivesType};
+ghost use Rattle.graphql_grammar.specs.ValueGrammar.{Const, value};
+ghost use Rattle.graphql_grammar.specs.OperationGrammar.{operation_definition, fragment_definition};
+ghost use Rattle.graphql_parse_values.specs.Meanings.{in_file};
+ghost use Rattle.graphql_printed.specs.WellFormed.{is_white_prefix, type_well_formed, value_well_formed, operation_well_formed, fragment_well_formed};
+ghost use Rattle.graphql_printed.specs.Executable.{executable_well_formed};
 ghost use Rattle.graphql_printed.specs.ReadsAlone.{ReadsAlone};
 
 /// The text of a type whose names are names reads as it alone, places aside.
 pub fn printed_type_reads()
     ensures { (m : Meaning Place) → (tree : TypeTree Place) → type_well_formed tree ≡ true
         → ReadsAlone (DerivesType m) unplaced_type (type_text tree) (unplaced_type tree) }
+{}
+
+/// The text of a value that is well-formed and writable reads as it alone, places aside.
+pub fn printed_value_reads()
+    ensures { (file : FileId) → (const : Const) → (tree : ValueTree Place) → value_well_formed tree ≡ true
+        → value_writable const tree ≡ true
+        → ReadsAlone (DerivesAs (value (in_file file) const)) unplaced_value (value_text tree) (unplaced_value tree) }
+{}
+
+/// The text of an operation or a fragment that is well-formed and writable, on one line or on lines that white space
+/// begins, at any level, reads as it alone, places aside.
+pub fn printed_operations_read()
+    ensures operation { (file : FileId) → (at_start : Bool) → (prefix : Prefix) → (level : ℕ) → (tree : OperationTree Place)
+        → is_white_prefix prefix ≡ true → operation_well_formed tree ≡ true → operation_writable tree ≡ true
+        → ReadsAlone (DerivesAs (operation_definition (in_file file))) unplaced_operation (operation_text at_start prefix tree level) (unplaced_operation tree) }
+    ensures fragment { (file : FileId) → (prefix : Prefix) → (level : ℕ) → (tree : FragmentTree Place)
+        → is_white_prefix prefix ≡ true → fragment_well_formed tree ≡ true → fragment_writable tree ≡ true
+        → ReadsAlone (DerivesAs (fragment_definition (in_file file))) unplaced_fragment (fragment_text prefix tree level) (unplaced_fragment tree) }
+{}
+
+/// The text of a document that is operations and fragments alone, one at least, each well-formed and writable, reads as it
+/// alone, places aside; under the same layouts.
+pub fn printed_executable_document_reads()
+    ensures { (file : FileId) → (prefix : Prefix) → (level : ℕ) → (tree : DefinitionTree Place) → (trees : List (DefinitionTree Place))
+        → is_white_prefix prefix ≡ true → list_all executable_well_formed (tree ∷ trees) ≡ true → list_all definition_writable (tree ∷ trees) ≡ true
+        → ReadsAlone (Derives (in_file file)) unplaced_document (document_text prefix level (tree ∷ trees)) (unplaced_document (tree ∷ trees)) }
 {}
