@@ -4,9 +4,9 @@ use Rattle.std.specs.Option.{option_map_or}
 use Rattle.std.specs.List.{find, list_any, list_all}
 use Rattle.std.specs.Str.{bytes_eq}
 use Rattle.graphql_values.specs.Placed.{Place}
-use Rattle.graphql_schema_types.specs.SchemaTree.{same_kind}
-use Rattle.graphql_schema_types.specs.TypeParts.{TypeDefinition}
-use Rattle.graphql_schema_types.specs.declared.type_kind.TypeKind.TheVariants as kind
+use Rattle.graphql_folding.specs.in_schema_types.SchemaTree.{same_kind}
+use Rattle.graphql_folding.specs.in_schema_types.TypeParts.{TypeDefinition}
+use Rattle.graphql_folding.specs.in_schema_types.declared.type_kind.TypeKind.TheVariants as kind
 use Rattle.graphql_folding.specs.Listed.{type_name, types_in}
 use Rattle.graphql_folding.specs.BuiltIn.{built_in_scalars, introspection_types}
 use Rattle.graphql_folding.specs.BuildErrors.{is_built_in_scalar}

@@ -1,3 +1,5 @@
 pub mod Table
 pub mod Rows
 pub mod Marks
+pub use Rattle.graphql_folding.specs.in_ast as in_ast
+pub use Rattle.graphql_folding.specs as in_folding

@@ -5,8 +5,8 @@ use Rattle.std.specs.List.{flat_map}
 use Rattle.graphql_names.specs.Places.{is_built_in}
 use Rattle.graphql_values.specs.Placed.{Placed, Place}
 use Rattle.graphql_values.specs.DirectiveTree.{InputValues, DirectiveDefinitionTree}
-use Rattle.graphql_ast.specs.TypeSystemTree.{FieldDefinitionTree}
-use Rattle.graphql_schema_types.specs.SchemaTree.{SchemaType, SchemaTree}
+use Rattle.graphql_folding.specs.in_ast.TypeSystemTree.{FieldDefinitionTree}
+use Rattle.graphql_folding.specs.in_schema_types.SchemaTree.{SchemaType, SchemaTree}
 
 pub data Mark : Type 0 where
   TypeMark : (name : List ℕ) → Mark

@@ -7,8 +7,8 @@ use Rattle.graphql_values.specs.Placed.{Placed, Place}
 use Rattle.graphql_values.specs.TypeTree.{TypeTree}
 use Rattle.graphql_values.specs.ValueTree.{ValueTree, StringTree, BooleanTree}
 use Rattle.graphql_values.specs.DirectiveTree.{InputValueTree}
-use Rattle.graphql_ast.specs.TypeSystemTree.{FieldDefinitionTree}
-use Rattle.graphql_ast.specs.DefinitionTree.{DefinitionTree}
+use Rattle.graphql_folding.specs.in_ast.TypeSystemTree.{FieldDefinitionTree}
+use Rattle.graphql_folding.specs.in_ast.DefinitionTree.{DefinitionTree}
 use Rattle.graphql_folding.specs.BuiltIn.{a, one, some, all, argument, field_with, directive, scalar, object, enum}
 use Rattle.graphql_built_in.specs.declared.table.Row.{Row}
 use Rattle.graphql_built_in.specs.declared.table.Row.TheVariants as row

@@ -4,7 +4,7 @@ ghost use Rattle.std.specs.List.{list_all, list_any};
 ghost use Rattle.graphql_names.specs.NameSyntax.{IsName, is_name};
 ghost use Rattle.graphql_values.specs.Placed.{node_tree};
 ghost use Rattle.graphql_values.specs.DirectiveTree.{input_value_tree};
-ghost use Rattle.graphql_ast.specs.DefinitionTree.{definition_tree};
+ghost use Rattle.graphql_folding.specs.in_ast.DefinitionTree.{definition_tree};
 ghost use Rattle.graphql_folding.specs.BuiltIn.{directive, scalar, object, enum};
 ghost use Rattle.graphql_folding.specs.BuildErrors.{is_built_in_scalar};
 ghost use Rattle.graphql_built_in.specs.Table.{built_in_definitions};
@@ -13,7 +13,7 @@ ghost use Rattle.graphql_built_in.specs.Rows.{row_argument, row_field, row_defin
 use crate::members::{fields_of, values_of};
 use crate::parts::{arguments_of, node_here};
 use crate::table::{ArgumentRow, FieldRow, ROWS, Row};
-use graphql_ast::{
+use graphql_folding::graphql_ast::{
     Definition, DirectiveDefinition, DirectiveList, DirectiveLocation, EnumTypeDefinition,
     InputValueDefinition, Name, Node, ObjectTypeDefinition, ScalarTypeDefinition,
 };

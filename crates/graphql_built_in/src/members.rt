@@ -5,13 +5,13 @@ ghost use Rattle.graphql_names.specs.NameSyntax.{IsName, is_name};
 ghost use Rattle.graphql_values.specs.Placed.{name_tree, node_tree};
 ghost use Rattle.graphql_values.specs.TypeTree.{type_tree};
 ghost use Rattle.graphql_values.specs.DirectiveTree.{input_value_tree};
-ghost use Rattle.graphql_ast.specs.TypeSystemTree.{field_definition_tree, enum_value_tree};
+ghost use Rattle.graphql_folding.specs.in_ast.TypeSystemTree.{field_definition_tree, enum_value_tree};
 ghost use Rattle.graphql_folding.specs.BuiltIn.{here, value};
 ghost use Rattle.graphql_built_in.specs.Rows.{row_field, has_field_names};
 
 use crate::parts::{arguments_of, node_here, type_of};
 use crate::table::FieldRow;
-use graphql_ast::{
+use graphql_folding::graphql_ast::{
     DirectiveList, EnumValueDefinition, FieldDefinition, InputValueDefinition, Name, Node, Type,
 };
 use std::alloc::{AllocError, Global};

@@ -12,7 +12,7 @@ ghost use Rattle.graphql_folding.specs.BuiltIn.{built_in, here, one};
 ghost use Rattle.graphql_built_in.specs.Rows.{row_type, row_default, row_argument, has_type_name, has_argument_names};
 
 use crate::table::{ArgumentRow, DefaultRow, TypeRow};
-use graphql_ast::{
+use graphql_folding::graphql_ast::{
     DirectiveList, FileId, InputValueDefinition, Name, Node, SourceSpan, Type, Value,
 };
 use std::alloc::{AllocError, AllocFailed, Global};

@@ -2,9 +2,9 @@
 use Rattle.std.proofs.Common.{◌≡◌, true, Ok, Err, refl}
 use Rattle.graphql_names.specs.declared.span.FileId.{FileId}
 use Rattle.graphql_lexer.specs.Lex.{Lex}
-use Rattle.graphql_grammar.specs.Meaning.{start}
+use Rattle.graphql_parse_values.specs.in_grammar.Meaning.{start}
 use Rattle.graphql_parse_values.specs.Meanings.{in_file}
-use Rattle.graphql_grammar.proofs.Laws.{document_found, document_within}
+use Rattle.graphql_parse_values.proofs.in_grammar.Laws.{document_found, document_within}
 use Rattle.graphql_built_in.specs.Table.{built_in_definitions}
 use Rattle.graphql_built_in_text.specs.Text.{built_in_text}
 use Rattle.graphql_built_in_text.specs.TextReads.{TextReads}

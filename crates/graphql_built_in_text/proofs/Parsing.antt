@@ -1,6 +1,6 @@
 -- The text's tokens, read by the reference parser.
 use Rattle.std.proofs.Common.{◌≡◌, List, [], ◌++◌, Bool, true, false, Ok, Err, refl}
-use Rattle.graphql_ast.specs.DefinitionTree.{DefinitionTree, unplaced_document}
+use Rattle.graphql_built_in.specs.in_ast.DefinitionTree.{DefinitionTree, unplaced_document}
 use Rattle.graphql_values.specs.Placed.{Place}
 use Rattle.graphql_names.specs.declared.span.FileId.{FileId}
 use Rattle.graphql_lexer.specs.Input.{Token, Input}
@@ -9,15 +9,15 @@ use Rattle.graphql_lexer.specs.Bytes.{run_len, replaced}
 use Rattle.graphql_lexer.specs.Tokens.{ignored_at, string_at, token_at}
 use Rattle.graphql_lexer.specs.Lex.{piece_at, tokens_among}
 use Rattle.graphql_lexer.specs.Strings.{unicode_at, escape_at, part_len, part_at, quoted_len, string_value}
-use Rattle.graphql_folding.specs.BuiltIn.{built_in_directives, built_in_scalars, introspection_types}
-use Rattle.graphql_grammar.specs.Meaning.{start}
-use Rattle.graphql_grammar.specs.Locations.{location_of}
-use Rattle.graphql_grammar.specs.Reading.{Outcome, whole, take, many, many_within, some}
-use Rattle.graphql_grammar.specs.ValueReading as v
-use Rattle.graphql_grammar.specs.OperationReading as o
-use Rattle.graphql_grammar.specs.TypeSystemReading as y
-use Rattle.graphql_grammar.specs.DocumentReading as d
-use Rattle.graphql_grammar.specs.Places.{place_in}
+use Rattle.graphql_built_in.specs.in_folding.BuiltIn.{built_in_directives, built_in_scalars, introspection_types}
+use Rattle.graphql_parse_values.specs.in_grammar.Meaning.{start}
+use Rattle.graphql_parse_values.specs.in_grammar.Locations.{location_of}
+use Rattle.graphql_parse_values.specs.in_grammar.Reading.{Outcome, whole, take, many, many_within, some}
+use Rattle.graphql_parse_values.specs.in_grammar.ValueReading as v
+use Rattle.graphql_parse_values.specs.in_grammar.OperationReading as o
+use Rattle.graphql_parse_values.specs.in_grammar.TypeSystemReading as y
+use Rattle.graphql_parse_values.specs.in_grammar.DocumentReading as d
+use Rattle.graphql_parse_values.specs.in_grammar.Places.{place_in}
 use Rattle.graphql_parse_values.specs.Meanings.{in_file}
 use Rattle.graphql_built_in_text.specs.Text.{built_in_text}
 use Rattle.graphql_built_in_text.proofs.Pieces.{pieces}

@@ -2,11 +2,11 @@
 use Rattle.std.specs.Prelude.{◌≡◌, ◌≤◌, List}
 use Rattle.graphql_names.specs.declared.span.FileId.{FileId}
 use Rattle.graphql_values.specs.Placed.{Place}
-use Rattle.graphql_ast.specs.DefinitionTree.{DefinitionTree, unplaced_document}
+use Rattle.graphql_built_in.specs.in_ast.DefinitionTree.{DefinitionTree, unplaced_document}
 use Rattle.graphql_lexer.specs.Input.{Token}
 use Rattle.graphql_lexer.specs.Lex.{Lex}
-use Rattle.graphql_grammar.specs.Grammar.{Derives}
-use Rattle.graphql_grammar.specs.Depth.{depth}
+use Rattle.graphql_parse_values.specs.in_grammar.Grammar.{Derives}
+use Rattle.graphql_parse_values.specs.in_grammar.Depth.{depth}
 use Rattle.graphql_parse_values.specs.Meanings.{in_file}
 use Rattle.graphql_built_in.specs.Table.{built_in_definitions}
 use Rattle.graphql_built_in_text.specs.Text.{built_in_text}

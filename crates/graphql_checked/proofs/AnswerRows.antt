@@ -3,8 +3,8 @@ use Rattle.std.proofs.Common.{◌≡◌, ℕ, List, [], ◌∷◌, codes, None, 
 use Rattle.std.specs.Fmt.{digits}
 use Rattle.graphql_values.specs.Placed.{Place}
 use Rattle.graphql_values.specs.Joined.{joined}
-use Rattle.graphql_grammar.specs.Places.{place_in}
-use Rattle.graphql_read.specs.declared.fault.SyntaxFaultKind.TheVariants.{NoToken, Unexpected, End}
+use Rattle.graphql_thin.specs.in_grammar.Places.{place_in}
+use Rattle.graphql_thin.specs.in_read.declared.fault.SyntaxFaultKind.TheVariants.{NoToken, Unexpected, End}
 use Rattle.graphql_thin.specs.Fold.{built_in, definition_list}
 use Rattle.graphql_thin.specs.Faults.{Breach, Syntax, Nesting, Spent, TypeDefinitionCollision, ObjectFieldNameCollision, QueryRootOperationType, UndefinedField}
 use Rattle.graphql_checked.specs.Answer.{place_text, fault_line}

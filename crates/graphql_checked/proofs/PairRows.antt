@@ -6,10 +6,10 @@ use Rattle.std.proofs.Math.Nat.{lt_irrefl}
 use Rattle.graphql_names.specs.declared.span.SourceSpan.{SourceSpan}
 use Rattle.graphql_values.specs.Placed.{Place}
 use Rattle.graphql_values.specs.Joined.{joined}
-use Rattle.graphql_grammar.specs.Faults as read
-use Rattle.graphql_grammar.specs.Places.{place_in}
-use Rattle.graphql_read.specs.declared.fault.SyntaxFaultKind.{SyntaxFaultKind}
-use Rattle.graphql_read.specs.declared.fault.SyntaxFaultKind.TheVariants.{NoToken, Unexpected, End}
+use Rattle.graphql_thin.specs.in_grammar.Faults as read
+use Rattle.graphql_thin.specs.in_grammar.Places.{place_in}
+use Rattle.graphql_thin.specs.in_read.declared.fault.SyntaxFaultKind.{SyntaxFaultKind}
+use Rattle.graphql_thin.specs.in_read.declared.fault.SyntaxFaultKind.TheVariants.{NoToken, Unexpected, End}
 use Rattle.graphql_thin.specs.Lists.{each_place}
 use Rattle.graphql_thin.specs.Fold.{definition_list, fold}
 use Rattle.graphql_thin.specs.ReadText.{WithinBounds}

@@ -5,8 +5,8 @@ use Rattle.graphql_values.specs.Placed.{Placed, Place, Text}
 use Rattle.graphql_values.specs.TypeTree.{NamedTree, NonNullNamedTree}
 use Rattle.graphql_values.specs.SelectionTree.{SelectionTree, SelectionTrees, FieldTree, selection_then, no_selections}
 use Rattle.graphql_operations.specs.declared.operation.OperationType.TheVariants.{Query}
-use Rattle.graphql_ast.specs.TypeSystemTree.{FieldDefinitionTree}
-use Rattle.graphql_ast.specs.DefinitionTree.{DefinitionTree, Operation, ObjectType}
+use Rattle.graphql_thin.specs.in_ast.TypeSystemTree.{FieldDefinitionTree}
+use Rattle.graphql_thin.specs.in_ast.DefinitionTree.{DefinitionTree, Operation, ObjectType}
 use Rattle.graphql_lexer.specs.Bytes.{run_len}
 use Rattle.graphql_lexer.specs.Tokens.{ignored_at, token_at}
 use Rattle.graphql_lexer.specs.Terminals.{words}
@@ -16,20 +16,20 @@ use Rattle.graphql_lexer.specs.Cursor.{Rest, rest_from, EndsAs}
 use Rattle.graphql_lexer.specs.declared.terminal.Terminal.{Terminal}
 use Rattle.graphql_lexer.specs.declared.terminal.Terminal.TheVariants as k
 use Rattle.graphql_lexer.proofs.Lexed.{ends_as}
-use Rattle.graphql_grammar.specs.declared.stop.Stop.{Stop}
-use Rattle.graphql_grammar.specs.declared.stop.Stop.TheVariants.{Unexpected, Nesting}
-use Rattle.graphql_grammar.specs.Depth.{depth}
-use Rattle.graphql_grammar.specs.Places.{place_in}
-use Rattle.graphql_grammar.specs.Faults as faults
-use Rattle.graphql_grammar.specs.Stops.{fault_of}
-use Rattle.graphql_grammar.specs.Reading.{whole, take, many, many_within, some}
-use Rattle.graphql_grammar.specs.ValueReading as v
-use Rattle.graphql_grammar.specs.OperationReading as o
-use Rattle.graphql_grammar.specs.TypeSystemReading as y
-use Rattle.graphql_grammar.specs.DocumentReading as d
-use Rattle.graphql_grammar.proofs.Laws.{document_says}
-use Rattle.graphql_parse_values.specs.Meanings.{in_file}
-use Rattle.graphql_read.specs.Reads.{IsDue}
+use Rattle.graphql_thin.specs.in_grammar.declared.stop.Stop.{Stop}
+use Rattle.graphql_thin.specs.in_grammar.declared.stop.Stop.TheVariants.{Unexpected, Nesting}
+use Rattle.graphql_thin.specs.in_grammar.Depth.{depth}
+use Rattle.graphql_thin.specs.in_grammar.Places.{place_in}
+use Rattle.graphql_thin.specs.in_grammar.Faults as faults
+use Rattle.graphql_thin.specs.in_grammar.Stops.{fault_of}
+use Rattle.graphql_thin.specs.in_grammar.Reading.{whole, take, many, many_within, some}
+use Rattle.graphql_thin.specs.in_grammar.ValueReading as v
+use Rattle.graphql_thin.specs.in_grammar.OperationReading as o
+use Rattle.graphql_thin.specs.in_grammar.TypeSystemReading as y
+use Rattle.graphql_thin.specs.in_grammar.DocumentReading as d
+use Rattle.graphql_thin.proofs.in_grammar.Laws.{document_says}
+use Rattle.graphql_thin.specs.in_parse_values.Meanings.{in_file}
+use Rattle.graphql_thin.specs.in_read.Reads.{IsDue}
 use Rattle.graphql_thin.specs.ReadText.{DerivesIn, WithinBounds}
 use Rattle.graphql_thin.specs.Thin.{ReadsSchema, ReadsDocument}
 use Rattle.graphql_thin.proofs.WholeTexts.{within_all}

@@ -3,7 +3,7 @@ use Rattle.std.proofs.Common.{◌≡◌, ℕ, ◌+◌, ◌<◌, false, List, [],
 use Rattle.std.specs.Prelude.{Vec, IfOk, IfErr}
 use Rattle.std.proofs.lemmas.List.{map_more}
 use Rattle.graphql_values.specs.Placed.{Place}
-use Rattle.graphql_ast.specs.DefinitionTree.{DefinitionTree}
+use Rattle.graphql_thin.specs.in_ast.DefinitionTree.{DefinitionTree}
 use Rattle.graphql_checked.specs.CheckerValue.{CheckerValue}
 use Rattle.graphql_thin.specs.FaultView.{faults_of}
 use Rattle.graphql_checked.specs.Refusals.{AreSchemasAccepted, RefusalOfDocument}

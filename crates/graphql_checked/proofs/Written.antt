@@ -6,11 +6,11 @@ use Rattle.std.proofs.lemmas.Bool.{and_parts, false_from_ne_true}
 use Rattle.std.proofs.lemmas.List.Elements.{All-nil, All-cons, All-head, All-tail, All-append}
 use Rattle.graphql_names.specs.Places.{is_built_in}
 use Rattle.graphql_values.specs.Placed.{Place}
-use Rattle.graphql_ast.specs.DefinitionTree as tree
-use Rattle.graphql_ast.specs.DefinitionTree.{DefinitionTree}
+use Rattle.graphql_thin.specs.in_ast.DefinitionTree as tree
+use Rattle.graphql_thin.specs.in_ast.DefinitionTree.{DefinitionTree}
 use Rattle.graphql_thin.specs.Lists.{firsts}
-use Rattle.graphql_read.specs.EachPlace.{all_in_text, all_in_any, all_in_fields, all_in_definition, all_in_document}
-use Rattle.graphql_read.specs.Sound.{is_own}
+use Rattle.graphql_thin.specs.in_read.EachPlace.{all_in_text, all_in_any, all_in_fields, all_in_definition, all_in_document}
+use Rattle.graphql_thin.specs.in_read.Sound.{is_own}
 use Rattle.graphql_thin.specs.Thin.{is_thin_operation, ReadsSchema, ReadsDocument}
 use Rattle.graphql_thin.specs.Fold.{Defined, built_in_definitions, definition_list, defined_name, definition_place, defined_types, has_type, is_object}
 use Rattle.graphql_checked.specs.Out.{is_written, Out, has_no_name, OutDoc}

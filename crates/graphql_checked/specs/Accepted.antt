@@ -2,7 +2,7 @@
 use Rattle.std.specs.Prelude.{◌≡◌, ℕ, List, [], ◌∷◌, Option}
 use Rattle.std.specs.List.{flat_map}
 use Rattle.graphql_values.specs.Placed.{Place}
-use Rattle.graphql_ast.specs.DefinitionTree.{DefinitionTree}
+use Rattle.graphql_thin.specs.in_ast.DefinitionTree.{DefinitionTree}
 use Rattle.graphql_names.specs.declared.span.FileId.{FileId}
 use Rattle.graphql_thin.specs.Thin.{ReadsDocument}
 use Rattle.graphql_thin.specs.Fold.{definition_list}

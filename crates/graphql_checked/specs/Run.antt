@@ -5,7 +5,7 @@ use Rattle.std.specs.Io.KnownBytes.{Appends}
 use Rattle.graphql_names.specs.declared.device.Device.{Device}
 use Rattle.graphql_names.specs.Device.{device_inner, device_failed}
 use Rattle.graphql_values.specs.Placed.{Place}
-use Rattle.graphql_ast.specs.DefinitionTree.{DefinitionTree}
+use Rattle.graphql_thin.specs.in_ast.DefinitionTree.{DefinitionTree}
 use Rattle.graphql_checked.specs.Judge.{NotYetSchema, NotYetDocument}
 use Rattle.graphql_checked.specs.Refusals.{AreSchemasAccepted, IsAccepted}
 use Rattle.graphql_checked.specs.Answer.{AcceptedBytes, RefusedBytes, Answer}

@@ -1,6 +1,6 @@
 //! Why texts are not accepted.
 
-use graphql_ast::FileId;
+use graphql_thin::graphql_ast::FileId;
 use graphql_thin::DiagnosticList;
 use std::alloc::AllocError;
 

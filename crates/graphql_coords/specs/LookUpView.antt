@@ -2,10 +2,10 @@
 use Rattle.std.specs.Prelude.{Result, Ok, Err}
 use Rattle.graphql_values.specs.Placed.{Place, node_tree}
 use Rattle.graphql_values.specs.DirectiveTree.{input_value_tree, directive_definition_tree}
-use Rattle.graphql_ast.specs.TypeSystemTree.{field_definition_tree, enum_value_tree}
+use Rattle.graphql_schema.specs.in_ast.TypeSystemTree.{field_definition_tree, enum_value_tree}
 use Rattle.graphql_components.specs.Given.{component_tree}
-use Rattle.graphql_schema_types.specs.SchemaTree.{SchemaTree}
-use Rattle.graphql_schema_types.specs.TypeView.{extended_type}
+use Rattle.graphql_schema.specs.in_schema_types.SchemaTree.{SchemaTree}
+use Rattle.graphql_schema.specs.in_schema_types.TypeView.{extended_type}
 use Rattle.graphql_coords.specs.Coordinate.{Coordinate, OfType, OfAttribute, OfArgument, OfDirective, OfDirectiveArgument}
 use Rattle.graphql_coords.specs.LookUps.{Fault, MissingType, MissingAttribute, InvalidArgumentAttribute, MissingArgument, InvalidType, Attribute, OfField, OfInputField, OfEnumValue, Named, NamedType, NamedDirective, NamedAttribute, NamedArgument, found_as, type_lookup, attribute_lookup, argument_lookup, directive_lookup, directive_argument_lookup}
 use Rattle.graphql_coords.specs.declared.lookup_answers.SchemaLookupError.{SchemaLookupError}

@@ -3,12 +3,12 @@ use Rattle.std.specs.Prelude.{ℕ, ◌||◌, List, Result, Ok, Err, ok_or, find,
 use Rattle.graphql_values.specs.Placed.{Placed, Place}
 use Rattle.graphql_values.specs.DirectiveTree.{InputValueTree, DirectiveDefinitionTree}
 use Rattle.graphql_directives.specs.DirectiveQueries.{input_value_has_name}
-use Rattle.graphql_ast.specs.TypeSystemTree.{FieldDefinitionTree, EnumValueTree}
-use Rattle.graphql_ast.specs.ArgumentQueries.{argument_named}
+use Rattle.graphql_schema.specs.in_ast.TypeSystemTree.{FieldDefinitionTree, EnumValueTree}
+use Rattle.graphql_schema.specs.in_ast.ArgumentQueries.{argument_named}
 use Rattle.graphql_components.specs.Given.{Given}
-use Rattle.graphql_schema_types.specs.SchemaTree.{SchemaType, SchemaTree, same_kind}
-use Rattle.graphql_schema_types.specs.Addresses.{under, type_at}
-use Rattle.graphql_schema_types.specs.declared.type_kind.TypeKind.TheVariants.{Object, Interface, Enum, InputObject}
+use Rattle.graphql_schema.specs.in_schema_types.SchemaTree.{SchemaType, SchemaTree, same_kind}
+use Rattle.graphql_schema.specs.in_schema_types.Addresses.{under, type_at}
+use Rattle.graphql_schema.specs.in_schema_types.declared.type_kind.TypeKind.TheVariants.{Object, Interface, Enum, InputObject}
 
 -- why nothing is found: the name that is missing or does not fit, or the type that has no attributes of that sort
 pub data Fault : Type 0 where

@@ -2,15 +2,15 @@
 ghost use Rattle.std.specs.Prelude.{◌≡◌};
 ghost use Rattle.graphql_values.specs.Placed.{node_tree};
 ghost use Rattle.graphql_values.specs.DirectiveTree.{input_value_tree, directive_definition_tree};
-ghost use Rattle.graphql_ast.specs.TypeSystemTree.{field_definition_tree, enum_value_tree};
+ghost use Rattle.graphql_schema.specs.in_ast.TypeSystemTree.{field_definition_tree, enum_value_tree};
 ghost use Rattle.graphql_components.specs.Given.{component_tree};
-ghost use Rattle.graphql_schema_types.specs.TypeView.{extended_type};
+ghost use Rattle.graphql_schema.specs.in_schema_types.TypeView.{extended_type};
 ghost use Rattle.graphql_schema.specs.SchemaOf.{schema_tree};
 ghost use Rattle.graphql_coords.specs.LookUps.{OfField, OfInputField, OfEnumValue, found_as, field_in, input_field_in, enum_value_in, attribute_in, argument_in, argument_of, type_lookup, attribute_lookup, directive_lookup};
 ghost use Rattle.graphql_coords.specs.LookUpView.{answer, attribute_of};
 
 use crate::lookup_answers::{SchemaLookupError, TypeAttributeLookup};
-use graphql_ast::{
+use graphql_schema::graphql_ast::{
     DirectiveDefinition, EnumValueDefinition, FieldDefinition, InputValueDefinition, Name, Node,
 };
 use graphql_schema::{Component, ExtendedType, Schema};

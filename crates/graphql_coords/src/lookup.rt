@@ -2,9 +2,9 @@
 ghost use Rattle.std.specs.Prelude.{◌≡◌};
 ghost use Rattle.graphql_values.specs.Placed.{node_tree};
 ghost use Rattle.graphql_values.specs.DirectiveTree.{input_value_tree, directive_definition_tree};
-ghost use Rattle.graphql_ast.specs.TypeSystemTree.{field_definition_tree, enum_value_tree};
+ghost use Rattle.graphql_schema.specs.in_ast.TypeSystemTree.{field_definition_tree, enum_value_tree};
 ghost use Rattle.graphql_components.specs.Given.{component_tree};
-ghost use Rattle.graphql_schema_types.specs.TypeView.{extended_type};
+ghost use Rattle.graphql_schema.specs.in_schema_types.TypeView.{extended_type};
 ghost use Rattle.graphql_schema.specs.SchemaOf.{schema_tree};
 ghost use Rattle.graphql_coords.specs.CoordinateView.{type_coordinate, attribute_coordinate, argument_coordinate, directive_coordinate, directive_argument_coordinate, schema_coordinate};
 ghost use Rattle.graphql_coords.specs.LookUps.{type_lookup, attribute_lookup, field_lookup, input_field_lookup, enum_value_lookup, argument_lookup, directive_lookup, directive_argument_lookup};
@@ -19,7 +19,7 @@ use crate::find::{
     input_field_in,
 };
 use crate::lookup_answers::{SchemaCoordinateLookup, SchemaLookupError, TypeAttributeLookup};
-use graphql_ast::{
+use graphql_schema::graphql_ast::{
     DirectiveDefinition, EnumValueDefinition, FieldDefinition, InputValueDefinition, Node,
 };
 use graphql_schema::{Component, ExtendedType, Schema};

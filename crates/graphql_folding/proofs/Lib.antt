@@ -6,3 +6,4 @@ pub mod Keeping
 pub mod Collecting
 pub mod Grown
 pub mod OfKind
+pub use Rattle.graphql_schema_types.proofs as in_schema_types

@@ -5,8 +5,8 @@ use Rattle.graphql_values.specs.TypeTree.{NamedTree}
 use Rattle.graphql_values.specs.DirectiveTree.{DirectiveTree, Directives}
 use Rattle.graphql_directives.specs.declared.directive_location.DirectiveLocation.{DirectiveLocation}
 use Rattle.graphql_operations.specs.declared.operation.OperationType.{OperationType}
-use Rattle.graphql_ast.specs.TypeSystemTree.{FieldDefinitionTree, RootOperationTree, FieldsParts}
-use Rattle.graphql_ast.specs.DefinitionTree.{DefinitionTree, DirectiveDefinition, Schema, ScalarType, ObjectType, InterfaceType, ExtendSchema, ExtendScalar, ExtendObject}
+use Rattle.graphql_schema_types.specs.in_ast.TypeSystemTree.{FieldDefinitionTree, RootOperationTree, FieldsParts}
+use Rattle.graphql_schema_types.specs.in_ast.DefinitionTree.{DefinitionTree, DirectiveDefinition, Schema, ScalarType, ObjectType, InterfaceType, ExtendSchema, ExtendScalar, ExtendObject}
 
 abbrev pub word : List ℕ → Text Place
 word n = record { it = n; place = None }

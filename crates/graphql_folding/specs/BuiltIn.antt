@@ -9,8 +9,8 @@ use Rattle.graphql_values.specs.ValueTree.{ValueTree, StringTree, BooleanTree}
 use Rattle.graphql_values.specs.DirectiveTree.{InputValueTree}
 use Rattle.graphql_directives.specs.declared.directive_location.DirectiveLocation.{DirectiveLocation}
 use Rattle.graphql_directives.specs.declared.directive_location.DirectiveLocation.TheVariants as at
-use Rattle.graphql_ast.specs.TypeSystemTree.{FieldDefinitionTree, EnumValueTree}
-use Rattle.graphql_ast.specs.DefinitionTree.{DefinitionTree, DirectiveDefinition, ScalarType, ObjectType, EnumType}
+use Rattle.graphql_schema_types.specs.in_ast.TypeSystemTree.{FieldDefinitionTree, EnumValueTree}
+use Rattle.graphql_schema_types.specs.in_ast.DefinitionTree.{DefinitionTree, DirectiveDefinition, ScalarType, ObjectType, EnumType}
 
 -- the place of what is built in: file 0, offset 0, length 0
 abbrev pub built_in : Place

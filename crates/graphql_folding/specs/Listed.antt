@@ -4,8 +4,8 @@ use Rattle.std.specs.List.{flat_map, filter, find}
 use Rattle.std.specs.Str.{bytes_eq}
 use Rattle.graphql_values.specs.Placed.{Placed, Place}
 use Rattle.graphql_values.specs.DirectiveTree.{DirectiveDefinitionTree}
-use Rattle.graphql_ast.specs.DefinitionTree.{DefinitionTree, DirectiveDefinition}
-use Rattle.graphql_ast.specs.Queries.{is_extension, definition_place}
+use Rattle.graphql_schema_types.specs.in_ast.DefinitionTree.{DefinitionTree, DirectiveDefinition}
+use Rattle.graphql_schema_types.specs.in_ast.Queries.{is_extension, definition_place}
 use Rattle.graphql_components.specs.Lists.{each_place}
 use Rattle.graphql_components.specs.Given.{ExtensionTree}
 use Rattle.graphql_schema_types.specs.TypeParts.{TypeDefinition, type_here}

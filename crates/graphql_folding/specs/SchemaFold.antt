@@ -7,8 +7,8 @@ use Rattle.graphql_values.specs.Placed.{Placed, Place, Text}
 use Rattle.graphql_values.specs.OperationQueries.{operation_keyword, default_root_name}
 use Rattle.graphql_operations.specs.declared.operation.OperationType.{OperationType}
 use Rattle.graphql_operations.specs.declared.operation.OperationType.TheVariants as operation
-use Rattle.graphql_ast.specs.TypeSystemTree.{RootOperationTree, SchemaParts}
-use Rattle.graphql_ast.specs.DefinitionTree.{DefinitionTree, Schema, ExtendSchema}
+use Rattle.graphql_schema_types.specs.in_ast.TypeSystemTree.{RootOperationTree, SchemaParts}
+use Rattle.graphql_schema_types.specs.in_ast.DefinitionTree.{DefinitionTree, Schema, ExtendSchema}
 use Rattle.graphql_components.specs.Given.{Given}
 use Rattle.graphql_schema_types.specs.SchemaTree.{SchemaRoots, same_kind}
 use Rattle.graphql_schema_types.specs.declared.type_kind.TypeKind.TheVariants.{Object}

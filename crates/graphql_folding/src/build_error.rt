@@ -2,7 +2,7 @@
 ghost use Rattle.std.specs.Prelude.{◌≡◌, ◌++◌, [], ◌∷◌, OnOk};
 ghost use Rattle.graphql_folding.specs.FaultView.{faults_of, breach_of, repeat_breach};
 
-use graphql_ast::{Name, OperationType, SourceSpan};
+use graphql_schema_types::graphql_ast::{Name, OperationType, SourceSpan};
 use std::alloc::AllocError;
 
 /// What breaks a folding rule, with the names that its message tells (section 3).

@@ -15,7 +15,7 @@ use crate::kept_classes::keep_all;
 use crate::listed::Listed;
 use crate::make::make_type;
 use crate::parts::Defined;
-use graphql_ast::SourceSpan;
+use graphql_schema_types::graphql_ast::SourceSpan;
 use graphql_schema_types::ExtendedType;
 use std::alloc::{AllocError, Global};
 

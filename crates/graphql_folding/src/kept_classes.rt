@@ -7,7 +7,7 @@ ghost use Rattle.graphql_folding.specs.Kept.{kept, kept_from, interface_repeat, 
 use crate::build_error::{BuildError, Repeat};
 use crate::collected::Collected;
 use crate::keep::{keep_components, keep_names};
-use graphql_ast::{
+use graphql_schema_types::graphql_ast::{
     Directive, EnumValueDefinition, FieldDefinition, InputValueDefinition, Name, SourceSpan,
 };
 use graphql_components::{Component, ComponentName};

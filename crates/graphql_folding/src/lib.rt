@@ -26,3 +26,7 @@ pub use kept_classes::{Kept, keep_all};
 pub use listed::Listed;
 pub use make::make_type;
 pub use parts::{Defined, Parts, extension_parts, type_definition};
+
+// The crates beneath, for those above.
+pub use graphql_schema_types;
+pub use graphql_schema_types::graphql_ast;

@@ -3,7 +3,7 @@ ghost use Rattle.std.specs.Prelude.{◌≡◌};
 ghost use Rattle.std.specs.Option.{option_map};
 ghost use Rattle.graphql_components.specs.Given.{extension_tree, origin_tree};
 
-use graphql_ast::Definition;
+use graphql_schema_types::graphql_ast::Definition;
 use graphql_components::{ComponentOrigin, ExtensionId};
 
 /// A definition of the list, and its number if it is an extension.

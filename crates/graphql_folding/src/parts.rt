@@ -3,13 +3,13 @@ ghost use Rattle.std.specs.Prelude.{◌≡◌, [], map};
 ghost use Rattle.std.specs.Option.{option_map};
 ghost use Rattle.graphql_values.specs.Placed.{name_tree, node_tree};
 ghost use Rattle.graphql_values.specs.DirectiveTree.{directives_tree, input_value_tree};
-ghost use Rattle.graphql_ast.specs.TypeSystemTree.{field_definition_tree, enum_value_tree};
-ghost use Rattle.graphql_ast.specs.DefinitionTree.{definition_tree};
+ghost use Rattle.graphql_schema_types.specs.in_ast.TypeSystemTree.{field_definition_tree, enum_value_tree};
+ghost use Rattle.graphql_schema_types.specs.in_ast.DefinitionTree.{definition_tree};
 ghost use Rattle.graphql_schema_types.specs.TypeParts.{type_here, type_extension_here};
 ghost use Rattle.graphql_folding.specs.PartsView.{parts_view};
 ghost use Rattle.graphql_folding.specs.Made.{defined_view};
 
-use graphql_ast::{
+use graphql_schema_types::graphql_ast::{
     Definition, DirectiveList, EnumValueDefinition, FieldDefinition, InputValueDefinition, Name,
     Node, NodeStr, SourceSpan,
 };

@@ -1,9 +1,9 @@
 -- The folding rules are those on positions, that on directive definitions, that on roots, and those on the components of types.
 use Rattle.std.proofs.Common.{◌⊎◌, ℕ, inl, inr}
 use Rattle.std.specs.Prelude.{◌↔◌}
-use Rattle.graphql_folding.specs.Listed.{Definitions}
-use Rattle.graphql_folding.specs.BuildErrors as fails
-use Rattle.graphql_folding.specs.BuildErrors.{Fault, Fails, Somewhere, DirectiveDefinitionCollisionAt, DuplicateRootOperationIn}
+use Rattle.graphql_schema_folding.specs.in_folding.Listed.{Definitions}
+use Rattle.graphql_schema_folding.specs.in_folding.BuildErrors as fails
+use Rattle.graphql_schema_folding.specs.in_folding.BuildErrors.{Fault, Fails, Somewhere, DirectiveDefinitionCollisionAt, DuplicateRootOperationIn}
 use Rattle.graphql_schema_folding.specs.TypeFaults as of_type
 use Rattle.graphql_schema_folding.specs.TypeFaults.{FailsInType}
 use Rattle.graphql_folding_rules.specs.Misplaced as placed

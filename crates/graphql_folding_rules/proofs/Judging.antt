@@ -3,16 +3,16 @@ use Rattle.std.proofs.Common.{◌≡◌, ℕ, Bool, true, false, not, ◌&&◌, 
 use Rattle.std.specs.Prelude.{◌↔◌}
 use Rattle.std.specs.Option.{option_map, option_map_or, option_or}
 use Rattle.graphql_values.specs.Placed.{Place}
-use Rattle.graphql_ast.specs.DefinitionTree.{DefinitionTree}
-use Rattle.graphql_ast.specs.Queries.{is_executable}
+use Rattle.graphql_schema_folding.specs.in_ast.DefinitionTree.{DefinitionTree}
+use Rattle.graphql_schema_folding.specs.in_ast.Queries.{is_executable}
 use Rattle.graphql_components.proofs.Places.{not_in_nil, only, is_only}
-use Rattle.graphql_schema_types.specs.SchemaTree.{same_kind}
-use Rattle.graphql_schema_types.specs.TypeParts.{TypeDefinition, type_here, type_extension_here}
-use Rattle.graphql_schema_types.specs.declared.type_kind.TypeKind.{TypeKind}
-use Rattle.graphql_schema_types.specs.declared.type_kind.TypeKind.TheVariants.{Scalar}
-use Rattle.graphql_folding.specs.Listed.{Definitions, type_name, type_named}
-use Rattle.graphql_folding.specs.SchemaFold.{schema_here, schema_extension_here, schema_definition_in}
-use Rattle.graphql_folding.specs.BuildErrors.{Breach, Fault, At, ExecutableDefinition, SchemaDefinitionCollision, TypeDefinitionCollision, BuiltInScalarTypeRedefinition, OrphanSchemaExtension, OrphanTypeExtension, TypeExtensionKindMismatch, ExecutableDefinitionAt, SchemaDefinitionCollisionAt, TypeDefinitionCollisionAt, BuiltInScalarTypeRedefinitionAt, OrphanSchemaExtensionAt, OrphanTypeExtensionAt, TypeExtensionKindMismatchAt}
+use Rattle.graphql_schema_folding.specs.in_schema_types.SchemaTree.{same_kind}
+use Rattle.graphql_schema_folding.specs.in_schema_types.TypeParts.{TypeDefinition, type_here, type_extension_here}
+use Rattle.graphql_schema_folding.specs.in_schema_types.declared.type_kind.TypeKind.{TypeKind}
+use Rattle.graphql_schema_folding.specs.in_schema_types.declared.type_kind.TypeKind.TheVariants.{Scalar}
+use Rattle.graphql_schema_folding.specs.in_folding.Listed.{Definitions, type_name, type_named}
+use Rattle.graphql_schema_folding.specs.in_folding.SchemaFold.{schema_here, schema_extension_here, schema_definition_in}
+use Rattle.graphql_schema_folding.specs.in_folding.BuildErrors.{Breach, Fault, At, ExecutableDefinition, SchemaDefinitionCollision, TypeDefinitionCollision, BuiltInScalarTypeRedefinition, OrphanSchemaExtension, OrphanTypeExtension, TypeExtensionKindMismatch, ExecutableDefinitionAt, SchemaDefinitionCollisionAt, TypeDefinitionCollisionAt, BuiltInScalarTypeRedefinitionAt, OrphanSchemaExtensionAt, OrphanTypeExtensionAt, TypeExtensionKindMismatchAt}
 use Rattle.graphql_folding_rules.specs.Seen.{seen_of, told_where, faults_at, is_scalar_in, kind_in, kind_seen, schema_seen, executable_told, schema_told, collision_told, redefinition_told, orphan_told, mismatch_told, type_collision_told, scalar_redefinition_told, orphan_type_told, kind_mismatch_told, orphan_schema_told}
 use Rattle.graphql_folding_rules.proofs.Seeing.{is_scalar_is, kind_seen_is, some_seen_is, schema_seen_is}
 

@@ -1,10 +1,10 @@
 -- What is told of small lists, by computation, behind the built-in scalars.
 use Rattle.std.proofs.Common.{◌≡◌, ℕ, List, [], ◌∷◌, map, codes, refl}
 use Rattle.graphql_operations.specs.declared.operation.OperationType.TheVariants as operation
-use Rattle.graphql_folding.specs.Listed.{Definitions}
-use Rattle.graphql_folding.specs.BuiltIn.{built_in_scalars}
-use Rattle.graphql_folding.specs.BuildErrors.{Breach, SchemaDefinitionCollision, TypeDefinitionCollision, BuiltInScalarTypeRedefinition, OrphanSchemaExtension, OrphanTypeExtension, TypeExtensionKindMismatch}
-use Rattle.graphql_folding.proofs.Samples.{field, root, object, interface, extend_object, scalar, extend_scalar, schema, extend_schema}
+use Rattle.graphql_schema_folding.specs.in_folding.Listed.{Definitions}
+use Rattle.graphql_schema_folding.specs.in_folding.BuiltIn.{built_in_scalars}
+use Rattle.graphql_schema_folding.specs.in_folding.BuildErrors.{Breach, SchemaDefinitionCollision, TypeDefinitionCollision, BuiltInScalarTypeRedefinition, OrphanSchemaExtension, OrphanTypeExtension, TypeExtensionKindMismatch}
+use Rattle.graphql_schema_folding.proofs.in_folding.Samples.{field, root, object, interface, extend_object, scalar, extend_scalar, schema, extend_schema}
 use Rattle.graphql_folding_rules.specs.Seen.{misplaced_faults}
 
 abbrev told : Definitions → List Breach

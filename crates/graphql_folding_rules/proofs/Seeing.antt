@@ -12,17 +12,17 @@ use Rattle.graphql_values.specs.Placed.{Place}
 use Rattle.graphql_values.specs.OperationQueries.{default_root_name}
 use Rattle.graphql_operations.specs.declared.operation.OperationType.{OperationType}
 use Rattle.graphql_operations.specs.declared.operation.OperationType.TheVariants as operation
-use Rattle.graphql_ast.specs.DefinitionTree.{DefinitionTree}
+use Rattle.graphql_schema_folding.specs.in_ast.DefinitionTree.{DefinitionTree}
 use Rattle.graphql_components.specs.Lists.{firsts, has_name}
 use Rattle.graphql_components.specs.Names.{Entries}
 use Rattle.graphql_components.proofs.Firsts.{kept_seen, kept_new}
-use Rattle.graphql_schema_types.specs.SchemaTree.{same_kind}
-use Rattle.graphql_schema_types.specs.TypeParts.{TypeDefinition, type_here}
-use Rattle.graphql_schema_types.specs.declared.type_kind.TypeKind.{TypeKind}
-use Rattle.graphql_schema_types.specs.declared.type_kind.TypeKind.TheVariants.{Scalar, Object}
-use Rattle.graphql_folding.specs.Listed.{Definitions, type_name, types_in, type_named}
-use Rattle.graphql_folding.specs.SchemaFold.{Root, SchemaGiver, schema_here, schema_definition_in, is_object_in, schema_is_defined}
-use Rattle.graphql_folding.specs.BuildErrors.{is_built_in_scalar}
+use Rattle.graphql_schema_folding.specs.in_schema_types.SchemaTree.{same_kind}
+use Rattle.graphql_schema_folding.specs.in_schema_types.TypeParts.{TypeDefinition, type_here}
+use Rattle.graphql_schema_folding.specs.in_schema_types.declared.type_kind.TypeKind.{TypeKind}
+use Rattle.graphql_schema_folding.specs.in_schema_types.declared.type_kind.TypeKind.TheVariants.{Scalar, Object}
+use Rattle.graphql_schema_folding.specs.in_folding.Listed.{Definitions, type_name, types_in, type_named}
+use Rattle.graphql_schema_folding.specs.in_folding.SchemaFold.{Root, SchemaGiver, schema_here, schema_definition_in, is_object_in, schema_is_defined}
+use Rattle.graphql_schema_folding.specs.in_folding.BuildErrors.{is_built_in_scalar}
 use Rattle.graphql_schema_folding.proofs.Gathering.{flat_map-push}
 use Rattle.graphql_schema_folding.proofs.Named.{named, some_named}
 use Rattle.graphql_schema_folding.proofs.Choosing.{find_firsts}

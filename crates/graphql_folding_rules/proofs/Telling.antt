@@ -3,11 +3,11 @@ use Rattle.std.proofs.Common.{◌≡◌, List, ◌++◌, inl, inr, Contains}
 use Rattle.std.specs.List.{flat_map}
 use Rattle.std.proofs.lemmas.List.Elements.{Contains-append_left, Contains-append_right, Contains-append_cases}
 use Rattle.graphql_values.specs.Placed.{Place}
-use Rattle.graphql_ast.specs.DefinitionTree.{DefinitionTree}
+use Rattle.graphql_schema_folding.specs.in_ast.DefinitionTree.{DefinitionTree}
 use Rattle.graphql_components.specs.Lists.{AtSomePlace}
 use Rattle.graphql_components.proofs.Places.{found_at, given_at, found_among, given_among, AtSomePlace-map}
-use Rattle.graphql_folding.specs.Listed.{Definitions}
-use Rattle.graphql_folding.specs.BuildErrors.{Fault}
+use Rattle.graphql_schema_folding.specs.in_folding.Listed.{Definitions}
+use Rattle.graphql_schema_folding.specs.in_folding.BuildErrors.{Fault}
 use Rattle.graphql_schema_folding.proofs.Telling.{told_more}
 use Rattle.graphql_folding_rules.specs.Misplaced as placed
 use Rattle.graphql_folding_rules.specs.Misplaced.{Misplaced, TellsMisplaced}

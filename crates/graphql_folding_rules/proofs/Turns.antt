@@ -2,10 +2,10 @@
 use Rattle.std.proofs.Common.{◌≡◌, List, [], ◌∷◌, ◌++◌, sym, ap, ◌∙◌, append_assoc}
 use Rattle.std.specs.List.{flat_map}
 use Rattle.graphql_values.specs.Placed.{Place}
-use Rattle.graphql_ast.specs.DefinitionTree.{DefinitionTree}
+use Rattle.graphql_schema_folding.specs.in_ast.DefinitionTree.{DefinitionTree}
 use Rattle.graphql_components.proofs.Places.{each_place-push}
-use Rattle.graphql_folding.specs.Listed.{Definitions}
-use Rattle.graphql_folding.specs.BuildErrors.{Fault}
+use Rattle.graphql_schema_folding.specs.in_folding.Listed.{Definitions}
+use Rattle.graphql_schema_folding.specs.in_folding.BuildErrors.{Fault}
 use Rattle.graphql_schema_folding.proofs.Gathering.{flat_map-push}
 use Rattle.graphql_folding_rules.specs.Seen.{Seen, seen_of, definition_faults, extension_faults, collision_faults, misplaced_faults}
 

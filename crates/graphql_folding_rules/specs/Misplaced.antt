@@ -1,7 +1,7 @@
 -- The folding rules that are judged by what stands at a position of the list, together (GraphQL, October 2021, section 3).
 use Rattle.std.specs.Prelude.{◌↔◌, ◌⊎◌, List, Contains}
-use Rattle.graphql_folding.specs.Listed.{Definitions}
-use Rattle.graphql_folding.specs.BuildErrors.{Fault, Somewhere, ExecutableDefinitionAt, SchemaDefinitionCollisionAt, TypeDefinitionCollisionAt, BuiltInScalarTypeRedefinitionAt, OrphanSchemaExtensionAt, OrphanTypeExtensionAt, TypeExtensionKindMismatchAt}
+use Rattle.graphql_schema_folding.specs.in_folding.Listed.{Definitions}
+use Rattle.graphql_schema_folding.specs.in_folding.BuildErrors.{Fault, Somewhere, ExecutableDefinitionAt, SchemaDefinitionCollisionAt, TypeDefinitionCollisionAt, BuiltInScalarTypeRedefinitionAt, OrphanSchemaExtensionAt, OrphanTypeExtensionAt, TypeExtensionKindMismatchAt}
 
 -- one of these rules is broken so at some position of the texts
 pub data Misplaced (built_in texts : Definitions) (fault : Fault) : Type 0 where

@@ -8,17 +8,17 @@ use Rattle.graphql_values.specs.Placed.{Place}
 use Rattle.graphql_values.specs.OperationQueries.{default_root_name}
 use Rattle.graphql_operations.specs.declared.operation.OperationType.{OperationType}
 use Rattle.graphql_operations.specs.declared.operation.OperationType.TheVariants as operation
-use Rattle.graphql_ast.specs.DefinitionTree.{DefinitionTree}
-use Rattle.graphql_ast.specs.Queries.{is_executable}
+use Rattle.graphql_schema_folding.specs.in_ast.DefinitionTree.{DefinitionTree}
+use Rattle.graphql_schema_folding.specs.in_ast.Queries.{is_executable}
 use Rattle.graphql_components.specs.Lists.{each_place, firsts}
 use Rattle.graphql_components.specs.Names.{Entries}
-use Rattle.graphql_schema_types.specs.SchemaTree.{same_kind}
-use Rattle.graphql_schema_types.specs.TypeParts.{TypeDefinition, type_here, type_extension_here}
-use Rattle.graphql_schema_types.specs.declared.type_kind.TypeKind.{TypeKind}
-use Rattle.graphql_schema_types.specs.declared.type_kind.TypeKind.TheVariants.{Scalar, Object}
-use Rattle.graphql_folding.specs.Listed.{Definitions, type_name, types_in}
-use Rattle.graphql_folding.specs.SchemaFold.{schema_here, schema_extension_here, schema_definition_in}
-use Rattle.graphql_folding.specs.BuildErrors.{Breach, Fault, At, ExecutableDefinition, SchemaDefinitionCollision, TypeDefinitionCollision, BuiltInScalarTypeRedefinition, OrphanSchemaExtension, OrphanTypeExtension, TypeExtensionKindMismatch}
+use Rattle.graphql_schema_folding.specs.in_schema_types.SchemaTree.{same_kind}
+use Rattle.graphql_schema_folding.specs.in_schema_types.TypeParts.{TypeDefinition, type_here, type_extension_here}
+use Rattle.graphql_schema_folding.specs.in_schema_types.declared.type_kind.TypeKind.{TypeKind}
+use Rattle.graphql_schema_folding.specs.in_schema_types.declared.type_kind.TypeKind.TheVariants.{Scalar, Object}
+use Rattle.graphql_schema_folding.specs.in_folding.Listed.{Definitions, type_name, types_in}
+use Rattle.graphql_schema_folding.specs.in_folding.SchemaFold.{schema_here, schema_extension_here, schema_definition_in}
+use Rattle.graphql_schema_folding.specs.in_folding.BuildErrors.{Breach, Fault, At, ExecutableDefinition, SchemaDefinitionCollision, TypeDefinitionCollision, BuiltInScalarTypeRedefinition, OrphanSchemaExtension, OrphanTypeExtension, TypeExtensionKindMismatch}
 
 -- ---- what is defined
 

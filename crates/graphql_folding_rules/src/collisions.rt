@@ -1,17 +1,17 @@
 //! The rules that are judged by what stands before a definition.
 ghost use Rattle.std.specs.Prelude.{◌≡◌, ◌++◌, map, IfOk, OnOk};
 ghost use Rattle.std.specs.Option.{option_map};
-ghost use Rattle.graphql_ast.specs.DefinitionTree.{definition_tree};
-ghost use Rattle.graphql_folding.specs.FaultView.{faults_of, breach_of};
-ghost use Rattle.graphql_folding.specs.ListedView.{listed_view};
+ghost use Rattle.graphql_schema_folding.specs.in_ast.DefinitionTree.{definition_tree};
+ghost use Rattle.graphql_schema_folding.specs.in_folding.FaultView.{faults_of, breach_of};
+ghost use Rattle.graphql_schema_folding.specs.in_folding.ListedView.{listed_view};
 ghost use Rattle.graphql_schema_folding.specs.ListFold.{definitions_of};
 ghost use Rattle.graphql_folding_rules.specs.Seen.{seen_of, executable_told, schema_told, collision_told, redefinition_told, type_collision_told, scalar_redefinition_told, definition_faults, collision_faults};
 ghost use Rattle.graphql_folding_rules.specs.SeenView.{seen_view};
 
 use crate::seen::{Seen, is_schema_definition, kind_of};
 use crate::tell::tell;
-use graphql_ast::{Definition, Name, SourceSpan};
-use graphql_folding::{BuildError, Listed, type_definition};
+use graphql_schema_folding::graphql_ast::{Definition, Name, SourceSpan};
+use graphql_schema_folding::graphql_folding::{BuildError, Listed, type_definition};
 use std::alloc::{AllocError, Global};
 
 /// Tells each definition of the texts that stands behind another one, or is none of a type system. Gives what the

@@ -2,19 +2,19 @@
 ghost use Rattle.std.specs.Prelude.{◌≡◌, ◌++◌, map, is_some, IfOk, OnOk};
 ghost use Rattle.std.specs.List.{flat_map};
 ghost use Rattle.std.specs.Option.{option_map};
-ghost use Rattle.graphql_ast.specs.DefinitionTree.{definition_tree};
-ghost use Rattle.graphql_folding.specs.FaultView.{faults_of, breach_of};
-ghost use Rattle.graphql_folding.specs.ListedView.{listed_view};
-ghost use Rattle.graphql_folding.specs.SchemaFold.{schema_extension_here};
+ghost use Rattle.graphql_schema_folding.specs.in_ast.DefinitionTree.{definition_tree};
+ghost use Rattle.graphql_schema_folding.specs.in_folding.FaultView.{faults_of, breach_of};
+ghost use Rattle.graphql_schema_folding.specs.in_folding.ListedView.{listed_view};
+ghost use Rattle.graphql_schema_folding.specs.in_folding.SchemaFold.{schema_extension_here};
 ghost use Rattle.graphql_schema_folding.specs.ListFold.{definitions_of};
 ghost use Rattle.graphql_folding_rules.specs.Seen.{orphan_schema_told, orphan_told, mismatch_told, orphan_type_told, kind_mismatch_told, extension_faults, schema_seen};
 ghost use Rattle.graphql_folding_rules.specs.SeenView.{seen_view};
 
 use crate::seen::{Seen, kind_of, schema_is_defined};
 use crate::tell::tell;
-use graphql_ast::{Definition, Name, SourceSpan};
-use graphql_folding::{BuildError, Listed, extension_parts};
-use graphql_schema_types::TypeKind;
+use graphql_schema_folding::graphql_ast::{Definition, Name, SourceSpan};
+use graphql_schema_folding::graphql_folding::{BuildError, Listed, extension_parts};
+use graphql_schema_folding::graphql_schema_types::TypeKind;
 use std::alloc::AllocError;
 
 /// Tells each extension of the texts whose schema or type is not defined, or is of another kind.

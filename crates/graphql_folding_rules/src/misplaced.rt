@@ -1,7 +1,7 @@
 //! All rules on positions.
 ghost use Rattle.std.specs.Prelude.{◌≡◌, ◌++◌, map, OnOk};
-ghost use Rattle.graphql_folding.specs.FaultView.{faults_of};
-ghost use Rattle.graphql_folding.specs.ListedView.{listed_view};
+ghost use Rattle.graphql_schema_folding.specs.in_folding.FaultView.{faults_of};
+ghost use Rattle.graphql_schema_folding.specs.in_folding.ListedView.{listed_view};
 ghost use Rattle.graphql_schema_folding.specs.ListFold.{definitions_of};
 ghost use Rattle.graphql_folding_rules.specs.Misplaced.{TellsMisplaced};
 ghost use Rattle.graphql_folding_rules.specs.Seen.{misplaced_faults};
@@ -9,8 +9,8 @@ ghost use Rattle.graphql_folding_rules.specs.Seen.{misplaced_faults};
 use crate::collisions::tell_collisions;
 use crate::extensions::tell_extensions;
 use crate::seen::Seen;
-use graphql_ast::SourceSpan;
-use graphql_folding::{BuildError, Listed};
+use graphql_schema_folding::graphql_ast::SourceSpan;
+use graphql_schema_folding::graphql_folding::{BuildError, Listed};
 use std::alloc::{AllocError, Global};
 
 /// Tells each definition and each extension of the texts that breaks a rule by where it stands: definitions in order,

@@ -1,15 +1,15 @@
 //! What a list of definitions defines.
 ghost use Rattle.std.specs.Prelude.{◌≡◌, ◌||◌, [], map, Option, IfOk, OnOk, is_some};
-ghost use Rattle.graphql_ast.specs.DefinitionTree.{definition_tree};
-ghost use Rattle.graphql_folding.specs.ListedView.{listed_view};
-ghost use Rattle.graphql_folding.specs.SchemaFold.{schema_here};
+ghost use Rattle.graphql_schema_folding.specs.in_ast.DefinitionTree.{definition_tree};
+ghost use Rattle.graphql_schema_folding.specs.in_folding.ListedView.{listed_view};
+ghost use Rattle.graphql_schema_folding.specs.in_folding.SchemaFold.{schema_here};
 ghost use Rattle.graphql_schema_folding.specs.ListFold.{definitions_of};
 ghost use Rattle.graphql_folding_rules.specs.Seen.{seen_of, Sees, SeesType, kind_in, is_scalar_in, kind_seen, root_seen, schema_seen};
 ghost use Rattle.graphql_folding_rules.specs.SeenView.{seen_view};
 
-use graphql_ast::{Definition, Name, OperationType};
-use graphql_folding::{Listed, type_definition};
-use graphql_schema_types::TypeKind;
+use graphql_schema_folding::graphql_ast::{Definition, Name, OperationType};
+use graphql_schema_folding::graphql_folding::{Listed, type_definition};
+use graphql_schema_folding::graphql_schema_types::TypeKind;
 use indexmap::IndexMap;
 use std::alloc::{AllocError, Global};
 

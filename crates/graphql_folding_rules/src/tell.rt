@@ -1,12 +1,12 @@
 //! Telling what is wrong with a definition.
 ghost use Rattle.std.specs.Prelude.{◌≡◌, ◌++◌, OnOk};
 ghost use Rattle.std.specs.Option.{option_map};
-ghost use Rattle.graphql_ast.specs.DefinitionTree.{definition_tree};
-ghost use Rattle.graphql_folding.specs.FaultView.{faults_of, breach_of};
+ghost use Rattle.graphql_schema_folding.specs.in_ast.DefinitionTree.{definition_tree};
+ghost use Rattle.graphql_schema_folding.specs.in_folding.FaultView.{faults_of, breach_of};
 ghost use Rattle.graphql_folding_rules.specs.Seen.{faults_at};
 
-use graphql_ast::{Definition, SourceSpan};
-use graphql_folding::BuildError;
+use graphql_schema_folding::graphql_ast::{Definition, SourceSpan};
+use graphql_schema_folding::graphql_folding::BuildError;
 use std::alloc::AllocError;
 
 /// Tells what is wrong with the definition, if something is.

@@ -3,24 +3,24 @@ ghost use Rattle.std.specs.Prelude.{◌≡◌, map};
 ghost use Rattle.std.specs.Option.{option_map};
 ghost use Rattle.graphql_values.specs.DirectiveTree.{directives_tree};
 ghost use Rattle.graphql_values.specs.Placed.{name_tree, node_tree};
-ghost use Rattle.graphql_ast.specs.TypeSystemTree.{field_definition_tree};
-ghost use Rattle.graphql_grammar.specs.Reading.{Reads};
+ghost use Rattle.graphql_parse_members.specs.in_ast.TypeSystemTree.{field_definition_tree};
+ghost use Rattle.graphql_parse_members.specs.in_grammar.Reading.{Reads};
 ghost use Rattle.graphql_parse_types.specs.KindSteps as steps;
 ghost use Rattle.graphql_parse_types.specs.KindTrees.{kind_tree};
-ghost use Rattle.graphql_parse_values.specs.Meanings.{in_file};
+ghost use Rattle.graphql_parse_members.specs.in_parse_values.Meanings.{in_file};
 
 use crate::kind::Kind;
-use graphql_ast::{
+use graphql_parse_members::graphql_ast::{
     FieldDefinition, InterfaceTypeExtension, ObjectTypeExtension, UnionTypeExtension,
 };
-use graphql_grammar::Stop;
+use graphql_parse_members::graphql_grammar::Stop;
 use graphql_lexer::{Source, Terminal};
 use graphql_names::{FileId, Node};
 use graphql_parse_members::{
     fields_or_none, names_or_none, optional_fields_definition, optional_implements_interfaces,
     optional_union_member_types,
 };
-use graphql_parse_values::{directives_or_none, expect, name, optional_directives};
+use graphql_parse_members::graphql_parse_values::{directives_or_none, expect, name, optional_directives};
 use graphql_values::{DirectiveList, NamedType};
 use std::alloc::Global;
 
@@ -47,7 +47,7 @@ fn fields_rest(
 }
 
 /// ObjectTypeDefinition (section 3.6): `"type" Name ImplementsInterfaces? Directives? FieldsDefinition?`.
-#[tactic(auto, unfolding(graphql_grammar::specs::TypeSystemReading::object_type))]
+#[tactic(auto, unfolding(graphql_parse_members::graphql_grammar::specs::TypeSystemReading::object_type))]
 pub fn object_type(
     alloc: Global,
     tokens: &mut Source<'_>,
@@ -68,7 +68,7 @@ pub fn object_type(
 }
 
 /// InterfaceTypeDefinition (section 3.7): `"interface" Name ImplementsInterfaces? Directives? FieldsDefinition?`.
-#[tactic(auto, unfolding(graphql_grammar::specs::TypeSystemReading::interface_type))]
+#[tactic(auto, unfolding(graphql_parse_members::graphql_grammar::specs::TypeSystemReading::interface_type))]
 pub fn interface_type(
     alloc: Global,
     tokens: &mut Source<'_>,
@@ -103,7 +103,7 @@ fn union_rest(
 }
 
 /// UnionTypeDefinition (section 3.8): `"union" Name Directives? UnionMemberTypes?`.
-#[tactic(auto, unfolding(graphql_grammar::specs::TypeSystemReading::union_type))]
+#[tactic(auto, unfolding(graphql_parse_members::graphql_grammar::specs::TypeSystemReading::union_type))]
 pub fn union_type(
     alloc: Global,
     tokens: &mut Source<'_>,

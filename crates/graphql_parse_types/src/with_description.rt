@@ -1,8 +1,8 @@
 //! Definitions made of a description and of the parts that an extension has too.
 ghost use Rattle.std.specs.Prelude.{◌≡◌};
-ghost use Rattle.graphql_ast.specs.DefinitionTree.{schema_parts, scalar_parts, object_parts, interface_parts, union_parts, enum_parts, input_object_parts, schema_extension_parts, scalar_extension_parts, object_extension_parts, interface_extension_parts, union_extension_parts, enum_extension_parts, input_object_extension_parts};
+ghost use Rattle.graphql_parse_members.specs.in_ast.DefinitionTree.{schema_parts, scalar_parts, object_parts, interface_parts, union_parts, enum_parts, input_object_parts, schema_extension_parts, scalar_extension_parts, object_extension_parts, interface_extension_parts, union_extension_parts, enum_extension_parts, input_object_extension_parts};
 
-use graphql_ast::{
+use graphql_parse_members::graphql_ast::{
     EnumTypeDefinition, EnumTypeExtension, InputObjectTypeDefinition, InputObjectTypeExtension,
     InterfaceTypeDefinition, InterfaceTypeExtension, ObjectTypeDefinition, ObjectTypeExtension,
     ScalarTypeDefinition, ScalarTypeExtension, SchemaDefinition, SchemaExtension,

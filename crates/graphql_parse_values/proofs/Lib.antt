@@ -4,3 +4,4 @@ pub mod Names
 pub mod Numbers
 pub mod Tokens
 pub mod Types
+pub use Rattle.graphql_grammar.proofs as in_grammar

@@ -9,19 +9,19 @@ use Rattle.graphql_values.specs.Placed.{Place}
 use Rattle.graphql_values.specs.Writable.{value_writable, operation_writable, fragment_writable}
 use Rattle.graphql_values.specs.ValueTree.{ValueTree, unplaced_value}
 use Rattle.graphql_values.specs.OperationTree.{OperationTree, FragmentTree, unplaced_operation, unplaced_fragment}
-use Rattle.graphql_ast.specs.DefinitionTree.{DefinitionTree, unplaced_document}
-use Rattle.graphql_ast.specs.DocumentLayout.{document_text}
-use Rattle.graphql_ast.specs.Writable.{definition_writable}
-use Rattle.graphql_grammar.specs.Grammar.{DerivesAs, Derives, document}
-use Rattle.graphql_grammar.specs.ValueGrammar.{Const, value}
-use Rattle.graphql_grammar.specs.OperationGrammar.{operation_definition, fragment_definition}
-use Rattle.graphql_grammar.specs.ValueReading as v
-use Rattle.graphql_grammar.specs.OperationReading as o
-use Rattle.graphql_grammar.proofs.Parses.{any_count}
-use Rattle.graphql_grammar.proofs.Values.{value_parses}
-use Rattle.graphql_grammar.proofs.Operations.{operation_definition_parses, fragment_definition_parses}
-use Rattle.graphql_grammar.proofs.Theorems.{one_tree}
-use Rattle.graphql_grammar.proofs.Laws.{one_document}
+use Rattle.graphql_parse_values.specs.in_ast.DefinitionTree.{DefinitionTree, unplaced_document}
+use Rattle.graphql_parse_values.specs.in_ast.DocumentLayout.{document_text}
+use Rattle.graphql_parse_values.specs.in_ast.Writable.{definition_writable}
+use Rattle.graphql_parse_values.specs.in_grammar.Grammar.{DerivesAs, Derives, document}
+use Rattle.graphql_parse_values.specs.in_grammar.ValueGrammar.{Const, value}
+use Rattle.graphql_parse_values.specs.in_grammar.OperationGrammar.{operation_definition, fragment_definition}
+use Rattle.graphql_parse_values.specs.in_grammar.ValueReading as v
+use Rattle.graphql_parse_values.specs.in_grammar.OperationReading as o
+use Rattle.graphql_parse_values.proofs.in_grammar.Parses.{any_count}
+use Rattle.graphql_parse_values.proofs.in_grammar.Values.{value_parses}
+use Rattle.graphql_parse_values.proofs.in_grammar.Operations.{operation_definition_parses, fragment_definition_parses}
+use Rattle.graphql_parse_values.proofs.in_grammar.Theorems.{one_tree}
+use Rattle.graphql_parse_values.proofs.in_grammar.Laws.{one_document}
 use Rattle.graphql_parse_values.specs.Meanings.{string_of, in_file}
 use Rattle.graphql_printed.specs.Literals.{LiteralsRead}
 use Rattle.graphql_printed.specs.ReadsAlone.{ReadsAlone}

@@ -13,11 +13,11 @@ use Rattle.graphql_directives.specs.declared.directive_location.DirectiveLocatio
 use Rattle.graphql_lexer.specs.declared.token.TokenKind.TheVariants as t
 use Rattle.graphql_lexer.specs.Input.{Token}
 use Rattle.graphql_lexer.specs.Terminals.{words, terminal_of}
-use Rattle.graphql_grammar.specs.Meaning.{Meaning}
-use Rattle.graphql_grammar.specs.Kinds.{is_location, is_pipe, is_directive, is_repeatable, is_on}
-use Rattle.graphql_grammar.specs.Locations.{location_of}
-use Rattle.graphql_grammar.specs.Rules.{Rule, one, mark, ◌·◌, ◌<$>◌, optional, many}
-use Rattle.graphql_grammar.specs.TypeSystemGrammar.{directive_definition_of, directive_locations, directive_definition}
+use Rattle.graphql_parse_values.specs.in_grammar.Meaning.{Meaning}
+use Rattle.graphql_parse_values.specs.in_grammar.Kinds.{is_location, is_pipe, is_directive, is_repeatable, is_on}
+use Rattle.graphql_parse_values.specs.in_grammar.Locations.{location_of}
+use Rattle.graphql_parse_values.specs.in_grammar.Rules.{Rule, one, mark, ◌·◌, ◌<$>◌, optional, many}
+use Rattle.graphql_parse_values.specs.in_grammar.TypeSystemGrammar.{directive_definition_of, directive_locations, directive_definition}
 use Rattle.graphql_printed.specs.Printed.{any, ends_word, Printed}
 use Rattle.graphql_printed.specs.Literals.{LiteralsRead}
 use Rattle.graphql_printed.specs.WellFormed.{is_white_prefix, input_values_well_formed, input_values_depth}

@@ -9,9 +9,9 @@ use Rattle.graphql_values.specs.Placed.{Placed, unplaced_node}
 use Rattle.graphql_values.specs.Writable.{default_writable, argument_writable, arguments_writable, directive_writable, directives_writable}
 use Rattle.graphql_values.specs.ValueTree.{ValueTree, unplaced_value}
 use Rattle.graphql_values.specs.DirectiveTree.{ArgumentTree, Arguments, DirectiveTree, Directives, unplaced_argument, unplaced_arguments, unplaced_directive, unplaced_directives}
-use Rattle.graphql_grammar.specs.Meaning.{Meaning}
-use Rattle.graphql_grammar.specs.Rules.{optional}
-use Rattle.graphql_grammar.specs.ValueGrammar.{Const, constant, argument_of, directive_of, value, default_value, argument, arguments, directive, directives}
+use Rattle.graphql_parse_values.specs.in_grammar.Meaning.{Meaning}
+use Rattle.graphql_parse_values.specs.in_grammar.Rules.{optional}
+use Rattle.graphql_parse_values.specs.in_grammar.ValueGrammar.{Const, constant, argument_of, directive_of, value, default_value, argument, arguments, directive, directives}
 use Rattle.graphql_printed.specs.Printed.{any, ends_word, Printed}
 use Rattle.graphql_printed.specs.Literals.{LiteralsRead}
 use Rattle.graphql_printed.specs.WellFormed.{default_well_formed, argument_well_formed, arguments_well_formed, directive_well_formed, directives_well_formed, default_depth, argument_depth, arguments_depth, directive_depth, directives_depth}

@@ -5,15 +5,15 @@ use Rattle.std.proofs.lemmas.Bool.{and_parts}
 use Rattle.graphql_printing.specs.Joined.{joined}
 use Rattle.graphql_printing.specs.LineLayout.{Prefix, line_start, start_text}
 use Rattle.graphql_operations.specs.OperationLayout.{begins_output}
-use Rattle.graphql_ast.specs.DefinitionTree.{DefinitionTree, Operation, Fragment, DirectiveDefinition, Schema, ScalarType, ObjectType, InterfaceType, UnionType, EnumType, InputObjectType, ExtendSchema, ExtendScalar, ExtendObject, ExtendInterface, ExtendUnion, ExtendEnum, ExtendInputObject, unplaced_definition, unplaced_document}
-use Rattle.graphql_ast.specs.DocumentLayout.{definition_text, between_text, next_definition_text, end_text, document_text}
-use Rattle.graphql_ast.specs.Writable.{definition_writable}
+use Rattle.graphql_parse_values.specs.in_ast.DefinitionTree.{DefinitionTree, Operation, Fragment, DirectiveDefinition, Schema, ScalarType, ObjectType, InterfaceType, UnionType, EnumType, InputObjectType, ExtendSchema, ExtendScalar, ExtendObject, ExtendInterface, ExtendUnion, ExtendEnum, ExtendInputObject, unplaced_definition, unplaced_document}
+use Rattle.graphql_parse_values.specs.in_ast.DocumentLayout.{definition_text, between_text, next_definition_text, end_text, document_text}
+use Rattle.graphql_parse_values.specs.in_ast.Writable.{definition_writable}
 use Rattle.graphql_lexer.specs.Tokens.{is_ignored_byte}
-use Rattle.graphql_grammar.specs.Meaning.{Meaning}
-use Rattle.graphql_grammar.specs.Rules as rule
-use Rattle.graphql_grammar.specs.Rules.{◌<$>◌, ◌∣◌, many}
-use Rattle.graphql_grammar.specs.OperationGrammar.{operation_definition, fragment_definition}
-use Rattle.graphql_grammar.specs.Grammar.{type_system_definition, type_system_extension, definition, document}
+use Rattle.graphql_parse_values.specs.in_grammar.Meaning.{Meaning}
+use Rattle.graphql_parse_values.specs.in_grammar.Rules as rule
+use Rattle.graphql_parse_values.specs.in_grammar.Rules.{◌<$>◌, ◌∣◌, many}
+use Rattle.graphql_parse_values.specs.in_grammar.OperationGrammar.{operation_definition, fragment_definition}
+use Rattle.graphql_parse_values.specs.in_grammar.Grammar.{type_system_definition, type_system_extension, definition, document}
 use Rattle.graphql_printed.specs.Printed.{ends_word, Printed}
 use Rattle.graphql_printed.specs.Literals.{LiteralsRead}
 use Rattle.graphql_printed.specs.WellFormed.{is_white_prefix, depths}

@@ -15,10 +15,10 @@ use Rattle.graphql_lexer.specs.Input.{Token, next_of}
 use Rattle.graphql_lexer.specs.Tokens.{is_ignored_byte, of_kind, ignored_at, string_at, token_at}
 use Rattle.graphql_lexer.specs.Terminals.{words, terminal_of}
 use Rattle.graphql_lexer.specs.Lex.{Piece, piece_of, piece_at, ArePieces, with_token, tokens_among}
-use Rattle.graphql_grammar.specs.Meaning.{Meaning}
-use Rattle.graphql_grammar.specs.Kinds.{is_open_brace, is_close_brace}
-use Rattle.graphql_grammar.specs.Rules as rule
-use Rattle.graphql_grammar.specs.Rules.{Rule, lacks, optional_unless, some, between}
+use Rattle.graphql_parse_values.specs.in_grammar.Meaning.{Meaning}
+use Rattle.graphql_parse_values.specs.in_grammar.Kinds.{is_open_brace, is_close_brace}
+use Rattle.graphql_parse_values.specs.in_grammar.Rules as rule
+use Rattle.graphql_parse_values.specs.in_grammar.Rules.{Rule, lacks, optional_unless, some, between}
 use Rattle.graphql_printed.specs.Printed.{Follow, any, ends_word, begins_definition, ends_definition, LexesAt, Printed}
 use Rattle.graphql_printed.specs.WellFormed.{is_white_prefix}
 use Rattle.graphql_printed.proofs.Sequences.{from_here, ignored_piece, saying, before_any}

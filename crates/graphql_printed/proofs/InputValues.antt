@@ -12,11 +12,11 @@ use Rattle.graphql_values.specs.Writable.{input_value_writable, input_values_wri
 use Rattle.graphql_values.specs.TypeTree.{TypeTree}
 use Rattle.graphql_values.specs.ValueTree.{ValueTree}
 use Rattle.graphql_values.specs.DirectiveTree.{Directives, InputValueTree, InputValues, unplaced_input_value}
-use Rattle.graphql_grammar.specs.Meaning.{Meaning, text_of}
-use Rattle.graphql_grammar.specs.Kinds.{is_string}
-use Rattle.graphql_grammar.specs.Rules.{Rule, ◌·◌, optional}
-use Rattle.graphql_grammar.specs.ValueGrammar.{constant}
-use Rattle.graphql_grammar.specs.TypeSystemGrammar.{input_value_of, description, input_value_definition, arguments_definition}
+use Rattle.graphql_parse_values.specs.in_grammar.Meaning.{Meaning, text_of}
+use Rattle.graphql_parse_values.specs.in_grammar.Kinds.{is_string}
+use Rattle.graphql_parse_values.specs.in_grammar.Rules.{Rule, ◌·◌, optional}
+use Rattle.graphql_parse_values.specs.in_grammar.ValueGrammar.{constant}
+use Rattle.graphql_parse_values.specs.in_grammar.TypeSystemGrammar.{input_value_of, description, input_value_definition, arguments_definition}
 use Rattle.graphql_printed.specs.Printed.{Follow, any, ends_word, Printed}
 use Rattle.graphql_printed.specs.Literals.{IsStringToken, LiteralsRead}
 use Rattle.graphql_printed.specs.WellFormed.{depths, is_white_prefix, input_value_well_formed, input_values_well_formed, input_value_depth, input_values_depth}

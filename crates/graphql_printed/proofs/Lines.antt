@@ -7,8 +7,8 @@ use Rattle.graphql_printing.specs.StringLayout.{is_tab_or_space}
 use Rattle.graphql_printing.specs.LineLayout.{Prefix, Leveled, line_start, break_text, members_text, braced_text, set_text}
 use Rattle.graphql_lexer.specs.Tokens.{is_ignored_byte}
 use Rattle.graphql_lexer.specs.Input.{Token, Ending}
-use Rattle.graphql_grammar.specs.Kinds.{is_open_brace, is_close_brace}
-use Rattle.graphql_grammar.specs.Rules.{Rule, many, some, between}
+use Rattle.graphql_parse_values.specs.in_grammar.Kinds.{is_open_brace, is_close_brace}
+use Rattle.graphql_parse_values.specs.in_grammar.Rules.{Rule, many, some, between}
 use Rattle.graphql_printed.specs.Printed.{Follow, any, ends_word, before, ReadsUpTo, Printed}
 use Rattle.graphql_printed.specs.WellFormed.{is_white_prefix}
 use Rattle.graphql_printed.proofs.Sequences.{ends_before, seq, mapped, ignored}

@@ -13,10 +13,10 @@ use Rattle.graphql_values.specs.ValueTree.{ValueTree, NullTree, EnumTree, Variab
 use Rattle.graphql_lexer.specs.declared.token.TokenKind.TheVariants as t
 use Rattle.graphql_lexer.specs.Input.{Token}
 use Rattle.graphql_lexer.specs.Terminals.{words, terminal_of}
-use Rattle.graphql_grammar.specs.Meaning.{Meaning}
-use Rattle.graphql_grammar.specs.Kinds.{is_enum_value, is_string, is_int, is_float, is_true, is_false, is_null}
-use Rattle.graphql_grammar.specs.Rules.{Rule, mark, ◌<$>◌, ◌∣◌, unless}
-use Rattle.graphql_grammar.specs.ValueGrammar.{Const, with_variables, variable, int_value, float_value, string_value, boolean_value, null_value, enum_value, any_value}
+use Rattle.graphql_parse_values.specs.in_grammar.Meaning.{Meaning}
+use Rattle.graphql_parse_values.specs.in_grammar.Kinds.{is_enum_value, is_string, is_int, is_float, is_true, is_false, is_null}
+use Rattle.graphql_parse_values.specs.in_grammar.Rules.{Rule, mark, ◌<$>◌, ◌∣◌, unless}
+use Rattle.graphql_parse_values.specs.in_grammar.ValueGrammar.{Const, with_variables, variable, int_value, float_value, string_value, boolean_value, null_value, enum_value, any_value}
 use Rattle.graphql_printed.specs.Printed.{Follow, any, ends_word, Printed}
 use Rattle.graphql_printed.specs.Literals.{NumbersRead, StringsRead}
 use Rattle.graphql_printed.proofs.Sequences.{seq, mapped, left, right, nothing_more}

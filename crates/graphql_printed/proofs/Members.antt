@@ -3,10 +3,10 @@ use Rattle.std.proofs.Common.{◌≡◌, ℕ, ◌+◌, true, List, [], ◌∷◌
 use Rattle.graphql_printing.specs.Joined.{joined}
 use Rattle.graphql_printing.specs.LineLayout.{Prefix, Leveled, break_text, members_text, texts_of}
 use Rattle.graphql_values.specs.Placed.{Placed, unplaced_node}
-use Rattle.graphql_grammar.specs.Meaning.{Meaning}
-use Rattle.graphql_grammar.specs.Kinds.{is_open_paren, is_close_paren}
-use Rattle.graphql_grammar.specs.Rules as rule
-use Rattle.graphql_grammar.specs.Rules.{Rule, many, some, between}
+use Rattle.graphql_parse_values.specs.in_grammar.Meaning.{Meaning}
+use Rattle.graphql_parse_values.specs.in_grammar.Kinds.{is_open_paren, is_close_paren}
+use Rattle.graphql_parse_values.specs.in_grammar.Rules as rule
+use Rattle.graphql_parse_values.specs.in_grammar.Rules.{Rule, many, some, between}
 use Rattle.graphql_printed.specs.Printed.{any, ends_word, Printed}
 use Rattle.graphql_printed.specs.WellFormed.{is_white_prefix}
 use Rattle.graphql_printed.proofs.Sequences.{seq, mapped, placed, ignored, more, no_more, as_text, saying}

@@ -8,11 +8,11 @@ use Rattle.graphql_type_members.specs.TypeSystemLayout.{name_text, names_text}
 use Rattle.graphql_values.specs.Placed.{Text, unplaced_text}
 use Rattle.graphql_lexer.specs.declared.terminal.Terminal.{Terminal}
 use Rattle.graphql_lexer.specs.Terminals.{words}
-use Rattle.graphql_grammar.specs.Meaning.{Meaning}
-use Rattle.graphql_grammar.specs.Kinds.{is_implements, is_ampersand, is_pipe}
-use Rattle.graphql_grammar.specs.Rules.{mark, ◌·◌, ◌<$>◌, optional, many, separated}
-use Rattle.graphql_grammar.specs.ValueGrammar.{name}
-use Rattle.graphql_grammar.specs.TypeSystemGrammar.{implements_interfaces, union_member_types}
+use Rattle.graphql_parse_values.specs.in_grammar.Meaning.{Meaning}
+use Rattle.graphql_parse_values.specs.in_grammar.Kinds.{is_implements, is_ampersand, is_pipe}
+use Rattle.graphql_parse_values.specs.in_grammar.Rules.{mark, ◌·◌, ◌<$>◌, optional, many, separated}
+use Rattle.graphql_parse_values.specs.in_grammar.ValueGrammar.{name}
+use Rattle.graphql_parse_values.specs.in_grammar.TypeSystemGrammar.{implements_interfaces, union_member_types}
 use Rattle.graphql_printed.specs.Printed.{any, ends_word, Printed}
 use Rattle.graphql_printed.proofs.Sequences.{seq, seq_word, mapped, ignored, given, left_out, more, no_more, as_text, saying}
 use Rattle.graphql_printed.proofs.Tokens.{any_name, keyword}

@@ -6,10 +6,10 @@ use Rattle.graphql_printing.specs.Joined.{joined, further_text}
 use Rattle.graphql_printing.specs.LineLayout.{parenthesized_text, texts_of}
 use Rattle.graphql_values.specs.Placed.{Placed, unplaced_node}
 use Rattle.graphql_lexer.specs.Tokens.{is_ignored_byte}
-use Rattle.graphql_grammar.specs.Meaning.{Meaning}
-use Rattle.graphql_grammar.specs.Kinds.{is_open_paren, is_close_paren}
-use Rattle.graphql_grammar.specs.Rules as rule
-use Rattle.graphql_grammar.specs.Rules.{Rule, optional, many, some, between}
+use Rattle.graphql_parse_values.specs.in_grammar.Meaning.{Meaning}
+use Rattle.graphql_parse_values.specs.in_grammar.Kinds.{is_open_paren, is_close_paren}
+use Rattle.graphql_parse_values.specs.in_grammar.Rules as rule
+use Rattle.graphql_parse_values.specs.in_grammar.Rules.{Rule, optional, many, some, between}
 use Rattle.graphql_printed.specs.Printed.{Follow, any, ends_word, Printed}
 use Rattle.graphql_printed.specs.WellFormed.{depths}
 use Rattle.graphql_printed.proofs.Sequences.{seq, mapped, placed, ignored, more, one_or_more, no_more, given, left_out, as_text, saying}

@@ -18,11 +18,11 @@ use Rattle.graphql_values.specs.DirectiveTree.{Directives, unplaced_directives}
 use Rattle.graphql_values.specs.SelectionTree.{SelectionTrees}
 use Rattle.graphql_values.specs.OperationTree.{VariableDefinitionTree, OperationTree, FragmentTree, unplaced_variable_definition, unplaced_operation, unplaced_fragment}
 use Rattle.graphql_lexer.specs.Terminals.{words}
-use Rattle.graphql_grammar.specs.Meaning.{Meaning}
-use Rattle.graphql_grammar.specs.Kinds as kind
-use Rattle.graphql_grammar.specs.Rules.{mark, ◌·◌, ◌<$>◌, ◌∣◌, optional}
-use Rattle.graphql_grammar.specs.ValueGrammar.{constant, with_variables, name, directives}
-use Rattle.graphql_grammar.specs.OperationGrammar.{variable_definition_of, short_of, operation_of, fragment_of, operation_type, type_condition, selection_set, variable_definition, variable_definitions, operation_definition, fragment_definition}
+use Rattle.graphql_parse_values.specs.in_grammar.Meaning.{Meaning}
+use Rattle.graphql_parse_values.specs.in_grammar.Kinds as kind
+use Rattle.graphql_parse_values.specs.in_grammar.Rules.{mark, ◌·◌, ◌<$>◌, ◌∣◌, optional}
+use Rattle.graphql_parse_values.specs.in_grammar.ValueGrammar.{constant, with_variables, name, directives}
+use Rattle.graphql_parse_values.specs.in_grammar.OperationGrammar.{variable_definition_of, short_of, operation_of, fragment_of, operation_type, type_condition, selection_set, variable_definition, variable_definitions, operation_definition, fragment_definition}
 use Rattle.graphql_printed.specs.Printed.{any, ends_word, Printed}
 use Rattle.graphql_printed.specs.Literals.{LiteralsRead}
 use Rattle.graphql_printed.specs.WellFormed.{directives_well_formed, selections_well_formed, is_white_prefix, name_well_formed, variable_well_formed, variables_well_formed, operation_well_formed, fragment_well_formed, variable_depth, variables_depth, operation_depth, fragment_depth}

@@ -8,9 +8,9 @@ use Rattle.graphql_values.specs.Placed.{Text}
 use Rattle.graphql_values.specs.Writable.{value_writable}
 use Rattle.graphql_values.specs.ValueTree.{ValueTree, StringTree, FloatTree, IntTree, ListTree, no_items, item_then}
 use Rattle.graphql_values.specs.SelectionTree.{FieldTree, no_selections, selection_then}
-use Rattle.graphql_ast.specs.DefinitionTree.{DefinitionTree, Operation}
-use Rattle.graphql_ast.specs.DocumentLayout.{document_text}
-use Rattle.graphql_ast.specs.Writable.{definition_writable}
+use Rattle.graphql_parse_values.specs.in_ast.DefinitionTree.{DefinitionTree, Operation}
+use Rattle.graphql_parse_values.specs.in_ast.DocumentLayout.{document_text}
+use Rattle.graphql_parse_values.specs.in_ast.Writable.{definition_writable}
 use Rattle.graphql_printed.specs.WellFormed.{value_well_formed}
 use Rattle.graphql_printed.specs.Executable.{executable_well_formed}
 

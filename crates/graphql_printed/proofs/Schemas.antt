@@ -10,13 +10,13 @@ use Rattle.graphql_type_members.specs.PartsWritable.{has_some}
 use Rattle.graphql_values.specs.Placed.{Placed, unplaced_node}
 use Rattle.graphql_values.specs.Writable.{directives_writable}
 use Rattle.graphql_values.specs.DirectiveTree.{Directives}
-use Rattle.graphql_ast.specs.TypeSystemTree.{RootOperationTree, SchemaParts, unplaced_root, unplaced_schema}
+use Rattle.graphql_parse_values.specs.in_ast.TypeSystemTree.{RootOperationTree, SchemaParts, unplaced_root, unplaced_schema}
 use Rattle.graphql_lexer.specs.Terminals.{words}
-use Rattle.graphql_grammar.specs.Meaning.{Meaning}
-use Rattle.graphql_grammar.specs.Kinds.{is_schema, is_open_brace}
-use Rattle.graphql_grammar.specs.Rules.{optional_unless}
-use Rattle.graphql_grammar.specs.ValueGrammar.{constant}
-use Rattle.graphql_grammar.specs.TypeSystemGrammar.{schema_of, schema_extension_of, root_operation_type_definition, roots, schema_definition, schema_extension}
+use Rattle.graphql_parse_values.specs.in_grammar.Meaning.{Meaning}
+use Rattle.graphql_parse_values.specs.in_grammar.Kinds.{is_schema, is_open_brace}
+use Rattle.graphql_parse_values.specs.in_grammar.Rules.{optional_unless}
+use Rattle.graphql_parse_values.specs.in_grammar.ValueGrammar.{constant}
+use Rattle.graphql_parse_values.specs.in_grammar.TypeSystemGrammar.{schema_of, schema_extension_of, root_operation_type_definition, roots, schema_definition, schema_extension}
 use Rattle.graphql_printed.specs.Printed.{any, ends_word, ends_definition, Printed}
 use Rattle.graphql_printed.specs.Literals.{LiteralsRead}
 use Rattle.graphql_printed.specs.WellFormed.{is_white_prefix, root_well_formed, schema_well_formed, schema_depth}

@@ -12,11 +12,11 @@ use Rattle.graphql_values.specs.DirectiveTree.{Arguments, Directives}
 use Rattle.graphql_values.specs.SelectionTree.{FieldHead, SelectionTree, FieldTree, SpreadTree, InlineTree, SelectionTrees, no_selections, selection_then, unplaced_selection, unplaced_selections}
 use Rattle.graphql_lexer.specs.declared.token.TokenKind.TheVariants as t
 use Rattle.graphql_lexer.specs.Terminals.{words, terminal_of}
-use Rattle.graphql_grammar.specs.Meaning.{Meaning}
-use Rattle.graphql_grammar.specs.Kinds.{is_fragment_name, is_on}
-use Rattle.graphql_grammar.specs.Rules.{Rule, ◌·◌, ◌∣◌, optional, many}
-use Rattle.graphql_grammar.specs.ValueGrammar.{with_variables}
-use Rattle.graphql_grammar.specs.OperationGrammar.{selections_of, field_of, spread_of, inline_of, alias, field, type_condition, fragment_spread, inline_fragment, selection, selection_list, selection_set}
+use Rattle.graphql_parse_values.specs.in_grammar.Meaning.{Meaning}
+use Rattle.graphql_parse_values.specs.in_grammar.Kinds.{is_fragment_name, is_on}
+use Rattle.graphql_parse_values.specs.in_grammar.Rules.{Rule, ◌·◌, ◌∣◌, optional, many}
+use Rattle.graphql_parse_values.specs.in_grammar.ValueGrammar.{with_variables}
+use Rattle.graphql_parse_values.specs.in_grammar.OperationGrammar.{selections_of, field_of, spread_of, inline_of, alias, field, type_condition, fragment_spread, inline_fragment, selection, selection_list, selection_set}
 use Rattle.graphql_printed.specs.Printed.{Follow, any, ends_word, Printed}
 use Rattle.graphql_printed.specs.Literals.{LiteralsRead}
 use Rattle.graphql_printed.specs.WellFormed.{is_white_prefix, name_well_formed, directives_well_formed, head_well_formed, selection_well_formed, selections_well_formed, directives_depth, head_depth, selection_depth, selections_depth}

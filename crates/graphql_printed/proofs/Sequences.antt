@@ -5,9 +5,9 @@ use Rattle.std.proofs.lemmas.Bool.{and_parts}
 use Rattle.graphql_lexer.specs.Input.{Token}
 use Rattle.graphql_lexer.specs.Tokens.{is_ignored_byte, ignored_at}
 use Rattle.graphql_lexer.specs.Lex.{piece_at}
-use Rattle.graphql_grammar.specs.Meaning.{Meaning, place_between}
-use Rattle.graphql_grammar.specs.Rules as rule
-use Rattle.graphql_grammar.specs.Rules.{Rule, one, ◌·◌, ◌<$>◌, ◌∣◌, optional, many, some}
+use Rattle.graphql_parse_values.specs.in_grammar.Meaning.{Meaning, place_between}
+use Rattle.graphql_parse_values.specs.in_grammar.Rules as rule
+use Rattle.graphql_parse_values.specs.in_grammar.Rules.{Rule, one, ◌·◌, ◌<$>◌, ◌∣◌, optional, many, some}
 use Rattle.graphql_printed.specs.Printed.{Follow, any, ends_word, LexesAt, before, Printed}
 
 -- ---- what is behind

@@ -15,10 +15,10 @@ use Rattle.graphql_lexer.specs.Input.{Token}
 use Rattle.graphql_lexer.specs.Tokens.{ignored_at, token_at}
 use Rattle.graphql_lexer.specs.Terminals.{Word, words, spelled, terminal_of}
 use Rattle.graphql_lexer.specs.Lex.{Piece, piece_at, ArePieces}
-use Rattle.graphql_grammar.specs.Meaning.{Meaning, name_of}
-use Rattle.graphql_grammar.specs.Kinds.{is_name}
-use Rattle.graphql_grammar.specs.Rules.{one, mark, ◌<$>◌}
-use Rattle.graphql_grammar.specs.ValueGrammar.{name}
+use Rattle.graphql_parse_values.specs.in_grammar.Meaning.{Meaning, name_of}
+use Rattle.graphql_parse_values.specs.in_grammar.Kinds.{is_name}
+use Rattle.graphql_parse_values.specs.in_grammar.Rules.{one, mark, ◌<$>◌}
+use Rattle.graphql_parse_values.specs.in_grammar.ValueGrammar.{name}
 use Rattle.graphql_printed.specs.Printed.{Follow, ends_word, LexesAt, PrintedBefore, Printed}
 use Rattle.graphql_printed.proofs.Sequences.{mapped}
 

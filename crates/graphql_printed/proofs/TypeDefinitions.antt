@@ -11,14 +11,14 @@ use Rattle.graphql_type_members.specs.PartsWritable.{field_definition_writable, 
 use Rattle.graphql_values.specs.Placed.{Placed, Text, unplaced_node}
 use Rattle.graphql_values.specs.Writable.{directives_writable, input_values_writable}
 use Rattle.graphql_values.specs.DirectiveTree.{Directives, InputValues, unplaced_input_value}
-use Rattle.graphql_ast.specs.TypeSystemTree.{FieldDefinitionTree, EnumValueTree, ScalarParts, FieldsParts, UnionParts, EnumParts, InputObjectParts, unplaced_input_object, unplaced_field_definition, unplaced_enum_value, unplaced_scalar, unplaced_fields, unplaced_union, unplaced_enum}
+use Rattle.graphql_parse_values.specs.in_ast.TypeSystemTree.{FieldDefinitionTree, EnumValueTree, ScalarParts, FieldsParts, UnionParts, EnumParts, InputObjectParts, unplaced_input_object, unplaced_field_definition, unplaced_enum_value, unplaced_scalar, unplaced_fields, unplaced_union, unplaced_enum}
 use Rattle.graphql_lexer.specs.declared.terminal.Terminal.{Terminal}
 use Rattle.graphql_lexer.specs.Terminals.{words}
-use Rattle.graphql_grammar.specs.Meaning.{Meaning}
-use Rattle.graphql_grammar.specs.Kinds.{is_scalar, is_input, is_union, is_enum, is_type, is_interface, is_open_brace}
-use Rattle.graphql_grammar.specs.Rules.{Rule, mark, ◌·◌, ◌<$>◌, optional, optional_unless}
-use Rattle.graphql_grammar.specs.ValueGrammar.{constant, name, directives}
-use Rattle.graphql_grammar.specs.TypeSystemGrammar.{input_object_of, input_value_definition, input_fields_definition, input_object_type, scalar_of, fields_of, union_of, enum_of, scalar_type, implements_interfaces, field_definition, fields_definition, enum_value_definition, enum_values_definition, object_type, interface_type, union_type, enum_type}
+use Rattle.graphql_parse_values.specs.in_grammar.Meaning.{Meaning}
+use Rattle.graphql_parse_values.specs.in_grammar.Kinds.{is_scalar, is_input, is_union, is_enum, is_type, is_interface, is_open_brace}
+use Rattle.graphql_parse_values.specs.in_grammar.Rules.{Rule, mark, ◌·◌, ◌<$>◌, optional, optional_unless}
+use Rattle.graphql_parse_values.specs.in_grammar.ValueGrammar.{constant, name, directives}
+use Rattle.graphql_parse_values.specs.in_grammar.TypeSystemGrammar.{input_object_of, input_value_definition, input_fields_definition, input_object_type, scalar_of, fields_of, union_of, enum_of, scalar_type, implements_interfaces, field_definition, fields_definition, enum_value_definition, enum_values_definition, object_type, interface_type, union_type, enum_type}
 use Rattle.graphql_printed.specs.Printed.{ends_word, begins_definition, ends_definition, Printed}
 use Rattle.graphql_printed.specs.Literals.{LiteralsRead}
 use Rattle.graphql_printed.specs.WellFormed.{is_white_prefix, bracketed, field_definition_well_formed, enum_value_well_formed, scalar_well_formed, fields_well_formed, union_well_formed, enum_well_formed, directives_depth, field_definition_depth, enum_value_depth, fields_depth, enum_depth, input_values_well_formed, input_object_well_formed, input_values_depth, input_object_depth}

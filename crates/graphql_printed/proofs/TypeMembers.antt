@@ -12,11 +12,11 @@ use Rattle.graphql_type_members.specs.PartsWritable.{field_definition_writable, 
 use Rattle.graphql_values.specs.Placed.{Placed, Text}
 use Rattle.graphql_values.specs.TypeTree.{TypeTree}
 use Rattle.graphql_values.specs.DirectiveTree.{Directives, InputValues}
-use Rattle.graphql_ast.specs.TypeSystemTree.{FieldDefinitionTree, EnumValueTree, RootOperationTree, unplaced_field_definition, unplaced_enum_value, unplaced_root}
-use Rattle.graphql_grammar.specs.Meaning.{Meaning}
-use Rattle.graphql_grammar.specs.Kinds.{is_enum_value}
-use Rattle.graphql_grammar.specs.ValueGrammar.{constant}
-use Rattle.graphql_grammar.specs.TypeSystemGrammar.{field_definition_of, enum_value_definition_of, root_of, field_definition, enum_value_definition, root_operation_type_definition}
+use Rattle.graphql_parse_values.specs.in_ast.TypeSystemTree.{FieldDefinitionTree, EnumValueTree, RootOperationTree, unplaced_field_definition, unplaced_enum_value, unplaced_root}
+use Rattle.graphql_parse_values.specs.in_grammar.Meaning.{Meaning}
+use Rattle.graphql_parse_values.specs.in_grammar.Kinds.{is_enum_value}
+use Rattle.graphql_parse_values.specs.in_grammar.ValueGrammar.{constant}
+use Rattle.graphql_parse_values.specs.in_grammar.TypeSystemGrammar.{field_definition_of, enum_value_definition_of, root_of, field_definition, enum_value_definition, root_operation_type_definition}
 use Rattle.graphql_printed.specs.Printed.{any, ends_word, Printed}
 use Rattle.graphql_printed.specs.Literals.{LiteralsRead}
 use Rattle.graphql_printed.specs.WellFormed.{is_white_prefix, field_definition_well_formed, enum_value_well_formed, root_well_formed, field_definition_depth, enum_value_depth}

@@ -4,10 +4,10 @@ use Rattle.graphql_names.specs.NameSyntax as names
 use Rattle.graphql_printing.specs.Joined.{joined}
 use Rattle.graphql_literals.specs.ValueLayout.{type_text}
 use Rattle.graphql_values.specs.TypeTree.{TypeTree, NamedTree, NonNullNamedTree, ListTree, NonNullListTree, unplaced_type}
-use Rattle.graphql_grammar.specs.Meaning.{Meaning}
-use Rattle.graphql_grammar.specs.Kinds.{is_bang, is_open_bracket, is_close_bracket}
-use Rattle.graphql_grammar.specs.Rules.{Rule, mark, ◌<$>◌, ◌∣◌, nothing, between}
-use Rattle.graphql_grammar.specs.ValueGrammar.{name, non_null, type_of, any_type, type}
+use Rattle.graphql_parse_values.specs.in_grammar.Meaning.{Meaning}
+use Rattle.graphql_parse_values.specs.in_grammar.Kinds.{is_bang, is_open_bracket, is_close_bracket}
+use Rattle.graphql_parse_values.specs.in_grammar.Rules.{Rule, mark, ◌<$>◌, ◌∣◌, nothing, between}
+use Rattle.graphql_parse_values.specs.in_grammar.ValueGrammar.{name, non_null, type_of, any_type, type}
 use Rattle.graphql_printed.specs.Printed.{Follow, any, ends_word, Printed}
 use Rattle.graphql_printed.specs.WellFormed.{type_well_formed, type_depth}
 use Rattle.graphql_printed.proofs.Sequences.{seq, mapped, left, right, given, then_nothing, left_out, as_text, before_any}

@@ -7,10 +7,10 @@ use Rattle.graphql_literals.specs.ValueLayout.{value_text, item_texts, entry_tex
 use Rattle.graphql_values.specs.Placed.{Placed, Text}
 use Rattle.graphql_values.specs.Writable.{value_writable, items_writable, entries_writable}
 use Rattle.graphql_values.specs.ValueTree.{ValueTree, NullTree, EnumTree, VariableTree, StringTree, FloatTree, IntTree, BooleanTree, ListTree, ObjectTree, ItemTrees, no_items, item_then, EntryTrees, no_entries, entry_then, unplaced_value, unplaced_items, unplaced_entries}
-use Rattle.graphql_grammar.specs.Meaning.{Meaning}
-use Rattle.graphql_grammar.specs.Rules as rule
-use Rattle.graphql_grammar.specs.Rules.{Rule, mark, ◌·◌, ◌<$>◌, ◌∣◌, nothing, many, between}
-use Rattle.graphql_grammar.specs.ValueGrammar.{Const, with_variables, items_of, entries_of, list_value, object_field, object_value, any_value, value}
+use Rattle.graphql_parse_values.specs.in_grammar.Meaning.{Meaning}
+use Rattle.graphql_parse_values.specs.in_grammar.Rules as rule
+use Rattle.graphql_parse_values.specs.in_grammar.Rules.{Rule, mark, ◌·◌, ◌<$>◌, ◌∣◌, nothing, many, between}
+use Rattle.graphql_parse_values.specs.in_grammar.ValueGrammar.{Const, with_variables, items_of, entries_of, list_value, object_field, object_value, any_value, value}
 use Rattle.graphql_printed.specs.Printed.{any, ends_word, Printed}
 use Rattle.graphql_printed.specs.Literals.{LiteralsRead}
 use Rattle.graphql_printed.specs.WellFormed.{value_well_formed, items_well_formed, entries_well_formed, value_depth, items_depth, entries_depth}

@@ -3,9 +3,9 @@ use Rattle.std.proofs.Common.{◌≡◌, ℕ, List, [], refl, subst, append-nil}
 use Rattle.graphql_lexer.specs.Input.{Token, Ended}
 use Rattle.graphql_lexer.specs.Lex.{Lex}
 use Rattle.graphql_lexer.proofs.Lexed.{lex_unique}
-use Rattle.graphql_grammar.specs.Faults.{Symbol}
-use Rattle.graphql_grammar.specs.Rules.{Rule}
-use Rattle.graphql_grammar.specs.Grammar.{DerivesAs}
+use Rattle.graphql_parse_values.specs.in_grammar.Faults.{Symbol}
+use Rattle.graphql_parse_values.specs.in_grammar.Rules.{Rule}
+use Rattle.graphql_parse_values.specs.in_grammar.Grammar.{DerivesAs}
 use Rattle.graphql_printed.specs.Printed.{ends_word, before, Printed}
 use Rattle.graphql_printed.specs.ReadsAlone.{ReadsAlone}
 

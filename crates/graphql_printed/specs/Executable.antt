@@ -1,6 +1,6 @@
 -- Definitions that are operations and fragments (GraphQL, October 2021, section 2.2), well-formed, and how deep their brackets nest, at most.
 use Rattle.std.specs.Prelude.{ℕ, Bool, false}
-use Rattle.graphql_ast.specs.DefinitionTree.{DefinitionTree, Operation, Fragment}
+use Rattle.graphql_parse_values.specs.in_ast.DefinitionTree.{DefinitionTree, Operation, Fragment}
 use Rattle.graphql_printed.specs.WellFormed.{operation_well_formed, fragment_well_formed, operation_depth, fragment_depth}
 
 module _ {P : Type 0} where

@@ -8,7 +8,7 @@ use Rattle.graphql_lexer.specs.declared.token.TokenKind.TheVariants as t
 use Rattle.graphql_lexer.specs.declared.token.TokenKind.{TokenKind}
 use Rattle.graphql_lexer.specs.Input.{Token}
 use Rattle.graphql_lexer.specs.Terminals.{terminal_of}
-use Rattle.graphql_grammar.specs.Kinds.{is_string}
+use Rattle.graphql_parse_values.specs.in_grammar.Kinds.{is_string}
 use Rattle.graphql_lexer.specs.Tokens.{token_at}
 use Rattle.graphql_printed.specs.Printed.{ends_word}
 use Rattle.graphql_printed.specs.WellFormed.{is_white_prefix}

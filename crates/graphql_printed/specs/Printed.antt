@@ -14,7 +14,7 @@ use Rattle.graphql_lexer.specs.Lex.{Piece, ArePieces, tokens_among}
 use Rattle.graphql_names.specs.NameSyntax.{is_name_start}
 use Rattle.graphql_lexer.specs.Tokens.{is_ignored_byte}
 use Rattle.graphql_lexer.specs.Numbers.{goes_on}
-use Rattle.graphql_grammar.specs.Rules.{Rule}
+use Rattle.graphql_parse_values.specs.in_grammar.Rules.{Rule}
 
 -- what may stand behind a text
 abbrev pub Follow : Type 0

@@ -2,7 +2,7 @@
 use Rattle.std.specs.Prelude.{◌≡◌, ℕ, List}
 use Rattle.graphql_lexer.specs.Input.{Token}
 use Rattle.graphql_lexer.specs.Lex.{Lex}
-use Rattle.graphql_grammar.specs.Faults.{Symbol}
+use Rattle.graphql_parse_values.specs.in_grammar.Faults.{Symbol}
 
 -- The text's tokens are a text of the symbol, of a tree that is this one, places aside, and of no other tree.
 pub record ReadsAlone {A B : Type 0} (symbol : Symbol A) (unplaced : A → B) (text : List ℕ) (printed : B) : Type 0 where

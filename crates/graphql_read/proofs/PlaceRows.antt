@@ -8,8 +8,8 @@ use Rattle.graphql_values.specs.ValueTree.{ValueTree, EnumTree, VariableTree, Li
 use Rattle.graphql_values.specs.DirectiveTree.{Directives, InputValueTree}
 use Rattle.graphql_values.specs.SelectionTree.{FieldHead, SelectionTrees, FieldTree, SpreadTree, InlineTree, no_selections, selection_then}
 use Rattle.graphql_values.specs.OperationTree.{VariableDefinitionTree}
-use Rattle.graphql_ast.specs.TypeSystemTree.{FieldDefinitionTree, SchemaParts, ScalarParts, FieldsParts, UnionParts, EnumParts, InputObjectParts}
-use Rattle.graphql_ast.specs.DefinitionTree.{DefinitionTree, Operation, Fragment, DirectiveDefinition, Schema, ScalarType, ObjectType, InterfaceType, UnionType, EnumType, InputObjectType, ExtendSchema, ExtendScalar, ExtendObject, ExtendInterface, ExtendUnion, ExtendEnum, ExtendInputObject}
+use Rattle.graphql_parse_operations.specs.in_ast.TypeSystemTree.{FieldDefinitionTree, SchemaParts, ScalarParts, FieldsParts, UnionParts, EnumParts, InputObjectParts}
+use Rattle.graphql_parse_operations.specs.in_ast.DefinitionTree.{DefinitionTree, Operation, Fragment, DirectiveDefinition, Schema, ScalarType, ObjectType, InterfaceType, UnionType, EnumType, InputObjectType, ExtendSchema, ExtendScalar, ExtendObject, ExtendInterface, ExtendUnion, ExtendEnum, ExtendInputObject}
 use Rattle.graphql_read.specs.EachPlace.{all_in_type, all_in_selections, all_in_definition}
 
 -- no place below the number may fail

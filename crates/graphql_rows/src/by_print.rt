@@ -5,7 +5,7 @@ use crate::case::{Answer, Case, Tally, Way, compare};
 use crate::plan::{Plan, device, whole};
 use crate::plans::{compare_cut, plans};
 use crate::trees::by_name;
-use graphql_ast::{Cause, Serialize, Tree, WriteFault};
+use graphql_checked::graphql_ast::{Cause, Serialize, Tree, WriteFault};
 use graphql_row_files::{Problem, number};
 use std::alloc::{AllocError, Global};
 

@@ -3,8 +3,8 @@
 use crate::by_calls::answer_of;
 use crate::case::{Answer, Case, Tally, Way, compare};
 use crate::plan::whole;
-use graphql_ast::{FileId, Selection, Tree};
-use graphql_read::{
+use graphql_checked::graphql_ast::{FileId, Selection, Tree};
+use graphql_checked::graphql_read::{
     NextToken, ReadFault, SyntaxFaultKind, Token, next_token, parse_document, parse_selections,
     parse_type,
 };

@@ -2,7 +2,7 @@
 
 use crate::by_print::{Form, Named, by_tree};
 use crate::case::{Case, Tally};
-use graphql_ast::{
+use graphql_checked::graphql_ast::{
     Definition, Directive, DirectiveDefinition, DirectiveList, Document, FieldDefinition,
     FragmentDefinition, InputValueDefinition, Name, Node, NodeStr, ObjectTypeDefinition,
     OperationDefinition, OperationType, Selection, Type,
@@ -102,7 +102,7 @@ fn list_type(alloc: Global) -> Result<Type, AllocError> {
 fn selections(alloc: Global, is_there: bool) -> Result<Vec<Selection>, AllocError> {
     let mut selection_set = Vec::new(alloc);
     if is_there {
-        let field = graphql_ast::Field {
+        let field = graphql_checked::graphql_ast::Field {
             alias: None,
             name: Name::new_static_unchecked("field"),
             arguments: Vec::new(alloc),

@@ -7,9 +7,9 @@ use Rattle.graphql_values.specs.DirectiveTree.{directive_definition_tree}
 use Rattle.graphql_values.proofs.Decided.{through, pair_decides}
 use Rattle.graphql_values.proofs.DirectiveEquality.{directive_definition_eq-Decides}
 use Rattle.graphql_components.proofs.NamedEquality.{maps_decide}
-use Rattle.graphql_schema_types.specs.TypeView.{name_text, extended_type}
-use Rattle.graphql_schema_types.specs.Plain.{PlainSchema, plain, plain_type, plain_directive_definition}
-use Rattle.graphql_schema_types.proofs.TypeEquality.{type_eq-Decides, roots_eq-Decides}
+use Rattle.graphql_schema_building.specs.in_schema_types.TypeView.{name_text, extended_type}
+use Rattle.graphql_schema_building.specs.in_schema_types.Plain.{PlainSchema, plain, plain_type, plain_directive_definition}
+use Rattle.graphql_schema_building.proofs.in_schema_types.TypeEquality.{type_eq-Decides, roots_eq-Decides}
 use Rattle.graphql_schema.specs.SchemaOf.{schema_tree}
 use Rattle.graphql_schema.specs.declared.schema.Schema.{Schema}
 use Rattle.graphql_schema.specs.contracts.schema.SchemaPartialEq.TheImpl as schema_impl

@@ -13,12 +13,12 @@ use Rattle.graphql_values.specs.Placed.{Place, Text}
 use Rattle.graphql_components.specs.Lists.{is_among}
 use Rattle.graphql_components.specs.Names.{Entries, same_text}
 use Rattle.graphql_components.specs.Given.{Given, given_name}
-use Rattle.graphql_schema_types.specs.SchemaTree.{SchemaType, SchemaTree, same_kind}
-use Rattle.graphql_schema_types.specs.TypeView.{name_text, extended_type}
-use Rattle.graphql_schema_types.specs.Addresses.{under, type_at}
-use Rattle.graphql_schema_types.specs.declared.extended_type.ExtendedType.{ExtendedType}
-use Rattle.graphql_schema_types.specs.declared.type_kind.TypeKind.{TypeKind}
-use Rattle.graphql_schema_types.specs.declared.type_kind.TypeKind.TheVariants as kind
+use Rattle.graphql_schema_building.specs.in_schema_types.SchemaTree.{SchemaType, SchemaTree, same_kind}
+use Rattle.graphql_schema_building.specs.in_schema_types.TypeView.{name_text, extended_type}
+use Rattle.graphql_schema_building.specs.in_schema_types.Addresses.{under, type_at}
+use Rattle.graphql_schema_building.specs.in_schema_types.declared.extended_type.ExtendedType.{ExtendedType}
+use Rattle.graphql_schema_building.specs.in_schema_types.declared.type_kind.TypeKind.{TypeKind}
+use Rattle.graphql_schema_building.specs.in_schema_types.declared.type_kind.TypeKind.TheVariants as kind
 use Rattle.graphql_schema.specs.Implementers.{Naming, ImplementersTree, nobody, with_name, and_type, and_naming, naming, namings_of, namings, implementers_in}
 use Rattle.graphql_schema.specs.LookUps.{implements}
 use Rattle.graphql_schema.specs.Subtypes.{is_implementer, SubtypesAreImplementers}

@@ -5,8 +5,8 @@ use Rattle.std.specs.Str.{bytes_eq}
 use Rattle.graphql_values.specs.Placed.{Place, Text}
 use Rattle.graphql_components.specs.Lists.{is_among}
 use Rattle.graphql_components.specs.Given.{Given, given_name}
-use Rattle.graphql_schema_types.specs.SchemaTree.{SchemaType, SchemaTree, same_kind}
-use Rattle.graphql_schema_types.specs.declared.type_kind.TypeKind.TheVariants.{Object}
+use Rattle.graphql_schema_building.specs.in_schema_types.SchemaTree.{SchemaType, SchemaTree, same_kind}
+use Rattle.graphql_schema_building.specs.in_schema_types.declared.type_kind.TypeKind.TheVariants.{Object}
 
 -- a type, an object or an interface, names an interface
 pub record Naming : Type 0 where

@@ -5,8 +5,8 @@ pub use Rattle.std.specs.Map.Iter.{deref_pair}
 use Rattle.indexmap.specs.IndexMap.{IndexMap, get}
 use Rattle.graphql_names.specs.NameValue.{NameValue}
 use Rattle.graphql_components.specs.Names.{same_text}
-use Rattle.graphql_schema_types.specs.TypeView.{name_text, extended_type}
-use Rattle.graphql_schema_types.specs.declared.extended_type.ExtendedType.{ExtendedType}
+use Rattle.graphql_schema_building.specs.in_schema_types.TypeView.{name_text, extended_type}
+use Rattle.graphql_schema_building.specs.in_schema_types.declared.extended_type.ExtendedType.{ExtendedType}
 use Rattle.graphql_schema.specs.Implementers.{ImplementersTree, Naming, namings_of}
 use Rattle.graphql_schema.specs.declared.implementers.Implementers.{Implementers}
 use Rattle.graphql_schema.specs.declared.implementers.ImplementersNames.{ImplementersNames}

@@ -4,14 +4,14 @@ use Rattle.std.specs.Option.{option_map_or}
 use Rattle.graphql_values.specs.Placed.{Placed, Place}
 use Rattle.graphql_literals.specs.TypeTree.{TypeTree}
 use Rattle.graphql_literals.specs.TypeQueries.{inner_name}
-use Rattle.graphql_ast.specs.TypeSystemTree.{FieldDefinitionTree}
+use Rattle.graphql_schema_building.specs.in_ast.TypeSystemTree.{FieldDefinitionTree}
 use Rattle.graphql_components.specs.Lists.{is_among}
 use Rattle.graphql_components.specs.Given.{Given, given_name}
-use Rattle.graphql_schema_types.specs.SchemaTree.{SchemaType, SchemaTree, same_kind}
-use Rattle.graphql_schema_types.specs.Addresses.{under, type_at}
-use Rattle.graphql_schema_types.specs.TypeView.{extended_type}
-use Rattle.graphql_schema_types.specs.declared.type_kind.TypeKind.{TypeKind}
-use Rattle.graphql_schema_types.specs.declared.type_kind.TypeKind.TheVariants.{Interface, Union}
+use Rattle.graphql_schema_building.specs.in_schema_types.SchemaTree.{SchemaType, SchemaTree, same_kind}
+use Rattle.graphql_schema_building.specs.in_schema_types.Addresses.{under, type_at}
+use Rattle.graphql_schema_building.specs.in_schema_types.TypeView.{extended_type}
+use Rattle.graphql_schema_building.specs.in_schema_types.declared.type_kind.TypeKind.{TypeKind}
+use Rattle.graphql_schema_building.specs.in_schema_types.declared.type_kind.TypeKind.TheVariants.{Interface, Union}
 use Rattle.graphql_schema.specs.declared.field_lookup.FieldLookupError.{FieldLookupError}
 use Rattle.graphql_schema.specs.declared.field_lookup.FieldLookupError.TheVariants.{NoSuchType, NoSuchField}
 

@@ -3,8 +3,8 @@ use Rattle.std.specs.Prelude.{◌≡◌, ℕ, Bool, true, false, ◌||◌, List,
 use Rattle.std.specs.Option.{option_map_or}
 use Rattle.graphql_values.specs.Placed.{Place}
 use Rattle.graphql_components.specs.Lists.{is_among}
-use Rattle.graphql_schema_types.specs.SchemaTree.{SchemaTree}
-use Rattle.graphql_schema_types.specs.declared.type_kind.TypeKind.TheVariants.{Interface}
+use Rattle.graphql_schema_building.specs.in_schema_types.SchemaTree.{SchemaTree}
+use Rattle.graphql_schema_building.specs.in_schema_types.declared.type_kind.TypeKind.TheVariants.{Interface}
 use Rattle.graphql_schema.specs.Implementers.{ImplementersTree, namings, implementers_in}
 use Rattle.graphql_schema.specs.LookUps.{type_of_kind, is_subtype}
 

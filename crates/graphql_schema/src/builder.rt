@@ -1,24 +1,24 @@
 //! The builder of schemas.
 ghost use Rattle.std.specs.Prelude.{◌≡◌, ◌↔◌, ◌++◌, [], true, false, IfOk, IfErr, OnOk, Contains};
-ghost use Rattle.graphql_ast.specs.DefinitionTree.{document_tree};
-ghost use Rattle.graphql_ast.specs.Sources.{sources_of};
-ghost use Rattle.graphql_built_in.specs.Table.{built_in_definitions};
-ghost use Rattle.graphql_folding.specs.BuildErrors.{FoldingRules};
-ghost use Rattle.graphql_folding.specs.FaultView.{faults_of};
-ghost use Rattle.graphql_folding.specs.Fold.{fold};
+ghost use Rattle.graphql_schema_building.specs.in_ast.DefinitionTree.{document_tree};
+ghost use Rattle.graphql_schema_building.specs.in_ast.Sources.{sources_of};
+ghost use Rattle.graphql_schema_building.specs.in_built_in.Table.{built_in_definitions};
+ghost use Rattle.graphql_schema_building.specs.in_folding.BuildErrors.{FoldingRules};
+ghost use Rattle.graphql_schema_building.specs.in_folding.FaultView.{faults_of};
+ghost use Rattle.graphql_schema_building.specs.in_folding.Fold.{fold};
 ghost use Rattle.graphql_schema_building.specs.Building.{plain_settings, counted, folded, FailsIn, lent_names, IsAddRefusal, IsBuildRefusal};
 ghost use Rattle.graphql_schema_building.specs.BuiltView.{built_view};
 ghost use Rattle.graphql_schema_building.specs.Numbers.{HaveNumbers};
 ghost use Rattle.graphql_schema_building.specs.SourcesView.{sources_view, with_sources};
 ghost use Rattle.graphql_schema_building.specs.Waiting.{left_names};
-ghost use Rattle.graphql_type_folding.specs.OwnNames.{UnderOwnNames};
+ghost use Rattle.graphql_schema_building.specs.in_type_folding.OwnNames.{UnderOwnNames};
 ghost use Rattle.graphql_schema.specs.BuilderOf.{builder_value};
 ghost use Rattle.graphql_schema.specs.SchemaOf.{schema_tree};
 
 use crate::schema::Schema;
-use graphql_ast::{Document, SourceSpan};
+use graphql_schema_building::graphql_ast::{Document, SourceSpan};
 use graphql_components::Extensions;
-use graphql_folding::BuildError;
+use graphql_schema_building::graphql_folding::BuildError;
 use graphql_schema_building::{BuilderRefusal, Building, Built, OrphanExtensionTypes};
 use std::alloc::{AllocError, Global};
 

@@ -1,17 +1,17 @@
 //! Fields of types by name.
 ghost use Rattle.std.specs.Prelude.{◌≡◌, Some, IfOk, IfErr};
 ghost use Rattle.std.specs.Option.{option_map};
-ghost use Rattle.graphql_ast.specs.TypeSystemTree.{field_definition_tree};
+ghost use Rattle.graphql_schema_building.specs.in_ast.TypeSystemTree.{field_definition_tree};
 ghost use Rattle.graphql_components.specs.Given.{component_tree};
-ghost use Rattle.graphql_schema_types.specs.Addresses.{under};
-ghost use Rattle.graphql_schema_types.specs.TypeView.{extended_type};
+ghost use Rattle.graphql_schema_building.specs.in_schema_types.Addresses.{under};
+ghost use Rattle.graphql_schema_building.specs.in_schema_types.TypeView.{extended_type};
 ghost use Rattle.graphql_schema.specs.SchemaOf.{schema_tree};
 ghost use Rattle.graphql_schema.specs.LookUps.{explicit_field, FieldIsMissing};
 
 use crate::schema::Schema;
-use graphql_ast::{FieldDefinition, Name};
+use graphql_schema_building::graphql_ast::{FieldDefinition, Name};
 use graphql_components::Component;
-use graphql_schema_types::ExtendedType;
+use graphql_schema_building::graphql_schema_types::ExtendedType;
 
 /// Why a type has no field of a name.
 #[derive(Clone, Copy)]

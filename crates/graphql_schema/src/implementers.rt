@@ -4,15 +4,15 @@ ghost use Rattle.std.specs.Option.{option_map};
 ghost use Rattle.std.specs.Iterator.{YieldsFirstRef, item_count};
 ghost use Rattle.graphql_names.specs.NameValue.{NameValue};
 ghost use Rattle.graphql_components.specs.Given.{component_name_tree};
-ghost use Rattle.graphql_schema_types.specs.TypeView.{extended_type};
+ghost use Rattle.graphql_schema_building.specs.in_schema_types.TypeView.{extended_type};
 ghost use Rattle.graphql_schema.specs.SchemaOf.{schema_tree};
 ghost use Rattle.graphql_schema.specs.Implementers.{nobody, and_type, and_naming, naming, namings_of, namings, implementers_in};
 ghost use Rattle.graphql_schema.specs.ImplementersView.{implementers_tree, implementers_at, left_implementers, entry_namings, deref_pair};
 
 use crate::schema::Schema;
-use graphql_ast::Name;
+use graphql_schema_building::graphql_ast::Name;
 use graphql_components::ComponentName;
-use graphql_schema_types::ExtendedType;
+use graphql_schema_building::graphql_schema_types::ExtendedType;
 use indexmap::{IndexMap, IndexSet};
 use std::alloc::{AllocError, Global};
 

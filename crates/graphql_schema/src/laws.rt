@@ -1,7 +1,7 @@
 //! What equality of schemas means: exactly that they are the same, places, origins, sources and order aside. And the
 //! subtypes of an interface are its implementers.
 ghost use Rattle.std.specs.Prelude.{◌≡◌, ◌↔◌, IsTrue};
-ghost use Rattle.graphql_schema_types.specs.Plain.{plain};
+ghost use Rattle.graphql_schema_building.specs.in_schema_types.Plain.{plain};
 ghost use Rattle.graphql_schema.specs.SchemaOf.{schema_tree};
 ghost use Rattle.graphql_schema.specs.Subtypes.{SubtypesAreImplementers};
 

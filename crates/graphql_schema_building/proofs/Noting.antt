@@ -5,8 +5,8 @@ use Rattle.std.specs.Str.{bytes_eq}
 use Rattle.graphql_names.specs.NameValue.{NameValue}
 use Rattle.graphql_values.specs.Placed.{Place}
 use Rattle.graphql_components.proofs.Firsts.{kept_seen, kept_new}
-use Rattle.graphql_schema_types.specs.TypeParts.{TypeParts}
-use Rattle.graphql_schema_types.specs.declared.type_kind.TypeKind.{TypeKind}
+use Rattle.graphql_type_folding.specs.in_schema_types.TypeParts.{TypeParts}
+use Rattle.graphql_type_folding.specs.in_schema_types.declared.type_kind.TypeKind.{TypeKind}
 use Rattle.graphql_schema_building.specs.Noted.{NamedKind, named_kind, kind_view, parts_key, first_kinds}
 
 pub none_of : {A : Type 0} (o : Option A) → is_some o ≡ false → o ≡ None

@@ -1,8 +1,8 @@
 -- Lemmas on the first schema definition, and on the names of built-in types.
 use Rattle.std.proofs.Common.{◌≡◌, ℕ, true, List, [], ◌∷◌, ◌++◌, map, Option, None, Some, refl, is_some, slice_get, option_to_list, codes}
 use Rattle.std.specs.List.{flat_map}
-use Rattle.graphql_folding.specs.Listed.{Definitions, type_name, types_in}
-use Rattle.graphql_folding.specs.SchemaFold.{SchemaGiver, schema_here}
+use Rattle.graphql_type_folding.specs.in_folding.Listed.{Definitions, type_name, types_in}
+use Rattle.graphql_type_folding.specs.in_folding.SchemaFold.{SchemaGiver, schema_here}
 use Rattle.graphql_built_in.specs.Table.{built_in_definitions}
 
 pub some_first : (o : Option SchemaGiver) (rest : Definitions) → is_some o ≡ true → is_some (slice_get (option_to_list o ++ flat_map (λ d. option_to_list (schema_here d)) rest) 0) ≡ true

@@ -1,15 +1,15 @@
 //! Whether a list of definitions extends the schema, and whether it defines it.
 ghost use Rattle.std.specs.Prelude.{◌≡◌, map, is_some};
 ghost use Rattle.std.specs.List.{list_any};
-ghost use Rattle.graphql_ast.specs.DefinitionTree.{definition_tree};
-ghost use Rattle.graphql_folding.specs.SchemaFold.{schema_here, schema_extension_here, schema_definition_in, schema_is_defined, is_object_in};
-ghost use Rattle.graphql_folding.specs.ListedView.{listed_view};
-ghost use Rattle.graphql_schema_folding.specs.ListFold.{definitions_of};
-ghost use Rattle.graphql_schema_folding.specs.KindNamed.{kind_here, kind_named};
+ghost use Rattle.graphql_type_folding.specs.in_ast.DefinitionTree.{definition_tree};
+ghost use Rattle.graphql_type_folding.specs.in_folding.SchemaFold.{schema_here, schema_extension_here, schema_definition_in, schema_is_defined, is_object_in};
+ghost use Rattle.graphql_type_folding.specs.in_folding.ListedView.{listed_view};
+ghost use Rattle.graphql_type_folding.specs.in_schema_folding.ListFold.{definitions_of};
+ghost use Rattle.graphql_type_folding.specs.in_schema_folding.KindNamed.{kind_here, kind_named};
 
-use graphql_ast::{Definition, OperationType};
-use graphql_folding::{Listed, type_definition};
-use graphql_schema_types::TypeKind;
+use graphql_type_folding::graphql_ast::{Definition, OperationType};
+use graphql_type_folding::graphql_folding::{Listed, type_definition};
+use graphql_type_folding::graphql_schema_types::TypeKind;
 
 /// Whether the schema is extended.
 pub(crate) fn has_schema_extension(list: &[Listed]) -> bool

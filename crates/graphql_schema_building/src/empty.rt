@@ -1,17 +1,17 @@
 //! Definitions with nothing in them.
 ghost use Rattle.std.specs.Prelude.{◌≡◌, IfOk};
 ghost use Rattle.graphql_values.specs.Placed.{name_tree};
-ghost use Rattle.graphql_ast.specs.DefinitionTree.{definition_tree};
-ghost use Rattle.graphql_folding.specs.Adoption.{empty_schema};
+ghost use Rattle.graphql_type_folding.specs.in_ast.DefinitionTree.{definition_tree};
+ghost use Rattle.graphql_type_folding.specs.in_folding.Adoption.{empty_schema};
 ghost use Rattle.graphql_built_in.specs.Table.{built_in_definitions};
 ghost use Rattle.graphql_schema_building.specs.Settling.{empty_of};
 
-use graphql_ast::{
+use graphql_type_folding::graphql_ast::{
     Definition, DirectiveList, EnumTypeDefinition, InputObjectTypeDefinition,
     InterfaceTypeDefinition, Name, Node, ObjectTypeDefinition, ScalarTypeDefinition,
     SchemaDefinition, UnionTypeDefinition,
 };
-use graphql_schema_types::TypeKind;
+use graphql_type_folding::graphql_schema_types::TypeKind;
 use std::alloc::{AllocError, Global};
 
 /// The definition of a type of that kind and name, with nothing in it and no place.

@@ -1,10 +1,10 @@
 //! The sources of several documents.
 ghost use Rattle.std.specs.Prelude.{◌≡◌, nat_eq, OnOk};
-ghost use Rattle.graphql_ast.specs.Sources.{source_of};
+ghost use Rattle.graphql_type_folding.specs.in_ast.Sources.{source_of};
 ghost use Rattle.indexmap.specs.IndexMap.{insert_entry};
 ghost use Rattle.graphql_schema_building.specs.SourcesView.{sources_view, with_sources};
 
-use graphql_ast::{FileId, SourceFile};
+use graphql_type_folding::graphql_ast::{FileId, SourceFile};
 use indexmap::IndexMap;
 use std::alloc::AllocError;
 

@@ -7,3 +7,5 @@ pub mod FoldedSchema
 pub mod Choosing
 pub mod DirectiveFaults
 pub mod TypeFaults
+pub use Rattle.graphql_folding.proofs as in_folding
+pub use Rattle.graphql_folding.proofs.in_schema_types as in_schema_types

@@ -4,10 +4,10 @@ use Rattle.std.specs.List.{flat_map, find}
 use Rattle.std.specs.Option.{option_map, option_map_or}
 use Rattle.std.specs.Str.{bytes_eq}
 use Rattle.graphql_values.specs.Placed.{Place}
-use Rattle.graphql_ast.specs.DefinitionTree.{DefinitionTree}
+use Rattle.graphql_folding.specs.in_ast.DefinitionTree.{DefinitionTree}
 use Rattle.graphql_components.specs.Lists.{each_place_after}
-use Rattle.graphql_schema_types.specs.TypeParts.{TypeDefinition, type_here}
-use Rattle.graphql_schema_types.specs.declared.type_kind.TypeKind.{TypeKind}
+use Rattle.graphql_folding.specs.in_schema_types.TypeParts.{TypeDefinition, type_here}
+use Rattle.graphql_folding.specs.in_schema_types.declared.type_kind.TypeKind.{TypeKind}
 use Rattle.graphql_folding.specs.Listed.{Definitions, listed, numbered, type_name, types_in}
 use Rattle.graphql_schema_folding.specs.ListFold.{definitions_of}
 use Rattle.graphql_schema_folding.specs.KindNamed.{kind_here, kind_named}

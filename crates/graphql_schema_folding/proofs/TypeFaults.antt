@@ -5,15 +5,15 @@ use Rattle.std.specs.List.{flat_map}
 use Rattle.std.proofs.lemmas.List.Elements.{Contains-append_left, Contains-append_right, Contains-append_cases}
 use Rattle.graphql_values.specs.Placed.{Placed, Place, Text}
 use Rattle.graphql_values.specs.DirectiveTree.{InputValueTree}
-use Rattle.graphql_ast.specs.DefinitionTree.{DefinitionTree}
-use Rattle.graphql_ast.specs.TypeSystemTree.{FieldDefinitionTree, EnumValueTree}
+use Rattle.graphql_folding.specs.in_ast.DefinitionTree.{DefinitionTree}
+use Rattle.graphql_folding.specs.in_ast.TypeSystemTree.{FieldDefinitionTree, EnumValueTree}
 use Rattle.graphql_components.specs.Lists.{firsts, has_name, AtSomePlace}
 use Rattle.graphql_components.specs.Given.{Given, given_name}
 use Rattle.graphql_components.proofs.Places.{not_in_nil, Contains-cons, Contains-first, Contains-rest, found_at, only}
-use Rattle.graphql_schema_types.specs.SchemaTree.{same_kind}
-use Rattle.graphql_schema_types.specs.TypeParts.{TypeDefinition, type_here}
-use Rattle.graphql_schema_types.specs.declared.type_kind.TypeKind.{TypeKind}
-use Rattle.graphql_schema_types.specs.declared.type_kind.TypeKind.TheVariants.{Scalar, Object, Interface, Union, Enum, InputObject}
+use Rattle.graphql_folding.specs.in_schema_types.SchemaTree.{same_kind}
+use Rattle.graphql_folding.specs.in_schema_types.TypeParts.{TypeDefinition, type_here}
+use Rattle.graphql_folding.specs.in_schema_types.declared.type_kind.TypeKind.{TypeKind}
+use Rattle.graphql_folding.specs.in_schema_types.declared.type_kind.TypeKind.TheVariants.{Scalar, Object, Interface, Union, Enum, InputObject}
 use Rattle.graphql_folding.specs.Listed.{Definitions, Listed, numbered, type_name, types_in}
 use Rattle.graphql_folding.specs.Components.{parts_of, keyed_firsts, field_key, value_key, input_key}
 use Rattle.graphql_folding.specs.Collected.{AllComponents, collected_from}

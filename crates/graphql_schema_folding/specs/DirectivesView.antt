@@ -6,7 +6,7 @@ use Rattle.graphql_values.specs.Placed.{node_tree}
 use Rattle.graphql_values.specs.DirectiveTree.{directive_definition_tree}
 use Rattle.graphql_directives.specs.declared.directive.DirectiveDefinition.{DirectiveDefinition}
 use Rattle.graphql_components.specs.Names.{Entries, entries_of}
-use Rattle.graphql_schema_types.specs.TypeView.{name_text}
+use Rattle.graphql_folding.specs.in_schema_types.TypeView.{name_text}
 use Rattle.graphql_schema_folding.specs.DirectiveFold.{Directive}
 use Rattle.indexmap.specs.IndexMap.{IndexMap}
 

@@ -3,9 +3,9 @@ use Rattle.std.specs.Prelude.{ℕ, List, Option, None, Some, if◌then◌else◌
 use Rattle.std.specs.Option.{option_map, option_map_or}
 use Rattle.std.specs.Str.{bytes_eq}
 use Rattle.graphql_values.specs.Placed.{Place}
-use Rattle.graphql_ast.specs.DefinitionTree.{DefinitionTree}
-use Rattle.graphql_schema_types.specs.TypeParts.{type_here}
-use Rattle.graphql_schema_types.specs.declared.type_kind.TypeKind.{TypeKind}
+use Rattle.graphql_folding.specs.in_ast.DefinitionTree.{DefinitionTree}
+use Rattle.graphql_folding.specs.in_schema_types.TypeParts.{type_here}
+use Rattle.graphql_folding.specs.in_schema_types.declared.type_kind.TypeKind.{TypeKind}
 use Rattle.graphql_folding.specs.Listed.{Definitions, type_name, type_named}
 
 abbrev pub kind_named : List ℕ → Definitions → Option TypeKind

@@ -3,11 +3,11 @@ use Rattle.std.specs.Prelude.{◌≡◌, ◌↔◌, ◌⊎◌, ℕ, List, [], �
 use Rattle.std.specs.List.{flat_map}
 use Rattle.graphql_values.specs.Placed.{Place, Text}
 use Rattle.graphql_operations.specs.declared.operation.OperationType.TheVariants as operation
-use Rattle.graphql_ast.specs.TypeSystemTree.{SchemaParts}
+use Rattle.graphql_folding.specs.in_ast.TypeSystemTree.{SchemaParts}
 use Rattle.graphql_components.specs.Lists.{repeats}
 use Rattle.graphql_components.specs.Given.{Given}
 use Rattle.graphql_components.specs.Applied.{Applied}
-use Rattle.graphql_schema_types.specs.SchemaTree.{SchemaRoots}
+use Rattle.graphql_folding.specs.in_schema_types.SchemaTree.{SchemaRoots}
 use Rattle.graphql_folding.specs.Listed.{Definitions, Listed, numbered}
 use Rattle.graphql_folding.specs.Components.{all_given}
 use Rattle.graphql_folding.specs.SchemaFold.{Root, schema_base, schema_is_defined, implicit_roots, extends_schema, root_key, root_in, folded_schema}

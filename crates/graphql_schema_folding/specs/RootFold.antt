@@ -5,7 +5,7 @@ use Rattle.graphql_operations.specs.declared.operation.OperationType.{OperationT
 use Rattle.graphql_operations.specs.declared.operation.OperationType.TheVariants as operation
 use Rattle.graphql_components.specs.Given.{Given}
 use Rattle.graphql_components.specs.Applied.{Applied}
-use Rattle.graphql_schema_types.specs.SchemaTree.{SchemaRoots}
+use Rattle.graphql_folding.specs.in_schema_types.SchemaTree.{SchemaRoots}
 use Rattle.graphql_folding.specs.Components.{all_given}
 use Rattle.graphql_folding.specs.SchemaFold.{Root, root_key, root_in}
 use Rattle.graphql_folding.specs.BuildErrors.{Fault}

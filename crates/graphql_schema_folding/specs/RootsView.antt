@@ -7,13 +7,13 @@ use Rattle.graphql_names.specs.declared.name.Name.{Name}
 use Rattle.graphql_values.specs.Placed.{Place, text_tree}
 use Rattle.graphql_values.specs.DirectiveTree.{directive_tree}
 use Rattle.graphql_operations.specs.declared.operation.OperationType.{OperationType}
-use Rattle.graphql_ast.specs.DefinitionTree.{root_tree, schema_parts}
+use Rattle.graphql_folding.specs.in_ast.DefinitionTree.{root_tree, schema_parts}
 use Rattle.graphql_input_types.specs.declared.schema.SchemaDefinition.{SchemaDefinition}
 use Rattle.graphql_components.specs.Given.{Given, component_tree, component_name_tree}
 use Rattle.graphql_components.specs.declared.component.Component.{Component}
 use Rattle.graphql_components.specs.Applied.{applied_tree}
-use Rattle.graphql_schema_types.specs.SchemaTree.{SchemaRoots}
-use Rattle.graphql_schema_types.specs.declared.schema_definition.SchemaDefinition.{SchemaDefinition as Made}
+use Rattle.graphql_folding.specs.in_schema_types.SchemaTree.{SchemaRoots}
+use Rattle.graphql_folding.specs.in_schema_types.declared.schema_definition.SchemaDefinition.{SchemaDefinition as Made}
 use Rattle.graphql_folding.specs.SchemaFold.{Root, SchemaGiver}
 use Rattle.graphql_schema_folding.specs.RootFold.{AllOfSchema, RootNames}
 use Rattle.graphql_schema_folding.specs.declared.given.SchemaComponents.{SchemaComponents}

@@ -3,7 +3,7 @@ use Rattle.std.specs.Prelude.{ℕ, List}
 use Rattle.std.specs.List.{flat_map}
 use Rattle.graphql_values.specs.Placed.{Place}
 use Rattle.graphql_components.specs.Lists.{firsts}
-use Rattle.graphql_schema_types.specs.TypeParts.{TypeDefinition}
+use Rattle.graphql_folding.specs.in_schema_types.TypeParts.{TypeDefinition}
 use Rattle.graphql_folding.specs.Listed.{Definitions, Listed, numbered, type_name, types_in}
 use Rattle.graphql_folding.specs.Components.{parts_of}
 use Rattle.graphql_folding.specs.Collected.{collected_from}

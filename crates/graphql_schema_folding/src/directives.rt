@@ -3,8 +3,8 @@ ghost use Rattle.std.specs.Prelude.{◌≡◌, ◌++◌, ◌∷◌, [], None, So
 ghost use Rattle.indexmap.specs.IndexMap.{get};
 ghost use Rattle.graphql_names.specs.Node.{content};
 ghost use Rattle.graphql_components.specs.Names.{same_text};
-ghost use Rattle.graphql_schema_types.specs.TypeView.{name_text};
-ghost use Rattle.graphql_ast.specs.DefinitionTree.{definition_tree};
+ghost use Rattle.graphql_folding.specs.in_schema_types.TypeView.{name_text};
+ghost use Rattle.graphql_folding.specs.in_ast.DefinitionTree.{definition_tree};
 ghost use Rattle.graphql_folding.specs.Listed.{directive_name, directives_in};
 ghost use Rattle.graphql_folding.specs.Components.{keyed_firsts};
 ghost use Rattle.graphql_folding.specs.Fold.{folded_directives};
@@ -16,7 +16,7 @@ ghost use Rattle.graphql_schema_folding.specs.ListFold.{definitions_of};
 ghost use Rattle.graphql_schema_folding.specs.DirectiveFold.{directive_fault, directive_faults, chosen_of, chosen_firsts, Chooses, TellsDirectives};
 ghost use Rattle.graphql_schema_folding.specs.DirectivesView.{directive_view, directives_view, entries_view};
 
-use graphql_ast::{Definition, DirectiveDefinition, Name, Node, SourceSpan};
+use graphql_folding::graphql_ast::{Definition, DirectiveDefinition, Name, Node, SourceSpan};
 use graphql_folding::{BuildError, Listed};
 use indexmap::IndexMap;
 use std::alloc::{AllocError, Global};

@@ -3,7 +3,7 @@ ghost use Rattle.std.specs.Prelude.{◌≡◌, ◌++◌, [], map, OnOk};
 ghost use Rattle.std.specs.List.{flat_map};
 ghost use Rattle.graphql_values.specs.Placed.{node_tree};
 ghost use Rattle.graphql_values.specs.DirectiveTree.{directives_tree};
-ghost use Rattle.graphql_ast.specs.DefinitionTree.{root_tree};
+ghost use Rattle.graphql_folding.specs.in_ast.DefinitionTree.{root_tree};
 ghost use Rattle.graphql_components.specs.Given.{origin_tree};
 ghost use Rattle.graphql_folding.specs.Components.{all_given};
 ghost use Rattle.graphql_folding.specs.PartsView.{itself, given_contents};
@@ -13,7 +13,7 @@ ghost use Rattle.graphql_schema_folding.specs.RootFold.{all_from, all_and, Colle
 ghost use Rattle.graphql_schema_folding.specs.RootsView.{all_of_schema};
 
 use crate::defined::schema_extension;
-use graphql_ast::{Directive, DirectiveList, NamedType, Node, OperationType};
+use graphql_folding::graphql_ast::{Directive, DirectiveList, NamedType, Node, OperationType};
 use graphql_components::{Component, ComponentOrigin};
 use graphql_folding::Listed;
 use std::alloc::{AllocError, Global};

@@ -8,7 +8,7 @@ ghost use Rattle.graphql_schema_folding.specs.ListFold.{definitions_of};
 ghost use Rattle.graphql_schema_folding.specs.RootsView.{roots_given_by};
 
 use crate::defined::is_object;
-use graphql_ast::{Name, NamedType, Node, OperationType};
+use graphql_folding::graphql_ast::{Name, NamedType, Node, OperationType};
 use graphql_components::{Component, ComponentOrigin};
 use graphql_folding::Listed;
 use std::alloc::{AllocError, Global};

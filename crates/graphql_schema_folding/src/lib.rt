@@ -15,3 +15,7 @@ mod schema;
 
 pub use directives::fold_directives;
 pub use schema::fold_schema;
+
+// The crates beneath, for those above.
+pub use graphql_folding;
+pub use graphql_folding::{graphql_ast, graphql_schema_types};

@@ -8,7 +8,7 @@ use Rattle.graphql_values.specs.DirectiveTree.{input_value_tree, unplaced_input_
 use Rattle.graphql_values.proofs.Decided.{through, pair_decides, options_decide, name_decides, text_decides}
 use Rattle.graphql_values.proofs.DirectiveEquality.{input_value_eq-Decides}
 use Rattle.graphql_ast.specs.TypeSystemTree.{field_definition_tree, unplaced_field_definition, enum_value_tree, unplaced_enum_value}
-use Rattle.graphql_definitions.proofs.TreeEquality.{field_definition_eq-Decides, enum_value_eq-Decides}
+use Rattle.graphql_ast.proofs.in_definitions.TreeEquality.{field_definition_eq-Decides, enum_value_eq-Decides}
 use Rattle.graphql_components.specs.Given.{component_tree, component_name_tree, plain_given, given_name}
 use Rattle.graphql_components.proofs.NamedEquality.{maps_decide, sets_decide}
 use Rattle.graphql_components.proofs.ComponentEquality.{component_text, component_name_eq-Decides, directives_eq-Decides}

@@ -8,3 +8,5 @@ pub mod TypeParts
 pub mod Out
 pub mod Looks
 pub mod Addresses
+pub use Rattle.graphql_ast.specs as in_ast
+pub use Rattle.graphql_ast.specs.in_definitions as in_definitions

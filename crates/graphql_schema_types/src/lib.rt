@@ -24,3 +24,6 @@ pub use origins::Origins;
 pub use roots::RootOperations;
 pub use schema_definition::SchemaDefinition;
 pub use type_kind::TypeKind;
+
+// The crates beneath, for those above.
+pub use graphql_ast;

@@ -6,7 +6,7 @@ use Rattle.graphql_names.specs.NodeStrValue.{NodeStrValue}
 use Rattle.graphql_names.specs.declared.node.Node.{Node}
 use Rattle.graphql_values.specs.Placed.{Place, node_tree, text_tree}
 use Rattle.graphql_values.specs.DirectiveTree.{directive_tree, input_value_tree}
-use Rattle.graphql_ast.specs.TypeSystemTree.{field_definition_tree, enum_value_tree}
+use Rattle.graphql_schema_types.specs.in_ast.TypeSystemTree.{field_definition_tree, enum_value_tree}
 use Rattle.graphql_components.specs.Given.{ExtensionTree, origin_tree, component_tree, component_name_tree}
 use Rattle.graphql_components.specs.declared.component.Component.{Component}
 use Rattle.graphql_schema_types.specs.Out.{same_giver, given_by}

@@ -7,7 +7,7 @@ ghost use Rattle.graphql_components.specs.Applied.{applied_tree};
 ghost use Rattle.graphql_schema_writing.specs.Contents.{type_contents, bare_contents};
 ghost use Rattle.graphql_schema_writing.specs.ContentsView.{contents_view};
 
-use graphql_ast::{
+use graphql_schema_types::graphql_ast::{
     Directive, EnumValueDefinition, FieldDefinition, FileId, InputValueDefinition, Name, NodeStr,
     SourceSpan,
 };

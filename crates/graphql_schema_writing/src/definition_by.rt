@@ -3,14 +3,14 @@ ghost use Rattle.std.specs.Prelude.{◌≡◌, IfOk};
 ghost use Rattle.std.specs.Option.{option_map};
 ghost use Rattle.graphql_names.specs.Node.{content, place};
 ghost use Rattle.graphql_values.specs.Placed.{name_tree, text_tree};
-ghost use Rattle.graphql_ast.specs.DefinitionTree.{definition_tree};
+ghost use Rattle.graphql_schema_types.specs.in_ast.DefinitionTree.{definition_tree};
 ghost use Rattle.graphql_schema_types.specs.TypeParts.{definition_by};
 ghost use Rattle.graphql_schema_types.specs.declared.type_kind.TypeKind.TheVariants as kind;
 ghost use Rattle.graphql_schema_writing.specs.Contents.{named_parts};
 ghost use Rattle.graphql_schema_writing.specs.ContentsView.{parts_view};
 
 use crate::parts::Parts;
-use graphql_ast::{
+use graphql_schema_types::graphql_ast::{
     Definition, EnumTypeDefinition, InputObjectTypeDefinition, InterfaceTypeDefinition, Name, Node,
     NodeStr, ObjectTypeDefinition, ScalarTypeDefinition, SourceSpan, UnionTypeDefinition,
 };

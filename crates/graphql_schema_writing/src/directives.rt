@@ -1,10 +1,10 @@
 //! The definitions of directives.
 ghost use Rattle.std.specs.Prelude.{◌≡◌, ◌++◌, map, OnOk};
 ghost use Rattle.std.specs.List.{flat_map};
-ghost use Rattle.graphql_ast.specs.DefinitionTree.{definition_tree};
+ghost use Rattle.graphql_schema_types.specs.in_ast.DefinitionTree.{definition_tree};
 ghost use Rattle.graphql_schema_writing.specs.SchemaParts.{written_node};
 
-use graphql_ast::{Definition, DirectiveDefinition, Node};
+use graphql_schema_types::graphql_ast::{Definition, DirectiveDefinition, Node};
 use std::alloc::AllocError;
 
 /// Writes each definition of a directive that is not built in.

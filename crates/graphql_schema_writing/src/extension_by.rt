@@ -1,7 +1,7 @@
 //! An extension of a type of each kind.
 ghost use Rattle.std.specs.Prelude.{◌≡◌, IfOk};
 ghost use Rattle.graphql_values.specs.Placed.{name_tree};
-ghost use Rattle.graphql_ast.specs.DefinitionTree.{definition_tree};
+ghost use Rattle.graphql_schema_types.specs.in_ast.DefinitionTree.{definition_tree};
 ghost use Rattle.graphql_schema_types.specs.TypeParts.{extension_by};
 ghost use Rattle.graphql_schema_types.specs.declared.type_kind.TypeKind.TheVariants as kind;
 ghost use Rattle.graphql_schema_writing.specs.Contents.{named_parts};
@@ -9,7 +9,7 @@ ghost use Rattle.graphql_schema_writing.specs.ContentsView.{parts_view};
 
 use crate::definition_by::node_at;
 use crate::parts::Parts;
-use graphql_ast::{
+use graphql_schema_types::graphql_ast::{
     Definition, EnumTypeExtension, InputObjectTypeExtension, InterfaceTypeExtension, Name,
     ObjectTypeExtension, ScalarTypeExtension, SourceSpan, UnionTypeExtension,
 };

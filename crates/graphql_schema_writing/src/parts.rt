@@ -6,7 +6,7 @@ ghost use Rattle.graphql_schema_writing.specs.ContentsView.{HoldsNothing, conten
 
 use crate::contents::Contents;
 use crate::filing::{file_components, file_names, given_names, given_nodes};
-use graphql_ast::{
+use graphql_schema_types::graphql_ast::{
     Directive, DirectiveList, EnumValueDefinition, FieldDefinition, InputValueDefinition, Name,
     Node,
 };

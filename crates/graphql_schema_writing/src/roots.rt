@@ -2,12 +2,12 @@
 ghost use Rattle.std.specs.Prelude.{◌≡◌, ◌++◌, map, None, Some, IfOk, OnOk};
 ghost use Rattle.std.specs.Option.{option_map};
 ghost use Rattle.graphql_values.specs.Placed.{node_tree};
-ghost use Rattle.graphql_ast.specs.DefinitionTree.{root_tree};
+ghost use Rattle.graphql_schema_types.specs.in_ast.DefinitionTree.{root_tree};
 ghost use Rattle.graphql_components.specs.Given.{origin_tree, component_name_tree};
 ghost use Rattle.graphql_schema_types.specs.TypeView.{schema_roots};
 ghost use Rattle.graphql_schema_types.specs.Out.{same_giver, root_given_by, schema_parts_given_by};
 
-use graphql_ast::{NamedType, Node, OperationType};
+use graphql_schema_types::graphql_ast::{NamedType, Node, OperationType};
 use graphql_components::{ComponentName, ComponentOrigin};
 use graphql_schema_types::SchemaDefinition;
 use std::alloc::{AllocError, Global};

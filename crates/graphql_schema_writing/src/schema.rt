@@ -1,7 +1,7 @@
 //! The schema definition and its extensions.
 ghost use Rattle.std.specs.Prelude.{◌≡◌, ◌++◌, map, None, Some, IfOk, OnOk};
 ghost use Rattle.graphql_values.specs.DirectiveTree.{directive_tree};
-ghost use Rattle.graphql_ast.specs.DefinitionTree.{definition_tree};
+ghost use Rattle.graphql_schema_types.specs.in_ast.DefinitionTree.{definition_tree};
 ghost use Rattle.graphql_components.specs.Given.{extension_tree};
 ghost use Rattle.graphql_schema_types.specs.TypeView.{schema_roots};
 ghost use Rattle.graphql_schema_types.specs.Out.{written_schema};
@@ -14,7 +14,7 @@ use crate::filing::{file_components, given_nodes};
 use crate::implicit::is_left_out;
 use crate::roots::roots_of;
 use crate::types::shared_description;
-use graphql_ast::{
+use graphql_schema_types::graphql_ast::{
     Definition, Directive, DirectiveList, Name, Node, SchemaDefinition as WrittenSchema,
     SchemaExtension,
 };

@@ -2,7 +2,7 @@
 ghost use Rattle.std.specs.Prelude.{◌+◌, ◌<◌, ◌^◌};
 
 use crate::hold::{hold, same_text};
-use graphql_ast::{FileId, SourceSpan};
+use graphql_checked::graphql_ast::{FileId, SourceSpan};
 use graphql_checked::{
     CheckedDocument, CheckedSchema, Checker, Details, DiagnosticList, Layout, Limits, Refusal,
     RunFault,

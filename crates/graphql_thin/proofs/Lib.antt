@@ -12,3 +12,4 @@ pub mod RuleRows
 pub mod WholeTexts
 pub mod Reading
 pub mod TextRows
+pub use Rattle.graphql_read.proofs.in_grammar as in_grammar

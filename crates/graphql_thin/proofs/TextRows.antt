@@ -5,7 +5,7 @@ use Rattle.graphql_values.specs.Placed.{Placed, Place, Text}
 use Rattle.graphql_values.specs.TypeTree.{NamedTree}
 use Rattle.graphql_values.specs.SelectionTree.{FieldTree, selection_then, no_selections}
 use Rattle.graphql_operations.specs.declared.operation.OperationType.TheVariants.{Query}
-use Rattle.graphql_ast.specs.DefinitionTree.{DefinitionTree, Operation, ScalarType, ObjectType}
+use Rattle.graphql_read.specs.in_ast.DefinitionTree.{DefinitionTree, Operation, ScalarType, ObjectType}
 use Rattle.graphql_lexer.specs.Bytes.{run_len}
 use Rattle.graphql_lexer.specs.Tokens.{ignored_at, token_at}
 use Rattle.graphql_lexer.specs.Terminals.{words}
@@ -15,16 +15,16 @@ use Rattle.graphql_lexer.specs.Cursor.{Rest, rest_from, EndsAs}
 use Rattle.graphql_lexer.specs.declared.terminal.Terminal.{Terminal}
 use Rattle.graphql_lexer.specs.declared.terminal.Terminal.TheVariants as k
 use Rattle.graphql_lexer.proofs.Lexed.{ends_as}
-use Rattle.graphql_grammar.specs.Meaning.{Meaning, start}
-use Rattle.graphql_grammar.specs.Places.{place_in}
-use Rattle.graphql_grammar.specs.Locations.{location_of}
-use Rattle.graphql_grammar.specs.Reading.{whole, take, many, many_within, some}
-use Rattle.graphql_grammar.specs.ValueReading as v
-use Rattle.graphql_grammar.specs.OperationReading as o
-use Rattle.graphql_grammar.specs.TypeSystemReading as y
-use Rattle.graphql_grammar.specs.DocumentReading as d
-use Rattle.graphql_grammar.proofs.Laws.{document_found}
-use Rattle.graphql_parse_values.specs.Meanings.{in_file}
+use Rattle.graphql_read.specs.in_grammar.Meaning.{Meaning, start}
+use Rattle.graphql_read.specs.in_grammar.Places.{place_in}
+use Rattle.graphql_read.specs.in_grammar.Locations.{location_of}
+use Rattle.graphql_read.specs.in_grammar.Reading.{whole, take, many, many_within, some}
+use Rattle.graphql_read.specs.in_grammar.ValueReading as v
+use Rattle.graphql_read.specs.in_grammar.OperationReading as o
+use Rattle.graphql_read.specs.in_grammar.TypeSystemReading as y
+use Rattle.graphql_read.specs.in_grammar.DocumentReading as d
+use Rattle.graphql_read.proofs.in_grammar.Laws.{document_found}
+use Rattle.graphql_read.specs.in_parse_values.Meanings.{in_file}
 use Rattle.graphql_thin.specs.ReadText.{ReadsText}
 use Rattle.graphql_thin.specs.Thin.{schema_outside, document_outside, ReadsSchema, ReadsDocument, SchemaLeavesAt, DocumentLeavesAt}
 

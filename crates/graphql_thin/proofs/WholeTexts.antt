@@ -5,8 +5,8 @@ use Rattle.std.proofs.lemmas.List.{length-drop}
 use Rattle.graphql_names.specs.declared.span.FileId.{FileId}
 use Rattle.graphql_names.specs.declared.span.SourceSpan.{SourceSpan}
 use Rattle.graphql_values.specs.Placed.{Place}
-use Rattle.graphql_ast.specs.DefinitionTree.{DefinitionTree}
-use Rattle.graphql_ast.specs.Writable.{has_some}
+use Rattle.graphql_read.specs.in_ast.DefinitionTree.{DefinitionTree}
+use Rattle.graphql_read.specs.in_ast.Writable.{has_some}
 use Rattle.graphql_lexer.specs.Input.{Token, Ending, Ended, NoTokenAt}
 use Rattle.graphql_lexer.specs.Tokens.{ignored_at, token_at}
 use Rattle.graphql_lexer.specs.Lex.{Piece, piece_at, ArePieces, with_token, tokens_among, LexesFront, Lex}
@@ -14,13 +14,13 @@ use Rattle.graphql_lexer.specs.Cursor.{EndsAs}
 use Rattle.graphql_lexer.specs.declared.token.TokenKind.{TokenKind}
 use Rattle.graphql_lexer.proofs.Lexed.{lex_unique}
 use Rattle.graphql_lexer.proofs.Takes.{piece_takes}
-use Rattle.graphql_grammar.specs.Depth.{depth}
-use Rattle.graphql_grammar.specs.Faults as read
-use Rattle.graphql_grammar.specs.Faults.{Says}
-use Rattle.graphql_grammar.specs.Grammar.{Derives}
-use Rattle.graphql_grammar.proofs.Nests.{depth_front}
-use Rattle.graphql_grammar.proofs.Laws.{one_document}
-use Rattle.graphql_parse_values.specs.Meanings.{in_file}
+use Rattle.graphql_read.specs.in_grammar.Depth.{depth}
+use Rattle.graphql_read.specs.in_grammar.Faults as read
+use Rattle.graphql_read.specs.in_grammar.Faults.{Says}
+use Rattle.graphql_read.specs.in_grammar.Grammar.{Derives}
+use Rattle.graphql_read.proofs.in_grammar.Nests.{depth_front}
+use Rattle.graphql_read.proofs.in_grammar.Laws.{one_document}
+use Rattle.graphql_read.specs.in_parse_values.Meanings.{in_file}
 use Rattle.graphql_read.specs.Reads.{Reads, IsDue}
 use Rattle.graphql_read.specs.ReadFaults.{fault_at}
 use Rattle.graphql_read.specs.declared.fault.SyntaxFaultKind.{SyntaxFaultKind}

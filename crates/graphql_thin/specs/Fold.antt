@@ -7,10 +7,10 @@ use Rattle.std.proofs.Common.{lit<}
 use Rattle.graphql_names.specs.Places.{is_built_in}
 use Rattle.graphql_values.specs.Placed.{Placed, Place}
 use Rattle.graphql_values.specs.TypeTree.{TypeTree, NamedTree, NonNullNamedTree, ListTree, NonNullListTree}
-use Rattle.graphql_ast.specs.TypeSystemTree.{FieldDefinitionTree}
-use Rattle.graphql_ast.specs.DefinitionTree as tree
-use Rattle.graphql_ast.specs.DefinitionTree.{DefinitionTree}
-pub use Rattle.graphql_ast.specs.Queries.{definition_place}
+use Rattle.graphql_read.specs.in_ast.TypeSystemTree.{FieldDefinitionTree}
+use Rattle.graphql_read.specs.in_ast.DefinitionTree as tree
+use Rattle.graphql_read.specs.in_ast.DefinitionTree.{DefinitionTree}
+pub use Rattle.graphql_read.specs.in_ast.Queries.{definition_place}
 use Rattle.graphql_thin.specs.Lists.{firsts, is_among}
 use Rattle.graphql_thin.specs.Thin.{scalar_names}
 

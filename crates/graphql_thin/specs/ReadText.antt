@@ -1,12 +1,12 @@
 -- Which texts are read: they have a tree, and pass no bound.
 use Rattle.std.specs.Prelude.{ℕ, ◌+◌, ◌<◌, ◌≤◌, ◌^◌, List}
 use Rattle.graphql_values.specs.Placed.{Place}
-use Rattle.graphql_ast.specs.DefinitionTree.{DefinitionTree}
+use Rattle.graphql_read.specs.in_ast.DefinitionTree.{DefinitionTree}
 use Rattle.graphql_lexer.specs.Input.{Token}
 use Rattle.graphql_lexer.specs.Lex.{LexesFront, Lex}
-use Rattle.graphql_grammar.specs.Depth.{depth}
-use Rattle.graphql_grammar.specs.Grammar.{Derives}
-use Rattle.graphql_parse_values.specs.Meanings.{in_file}
+use Rattle.graphql_read.specs.in_grammar.Depth.{depth}
+use Rattle.graphql_read.specs.in_grammar.Grammar.{Derives}
+use Rattle.graphql_read.specs.in_parse_values.Meanings.{in_file}
 
 -- these tokens, of the text with this file number, are a document with this tree
 abbrev pub DerivesIn : ℕ → List Token → List (DefinitionTree Place) → Type 0

@@ -9,10 +9,10 @@ use Rattle.graphql_values.specs.OperationTree.{OperationTree}
 use Rattle.graphql_values.specs.Writable.{is_none_of, has_selection}
 use Rattle.graphql_operations.specs.declared.operation.OperationType.{OperationType}
 use Rattle.graphql_operations.specs.declared.operation.OperationType.TheVariants.{Query}
-use Rattle.graphql_ast.specs.TypeSystemTree.{FieldDefinitionTree, FieldsParts}
-use Rattle.graphql_ast.specs.DefinitionTree.{DefinitionTree, Operation, ObjectType}
-use Rattle.graphql_ast.specs.Queries.{definition_place}
-use Rattle.graphql_ast.specs.Writable.{has_some}
+use Rattle.graphql_read.specs.in_ast.TypeSystemTree.{FieldDefinitionTree, FieldsParts}
+use Rattle.graphql_read.specs.in_ast.DefinitionTree.{DefinitionTree, Operation, ObjectType}
+use Rattle.graphql_read.specs.in_ast.Queries.{definition_place}
+use Rattle.graphql_read.specs.in_ast.Writable.{has_some}
 use Rattle.graphql_thin.specs.Lists.{is_among}
 use Rattle.graphql_thin.specs.ReadText.{ReadsText}
 

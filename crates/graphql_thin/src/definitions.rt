@@ -4,11 +4,11 @@ ghost use Rattle.std.specs.Prelude.{◌≡◌, ◌++◌, ◌∷◌, [], map, IfO
 ghost use Rattle.std.specs.Option.{option_map};
 ghost use Rattle.graphql_names.specs.NameSyntax.{IsName};
 ghost use Rattle.graphql_values.specs.Placed.{node_tree};
-ghost use Rattle.graphql_ast.specs.TypeSystemTree.{field_definition_tree};
-ghost use Rattle.graphql_ast.specs.DefinitionTree.{definition_tree};
+ghost use Rattle.graphql_read.specs.in_ast.TypeSystemTree.{field_definition_tree};
+ghost use Rattle.graphql_read.specs.in_ast.DefinitionTree.{definition_tree};
 ghost use Rattle.graphql_thin.specs.Fold.{built_in_scalar, built_in_definitions, defined_name, is_object, fields_here};
 
-use graphql_ast::{
+use graphql_read::graphql_ast::{
     Definition, DirectiveList, FieldDefinition, FileId, Name, Node, ScalarTypeDefinition,
     SourceSpan,
 };

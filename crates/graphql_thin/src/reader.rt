@@ -1,8 +1,8 @@
 //! One text, read: its tree, or the fault of an unread text.
 
 ghost use Rattle.std.specs.Prelude.{◌≡◌, ◌<◌, ℕ, length, IfOk, IfErr, OnOk};
-ghost use Rattle.graphql_ast.specs.DefinitionTree.{document_tree};
-ghost use Rattle.graphql_grammar.specs.Faults as faults;
+ghost use Rattle.graphql_read.specs.in_ast.DefinitionTree.{document_tree};
+ghost use Rattle.graphql_read.specs.in_grammar.Faults as faults;
 ghost use Rattle.graphql_read.specs.ReadFaults.{fault_at, fault_view};
 ghost use Rattle.graphql_read.specs.declared.fault.ReadFault.TheVariants.{Nesting};
 ghost use Rattle.graphql_thin.specs.ReadText.{ReadsText, PassesNesting};
@@ -10,7 +10,7 @@ ghost use Rattle.graphql_thin.specs.Unread.{IsUnread, TellsUnread};
 
 use crate::faults::Details;
 use crate::unread::Unread;
-use graphql_ast::Document;
+use graphql_read::graphql_ast::Document;
 use graphql_names::{FileId, SourceSpan};
 use graphql_read::{ReadFault, SyntaxFault, parse_document};
 use std::alloc::Global;

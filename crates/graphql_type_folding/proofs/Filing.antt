@@ -8,16 +8,16 @@ use Rattle.std.proofs.lemmas.List.Elements.{filter-append}
 use Rattle.graphql_values.specs.Placed.{Place}
 use Rattle.graphql_components.specs.Given.{Given}
 use Rattle.graphql_components.specs.Lists.{firsts}
-use Rattle.graphql_schema_types.specs.SchemaTree.{SchemaType, same_kind}
-use Rattle.graphql_schema_types.specs.TypeParts.{TypeParts, TypeDefinition, type_extension_here}
-use Rattle.graphql_folding.specs.Components.{go_together, extension_here, keyed_firsts, field_key, value_key, input_key}
-use Rattle.graphql_folding.specs.Collected.{class_from, collected_from}
-use Rattle.graphql_folding.specs.Kept.{component_faults}
-use Rattle.graphql_folding.specs.Listed.{Listed, type_name}
-use Rattle.graphql_folding.specs.ListedView.{listed_view}
-use Rattle.graphql_folding.specs.Fold.{folded_type}
-use Rattle.graphql_folding.specs.BuildErrors.{Fault}
-use Rattle.graphql_folding.specs.declared.listed.Listed.{Listed as Rust}
+use Rattle.graphql_schema_folding.specs.in_schema_types.SchemaTree.{SchemaType, same_kind}
+use Rattle.graphql_schema_folding.specs.in_schema_types.TypeParts.{TypeParts, TypeDefinition, type_extension_here}
+use Rattle.graphql_schema_folding.specs.in_folding.Components.{go_together, extension_here, keyed_firsts, field_key, value_key, input_key}
+use Rattle.graphql_schema_folding.specs.in_folding.Collected.{class_from, collected_from}
+use Rattle.graphql_schema_folding.specs.in_folding.Kept.{component_faults}
+use Rattle.graphql_schema_folding.specs.in_folding.Listed.{Listed, type_name}
+use Rattle.graphql_schema_folding.specs.in_folding.ListedView.{listed_view}
+use Rattle.graphql_schema_folding.specs.in_folding.Fold.{folded_type}
+use Rattle.graphql_schema_folding.specs.in_folding.BuildErrors.{Fault}
+use Rattle.graphql_schema_folding.specs.in_folding.declared.listed.Listed.{Listed as Rust}
 use Rattle.graphql_schema_folding.specs.TypeFaults.{faults_of_type}
 use Rattle.graphql_type_folding.specs.Filing.{extends_name, extensions_named, Files, type_by, types_by, faults_by}
 

@@ -4,10 +4,10 @@ use Rattle.std.specs.List.{flat_map}
 use Rattle.graphql_values.specs.Placed.{Place}
 use Rattle.graphql_components.specs.Lists.{firsts}
 use Rattle.graphql_components.specs.Names.{Entries}
-use Rattle.graphql_schema_types.specs.SchemaTree.{SchemaType}
-use Rattle.graphql_folding.specs.Listed.{Definitions, Listed, numbered, type_name, types_in}
-use Rattle.graphql_folding.specs.Fold.{folded_type, folded_types}
-use Rattle.graphql_folding.specs.BuildErrors.{Fault}
+use Rattle.graphql_schema_folding.specs.in_schema_types.SchemaTree.{SchemaType}
+use Rattle.graphql_schema_folding.specs.in_folding.Listed.{Definitions, Listed, numbered, type_name, types_in}
+use Rattle.graphql_schema_folding.specs.in_folding.Fold.{folded_type, folded_types}
+use Rattle.graphql_schema_folding.specs.in_folding.BuildErrors.{Fault}
 use Rattle.graphql_schema_folding.specs.TypeFaults.{faults_of_type, faults_of_types, FailsInType}
 use Rattle.graphql_schema_folding.proofs.Listing.{definitions_numbered}
 use Rattle.graphql_schema_folding.proofs.Telling.{told_more}

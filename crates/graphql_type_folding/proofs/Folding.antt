@@ -6,16 +6,16 @@ use Rattle.std.specs.Str.{bytes_eq}
 use Rattle.std.proofs.lemmas.List.{append_assoc, append-nil}
 use Rattle.graphql_names.specs.NameValue.{NameValue}
 use Rattle.graphql_values.specs.Placed.{Place}
-use Rattle.graphql_ast.specs.DefinitionTree.{DefinitionTree}
+use Rattle.graphql_schema_folding.specs.in_ast.DefinitionTree.{DefinitionTree}
 use Rattle.graphql_components.specs.Lists.{firsts}
 use Rattle.graphql_components.specs.Names.{Entries}
 use Rattle.graphql_components.proofs.Firsts.{kept_seen, kept_new, is_some-firsts, firsts-push_seen, firsts-push_new}
-use Rattle.graphql_schema_types.specs.SchemaTree.{SchemaType}
-use Rattle.graphql_schema_types.specs.TypeParts.{TypeDefinition, type_here}
-use Rattle.graphql_schema_types.specs.TypeView.{extended_type}
-use Rattle.graphql_schema_types.specs.declared.extended_type.ExtendedType.{ExtendedType}
-use Rattle.graphql_folding.specs.Listed.{Listed, type_name, types_in}
-use Rattle.graphql_folding.specs.BuildErrors.{Fault}
+use Rattle.graphql_schema_folding.specs.in_schema_types.SchemaTree.{SchemaType}
+use Rattle.graphql_schema_folding.specs.in_schema_types.TypeParts.{TypeDefinition, type_here}
+use Rattle.graphql_schema_folding.specs.in_schema_types.TypeView.{extended_type}
+use Rattle.graphql_schema_folding.specs.in_schema_types.declared.extended_type.ExtendedType.{ExtendedType}
+use Rattle.graphql_schema_folding.specs.in_folding.Listed.{Listed, type_name, types_in}
+use Rattle.graphql_schema_folding.specs.in_folding.BuildErrors.{Fault}
 use Rattle.graphql_schema_folding.specs.TypeFaults.{faults_of_type}
 use Rattle.graphql_schema_folding.proofs.Gathering.{flat_map-push}
 use Rattle.graphql_type_folding.specs.Filing.{type_by, types_by, faults_by, FoldsOn}

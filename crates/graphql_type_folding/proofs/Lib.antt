@@ -4,3 +4,5 @@ pub mod Folding
 pub mod FoldedTypes
 pub mod OwnNames
 pub mod Lookups
+pub use Rattle.graphql_schema_folding.proofs as in_schema_folding
+pub use Rattle.graphql_schema_folding.proofs.in_schema_types as in_schema_types

@@ -5,8 +5,8 @@ use Rattle.std.specs.Map.{lookup}
 use Rattle.std.specs.Option.{option_map}
 use Rattle.std.specs.Str.{bytes_eq}
 use Rattle.graphql_components.specs.Lists.{firsts}
-use Rattle.graphql_folding.specs.Listed.{Definitions, numbered, type_name, type_named, types_in}
-use Rattle.graphql_folding.specs.Fold.{folded_type, folded_types}
+use Rattle.graphql_schema_folding.specs.in_folding.Listed.{Definitions, numbered, type_name, type_named, types_in}
+use Rattle.graphql_schema_folding.specs.in_folding.Fold.{folded_type, folded_types}
 use Rattle.graphql_schema_folding.proofs.Named.{named}
 use Rattle.graphql_schema_folding.proofs.Choosing.{find_firsts}
 

@@ -12,10 +12,10 @@ use Rattle.graphql_components.specs.Lists.{each_place_after, firsts, has_name}
 use Rattle.graphql_components.specs.Names.{Entries}
 use Rattle.graphql_components.specs.Given.{given_name}
 use Rattle.graphql_components.proofs.Firsts.{has_name-push}
-use Rattle.graphql_schema_types.specs.TypeParts.{TypeDefinition}
-use Rattle.graphql_folding.specs.Listed.{Definitions, Listed, numbered, type_name, types_in, directive_name, directives_in}
-use Rattle.graphql_folding.specs.Components.{components, field_key, value_key, input_key}
-use Rattle.graphql_folding.specs.Fold.{folded_type, folded_types, chosen_directive, folded_directives, fold}
+use Rattle.graphql_schema_folding.specs.in_schema_types.TypeParts.{TypeDefinition}
+use Rattle.graphql_schema_folding.specs.in_folding.Listed.{Definitions, Listed, numbered, type_name, types_in, directive_name, directives_in}
+use Rattle.graphql_schema_folding.specs.in_folding.Components.{components, field_key, value_key, input_key}
+use Rattle.graphql_schema_folding.specs.in_folding.Fold.{folded_type, folded_types, chosen_directive, folded_directives, fold}
 use Rattle.graphql_type_folding.specs.OwnNames.{AreNamed, HasOwnNames, TypesUnderOwnNames, UnderOwnNames}
 
 module _ {X : Type 0} (key : X → List ℕ) where

@@ -10,13 +10,13 @@ use Rattle.graphql_names.specs.NameValue.{NameValue}
 use Rattle.graphql_values.specs.Placed.{Place}
 use Rattle.graphql_components.specs.Lists.{firsts}
 use Rattle.graphql_components.specs.Names.{Entries}
-use Rattle.graphql_schema_types.specs.SchemaTree.{SchemaType}
-use Rattle.graphql_schema_types.specs.TypeParts.{TypeDefinition, type_extension_here}
-use Rattle.graphql_folding.specs.Listed.{Listed, type_name}
-use Rattle.graphql_folding.specs.ListedView.{listed_view}
-use Rattle.graphql_folding.specs.Fold.{folded_type}
-use Rattle.graphql_folding.specs.BuildErrors.{Fault}
-use Rattle.graphql_folding.specs.declared.listed.Listed.{Listed as Rust}
+use Rattle.graphql_schema_folding.specs.in_schema_types.SchemaTree.{SchemaType}
+use Rattle.graphql_schema_folding.specs.in_schema_types.TypeParts.{TypeDefinition, type_extension_here}
+use Rattle.graphql_schema_folding.specs.in_folding.Listed.{Listed, type_name}
+use Rattle.graphql_schema_folding.specs.in_folding.ListedView.{listed_view}
+use Rattle.graphql_schema_folding.specs.in_folding.Fold.{folded_type}
+use Rattle.graphql_schema_folding.specs.in_folding.BuildErrors.{Fault}
+use Rattle.graphql_schema_folding.specs.in_folding.declared.listed.Listed.{Listed as Rust}
 use Rattle.graphql_schema_folding.specs.TypeFaults.{faults_of_type}
 
 -- ---- extensions by name

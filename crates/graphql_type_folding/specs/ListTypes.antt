@@ -4,11 +4,11 @@ use Rattle.std.specs.List.{flat_map}
 use Rattle.graphql_values.specs.Placed.{Place}
 use Rattle.graphql_components.specs.Lists.{firsts}
 use Rattle.graphql_components.specs.Names.{Entries}
-use Rattle.graphql_schema_types.specs.SchemaTree.{SchemaType}
-use Rattle.graphql_schema_types.specs.TypeParts.{TypeDefinition}
-use Rattle.graphql_folding.specs.Listed.{Definitions, Listed, numbered, type_name, types_in}
-use Rattle.graphql_folding.specs.Fold.{folded_type, folded_types}
-use Rattle.graphql_folding.specs.BuildErrors.{Fault}
+use Rattle.graphql_schema_folding.specs.in_schema_types.SchemaTree.{SchemaType}
+use Rattle.graphql_schema_folding.specs.in_schema_types.TypeParts.{TypeDefinition}
+use Rattle.graphql_schema_folding.specs.in_folding.Listed.{Definitions, Listed, numbered, type_name, types_in}
+use Rattle.graphql_schema_folding.specs.in_folding.Fold.{folded_type, folded_types}
+use Rattle.graphql_schema_folding.specs.in_folding.BuildErrors.{Fault}
 use Rattle.graphql_schema_folding.specs.ListFold.{definitions_of}
 use Rattle.graphql_schema_folding.specs.TypeFaults.{faults_of_type, FailsInType}
 

@@ -6,9 +6,9 @@ use Rattle.std.specs.Str.{bytes_eq}
 use Rattle.graphql_values.specs.Placed.{Place}
 use Rattle.graphql_components.specs.Names.{Entries}
 use Rattle.graphql_components.specs.Given.{given_name}
-use Rattle.graphql_schema_types.specs.SchemaTree.{SchemaType, SchemaTree}
-use Rattle.graphql_folding.specs.Listed.{directive_name}
-use Rattle.graphql_folding.specs.Components.{field_key, value_key, input_key}
+use Rattle.graphql_schema_folding.specs.in_schema_types.SchemaTree.{SchemaType, SchemaTree}
+use Rattle.graphql_schema_folding.specs.in_folding.Listed.{directive_name}
+use Rattle.graphql_schema_folding.specs.in_folding.Components.{field_key, value_key, input_key}
 
 -- the keys are the names of what stands under them, and no two are the same
 abbrev pub AreNamed : {V : Type 0} → (V → List ℕ) → Entries V → Type 0

@@ -3,13 +3,13 @@ ghost use Rattle.std.specs.Prelude.{◌≡◌, ℕ, ◌++◌, ◌∷◌, [], Lis
 ghost use Rattle.std.specs.Str.{bytes_eq};
 ghost use Rattle.indexmap.specs.IndexMap.{get};
 ghost use Rattle.graphql_components.specs.Names.{same_text};
-ghost use Rattle.graphql_schema_types.specs.TypeView.{name_text};
-ghost use Rattle.graphql_folding.specs.ListedView.{listed_view};
+ghost use Rattle.graphql_schema_folding.specs.in_schema_types.TypeView.{name_text};
+ghost use Rattle.graphql_schema_folding.specs.in_folding.ListedView.{listed_view};
 ghost use Rattle.graphql_type_folding.specs.Filing.{items_under, extensions_under, extensions_named, Files};
 
 use crate::insert::insert_new;
-use graphql_ast::Name;
-use graphql_folding::{Listed, extension_parts};
+use graphql_schema_folding::graphql_ast::Name;
+use graphql_schema_folding::graphql_folding::{Listed, extension_parts};
 use indexmap::IndexMap;
 use std::alloc::{AllocError, Global};
 

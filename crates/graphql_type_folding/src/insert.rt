@@ -2,9 +2,9 @@
 ghost use Rattle.std.specs.Prelude.{◌≡◌, ◌++◌, ◌∷◌, [], None, OnOk};
 ghost use Rattle.indexmap.specs.IndexMap.{get};
 ghost use Rattle.graphql_components.specs.Names.{same_text};
-ghost use Rattle.graphql_schema_types.specs.TypeView.{name_text};
+ghost use Rattle.graphql_schema_folding.specs.in_schema_types.TypeView.{name_text};
 
-use graphql_ast::Name;
+use graphql_schema_folding::graphql_ast::Name;
 use indexmap::IndexMap;
 use std::alloc::AllocError;
 

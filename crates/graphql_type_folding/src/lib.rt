@@ -12,3 +12,7 @@ mod insert;
 mod types;
 
 pub use types::fold_types;
+
+// The crates beneath, for those above.
+pub use graphql_schema_folding;
+pub use graphql_schema_folding::{graphql_ast, graphql_folding, graphql_schema_types};

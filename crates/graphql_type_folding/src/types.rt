@@ -1,11 +1,11 @@
 //! What the definitions of types fold to.
 ghost use Rattle.std.specs.Prelude.{◌≡◌, ◌++◌, ◌∷◌, [], map, IfOk, OnOk};
-ghost use Rattle.graphql_ast.specs.DefinitionTree.{definition_tree};
-ghost use Rattle.graphql_schema_types.specs.SchemaView.{types_view};
-ghost use Rattle.graphql_folding.specs.FaultView.{faults_of};
-ghost use Rattle.graphql_folding.specs.Listed.{types_in};
-ghost use Rattle.graphql_folding.specs.ListedView.{listed_view};
-ghost use Rattle.graphql_folding.specs.Made.{defined_view, IsDefinition};
+ghost use Rattle.graphql_schema_folding.specs.in_ast.DefinitionTree.{definition_tree};
+ghost use Rattle.graphql_schema_folding.specs.in_schema_types.SchemaView.{types_view};
+ghost use Rattle.graphql_schema_folding.specs.in_folding.FaultView.{faults_of};
+ghost use Rattle.graphql_schema_folding.specs.in_folding.Listed.{types_in};
+ghost use Rattle.graphql_schema_folding.specs.in_folding.ListedView.{listed_view};
+ghost use Rattle.graphql_schema_folding.specs.in_folding.Made.{defined_view, IsDefinition};
 ghost use Rattle.graphql_schema_folding.specs.ListFold.{definitions_of};
 ghost use Rattle.graphql_type_folding.specs.ListTypes.{types_from, faults_from, FoldsTypes, TellsTypes};
 ghost use Rattle.graphql_type_folding.specs.OwnNames.{TypesUnderOwnNames};
@@ -13,9 +13,9 @@ ghost use Rattle.graphql_type_folding.specs.Filing.{extensions_under, types_by, 
 
 use crate::extensions::{extensions_of, index_extensions};
 use crate::insert::insert_new;
-use graphql_ast::{Definition, Name, SourceSpan};
-use graphql_folding::{BuildError, Defined, Listed, fold_type, type_definition};
-use graphql_schema_types::ExtendedType;
+use graphql_schema_folding::graphql_ast::{Definition, Name, SourceSpan};
+use graphql_schema_folding::graphql_folding::{BuildError, Defined, Listed, fold_type, type_definition};
+use graphql_schema_folding::graphql_schema_types::ExtendedType;
 use indexmap::IndexMap;
 use std::alloc::{AllocError, Global};
 

@@ -1,8 +1,8 @@
 use Rattle.std.proofs.Common.{le_refl}
 use Rattle.graphql_literals.specs.ValueLayout.{type_text}
 use Rattle.graphql_values.specs.TypeTree.{unplaced_type}
-use Rattle.graphql_grammar.specs.ValueGrammar.{type}
-use Rattle.graphql_grammar.proofs.Laws.{one_type}
+use Rattle.graphql_parse_values.specs.in_grammar.ValueGrammar.{type}
+use Rattle.graphql_parse_values.proofs.in_grammar.Laws.{one_type}
 use Rattle.graphql_printed.specs.WellFormed.{type_depth}
 use Rattle.graphql_printed.proofs.Types.{type_read}
 use Rattle.graphql_printed.proofs.Whole.{reads_alone}

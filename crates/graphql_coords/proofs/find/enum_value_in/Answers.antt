@@ -3,15 +3,15 @@ use Rattle.graphql_coords.specs.LookUpView.{answer}
 use Rattle.graphql_coords.specs.declared.lookup_answers.SchemaLookupError.TheVariants as error
 use Rattle.graphql_schema.proofs.Lookups.{got}
 use Rattle.graphql_coords.proofs.Answering.{answer_ok_or}
-use Rattle.graphql_ast.specs.TypeSystemTree.{enum_value_tree}
+use Rattle.graphql_schema.specs.in_ast.TypeSystemTree.{enum_value_tree}
 use Rattle.graphql_type_members.specs.declared.enum_value.EnumValueDefinition.{EnumValueDefinition}
 use Rattle.graphql_components.specs.Names.{entries_of}
 use Rattle.graphql_components.specs.Given.{component_tree}
 use Rattle.graphql_components.specs.declared.component.Component.{Component}
-use Rattle.graphql_schema_types.specs.TypeView.{name_text, extended_type}
-use Rattle.graphql_schema_types.specs.Addresses.{under}
+use Rattle.graphql_schema.specs.in_schema_types.TypeView.{name_text, extended_type}
+use Rattle.graphql_schema.specs.in_schema_types.Addresses.{under}
 use Rattle.graphql_coords.specs.LookUps.{enum_value_in}
-use Rattle.graphql_schema_types.specs.declared.kinds.EnumType.{EnumType}
+use Rattle.graphql_schema.specs.in_schema_types.declared.kinds.EnumType.{EnumType}
 use Rattle.graphql_coords.proofs.find.enum_value_in.Goals as goal
 
 pub returns-in-Enum : goal.returns-in-Enum

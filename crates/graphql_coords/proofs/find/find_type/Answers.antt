@@ -3,8 +3,8 @@ use Rattle.graphql_coords.specs.LookUpView.{answer}
 use Rattle.graphql_coords.specs.declared.lookup_answers.SchemaLookupError.TheVariants as error
 use Rattle.graphql_schema.proofs.Lookups.{got}
 use Rattle.graphql_coords.proofs.Answering.{answer_ok_or}
-use Rattle.graphql_schema_types.specs.TypeView.{extended_type}
-use Rattle.graphql_schema_types.specs.declared.extended_type.ExtendedType.{ExtendedType}
+use Rattle.graphql_schema.specs.in_schema_types.TypeView.{extended_type}
+use Rattle.graphql_schema.specs.in_schema_types.declared.extended_type.ExtendedType.{ExtendedType}
 use Rattle.graphql_coords.proofs.find.find_type.Goals as goal
 
 pub returns : goal.returns

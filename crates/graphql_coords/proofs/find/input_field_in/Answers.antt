@@ -8,10 +8,10 @@ use Rattle.graphql_directives.specs.declared.input_value.InputValueDefinition.{I
 use Rattle.graphql_components.specs.Names.{entries_of}
 use Rattle.graphql_components.specs.Given.{component_tree}
 use Rattle.graphql_components.specs.declared.component.Component.{Component}
-use Rattle.graphql_schema_types.specs.TypeView.{name_text, extended_type}
-use Rattle.graphql_schema_types.specs.Addresses.{under}
+use Rattle.graphql_schema.specs.in_schema_types.TypeView.{name_text, extended_type}
+use Rattle.graphql_schema.specs.in_schema_types.Addresses.{under}
 use Rattle.graphql_coords.specs.LookUps.{input_field_in}
-use Rattle.graphql_schema_types.specs.declared.kinds.InputObjectType.{InputObjectType}
+use Rattle.graphql_schema.specs.in_schema_types.declared.kinds.InputObjectType.{InputObjectType}
 use Rattle.graphql_coords.proofs.find.input_field_in.Goals as goal
 
 pub returns-in-InputObject : goal.returns-in-InputObject

@@ -1,7 +1,7 @@
 use Rattle.std.proofs.Common.{map}
 use Rattle.std.proofs.lemmas.Result.{IfOk-weaker}
-use Rattle.graphql_folding.specs.FaultView.{faults_of}
-use Rattle.graphql_folding.specs.ListedView.{listed_view}
+use Rattle.graphql_schema_folding.specs.in_folding.FaultView.{faults_of}
+use Rattle.graphql_schema_folding.specs.in_folding.ListedView.{listed_view}
 use Rattle.graphql_schema_folding.specs.ListFold.{definitions_of}
 use Rattle.graphql_folding_rules.specs.SeenView.{seen_view}
 use Rattle.graphql_folding_rules.proofs.Telling.{tells_misplaced}

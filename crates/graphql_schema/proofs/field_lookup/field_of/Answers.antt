@@ -1,11 +1,11 @@
 use Rattle.std.proofs.Common.{sym, ap, ◌∙◌}
-use Rattle.graphql_ast.specs.TypeSystemTree.{field_definition_tree}
+use Rattle.graphql_schema_building.specs.in_ast.TypeSystemTree.{field_definition_tree}
 use Rattle.graphql_components.specs.Names.{entries_of}
 use Rattle.graphql_components.specs.Given.{component_tree}
-use Rattle.graphql_schema_types.specs.TypeView.{name_text, extended_type}
-use Rattle.graphql_schema_types.specs.Addresses.{under}
-use Rattle.graphql_schema_types.specs.declared.kinds.ObjectType.{ObjectType}
-use Rattle.graphql_schema_types.specs.declared.kinds.InterfaceType.{InterfaceType}
+use Rattle.graphql_schema_building.specs.in_schema_types.TypeView.{name_text, extended_type}
+use Rattle.graphql_schema_building.specs.in_schema_types.Addresses.{under}
+use Rattle.graphql_schema_building.specs.in_schema_types.declared.kinds.ObjectType.{ObjectType}
+use Rattle.graphql_schema_building.specs.in_schema_types.declared.kinds.InterfaceType.{InterfaceType}
 use Rattle.graphql_schema.proofs.Lookups.{got}
 use Rattle.graphql_schema.proofs.field_lookup.field_of.Goals as goal
 

@@ -1,12 +1,12 @@
 use Rattle.std.proofs.Common.{◌<◌, ◌+◌, ◌∷◌, List, Option, map, drop, length, sym, ap, ◌∙◌, arith}
 use Rattle.std.proofs.lemmas.List.{at_drop_more}
-use Rattle.graphql_ast.specs.DefinitionTree.{definition_tree}
-use Rattle.graphql_schema_types.specs.declared.type_kind.TypeKind.{TypeKind}
-use Rattle.graphql_folding.specs.ListedView.{listed_view}
-use Rattle.graphql_folding.specs.declared.listed.Listed.{Listed}
-use Rattle.graphql_schema_folding.specs.ListFold.{definitions_of}
-use Rattle.graphql_schema_folding.specs.KindNamed.{kind_named}
-use Rattle.graphql_schema_folding.proofs.Listing.{kind_some}
+use Rattle.graphql_type_folding.specs.in_ast.DefinitionTree.{definition_tree}
+use Rattle.graphql_type_folding.specs.in_schema_types.declared.type_kind.TypeKind.{TypeKind}
+use Rattle.graphql_type_folding.specs.in_folding.ListedView.{listed_view}
+use Rattle.graphql_type_folding.specs.in_folding.declared.listed.Listed.{Listed}
+use Rattle.graphql_type_folding.specs.in_schema_folding.ListFold.{definitions_of}
+use Rattle.graphql_type_folding.specs.in_schema_folding.KindNamed.{kind_named}
+use Rattle.graphql_type_folding.proofs.in_schema_folding.Listing.{kind_some}
 use Rattle.graphql_schema_building.proofs.defined.kind_named.Goals as goal
 
 pub returns-in-Some : goal.returns-in-Some

@@ -1,7 +1,7 @@
 use Rattle.std.proofs.Common.{◌≡◌, drop, map}
-use Rattle.graphql_folding.specs.ListedView.{listed_view}
-use Rattle.graphql_schema_folding.specs.ListFold.{definitions_of}
-use Rattle.graphql_schema_folding.specs.KindNamed.{kind_named}
+use Rattle.graphql_type_folding.specs.in_folding.ListedView.{listed_view}
+use Rattle.graphql_type_folding.specs.in_schema_folding.ListFold.{definitions_of}
+use Rattle.graphql_type_folding.specs.in_schema_folding.KindNamed.{kind_named}
 use Rattle.graphql_schema_building.proofs.defined.kind_named.Given as goal
 
 abbrev pub invariant-loop-listed : goal.invariant-loop-listed

@@ -1,6 +1,6 @@
 use Rattle.std.proofs.Common.{◌++◌, None, Some, map, ap, ◌∙◌}
 use Rattle.std.proofs.lemmas.Result.{IfOk-weaker}
-use Rattle.graphql_schema_types.specs.TypeView.{schema_roots}
+use Rattle.graphql_folding.specs.in_schema_types.TypeView.{schema_roots}
 use Rattle.graphql_folding.specs.FaultView.{faults_of}
 use Rattle.graphql_folding.specs.ListedView.{listed_view}
 use Rattle.graphql_schema_folding.specs.ListFold.{roots_from, root_faults}

@@ -1,5 +1,5 @@
 use Rattle.graphql_values.specs.DirectiveTree.{directive_tree, input_value_tree}
-use Rattle.graphql_ast.specs.TypeSystemTree.{field_definition_tree, enum_value_tree}
+use Rattle.graphql_schema_types.specs.in_ast.TypeSystemTree.{field_definition_tree, enum_value_tree}
 use Rattle.graphql_components.specs.Given.{origin_tree}
 use Rattle.graphql_schema_writing.specs.Filed.{filed_under}
 use Rattle.graphql_schema_writing.proofs.Growing.{shared_grown}

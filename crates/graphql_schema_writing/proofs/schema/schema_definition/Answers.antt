@@ -3,7 +3,7 @@ use Rattle.std.specs.Option.{option_map}
 use Rattle.graphql_names.specs.Node.{place}
 use Rattle.graphql_values.specs.Placed.{text_tree}
 use Rattle.graphql_values.specs.DirectiveTree.{directive_tree}
-use Rattle.graphql_ast.specs.DefinitionTree.{Schema, schema_parts}
+use Rattle.graphql_schema_types.specs.in_ast.DefinitionTree.{Schema, schema_parts}
 use Rattle.graphql_schema_writing.specs.Filed.{filed_under}
 use Rattle.graphql_schema_writing.proofs.Growing.{shared_grown, lent_description}
 use Rattle.graphql_schema_writing.proofs.schema.schema_definition.Goals as goal

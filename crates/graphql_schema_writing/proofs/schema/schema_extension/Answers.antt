@@ -1,7 +1,7 @@
 use Rattle.std.proofs.Common.{Some, ap, ◌∙◌}
 use Rattle.graphql_names.specs.Node.{place}
 use Rattle.graphql_values.specs.DirectiveTree.{directive_tree}
-use Rattle.graphql_ast.specs.DefinitionTree.{ExtendSchema, schema_extension_parts}
+use Rattle.graphql_schema_types.specs.in_ast.DefinitionTree.{ExtendSchema, schema_extension_parts}
 use Rattle.graphql_components.specs.Given.{extension_tree}
 use Rattle.graphql_schema_writing.specs.Filed.{filed_under}
 use Rattle.graphql_schema_writing.proofs.Growing.{shared_grown}

@@ -2,7 +2,7 @@ use Rattle.std.proofs.Common.{◌∷◌, [], ◌++◌, map, ap, ◌∙◌}
 use Rattle.std.proofs.lemmas.List.{map-append}
 use Rattle.std.proofs.lemmas.Result.{IfOk-weaker}
 use Rattle.graphql_values.specs.DirectiveTree.{directive_tree}
-use Rattle.graphql_ast.specs.DefinitionTree.{definition_tree}
+use Rattle.graphql_schema_types.specs.in_ast.DefinitionTree.{definition_tree}
 use Rattle.graphql_schema_types.specs.TypeView.{schema_roots}
 use Rattle.graphql_schema_types.specs.Out.{given_by}
 use Rattle.graphql_schema_writing.specs.Filed.{filed_under, given_contents}

@@ -4,7 +4,7 @@ use Rattle.indexmap.specs.IndexMap.{insert_entry}
 use Rattle.indexmap.proofs.CallerLemmas.{insert_entry-new}
 use Rattle.graphql_names.specs.Node.{content}
 use Rattle.graphql_values.specs.Placed.{node_tree}
-use Rattle.graphql_ast.specs.TypeSystemTree.{field_definition_tree}
+use Rattle.graphql_read.specs.in_ast.TypeSystemTree.{field_definition_tree}
 use Rattle.graphql_thin.specs.SchemaView.{same_name, field_entry, fields_of}
 use Rattle.graphql_thin.proofs.builder.add_field.Goals as goal
 

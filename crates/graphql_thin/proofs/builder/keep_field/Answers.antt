@@ -3,7 +3,7 @@ use Rattle.std.specs.Map.{lookup}
 use Rattle.std.specs.Str.{bytes_eq}
 use Rattle.std.proofs.lemmas.Result.{IfOk-weaker}
 use Rattle.graphql_values.specs.Placed.{node_tree}
-use Rattle.graphql_ast.specs.TypeSystemTree.{field_definition_tree}
+use Rattle.graphql_read.specs.in_ast.TypeSystemTree.{field_definition_tree}
 use Rattle.graphql_thin.specs.FaultView.{faults_of}
 use Rattle.graphql_thin.specs.SchemaView.{fields_of}
 use Rattle.graphql_thin.proofs.FoldSteps.{keeps_seen, keeps_new}

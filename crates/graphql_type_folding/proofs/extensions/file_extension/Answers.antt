@@ -1,6 +1,6 @@
 use Rattle.std.proofs.lemmas.Result.{IfOk-weaker}
-use Rattle.graphql_folding.specs.ListedView.{listed_view}
-use Rattle.graphql_folding.specs.PartsView.{parts_view}
+use Rattle.graphql_schema_folding.specs.in_folding.ListedView.{listed_view}
+use Rattle.graphql_schema_folding.specs.in_folding.PartsView.{parts_view}
 use Rattle.graphql_type_folding.specs.Filing.{items_under, extensions_under}
 use Rattle.graphql_type_folding.proofs.Filing.{files_none, files_one}
 use Rattle.graphql_type_folding.proofs.extensions.file_extension.Goals as goal

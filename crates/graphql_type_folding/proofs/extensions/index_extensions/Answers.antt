@@ -1,6 +1,6 @@
 use Rattle.std.proofs.Common.{◌<◌, ◌∷◌, [], ◌++◌, map, take, length, sym, ap, ◌∙◌, arith}
 use Rattle.std.proofs.lemmas.List.{map_more}
-use Rattle.graphql_folding.specs.ListedView.{listed_view}
+use Rattle.graphql_schema_folding.specs.in_folding.ListedView.{listed_view}
 use Rattle.graphql_type_folding.specs.Filing.{extensions_under, extensions_named}
 use Rattle.graphql_type_folding.proofs.Filing.{files_more}
 use Rattle.graphql_type_folding.proofs.extensions.index_extensions.Goals as goal

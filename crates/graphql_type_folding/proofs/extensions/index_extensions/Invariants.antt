@@ -1,5 +1,5 @@
 use Rattle.std.proofs.Common.{◌≡◌, ℕ, List, map, take}
-use Rattle.graphql_folding.specs.ListedView.{listed_view}
+use Rattle.graphql_schema_folding.specs.in_folding.ListedView.{listed_view}
 use Rattle.graphql_type_folding.specs.Filing.{extensions_under, extensions_named}
 use Rattle.graphql_type_folding.proofs.extensions.index_extensions.Given as goal
 

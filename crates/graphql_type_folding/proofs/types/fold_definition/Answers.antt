@@ -1,8 +1,8 @@
 use Rattle.std.proofs.Common.{◌++◌, [], sym, ap, subst, option_to_list}
 use Rattle.std.proofs.lemmas.Result.{IfOk-weaker}
-use Rattle.graphql_ast.specs.DefinitionTree.{definition_tree}
-use Rattle.graphql_schema_types.specs.SchemaView.{types_view}
-use Rattle.graphql_folding.specs.FaultView.{faults_of}
+use Rattle.graphql_schema_folding.specs.in_ast.DefinitionTree.{definition_tree}
+use Rattle.graphql_schema_folding.specs.in_schema_types.SchemaView.{types_view}
+use Rattle.graphql_schema_folding.specs.in_folding.FaultView.{faults_of}
 use Rattle.graphql_type_folding.specs.Filing.{extensions_under, FoldsOn}
 use Rattle.graphql_type_folding.proofs.Folding.{folds_none}
 use Rattle.graphql_type_folding.proofs.types.fold_definition.Goals as goal

@@ -1,8 +1,8 @@
 use Rattle.std.proofs.Common.{map, take}
-use Rattle.graphql_schema_types.specs.SchemaView.{types_view}
-use Rattle.graphql_folding.specs.FaultView.{faults_of}
-use Rattle.graphql_folding.specs.Listed.{types_in}
-use Rattle.graphql_folding.specs.ListedView.{listed_view}
+use Rattle.graphql_schema_folding.specs.in_schema_types.SchemaView.{types_view}
+use Rattle.graphql_schema_folding.specs.in_folding.FaultView.{faults_of}
+use Rattle.graphql_schema_folding.specs.in_folding.Listed.{types_in}
+use Rattle.graphql_schema_folding.specs.in_folding.ListedView.{listed_view}
 use Rattle.graphql_schema_folding.specs.ListFold.{definitions_of}
 use Rattle.graphql_type_folding.specs.Filing.{types_by, faults_by, extensions_under}
 use Rattle.std.proofs.Common.{◌≡◌, ◌++◌}

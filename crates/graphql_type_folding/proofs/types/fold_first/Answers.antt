@@ -1,10 +1,10 @@
 use Rattle.std.proofs.Common.{◌++◌, [], ◌∷◌, map, sym, ap, ◌∙◌}
 use Rattle.std.proofs.lemmas.List.{map-append}
 use Rattle.std.proofs.lemmas.Result.{IfOk-weaker}
-use Rattle.graphql_schema_types.specs.SchemaView.{types_view}
-use Rattle.graphql_folding.specs.FaultView.{faults_of}
-use Rattle.graphql_folding.specs.Fold.{folded_type}
-use Rattle.graphql_folding.specs.Made.{defined_view}
+use Rattle.graphql_schema_folding.specs.in_schema_types.SchemaView.{types_view}
+use Rattle.graphql_schema_folding.specs.in_folding.FaultView.{faults_of}
+use Rattle.graphql_schema_folding.specs.in_folding.Fold.{folded_type}
+use Rattle.graphql_schema_folding.specs.in_folding.Made.{defined_view}
 use Rattle.graphql_schema_folding.specs.TypeFaults.{faults_of_type}
 use Rattle.graphql_type_folding.specs.Filing.{extensions_under}
 use Rattle.graphql_type_folding.proofs.Folding.{entry_view, folds_seen, folds_new}

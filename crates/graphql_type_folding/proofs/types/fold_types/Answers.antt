@@ -1,9 +1,9 @@
 use Rattle.std.proofs.Common.{◌≡◌, ◌++◌, map, sym, ap, subst, ◌∙◌}
 use Rattle.std.proofs.lemmas.Result.{IfOk-weaker}
-use Rattle.graphql_schema_types.specs.SchemaView.{types_view}
-use Rattle.graphql_folding.specs.FaultView.{faults_of}
-use Rattle.graphql_folding.specs.Listed.{types_in}
-use Rattle.graphql_folding.specs.ListedView.{listed_view}
+use Rattle.graphql_schema_folding.specs.in_schema_types.SchemaView.{types_view}
+use Rattle.graphql_schema_folding.specs.in_folding.FaultView.{faults_of}
+use Rattle.graphql_schema_folding.specs.in_folding.Listed.{types_in}
+use Rattle.graphql_schema_folding.specs.in_folding.ListedView.{listed_view}
 use Rattle.graphql_schema_folding.specs.ListFold.{definitions_of}
 use Rattle.graphql_type_folding.specs.ListTypes.{types_from, faults_from, FoldsTypes}
 use Rattle.graphql_type_folding.specs.Filing.{extensions_under, types_by, faults_by}

@@ -1,8 +1,8 @@
 use Rattle.std.proofs.Common.{◌||◌, refl, sym, ap, ◌∙◌}
 use Rattle.std.specs.Option.{option_map}
 use Rattle.std.proofs.lemmas.Result.{IfOk-weaker}
-use Rattle.graphql_ast.specs.DefinitionTree.{definition_tree}
-use Rattle.graphql_folding.specs.Made.{defined_view}
+use Rattle.graphql_schema_folding.specs.in_ast.DefinitionTree.{definition_tree}
+use Rattle.graphql_schema_folding.specs.in_folding.Made.{defined_view}
 use Rattle.graphql_folding_rules.specs.Seen.{Seen}
 use Rattle.graphql_folding_rules.specs.SeenView.{seen_view}
 use Rattle.graphql_folding_rules.proofs.Seeing.{sees_none, sees_some}

@@ -1,6 +1,6 @@
 use Rattle.std.proofs.Common.{◌<◌, ◌∷◌, [], ◌++◌, map, take, length, sym, ap, ◌∙◌, arith}
-use Rattle.graphql_ast.specs.DefinitionTree.{definition_tree}
-use Rattle.graphql_folding.specs.ListedView.{listed_view}
+use Rattle.graphql_schema_folding.specs.in_ast.DefinitionTree.{definition_tree}
+use Rattle.graphql_schema_folding.specs.in_folding.ListedView.{listed_view}
 use Rattle.graphql_schema_folding.specs.ListFold.{definitions_of}
 use Rattle.graphql_schema_folding.proofs.Choosing.{definitions_more}
 use Rattle.graphql_folding_rules.specs.Seen.{seen_of}

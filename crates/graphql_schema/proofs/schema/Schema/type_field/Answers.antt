@@ -3,14 +3,14 @@ use Rattle.std.specs.Prelude.{option_and_then}
 use Rattle.std.specs.Option.{option_map}
 use Rattle.graphql_names.specs.NameValue.{NameValue}
 use Rattle.graphql_values.specs.Placed.{Place}
-use Rattle.graphql_ast.specs.TypeSystemTree.{field_definition_tree}
+use Rattle.graphql_schema_building.specs.in_ast.TypeSystemTree.{field_definition_tree}
 use Rattle.graphql_type_members.specs.declared.field_definition.FieldDefinition.{FieldDefinition}
 use Rattle.graphql_components.specs.Given.{component_tree}
 use Rattle.graphql_components.specs.declared.component.Component.{Component}
-use Rattle.graphql_schema_types.specs.SchemaTree.{SchemaType}
-use Rattle.graphql_schema_types.specs.Addresses.{under, type_at}
-use Rattle.graphql_schema_types.specs.TypeView.{extended_type}
-use Rattle.graphql_schema_types.specs.declared.extended_type.ExtendedType.{ExtendedType}
+use Rattle.graphql_schema_building.specs.in_schema_types.SchemaTree.{SchemaType}
+use Rattle.graphql_schema_building.specs.in_schema_types.Addresses.{under, type_at}
+use Rattle.graphql_schema_building.specs.in_schema_types.TypeView.{extended_type}
+use Rattle.graphql_schema_building.specs.in_schema_types.declared.extended_type.ExtendedType.{ExtendedType}
 use Rattle.graphql_schema.specs.SchemaOf.{schema_tree}
 use Rattle.graphql_schema.proofs.Lookups.{got_pair, found_key}
 use Rattle.graphql_schema.proofs.schema.Schema.type_field.Goals as goal

@@ -1,0 +1,1 @@
+pub use Rattle.graphql_definitions.proofs as in_definitions
