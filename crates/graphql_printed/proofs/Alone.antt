@@ -1,4 +1,4 @@
--- Values, operations, fragments and documents of these in a file: what is printed of each is a text of its symbol, of one tree alone.
+-- Values, operations, fragments and documents in a file: what is printed of each is a text of its symbol, of one tree alone.
 use Rattle.std.proofs.Common.{◌≡◌, ℕ, Bool, true, List, ◌∷◌, refl, le_refl}
 use Rattle.std.specs.List.{list_all}
 use Rattle.graphql_names.specs.declared.span.FileId.{FileId}
@@ -25,13 +25,14 @@ use Rattle.graphql_parse_values.proofs.in_grammar.Laws.{one_document}
 use Rattle.graphql_parse_values.specs.Meanings.{string_of, in_file}
 use Rattle.graphql_printed.specs.Literals.{LiteralsRead}
 use Rattle.graphql_printed.specs.ReadsAlone.{ReadsAlone}
-use Rattle.graphql_printed.specs.Executable.{executable_well_formed, executable_depth}
+use Rattle.graphql_printed.specs.Printed.{ends_word, ends_definition}
+use Rattle.graphql_printed.specs.Definitions.{definition_well_formed, definition_depth}
 use Rattle.graphql_printed.specs.WellFormed.{depths, is_white_prefix, value_well_formed, operation_well_formed, fragment_well_formed, value_depth, operation_depth, fragment_depth}
 use Rattle.graphql_printed.proofs.NumberTokens.{numbers_read}
 use Rattle.graphql_printed.proofs.StringTokens.{strings_read}
 use Rattle.graphql_printed.proofs.Values.{value_read}
 use Rattle.graphql_printed.proofs.Operations.{operation_read, fragment_read}
-use Rattle.graphql_printed.proofs.Executable.{executable_read}
+use Rattle.graphql_printed.proofs.Documents.{document_read}
 use Rattle.graphql_printed.proofs.Whole.{OneTree, reads_alone}
 
 -- Numbers and strings stand for themselves.
@@ -45,7 +46,7 @@ module _ (file : FileId) where
   pub value_alone : (const : Const) (tree : ValueTree Place) → value_well_formed tree ≡ true → value_writable const tree ≡ true
       → ReadsAlone (DerivesAs (value (in_file file) const)) unplaced_value (value_text tree) (unplaced_value tree)
   value_alone const tree formed writable =
-      reads_alone (value (in_file file) const) unplaced_value (value_text tree) (unplaced_value tree) (value_depth tree) (one_value const)
+      reads_alone (value (in_file file) const) unplaced_value (value_text tree) (unplaced_value tree) (value_depth tree) ends_word refl (one_value const)
       (value_read (in_file file) literals_read const tree (value_depth tree) formed writable (le_refl (value_depth tree)))
 
   one_operation : OneTree (DerivesAs (operation_definition (in_file file)))
@@ -54,7 +55,7 @@ module _ (file : FileId) where
   pub operation_alone : (at_start : Bool) (prefix : Prefix) (level : ℕ) (tree : OperationTree Place) → is_white_prefix prefix ≡ true → operation_well_formed tree ≡ true → operation_writable tree ≡ true
       → ReadsAlone (DerivesAs (operation_definition (in_file file))) unplaced_operation (operation_text at_start prefix tree level) (unplaced_operation tree)
   operation_alone at_start prefix level tree white formed writable =
-      reads_alone (operation_definition (in_file file)) unplaced_operation (operation_text at_start prefix tree level) (unplaced_operation tree) (operation_depth tree) one_operation
+      reads_alone (operation_definition (in_file file)) unplaced_operation (operation_text at_start prefix tree level) (unplaced_operation tree) (operation_depth tree) ends_word refl one_operation
       (operation_read (in_file file) literals_read prefix white at_start tree (operation_depth tree) level formed writable (le_refl (operation_depth tree)))
 
   one_fragment : OneTree (DerivesAs (fragment_definition (in_file file)))
@@ -63,13 +64,13 @@ module _ (file : FileId) where
   pub fragment_alone : (prefix : Prefix) (level : ℕ) (tree : FragmentTree Place) → is_white_prefix prefix ≡ true → fragment_well_formed tree ≡ true → fragment_writable tree ≡ true
       → ReadsAlone (DerivesAs (fragment_definition (in_file file))) unplaced_fragment (fragment_text prefix tree level) (unplaced_fragment tree)
   fragment_alone prefix level tree white formed writable =
-      reads_alone (fragment_definition (in_file file)) unplaced_fragment (fragment_text prefix tree level) (unplaced_fragment tree) (fragment_depth tree) one_fragment
+      reads_alone (fragment_definition (in_file file)) unplaced_fragment (fragment_text prefix tree level) (unplaced_fragment tree) (fragment_depth tree) ends_word refl one_fragment
       (fragment_read (in_file file) literals_read prefix white tree (fragment_depth tree) level formed writable (le_refl (fragment_depth tree)))
 
-  pub executable_alone : (prefix : Prefix) (level : ℕ) (tree : DefinitionTree Place) (trees : List (DefinitionTree Place)) → is_white_prefix prefix ≡ true
-      → list_all executable_well_formed (tree ∷ trees) ≡ true → list_all definition_writable (tree ∷ trees) ≡ true
+  pub document_alone : (prefix : Prefix) (level : ℕ) (tree : DefinitionTree Place) (trees : List (DefinitionTree Place)) → is_white_prefix prefix ≡ true
+      → list_all definition_well_formed (tree ∷ trees) ≡ true → list_all definition_writable (tree ∷ trees) ≡ true
       → ReadsAlone (Derives (in_file file)) unplaced_document (document_text prefix level (tree ∷ trees)) (unplaced_document (tree ∷ trees))
-  executable_alone prefix level tree trees white formed writable =
-      let n : ℕ = depths executable_depth (tree ∷ trees) in
-      reads_alone (document (in_file file)) unplaced_document (document_text prefix level (tree ∷ trees)) (unplaced_document (tree ∷ trees)) n (one_document (in_file file))
-      (executable_read (in_file file) literals_read prefix white tree trees n level formed writable (le_refl n))
+  document_alone prefix level tree trees white formed writable =
+      let n : ℕ = depths definition_depth (tree ∷ trees) in
+      reads_alone (document (in_file file)) unplaced_document (document_text prefix level (tree ∷ trees)) (unplaced_document (tree ∷ trees)) n ends_definition refl (one_document (in_file file))
+      (document_read (in_file file) literals_read prefix white tree trees n level formed writable (le_refl n))

@@ -12,7 +12,7 @@ use Rattle.graphql_parse_values.specs.in_ast.DefinitionTree.{DefinitionTree, Ope
 use Rattle.graphql_parse_values.specs.in_ast.DocumentLayout.{document_text}
 use Rattle.graphql_parse_values.specs.in_ast.Writable.{definition_writable}
 use Rattle.graphql_printed.specs.WellFormed.{value_well_formed}
-use Rattle.graphql_printed.specs.Executable.{executable_well_formed}
+use Rattle.graphql_printed.specs.Definitions.{definition_well_formed}
 
 abbrev plain : List ℕ → Text (Unit {0})
 plain text = record { it = text; place = tt }
@@ -33,6 +33,6 @@ some_operation = Operation tt (record {
   selections = selection_then (FieldTree tt (record { alias = None; name = plain (codes "a"); arguments = []; directives = [] }) no_selections) no_selections;
 })
 
-document_row : (executable_well_formed some_operation ≡ true) × ((definition_writable some_operation ≡ true) × (document_text None 0 (some_operation ∷ []) ≡ codes "query q { a }"))
+document_row : (definition_well_formed some_operation ≡ true) × ((definition_writable some_operation ≡ true) × (document_text None 0 (some_operation ∷ []) ≡ codes "query q { a }"))
 unfolding joined
 document_row = (refl, (refl, refl))

@@ -2,4 +2,4 @@ pub mod Printed
 pub mod WellFormed
 pub mod Literals
 pub mod ReadsAlone
-pub mod Executable
+pub mod Definitions

@@ -26,7 +26,7 @@ ghost use Rattle.graphql_parse_values.specs.in_grammar.ValueGrammar.{Const, valu
 ghost use Rattle.graphql_parse_values.specs.in_grammar.OperationGrammar.{operation_definition, fragment_definition};
 ghost use Rattle.graphql_parse_values.specs.Meanings.{in_file};
 ghost use Rattle.graphql_printed.specs.WellFormed.{is_white_prefix, type_well_formed, value_well_formed, operation_well_formed, fragment_well_formed};
-ghost use Rattle.graphql_printed.specs.Executable.{executable_well_formed};
+ghost use Rattle.graphql_printed.specs.Definitions.{definition_well_formed};
 ghost use Rattle.graphql_printed.specs.ReadsAlone.{ReadsAlone};
 
 /// The text of a type whose names are names reads as it alone, places aside.
@@ -53,10 +53,10 @@ pub fn printed_operations_read()
         → ReadsAlone (DerivesAs (fragment_definition (in_file file))) unplaced_fragment (fragment_text prefix tree level) (unplaced_fragment tree) }
 {}
 
-/// The text of a document that is operations and fragments alone, one at least, each well-formed and writable, reads as it
-/// alone, places aside; under the same layouts.
-pub fn printed_executable_document_reads()
+/// The text of a document, of one definition at least, each well-formed and writable, reads as it alone, places aside; under
+/// the same layouts.
+pub fn printed_document_reads()
     ensures { (file : FileId) → (prefix : Prefix) → (level : ℕ) → (tree : DefinitionTree Place) → (trees : List (DefinitionTree Place))
-        → is_white_prefix prefix ≡ true → list_all executable_well_formed (tree ∷ trees) ≡ true → list_all definition_writable (tree ∷ trees) ≡ true
+        → is_white_prefix prefix ≡ true → list_all definition_well_formed (tree ∷ trees) ≡ true → list_all definition_writable (tree ∷ trees) ≡ true
         → ReadsAlone (Derives (in_file file)) unplaced_document (document_text prefix level (tree ∷ trees)) (unplaced_document (tree ∷ trees)) }
 {}
