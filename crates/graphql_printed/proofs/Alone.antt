@@ -1,4 +1,4 @@
--- Values, operations, fragments and documents in a file: what is printed of each is a text of its symbol, of one tree alone.
+-- Values, operations, fragments, selections and documents in a file: what is printed of each is a text of its symbol, of one tree alone.
 use Rattle.std.proofs.Common.{◌≡◌, ℕ, Bool, true, List, ◌∷◌, refl, le_refl}
 use Rattle.std.specs.List.{list_all}
 use Rattle.graphql_names.specs.declared.span.FileId.{FileId}
@@ -6,31 +6,34 @@ use Rattle.graphql_printing.specs.LineLayout.{Prefix}
 use Rattle.graphql_literals.specs.ValueLayout.{value_text}
 use Rattle.graphql_operations.specs.OperationLayout.{operation_text, fragment_text}
 use Rattle.graphql_values.specs.Placed.{Place}
-use Rattle.graphql_values.specs.Writable.{value_writable, operation_writable, fragment_writable}
+use Rattle.graphql_values.specs.Writable.{value_writable, has_selection, selections_writable, operation_writable, fragment_writable}
 use Rattle.graphql_values.specs.ValueTree.{ValueTree, unplaced_value}
+use Rattle.graphql_values.specs.SelectionTree.{SelectionTrees, unplaced_selections}
 use Rattle.graphql_values.specs.OperationTree.{OperationTree, FragmentTree, unplaced_operation, unplaced_fragment}
 use Rattle.graphql_parse_values.specs.in_ast.DefinitionTree.{DefinitionTree, unplaced_document}
 use Rattle.graphql_parse_values.specs.in_ast.DocumentLayout.{document_text}
 use Rattle.graphql_parse_values.specs.in_ast.Writable.{definition_writable}
-use Rattle.graphql_parse_values.specs.in_grammar.Grammar.{DerivesAs, Derives, document}
+use Rattle.graphql_parse_values.specs.in_grammar.Grammar.{DerivesAs, Derives, DerivesSelections, document}
 use Rattle.graphql_parse_values.specs.in_grammar.ValueGrammar.{Const, value}
-use Rattle.graphql_parse_values.specs.in_grammar.OperationGrammar.{operation_definition, fragment_definition}
+use Rattle.graphql_parse_values.specs.in_grammar.OperationGrammar.{selections, operation_definition, fragment_definition}
 use Rattle.graphql_parse_values.specs.in_grammar.ValueReading as v
 use Rattle.graphql_parse_values.specs.in_grammar.OperationReading as o
 use Rattle.graphql_parse_values.proofs.in_grammar.Parses.{any_count}
 use Rattle.graphql_parse_values.proofs.in_grammar.Values.{value_parses}
 use Rattle.graphql_parse_values.proofs.in_grammar.Operations.{operation_definition_parses, fragment_definition_parses}
 use Rattle.graphql_parse_values.proofs.in_grammar.Theorems.{one_tree}
-use Rattle.graphql_parse_values.proofs.in_grammar.Laws.{one_document}
+use Rattle.graphql_parse_values.proofs.in_grammar.Laws.{one_document, one_selections}
 use Rattle.graphql_parse_values.specs.Meanings.{string_of, in_file}
 use Rattle.graphql_printed.specs.Literals.{LiteralsRead}
+use Rattle.graphql_printed.specs.SelectionsLayout.{selections_text}
 use Rattle.graphql_printed.specs.ReadsAlone.{ReadsAlone}
 use Rattle.graphql_printed.specs.Printed.{ends_word, ends_definition}
 use Rattle.graphql_printed.specs.Definitions.{definition_well_formed, definition_depth}
-use Rattle.graphql_printed.specs.WellFormed.{depths, is_white_prefix, value_well_formed, operation_well_formed, fragment_well_formed, value_depth, operation_depth, fragment_depth}
+use Rattle.graphql_printed.specs.WellFormed.{depths, is_white_prefix, value_well_formed, operation_well_formed, fragment_well_formed, value_depth, operation_depth, fragment_depth, selections_well_formed, selections_depth}
 use Rattle.graphql_printed.proofs.NumberTokens.{numbers_read}
 use Rattle.graphql_printed.proofs.StringTokens.{strings_read}
 use Rattle.graphql_printed.proofs.Values.{value_read}
+use Rattle.graphql_printed.proofs.Selections.{bare_selections_read}
 use Rattle.graphql_printed.proofs.Operations.{operation_read, fragment_read}
 use Rattle.graphql_printed.proofs.Documents.{document_read}
 use Rattle.graphql_printed.proofs.Whole.{OneTree, reads_alone}
@@ -66,6 +69,12 @@ module _ (file : FileId) where
   fragment_alone prefix level tree white formed writable =
       reads_alone (fragment_definition (in_file file)) unplaced_fragment (fragment_text prefix tree level) (unplaced_fragment tree) (fragment_depth tree) ends_word refl one_fragment
       (fragment_read (in_file file) literals_read prefix white tree (fragment_depth tree) level formed writable (le_refl (fragment_depth tree)))
+
+  pub selections_alone : (prefix : Prefix) (level : ℕ) (tree : SelectionTrees Place) → is_white_prefix prefix ≡ true → has_selection tree ≡ true → selections_well_formed tree ≡ true → selections_writable tree ≡ true
+      → ReadsAlone (DerivesSelections (in_file file)) unplaced_selections (selections_text prefix tree level) (unplaced_selections tree)
+  selections_alone prefix level tree white has formed writable =
+      reads_alone (selections (in_file file)) unplaced_selections (selections_text prefix tree level) (unplaced_selections tree) (selections_depth tree) ends_word refl (one_selections (in_file file))
+      (bare_selections_read (in_file file) literals_read prefix white tree (selections_depth tree) level has formed writable (le_refl (selections_depth tree)))
 
   pub document_alone : (prefix : Prefix) (level : ℕ) (tree : DefinitionTree Place) (trees : List (DefinitionTree Place)) → is_white_prefix prefix ≡ true
       → list_all definition_well_formed (tree ∷ trees) ≡ true → list_all definition_writable (tree ∷ trees) ≡ true

@@ -22,15 +22,10 @@ use Rattle.graphql_printed.specs.Literals.{LiteralsRead}
 use Rattle.graphql_printed.specs.WellFormed.{is_white_prefix, depths}
 use Rattle.graphql_printed.specs.Definitions.{definition_well_formed, definition_depth}
 use Rattle.graphql_printed.proofs.Sequences.{as_text, ignored, no_more, more, one_or_more, saying}
-use Rattle.graphql_printed.proofs.Lines.{break_ignored}
+use Rattle.graphql_printed.proofs.Lines.{start_ignored}
 use Rattle.graphql_printed.proofs.Definitions.{definition_read}
 
 -- ---- what stands between definitions
-
-start_ignored : (prefix : Prefix) (level : ℕ) → is_white_prefix prefix ≡ true → list_all is_ignored_byte (start_text prefix level) ≡ true
-unfolding joined
-start_ignored None level h = refl
-start_ignored (Some prefix) level h = subst (λ (l : List ℕ). list_all is_ignored_byte l ≡ true) (append-nil (line_start prefix level)) (break_ignored (Some prefix) level h)
 
 between_ignored : (prefix : Prefix) → list_all is_ignored_byte (between_text prefix) ≡ true
 between_ignored None = refl

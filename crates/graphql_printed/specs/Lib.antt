@@ -3,3 +3,4 @@ pub mod WellFormed
 pub mod Literals
 pub mod ReadsAlone
 pub mod Definitions
+pub mod SelectionsLayout

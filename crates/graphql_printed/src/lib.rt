@@ -13,20 +13,22 @@ ghost use Rattle.graphql_printing.specs.LineLayout.{Prefix};
 ghost use Rattle.graphql_literals.specs.ValueLayout.{type_text, value_text};
 ghost use Rattle.graphql_operations.specs.OperationLayout.{operation_text, fragment_text};
 ghost use Rattle.graphql_values.specs.Placed.{Place};
-ghost use Rattle.graphql_values.specs.Writable.{value_writable, operation_writable, fragment_writable};
+ghost use Rattle.graphql_values.specs.Writable.{value_writable, has_selection, selections_writable, operation_writable, fragment_writable};
 ghost use Rattle.graphql_values.specs.TypeTree.{TypeTree, unplaced_type};
 ghost use Rattle.graphql_values.specs.ValueTree.{ValueTree, unplaced_value};
+ghost use Rattle.graphql_values.specs.SelectionTree.{SelectionTrees, unplaced_selections};
 ghost use Rattle.graphql_values.specs.OperationTree.{OperationTree, FragmentTree, unplaced_operation, unplaced_fragment};
 ghost use Rattle.graphql_parse_values.specs.in_ast.DefinitionTree.{DefinitionTree, unplaced_document};
 ghost use Rattle.graphql_parse_values.specs.in_ast.DocumentLayout.{document_text};
 ghost use Rattle.graphql_parse_values.specs.in_ast.Writable.{definition_writable};
 ghost use Rattle.graphql_parse_values.specs.in_grammar.Meaning.{Meaning};
-ghost use Rattle.graphql_parse_values.specs.in_grammar.Grammar.{DerivesAs, Derives, DerivesType};
+ghost use Rattle.graphql_parse_values.specs.in_grammar.Grammar.{DerivesAs, Derives, DerivesType, DerivesSelections};
 ghost use Rattle.graphql_parse_values.specs.in_grammar.ValueGrammar.{Const, value};
 ghost use Rattle.graphql_parse_values.specs.in_grammar.OperationGrammar.{operation_definition, fragment_definition};
 ghost use Rattle.graphql_parse_values.specs.Meanings.{in_file};
-ghost use Rattle.graphql_printed.specs.WellFormed.{is_white_prefix, type_well_formed, value_well_formed, operation_well_formed, fragment_well_formed};
+ghost use Rattle.graphql_printed.specs.WellFormed.{is_white_prefix, type_well_formed, value_well_formed, selections_well_formed, operation_well_formed, fragment_well_formed};
 ghost use Rattle.graphql_printed.specs.Definitions.{definition_well_formed};
+ghost use Rattle.graphql_printed.specs.SelectionsLayout.{selections_text};
 ghost use Rattle.graphql_printed.specs.ReadsAlone.{ReadsAlone};
 
 /// The text of a type whose names are names reads as it alone, places aside.
@@ -51,6 +53,14 @@ pub fn printed_operations_read()
     ensures fragment { (file : FileId) → (prefix : Prefix) → (level : ℕ) → (tree : FragmentTree Place)
         → is_white_prefix prefix ≡ true → fragment_well_formed tree ≡ true → fragment_writable tree ≡ true
         → ReadsAlone (DerivesAs (fragment_definition (in_file file))) unplaced_fragment (fragment_text prefix tree level) (unplaced_fragment tree) }
+{}
+
+/// The text of selections without braces, of one at least, that are well-formed and writable, reads as them alone, places
+/// aside; under the same layouts.
+pub fn printed_selections_read()
+    ensures { (file : FileId) → (prefix : Prefix) → (level : ℕ) → (tree : SelectionTrees Place)
+        → is_white_prefix prefix ≡ true → has_selection tree ≡ true → selections_well_formed tree ≡ true → selections_writable tree ≡ true
+        → ReadsAlone (DerivesSelections (in_file file)) unplaced_selections (selections_text prefix tree level) (unplaced_selections tree) }
 {}
 
 /// The text of a document, of one definition at least, each well-formed and writable, reads as it alone, places aside; under
