@@ -24,4 +24,5 @@ pub mod NumberTokens
 pub mod Alone
 pub mod Definitions
 pub mod Documents
+pub mod Unplaced
 pub mod Rows
