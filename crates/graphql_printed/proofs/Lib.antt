@@ -25,4 +25,5 @@ pub mod Alone
 pub mod Definitions
 pub mod Documents
 pub mod Unplaced
+pub mod EqualTexts
 pub mod Rows
