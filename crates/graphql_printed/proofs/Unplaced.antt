@@ -1,15 +1,14 @@
 -- The layout knows no places: the text of a tree is that of the tree without them.
 use Rattle.std.specs.Prelude.{if◌then◌else◌, is_some}
-use Rattle.std.specs.List.{list_any}
-use Rattle.std.proofs.Common.{◌≡◌, ℕ, ◌+◌, Bool, true, false, ◌&&◌, ◌||◌, List, [], ◌∷◌, map, codes, Option, Some, None, option_map, refl}
+use Rattle.std.proofs.Common.{◌≡◌, ℕ, ◌+◌, Bool, false, ◌&&◌, ◌||◌, List, [], ◌∷◌, map, codes, Option, Some, None, option_map, refl}
 use Rattle.graphql_printing.specs.Joined.{joined, further_text}
-use Rattle.graphql_printing.specs.LineLayout.{Prefix, Leveled, start_text, break_text, members_text, braced_text, set_text, parenthesized_text, texts_of}
+use Rattle.graphql_printing.specs.LineLayout.{Prefix, start_text, break_text, members_text, braced_text, set_text, parenthesized_text, texts_of}
 use Rattle.graphql_printing.specs.StringLayout.{description_text}
 use Rattle.graphql_literals.specs.ValueLayout.{type_text, list_text, object_text, named_value_text, value_text, item_texts, entry_texts, default_text}
 use Rattle.graphql_directives.specs.DirectiveLayout.{argument_text, arguments_text, directive_text, directives_text}
-use Rattle.graphql_directives.specs.InputLayout.{input_value_text, is_described, stand_on_lines, argument_definitions_text, repeatable_text, locations_text, directive_definition_text}
+use Rattle.graphql_directives.specs.InputLayout.{input_value_text, stand_on_lines, argument_definitions_text, repeatable_text, locations_text, directive_definition_text}
 use Rattle.graphql_operations.specs.OperationQueries.{operation_keyword}
-use Rattle.graphql_operations.specs.OperationLayout.{alias_text, condition_text, selection_text, selection_texts, is_query, variable_text, variables_text, is_none, is_empty, is_bare_query, operation_name_text, full_operation_text, operation_text, begins_output, fragment_text}
+use Rattle.graphql_operations.specs.OperationLayout.{alias_text, condition_text, selection_text, selection_texts, is_query, variable_text, is_none, is_empty, is_bare_query, operation_name_text, full_operation_text, operation_text, begins_output, fragment_text}
 use Rattle.graphql_type_members.specs.TypeSystemLayout.{name_text, names_text, head_text, field_definition_text, enum_value_text, root_text, extend, schema_text, scalar_text, fields_text, union_text, enum_text, input_object_text}
 use Rattle.graphql_values.specs.Placed.{Placed, Text, unplaced_text, unplaced_node}
 use Rattle.graphql_values.specs.TypeTree.{TypeTree, NamedTree, NonNullNamedTree, ListTree as ListTypeTree, NonNullListTree, unplaced_type}
@@ -120,7 +119,7 @@ module _ {P : Type 0} where
   full_operation_same : (prefix : Prefix) (o : OperationTree P) (level : ℕ) → full_operation_text prefix o level ≡ full_operation_text prefix (unplaced_operation o) level
   full_operation_same prefix o level =
       λ i. joined (operation_keyword o.operation_type ∷ operation_name_same o.name i ∷ parenthesized_text (texts_same variable_text variable_text unplaced_variable_definition variable_same o.variables i)
-        ∷ directives_same o.directives i ∷ set_text prefix level (set_same prefix o.selections i) ∷ [])
+      ∷ directives_same o.directives i ∷ set_text prefix level (set_same prefix o.selections i) ∷ [])
 
   pub operation_same : (at_start : Bool) (prefix : Prefix) (level : ℕ) (o : OperationTree P) → operation_text at_start prefix o level ≡ operation_text at_start prefix (unplaced_operation o) level
   operation_same at_start prefix level o =
@@ -164,7 +163,7 @@ module _ {P : Type 0} where
   field_definition_same : (prefix : Prefix) (f : FieldDefinitionTree P) (level : ℕ) → field_definition_text prefix f level ≡ field_definition_text prefix (unplaced_field_definition f) level
   field_definition_same prefix f level =
       λ i. joined (description_same prefix level f.description i
-        ∷ joined (f.name.it ∷ argument_definitions_same prefix f.arguments level i ∷ codes ": " ∷ type_same f.ty i ∷ directives_same f.directives i ∷ []) ∷ [])
+      ∷ joined (f.name.it ∷ argument_definitions_same prefix f.arguments level i ∷ codes ": " ∷ type_same f.ty i ∷ directives_same f.directives i ∷ []) ∷ [])
 
   enum_value_same : (prefix : Prefix) (v : EnumValueTree P) (level : ℕ) → enum_value_text prefix v level ≡ enum_value_text prefix (unplaced_enum_value v) level
   enum_value_same prefix v level = λ i. joined (description_same prefix level v.description i ∷ v.value.it ∷ directives_same v.directives i ∷ [])
@@ -212,7 +211,7 @@ module _ {P : Type 0} where
   directive_definition_same : (prefix : Prefix) (d : DirectiveDefinitionTree P) (level : ℕ) → directive_definition_text prefix d level ≡ directive_definition_text prefix (unplaced_directive_definition d) level
   directive_definition_same prefix d level =
       λ i. joined (description_same prefix level d.description i
-        ∷ joined (codes "directive @" ∷ d.name.it ∷ argument_definitions_same prefix d.arguments level i ∷ repeatable_text d.repeatable ∷ locations_text d.locations ∷ []) ∷ [])
+      ∷ joined (codes "directive @" ∷ d.name.it ∷ argument_definitions_same prefix d.arguments level i ∷ repeatable_text d.repeatable ∷ locations_text d.locations ∷ []) ∷ [])
 
   definition_same : (at_start : Bool) (prefix : Prefix) (d : DefinitionTree P) (level : ℕ) → definition_text at_start prefix d level ≡ definition_text at_start prefix (unplaced_definition d) level
   definition_same at_start prefix (Operation p o) level = operation_same at_start prefix level o
