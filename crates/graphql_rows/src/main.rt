@@ -4,6 +4,7 @@
 
 mod by_calls;
 mod by_coordinate;
+mod by_layouts;
 mod by_print;
 mod by_read;
 mod by_run;
@@ -16,6 +17,7 @@ mod plans;
 mod trees;
 
 use crate::by_coordinate::by_coordinate;
+use crate::by_layouts::by_layouts;
 use crate::by_print::{by_print, by_writable};
 use crate::by_read::by_read;
 use crate::by_schema::by_schema;
@@ -46,6 +48,7 @@ fn judge_case(rt: &HostRuntime, case: Case<'_>, tally: &mut Tally) -> Result<(),
     match call_of(case.row)? {
         "print" => by_print(rt, case, tally)?,
         "writable" => by_writable(rt, case, tally)?,
+        "layouts" => by_layouts(rt, case, tally)?,
         "coordinate" => by_coordinate(rt, case, tally)?,
         call @ ("schema" | "orphans") => by_schema(rt, case, call, tally)?,
         call @ ("parse_document" | "parse_type" | "parse_selections" | "next_token") => {
