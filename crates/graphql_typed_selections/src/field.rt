@@ -145,6 +145,7 @@ impl Field {
     /// The value of the argument of that name: the one given, whatever the definition. Else the default by the field's
     /// definition, or None where the type is nullable, an implicit null. Else the error `NoSuchArgument` where the
     /// definition has no such argument, `RequiredArgumentNotSpecified` where that is non-null (section 5.4.2.1).
+    #[tactic(auto, using(crate::proofs::TypedTrees::argument_named_find))]
     pub fn argument_by_name(&self, name: &str) -> Result<Option<&Node<Value>>, ArgumentByNameError>
         ensures { lent_value result ≡ argument_value (given_value name.now (typed_head self.now).arguments) name.now (Some (node_tree field_definition_tree self.now.definition).it.arguments) }
     {
