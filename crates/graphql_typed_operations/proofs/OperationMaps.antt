@@ -16,7 +16,7 @@ module _ {X A : Type 0} (f : X → A) where
   under_names es = map (λ e. (name_text e.0, f e.1)) es
 
   module _ (k : NameValue) where
-    under-lookup : (es : List (NameValue × X)) → option_map f (lookup (same_text name_text k) es) ≡ under k.text (under_names es)
+    pub under-lookup : (es : List (NameValue × X)) → option_map f (lookup (same_text name_text k) es) ≡ under k.text (under_names es)
     under-lookup [] = refl
     under-lookup (e ∷ es) = by (bytes_eq k.text e.0.text) (under-lookup es)
       where
