@@ -1,0 +1,2 @@
+//! What is printed reads as it was.
+#![tactic(auto)]
