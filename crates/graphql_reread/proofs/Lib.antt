@@ -1,3 +1,3 @@
 pub mod WellFormed
 pub mod Definitions
-pub mod Again
+pub mod SameTree

@@ -6,7 +6,7 @@ use Rattle.graphql_names.specs.Node.{content, place}
 use Rattle.graphql_names.specs.NameSyntax.{is_name}
 use Rattle.graphql_names.specs.declared.name.Name.{Name}
 use Rattle.graphql_names.specs.declared.node.Node.{Node}
-use Rattle.graphql_names.specs.Placed.{Placed, Place, name_tree, node_tree}
+use Rattle.graphql_names.specs.Placed.{Place, name_tree, node_tree}
 use Rattle.graphql_literals.specs.TypeTree.{TypeTree, type_tree, type_tree_step}
 use Rattle.graphql_literals.specs.ValueTree.{ValueTree, item_trees, entry_trees, value_tree, value_tree_step}
 use Rattle.graphql_literals.proofs.Trees.{item_trees-map, entry_trees-map}

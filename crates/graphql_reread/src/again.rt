@@ -1,5 +1,6 @@
 //! Trees that are printed and read again.
-ghost use Rattle.std.specs.Prelude.{◌≡◌, IfErr};
+ghost use Rattle.std.specs.Prelude.{◌≡◌, IfOk, IfErr, None, string_bytes};
+ghost use Rattle.graphql_printing.specs.LineLayout.{standing};
 ghost use Rattle.graphql_literals.specs.ValueLayout.{type_text};
 ghost use Rattle.graphql_literals.specs.TypeTree.{type_tree, unplaced_type};
 ghost use Rattle.graphql_ast.specs.DefinitionTree.{document_tree, unplaced_document};
@@ -8,7 +9,24 @@ ghost use Rattle.graphql_reread.specs.ReadsAgain.{IsSameUnlessLimit, NestsWithin
 
 use graphql_ast::{Document, FileId, Serialize, Tree, Type};
 use graphql_read::{ReadFault, parse_document, parse_type};
-use std::alloc::Global;
+use std::alloc::{AllocError, Global};
+
+/// The text of a type.
+fn printed_type(alloc: Global, ty: &Type) -> Result<String, AllocError>
+    ensures { IfOk result (λ text. string_bytes text ≡ standing None 0 (type_text (type_tree ty.now))) }
+{
+    ty.serialize().no_indent().to_string(alloc)
+}
+
+/// The text of a document under its layout.
+fn printed_document(
+    alloc: Global,
+    layout: Serialize<'_, Document>,
+) -> Result<String, AllocError>
+    ensures { IfOk result (λ text. string_bytes text ≡ laid_out layout.entry) }
+{
+    layout.to_string(alloc)
+}
 
 /// Prints a type, and reads the text as one of this file, with at most `nesting` brackets open at once (section 2.11).
 ///
@@ -23,7 +41,7 @@ pub fn reread_type(
     ensures same { IsSameUnlessLimit (λ t. unplaced_type (type_tree t)) (unplaced_type (type_tree ty.now)) nesting (type_text (type_tree ty.now)) result }
     ensures within { NestsWithin nesting (type_text (type_tree ty.now)) → IfErr result (λ e. e ≡ Memory) }
 {
-    let text = ty.serialize().no_indent().to_string(alloc)?;
+    let text = printed_type(alloc, ty)?;
     parse_type(alloc, &text, file, nesting)
 }
 
@@ -42,6 +60,6 @@ pub fn reread_document(
     ensures same { CanBeReread layout.entry → IsSameUnlessLimit (λ d. unplaced_document (document_tree d)) (unplaced_document (document_tree layout.entry.tree.now)) nesting (laid_out layout.entry) result }
     ensures within { CanBeReread layout.entry → NestsWithin nesting (laid_out layout.entry) → IfErr result (λ e. e ≡ Memory) }
 {
-    let text = layout.to_string(alloc)?;
+    let text = printed_document(alloc, layout)?;
     parse_document(alloc, &text, file, nesting)
 }

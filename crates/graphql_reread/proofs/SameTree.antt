@@ -51,22 +51,22 @@ module _ {X A B : Type 0} (symbol : Symbol A) (unplaced : A → B) (view : X →
   no_syntax : (kind : SyntaxFaultKind) (offset : ℕ) → IsDue symbol nesting text (fault_at kind offset) → ⊥
   no_syntax NoToken offset due =
       let w = ends_whole text due.tokens due.ending r.tokens due.lexed r.lexed in
-      let bad : Ended w.0 ≡ NoTokenAt offset = sym w.1.0 ∙ due.says in
+      let bad : Ended w.0 ≡ NoTokenAt offset = sym w.1 ∙ due.says in
       absurd cc
   no_syntax Unexpected offset due =
       let w = ends_whole text due.tokens due.ending r.tokens due.lexed r.lexed in
       let s = due.says.stands in
       due.says.begins_none s.rest r.tree
-      (subst (λ (ts : List Token). symbol ts r.tree) (w.1.1 ∙ s.parts ∙ sym (append_assoc due.says.front (due.says.token ∷ []) s.rest)) r.derived)
+      (subst (λ (ts : List Token). symbol ts r.tree) (w.2 ∙ s.parts ∙ sym (append_assoc due.says.front (due.says.token ∷ []) s.rest)) r.derived)
   no_syntax End offset due =
       let w = ends_whole text due.tokens due.ending r.tokens due.lexed r.lexed in
-      due.says.1 r.tree (subst (λ (ts : List Token). symbol ts r.tree) w.1.1 r.derived)
+      due.says.1 r.tree (subst (λ (ts : List Token). symbol ts r.tree) w.2 r.derived)
 
   limit : (e : ReadFault) → IsDue symbol nesting text (fault_view e) → IsLimit nesting text e
   limit Memory due = tt
   limit (Nesting offset) due =
       let w = ends_whole text due.tokens due.ending r.tokens due.lexed r.lexed in
-      (r.tokens, r.lexed, subst (λ (ts : List Token). IsTooDeep ts nesting offset) (sym w.1.1) due.says)
+      (r.tokens, r.lexed, subst (λ (ts : List Token). IsTooDeep ts nesting offset) (sym w.2) due.says)
   limit (Syntax f) due = no_syntax f.kind f.offset due
 
   -- the same tree, or a limit
@@ -83,10 +83,23 @@ module _ {X A B : Type 0} (symbol : Symbol A) (unplaced : A → B) (view : X →
       is_memory e
       (only r.tree (record {
         tokens = w.0;
-        lexed = w.1.0;
-        derived = subst (λ (ts : List Token). symbol ts r.tree) (lex_unique text r.tokens w.0 r.lexed w.1.0) r.derived;
-        within = w.1.1;
+        lexed = w.1;
+        derived = subst (λ (ts : List Token). symbol ts r.tree) (lex_unique text r.tokens w.0 r.lexed w.1) r.derived;
+        within = w.2;
       }))
+
+  -- the same of what is read, which is the text
+  pub same_of : (read : List ℕ) → read ≡ text → (result : Result X ReadFault) → IfOk result (λ x. Reads symbol nesting read (view x)) → IfErr result (λ e. IsDue symbol nesting read (fault_view e))
+      → IsSameUnlessLimit (λ x. unplaced (view x)) printed nesting text result
+  same_of read is result found fault =
+      same result
+      (subst (λ (t : List ℕ). IfOk result (λ x. Reads symbol nesting t (view x))) is found)
+      (subst (λ (t : List ℕ). IfErr result (λ e. IsDue symbol nesting t (fault_view e))) is fault)
+
+  pub within_of : (read : List ℕ) → read ≡ text → (result : Result X ReadFault) → ((tree : A) → Reads symbol nesting read tree → IsTreeUnlessMemory view tree result) → NestsWithin nesting text
+      → IfErr result (λ e. e ≡ Memory)
+  within_of read is result only =
+      within result (subst (λ (t : List ℕ). (tree : A) → Reads symbol nesting t tree → IsTreeUnlessMemory view tree result) is only)
 
 -- ---- types and documents
 
