@@ -19,10 +19,7 @@ fn printed_type(alloc: Global, ty: &Type) -> Result<String, AllocError>
 }
 
 /// The text of a document under its layout.
-fn printed_document(
-    alloc: Global,
-    layout: Serialize<'_, Document>,
-) -> Result<String, AllocError>
+fn printed_document(alloc: Global, layout: Serialize<'_, Document>) -> Result<String, AllocError>
     ensures { IfOk result (λ text. string_bytes text ≡ laid_out layout.entry) }
 {
     layout.to_string(alloc)
