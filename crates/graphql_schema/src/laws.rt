@@ -1,9 +1,10 @@
 //! What equality of schemas means: exactly that they are the same, places, origins, sources and order aside. And the
-//! subtypes of an interface are its implementers.
+//! subtypes of an interface are its implementers; and what fields a type has is a fact of the schema without places.
 ghost use Rattle.std.specs.Prelude.{◌≡◌, ◌↔◌, IsTrue};
 ghost use Rattle.graphql_schema_building.specs.in_schema_types.Plain.{plain};
 ghost use Rattle.graphql_schema.specs.SchemaOf.{schema_tree};
 ghost use Rattle.graphql_schema.specs.Subtypes.{SubtypesAreImplementers};
+ghost use Rattle.graphql_schema.specs.FieldLooks.{FieldsArePlain};
 
 use crate::schema::Schema;
 
@@ -22,4 +23,11 @@ pub fn subtypes_are_implementers(schema: &Schema)
 {
     // each name is in the map once
     let _count = schema.types.len();
+}
+
+/// The fields that `type_field` finds, places and origins aside, are those of the schema without places and order.
+pub fn fields_are_plain(schema: &Schema)
+    ensures { FieldsArePlain (schema_tree schema.now) }
+{
+    let _ = schema;
 }

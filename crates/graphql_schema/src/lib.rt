@@ -15,6 +15,7 @@ mod builder;
 mod field_lookup;
 mod implementers;
 pub mod laws;
+mod meta_fields;
 mod schema;
 mod subtype;
 mod to_ast;

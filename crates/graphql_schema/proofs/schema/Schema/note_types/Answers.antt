@@ -2,10 +2,10 @@ use Rattle.std.proofs.Common.{None, take, sym, ap, ◌∙◌}
 use Rattle.std.specs.Prelude.{fold, slice_get}
 use Rattle.std.specs.Option.{option_map}
 use Rattle.std.proofs.lemmas.Grind.{fold-append}
-use Rattle.graphql_schema.specs.Implementers.{and_naming}
+use Rattle.graphql_schema.specs.Noting.{and_naming}
 use Rattle.graphql_schema.specs.ImplementersView.{entry_namings, deref_pair}
 use Rattle.graphql_schema.proofs.Implementing.{listed, listed_more}
-use Rattle.graphql_schema.proofs.schema.Schema.implementers_map.Goals as goal
+use Rattle.graphql_schema.proofs.schema.Schema.note_types.Goals as goal
 
 pub loop-index-preserved : goal.loop-index-preserved
 loop-index-preserved c = λ i.
