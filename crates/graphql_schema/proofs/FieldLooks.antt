@@ -64,8 +64,8 @@ module _ (s : SchemaTree Place) (n m : List ℕ) where
       map_or field_plain (under m t.fields) (meta_field_on s n t m)
       ∙ ap (λ o. option_or o (option_map field_plain (meta_field_on s n t m))) (sym (get_under field_plain m t.fields))
       ∙ ap (option_or (fin.get (named field_plain t.fields) m)) (
-        meta_plain (meta_field_of (is_composite_kind t.kind) (look_up.is_query_root s n) m)
-        ∙ ap (λ b. option_map (λ (f : Placed Place (FieldDefinitionTree Place)). unplaced_field_definition f.it) (meta_field_of (is_composite_kind t.kind) b m)) (root_plain n s.definition.query))
+      meta_plain (meta_field_of (is_composite_kind t.kind) (look_up.is_query_root s n) m)
+      ∙ ap (λ b. option_map (λ (f : Placed Place (FieldDefinitionTree Place)). unplaced_field_definition f.it) (meta_field_of (is_composite_kind t.kind) b m)) (root_plain n s.definition.query))
 
   of_found : (o : Option (SchemaType Place))
       → option_map field_plain (option_or (option_and_then (λ (t : SchemaType Place). under m t.fields) o) (option_and_then (λ t. meta_field_on s n t m) o))

@@ -169,9 +169,9 @@ module _ (i : List ℕ) where
       let apart : (k : TypeKind) → is_one k e ≡ false = λ k. ap (λ b. same_kind e.1.kind k && b) h ∙ and_false (same_kind e.1.kind k) in
       ap (λ b. if b then Some (and_type (same_kind e.1.kind kind.Object) e.0 (unwrap_or (collected es) nobody)) else collected es) h
       ∙ sym (
-          ap (λ b. if b then Some (record { objects = naming_it kind.Object (es ++ e ∷ []); interfaces = naming_it kind.Interface (es ++ e ∷ []) }) else None) (any_more es e ∙ ap (λ b. list_any names_it es || b) h ∙ or_false (list_any names_it es))
-          ∙ ap (λ l. if list_any names_it es then Some (record { objects = l; interfaces = naming_it kind.Interface (es ++ e ∷ []) }) else None) (none_more kind.Object es e (apart kind.Object))
-          ∙ ap (λ l. if list_any names_it es then Some (record { objects = naming_it kind.Object es; interfaces = l }) else None) (none_more kind.Interface es e (apart kind.Interface)))
+      ap (λ b. if b then Some (record { objects = naming_it kind.Object (es ++ e ∷ []); interfaces = naming_it kind.Interface (es ++ e ∷ []) }) else None) (any_more es e ∙ ap (λ b. list_any names_it es || b) h ∙ or_false (list_any names_it es))
+      ∙ ap (λ l. if list_any names_it es then Some (record { objects = l; interfaces = naming_it kind.Interface (es ++ e ∷ []) }) else None) (none_more kind.Object es e (apart kind.Object))
+      ∙ ap (λ l. if list_any names_it es then Some (record { objects = naming_it kind.Object es; interfaces = l }) else None) (none_more kind.Interface es e (apart kind.Interface)))
 
   taken : (es : List Entry) (e : Entry) → names_it e ≡ true → (is_object : Bool) → same_kind e.1.kind kind.Object ≡ is_object
       → step (collected es) e ≡ Some (and_type is_object e.0 (record { objects = naming_it kind.Object es; interfaces = naming_it kind.Interface es }))
@@ -187,15 +187,15 @@ module _ (i : List ℕ) where
   object_taken es e h o n =
       taken es e h true o
       ∙ sym (there es e h
-          ∙ ap (λ l. Some (record { objects = l; interfaces = naming_it kind.Interface (es ++ e ∷ []) })) (one_more kind.Object es e (ap (λ b. b && names_it e) o ∙ h))
-          ∙ ap (λ l. Some (record { objects = with_name e.0 (naming_it kind.Object es); interfaces = l })) (none_more kind.Interface es e (ap (λ b. b && names_it e) n)))
+      ∙ ap (λ l. Some (record { objects = l; interfaces = naming_it kind.Interface (es ++ e ∷ []) })) (one_more kind.Object es e (ap (λ b. b && names_it e) o ∙ h))
+      ∙ ap (λ l. Some (record { objects = with_name e.0 (naming_it kind.Object es); interfaces = l })) (none_more kind.Interface es e (ap (λ b. b && names_it e) n)))
 
   interface_taken : (es : List Entry) (e : Entry) → names_it e ≡ true → same_kind e.1.kind kind.Object ≡ false → same_kind e.1.kind kind.Interface ≡ true → step (collected es) e ≡ collected (es ++ e ∷ [])
   interface_taken es e h o n =
       taken es e h false o
       ∙ sym (there es e h
-          ∙ ap (λ l. Some (record { objects = l; interfaces = naming_it kind.Interface (es ++ e ∷ []) })) (none_more kind.Object es e (ap (λ b. b && names_it e) o))
-          ∙ ap (λ l. Some (record { objects = naming_it kind.Object es; interfaces = l })) (one_more kind.Interface es e (ap (λ b. b && names_it e) n ∙ h)))
+      ∙ ap (λ l. Some (record { objects = l; interfaces = naming_it kind.Interface (es ++ e ∷ []) })) (none_more kind.Object es e (ap (λ b. b && names_it e) o))
+      ∙ ap (λ l. Some (record { objects = naming_it kind.Object es; interfaces = l })) (one_more kind.Interface es e (ap (λ b. b && names_it e) n ∙ h)))
 
   abbrev view : NameValue × ExtendedType → Entry
   view e = (name_text e.0, extended_type e.1)

@@ -17,8 +17,8 @@ ghost use Rattle.graphql_schema.specs.SchemaOf.{schema_tree};
 
 use crate::meta_fields::MetaFields;
 use crate::schema::Schema;
-use graphql_schema_building::graphql_ast::{Document, SourceSpan};
 use graphql_components::Extensions;
+use graphql_schema_building::graphql_ast::{Document, SourceSpan};
 use graphql_schema_building::graphql_folding::BuildError;
 use graphql_schema_building::{BuilderRefusal, Building, Built, OrphanExtensionTypes};
 use std::alloc::{AllocError, Global};

@@ -9,8 +9,8 @@ ghost use Rattle.graphql_schema.specs.SchemaOf.{schema_tree};
 ghost use Rattle.graphql_schema.specs.LookUps.{is_composite_kind, is_query_root, field_on, field_named, FieldIsMissing};
 
 use crate::schema::Schema;
-use graphql_schema_building::graphql_ast::{FieldDefinition, Name, OperationType};
 use graphql_components::Component;
+use graphql_schema_building::graphql_ast::{FieldDefinition, Name, OperationType};
 use graphql_schema_building::graphql_schema_types::ExtendedType;
 
 /// Why a type has no field of a name.
@@ -54,7 +54,9 @@ impl Schema {
     {
         match field_of(ty, name) {
             Some(field) => Some(field),
-            None => self.meta_fields.get(is_composite(ty), self.is_query_root(type_name), name),
+            None => self
+                .meta_fields
+                .get(is_composite(ty), self.is_query_root(type_name), name),
         }
     }
 

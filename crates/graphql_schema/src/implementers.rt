@@ -11,8 +11,8 @@ ghost use Rattle.graphql_schema.specs.Noting.{nobody, and_type, and_naming, nami
 ghost use Rattle.graphql_schema.specs.ImplementersView.{implementers_tree, implementers_at, left_implementers, entry_namings, deref_pair};
 
 use crate::schema::Schema;
-use graphql_schema_building::graphql_ast::Name;
 use graphql_components::ComponentName;
+use graphql_schema_building::graphql_ast::Name;
 use graphql_schema_building::graphql_schema_types::ExtendedType;
 use indexmap::{IndexMap, IndexSet};
 use std::alloc::{AllocError, Global};

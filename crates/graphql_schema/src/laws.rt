@@ -17,7 +17,6 @@ pub fn equal_schemas(a: &Schema, b: &Schema) -> bool
 }
 
 /// `is_subtype` is true of an interface and a name exactly where `implementers_map` has the name under the interface.
-#[tactic(auto, using(crate::proofs::Subtyping::schema_subtypes))]
 pub fn subtypes_are_implementers(schema: &Schema)
     ensures { SubtypesAreImplementers (schema_tree schema.now) }
 {

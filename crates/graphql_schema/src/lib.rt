@@ -28,11 +28,11 @@ pub use graphql_components::{
     NamedComponents,
 };
 pub use graphql_schema_building::graphql_folding::BuildError;
-pub use graphql_schema_building::{BuilderRefusal, OrphanExtensionTypes};
 pub use graphql_schema_building::graphql_schema_types::{
     EnumType, ExtendedType, InputObjectType, InterfaceType, ObjectType, Origins, RootOperations,
     ScalarType, SchemaDefinition, TypeKind, UnionType,
 };
+pub use graphql_schema_building::{BuilderRefusal, OrphanExtensionTypes};
 pub use implementers::{Implementers, ImplementersNames};
 pub use schema::Schema;
 

@@ -6,8 +6,10 @@ ghost use Rattle.graphql_schema_building.specs.in_schema_types.Addresses.{root_a
 ghost use Rattle.graphql_schema.specs.SchemaOf.{schema_tree};
 
 use crate::meta_fields::MetaFields;
-use graphql_schema_building::graphql_ast::{DirectiveDefinition, FileId, Name, Node, OperationType, SourceFile};
 use graphql_components::ComponentName;
+use graphql_schema_building::graphql_ast::{
+    DirectiveDefinition, FileId, Name, Node, OperationType, SourceFile,
+};
 use graphql_schema_building::graphql_schema_types::{ExtendedType, SchemaDefinition};
 use indexmap::IndexMap;
 
