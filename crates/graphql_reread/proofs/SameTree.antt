@@ -1,5 +1,5 @@
 -- A printed text that reads as one tree alone is read again as that tree, or a limit keeps it from being read.
-use Rattle.std.proofs.Common.{◌≡◌, ℕ, ◌≤◌, true, List, [], ◌∷◌, ◌++◌, Result, Ok, Err, refl, sym, ap, subst, ◌∙◌, append_assoc, append-nil, map}
+use Rattle.std.proofs.Common.{◌≡◌, ℕ, true, List, [], ◌∷◌, Result, Ok, Err, refl, sym, ap, subst, ◌∙◌, append_assoc, append-nil, map}
 use Rattle.std.proofs.lemmas.Bool.{and_parts}
 use Rattle.std.specs.Prelude.{IfOk, IfErr, None}
 use Rattle.std.specs.List.{list_all}
@@ -10,13 +10,11 @@ use Rattle.graphql_literals.specs.ValueLayout.{type_text}
 use Rattle.graphql_literals.specs.TypeTree.{type_tree, unplaced_type}
 use Rattle.graphql_literals.specs.declared.ty.«Type».{«Type»}
 use Rattle.graphql_lexer.specs.Input.{Token, Ended, NoTokenAt}
-use Rattle.graphql_lexer.specs.Lex.{Lex}
 use Rattle.graphql_lexer.proofs.Lexed.{lex_unique}
 use Rattle.graphql_ast.specs.DefinitionTree.{definition_tree, unplaced_document}
 use Rattle.graphql_ast.specs.DocumentLayout.{document_text}
 use Rattle.graphql_ast.specs.Writable.{has_some, definition_writable, document_writable}
 use Rattle.graphql_ast.specs.in_definitions.declared.definition.Definition.{Definition}
-use Rattle.graphql_grammar.specs.Depth.{depth}
 use Rattle.graphql_grammar.specs.Faults as faults
 use Rattle.graphql_grammar.specs.Faults.{Symbol, IsTooDeep}
 use Rattle.graphql_grammar.specs.Grammar.{Derives, DerivesType}
