@@ -5,7 +5,7 @@ ghost use Rattle.graphql_folding.specs.in_ast.TypeSystemTree.{field_definition_t
 ghost use Rattle.graphql_built_in.specs.MetaFields.{typename_field, schema_field, type_field};
 
 use crate::members::field_of;
-use crate::table::{SCHEMA_FIELD, TYPENAME_FIELD, TYPE_FIELD};
+use crate::table::{SCHEMA_FIELD, TYPE_FIELD, TYPENAME_FIELD};
 use graphql_folding::graphql_ast::{FieldDefinition, Node};
 use std::alloc::{AllocError, Global};
 

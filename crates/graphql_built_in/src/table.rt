@@ -189,8 +189,7 @@ const DIRECTIVE_LOCATION: &[&str] = &[
 ];
 
 /// The meta-field `__typename: String!` (section 4.1).
-pub(crate) const TYPENAME_FIELD: FieldRow =
-    FieldRow("__typename", &[], TypeRow::NonNull("String"));
+pub(crate) const TYPENAME_FIELD: FieldRow = FieldRow("__typename", &[], TypeRow::NonNull("String"));
 
 /// The meta-field `__schema: __Schema!` (section 4.2).
 pub(crate) const SCHEMA_FIELD: FieldRow = FieldRow("__schema", &[], TypeRow::NonNull("__Schema"));
@@ -198,11 +197,7 @@ pub(crate) const SCHEMA_FIELD: FieldRow = FieldRow("__schema", &[], TypeRow::Non
 /// The meta-field `__type(name: String!): __Type` (section 4.2).
 pub(crate) const TYPE_FIELD: FieldRow = FieldRow(
     "__type",
-    &[ArgumentRow(
-        "name",
-        TypeRow::NonNull("String"),
-        DefaultRow::Absent,
-    )],
+    &[ArgumentRow("name", TypeRow::NonNull("String"), DefaultRow::Absent)],
     TypeRow::Nullable("__Type"),
 );
 

@@ -10,8 +10,8 @@ ghost use Rattle.graphql_checked.specs.TextsView.{texts_of, IsReadingOf, IsBefor
 
 use crate::checked_schema::CheckedSchema;
 use crate::refusal::Refusal;
-use graphql_thin::graphql_ast::{Document, FileId};
 use graphql_names::{Files, Spent};
+use graphql_thin::graphql_ast::{Document, FileId};
 use graphql_thin::{Details, DiagnosticList, Unread, build, read, schema_outside};
 use std::alloc::{AllocError, Global};
 

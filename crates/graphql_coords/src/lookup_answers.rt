@@ -3,10 +3,10 @@ ghost use Rattle.std.specs.Prelude.{◌≡◌};
 ghost use Rattle.graphql_coords.specs.LookUps.{NamedAttribute};
 ghost use Rattle.graphql_coords.specs.LookUpView.{attribute_of, named_of};
 
+use graphql_components::Component;
 use graphql_schema::graphql_ast::{
     DirectiveDefinition, EnumValueDefinition, FieldDefinition, InputValueDefinition, Name, Node,
 };
-use graphql_components::Component;
 use graphql_schema::graphql_schema_types::ExtendedType;
 
 /// Why a coordinate names nothing in a schema: the name that was not found or does not fit, or the type.

@@ -7,11 +7,11 @@ ghost use Rattle.graphql_folding.specs.Kept.{kept, kept_from, interface_repeat, 
 use crate::build_error::{BuildError, Repeat};
 use crate::collected::Collected;
 use crate::keep::{keep_components, keep_names};
+use graphql_components::{Component, ComponentName};
+use graphql_schema_types::TypeKind;
 use graphql_schema_types::graphql_ast::{
     Directive, EnumValueDefinition, FieldDefinition, InputValueDefinition, Name, SourceSpan,
 };
-use graphql_components::{Component, ComponentName};
-use graphql_schema_types::TypeKind;
 use indexmap::{IndexMap, IndexSet};
 use std::alloc::{AllocError, Global};
 

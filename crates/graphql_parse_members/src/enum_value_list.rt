@@ -11,10 +11,10 @@ ghost use Rattle.graphql_grammar.specs.TypeSystemReading as reading;
 ghost use Rattle.graphql_parse_values.specs.Meanings.{in_file};
 
 use crate::described::begins_described_name;
-use graphql_parse_values::graphql_ast::EnumValueDefinition;
 use graphql_grammar::Stop;
 use graphql_lexer::{Source, Terminal};
 use graphql_names::{FileId, Node};
+use graphql_parse_values::graphql_ast::EnumValueDefinition;
 use graphql_parse_values::{
     begin, directives_or_none, enum_value, expect, next_is, open, optional_description,
     optional_directives, since,

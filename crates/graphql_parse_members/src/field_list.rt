@@ -15,10 +15,10 @@ ghost use Rattle.graphql_parse_members.specs.MemberSteps as steps;
 
 use crate::described::{begins_described_name, described_name};
 use crate::input_value_list::{input_values_or_none, optional_arguments_definition};
-use graphql_parse_values::graphql_ast::FieldDefinition;
 use graphql_grammar::Stop;
 use graphql_lexer::{Source, Terminal};
 use graphql_names::{FileId, Node};
+use graphql_parse_values::graphql_ast::FieldDefinition;
 use graphql_parse_values::{
     begin, directives_or_none, expect, next_is, open, optional_directives, since, ty,
 };

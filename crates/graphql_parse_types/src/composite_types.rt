@@ -10,17 +10,19 @@ ghost use Rattle.graphql_parse_types.specs.KindTrees.{kind_tree};
 ghost use Rattle.graphql_parse_members.specs.in_parse_values.Meanings.{in_file};
 
 use crate::kind::Kind;
-use graphql_parse_members::graphql_ast::{
-    FieldDefinition, InterfaceTypeExtension, ObjectTypeExtension, UnionTypeExtension,
-};
 use graphql_grammar::Stop;
 use graphql_lexer::{Source, Terminal};
 use graphql_names::{FileId, Node};
+use graphql_parse_members::graphql_ast::{
+    FieldDefinition, InterfaceTypeExtension, ObjectTypeExtension, UnionTypeExtension,
+};
+use graphql_parse_members::graphql_parse_values::{
+    directives_or_none, expect, name, optional_directives,
+};
 use graphql_parse_members::{
     fields_or_none, names_or_none, optional_fields_definition, optional_implements_interfaces,
     optional_union_member_types,
 };
-use graphql_parse_members::graphql_parse_values::{directives_or_none, expect, name, optional_directives};
 use graphql_values::{DirectiveList, NamedType};
 use std::alloc::Global;
 

@@ -20,11 +20,11 @@ use crate::with_description::{
     object_with_description, scalar_with_description, schema_with_description,
     union_with_description,
 };
-use graphql_parse_members::graphql_ast::Definition;
 use graphql_grammar::Stop;
 use graphql_lexer::{Source, Terminal};
 use graphql_names::{FileId, Node, NodeStr, SourceSpan};
 use graphql_parse_members::directive_definition;
+use graphql_parse_members::graphql_ast::Definition;
 use graphql_parse_members::graphql_parse_values::{begin, next_is, optional_description, since};
 use std::alloc::{AllocError, Global};
 

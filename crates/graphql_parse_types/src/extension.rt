@@ -12,10 +12,10 @@ use crate::definition::placed;
 use crate::kind::Kind;
 use crate::schema::schema_extension;
 use crate::types::type_definition;
-use graphql_parse_members::graphql_ast::Definition;
 use graphql_grammar::Stop;
 use graphql_lexer::{Source, Terminal};
 use graphql_names::{FileId, SourceSpan};
+use graphql_parse_members::graphql_ast::Definition;
 use graphql_parse_members::graphql_parse_values::{begin, expect, next_is, since};
 use std::alloc::{AllocError, Global};
 

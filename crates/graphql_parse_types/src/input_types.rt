@@ -10,17 +10,19 @@ ghost use Rattle.graphql_parse_types.specs.KindTrees.{kind_tree};
 ghost use Rattle.graphql_parse_members.specs.in_parse_values.Meanings.{in_file};
 
 use crate::kind::Kind;
-use graphql_parse_members::graphql_ast::{
-    EnumTypeExtension, EnumValueDefinition, InputObjectTypeExtension, ScalarTypeExtension,
-};
 use graphql_grammar::Stop;
 use graphql_lexer::{Source, Terminal};
 use graphql_names::{FileId, Node};
+use graphql_parse_members::graphql_ast::{
+    EnumTypeExtension, EnumValueDefinition, InputObjectTypeExtension, ScalarTypeExtension,
+};
+use graphql_parse_members::graphql_parse_values::{
+    directives_or_none, expect, name, optional_directives,
+};
 use graphql_parse_members::{
     enum_values_or_none, input_values_or_none, optional_enum_values_definition,
     optional_input_fields_definition,
 };
-use graphql_parse_members::graphql_parse_values::{directives_or_none, expect, name, optional_directives};
 use graphql_values::{DirectiveList, InputValueDefinition};
 use std::alloc::Global;
 

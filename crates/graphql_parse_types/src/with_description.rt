@@ -2,13 +2,13 @@
 ghost use Rattle.std.specs.Prelude.{◌≡◌};
 ghost use Rattle.graphql_parse_members.specs.in_ast.DefinitionTree.{schema_parts, scalar_parts, object_parts, interface_parts, union_parts, enum_parts, input_object_parts, schema_extension_parts, scalar_extension_parts, object_extension_parts, interface_extension_parts, union_extension_parts, enum_extension_parts, input_object_extension_parts};
 
+use graphql_names::NodeStr;
 use graphql_parse_members::graphql_ast::{
     EnumTypeDefinition, EnumTypeExtension, InputObjectTypeDefinition, InputObjectTypeExtension,
     InterfaceTypeDefinition, InterfaceTypeExtension, ObjectTypeDefinition, ObjectTypeExtension,
     ScalarTypeDefinition, ScalarTypeExtension, SchemaDefinition, SchemaExtension,
     UnionTypeDefinition, UnionTypeExtension,
 };
-use graphql_names::NodeStr;
 
 /// The definition of a schema (section 3.3).
 pub fn schema_with_description(

@@ -15,10 +15,10 @@ ghost use Rattle.graphql_read.specs.Sound.{IsSound};
 use crate::document_list::definitions;
 use crate::fault::ReadFault;
 use crate::finish::{end_of_text, fault};
-use graphql_parse_operations::graphql_ast::{Definition, Document, SourceFile};
 use graphql_grammar::Stop;
 use graphql_lexer::Source;
 use graphql_names::FileId;
+use graphql_parse_operations::graphql_ast::{Definition, Document, SourceFile};
 use indexmap::IndexMap;
 use std::alloc::{AllocError, Global};
 

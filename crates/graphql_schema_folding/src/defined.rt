@@ -9,8 +9,8 @@ ghost use Rattle.graphql_schema_folding.specs.RootsView.{schema_giver};
 ghost use Rattle.graphql_schema_folding.specs.KindNamed.{kind_here, kind_named};
 
 use graphql_folding::graphql_ast::{Definition, Node, SchemaDefinition, SchemaExtension};
-use graphql_folding::{Listed, type_definition};
 use graphql_folding::graphql_schema_types::TypeKind;
+use graphql_folding::{Listed, type_definition};
 
 /// The schema definition, if it is one.
 fn schema_definition(d: &Definition) -> Option<&Node<SchemaDefinition>>

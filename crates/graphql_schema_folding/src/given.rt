@@ -13,9 +13,9 @@ ghost use Rattle.graphql_schema_folding.specs.RootFold.{all_from, all_and, Colle
 ghost use Rattle.graphql_schema_folding.specs.RootsView.{all_of_schema};
 
 use crate::defined::schema_extension;
-use graphql_folding::graphql_ast::{Directive, DirectiveList, NamedType, Node, OperationType};
 use graphql_components::{Component, ComponentOrigin};
 use graphql_folding::Listed;
+use graphql_folding::graphql_ast::{Directive, DirectiveList, NamedType, Node, OperationType};
 use std::alloc::{AllocError, Global};
 
 /// Adds these nodes, shared, from that origin.

@@ -8,9 +8,9 @@ ghost use Rattle.graphql_schema_folding.specs.ListFold.{root_faults};
 ghost use Rattle.graphql_schema_folding.specs.RootFold.{root_for, with_root, first_roots, KeepsRoot};
 ghost use Rattle.graphql_schema_folding.specs.RootsView.{root_names, roots_given_by};
 
-use graphql_folding::graphql_ast::{NamedType, OperationType, SourceSpan};
 use graphql_components::{Component, ComponentName};
 use graphql_folding::BuildError;
+use graphql_folding::graphql_ast::{NamedType, OperationType, SourceSpan};
 use std::alloc::AllocError;
 
 /// The roots that are kept.

@@ -17,10 +17,10 @@ use crate::defined::first_schema;
 use crate::given::SchemaComponents;
 use crate::implicit::add_implicit_roots;
 use crate::roots::keep_roots;
-use graphql_folding::graphql_ast::{Node, NodeStr, SchemaDefinition as SchemaNode, SourceSpan};
 use graphql_components::{ComponentOrigin, DirectiveList};
-use graphql_folding::{BuildError, Listed};
+use graphql_folding::graphql_ast::{Node, NodeStr, SchemaDefinition as SchemaNode, SourceSpan};
 use graphql_folding::graphql_schema_types::SchemaDefinition;
+use graphql_folding::{BuildError, Listed};
 use graphql_type_members::clone_description;
 use std::alloc::{AllocError, Global};
 

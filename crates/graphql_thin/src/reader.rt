@@ -10,8 +10,8 @@ ghost use Rattle.graphql_thin.specs.Unread.{IsUnread, TellsUnread};
 
 use crate::faults::Details;
 use crate::unread::Unread;
-use graphql_read::graphql_ast::Document;
 use graphql_names::{FileId, SourceSpan};
+use graphql_read::graphql_ast::Document;
 use graphql_read::{ReadFault, SyntaxFault, parse_document};
 use std::alloc::Global;
 

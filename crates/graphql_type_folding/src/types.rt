@@ -14,7 +14,9 @@ ghost use Rattle.graphql_type_folding.specs.Filing.{extensions_under, types_by, 
 use crate::extensions::{extensions_of, index_extensions};
 use crate::insert::insert_new;
 use graphql_schema_folding::graphql_ast::{Definition, Name, SourceSpan};
-use graphql_schema_folding::graphql_folding::{BuildError, Defined, Listed, fold_type, type_definition};
+use graphql_schema_folding::graphql_folding::{
+    BuildError, Defined, Listed, fold_type, type_definition,
+};
 use graphql_schema_folding::graphql_schema_types::ExtendedType;
 use indexmap::IndexMap;
 use std::alloc::{AllocError, Global};
