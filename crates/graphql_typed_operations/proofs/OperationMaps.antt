@@ -1,15 +1,15 @@
 -- What look-ups, insertions and walks over the operations of a document find in the tree.
-use Rattle.std.proofs.Common.{◌≡◌, ℕ, Bool, true, false, List, [], ◌∷◌, map, Option, None, Some, refl, sym, ap, ◌∙◌, if◌then◌else◌, Bor}
+use Rattle.std.proofs.Common.{◌≡◌, ℕ, Bool, true, false, List, [], ◌∷◌, map, Option, None, Some, refl, sym, ap, ◌∙◌, if◌then◌else◌, Bor, MutBor, slice_get}
 use Rattle.std.specs.List.{find, cons_option}
 use Rattle.std.specs.Map.{lookup, values_of}
-use Rattle.std.specs.Option.{option_map, option_copied}
+use Rattle.std.specs.Option.{option_map, option_copied, option_copied_mut}
 use Rattle.std.specs.Str.{bytes_eq}
 use Rattle.indexmap.specs.IndexMap.{IndexMap, insert_entry, get}
 use Rattle.graphql_names.specs.NameValue.{NameValue}
 use Rattle.graphql_components.specs.Names.{Entries, same_text, entries_of}
 use Rattle.graphql_schema_types.specs.TypeView.{name_text}
 use Rattle.graphql_schema_types.specs.Addresses.{under}
-use Rattle.graphql_typed_operations.specs.OperationsByName.{put_under}
+use Rattle.graphql_typed_operations.specs.OperationsByName.{put_under, only}
 
 module _ {X A : Type 0} (f : X → A) where
   abbrev pub under_names : List (NameValue × X) → Entries A
@@ -47,3 +47,22 @@ module _ {X A : Type 0} (f : X → A) where
   pub listed : (a : Option X) (es : List (NameValue × X)) → map f (cons_option a (values_of es)) ≡ cons_option (option_map f a) (map (λ e. e.1) (under_names es))
   listed None es = each-value es
   listed (Some x) es = ap (λ l. f x ∷ l) (each-value es)
+
+  -- what a call lends to be written to
+  pub copied_mut : (r : Option (MutBor X)) → option_map (λ x. f x.now) r ≡ option_map f (option_copied_mut r)
+  copied_mut None = refl
+  copied_mut (Some x) = refl
+
+  pub first-named : (es : List (NameValue × X)) → option_map f (slice_get (values_of es) 0) ≡ slice_get (map (λ e. e.1) (under_names es)) 0
+  first-named [] = refl
+  first-named (e ∷ es) = refl
+
+  pub first-unnamed : (o : Option X) (ys : List A) (x : X) → o ≡ Some x → option_map f o ≡ slice_get (cons_option (option_map f o) ys) 0
+  first-unnamed None ys x e = cc
+  first-unnamed (Some y) ys x e = refl
+
+-- the only one is the first
+pub only-first : {A : Type 0} (xs : List A) (a : A) → only xs ≡ Some a → slice_get xs 0 ≡ only xs
+only-first [] a h = refl
+only-first (x ∷ []) a h = refl
+only-first (x ∷ y ∷ xs) a h = cc

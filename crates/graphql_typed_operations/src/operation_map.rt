@@ -1,5 +1,5 @@
 //! The operations of a document, by name.
-ghost use Rattle.std.specs.Prelude.{◌≡◌, ◌↔◌, IsTrue, IfOk, OnErr, OnOk, None, Some, [], ◌∷◌, length, map};
+ghost use Rattle.std.specs.Prelude.{◌≡◌, ◌↔◌, IsTrue, IfOk, OnErr, OnOk, None, Some, [], ◌∷◌, length, map, slice_get};
 ghost use Rattle.std.specs.Option.{option_map, option_copied};
 ghost use Rattle.std.specs.Iterator.{YieldsFirstRef, item_count};
 ghost use Rattle.graphql_names.specs.Placed.{node_tree};
@@ -86,6 +86,36 @@ impl OperationMap {
         match operations.next() {
             None => Some(first),
             Some(_) => None,
+        }
+    }
+
+    /// The node of the operation that `get` gives, to be written to. What is written stays where it is, whatever its name.
+    pub fn get_mut(&mut self, name: Option<&Name>) -> Option<&mut Node<Operation>>
+        ensures { option_map (λ o. node_tree typed_operation_tree o.now) result ≡ operation_called (option_map name_text (option_copied name.entry)) (typed_operations_tree self.old) }
+    {
+        match name {
+            Some(name) => self.named.get_mut(name),
+            None => self.only_mut(),
+        }
+    }
+
+    /// The node of the only operation, to be written to, if there is just one.
+    fn only_mut(&mut self) -> Option<&mut Node<Operation>>
+        ensures { option_map (λ o. node_tree typed_operation_tree o.now) result ≡ operation_called None (typed_operations_tree self.old) }
+    {
+        match self.only() {
+            None => None,
+            Some(_) => self.first_mut(),
+        }
+    }
+
+    /// The node of the first operation, to be written to, if there is one.
+    fn first_mut(&mut self) -> Option<&mut Node<Operation>>
+        ensures { option_map (λ o. node_tree typed_operation_tree o.now) result ≡ slice_get (operations_list (typed_operations_tree self.old)) 0 }
+    {
+        match &self.anonymous {
+            None => self.named.get_index_mut(0),
+            Some(_) => self.anonymous.as_mut(),
         }
     }
 
