@@ -1,0 +1,7 @@
+//! Walks over the fields that a selection set reaches.
+#![tactic(auto)]
+
+mod document;
+mod walk;
+
+pub use document::{Fragment, FragmentMap};
