@@ -1,1 +1,2 @@
 pub mod TypedTree
+pub mod TypedParts

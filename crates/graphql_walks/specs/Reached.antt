@@ -1,6 +1,6 @@
 -- Which fields a walk lends: those of a selection set, and those of the fragments that it reaches
 -- (GraphQL, October 2021, sections 2.4, 2.5 and 2.8).
-use Rattle.std.specs.Prelude.{◌≡◌, ◌↔◌, ◌++◌, ℕ, Bool, true, false, List, [], ◌∷◌, map, if◌then◌else◌, Option, Some, Contains}
+use Rattle.std.specs.Prelude.{◌≡◌, ◌↔◌, ◌++◌, ℕ, Bool, true, false, List, [], ◌∷◌, map, if◌then◌else◌, Option, Some, None, Contains}
 use Rattle.std.specs.List.{flat_map, filter, find, IsDistinct}
 use Rattle.std.specs.Str.{bytes_eq}
 use Rattle.graphql_typed_selections.specs.TypedTree.{TypedSelection, TypedField, TypedSpread, TypedInline, TypedSet, typed_set, TypedSelections, no_typed, typed_then}
@@ -33,6 +33,10 @@ module _ {P : Type 0} where
   is_field (TypedField p d h s) = true
   is_field (TypedSpread p n ds) = false
   is_field (TypedInline p c ds s) = false
+
+  -- the selection, if it is a field
+  abbrev pub field_of : TypedSelection P → Option (TypedSelection P)
+  field_of s = if is_field s then Some s else None
 
   -- the name that a spread has
   abbrev pub spread_names : TypedSelection P → List (List ℕ)

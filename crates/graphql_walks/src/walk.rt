@@ -1,14 +1,29 @@
 //! A walk over the selections of a set and of the fragments that it reaches.
-ghost use Rattle.std.specs.Prelude.{◌≡◌, ◌++◌, map, IfOk, OnOk, IfSome, MatchOption, []};
+ghost use Rattle.std.specs.Prelude.{◌≡◌, ◌∷◌, map, []};
+ghost use Rattle.std.specs.Prelude.{IfOk, OnOk, MatchOption, MatchBool, if◌then◌else◌};
+ghost use Rattle.std.specs.Option.{option_map};
+ghost use Rattle.graphql_names.specs.Node.{content};
 ghost use Rattle.graphql_typed_selections.specs.TypedTree.{typed_selection_tree};
-ghost use Rattle.graphql_walks.specs.Left.{with_next, with_more, with_name};
-ghost use Rattle.graphql_walks.specs.WalkView.{standing, fragments_tree};
+ghost use Rattle.graphql_typed_selections.specs.TypedParts.{typed_field_node};
+ghost use Rattle.graphql_walks.specs.Left.{with_next, with_more, with_name, left_selections, left_fields};
+ghost use Rattle.graphql_walks.specs.WalkView.{standing, HasPassed, HasEntered, Takes};
 
 use crate::document::FragmentMap;
-use graphql_typed_selections::{Field, Selection, SelectionSet};
 use graphql_ast::{Name, Node};
+use graphql_typed_selections::{Field, Selection, SelectionSet};
 use indexmap::IndexSet;
 use std::alloc::{AllocError, Global};
+
+/// What one step of a walk does.
+#[derive(Clone, Copy)]
+enum Step<'doc> {
+    /// It lends a field.
+    Lends(&'doc Node<Field>),
+    /// It passes a selection that is no field, or enters a fragment.
+    Passes,
+    /// Nothing is left.
+    Ends,
+}
 
 /// Where a walk stands. Sets that are not passed to their ends wait on a stack, the innermost one aside; a fragment that
 /// is spread is noted, once, by its place among the document's, and entered when all sets before it are passed.
@@ -65,5 +80,81 @@ impl<'doc> Walk<'doc> {
             self.noted.insert(place)?;
         }
         Ok(())
+    }
+
+    /// Goes on with what stands in a field, if that is walked over.
+    fn enter_field(&mut self, field: &'doc Node<Field>) -> Result<(), AllocError>
+        ensures { OnOk result (standing self.new ≡ with_more (if (standing self.old).nested then map typed_selection_tree (content field.now).selection_set.selections.items else []) (standing self.old)) }
+    {
+        if !self.nested {
+            return Ok(());
+        }
+        self.descend(field.content().selection_set.selections.as_slice())
+    }
+
+    /// Passes a selection: goes on with what stands in it, or notes what it spreads. It is lent if it is a field.
+    fn pass(&mut self, selection: &'doc Selection) -> Result<Option<&'doc Node<Field>>, AllocError>
+        ensures { IfOk result (λ field. HasPassed (typed_selection_tree selection.now) (standing self.old) (option_map (λ f. typed_field_node f.now) field) (standing self.new)) }
+    {
+        match selection {
+            Selection::Field(field) => {
+                self.enter_field(field)?;
+                Ok(Some(field))
+            }
+            Selection::FragmentSpread(spread) => {
+                self.note(&spread.content().fragment_name)?;
+                Ok(None)
+            }
+            Selection::InlineFragment(inline) => {
+                self.descend(inline.content().selection_set.selections.as_slice())?;
+                Ok(None)
+            }
+        }
+    }
+
+    /// Goes on with the next fragment that is noted and not entered, if there is one. No more are entered than the
+    /// document has.
+    fn enter_fragment(&mut self) -> bool
+        requires { (standing self.old).pending ≡ [] }
+        ensures { MatchBool result (HasEntered (standing self.old) (standing self.new)) (left_selections (standing self.old) ≡ []) }
+    {
+        if self.entered >= self.fragments.len() {
+            return false;
+        }
+        let Some(place) = self.noted.get_index(self.entered) else {
+            return false;
+        };
+        self.entered += 1;
+        if let Some((_, fragment)) = self.fragments.get_index(*place) {
+            self.front = fragment.content().selection_set.selections.as_slice();
+        }
+        true
+    }
+
+    /// One step.
+    fn step(&mut self) -> Result<Step<'doc>, AllocError>
+        ensures { IfOk result (λ step. Takes (standing self.old) step (standing self.new)) }
+    {
+        match self.take_first() {
+            Some(selection) => match self.pass(selection)? {
+                Some(field) => Ok(Step::Lends(field)),
+                None => Ok(Step::Passes),
+            },
+            None if self.enter_fragment() => Ok(Step::Passes),
+            None => Ok(Step::Ends),
+        }
+    }
+
+    /// The next field.
+    fn next_field(&mut self) -> Result<Option<&'doc Node<Field>>, AllocError>
+        ensures { IfOk result (λ field. MatchOption field (left_fields (standing self.old) ≡ []) (λ f. left_fields (standing self.old) ≡ typed_field_node f.now ∷ left_fields (standing self.new))) }
+    {
+        loop {
+            match self.step()? {
+                Step::Lends(field) => return Ok(Some(field)),
+                Step::Passes => {}
+                Step::Ends => return Ok(None),
+            }
+        }
     }
 }
