@@ -1,2 +1,1 @@
 pub mod TypedTree
-pub mod TypedParts
