@@ -90,11 +90,11 @@ module _ {P : Type 0} where
 
   -- the walk once it has entered the fragment at that place
   abbrev pub inside : ℕ → Standing P → Standing P
-  inside place w = record w { pending = members_at w.fragments place; entered = suc w.entered }
+  inside place w = record w { pending = members_at w.fragments place; entered = w.entered + 1 }
 
   none_after : (nested : Bool) (fragments : List (List ℕ × TypedSet P)) (room : ℕ) (noted : List ℕ) (entered : ℕ) → slice_get noted entered ≡ None → left_after nested fragments room noted entered ≡ []
   none_after nested fragments zero noted entered is = refl
-  none_after nested fragments (suc room) noted entered is = ap (λ o. option_map_or (λ place. selections_at nested fragments place ++ left_after nested fragments room (note_all fragments noted (selections_at nested fragments place)) (suc entered)) o []) is
+  none_after nested fragments (suc room) noted entered is = ap (λ o. option_map_or (λ place. selections_at nested fragments place ++ left_after nested fragments room (note_all fragments noted (selections_at nested fragments place)) (entered + 1)) o []) is
 
   -- nothing is left where no fragment is noted that is not entered, or all are entered
   pub none_noted : (w : Standing P) → w.pending ≡ [] → slice_get w.noted w.entered ≡ None → left_selections w ≡ []
@@ -105,22 +105,22 @@ module _ {P : Type 0} where
   pub all_entered : (w : Standing P) → w.pending ≡ [] → length w.fragments ≤ w.entered → left_selections w ≡ []
   all_entered w none is =
     ap (λ ps. flat_map (selections_of w.nested) ps ++ left_behind w (flat_map (selections_of w.nested) ps)) none
-    ∙ ap (λ room. left_after w.nested w.fragments room w.noted w.entered) (omega (is, arith))
+    ∙ (let full : length w.fragments - w.entered ≡ 0 = omega (is, arith) in ap (λ room. left_after w.nested w.fragments room w.noted w.entered) full)
 
   after_one : (w : Standing P) (place room : ℕ) → slice_get w.noted w.entered ≡ Some place → length w.fragments - w.entered ≡ suc room
     → left_after w.nested w.fragments (length w.fragments - w.entered) w.noted w.entered
-      ≡ selections_at w.nested w.fragments place ++ left_after w.nested w.fragments room (note_all w.fragments w.noted (selections_at w.nested w.fragments place)) (suc w.entered)
+      ≡ selections_at w.nested w.fragments place ++ left_after w.nested w.fragments room (note_all w.fragments w.noted (selections_at w.nested w.fragments place)) (w.entered + 1)
   after_one w place room noted left =
     ap (λ r. left_after w.nested w.fragments r w.noted w.entered) left
-    ∙ ap (λ o. option_map_or (λ p. selections_at w.nested w.fragments p ++ left_after w.nested w.fragments room (note_all w.fragments w.noted (selections_at w.nested w.fragments p)) (suc w.entered)) o []) noted
+    ∙ ap (λ o. option_map_or (λ p. selections_at w.nested w.fragments p ++ left_after w.nested w.fragments room (note_all w.fragments w.noted (selections_at w.nested w.fragments p)) (w.entered + 1)) o []) noted
 
   pub entered : (w : Standing P) (place : ℕ) → w.pending ≡ [] → w.entered < length w.fragments → slice_get w.noted w.entered ≡ Some place → left_selections (inside place w) ≡ left_selections w
   entered w place none within noted =
-    let room : ℕ = length w.fragments - suc w.entered in
+    let room : ℕ = length w.fragments - (w.entered + 1) in
     sym (
       ap (λ ps. flat_map (selections_of w.nested) ps ++ left_behind w (flat_map (selections_of w.nested) ps)) none
       ∙ after_one w place room noted (omega (within, arith))
-      ∙ ap (λ l. l ++ left_after w.nested w.fragments room (note_all w.fragments w.noted l) (suc w.entered)) (in_members w.nested (slice_get w.fragments place)))
+      ∙ ap (λ l. l ++ left_after w.nested w.fragments room (note_all w.fragments w.noted l) (w.entered + 1)) (in_members w.nested (slice_get w.fragments place)))
 
   pub has_entered : (old new : Standing P) (place : ℕ) → old.pending ≡ [] → old.entered < length old.fragments → slice_get old.noted old.entered ≡ Some place → new ≡ inside place old → HasEntered old new
   has_entered old new place none within noted is = subst (λ w. HasEntered old w) (sym is) (record {

@@ -1,5 +1,5 @@
 -- What a walk still has to lend (private: it leads to `specs/Reached.antt`).
-use Rattle.std.specs.Prelude.{◌++◌, ◌-◌, ℕ, zero, suc, Bool, nat_eq, List, [], ◌∷◌, map, fold, length, slice_get}
+use Rattle.std.specs.Prelude.{◌++◌, ◌+◌, ◌-◌, ℕ, zero, suc, Bool, nat_eq, List, [], ◌∷◌, map, fold, length, slice_get}
 use Rattle.std.specs.List.{flat_map, filter, position}
 use Rattle.std.specs.Option.{option_map_or}
 use Rattle.std.specs.Str.{bytes_eq}
@@ -34,7 +34,7 @@ module _ {P : Type 0} where
   abbrev pub left_after : Bool → Fragments P → ℕ → List ℕ → ℕ → List (TypedSelection P)
   left_after nested fragments zero noted entered = []
   left_after nested fragments (suc room) noted entered = option_map_or
-    (λ place. selections_at nested fragments place ++ left_after nested fragments room (note_all fragments noted (selections_at nested fragments place)) (suc entered))
+    (λ place. selections_at nested fragments place ++ left_after nested fragments room (note_all fragments noted (selections_at nested fragments place)) (entered + 1))
     (slice_get noted entered) []
 
   -- the pending selections and what stands in them
