@@ -1,2 +1,4 @@
+pub mod Finding
 pub mod Passing
 pub mod Standings
+pub mod Whole

@@ -1,7 +1,7 @@
 -- What contracts see of a walk when it passes a selection, and when it enters a fragment.
 use Rattle.std.proofs.Common.{◌≡◌, ◌++◌, ◌+◌, ◌<◌, ◌≤◌, ℕ, suc, List, [], ◌∷◌, map, length, refl, ap, sym, ◌∙◌, subst, append-nil, arith}
-use Rattle.std.specs.Prelude.{Option, Some, None, slice_get, if◌then◌else◌, nat_eq, nat_lt, cond, not, Bool}
-use Rattle.std.specs.List.{position, prefix_len}
+use Rattle.std.specs.Prelude.{Option, Some, None, slice_get, if◌then◌else◌, nat_eq, Bool}
+use Rattle.std.specs.List.{position}
 use Rattle.std.specs.Option.{option_map, option_map_or}
 use Rattle.std.specs.Str.{bytes_eq}
 use Rattle.std.proofs.lemmas.Option.{slice_get-map}
@@ -20,8 +20,9 @@ use Rattle.graphql_typed_selections.proofs.TypedTrees.{typed_tree_field, typed_t
 use Rattle.graphql_walks.specs.declared.document.Fragment.{Fragment}
 use Rattle.indexmap.specs.IndexSet.{insert_key}
 use Rattle.graphql_walks.specs.Reached.{NamedSet}
-use Rattle.graphql_walks.specs.Left.{Standing, note, with_more, with_name}
+use Rattle.graphql_walks.specs.Left.{Standing, at_start, note, with_more, with_name}
 use Rattle.graphql_walks.specs.WalkView.{HasPassed, HasEntered, fragment_set}
+use Rattle.graphql_walks.proofs.Finding.{length-map, position-map}
 use Rattle.graphql_walks.proofs.Passing.{passed_field, passed_inline, has_entered, members_at}
 
 typed_selections-list : {A : Type 0} (f : A → TypedSelection Place) (xs : List A) → typed_selections_list (typed_selections f xs) ≡ map f xs
@@ -43,21 +44,6 @@ pub inline_passed : (n : Node InlineFragment) (s : Selection) (old new : Standin
   → HasPassed (typed_selection_tree s) old None new
 inline_passed n s old new members is of went = subst (λ t. HasPassed t old None new) (sym (ap typed_selection_tree is ∙ typed_tree_inline n))
   (passed_inline _ _ _ _ old new (map typed_selection_tree members) went (ap (map typed_selection_tree) of ∙ set_members (content n).selection_set))
-
-length-map : {A B : Type 0} (f : A → B) (xs : List A) → length (map f xs) ≡ length xs
-length-map f [] = refl
-length-map f (x ∷ xs) = ap suc (length-map f xs)
-
-prefix-map : {A B : Type 0} (f : A → B) (p : B → Bool) (xs : List A) → prefix_len p (map f xs) ≡ prefix_len (λ x. p (f x)) xs
-prefix-map f p [] = refl
-prefix-map f p (x ∷ xs) = ap (λ n. cond (p (f x)) (1 + n) 0) (prefix-map f p xs)
-
-abbrev at_or_none : ℕ → ℕ → Option ℕ
-at_or_none n l = cond (nat_lt n l) (Some n) None
-
--- the place of a name among keys
-pub position-map : {A B : Type 0} (f : A → B) (p : B → Bool) (xs : List A) → position p (map f xs) ≡ position (λ x. p (f x)) xs
-position-map f p xs = ap (λ n. at_or_none n (length (map f xs))) (prefix-map f (λ y. not (p y)) xs) ∙ ap (at_or_none (prefix_len (λ x. not (p (f x))) xs)) (length-map f xs)
 
 -- a name, and the selections of what stands under it
 abbrev pub named_set : NameValue × Node Fragment → NamedSet Place
@@ -113,3 +99,11 @@ module _ (old : Standing Place) (es : List (NameValue × Node Fragment)) (front 
   pub no_fragment : None ≡ slice_get es place → HasEntered old (record old { entered = old.entered + 1 })
   no_fragment at =
     has_entered old _ place none in_reach (sym noted) (ap (λ ps. record old { pending = ps; entered = old.entered + 1 }) (none ∙ sym (at_place None at)))
+
+-- a walk at the start of a set
+pub starts : (nested : Bool) (fragments : List (NamedSet Place)) (s : SelectionSet) (members : List Selection) (below : List (TypedSelection Place)) (noted : List ℕ) → members ≡ s.selections.items → below ≡ [] → noted ≡ []
+  → record { nested = nested; fragments = fragments; pending = map typed_selection_tree members ++ below; noted = noted; entered = 0 } ≡ at_start nested fragments (typed_set_tree s)
+starts nested fragments s members below noted of nothing none =
+    ap (λ ps. record { nested = nested; fragments = fragments; pending = ps; noted = noted; entered = 0 })
+      (ap (λ l. map typed_selection_tree members ++ l) nothing ∙ append-nil (map typed_selection_tree members) ∙ ap (map typed_selection_tree) of ∙ set_members s)
+    ∙ ap (λ ns. record { nested = nested; fragments = fragments; pending = typed_selections_list (set_selections (typed_set_tree s)); noted = ns; entered = 0 }) none

@@ -4,7 +4,7 @@ use Rattle.std.specs.List.{flat_map, filter, position}
 use Rattle.std.specs.Option.{option_map_or}
 use Rattle.std.specs.Str.{bytes_eq}
 use Rattle.indexmap.specs.IndexSet.{insert_key}
-use Rattle.graphql_typed_selections.specs.TypedTree.{TypedSelection}
+use Rattle.graphql_typed_selections.specs.TypedTree.{TypedSelection, TypedSet, set_selections, typed_selections_list}
 use Rattle.graphql_walks.specs.Reached.{Fragments, selections_of, selections_in, is_field, spread_names}
 
 -- where a walk stands: the selections that it has come to and not yet passed, the next one first; the places of the
@@ -58,3 +58,13 @@ module _ {P : Type 0} where
 
   abbrev pub with_name : List ℕ → Standing P → Standing P
   with_name n w = record w { noted = note w.fragments w.noted n }
+
+-- a walk at the start of a set
+abbrev pub at_start : {P : Type 0} → Bool → Fragments P → TypedSet P → Standing P
+at_start nested fragments start = record {
+  nested = nested;
+  fragments = fragments;
+  pending = typed_selections_list (set_selections start);
+  noted = [];
+  entered = 0;
+}

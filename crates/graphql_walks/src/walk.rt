@@ -3,10 +3,10 @@ ghost use Rattle.std.specs.Prelude.{◌≡◌, ◌∷◌, map, []};
 ghost use Rattle.std.specs.Prelude.{IfOk, OnOk, MatchOption, MatchBool, if◌then◌else◌};
 ghost use Rattle.std.specs.Option.{option_map};
 ghost use Rattle.graphql_names.specs.Node.{content};
-ghost use Rattle.graphql_typed_selections.specs.TypedTree.{typed_selection_tree};
+ghost use Rattle.graphql_typed_selections.specs.TypedTree.{typed_selection_tree, typed_set_tree};
 ghost use Rattle.graphql_typed_selections.specs.TypedParts.{typed_field_node};
-ghost use Rattle.graphql_walks.specs.Left.{with_next, with_more, with_name, left_selections, left_fields};
-ghost use Rattle.graphql_walks.specs.WalkView.{standing, HasPassed, HasEntered, Takes};
+ghost use Rattle.graphql_walks.specs.Left.{at_start, with_next, with_more, with_name, left_selections, left_fields};
+ghost use Rattle.graphql_walks.specs.WalkView.{standing, fragments_tree, HasPassed, HasEntered, Takes};
 
 use crate::document::FragmentMap;
 use graphql_ast::{Name, Node};
@@ -39,7 +39,14 @@ pub(crate) struct Walk<'doc> {
 
 impl<'doc> Walk<'doc> {
     /// At the start of a set.
-    pub(crate) fn new(alloc: Global, nested: bool, start: &'doc SelectionSet, fragments: &'doc FragmentMap) -> Walk<'doc> {
+    pub(crate) fn new(
+        alloc: Global,
+        nested: bool,
+        start: &'doc SelectionSet,
+        fragments: &'doc FragmentMap,
+    ) -> Walk<'doc>
+        ensures { standing result ≡ at_start nested (fragments_tree fragments.now) (typed_set_tree start.now) }
+    {
         Walk {
             nested,
             fragments,
@@ -146,7 +153,7 @@ impl<'doc> Walk<'doc> {
     }
 
     /// The next field.
-    fn next_field(&mut self) -> Result<Option<&'doc Node<Field>>, AllocError>
+    pub(crate) fn next_field(&mut self) -> Result<Option<&'doc Node<Field>>, AllocError>
         ensures { IfOk result (λ field. MatchOption field (left_fields (standing self.old) ≡ []) (λ f. left_fields (standing self.old) ≡ typed_field_node f.now ∷ left_fields (standing self.new))) }
     {
         loop {
