@@ -39,20 +39,31 @@ module _ {X : Type 0} (test : X → Bool) where
   found_from (x ∷ xs) i j h = by (test x) refl (found_from xs (i + 1) j)
     where
       by : (b : Bool) → test x ≡ b → (position_from test (i + 1) xs ≡ Some j → (k : ℕ) × ((j ≡ (i + 1) + k) × FoundAt test xs k)) → (k : ℕ) × ((j ≡ i + k) × FoundAt test (x ∷ xs) k)
-      by true is further = (0, (omega (some_is i j (sym (ap (λ b. cond b (Some i) (position_from test (i + 1) xs)) is) ∙ h), arith), record {
-        item = x;
-        stands = refl;
-        first = ap (λ b. cond b (Some x) (find test xs)) is;
-        passes = is;
-      }))
+      by true is further = (
+        0,
+        (
+          omega (some_is i j (sym (ap (λ b. cond b (Some i) (position_from test (i + 1) xs)) is) ∙ h), arith),
+          record {
+            item = x;
+            stands = refl;
+            first = ap (λ b. cond b (Some x) (find test xs)) is;
+            passes = is;
+          },
+        ),
+      )
       by false is further =
-        let rest = further (sym (ap (λ b. cond b (Some i) (position_from test (i + 1) xs)) is) ∙ h) in
-        (suc rest.0, (omega (rest.1.0, arith), record {
-          item = rest.1.1.item;
-          stands = rest.1.1.stands;
-          first = ap (λ b. cond b (Some x) (find test xs)) is ∙ rest.1.1.first;
-          passes = rest.1.1.passes;
-        }))
+          let rest = further (sym (ap (λ b. cond b (Some i) (position_from test (i + 1) xs)) is) ∙ h) in (
+            suc rest.0,
+            (
+              omega (rest.1.0, arith),
+              record {
+                item = rest.1.1.item;
+                stands = rest.1.1.stands;
+                first = ap (λ b. cond b (Some x) (find test xs)) is ∙ rest.1.1.first;
+                passes = rest.1.1.passes;
+              },
+            ),
+          )
 
   missing_from : (xs : List X) (i : ℕ) → position_from test i xs ≡ None → find test xs ≡ None
   missing_from [] i h = refl
@@ -64,8 +75,8 @@ module _ {X : Type 0} (test : X → Bool) where
 
   pub found_at : (xs : List X) (j : ℕ) → position test xs ≡ Some j → FoundAt test xs j
   found_at xs j h =
-    let found = found_from xs 0 j (sym (position_from-zero test xs) ∙ h) in
-    subst (FoundAt test xs) (omega (found.1.0, arith)) found.1.1
+      let found = found_from xs 0 j (sym (position_from-zero test xs) ∙ h) in
+      subst (FoundAt test xs) (omega (found.1.0, arith)) found.1.1
 
   pub missing : (xs : List X) → position test xs ≡ None → find test xs ≡ None
   missing xs h = missing_from xs 0 (sym (position_from-zero test xs) ∙ h)

@@ -52,11 +52,11 @@ module _ {P : Type 0} where
 
   pub passed : (s : TypedSelection P) (w : Standing P) → left_selections (with_next s w) ≡ s ∷ left_selections (after s w)
   passed s w =
-    let inside : standing_in (with_next s w) ≡ s ∷ standing_in (after s w) =
+      let inside : standing_in (with_next s w) ≡ s ∷ standing_in (after s w) =
       ap (λ l. l ++ standing_in w) (selections_of-members w.nested s)
       ∙ ap (λ l. s ∷ l) (sym (flat_map-append (selections_of w.nested) (members_of w.nested s) w.pending)) in
-    ap (λ l. l ++ left_behind w l) inside
-    ∙ ap (λ ns. s ∷ (standing_in (after s w) ++ left_after w.nested w.fragments (length w.fragments - w.entered) ns w.entered)) (names_noted w s (standing_in (after s w)))
+      ap (λ l. l ++ left_behind w l) inside
+      ∙ ap (λ ns. s ∷ (standing_in (after s w) ++ left_after w.nested w.fragments (length w.fragments - w.entered) ns w.entered)) (names_noted w s (standing_in (after s w)))
 
   -- a walk that stands where it has passed the selection
   pub has_passed : (s : TypedSelection P) (old new : Standing P) → new ≡ after s old → HasPassed s old (field_of s) new
@@ -68,16 +68,16 @@ module _ {P : Type 0} where
   })
 
   pub passed_field : (p : P) (d : Placed P (FieldDefinitionTree P)) (h : FieldHead P) (s : TypedSet P) (old new : Standing P) (members : List (TypedSelection P))
-    → new ≡ with_more (if old.nested then members else []) old → members ≡ typed_selections_list (set_selections s)
-    → HasPassed (TypedField p d h s) old (Some (TypedField p d h s)) new
+      → new ≡ with_more (if old.nested then members else []) old → members ≡ typed_selections_list (set_selections s)
+      → HasPassed (TypedField p d h s) old (Some (TypedField p d h s)) new
   passed_field p d h s old new members is of = has_passed (TypedField p d h s) old new (is ∙ ap (λ ms. with_more (if old.nested then ms else []) old) of)
 
   pub passed_spread : (p : P) (n : Text P) (ds : Directives P) (old new : Standing P) → new ≡ with_name n.it old → HasPassed (TypedSpread p n ds) old None new
   passed_spread p n ds old new is = has_passed (TypedSpread p n ds) old new is
 
   pub passed_inline : (p : P) (c : Option (Text P)) (ds : Directives P) (s : TypedSet P) (old new : Standing P) (members : List (TypedSelection P))
-    → new ≡ with_more members old → members ≡ typed_selections_list (set_selections s)
-    → HasPassed (TypedInline p c ds s) old None new
+      → new ≡ with_more members old → members ≡ typed_selections_list (set_selections s)
+      → HasPassed (TypedInline p c ds s) old None new
   passed_inline p c ds s old new members is of = has_passed (TypedInline p c ds s) old new (is ∙ ap (λ ms. with_more ms old) of)
 
   -- the members of the fragment at a place
@@ -99,25 +99,25 @@ module _ {P : Type 0} where
   -- nothing is left where no fragment is noted that is not entered, or all are entered
   pub none_noted : (w : Standing P) → w.pending ≡ [] → slice_get w.noted w.entered ≡ None → left_selections w ≡ []
   none_noted w none is =
-    ap (λ ps. flat_map (selections_of w.nested) ps ++ left_behind w (flat_map (selections_of w.nested) ps)) none
-    ∙ none_after w.nested w.fragments (length w.fragments - w.entered) w.noted w.entered is
+      ap (λ ps. flat_map (selections_of w.nested) ps ++ left_behind w (flat_map (selections_of w.nested) ps)) none
+      ∙ none_after w.nested w.fragments (length w.fragments - w.entered) w.noted w.entered is
 
   pub all_entered : (w : Standing P) → w.pending ≡ [] → length w.fragments ≤ w.entered → left_selections w ≡ []
   all_entered w none is =
-    ap (λ ps. flat_map (selections_of w.nested) ps ++ left_behind w (flat_map (selections_of w.nested) ps)) none
-    ∙ (let full : length w.fragments - w.entered ≡ 0 = omega (is, arith) in ap (λ room. left_after w.nested w.fragments room w.noted w.entered) full)
+      ap (λ ps. flat_map (selections_of w.nested) ps ++ left_behind w (flat_map (selections_of w.nested) ps)) none
+      ∙ (let full : length w.fragments - w.entered ≡ 0 = omega (is, arith) in ap (λ room. left_after w.nested w.fragments room w.noted w.entered) full)
 
   after_one : (w : Standing P) (place room : ℕ) → slice_get w.noted w.entered ≡ Some place → length w.fragments - w.entered ≡ suc room
-    → left_after w.nested w.fragments (length w.fragments - w.entered) w.noted w.entered
+      → left_after w.nested w.fragments (length w.fragments - w.entered) w.noted w.entered
       ≡ selections_at w.nested w.fragments place ++ left_after w.nested w.fragments room (note_all w.fragments w.noted (selections_at w.nested w.fragments place)) (w.entered + 1)
   after_one w place room noted left =
-    ap (λ r. left_after w.nested w.fragments r w.noted w.entered) left
-    ∙ ap (λ o. option_map_or (λ p. selections_at w.nested w.fragments p ++ left_after w.nested w.fragments room (note_all w.fragments w.noted (selections_at w.nested w.fragments p)) (w.entered + 1)) o []) noted
+      ap (λ r. left_after w.nested w.fragments r w.noted w.entered) left
+      ∙ ap (λ o. option_map_or (λ p. selections_at w.nested w.fragments p ++ left_after w.nested w.fragments room (note_all w.fragments w.noted (selections_at w.nested w.fragments p)) (w.entered + 1)) o []) noted
 
   pub entered : (w : Standing P) (place : ℕ) → w.pending ≡ [] → w.entered < length w.fragments → slice_get w.noted w.entered ≡ Some place → left_selections (inside place w) ≡ left_selections w
   entered w place none within noted =
-    let room : ℕ = length w.fragments - (w.entered + 1) in
-    sym (
+      let room : ℕ = length w.fragments - (w.entered + 1) in
+      sym (
       ap (λ ps. flat_map (selections_of w.nested) ps ++ left_behind w (flat_map (selections_of w.nested) ps)) none
       ∙ after_one w place room noted (omega (within, arith))
       ∙ ap (λ l. l ++ left_after w.nested w.fragments room (note_all w.fragments w.noted l) (w.entered + 1)) (in_members w.nested (slice_get w.fragments place)))

@@ -34,16 +34,16 @@ pub set_members : (s : SelectionSet) → map typed_selection_tree s.selections.i
 set_members s = sym (ap (λ t. typed_selections_list (set_selections t)) (typed_set_tree_out s) ∙ typed_selections-list typed_selection_tree s.selections.items)
 
 pub field_passed : (n : Node Field) (s : Selection) (old new : Standing Place) → s ≡ Field' n
-  → new ≡ with_more (if old.nested then map typed_selection_tree (content n).selection_set.selections.items else []) old
-  → HasPassed (typed_selection_tree s) old (Some (typed_field_node n)) new
+    → new ≡ with_more (if old.nested then map typed_selection_tree (content n).selection_set.selections.items else []) old
+    → HasPassed (typed_selection_tree s) old (Some (typed_field_node n)) new
 field_passed n s old new is went = subst (λ t. HasPassed t old (Some (typed_field_node n)) new) (sym (ap typed_selection_tree is ∙ typed_tree_field n))
-  (passed_field _ _ _ _ old new (map typed_selection_tree (content n).selection_set.selections.items) went (set_members (content n).selection_set))
+    (passed_field _ _ _ _ old new (map typed_selection_tree (content n).selection_set.selections.items) went (set_members (content n).selection_set))
 
 pub inline_passed : (n : Node InlineFragment) (s : Selection) (old new : Standing Place) (members : List Selection) → s ≡ InlineFragment' n → members ≡ (content n).selection_set.selections.items
-  → new ≡ with_more (map typed_selection_tree members) old
-  → HasPassed (typed_selection_tree s) old None new
+    → new ≡ with_more (map typed_selection_tree members) old
+    → HasPassed (typed_selection_tree s) old None new
 inline_passed n s old new members is of went = subst (λ t. HasPassed t old None new) (sym (ap typed_selection_tree is ∙ typed_tree_inline n))
-  (passed_inline _ _ _ _ old new (map typed_selection_tree members) went (ap (map typed_selection_tree) of ∙ set_members (content n).selection_set))
+    (passed_inline _ _ _ _ old new (map typed_selection_tree members) went (ap (map typed_selection_tree) of ∙ set_members (content n).selection_set))
 
 -- a name, and the selections of what stands under it
 abbrev pub named_set : NameValue × Node Fragment → NamedSet Place
@@ -59,11 +59,11 @@ pub noted_as : (w : Standing Place) (ks ls : List ℕ) → ks ≡ ls → record 
 noted_as w ks ls is = ap (λ ns. record w { noted = ns }) is
 
 pub noted_some : (es : List (NameValue × Node Fragment)) (n : List ℕ) (old new : List ℕ) (place : ℕ) → Some place ≡ position (λ (k : NameValue). bytes_eq n k.text) (map (λ (e : NameValue × Node Fragment). e.0) es)
-  → new ≡ insert_key nat_eq old place → new ≡ note (map named_set es) old n
+    → new ≡ insert_key nat_eq old place → new ≡ note (map named_set es) old n
 noted_some es n old new place at is = is ∙ ap (λ o. option_map_or (insert_key nat_eq old) o old) (at ∙ sym (place_named es n))
 
 pub noted_none : (es : List (NameValue × Node Fragment)) (n : List ℕ) (old : List ℕ) → None ≡ position (λ (k : NameValue). bytes_eq n k.text) (map (λ (e : NameValue × Node Fragment). e.0) es)
-  → old ≡ note (map named_set es) old n
+    → old ≡ note (map named_set es) old n
 noted_none es n old at = ap (λ o. option_map_or (insert_key nat_eq old) o old) (at ∙ sym (place_named es n))
 
 nil_right : {A : Type 0} (xs ys : List A) → xs ++ ys ≡ [] → ys ≡ []
@@ -77,9 +77,8 @@ abbrev members_if : Option (NamedSet Place) → List (TypedSelection Place)
 members_if o = option_map_or (λ f. typed_selections_list (set_selections f.1)) o []
 
 module _ (old : Standing Place) (es : List (NameValue × Node Fragment)) (front below : List (TypedSelection Place)) (place count : ℕ)
-  (is : old.fragments ≡ map named_set es) (pending : old.pending ≡ front ++ below) (none : old.pending ≡ [])
-  (within : old.entered < count) (all : count ≡ length es) (noted : Some place ≡ slice_get old.noted old.entered) where
-
+    (is : old.fragments ≡ map named_set es) (pending : old.pending ≡ front ++ below) (none : old.pending ≡ [])
+    (within : old.entered < count) (all : count ≡ length es) (noted : Some place ≡ slice_get old.noted old.entered) where
   in_reach : old.entered < length old.fragments
   in_reach = subst (λ (fs : List (NamedSet Place)). old.entered < length fs) (sym is) (within_all es old.entered count within all)
 
@@ -87,23 +86,23 @@ module _ (old : Standing Place) (es : List (NameValue × Node Fragment)) (front 
   at_place o at = ap (λ (fs : List (NamedSet Place)). members_at fs place) is ∙ ap members_if (slice_get-map named_set es place ∙ ap (option_map named_set) (sym at))
 
   pub fragment_entered : (k : NameValue) (fragment : Node Fragment) (members : List Selection) → Some (k, fragment) ≡ slice_get es place → members ≡ (content {A = Fragment} fragment).selection_set.selections.items
-    → HasEntered old (record old { pending = map typed_selection_tree members ++ below; entered = old.entered + 1 })
+      → HasEntered old (record old { pending = map typed_selection_tree members ++ below; entered = old.entered + 1 })
   fragment_entered k fragment members at of =
-    let nothing : below ≡ [] = nil_right front below (sym pending ∙ none) in
-    let now : map typed_selection_tree members ++ below ≡ members_at old.fragments place =
+      let nothing : below ≡ [] = nil_right front below (sym pending ∙ none) in
+      let now : map typed_selection_tree members ++ below ≡ members_at old.fragments place =
       ap (λ l. map typed_selection_tree members ++ l) nothing ∙ append-nil (map typed_selection_tree members)
       ∙ ap (map typed_selection_tree) of ∙ set_members (content {A = Fragment} fragment).selection_set
       ∙ sym (at_place (Some (k, fragment)) at) in
-    has_entered old _ place none in_reach (sym noted) (ap (λ ps. record old { pending = ps; entered = old.entered + 1 }) now)
+      has_entered old _ place none in_reach (sym noted) (ap (λ ps. record old { pending = ps; entered = old.entered + 1 }) now)
 
   pub no_fragment : None ≡ slice_get es place → HasEntered old (record old { entered = old.entered + 1 })
   no_fragment at =
-    has_entered old _ place none in_reach (sym noted) (ap (λ ps. record old { pending = ps; entered = old.entered + 1 }) (none ∙ sym (at_place None at)))
+      has_entered old _ place none in_reach (sym noted) (ap (λ ps. record old { pending = ps; entered = old.entered + 1 }) (none ∙ sym (at_place None at)))
 
 -- a walk at the start of a set
 pub starts : (nested : Bool) (fragments : List (NamedSet Place)) (s : SelectionSet) (members : List Selection) (below : List (TypedSelection Place)) (noted : List ℕ) → members ≡ s.selections.items → below ≡ [] → noted ≡ []
-  → record { nested = nested; fragments = fragments; pending = map typed_selection_tree members ++ below; noted = noted; entered = 0 } ≡ at_start nested fragments (typed_set_tree s)
+    → record { nested = nested; fragments = fragments; pending = map typed_selection_tree members ++ below; noted = noted; entered = 0 } ≡ at_start nested fragments (typed_set_tree s)
 starts nested fragments s members below noted of nothing none =
     ap (λ ps. record { nested = nested; fragments = fragments; pending = ps; noted = noted; entered = 0 })
-      (ap (λ l. map typed_selection_tree members ++ l) nothing ∙ append-nil (map typed_selection_tree members) ∙ ap (map typed_selection_tree) of ∙ set_members s)
+    (ap (λ l. map typed_selection_tree members ++ l) nothing ∙ append-nil (map typed_selection_tree members) ∙ ap (map typed_selection_tree) of ∙ set_members s)
     ∙ ap (λ ns. record { nested = nested; fragments = fragments; pending = typed_selections_list (set_selections (typed_set_tree s)); noted = ns; entered = 0 }) none

@@ -34,8 +34,8 @@ module _ {P : Type 0} where
   abbrev pub left_after : Bool → Fragments P → ℕ → List ℕ → ℕ → List (TypedSelection P)
   left_after nested fragments zero noted entered = []
   left_after nested fragments (suc room) noted entered = option_map_or
-    (λ place. selections_at nested fragments place ++ left_after nested fragments room (note_all fragments noted (selections_at nested fragments place)) (entered + 1))
-    (slice_get noted entered) []
+      (λ place. selections_at nested fragments place ++ left_after nested fragments room (note_all fragments noted (selections_at nested fragments place)) (entered + 1))
+      (slice_get noted entered) []
 
   -- the pending selections and what stands in them
   abbrev pub standing_in : Standing P → List (TypedSelection P)

@@ -19,8 +19,8 @@ module _ {W : Type 0} (is_over : W → Bool) (left : W → List (TypedSelection 
   -- over; a walk that is over gives nothing
   abbrev pub LendsNext : W → Option (Result (Bor (Node Field)) AllocError) → W → Type 0
   LendsNext old given new = MatchOption given
-    ((left old ≡ []) × (is_over new ≡ true))
-    (λ item. (is_over old ≡ false) × MatchResult item
+      ((left old ≡ []) × (is_over new ≡ true))
+      (λ item. (is_over old ≡ false) × MatchResult item
       (λ field. left old ≡ typed_field_node field.now ∷ left new)
       (λ refused. is_over new ≡ true))
 

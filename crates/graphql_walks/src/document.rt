@@ -1,7 +1,7 @@
 //! A document's fragments.
 
-use graphql_typed_selections::SelectionSet;
 use graphql_ast::{DirectiveList, Name, Node};
+use graphql_typed_selections::SelectionSet;
 use indexmap::IndexMap;
 
 /// `fragment name on type_condition @directives { selections }` (section 2.8), its set over the type condition.

@@ -9,5 +9,5 @@ returns-in_ok-enter_field-in-Field c = field_passed c.in-Field.field c.args.sele
 
 pub returns-in_ok-descend-in-InlineFragment : goal.returns-in_ok-descend-in-InlineFragment
 returns-in_ok-descend-in-InlineFragment c = inline_passed c.in-InlineFragment.inline c.args.selection.now (standing c.args.self.now) (standing c.descend.new.self) c.as_slice.result.now c.in-InlineFragment.is
-  (c.as_slice.ensures.value ∙ ap (λ (f : InlineFragment). f.selection_set.selections.items) c.content-in-InlineFragment.ensures)
-  c.in_ok-descend-in-InlineFragment.ensures
+    (c.as_slice.ensures.value ∙ ap (λ (f : InlineFragment). f.selection_set.selections.items) c.content-in-InlineFragment.ensures)
+    c.in_ok-descend-in-InlineFragment.ensures
