@@ -2,3 +2,5 @@ pub mod Finding
 pub mod Passing
 pub mod Standings
 pub mod Whole
+pub mod WalkLaws
+pub mod WalkExamples

@@ -4,10 +4,6 @@ use Rattle.std.specs.Prelude.{Option, Some, None, fold, slice_get, if◌then◌e
 use Rattle.std.specs.List.{flat_map, filter}
 use Rattle.std.specs.Option.{option_map_or}
 use Rattle.std.proofs.lemmas.Grind.{flat_map-append}
-use Rattle.graphql_names.specs.Placed.{Placed, Text}
-use Rattle.graphql_directives.specs.DirectiveTree.{Directives}
-use Rattle.graphql_operations.specs.SelectionTree.{FieldHead}
-use Rattle.graphql_type_members.specs.TypeSystemTree.{FieldDefinitionTree}
 use Rattle.graphql_typed_selections.specs.TypedTree.{TypedSelection, TypedField, TypedSpread, TypedInline, TypedSet, typed_set, TypedSelections, no_typed, typed_then, set_selections, typed_selections_list}
 use Rattle.graphql_walks.specs.Reached.{selections_of, selections_in, selections_along, is_field, field_of, spread_names}
 use Rattle.graphql_walks.specs.Left.{Standing, note, note_all, selections_at, left_after, standing_in, left_selections, left_fields, with_next, with_more, with_name}
@@ -66,19 +62,6 @@ module _ {P : Type 0} where
     entered = refl;
     lent = refl;
   })
-
-  pub passed_field : (p : P) (d : Placed P (FieldDefinitionTree P)) (h : FieldHead P) (s : TypedSet P) (old new : Standing P) (members : List (TypedSelection P))
-      → new ≡ with_more (if old.nested then members else []) old → members ≡ typed_selections_list (set_selections s)
-      → HasPassed (TypedField p d h s) old (Some (TypedField p d h s)) new
-  passed_field p d h s old new members is of = has_passed (TypedField p d h s) old new (is ∙ ap (λ ms. with_more (if old.nested then ms else []) old) of)
-
-  pub passed_spread : (p : P) (n : Text P) (ds : Directives P) (old new : Standing P) → new ≡ with_name n.it old → HasPassed (TypedSpread p n ds) old None new
-  passed_spread p n ds old new is = has_passed (TypedSpread p n ds) old new is
-
-  pub passed_inline : (p : P) (c : Option (Text P)) (ds : Directives P) (s : TypedSet P) (old new : Standing P) (members : List (TypedSelection P))
-      → new ≡ with_more members old → members ≡ typed_selections_list (set_selections s)
-      → HasPassed (TypedInline p c ds s) old None new
-  passed_inline p c ds s old new members is of = has_passed (TypedInline p c ds s) old new (is ∙ ap (λ ms. with_more ms old) of)
 
   -- the members of the fragment at a place
   abbrev pub members_at : List (List ℕ × TypedSet P) → ℕ → List (TypedSelection P)

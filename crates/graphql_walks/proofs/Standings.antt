@@ -17,13 +17,13 @@ use Rattle.graphql_typed_selections.specs.declared.selection.InlineFragment.{Inl
 use Rattle.graphql_typed_selections.specs.declared.selection.SelectionSet.{SelectionSet}
 use Rattle.graphql_typed_selections.specs.declared.selection.Selection.TheViews.{Field as Field', InlineFragment as InlineFragment'}
 use Rattle.graphql_typed_selections.proofs.TypedTrees.{typed_tree_field, typed_tree_inline, typed_set_tree_out}
-use Rattle.graphql_walks.specs.declared.document.Fragment.{Fragment}
+use Rattle.graphql_typed_operations.specs.declared.operation.Fragment.{Fragment}
 use Rattle.indexmap.specs.IndexSet.{insert_key}
 use Rattle.graphql_walks.specs.Reached.{NamedSet}
 use Rattle.graphql_walks.specs.Left.{Standing, at_start, note, with_more, with_name}
 use Rattle.graphql_walks.specs.WalkView.{HasPassed, HasEntered, fragment_set}
 use Rattle.graphql_walks.proofs.Finding.{length-map, position-map}
-use Rattle.graphql_walks.proofs.Passing.{passed_field, passed_inline, has_entered, members_at}
+use Rattle.graphql_walks.proofs.Passing.{has_passed, has_entered, members_at}
 
 typed_selections-list : {A : Type 0} (f : A → TypedSelection Place) (xs : List A) → typed_selections_list (typed_selections f xs) ≡ map f xs
 typed_selections-list f [] = refl
@@ -36,14 +36,16 @@ set_members s = sym (ap (λ t. typed_selections_list (set_selections t)) (typed_
 pub field_passed : (n : Node Field) (s : Selection) (old new : Standing Place) → s ≡ Field' n
     → new ≡ with_more (if old.nested then map typed_selection_tree (content n).selection_set.selections.items else []) old
     → HasPassed (typed_selection_tree s) old (Some (typed_field_node n)) new
-field_passed n s old new is went = subst (λ t. HasPassed t old (Some (typed_field_node n)) new) (sym (ap typed_selection_tree is ∙ typed_tree_field n))
-    (passed_field _ _ _ _ old new (map typed_selection_tree (content n).selection_set.selections.items) went (set_members (content n).selection_set))
+field_passed n s old new is went =
+    subst (λ t. HasPassed t old (Some (typed_field_node n)) new) (sym (ap typed_selection_tree is ∙ typed_tree_field n))
+    (has_passed (typed_field_node n) old new (went ∙ ap (λ ms. with_more (if old.nested then ms else []) old) (set_members (content n).selection_set)))
 
 pub inline_passed : (n : Node InlineFragment) (s : Selection) (old new : Standing Place) (members : List Selection) → s ≡ InlineFragment' n → members ≡ (content n).selection_set.selections.items
     → new ≡ with_more (map typed_selection_tree members) old
     → HasPassed (typed_selection_tree s) old None new
-inline_passed n s old new members is of went = subst (λ t. HasPassed t old None new) (sym (ap typed_selection_tree is ∙ typed_tree_inline n))
-    (passed_inline _ _ _ _ old new (map typed_selection_tree members) went (ap (map typed_selection_tree) of ∙ set_members (content n).selection_set))
+inline_passed n s old new members is of went =
+    subst (λ t. HasPassed t old None new) (sym (ap typed_selection_tree is ∙ typed_tree_inline n))
+    (has_passed (typed_inline_node n) old new (went ∙ ap (λ ms. with_more ms old) (ap (map typed_selection_tree) of ∙ set_members (content n).selection_set)))
 
 -- a name, and the selections of what stands under it
 abbrev pub named_set : NameValue × Node Fragment → NamedSet Place

@@ -3,6 +3,7 @@
 use Rattle.std.specs.Prelude.{◌≡◌, ◌↔◌, ◌++◌, ℕ, Bool, true, false, List, [], ◌∷◌, map, if◌then◌else◌, Option, Some, None, Contains}
 use Rattle.std.specs.List.{flat_map, filter, find, IsDistinct}
 use Rattle.std.specs.Str.{bytes_eq}
+use Rattle.graphql_typed_operations.specs.TypedDocument.{TypedDocumentTree}
 use Rattle.graphql_typed_selections.specs.TypedTree.{TypedSelection, TypedField, TypedSpread, TypedInline, TypedSet, typed_set, TypedSelections, no_typed, typed_then}
 
 -- a fragment's name, and the set of its selections
@@ -12,6 +13,10 @@ NamedSet P = List ℕ × TypedSet P
 -- a document's fragments
 abbrev pub Fragments : Type 0 → Type 0
 Fragments P = List (NamedSet P)
+
+-- those of a document
+abbrev pub document_fragments : {P : Type 0} → TypedDocumentTree P → Fragments P
+document_fragments d = map (λ e. (e.0, e.1.it.set)) d.fragments
 
 -- a selection, then what stands in it, in the order of the text: what stands in an inline fragment, at each depth,
 -- and if `nested` is true, what stands in a field too; what a spread names doesn't stand in it

@@ -9,7 +9,7 @@ use Rattle.graphql_typed_selections.specs.TypedTree.{TypedSelection, TypedSet, t
 use Rattle.graphql_typed_selections.specs.declared.selection.Selection.{Selection}
 use Rattle.graphql_typed_selections.specs.declared.selection.Field.{Field}
 use Rattle.graphql_typed_selections.specs.TypedParts.{typed_field_node}
-use Rattle.graphql_walks.specs.declared.document.Fragment.{Fragment}
+use Rattle.graphql_typed_operations.specs.declared.operation.Fragment.{Fragment}
 use Rattle.graphql_walks.specs.declared.walk.Walk.{Walk}
 use Rattle.graphql_walks.specs.declared.walk.Step.{Step}
 use Rattle.graphql_walks.specs.declared.walk.Step.TheVariants.{Lends, Passes, Ends}

@@ -7,10 +7,11 @@
 //! Begin with `fields.rt` and `specs/Reached.antt`.
 #![tactic(auto)]
 
-mod document;
 mod fields;
 mod lending;
 mod walk;
 
-pub use document::{Fragment, FragmentMap};
 pub use fields::{AllFields, RootFields};
+
+// The crates beneath, for those above.
+pub use graphql_typed_operations;

@@ -1,6 +1,6 @@
 use Rattle.std.proofs.Common.{map, refl, fold, [], ◌∙◌, ap}
 use Rattle.graphql_typed_selections.specs.TypedTree.{typed_selection_tree}
-use Rattle.graphql_walks.specs.declared.document.Fragment.{Fragment}
+use Rattle.graphql_typed_operations.specs.declared.operation.Fragment.{Fragment}
 use Rattle.graphql_walks.specs.WalkView.{standing, waiting_in}
 use Rattle.graphql_walks.proofs.Standings.{fragment_entered, no_fragment}
 use Rattle.graphql_walks.proofs.walk.Walk.enter_fragment.Goals as goal
