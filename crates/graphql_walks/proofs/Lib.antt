@@ -1,0 +1,6 @@
+pub mod Finding
+pub mod Passing
+pub mod Standings
+pub mod Whole
+pub mod WalkLaws
+pub mod WalkExamples

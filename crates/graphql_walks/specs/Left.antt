@@ -1,0 +1,70 @@
+-- What a walk still has to lend (private: it leads to `specs/Reached.antt`).
+use Rattle.std.specs.Prelude.{◌++◌, ◌+◌, ◌-◌, ℕ, zero, suc, Bool, nat_eq, List, [], ◌∷◌, map, fold, length, slice_get}
+use Rattle.std.specs.List.{flat_map, filter, position}
+use Rattle.std.specs.Option.{option_map_or}
+use Rattle.std.specs.Str.{bytes_eq}
+use Rattle.indexmap.specs.IndexSet.{insert_key}
+use Rattle.graphql_typed_selections.specs.TypedTree.{TypedSelection, TypedSet, set_selections, typed_selections_list}
+use Rattle.graphql_walks.specs.Reached.{Fragments, selections_of, selections_in, is_field, spread_names}
+
+-- where a walk stands: the selections that it has come to and not yet passed, the next one first; the places of the
+-- fragments whose spreads it has passed, in the order of their first spreads; and how many of these it has entered
+pub record Standing (P : Type 0) : Type 0 where
+  pub nested : Bool
+  pub fragments : Fragments P
+  pub pending : List (TypedSelection P)
+  pub noted : List ℕ
+  pub entered : ℕ
+
+module _ {P : Type 0} where
+  -- the places, with that of the fragment of this name
+  abbrev pub note : Fragments P → List ℕ → List ℕ → List ℕ
+  note fragments noted n = option_map_or (insert_key nat_eq noted) (position (bytes_eq n) (map (λ f. f.0) fragments)) noted
+
+  -- the places, with those of the fragments that these selections spread
+  abbrev pub note_all : Fragments P → List ℕ → List (TypedSelection P) → List ℕ
+  note_all fragments noted passed = fold (note fragments) noted (flat_map spread_names passed)
+
+  -- the selections in the fragment at this place
+  abbrev pub selections_at : Bool → Fragments P → ℕ → List (TypedSelection P)
+  selections_at nested fragments place = option_map_or (λ f. selections_in nested f.1) (slice_get fragments place) []
+
+  -- the selections in the fragments that are noted and not entered, and in those that are noted on the way, as long as
+  -- no more than so many are entered
+  abbrev pub left_after : Bool → Fragments P → ℕ → List ℕ → ℕ → List (TypedSelection P)
+  left_after nested fragments zero noted entered = []
+  left_after nested fragments (suc room) noted entered = option_map_or
+      (λ place. selections_at nested fragments place ++ left_after nested fragments room (note_all fragments noted (selections_at nested fragments place)) (entered + 1))
+      (slice_get noted entered) []
+
+  -- the pending selections and what stands in them
+  abbrev pub standing_in : Standing P → List (TypedSelection P)
+  standing_in w = flat_map (selections_of w.nested) w.pending
+
+  -- the selections that are left
+  abbrev pub left_selections : Standing P → List (TypedSelection P)
+  left_selections w = standing_in w ++ left_after w.nested w.fragments (length w.fragments - w.entered) (note_all w.fragments w.noted (standing_in w)) w.entered
+
+  -- the fields that are left
+  abbrev pub left_fields : Standing P → List (TypedSelection P)
+  left_fields w = filter is_field (left_selections w)
+
+  -- the same, with one more selection to come first, with more of them, or with a name noted
+  abbrev pub with_next : TypedSelection P → Standing P → Standing P
+  with_next s w = record w { pending = s ∷ w.pending }
+
+  abbrev pub with_more : List (TypedSelection P) → Standing P → Standing P
+  with_more ss w = record w { pending = ss ++ w.pending }
+
+  abbrev pub with_name : List ℕ → Standing P → Standing P
+  with_name n w = record w { noted = note w.fragments w.noted n }
+
+-- a walk at the start of a set
+abbrev pub at_start : {P : Type 0} → Bool → Fragments P → TypedSet P → Standing P
+at_start nested fragments start = record {
+  nested = nested;
+  fragments = fragments;
+  pending = typed_selections_list (set_selections start);
+  noted = [];
+  entered = 0;
+}

@@ -1,0 +1,4 @@
+pub mod Reached
+pub mod Left
+pub mod WalkView
+pub mod Lending

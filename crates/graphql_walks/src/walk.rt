@@ -1,0 +1,167 @@
+//! A walk over the selections of a set and of the fragments that it reaches.
+ghost use Rattle.std.specs.Prelude.{◌≡◌, ◌∷◌, map, []};
+ghost use Rattle.std.specs.Prelude.{IfOk, OnOk, MatchOption, MatchBool, if◌then◌else◌};
+ghost use Rattle.std.specs.Option.{option_map};
+ghost use Rattle.graphql_names.specs.Node.{content};
+ghost use Rattle.graphql_typed_selections.specs.TypedTree.{typed_selection_tree, typed_set_tree};
+ghost use Rattle.graphql_typed_selections.specs.TypedParts.{typed_field_node};
+ghost use Rattle.graphql_walks.specs.Left.{at_start, with_next, with_more, with_name, left_selections, left_fields};
+ghost use Rattle.graphql_walks.specs.WalkView.{standing, fragments_tree, HasPassed, HasEntered, Takes};
+
+use graphql_typed_operations::FragmentMap;
+use graphql_typed_operations::graphql_typed_selections::graphql_ast::{Name, Node};
+use graphql_typed_operations::graphql_typed_selections::{Field, Selection, SelectionSet};
+use indexmap::IndexSet;
+use std::alloc::{AllocError, Global};
+
+/// What one step of a walk does.
+#[derive(Clone, Copy)]
+enum Step<'doc> {
+    /// It lends a field.
+    Lends(&'doc Node<Field>),
+    /// It passes a selection that is no field, or enters a fragment.
+    Passes,
+    /// Nothing is left.
+    Ends,
+}
+
+/// Where a walk stands. Sets that are not passed to their ends wait on a stack, the innermost one aside; a fragment that
+/// is spread is noted, once, by its place among the document's, and entered when all sets before it are passed.
+#[derive(Drop)]
+pub(crate) struct Walk<'doc> {
+    nested: bool,
+    fragments: &'doc FragmentMap,
+    front: &'doc [Selection],
+    outer: Vec<&'doc [Selection]>,
+    noted: IndexSet<usize>,
+    entered: usize,
+}
+
+impl<'doc> Walk<'doc> {
+    /// At the start of a set.
+    pub(crate) fn new(
+        alloc: Global,
+        nested: bool,
+        start: &'doc SelectionSet,
+        fragments: &'doc FragmentMap,
+    ) -> Walk<'doc>
+        ensures { standing result ≡ at_start nested (fragments_tree fragments.now) (typed_set_tree start.now) }
+    {
+        Walk {
+            nested,
+            fragments,
+            front: start.selections.as_slice(),
+            outer: Vec::new(alloc),
+            noted: IndexSet::new(alloc),
+            entered: 0,
+        }
+    }
+
+    /// Takes the next selection of the sets that are not passed to their ends.
+    fn take_first(&mut self) -> Option<&'doc Selection>
+        ensures { MatchOption result ((standing self.new ≡ standing self.old) × ((standing self.old).pending ≡ [])) (λ s. standing self.old ≡ with_next (typed_selection_tree s.now) (standing self.new)) }
+    {
+        loop {
+            if let Some((first, others)) = self.front.split_first() {
+                self.front = others;
+                return Some(first);
+            }
+            self.front = self.outer.pop()?;
+        }
+    }
+
+    /// Goes on with these selections, before all others.
+    fn descend(&mut self, selections: &'doc [Selection]) -> Result<(), AllocError>
+        ensures { OnOk result (standing self.new ≡ with_more (map typed_selection_tree selections.now) (standing self.old)) }
+    {
+        self.outer.push(self.front)?;
+        self.front = selections;
+        Ok(())
+    }
+
+    /// Notes the fragment of this name, if there is one and it is not noted yet.
+    fn note(&mut self, name: &Name) -> Result<(), AllocError>
+        ensures { OnOk result (standing self.new ≡ with_name name.now.text (standing self.old)) }
+    {
+        if let Some(place) = self.fragments.get_index_of(name) {
+            self.noted.insert(place)?;
+        }
+        Ok(())
+    }
+
+    /// Goes on with what stands in a field, if that is walked over.
+    fn enter_field(&mut self, field: &'doc Node<Field>) -> Result<(), AllocError>
+        ensures { OnOk result (standing self.new ≡ with_more (if (standing self.old).nested then map typed_selection_tree (content field.now).selection_set.selections.items else []) (standing self.old)) }
+    {
+        if !self.nested {
+            return Ok(());
+        }
+        self.descend(field.content().selection_set.selections.as_slice())
+    }
+
+    /// Passes a selection: goes on with what stands in it, or notes what it spreads. It is lent if it is a field.
+    fn pass(&mut self, selection: &'doc Selection) -> Result<Option<&'doc Node<Field>>, AllocError>
+        ensures { IfOk result (λ field. HasPassed (typed_selection_tree selection.now) (standing self.old) (option_map (λ f. typed_field_node f.now) field) (standing self.new)) }
+    {
+        match selection {
+            Selection::Field(field) => {
+                self.enter_field(field)?;
+                Ok(Some(field))
+            }
+            Selection::FragmentSpread(spread) => {
+                self.note(&spread.content().fragment_name)?;
+                Ok(None)
+            }
+            Selection::InlineFragment(inline) => {
+                self.descend(inline.content().selection_set.selections.as_slice())?;
+                Ok(None)
+            }
+        }
+    }
+
+    /// Goes on with the next fragment that is noted and not entered, if there is one. No more are entered than the
+    /// document has.
+    fn enter_fragment(&mut self) -> bool
+        requires { (standing self.old).pending ≡ [] }
+        ensures { MatchBool result (HasEntered (standing self.old) (standing self.new)) (left_selections (standing self.old) ≡ []) }
+    {
+        if self.entered >= self.fragments.len() {
+            return false;
+        }
+        let Some(place) = self.noted.get_index(self.entered) else {
+            return false;
+        };
+        self.entered += 1;
+        if let Some((_, fragment)) = self.fragments.get_index(*place) {
+            self.front = fragment.content().selection_set.selections.as_slice();
+        }
+        true
+    }
+
+    /// One step.
+    fn step(&mut self) -> Result<Step<'doc>, AllocError>
+        ensures { IfOk result (λ step. Takes (standing self.old) step (standing self.new)) }
+    {
+        match self.take_first() {
+            Some(selection) => match self.pass(selection)? {
+                Some(field) => Ok(Step::Lends(field)),
+                None => Ok(Step::Passes),
+            },
+            None if self.enter_fragment() => Ok(Step::Passes),
+            None => Ok(Step::Ends),
+        }
+    }
+
+    /// The next field.
+    pub(crate) fn next_field(&mut self) -> Result<Option<&'doc Node<Field>>, AllocError>
+        ensures { IfOk result (λ field. MatchOption field (left_fields (standing self.old) ≡ []) (λ f. left_fields (standing self.old) ≡ typed_field_node f.now ∷ left_fields (standing self.new))) }
+    {
+        loop {
+            match self.step()? {
+                Step::Lends(field) => return Ok(Some(field)),
+                Step::Passes => {}
+                Step::Ends => return Ok(None),
+            }
+        }
+    }
+}
