@@ -1,0 +1,5 @@
+pub mod StandIn
+pub mod Diagnostics
+pub mod DiagnosticView
+pub mod Messages
+pub mod FilledTemplate
