@@ -1,7 +1,7 @@
 -- What breaks a rule, with its data: names and words as texts, types, values and directives without places, and what stands
 -- for each place that belongs to the data (GraphQL, October 2021, sections 3 and 5).
 use Rattle.std.specs.Prelude.{ℕ, List, map, Option}
-use Rattle.graphql_ast.specs.in_definitions.Placed.{Placed}
+use Rattle.graphql_names.specs.Placed.{Placed}
 use Rattle.graphql_literals.specs.TypeTree.{TypeTree}
 use Rattle.graphql_literals.specs.ValueTree.{ValueTree}
 use Rattle.graphql_directives.specs.DirectiveTree.{DirectiveTree, Directives, InputValueTree}

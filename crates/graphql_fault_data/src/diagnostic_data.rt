@@ -9,7 +9,7 @@ use graphql_ast::{
 /// What breaks a rule of schemas, of uses of directives and arguments, of values, or of documents (sections 3 and 5).
 ///
 /// Fields that end in `location`, `definition` or `application` are places, None where there is none.
-#[derive(PartialEq, Eq, Hash, Drop)]
+#[derive(Drop)]
 pub enum DiagnosticData {
     // ---- schemas
     /// The schema has no root for queries (section 3.3.1).

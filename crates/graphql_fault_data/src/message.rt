@@ -17,10 +17,10 @@ impl fmt::Display for DiagnosticData {
 }
 
 /// The template of each variant, with what fills its gaps.
-fn template_of(data: &DiagnosticData) -> Template<'_>
-    ensures { filled result ≡ message (diagnostic_of data.now) }
+fn template_of(diagnostic: &DiagnosticData) -> Template<'_>
+    ensures { filled result ≡ message (diagnostic_of diagnostic.now) }
 {
-    match data {
+    match diagnostic {
         DiagnosticData::QueryRootOperationType => Template::Whole(
             "missing query root operation type in schema definition",
         ),
