@@ -1,5 +1,5 @@
 -- What contracts see of `DiagnosticData`: all that `==` compares.
-use Rattle.std.specs.Prelude.{ℕ, List, [], map, Vec}
+use Rattle.std.specs.Prelude.{ℕ, List, map, Vec}
 use Rattle.std.specs.Option.{option_map}
 use Rattle.std.specs.String.{string_bytes}
 use Rattle.std.specs.declared.alloc.Global.{Global}
@@ -9,11 +9,11 @@ use Rattle.graphql_names.specs.declared.node.Node.{Node}
 use Rattle.graphql_literals.specs.TypeTree.{type_tree, unplaced_type}
 use Rattle.graphql_literals.specs.ValueTree.{value_tree, unplaced_value}
 use Rattle.graphql_literals.specs.declared.ty.«Type».{«Type»}
-use Rattle.graphql_directives.specs.DirectiveTree.{DirectiveTree, InputValueTree, directive_tree, input_value_tree, unplaced_directive, unplaced_input_value}
+use Rattle.graphql_directives.specs.DirectiveTree.{DirectiveTree, InputValueTree, directive_tree, directives_tree, input_value_tree, unplaced_directive, unplaced_directives, unplaced_input_value}
 use Rattle.graphql_directives.specs.declared.directive.Directive.{Directive}
 use Rattle.graphql_directives.specs.declared.input_value.InputValueDefinition.{InputValueDefinition}
-use Rattle.graphql_fault_data.specs.StandIn.{schema_coordinate, attribute_coordinate}
-use Rattle.graphql_fault_data.specs.declared.standin.FragmentSpread.{FragmentSpread}
+use Rattle.graphql_coords.specs.CoordinateView.{schema_coordinate, attribute_coordinate}
+use Rattle.graphql_typed_selections.specs.declared.selection.FragmentSpread.{FragmentSpread}
 use Rattle.graphql_fault_data.specs.Diagnostics as tree
 use Rattle.graphql_fault_data.specs.Diagnostics.{Diagnostic, PlainType, SpreadTree}
 use Rattle.graphql_fault_data.specs.declared.diagnostic_data.DiagnosticData.{DiagnosticData}
@@ -29,7 +29,7 @@ abbrev pub plain_input : InputValueDefinition → InputValueTree (Unit {0})
 plain_input v = unplaced_input_value (input_value_tree v)
 
 abbrev pub plain_spread : FragmentSpread → SpreadTree
-plain_spread s = record { fragment_name = s.fragment_name.text; directives = [] }
+plain_spread s = record { fragment_name = s.fragment_name.text; directives = unplaced_directives (directives_tree s.directives) }
 
 -- the referring nodes, each with its place
 abbrev pub trace_of : {A B : Type 0} → (A → B) → Vec (Node A) Global → List (Placed Place B)

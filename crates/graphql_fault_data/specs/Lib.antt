@@ -1,4 +1,3 @@
-pub mod StandIn
 pub mod Diagnostics
 pub mod DiagnosticView
 pub mod Messages

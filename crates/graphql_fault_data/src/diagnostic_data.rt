@@ -1,15 +1,16 @@
 //! What breaks a rule, with the data that its message tells and the places that belong to it.
 
-use crate::standin::{FragmentSpread, SchemaCoordinate, TypeAttributeCoordinate};
 use graphql_ast::{
     Directive, DirectiveLocation, InputValueDefinition, Name, Node, OperationType, SourceSpan,
     Type, Value,
 };
+use graphql_coords::{SchemaCoordinate, TypeAttributeCoordinate};
+use graphql_typed_selections::FragmentSpread;
 
 /// What breaks a rule of schemas, of uses of directives and arguments, of values, or of documents (sections 3 and 5).
 ///
 /// Fields that end in `location`, `definition` or `application` are places, None where there is none.
-#[derive(Drop)]
+#[derive(PartialEq, Eq, Hash, Drop)]
 pub enum DiagnosticData {
     // ---- schemas
     /// The schema has no root for queries (section 3.3.1).
