@@ -6,7 +6,6 @@
 //! Begin with `diagnostic_data.rt` and `specs/Diagnostics.antt`.
 #![tactic(auto)]
 
-mod copies;
 mod diagnostic_data;
 mod message;
 mod template;
