@@ -1,5 +1,5 @@
 -- What look-ups, insertions and walks over the operations of a document find in the tree.
-use Rattle.std.proofs.Common.{◌≡◌, ℕ, ◌+◌, Bool, true, false, List, [], ◌∷◌, map, length, Option, None, Some, refl, sym, ap, ◌∙◌, if◌then◌else◌, Bor}
+use Rattle.std.proofs.Common.{◌≡◌, ℕ, Bool, true, false, List, [], ◌∷◌, map, Option, None, Some, refl, sym, ap, ◌∙◌, if◌then◌else◌, Bor}
 use Rattle.std.specs.List.{find, cons_option}
 use Rattle.std.specs.Map.{lookup, values_of}
 use Rattle.std.specs.Option.{option_map, option_copied}
@@ -16,7 +16,7 @@ module _ {X A : Type 0} (f : X → A) where
   under_names es = map (λ e. (name_text e.0, f e.1)) es
 
   module _ (k : NameValue) where
-    under-lookup : (es : List (NameValue × X)) → option_map f (lookup (same_text name_text k) es) ≡ under k.text (under_names es)
+    pub under-lookup : (es : List (NameValue × X)) → option_map f (lookup (same_text name_text k) es) ≡ under k.text (under_names es)
     under-lookup [] = refl
     under-lookup (e ∷ es) = by (bytes_eq k.text e.0.text) (under-lookup es)
       where
@@ -47,14 +47,3 @@ module _ {X A : Type 0} (f : X → A) where
   pub listed : (a : Option X) (es : List (NameValue × X)) → map f (cons_option a (values_of es)) ≡ cons_option (option_map f a) (map (λ e. e.1) (under_names es))
   listed None es = each-value es
   listed (Some x) es = ap (λ l. f x ∷ l) (each-value es)
-
-  length-under : (es : List (NameValue × X)) → length (map (λ e. e.1) (under_names es)) ≡ length es
-  length-under [] = refl
-  length-under (e ∷ es) = ap (λ n. n + 1) (length-under es)
-
-  -- how many there are
-  pub length-unnamed : (es : List (NameValue × X)) → length (cons_option (option_map f None) (map (λ e. e.1) (under_names es))) ≡ length es
-  length-unnamed es = length-under es
-
-  pub length-named : (x : X) (es : List (NameValue × X)) → length (cons_option (option_map f (Some x)) (map (λ e. e.1) (under_names es))) ≡ length es + 1
-  length-named x es = ap (λ n. n + 1) (length-under es)

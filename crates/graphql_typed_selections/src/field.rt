@@ -60,8 +60,14 @@ impl Field {
     pub fn with_argument(self, name: Name, value: Node<Value>) -> Result<Field, AllocError>
         ensures { IfOk result (λ f. typed_field None f ≡ and_arguments (record { it = record { name = name_tree name; value = node_tree value_tree value }; place = None } ∷ []) (typed_field None self)) }
     {
+        let argument = Node::new(*self.arguments.allocator(), Argument { name, value })?;
+        self.and_argument(argument)
+    }
+
+    fn and_argument(self, argument: Node<Argument>) -> Result<Field, AllocError>
+        ensures { IfOk result (λ f. typed_field None f ≡ and_arguments (node_tree argument_tree argument ∷ []) (typed_field None self)) }
+    {
         let mut field = self;
-        let argument = Node::new(*field.arguments.allocator(), Argument { name, value })?;
         field.arguments.push(argument)?;
         Ok(field)
     }
