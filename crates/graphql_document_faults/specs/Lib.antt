@@ -1,0 +1,4 @@
+pub mod DocumentBreaches
+pub mod DocumentBreachView
+pub mod DocumentMessages
+pub mod DocumentWords

@@ -1,0 +1,4 @@
+pub mod Diagnostics
+pub mod DiagnosticView
+pub mod Messages
+pub mod FilledTemplate

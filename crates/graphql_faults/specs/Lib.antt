@@ -1,0 +1,10 @@
+pub mod DetailsTree
+pub mod DetailsView
+pub mod DetailsMessages
+pub mod Words
+pub use Rattle.graphql_fault_data.specs.Diagnostics
+pub use Rattle.graphql_fault_data.specs.DiagnosticView
+pub use Rattle.graphql_fault_data.specs.Messages
+pub use Rattle.graphql_document_faults.specs.DocumentBreaches
+pub use Rattle.graphql_document_faults.specs.DocumentBreachView
+pub use Rattle.graphql_document_faults.specs.DocumentMessages
