@@ -1,0 +1,9 @@
+pub mod MeantTree
+pub mod Meanings
+pub mod KeptSelections
+pub mod KeptDocument
+pub mod TypingFaults
+pub mod FullList
+pub mod OutDoc
+pub mod SetFaults
+pub mod Messages

@@ -1,0 +1,3 @@
+//! Typing of documents under a schema.
+#![tactic(auto)]
+
