@@ -1,1 +1,3 @@
 pub mod TypedTree
+pub mod TypedParts
+pub mod OwnFields

@@ -1,5 +1,5 @@
 -- Selections whose fields have definitions and whose sets have types (GraphQL, October 2021, sections 2.4, 2.5 and 2.8).
-use Rattle.std.specs.Prelude.{List, [], ◌∷◌, map, Option}
+use Rattle.std.specs.Prelude.{List, [], ◌∷◌, map, Option, Bool, true, false}
 use Rattle.std.specs.Option.{option_map}
 use Rattle.graphql_names.specs.Node.{content, place}
 use Rattle.graphql_names.specs.Placed.{Placed, Place, Text, name_tree, node_tree, unplaced_text, unplaced_node}
@@ -70,6 +70,11 @@ module _ {P : Type 0} where
 
   abbrev pub set_selections : TypedSet P → TypedSelections P
   set_selections (typed_set ty ss) = ss
+
+  -- whether a set has no selection
+  abbrev pub holds_none : TypedSet P → Bool
+  holds_none (typed_set ty no_typed) = true
+  holds_none (typed_set ty (typed_then s ss)) = false
 
 abbrev mutual
   pub unplaced_typed_selection : {P : Type 0} → TypedSelection P → TypedSelection (Unit {0})
