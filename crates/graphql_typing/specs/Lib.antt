@@ -5,5 +5,9 @@ pub mod KeptDocument
 pub mod TypingFaults
 pub mod FullList
 pub mod OutDoc
-pub mod SetFaults
 pub mod Messages
+pub mod FaultView
+pub mod MeaningView
+pub mod SetFaults
+pub mod FilledTemplate
+pub mod DefinedField

@@ -1,3 +1,11 @@
 //! Typing of documents under a schema.
 #![tactic(auto)]
 
+mod build_error;
+mod build_error_text;
+mod keep;
+mod look_ups;
+mod rules;
+mod selections;
+
+pub use build_error::BuildError;

@@ -1,0 +1,97 @@
+//! Selections with their meaning, put behind those that are kept.
+ghost use Rattle.std.specs.Prelude.{◌≡◌, ◌++◌, [], ◌∷◌, IfOk, OnOk};
+ghost use Rattle.std.specs.Option.{option_map};
+ghost use Rattle.graphql_names.specs.Node.{content, place};
+ghost use Rattle.graphql_names.specs.Placed.{name_tree};
+ghost use Rattle.graphql_directives.specs.DirectiveTree.{directives_tree};
+ghost use Rattle.graphql_operations.specs.SelectionParts.{field_head};
+ghost use Rattle.graphql_type_members.specs.TypeSystemTree.{field_definition_tree, unplaced_field_definition};
+ghost use Rattle.graphql_typed_selections.specs.TypedTree.{typed_set_tree};
+ghost use Rattle.graphql_typing.specs.MeantTree.{MeantField, MeantSpread, MeantInline, meant_of_set, set_on};
+ghost use Rattle.graphql_typing.specs.MeaningView.{meant_selections};
+
+use graphql_ast::{Field, FieldDefinition, FragmentSpread, InlineFragment, Name, Node};
+use graphql_names::{copies_of_four, copies_of_two};
+use graphql_typed_selections as typed;
+use std::alloc::{AllocError, Global};
+
+/// Keeps a field with its definition and its set. It shares the definition with the schema, and arguments and
+/// directives with the tree.
+pub(crate) fn keep_field(
+    alloc: Global,
+    definition: Node<FieldDefinition>,
+    field: &Node<Field>,
+    set: typed::SelectionSet,
+    kept: &mut Vec<typed::Selection>,
+) -> Result<(), AllocError>
+    ensures { OnOk result (meant_selections kept.new ≡ meant_selections kept.old ++ MeantField (place field.now) (unplaced_field_definition (field_definition_tree (content definition))) (field_head (content field.now)) (meant_of_set (typed_set_tree set)) ∷ []) }
+{
+    let tree = field.content();
+    let (alias, name, arguments, directives) = copies_of_four(
+        &tree.alias,
+        &tree.name,
+        &tree.arguments,
+        &tree.directives,
+    )?;
+    let typed = typed::Field {
+        definition,
+        alias,
+        name,
+        arguments,
+        directives,
+        selection_set: set,
+    };
+    kept.push(typed::Selection::Field(field.same_location(alloc, typed)?))?;
+    Ok(())
+}
+
+/// Keeps a spread.
+pub(crate) fn keep_spread(
+    alloc: Global,
+    spread: &Node<FragmentSpread>,
+    kept: &mut Vec<typed::Selection>,
+) -> Result<(), AllocError>
+    ensures { OnOk result (meant_selections kept.new ≡ meant_selections kept.old ++ MeantSpread (place spread.now) (name_tree (content spread.now).fragment_name) (directives_tree (content spread.now).directives) ∷ []) }
+{
+    let tree = spread.content();
+    let (fragment_name, directives) = copies_of_two(&tree.fragment_name, &tree.directives)?;
+    let typed = typed::FragmentSpread {
+        fragment_name,
+        directives,
+    };
+    kept.push(typed::Selection::FragmentSpread(spread.same_location(alloc, typed)?))?;
+    Ok(())
+}
+
+/// Keeps an inline fragment with its set.
+pub(crate) fn keep_inline(
+    alloc: Global,
+    inline: &Node<InlineFragment>,
+    set: typed::SelectionSet,
+    kept: &mut Vec<typed::Selection>,
+) -> Result<(), AllocError>
+    ensures { OnOk result (meant_selections kept.new ≡ meant_selections kept.old ++ MeantInline (place inline.now) (option_map name_tree (content inline.now).type_condition) (directives_tree (content inline.now).directives) (meant_of_set (typed_set_tree set)) ∷ []) }
+{
+    let tree = inline.content();
+    let (type_condition, directives) = copies_of_two(&tree.type_condition, &tree.directives)?;
+    let typed = typed::InlineFragment {
+        type_condition,
+        directives,
+        selection_set: set,
+    };
+    kept.push(typed::Selection::InlineFragment(inline.same_location(alloc, typed)?))?;
+    Ok(())
+}
+
+/// A set of these selections on the type of that name.
+pub(crate) fn set_on(
+    type_name: &Name,
+    selections: Vec<typed::Selection>,
+) -> Result<typed::SelectionSet, AllocError>
+    ensures { IfOk result (λ s. meant_of_set (typed_set_tree s) ≡ set_on type_name.now.text (meant_selections selections)) }
+{
+    Ok(typed::SelectionSet {
+        ty: type_name.clone()?,
+        selections,
+    })
+}

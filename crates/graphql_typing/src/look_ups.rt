@@ -1,0 +1,70 @@
+//! What a schema says of names, or what holds of them without a schema.
+ghost use Rattle.std.specs.Prelude.{◌≡◌, ℕ, Bool, IfOk};
+ghost use Rattle.std.specs.FinMap as fin;
+ghost use Rattle.std.specs.Option.{option_map};
+ghost use Rattle.graphql_names.specs.Node.{content};
+ghost use Rattle.graphql_type_members.specs.TypeSystemTree.{field_definition_tree, unplaced_field_definition};
+ghost use Rattle.graphql_schema_types.specs.Plain.{plain, plain_type};
+ghost use Rattle.graphql_schema_types.specs.TypeView.{extended_type};
+ghost use Rattle.graphql_schema_stub.specs.SchemaOf.{schema_tree};
+ghost use Rattle.graphql_typing.specs.MeaningView.{meanings_under};
+
+use graphql_ast::{FieldDefinition, Name, Node};
+use graphql_schema_stub::Schema;
+use graphql_schema_stub::graphql_schema_types::ExtendedType;
+use std::alloc::{AllocError, Global};
+
+/// The type of that name, if there is one.
+fn type_named<'schema>(schema: &'schema Schema, name: &Name) -> Option<&'schema ExtendedType>
+    ensures { option_map (λ t. plain_type (extended_type t.now)) result ≡ fin.get (plain (schema_tree schema.now)).types name.now.text }
+{
+    schema.types.get(name)
+}
+
+/// Whether a type of that name is there. Without a schema each is.
+pub(crate) fn has_type(schema: Option<&Schema>, name: &Name) -> bool
+    ensures { result ≡ (meanings_under schema).has_type name.now.text }
+{
+    match schema {
+        None => true,
+        Some(schema) => type_named(schema, name).is_some(),
+    }
+}
+
+/// Whether the type of that name is a scalar. Without a schema none is.
+pub(crate) fn is_scalar(schema: Option<&Schema>, name: &Name) -> bool
+    ensures { result ≡ (meanings_under schema).is_scalar name.now.text }
+{
+    match schema {
+        None => false,
+        Some(schema) => match type_named(schema, name) {
+            None => false,
+            Some(ty) => ty.is_scalar(),
+        },
+    }
+}
+
+/// Whether the type of that name is an enum. Without a schema none is.
+pub(crate) fn is_enum(schema: Option<&Schema>, name: &Name) -> bool
+    ensures { result ≡ (meanings_under schema).is_enum name.now.text }
+{
+    match schema {
+        None => false,
+        Some(schema) => match type_named(schema, name) {
+            None => false,
+            Some(ty) => ty.is_enum(),
+        },
+    }
+}
+
+/// The definition of the field of that name on the type of that name, if there is one.
+pub(crate) fn definition_of(
+    alloc: Global,
+    schema: Option<&Schema>,
+    type_name: &Name,
+    field_name: &Name,
+) -> Result<Option<Node<FieldDefinition>>, AllocError>
+    ensures { IfOk result (λ r. option_map (λ n. unplaced_field_definition (field_definition_tree (content n))) r ≡ (meanings_under schema).field type_name.now.text field_name.now.text) }
+{
+    Ok(None)
+}
