@@ -88,6 +88,6 @@ module _ {P : Type 0} where
   abbrev pub kept_document : Meanings → List (DefinitionTree P) → MeantDocument P
   kept_document m ds = record {
     anonymous = option_map (meant_operation m) (kept_anonymous m ds);
-    named = map (meant_operation m) (kept_named m ds);
-    fragments = map (meant_fragment m) (kept_fragments m ds);
+    named = map (λ o. (operation_name o, meant_operation m o)) (kept_named m ds);
+    fragments = map (λ f. (fragment_name f, meant_fragment m f)) (kept_fragments m ds);
   }

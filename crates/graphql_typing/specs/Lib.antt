@@ -11,3 +11,4 @@ pub mod MeaningView
 pub mod SetFaults
 pub mod FilledTemplate
 pub mod DefinedField
+pub mod Steps

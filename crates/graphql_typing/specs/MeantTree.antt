@@ -6,6 +6,7 @@ use Rattle.graphql_operations.specs.declared.operation.OperationType.{OperationT
 use Rattle.graphql_operations.specs.SelectionTree.{FieldHead}
 use Rattle.graphql_operations.specs.OperationTree.{VariableDefinitionTree}
 use Rattle.graphql_type_members.specs.TypeSystemTree.{FieldDefinitionTree, unplaced_field_definition}
+use Rattle.graphql_components.specs.Names.{Entries}
 use Rattle.graphql_typed_selections.specs.TypedTree.{TypedSelection, TypedField, TypedSpread, TypedInline, TypedSet, typed_set, TypedSelections, no_typed, typed_then}
 
 -- what the schema says of a field
@@ -43,10 +44,11 @@ pub record MeantFragment (P : Type 0) : Type 0 where
   pub directives : Directives P
   pub set : MeantSet P
 
+-- the operation without a name, if there is one, and the other operations and the fragments under their names, in order
 pub record MeantDocument (P : Type 0) : Type 0 where
   pub anonymous : Option (MeantOperation P)
-  pub named : List (MeantOperation P)
-  pub fragments : List (MeantFragment P)
+  pub named : Entries (MeantOperation P)
+  pub fragments : Entries (MeantFragment P)
 
 module _ {P : Type 0} where
   abbrev pub members : List (MeantSelection P) → MeantSelections P

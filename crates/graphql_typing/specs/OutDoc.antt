@@ -58,4 +58,4 @@ module _ {P : Type 0} where
   })
 
   abbrev pub written_document : MeantDocument P → List (DefinitionTree P)
-  written_document d = map written_operation (option_to_list d.anonymous) ++ map written_operation d.named ++ map written_fragment d.fragments
+  written_document d = map written_operation (option_to_list d.anonymous) ++ map (λ e. written_operation e.1) d.named ++ map (λ e. written_fragment e.1) d.fragments

@@ -17,6 +17,7 @@ use std::alloc::{AllocError, Global};
 
 /// Keeps a field with its definition and its set. It shares the definition with the schema, and arguments and
 /// directives with the tree.
+#[tactic(auto, using(graphql_typed_selections::proofs::TypedTrees::typed_tree_rules))]
 pub(crate) fn keep_field(
     alloc: Global,
     definition: Node<FieldDefinition>,
@@ -46,6 +47,7 @@ pub(crate) fn keep_field(
 }
 
 /// Keeps a spread.
+#[tactic(auto, using(graphql_typed_selections::proofs::TypedTrees::typed_tree_rules))]
 pub(crate) fn keep_spread(
     alloc: Global,
     spread: &Node<FragmentSpread>,
@@ -64,6 +66,7 @@ pub(crate) fn keep_spread(
 }
 
 /// Keeps an inline fragment with its set.
+#[tactic(auto, using(graphql_typed_selections::proofs::TypedTrees::typed_tree_rules))]
 pub(crate) fn keep_inline(
     alloc: Global,
     inline: &Node<InlineFragment>,
@@ -84,6 +87,7 @@ pub(crate) fn keep_inline(
 }
 
 /// A set of these selections on the type of that name.
+#[tactic(auto, using(crate::proofs::MeantSets::meant_set_rules))]
 pub(crate) fn set_on(
     type_name: &Name,
     selections: Vec<typed::Selection>,

@@ -7,6 +7,8 @@ ghost use Rattle.graphql_type_members.specs.TypeSystemTree.{field_definition_tre
 ghost use Rattle.graphql_schema_types.specs.Plain.{plain, plain_type};
 ghost use Rattle.graphql_schema_types.specs.TypeView.{extended_type};
 ghost use Rattle.graphql_schema_stub.specs.SchemaOf.{schema_tree};
+ghost use Rattle.graphql_typing.specs.Meanings.{inner_type};
+ghost use Rattle.graphql_typing.specs.DefinedField.{definition_view};
 ghost use Rattle.graphql_typing.specs.MeaningView.{meanings_under};
 
 use graphql_ast::{FieldDefinition, Name, Node};
@@ -23,7 +25,7 @@ fn type_named<'schema>(schema: &'schema Schema, name: &Name) -> Option<&'schema 
 
 /// Whether a type of that name is there. Without a schema each is.
 pub(crate) fn has_type(schema: Option<&Schema>, name: &Name) -> bool
-    ensures { result ≡ (meanings_under schema).has_type name.now.text }
+    ensures { result ≡ (meanings_under schema.entry).has_type name.now.text }
 {
     match schema {
         None => true,
@@ -33,7 +35,7 @@ pub(crate) fn has_type(schema: Option<&Schema>, name: &Name) -> bool
 
 /// Whether the type of that name is a scalar. Without a schema none is.
 pub(crate) fn is_scalar(schema: Option<&Schema>, name: &Name) -> bool
-    ensures { result ≡ (meanings_under schema).is_scalar name.now.text }
+    ensures { result ≡ (meanings_under schema.entry).is_scalar name.now.text }
 {
     match schema {
         None => false,
@@ -46,7 +48,7 @@ pub(crate) fn is_scalar(schema: Option<&Schema>, name: &Name) -> bool
 
 /// Whether the type of that name is an enum. Without a schema none is.
 pub(crate) fn is_enum(schema: Option<&Schema>, name: &Name) -> bool
-    ensures { result ≡ (meanings_under schema).is_enum name.now.text }
+    ensures { result ≡ (meanings_under schema.entry).is_enum name.now.text }
 {
     match schema {
         None => false,
@@ -64,7 +66,14 @@ pub(crate) fn definition_of(
     type_name: &Name,
     field_name: &Name,
 ) -> Result<Option<Node<FieldDefinition>>, AllocError>
-    ensures { IfOk result (λ r. option_map (λ n. unplaced_field_definition (field_definition_tree (content n))) r ≡ (meanings_under schema).field type_name.now.text field_name.now.text) }
+    ensures { IfOk result (λ r. option_map (λ n. unplaced_field_definition (field_definition_tree (content n))) r ≡ (meanings_under schema.entry).field type_name.now.text field_name.now.text) }
 {
     Ok(None)
+}
+
+/// The name inside the type of a field.
+pub(crate) fn inner_name(definition: &Node<FieldDefinition>) -> &Name
+    ensures { result.now.text ≡ inner_type (definition_view definition.now) }
+{
+    definition.content().ty.inner_named_type()
 }

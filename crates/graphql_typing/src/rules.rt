@@ -4,7 +4,8 @@ ghost use Rattle.std.specs.Option.{option_map};
 ghost use Rattle.graphql_typing.specs.TypingFaults as breach;
 ghost use Rattle.graphql_typing.specs.FaultView.{breach_of, faults_of};
 ghost use Rattle.graphql_operations.specs.SelectionTree.{selection_tree, selection_trees};
-ghost use Rattle.graphql_typing.specs.KeptSelections.{may_select};
+ghost use Rattle.graphql_typing.specs.KeptSelections.{is_leaf, may_select};
+ghost use Rattle.graphql_operations.specs.OperationWritable.{has_selection};
 ghost use Rattle.graphql_typing.specs.SetFaults.{leaf_faults};
 ghost use Rattle.graphql_typing.specs.MeaningView.{meanings_under};
 
@@ -54,7 +55,7 @@ fn subselection_on_scalar_type(
     type_name: &Name,
     faults: &mut Vec<(Option<SourceSpan>, BuildError)>,
 ) -> Result<(), AllocError>
-    ensures { OnOk result (faults_of faults.new ≡ faults_of faults.old ++ (if (meanings_under schema).is_scalar type_name.now.text then record { place = location; breach = breach.SubselectionOnScalarType type_name.now.text } ∷ [] else [])) }
+    ensures { OnOk result (faults_of faults.new ≡ faults_of faults.old ++ (if (meanings_under schema.entry).is_scalar type_name.now.text then record { place = location; breach = breach.SubselectionOnScalarType type_name.now.text } ∷ [] else [])) }
 {
     if !is_scalar(schema, type_name) {
         return Ok(());
@@ -74,7 +75,7 @@ fn subselection_on_enum_type(
     type_name: &Name,
     faults: &mut Vec<(Option<SourceSpan>, BuildError)>,
 ) -> Result<(), AllocError>
-    ensures { OnOk result (faults_of faults.new ≡ faults_of faults.old ++ (if (meanings_under schema).is_enum type_name.now.text then record { place = location; breach = breach.SubselectionOnEnumType type_name.now.text } ∷ [] else [])) }
+    ensures { OnOk result (faults_of faults.new ≡ faults_of faults.old ++ (if (meanings_under schema.entry).is_enum type_name.now.text then record { place = location; breach = breach.SubselectionOnEnumType type_name.now.text } ∷ [] else [])) }
 {
     if !is_enum(schema, type_name) {
         return Ok(());
@@ -87,15 +88,32 @@ fn subselection_on_enum_type(
     )
 }
 
+/// Whether there is a selection.
+fn has_selection(selections: &[Selection]) -> bool
+    ensures { result ≡ has_selection (selection_trees selection_tree selections.now) }
+{
+    match selections {
+        [] => false,
+        [_, ..] => true,
+    }
+}
+
+/// Whether values of the type of that name have no fields: it is a scalar or an enum.
+fn is_leaf(schema: Option<&Schema>, type_name: &Name) -> bool
+    ensures { result ≡ is_leaf (meanings_under schema.entry) type_name.now.text }
+{
+    is_scalar(schema, type_name) || is_enum(schema, type_name)
+}
+
 /// Whether a field of that inner type may select so: on a leaf there is no set.
 pub(crate) fn may_select(
     schema: Option<&Schema>,
     type_name: &Name,
     selections: &[Selection],
 ) -> bool
-    ensures { result ≡ may_select (meanings_under schema) type_name.now.text (selection_trees selection_tree selections.now) }
+    ensures { result ≡ may_select (meanings_under schema.entry) type_name.now.text (selection_trees selection_tree selections.now) }
 {
-    selections.is_empty() || !(is_scalar(schema, type_name) || is_enum(schema, type_name))
+    !(has_selection(selections) && is_leaf(schema, type_name))
 }
 
 /// Tells of a set on a leaf.
@@ -105,7 +123,7 @@ pub(crate) fn subselection_on_leaf(
     type_name: &Name,
     faults: &mut Vec<(Option<SourceSpan>, BuildError)>,
 ) -> Result<(), AllocError>
-    ensures { OnOk result (faults_of faults.new ≡ faults_of faults.old ++ leaf_faults (meanings_under schema) location type_name.now.text) }
+    ensures { OnOk result (faults_of faults.new ≡ faults_of faults.old ++ leaf_faults (meanings_under schema.entry) location type_name.now.text) }
 {
     subselection_on_scalar_type(schema, location, type_name, faults)?;
     subselection_on_enum_type(schema, location, type_name, faults)

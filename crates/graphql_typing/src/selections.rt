@@ -15,7 +15,7 @@ ghost use Rattle.graphql_typing.specs.MeaningView.{meanings_under, meant_selecti
 
 use crate::build_error::BuildError;
 use crate::keep::{keep_field, keep_inline, keep_spread, set_on};
-use crate::look_ups::{definition_of, has_type};
+use crate::look_ups::{definition_of, has_type, inner_name};
 use crate::rules::{
     may_select, subselection_on_leaf, undefined_field,
     undefined_type_in_inline_fragment_type_condition,
@@ -34,8 +34,8 @@ pub(crate) fn type_selections(
     selections: &[Selection],
     faults: &mut Vec<(Option<SourceSpan>, BuildError)>,
 ) -> Result<Vec<typed::Selection>, AllocError>
-    ensures kept { IfOk result (λ v. meant_selections v ≡ kept_all (meanings_under schema) (selection_trees selection_tree selections.now) parent.now.text) }
-    ensures faults { OnOk result (faults_of faults.new ≡ faults_of faults.old ++ set_faults (meanings_under schema) (selection_trees selection_tree selections.now) parent.now.text) }
+    ensures kept { IfOk result (λ v. meant_selections v ≡ kept_all (meanings_under schema.entry) (selection_trees selection_tree selections.now) parent.now.text) }
+    ensures faults { OnOk result (faults_of faults.new ≡ faults_of faults.old ++ set_faults (meanings_under schema.entry) (selection_trees selection_tree selections.now) parent.now.text) }
 {
     let mut kept = Vec::new(alloc);
     for selection in selections {
@@ -52,17 +52,17 @@ fn type_selection(
     schema: Option<&Schema>,
     parent: &Name,
     selection: &Selection,
-    kept: &mut Vec<typed::Selection>,
+    out: &mut Vec<typed::Selection>,
     faults: &mut Vec<(Option<SourceSpan>, BuildError)>,
 ) -> Result<(), AllocError>
-    ensures kept { OnOk result (meant_selections kept.new ≡ meant_selections kept.old ++ kept (meanings_under schema) (selection_tree selection.now) parent.now.text) }
-    ensures faults { OnOk result (faults_of faults.new ≡ faults_of faults.old ++ selection_faults (meanings_under schema) (selection_tree selection.now) parent.now.text) }
+    ensures kept { OnOk result (meant_selections out.new ≡ meant_selections out.old ++ kept (meanings_under schema.entry) (selection_tree selection.now) parent.now.text) }
+    ensures faults { OnOk result (faults_of faults.new ≡ faults_of faults.old ++ selection_faults (meanings_under schema.entry) (selection_tree selection.now) parent.now.text) }
 {
     match selection {
-        Selection::Field(field) => type_field(alloc, schema, parent, field, kept, faults),
-        Selection::FragmentSpread(spread) => keep_spread(alloc, spread, kept),
+        Selection::Field(field) => type_field(alloc, schema, parent, field, out, faults),
+        Selection::FragmentSpread(spread) => keep_spread(alloc, spread, out),
         Selection::InlineFragment(inline) => type_inline(
-            alloc, schema, parent, inline, kept, faults,
+            alloc, schema, parent, inline, out, faults,
         ),
     }
 }
@@ -74,16 +74,16 @@ fn type_field(
     schema: Option<&Schema>,
     parent: &Name,
     field: &Node<Field>,
-    kept: &mut Vec<typed::Selection>,
+    out: &mut Vec<typed::Selection>,
     faults: &mut Vec<(Option<SourceSpan>, BuildError)>,
 ) -> Result<(), AllocError>
-    ensures kept { OnOk result (meant_selections kept.new ≡ meant_selections kept.old ++ kept (meanings_under schema) (field_node_tree field.now) parent.now.text) }
-    ensures faults { OnOk result (faults_of faults.new ≡ faults_of faults.old ++ selection_faults (meanings_under schema) (field_node_tree field.now) parent.now.text) }
+    ensures kept { OnOk result (meant_selections out.new ≡ meant_selections out.old ++ kept (meanings_under schema.entry) (field_node_tree field.now) parent.now.text) }
+    ensures faults { OnOk result (faults_of faults.new ≡ faults_of faults.old ++ selection_faults (meanings_under schema.entry) (field_node_tree field.now) parent.now.text) }
 {
     let name = &field.content().name;
     match definition_of(alloc, schema, parent, name)? {
         None => undefined_field(field.location(), parent, name, faults),
-        Some(definition) => type_defined_field(alloc, schema, definition, field, kept, faults),
+        Some(definition) => type_defined_field(alloc, schema, definition, field, out, faults),
     }
 }
 
@@ -94,20 +94,20 @@ fn type_defined_field(
     schema: Option<&Schema>,
     definition: Node<FieldDefinition>,
     field: &Node<Field>,
-    kept: &mut Vec<typed::Selection>,
+    out: &mut Vec<typed::Selection>,
     faults: &mut Vec<(Option<SourceSpan>, BuildError)>,
 ) -> Result<(), AllocError>
-    ensures kept { OnOk result (meant_selections kept.new ≡ meant_selections kept.old ++ kept_defined (meanings_under schema) (definition_view definition) field.now) }
-    ensures faults { OnOk result (faults_of faults.new ≡ faults_of faults.old ++ defined_faults (meanings_under schema) (definition_view definition) field.now) }
+    ensures kept { OnOk result (meant_selections out.new ≡ meant_selections out.old ++ kept_defined (meanings_under schema.entry) (definition_view definition) field.now) }
+    ensures faults { OnOk result (faults_of faults.new ≡ faults_of faults.old ++ defined_faults (meanings_under schema.entry) (definition_view definition) field.now) }
 {
-    let inner = definition.content().ty.inner_named_type();
+    let inner = inner_name(&definition);
     let selections = &field.content().selection_set;
     if !may_select(schema, inner, selections) {
         return subselection_on_leaf(schema, field.location(), inner, faults);
     }
     let selections = type_selections(alloc, schema, inner, selections, faults)?;
     let set = set_on(inner, selections)?;
-    keep_field(alloc, definition, field, set, kept)
+    keep_field(alloc, definition, field, set, out)
 }
 
 /// Keeps the inline fragment with its set, on the type of its condition or else on that around it, or tells that its
@@ -118,14 +118,14 @@ fn type_inline(
     schema: Option<&Schema>,
     parent: &Name,
     inline: &Node<InlineFragment>,
-    kept: &mut Vec<typed::Selection>,
+    out: &mut Vec<typed::Selection>,
     faults: &mut Vec<(Option<SourceSpan>, BuildError)>,
 ) -> Result<(), AllocError>
-    ensures kept { OnOk result (meant_selections kept.new ≡ meant_selections kept.old ++ kept (meanings_under schema) (inline_node_tree inline.now) parent.now.text) }
-    ensures faults { OnOk result (faults_of faults.new ≡ faults_of faults.old ++ selection_faults (meanings_under schema) (inline_node_tree inline.now) parent.now.text) }
+    ensures kept { OnOk result (meant_selections out.new ≡ meant_selections out.old ++ kept (meanings_under schema.entry) (inline_node_tree inline.now) parent.now.text) }
+    ensures faults { OnOk result (faults_of faults.new ≡ faults_of faults.old ++ selection_faults (meanings_under schema.entry) (inline_node_tree inline.now) parent.now.text) }
 {
     match &inline.content().type_condition {
-        None => type_inline_on(alloc, schema, parent, inline, kept, faults),
+        None => type_inline_on(alloc, schema, parent, inline, out, faults),
         Some(condition) => {
             if !has_type(schema, condition) {
                 return undefined_type_in_inline_fragment_type_condition(
@@ -134,7 +134,7 @@ fn type_inline(
                     faults,
                 );
             }
-            type_inline_on(alloc, schema, condition, inline, kept, faults)
+            type_inline_on(alloc, schema, condition, inline, out, faults)
         }
     }
 }
@@ -146,14 +146,14 @@ fn type_inline_on(
     schema: Option<&Schema>,
     type_name: &Name,
     inline: &Node<InlineFragment>,
-    kept: &mut Vec<typed::Selection>,
+    out: &mut Vec<typed::Selection>,
     faults: &mut Vec<(Option<SourceSpan>, BuildError)>,
 ) -> Result<(), AllocError>
-    ensures kept { OnOk result (meant_selections kept.new ≡ meant_selections kept.old ++ MeantInline (place inline.now) (option_map name_tree (content inline.now).type_condition) (directives_tree (content inline.now).directives) (set_on type_name.now.text (kept_all (meanings_under schema) (selection_trees selection_tree (content inline.now).selection_set.items) type_name.now.text)) ∷ []) }
-    ensures faults { OnOk result (faults_of faults.new ≡ faults_of faults.old ++ set_faults (meanings_under schema) (selection_trees selection_tree (content inline.now).selection_set.items) type_name.now.text) }
+    ensures kept { OnOk result (meant_selections out.new ≡ meant_selections out.old ++ MeantInline (place inline.now) (option_map name_tree (content inline.now).type_condition) (directives_tree (content inline.now).directives) (set_on type_name.now.text (kept_all (meanings_under schema.entry) (selection_trees selection_tree (content inline.now).selection_set.items) type_name.now.text)) ∷ []) }
+    ensures faults { OnOk result (faults_of faults.new ≡ faults_of faults.old ++ set_faults (meanings_under schema.entry) (selection_trees selection_tree (content inline.now).selection_set.items) type_name.now.text) }
 {
     let selections = &inline.content().selection_set;
     let selections = type_selections(alloc, schema, type_name, selections, faults)?;
     let set = set_on(type_name, selections)?;
-    keep_inline(alloc, inline, set, kept)
+    keep_inline(alloc, inline, set, out)
 }
