@@ -60,8 +60,14 @@ impl Field {
     pub fn with_argument(self, name: Name, value: Node<Value>) -> Result<Field, AllocError>
         ensures { IfOk result (λ f. typed_field None f ≡ and_arguments (record { it = record { name = name_tree name; value = node_tree value_tree value }; place = None } ∷ []) (typed_field None self)) }
     {
+        let argument = Node::new(*self.arguments.allocator(), Argument { name, value })?;
+        self.and_argument(argument)
+    }
+
+    fn and_argument(self, argument: Node<Argument>) -> Result<Field, AllocError>
+        ensures { IfOk result (λ f. typed_field None f ≡ and_arguments (node_tree argument_tree argument ∷ []) (typed_field None self)) }
+    {
         let mut field = self;
-        let argument = Node::new(*field.arguments.allocator(), Argument { name, value })?;
         field.arguments.push(argument)?;
         Ok(field)
     }
@@ -145,6 +151,7 @@ impl Field {
     /// The value of the argument of that name: the one given, whatever the definition. Else the default by the field's
     /// definition, or None where the type is nullable, an implicit null. Else the error `NoSuchArgument` where the
     /// definition has no such argument, `RequiredArgumentNotSpecified` where that is non-null (section 5.4.2.1).
+    #[tactic(auto, using(crate::proofs::TypedTrees::argument_named_find))]
     pub fn argument_by_name(&self, name: &str) -> Result<Option<&Node<Value>>, ArgumentByNameError>
         ensures { lent_value result ≡ argument_value (given_value name.now (typed_head self.now).arguments) name.now (Some (node_tree field_definition_tree self.now.definition).it.arguments) }
     {

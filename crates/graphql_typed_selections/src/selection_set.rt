@@ -24,6 +24,7 @@ impl SelectionSet {
     }
 
     /// Whether there is no selection.
+    #[tactic(auto, using(crate::proofs::TypedTrees::holds_none_length))]
     pub fn is_empty(&self) -> bool
         ensures { result ≡ holds_none (typed_set_tree self.now) }
     {

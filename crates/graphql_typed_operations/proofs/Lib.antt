@@ -1,0 +1,3 @@
+pub mod TypedSets
+pub mod OperationMaps
+pub mod DocumentEquality

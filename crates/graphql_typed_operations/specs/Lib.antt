@@ -1,0 +1,3 @@
+pub mod TypedDocument
+pub mod PlainDocument
+pub mod OperationsByName

@@ -1,0 +1,19 @@
+//! Documents under a schema: operations and fragments whose selections have definitions and types.
+//!
+//! For the layers above: contracts see operations, fragments and documents as plain trees (`specs/TypedDocument.antt`);
+//! equality is that of the trees without places, sources and the order of what has names (`specs/PlainDocument.antt`).
+//!
+//! Begin with `specs/TypedDocument.antt` and `document.rt`.
+#![tactic(auto)]
+
+mod document;
+pub mod laws;
+mod operation;
+mod operation_map;
+
+pub use document::{ExecutableDocument, FieldSet, FragmentMap};
+pub use operation::{Fragment, Operation};
+pub use operation_map::{OperationMap, Operations};
+
+// The crates beneath, for those above.
+pub use graphql_typed_selections;

@@ -1,0 +1,2 @@
+pub mod TypedTrees
+pub mod TypedEquality
