@@ -23,6 +23,13 @@ both-so false b h = absurd (true≢false h)
 not-both : (a b : Bool) → a ≡ true → b ≡ true → not (a && b) ≡ false
 not-both a b p q = (λ i. not (p i && b)) ∙ (λ i. not (true && q i))
 
+or-left : (a b : Bool) → a ≡ true → (a || b) ≡ true
+or-left a b e = ap (λ c. c || b) e
+
+or-right : (a b : Bool) → b ≡ true → (a || b) ≡ true
+or-right true b e = refl
+or-right false b e = e
+
 module _ {X : Type 0} where
   -- the only element of a list that is there under a condition
   if-told : (b : Bool) (x y : X) → Contains (if b then x ∷ [] else []) y → (b ≡ true) × (y ≡ x)
@@ -37,8 +44,8 @@ module _ {P : Type 0} (m : Meanings) where
 
   leaf-broken : (t : List ℕ) (p : P) (h : FieldHead P) (ts : SelectionTrees P) (d : Definition) (f : Fault P) → m.field t h.name.it ≡ Some d → may_select m (inner_type d) ts ≡ false
       → Contains (leaf_faults m p (inner_type d)) f → SelectionBreaks m t (FieldTree p h ts) f
-  leaf-broken t p h ts d f e no c =
-      let has : has_selection ts ≡ true = (both-so (has_selection ts) (is_leaf m (inner_type d)) no).0 in
+  leaf-broken t p h ts d f e not_so c =
+      let has : has_selection ts ≡ true = (both-so (has_selection ts) (is_leaf m (inner_type d)) not_so).0 in
       elim (Contains-append_cases (if m.is_scalar (inner_type d) then At p (SubselectionOnScalarType (inner_type d)) ∷ [] else []) (if m.is_enum (inner_type d) then At p (SubselectionOnEnumType (inner_type d)) ∷ [] else []) f c) [
         | inl a ↦ let x = if-told (m.is_scalar (inner_type d)) (At p (SubselectionOnScalarType (inner_type d))) f a in rule.subselection_on_scalar_type (d, (e, x.0, has, x.1))
         | inr b ↦ let x = if-told (m.is_enum (inner_type d)) (At p (SubselectionOnEnumType (inner_type d))) f b in rule.subselection_on_enum_type (d, (e, x.0, has, x.1))
@@ -93,13 +100,6 @@ module _ {P : Type 0} (m : Meanings) where
       subst (λ o. Contains (option_map_or (λ d. if may_select m (inner_type d) ts then set_faults m ts (inner_type d) else leaf_faults m p (inner_type d)) o (At p (UndefinedField t h.name.it) ∷ [])) f) (sym e)
       (subst (λ b. Contains (if b then set_faults m ts (inner_type d) else leaf_faults m p (inner_type d)) f) (sym (not-both (has_selection ts) (is_leaf m (inner_type d)) has leaf)) c)
 
-  or-left : (a b : Bool) → a ≡ true → (a || b) ≡ true
-  or-left a b e = ap (λ c. c || b) e
-
-  or-right : (a b : Bool) → b ≡ true → (a || b) ≡ true
-  or-right true b e = refl
-  or-right false b e = e
-
   here-told : (s : SelectionTree P) (t : List ℕ) (f : Fault P) → SelectionBreaks m t s f → Contains (selection_faults m s t) f
   here-told (FieldTree p h ts) t f (rule.undefined_field (e, x)) =
       subst (λ o. Contains (option_map_or (λ d. if may_select m (inner_type d) ts then set_faults m ts (inner_type d) else leaf_faults m p (inner_type d)) o (At p (UndefinedField t h.name.it) ∷ [])) f) (sym e) (is_only (At p (UndefinedField t h.name.it)) f x)
@@ -124,13 +124,13 @@ module _ {P : Type 0} (m : Meanings) where
   module _ (u : List ℕ) (s : SelectionTree P) (f : Fault P) (breaks : SelectionBreaks m u s f) where
     stands-told : (t : List ℕ) (ts : SelectionTrees P) → StandsIn m u s t ts → Contains (set_faults m ts t) f
     stands-told t ts (rule.first ss) = Contains-append_left (selection_faults m s u) (set_faults m ss u) f (here-told s u f breaks)
-    stands-told t ts (rule.later t x ss at) = Contains-append_right (selection_faults m x t) (set_faults m ss t) f (stands-told t ss at)
-    stands-told t ts (rule.in_field t p h ns ss d e may at) =
+    stands-told t ts (rule.later _ x ss at) = Contains-append_right (selection_faults m x t) (set_faults m ss t) f (stands-told t ss at)
+    stands-told t ts (rule.in_field _ p h ns ss d e may at) =
         Contains-append_left (selection_faults m (FieldTree p h ns) t) (set_faults m ss t) f
         (subst (λ o. Contains (option_map_or (λ d. if may_select m (inner_type d) ns then set_faults m ns (inner_type d) else leaf_faults m p (inner_type d)) o (At p (UndefinedField t h.name.it) ∷ [])) f) (sym e)
         (subst (λ b. Contains (if b then set_faults m ns (inner_type d) else leaf_faults m p (inner_type d)) f) (sym may) (stands-told (inner_type d) ns at)))
-    stands-told t ts (rule.in_fragment t p ds ns ss at) = Contains-append_left (selection_faults m (InlineTree p None ds ns) t) (set_faults m ss t) f (stands-told t ns at)
-    stands-told t ts (rule.in_condition t p c ds ns ss e at) =
+    stands-told t ts (rule.in_fragment _ p ds ns ss at) = Contains-append_left (selection_faults m (InlineTree p None ds ns) t) (set_faults m ss t) f (stands-told t ns at)
+    stands-told t ts (rule.in_condition _ p c ds ns ss e at) =
         Contains-append_left (selection_faults m (InlineTree p (Some c) ds ns) t) (set_faults m ss t) f
         (subst (λ b. Contains (if b then set_faults m ns c.it else At p (UndefinedTypeInInlineFragmentTypeCondition c.it) ∷ []) f) (sym e) (stands-told c.it ns at))
 

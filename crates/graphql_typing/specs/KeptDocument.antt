@@ -7,7 +7,7 @@ use Rattle.graphql_operations.specs.OperationLayout.{is_none}
 use Rattle.graphql_operations.specs.OperationTree.{OperationTree, FragmentTree}
 use Rattle.graphql_ast.specs.DefinitionTree.{DefinitionTree, Operation, Fragment}
 use Rattle.graphql_components.specs.Lists.{firsts}
-use Rattle.graphql_typing.specs.MeantTree.{MeantOperation, MeantFragment, MeantDocument, set_on}
+use Rattle.graphql_typing.specs.MeantTree.{MeantSet, MeantOperation, MeantFragment, MeantDocument, set_on}
 use Rattle.graphql_typing.specs.Meanings.{Meanings}
 use Rattle.graphql_typing.specs.KeptSelections.{kept_all}
 
@@ -65,24 +65,30 @@ module _ {P : Type 0} where
 
   -- ---- and what it means
 
-  abbrev pub meant_operation : Meanings → Based P (OperationTree P) → MeantOperation P
-  meant_operation m o = record {
-    place = o.place;
-    operation_type = o.it.operation_type;
-    name = o.it.name;
-    variables = o.it.variables;
-    directives = o.it.directives;
-    set = set_on o.base (kept_all m o.it.selections o.base);
+  abbrev pub operation_with : P → OperationTree P → MeantSet P → MeantOperation P
+  operation_with p o set = record {
+    place = p;
+    operation_type = o.operation_type;
+    name = o.name;
+    variables = o.variables;
+    directives = o.directives;
+    set = set;
   }
 
-  abbrev pub meant_fragment : Meanings → Based P (FragmentTree P) → MeantFragment P
-  meant_fragment m f = record {
-    place = f.place;
-    name = f.it.name;
-    type_condition = f.it.type_condition;
-    directives = f.it.directives;
-    set = set_on f.base (kept_all m f.it.selections f.base);
+  abbrev pub fragment_with : P → FragmentTree P → Text P → MeantSet P → MeantFragment P
+  fragment_with p f condition set = record {
+    place = p;
+    name = f.name;
+    type_condition = condition;
+    directives = f.directives;
+    set = set;
   }
+
+  abbrev pub meant_operation : Meanings → Based P (OperationTree P) → MeantOperation P
+  meant_operation m o = operation_with o.place o.it (set_on o.base (kept_all m o.it.selections o.base))
+
+  abbrev pub meant_fragment : Meanings → Based P (FragmentTree P) → MeantFragment P
+  meant_fragment m f = fragment_with f.place f.it f.it.type_condition (set_on f.base (kept_all m f.it.selections f.base))
 
   -- the kept document
   abbrev pub kept_document : Meanings → List (DefinitionTree P) → MeantDocument P

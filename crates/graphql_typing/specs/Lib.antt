@@ -12,3 +12,5 @@ pub mod SetFaults
 pub mod FilledTemplate
 pub mod DefinedField
 pub mod Steps
+pub mod DocumentView
+pub mod StepsView

@@ -1,5 +1,6 @@
 -- What one definition adds to what is kept and told of those before it (private: it leads to `KeptDocument.antt`, `TypingFaults.antt`).
-use Rattle.std.specs.Prelude.{ℕ, Bool, List, [], ◌∷◌, ◌++◌, map, Option, None, Some, is_some, if◌then◌else◌}
+use Rattle.std.specs.Prelude.{ℕ, Bool, List, [], ◌∷◌, ◌++◌, map, Option, None, Some, is_some, fold, nat_lt, length, if◌then◌else◌}
+use Rattle.std.specs.List.{filter}
 use Rattle.std.specs.Option.{option_map_or}
 use Rattle.graphql_names.specs.Placed.{Text}
 use Rattle.graphql_operations.specs.OperationTree.{OperationTree, FragmentTree}
@@ -10,7 +11,7 @@ use Rattle.graphql_components.specs.Names.{Entries}
 use Rattle.graphql_typing.specs.MeantTree.{MeantOperation, MeantFragment, MeantDocument}
 use Rattle.graphql_typing.specs.Meanings.{Meanings}
 use Rattle.graphql_typing.specs.KeptDocument.{Based, meant_operation, meant_fragment}
-use Rattle.graphql_typing.specs.TypingFaults.{Fault, At, TypeSystemDefinition, AmbiguousAnonymousOperation, OperationNameCollision, FragmentNameCollision, UndefinedRootOperation, UndefinedTypeInNamedFragmentTypeCondition}
+use Rattle.graphql_typing.specs.TypingFaults.{Fault, At, is_operation, TypeSystemDefinition, AmbiguousAnonymousOperation, OperationNameCollision, FragmentNameCollision, UndefinedRootOperation, UndefinedTypeInNamedFragmentTypeCondition}
 use Rattle.graphql_typing.specs.SetFaults.{set_faults}
 
 -- what is kept, and what is told
@@ -18,10 +19,10 @@ pub record Typed (P : Type 0) : Type 0 where
   pub document : MeantDocument P
   pub faults : List (Fault P)
 
-module _ {P : Type 0} where
-  abbrev pub is_under : {A : Type 0} → List ℕ → Entries A → Bool
-  is_under n es = has_name (λ e. e.0) n es
+abbrev pub is_under : {A : Type 0} → List ℕ → Entries A → Bool
+is_under n es = has_name (λ e. e.0) n es
 
+module _ {P : Type 0} where
   abbrev pub told : List (Fault P) → Typed P → Typed P
   told fs st = record st { faults = st.faults ++ fs }
 
@@ -67,3 +68,10 @@ module _ {P : Type 0} where
   and_definition m beside st (Operation p o) = and_operation m beside p o o.name st
   and_definition m beside st (Fragment p f) = and_fragment m p f st
   and_definition m beside st d = told (At (definition_place d) TypeSystemDefinition ∷ []) st
+
+  abbrev pub nothing : Typed P
+  nothing = record { document = record { anonymous = None; named = []; fragments = [] }; faults = [] }
+
+  -- all of the document
+  abbrev pub typed_in : Meanings → List (DefinitionTree P) → Typed P
+  typed_in m ds = fold (and_definition m (nat_lt 1 (length (filter is_operation ds)))) nothing ds

@@ -3,6 +3,8 @@
 
 mod build_error;
 mod build_error_text;
+mod definition_rules;
+mod document;
 mod keep;
 mod look_ups;
 mod rules;

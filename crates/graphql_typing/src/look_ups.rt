@@ -7,11 +7,12 @@ ghost use Rattle.graphql_type_members.specs.TypeSystemTree.{field_definition_tre
 ghost use Rattle.graphql_schema_types.specs.Plain.{plain, plain_type};
 ghost use Rattle.graphql_schema_types.specs.TypeView.{extended_type};
 ghost use Rattle.graphql_schema_stub.specs.SchemaOf.{schema_tree};
-ghost use Rattle.graphql_typing.specs.Meanings.{inner_type};
+ghost use Rattle.graphql_operations.specs.OperationQueries.{default_root_name};
+ghost use Rattle.graphql_typing.specs.Meanings.{inner_type, meanings};
 ghost use Rattle.graphql_typing.specs.DefinedField.{definition_view};
 ghost use Rattle.graphql_typing.specs.MeaningView.{meanings_under};
 
-use graphql_ast::{FieldDefinition, Name, Node};
+use graphql_ast::{FieldDefinition, Name, Node, OperationType};
 use graphql_schema_stub::Schema;
 use graphql_schema_stub::graphql_schema_types::ExtendedType;
 use std::alloc::{AllocError, Global};
@@ -76,4 +77,38 @@ pub(crate) fn inner_name(definition: &Node<FieldDefinition>) -> &Name
     ensures { result.now.text ≡ inner_type (definition_view definition.now) }
 {
     definition.content().ty.inner_named_type()
+}
+
+/// The name of the root of that operation in a schema, if it has one.
+fn root_in(schema: &Schema, operation_type: OperationType) -> Option<&Name>
+    ensures { option_map (λ n. n.now.text) result ≡ (meanings (plain (schema_tree schema.now))).root operation_type }
+{
+    schema.root_operation(operation_type)
+}
+
+/// The name that the root of that operation has by default (section 3.3.1).
+fn default_root(operation_type: OperationType) -> Name
+    ensures { result.text ≡ default_root_name operation_type }
+{
+    match operation_type {
+        OperationType::Query => Name::new_static_unchecked("Query"),
+        OperationType::Mutation => Name::new_static_unchecked("Mutation"),
+        OperationType::Subscription => Name::new_static_unchecked("Subscription"),
+    }
+}
+
+/// The name of the root of that operation, if there is one. Without a schema it is the default name.
+pub(crate) fn root_of(
+    schema: Option<&Schema>,
+    operation_type: OperationType,
+) -> Result<Option<Name>, AllocError>
+    ensures { IfOk result (λ r. option_map (λ n. n.text) r ≡ (meanings_under schema.entry).root operation_type) }
+{
+    let Some(schema) = schema else {
+        return Ok(Some(default_root(operation_type)));
+    };
+    match root_in(schema, operation_type) {
+        None => Ok(None),
+        Some(name) => Ok(Some(name.clone()?)),
+    }
 }
