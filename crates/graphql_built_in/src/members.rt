@@ -42,7 +42,7 @@ fn field_with(
 }
 
 /// The field of the row.
-fn field_of(alloc: Global, row: FieldRow) -> Result<Node<FieldDefinition>, AllocError>
+pub(crate) fn field_of(alloc: Global, row: FieldRow) -> Result<Node<FieldDefinition>, AllocError>
     requires { IsTrue (has_field_names row) }
     ensures { IfOk result (λ f. node_tree field_definition_tree f ≡ row_field row) }
 {

@@ -188,7 +188,25 @@ const DIRECTIVE_LOCATION: &[&str] = &[
     "INPUT_FIELD_DEFINITION",
 ];
 
-/// All of it: the directives, the scalars, and the types of introspection (section 4.2).
+/// The meta-field `__typename: String!` (section 4.1).
+pub(crate) const TYPENAME_FIELD: FieldRow =
+    FieldRow("__typename", &[], TypeRow::NonNull("String"));
+
+/// The meta-field `__schema: __Schema!` (section 4.2).
+pub(crate) const SCHEMA_FIELD: FieldRow = FieldRow("__schema", &[], TypeRow::NonNull("__Schema"));
+
+/// The meta-field `__type(name: String!): __Type` (section 4.2).
+pub(crate) const TYPE_FIELD: FieldRow = FieldRow(
+    "__type",
+    &[ArgumentRow(
+        "name",
+        TypeRow::NonNull("String"),
+        DefaultRow::Absent,
+    )],
+    TypeRow::Nullable("__Type"),
+);
+
+/// All definitions: the directives, the scalars, and the types of introspection (section 4.2).
 pub(crate) const ROWS: &[Row] = &[
     Row::Directive("skip", CONDITION, SELECTIONS),
     Row::Directive("include", CONDITION, SELECTIONS),

@@ -1,12 +1,12 @@
 -- Definitions are read head first: the description and the name, or the marks of a directive, and then the rest.
 use Rattle.std.proofs.Common.{◌≡◌, ℕ, Ok, Err, refl}
 use Rattle.graphql_lexer.specs.Input.{Input}
-use Rattle.graphql_parse_values.specs.in_grammar.Meaning.{Meaning}
-use Rattle.graphql_parse_values.specs.in_grammar.Kinds.{is_at, is_directive, is_string}
-use Rattle.graphql_parse_values.specs.in_grammar.Reading.{Outcome, Parser, and_then, mark, try, ◌⊙◌, ◌<&>◌}
-use Rattle.graphql_parse_values.specs.in_grammar.TypeSystemGrammar.{input_value_of, field_definition_of, directive_definition_of}
-use Rattle.graphql_parse_values.specs.in_grammar.TypeSystemReading as y
-use Rattle.graphql_parse_values.specs.in_grammar.ValueReading as v
+use Rattle.graphql_grammar.specs.Meaning.{Meaning}
+use Rattle.graphql_grammar.specs.Kinds.{is_at, is_directive, is_string}
+use Rattle.graphql_grammar.specs.Reading.{Outcome, Parser, and_then, mark, try, ◌⊙◌, ◌<&>◌}
+use Rattle.graphql_grammar.specs.TypeSystemGrammar.{input_value_of, field_definition_of, directive_definition_of}
+use Rattle.graphql_grammar.specs.TypeSystemReading as y
+use Rattle.graphql_grammar.specs.ValueReading as v
 use Rattle.graphql_parse_members.specs.MemberSteps.{input_value_rest, field_rest, directive_rest}
 
 module _ {A B C D : Type 0} (f : A × (B × C) → D) (p : Parser A) (q : Parser B) (r : Parser C) where

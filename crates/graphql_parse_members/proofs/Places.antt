@@ -4,7 +4,7 @@ use Rattle.std.specs.Prelude.{bytes_eq}
 use Rattle.std.proofs.lemmas.List.{at_drop_more}
 use Rattle.graphql_values.specs.OperationQueries.{location_keyword}
 use Rattle.graphql_directives.specs.declared.directive_location.DirectiveLocation.{DirectiveLocation}
-use Rattle.graphql_parse_values.specs.in_grammar.Locations.{named_among}
+use Rattle.graphql_grammar.specs.Locations.{named_among}
 
 named_here : (x : DirectiveLocation) (others : List DirectiveLocation) (text : List ℕ) → bytes_eq (location_keyword x) text ≡ true → named_among (x ∷ others) text ≡ x
 named_here x others text h = rw h refl

@@ -2,11 +2,11 @@
 use Rattle.std.proofs.Common.{◌≡◌, Bool, true, false, cond, List, [], ◌∷◌, Option, Some, None, Ok, Err, refl, arith}
 use Rattle.graphql_lexer.specs.declared.terminal.Terminal.{Terminal}
 use Rattle.graphql_lexer.specs.Input.{Input, next}
-use Rattle.graphql_parse_values.specs.in_grammar.Kinds.{next_is}
-use Rattle.graphql_parse_values.specs.in_grammar.Reading.{Outcome, Parser, and_then, mark, many, behind, separated}
-use Rattle.graphql_parse_values.proofs.in_grammar.Steady as st
-use Rattle.graphql_parse_values.proofs.in_grammar.Steady.{Steady}
-use Rattle.graphql_parse_values.proofs.in_grammar.Steps.{with_front}
+use Rattle.graphql_grammar.specs.Kinds.{next_is}
+use Rattle.graphql_grammar.specs.Reading.{Outcome, Parser, and_then, mark, many, behind, separated}
+use Rattle.graphql_grammar.proofs.Steady as st
+use Rattle.graphql_grammar.proofs.Steady.{Steady}
+use Rattle.graphql_grammar.proofs.Steps.{with_front}
 use Rattle.graphql_parse_members.specs.MemberSteps.{first}
 
 abbrev done : {A : Type 0} → A → Input → Outcome A

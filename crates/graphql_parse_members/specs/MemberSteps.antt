@@ -6,12 +6,12 @@ use Rattle.graphql_values.specs.TypeTree.{TypeTree}
 use Rattle.graphql_values.specs.DirectiveTree.{Directives, InputValues}
 use Rattle.graphql_directives.specs.declared.directive_location.DirectiveLocation.{DirectiveLocation}
 use Rattle.graphql_lexer.specs.declared.terminal.Terminal.{Terminal}
-use Rattle.graphql_parse_values.specs.in_grammar.Meaning.{Meaning}
-use Rattle.graphql_parse_values.specs.in_grammar.Kinds.{is_at, is_colon, is_directive, is_equals, is_on, is_open_paren, is_repeatable, is_string}
-use Rattle.graphql_parse_values.specs.in_grammar.Reading.{Parser, mark, when, try, many, behind, placed, ◌⊙◌, ◌<&>◌}
-use Rattle.graphql_parse_values.specs.in_grammar.TypeSystemReading.{description, arguments_definition, directive_locations}
-use Rattle.graphql_parse_values.specs.in_grammar.ValueGrammar.{constant}
-use Rattle.graphql_parse_values.specs.in_grammar.ValueReading.{name, default_value, directives, type}
+use Rattle.graphql_grammar.specs.Meaning.{Meaning}
+use Rattle.graphql_grammar.specs.Kinds.{is_at, is_colon, is_directive, is_equals, is_on, is_open_paren, is_repeatable, is_string}
+use Rattle.graphql_grammar.specs.Reading.{Parser, mark, when, try, many, behind, placed, ◌⊙◌, ◌<&>◌}
+use Rattle.graphql_grammar.specs.TypeSystemReading.{description, arguments_definition, directive_locations}
+use Rattle.graphql_grammar.specs.ValueGrammar.{constant}
+use Rattle.graphql_grammar.specs.ValueReading.{name, default_value, directives, type}
 
 -- the first of several with marks between, before which a mark may stand too
 abbrev pub first : {A : Type 0} → (Terminal → Bool) → Parser A → Parser A

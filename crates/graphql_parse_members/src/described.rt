@@ -3,13 +3,13 @@ ghost use Rattle.std.specs.Prelude.{◌≡◌};
 ghost use Rattle.std.specs.Option.{option_map};
 ghost use Rattle.graphql_lexer.specs.Input as input;
 ghost use Rattle.graphql_values.specs.Placed.{name_tree, text_tree};
-ghost use Rattle.graphql_parse_values.specs.in_grammar.Begins as begins;
-ghost use Rattle.graphql_parse_values.specs.in_grammar.Kinds as kinds;
-ghost use Rattle.graphql_parse_values.specs.in_grammar.Reading.{Reads};
+ghost use Rattle.graphql_grammar.specs.Begins as begins;
+ghost use Rattle.graphql_grammar.specs.Kinds as kinds;
+ghost use Rattle.graphql_grammar.specs.Reading.{Reads};
 ghost use Rattle.graphql_parse_values.specs.Meanings.{in_file};
 ghost use Rattle.graphql_parse_members.specs.MemberSteps as steps;
 
-use graphql_parse_values::graphql_grammar::Stop;
+use graphql_grammar::Stop;
 use graphql_lexer::Source;
 use graphql_names::{FileId, Name, NodeStr};
 use graphql_parse_values::{name, next_is_name, next_is_string, optional_description};

@@ -3,16 +3,16 @@ ghost use Rattle.std.specs.Prelude.{◌≡◌, [], map, unwrap_or};
 ghost use Rattle.std.specs.Option.{option_map};
 ghost use Rattle.graphql_values.specs.Placed.{node_tree};
 ghost use Rattle.graphql_parse_values.specs.in_ast.TypeSystemTree.{enum_value_tree};
-ghost use Rattle.graphql_parse_values.specs.in_grammar.Begins as begins;
-ghost use Rattle.graphql_parse_values.specs.in_grammar.Kinds as kinds;
-ghost use Rattle.graphql_parse_values.specs.in_grammar.Reading as read;
-ghost use Rattle.graphql_parse_values.specs.in_grammar.Reading.{Reads};
-ghost use Rattle.graphql_parse_values.specs.in_grammar.TypeSystemReading as reading;
+ghost use Rattle.graphql_grammar.specs.Begins as begins;
+ghost use Rattle.graphql_grammar.specs.Kinds as kinds;
+ghost use Rattle.graphql_grammar.specs.Reading as read;
+ghost use Rattle.graphql_grammar.specs.Reading.{Reads};
+ghost use Rattle.graphql_grammar.specs.TypeSystemReading as reading;
 ghost use Rattle.graphql_parse_values.specs.Meanings.{in_file};
 
 use crate::described::begins_described_name;
 use graphql_parse_values::graphql_ast::EnumValueDefinition;
-use graphql_parse_values::graphql_grammar::Stop;
+use graphql_grammar::Stop;
 use graphql_lexer::{Source, Terminal};
 use graphql_names::{FileId, Node};
 use graphql_parse_values::{
@@ -22,7 +22,7 @@ use graphql_parse_values::{
 use std::alloc::Global;
 
 /// EnumValueDefinition: `Description? EnumValue Directives?`, without variables in its values.
-#[tactic(auto, unfolding(graphql_parse_values::graphql_grammar::specs::TypeSystemReading::enum_value_definition))]
+#[tactic(auto, unfolding(graphql_grammar::specs::TypeSystemReading::enum_value_definition))]
 fn enum_value_definition(
     alloc: Global,
     tokens: &mut Source<'_>,

@@ -5,18 +5,18 @@ ghost use Rattle.graphql_values.specs.Placed.{node_tree};
 ghost use Rattle.graphql_values.specs.DirectiveTree.{directives_tree, input_value_tree};
 ghost use Rattle.graphql_values.specs.TypeTree.{type_tree};
 ghost use Rattle.graphql_parse_values.specs.in_ast.TypeSystemTree.{field_definition_tree};
-ghost use Rattle.graphql_parse_values.specs.in_grammar.Begins as begins;
-ghost use Rattle.graphql_parse_values.specs.in_grammar.Kinds as kinds;
-ghost use Rattle.graphql_parse_values.specs.in_grammar.Reading as read;
-ghost use Rattle.graphql_parse_values.specs.in_grammar.Reading.{Reads};
-ghost use Rattle.graphql_parse_values.specs.in_grammar.TypeSystemReading as reading;
+ghost use Rattle.graphql_grammar.specs.Begins as begins;
+ghost use Rattle.graphql_grammar.specs.Kinds as kinds;
+ghost use Rattle.graphql_grammar.specs.Reading as read;
+ghost use Rattle.graphql_grammar.specs.Reading.{Reads};
+ghost use Rattle.graphql_grammar.specs.TypeSystemReading as reading;
 ghost use Rattle.graphql_parse_values.specs.Meanings.{in_file};
 ghost use Rattle.graphql_parse_members.specs.MemberSteps as steps;
 
 use crate::described::{begins_described_name, described_name};
 use crate::input_value_list::{input_values_or_none, optional_arguments_definition};
 use graphql_parse_values::graphql_ast::FieldDefinition;
-use graphql_parse_values::graphql_grammar::Stop;
+use graphql_grammar::Stop;
 use graphql_lexer::{Source, Terminal};
 use graphql_names::{FileId, Node};
 use graphql_parse_values::{

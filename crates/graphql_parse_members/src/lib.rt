@@ -32,4 +32,4 @@ pub use root_list::{optional_roots, roots, roots_or_none};
 
 // The crates beneath, for those above.
 pub use graphql_parse_values;
-pub use graphql_parse_values::{graphql_ast, graphql_grammar};
+pub use graphql_parse_values::graphql_ast;

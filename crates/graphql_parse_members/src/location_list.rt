@@ -1,13 +1,13 @@
 //! Places where a directive may stand (section 3.13).
 ghost use Rattle.std.specs.Prelude.{◌≡◌};
-ghost use Rattle.graphql_parse_values.specs.in_grammar.Kinds as kinds;
-ghost use Rattle.graphql_parse_values.specs.in_grammar.Locations.{location_of, named_among};
-ghost use Rattle.graphql_parse_values.specs.in_grammar.Reading as read;
-ghost use Rattle.graphql_parse_values.specs.in_grammar.Reading.{Reads};
-ghost use Rattle.graphql_parse_values.specs.in_grammar.TypeSystemReading as reading;
+ghost use Rattle.graphql_grammar.specs.Kinds as kinds;
+ghost use Rattle.graphql_grammar.specs.Locations.{location_of, named_among};
+ghost use Rattle.graphql_grammar.specs.Reading as read;
+ghost use Rattle.graphql_grammar.specs.Reading.{Reads};
+ghost use Rattle.graphql_grammar.specs.TypeSystemReading as reading;
 ghost use Rattle.graphql_parse_members.specs.MemberSteps as steps;
 
-use graphql_parse_values::graphql_grammar::Stop;
+use graphql_grammar::Stop;
 use graphql_lexer::{Source, Terminal};
 use graphql_parse_values::{expect, next_is};
 use graphql_values::DirectiveLocation;
@@ -49,7 +49,7 @@ fn find_location(table: &[DirectiveLocation], text: &str) -> DirectiveLocation
 }
 
 /// The place that is so written; a token of the class Location is one of the nineteen.
-#[tactic(auto, unfolding(graphql_parse_values::graphql_grammar::specs::Locations::location_of))]
+#[tactic(auto, unfolding(graphql_grammar::specs::Locations::location_of))]
 fn location_named(text: &str) -> DirectiveLocation
     ensures { result ≡ location_of text.now }
 {

@@ -2,15 +2,15 @@
 ghost use Rattle.std.specs.Prelude.{◌≡◌, [], map, unwrap_or};
 ghost use Rattle.std.specs.Option.{option_map};
 ghost use Rattle.graphql_values.specs.Placed.{name_tree};
-ghost use Rattle.graphql_parse_values.specs.in_grammar.Kinds as kinds;
-ghost use Rattle.graphql_parse_values.specs.in_grammar.Reading as read;
-ghost use Rattle.graphql_parse_values.specs.in_grammar.Reading.{Reads};
-ghost use Rattle.graphql_parse_values.specs.in_grammar.TypeSystemReading as reading;
-ghost use Rattle.graphql_parse_values.specs.in_grammar.ValueReading as values;
+ghost use Rattle.graphql_grammar.specs.Kinds as kinds;
+ghost use Rattle.graphql_grammar.specs.Reading as read;
+ghost use Rattle.graphql_grammar.specs.Reading.{Reads};
+ghost use Rattle.graphql_grammar.specs.TypeSystemReading as reading;
+ghost use Rattle.graphql_grammar.specs.ValueReading as values;
 ghost use Rattle.graphql_parse_values.specs.Meanings.{in_file};
 ghost use Rattle.graphql_parse_members.specs.MemberSteps as steps;
 
-use graphql_parse_values::graphql_grammar::Stop;
+use graphql_grammar::Stop;
 use graphql_lexer::{Source, Terminal};
 use graphql_names::{FileId, Name};
 use graphql_parse_values::{expect, name, next_is};
@@ -76,7 +76,7 @@ fn names(
 }
 
 /// ImplementsInterfaces: `"implements" "&"? Name ("&" Name)*`.
-#[tactic(auto, unfolding(graphql_parse_values::graphql_grammar::specs::TypeSystemReading::implements_interfaces))]
+#[tactic(auto, unfolding(graphql_grammar::specs::TypeSystemReading::implements_interfaces))]
 pub fn implements_interfaces(
     alloc: Global,
     tokens: &mut Source<'_>,
@@ -103,7 +103,7 @@ pub fn optional_implements_interfaces(
 }
 
 /// UnionMemberTypes: `"=" "|"? Name ("|" Name)*`.
-#[tactic(auto, unfolding(graphql_parse_values::graphql_grammar::specs::TypeSystemReading::union_member_types))]
+#[tactic(auto, unfolding(graphql_grammar::specs::TypeSystemReading::union_member_types))]
 pub fn union_member_types(
     alloc: Global,
     tokens: &mut Source<'_>,

@@ -4,14 +4,14 @@ ghost use Rattle.std.specs.Option.{option_map};
 ghost use Rattle.graphql_lexer.specs.Input as input;
 ghost use Rattle.graphql_values.specs.Placed.{node_tree};
 ghost use Rattle.graphql_parse_values.specs.in_ast.InputTypeTree.{root_tree};
-ghost use Rattle.graphql_parse_values.specs.in_grammar.Kinds as kinds;
-ghost use Rattle.graphql_parse_values.specs.in_grammar.OperationReading as operations;
-ghost use Rattle.graphql_parse_values.specs.in_grammar.Reading as read;
-ghost use Rattle.graphql_parse_values.specs.in_grammar.Reading.{Reads};
-ghost use Rattle.graphql_parse_values.specs.in_grammar.TypeSystemReading as reading;
+ghost use Rattle.graphql_grammar.specs.Kinds as kinds;
+ghost use Rattle.graphql_grammar.specs.OperationReading as operations;
+ghost use Rattle.graphql_grammar.specs.Reading as read;
+ghost use Rattle.graphql_grammar.specs.Reading.{Reads};
+ghost use Rattle.graphql_grammar.specs.TypeSystemReading as reading;
 ghost use Rattle.graphql_parse_values.specs.Meanings.{in_file};
 
-use graphql_parse_values::graphql_grammar::Stop;
+use graphql_grammar::Stop;
 use graphql_lexer::{Source, Terminal};
 use graphql_names::{FileId, Node};
 use graphql_parse_values::{begin, expect, name, next_is, open, since};
@@ -29,7 +29,7 @@ fn next_is_operation_type(tokens: &Source<'_>) -> bool
 }
 
 /// OperationType: `query`, `mutation` or `subscription`.
-#[tactic(auto, using(graphql_parse_values::graphql_grammar::proofs::Moves::mark_yes), unfolding(graphql_parse_values::graphql_grammar::specs::OperationReading::operation_type))]
+#[tactic(auto, using(graphql_grammar::proofs::Moves::mark_yes), unfolding(graphql_grammar::specs::OperationReading::operation_type))]
 fn operation_type(tokens: &mut Source<'_>) -> Result<OperationType, Stop>
     ensures { Reads (λ x. x) (operations.operation_type tokens.old) result tokens.new }
 {
@@ -49,7 +49,7 @@ fn operation_type(tokens: &mut Source<'_>) -> Result<OperationType, Stop>
 }
 
 /// RootOperationTypeDefinition: `OperationType ":" NamedType`.
-#[tactic(auto, unfolding(graphql_parse_values::graphql_grammar::specs::TypeSystemReading::root_operation_type_definition))]
+#[tactic(auto, unfolding(graphql_grammar::specs::TypeSystemReading::root_operation_type_definition))]
 fn root_operation(
     alloc: Global,
     tokens: &mut Source<'_>,

@@ -1,9 +1,9 @@
 -- Which form of an operation is read, by the next token.
 use Rattle.std.proofs.Common.{◌≡◌, ℕ, true, false, refl}
 use Rattle.graphql_lexer.specs.Input.{Input, next}
-use Rattle.graphql_parse_values.specs.in_grammar.Meaning.{Meaning}
-use Rattle.graphql_parse_values.specs.in_grammar.Kinds.{next_is, is_open_brace}
-use Rattle.graphql_parse_values.specs.in_grammar.OperationReading as o
+use Rattle.graphql_grammar.specs.Meaning.{Meaning}
+use Rattle.graphql_grammar.specs.Kinds.{next_is, is_open_brace}
+use Rattle.graphql_grammar.specs.OperationReading as o
 use Rattle.graphql_parse_operations.specs.OperationSteps.{short_operation, full_operation}
 
 module _ {P : Type 0} (m : Meaning P) where

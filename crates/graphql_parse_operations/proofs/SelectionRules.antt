@@ -15,14 +15,14 @@ use Rattle.graphql_operations.specs.declared.selection.Selection.TheViews.{outs-
 use Rattle.graphql_operations.specs.declared.selection.Selection.TheFolds.{map-Selection, fold_out-Selection}
 use Rattle.graphql_operations.proofs.SelectionTrees.{field_at, inline_at}
 use Rattle.graphql_lexer.specs.Input.{Input, next}
-use Rattle.graphql_parse_values.specs.in_grammar.Meaning.{Meaning, begin_of, place_between}
-use Rattle.graphql_parse_values.specs.in_grammar.Kinds.{next_is, is_on, is_at, is_spread, is_fragment_name, is_name, is_open_paren, is_open_brace}
-use Rattle.graphql_parse_values.specs.in_grammar.OperationGrammar.{field_of}
-use Rattle.graphql_parse_values.specs.in_grammar.OperationReading as o
-use Rattle.graphql_parse_values.specs.in_grammar.OperationReading.{Dotted, dotted_of}
-use Rattle.graphql_parse_values.specs.in_grammar.Reading.{Outcome, Parser, and_then, mark, try, ◌⊙◌}
-use Rattle.graphql_parse_values.specs.in_grammar.ValueGrammar.{with_variables}
-use Rattle.graphql_parse_values.specs.in_grammar.ValueReading.{arguments, directives}
+use Rattle.graphql_grammar.specs.Meaning.{Meaning, begin_of, place_between}
+use Rattle.graphql_grammar.specs.Kinds.{next_is, is_on, is_at, is_spread, is_fragment_name, is_name, is_open_paren, is_open_brace}
+use Rattle.graphql_grammar.specs.OperationGrammar.{field_of}
+use Rattle.graphql_grammar.specs.OperationReading as o
+use Rattle.graphql_grammar.specs.OperationReading.{Dotted, dotted_of}
+use Rattle.graphql_grammar.specs.Reading.{Outcome, Parser, and_then, mark, try, ◌⊙◌}
+use Rattle.graphql_grammar.specs.ValueGrammar.{with_variables}
+use Rattle.graphql_grammar.specs.ValueReading.{arguments, directives}
 use Rattle.graphql_parse_operations.specs.SelectionSteps.{field_parts, spread_parts, inline_parts, spread_since, inline_since, dots}
 
 abbrev done : {A : Type 0} → A → Input → Outcome A

@@ -6,13 +6,13 @@ use Rattle.graphql_values.specs.TypeTree.{TypeTree}
 use Rattle.graphql_values.specs.DirectiveTree.{Directives}
 use Rattle.graphql_values.specs.SelectionTree.{SelectionTrees}
 use Rattle.graphql_values.specs.OperationTree.{VariableDefinitionTree, OperationTree}
-use Rattle.graphql_parse_values.specs.in_grammar.Meaning.{Meaning}
-use Rattle.graphql_parse_values.specs.in_grammar.Kinds.{is_name, is_at, is_equals, is_open_paren}
-use Rattle.graphql_parse_values.specs.in_grammar.OperationGrammar.{short_of, operation_of}
-use Rattle.graphql_parse_values.specs.in_grammar.OperationReading.{operation_type, type_condition, variable_definitions, selection_set}
-use Rattle.graphql_parse_values.specs.in_grammar.Reading.{Parser, try, placed, ◌⊙◌, ◌<&>◌}
-use Rattle.graphql_parse_values.specs.in_grammar.ValueGrammar.{constant, with_variables}
-use Rattle.graphql_parse_values.specs.in_grammar.ValueReading.{name, default_value, directives, type}
+use Rattle.graphql_grammar.specs.Meaning.{Meaning}
+use Rattle.graphql_grammar.specs.Kinds.{is_name, is_at, is_equals, is_open_paren}
+use Rattle.graphql_grammar.specs.OperationGrammar.{short_of, operation_of}
+use Rattle.graphql_grammar.specs.OperationReading.{operation_type, type_condition, variable_definitions, selection_set}
+use Rattle.graphql_grammar.specs.Reading.{Parser, try, placed, ◌⊙◌, ◌<&>◌}
+use Rattle.graphql_grammar.specs.ValueGrammar.{constant, with_variables}
+use Rattle.graphql_grammar.specs.ValueReading.{name, default_value, directives, type}
 
 module _ {P : Type 0} (m : Meaning P) where
   -- a query that is its selections alone

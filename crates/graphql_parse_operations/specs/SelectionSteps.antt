@@ -9,12 +9,12 @@ use Rattle.graphql_values.specs.SelectionParts.{field_head}
 use Rattle.graphql_operations.specs.declared.selection.Field.{Field}
 use Rattle.graphql_operations.specs.declared.selection.FragmentSpread.{FragmentSpread}
 use Rattle.graphql_operations.specs.declared.selection.InlineFragment.{InlineFragment}
-use Rattle.graphql_parse_values.specs.in_grammar.Meaning.{Meaning}
-use Rattle.graphql_parse_values.specs.in_grammar.Kinds.{is_on, is_at, is_spread, is_open_paren, is_open_brace}
-use Rattle.graphql_parse_values.specs.in_grammar.Reading.{Parser, and_then, mark, try, placed, ◌⊙◌, ◌<&>◌}
-use Rattle.graphql_parse_values.specs.in_grammar.ValueGrammar.{with_variables}
-use Rattle.graphql_parse_values.specs.in_grammar.ValueReading.{arguments, directives}
-use Rattle.graphql_parse_values.specs.in_grammar.OperationReading.{alias_and_name, fragment_name, type_condition, dotted, dotted_of}
+use Rattle.graphql_grammar.specs.Meaning.{Meaning}
+use Rattle.graphql_grammar.specs.Kinds.{is_on, is_at, is_spread, is_open_paren, is_open_brace}
+use Rattle.graphql_grammar.specs.Reading.{Parser, and_then, mark, try, placed, ◌⊙◌, ◌<&>◌}
+use Rattle.graphql_grammar.specs.ValueGrammar.{with_variables}
+use Rattle.graphql_grammar.specs.ValueReading.{arguments, directives}
+use Rattle.graphql_grammar.specs.OperationReading.{alias_and_name, fragment_name, type_condition, dotted, dotted_of}
 
 -- ---- what a tree in memory shows without its place
 

@@ -2,12 +2,12 @@
 ghost use Rattle.std.specs.Prelude.{◌≡◌};
 ghost use Rattle.graphql_lexer.specs.Input as input;
 ghost use Rattle.graphql_values.specs.Placed.{name_tree};
-ghost use Rattle.graphql_parse_values.specs.in_grammar.Kinds as kinds;
-ghost use Rattle.graphql_parse_values.specs.in_grammar.OperationReading as reading;
-ghost use Rattle.graphql_parse_values.specs.in_grammar.Reading.{Reads};
+ghost use Rattle.graphql_grammar.specs.Kinds as kinds;
+ghost use Rattle.graphql_grammar.specs.OperationReading as reading;
+ghost use Rattle.graphql_grammar.specs.Reading.{Reads};
 ghost use Rattle.graphql_parse_values.specs.Meanings.{in_file};
 
-use graphql_parse_values::graphql_grammar::Stop;
+use graphql_grammar::Stop;
 use graphql_lexer::{Source, Terminal};
 use graphql_names::{FileId, Name};
 use graphql_parse_values::{expect, name, next_is, next_is_name};
@@ -15,7 +15,7 @@ use graphql_values::OperationType;
 use std::alloc::Global;
 
 /// OperationType: `query`, `mutation` or `subscription`.
-#[tactic(auto, using(graphql_parse_values::graphql_grammar::proofs::Moves::mark_yes), unfolding(graphql_parse_values::graphql_grammar::specs::OperationReading::operation_type))]
+#[tactic(auto, using(graphql_grammar::proofs::Moves::mark_yes), unfolding(graphql_grammar::specs::OperationReading::operation_type))]
 pub fn operation_type(tokens: &mut Source<'_>) -> Result<OperationType, Stop>
     ensures { Reads (λ x. x) (reading.operation_type tokens.old) result tokens.new }
 {
@@ -52,7 +52,7 @@ pub fn fragment_name(alloc: Global, tokens: &mut Source<'_>, file: FileId) -> Re
 }
 
 /// TypeCondition: `"on" Name`, its name.
-#[tactic(auto, unfolding(graphql_parse_values::graphql_grammar::specs::OperationReading::type_condition))]
+#[tactic(auto, unfolding(graphql_grammar::specs::OperationReading::type_condition))]
 pub fn type_condition(alloc: Global, tokens: &mut Source<'_>, file: FileId) -> Result<Name, Stop>
     ensures { Reads name_tree (reading.type_condition (in_file file) tokens.old) result tokens.new }
 {

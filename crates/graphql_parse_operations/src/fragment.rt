@@ -4,15 +4,15 @@ ghost use Rattle.graphql_values.specs.Placed.{name_tree, node_tree};
 ghost use Rattle.graphql_values.specs.DirectiveTree.{directives_tree};
 ghost use Rattle.graphql_values.specs.SelectionTree.{selection_tree, selection_trees};
 ghost use Rattle.graphql_values.specs.OperationTree.{fragment_tree};
-ghost use Rattle.graphql_parse_values.specs.in_grammar.OperationReading as reading;
-ghost use Rattle.graphql_parse_values.specs.in_grammar.Reading as read;
-ghost use Rattle.graphql_parse_values.specs.in_grammar.Reading.{Reads};
+ghost use Rattle.graphql_grammar.specs.OperationReading as reading;
+ghost use Rattle.graphql_grammar.specs.Reading as read;
+ghost use Rattle.graphql_grammar.specs.Reading.{Reads};
 ghost use Rattle.graphql_parse_values.specs.Meanings.{in_file};
 ghost use Rattle.graphql_parse_operations.specs.OperationSteps as steps;
 
 use crate::condition::{fragment_name, type_condition};
 use crate::selection_list::directives_and_set;
-use graphql_parse_values::graphql_grammar::Stop;
+use graphql_grammar::Stop;
 use graphql_lexer::{Source, Terminal};
 use graphql_names::{FileId, Name, Node};
 use graphql_parse_values::{begin, directives_or_none, expect, since};
@@ -34,7 +34,7 @@ fn condition_and_set(
 }
 
 /// FragmentDefinition: `"fragment" FragmentName TypeCondition Directives? SelectionSet`.
-#[tactic(auto, unfolding(graphql_parse_values::graphql_grammar::specs::OperationReading::fragment_definition))]
+#[tactic(auto, unfolding(graphql_grammar::specs::OperationReading::fragment_definition))]
 pub fn fragment_definition(
     alloc: Global,
     tokens: &mut Source<'_>,

@@ -16,4 +16,4 @@ pub use variable_list::variable_definitions;
 
 // The crates beneath, for those above.
 pub use graphql_parse_values;
-pub use graphql_parse_values::{graphql_ast, graphql_grammar};
+pub use graphql_parse_values::graphql_ast;

@@ -4,11 +4,11 @@ ghost use Rattle.std.specs.Option.{option_map};
 ghost use Rattle.graphql_values.specs.Placed.{node_tree};
 ghost use Rattle.graphql_values.specs.DirectiveTree.{argument_tree, directives_tree};
 ghost use Rattle.graphql_values.specs.SelectionTree.{selection_tree, selection_trees};
-ghost use Rattle.graphql_parse_values.specs.in_grammar.Begins as begins;
-ghost use Rattle.graphql_parse_values.specs.in_grammar.Kinds as kinds;
-ghost use Rattle.graphql_parse_values.specs.in_grammar.OperationReading as reading;
-ghost use Rattle.graphql_parse_values.specs.in_grammar.Reading as read;
-ghost use Rattle.graphql_parse_values.specs.in_grammar.Reading.{Reads};
+ghost use Rattle.graphql_grammar.specs.Begins as begins;
+ghost use Rattle.graphql_grammar.specs.Kinds as kinds;
+ghost use Rattle.graphql_grammar.specs.OperationReading as reading;
+ghost use Rattle.graphql_grammar.specs.Reading as read;
+ghost use Rattle.graphql_grammar.specs.Reading.{Reads};
 ghost use Rattle.graphql_parse_values.specs.Meanings.{in_file};
 ghost use Rattle.graphql_parse_operations.specs.SelectionSteps as steps;
 
@@ -16,7 +16,7 @@ use crate::condition::next_is_fragment_name;
 use crate::selection_parts::{
     alias_and_name, begins_selection, optional_condition, placed_spread, selections_or_none,
 };
-use graphql_parse_values::graphql_grammar::Stop;
+use graphql_grammar::Stop;
 use graphql_lexer::{Source, Terminal};
 use graphql_names::{FileId, Node};
 use graphql_parse_values::{
@@ -231,7 +231,7 @@ pub fn selection_set(
 }
 
 /// `Selection+`: selections without braces.
-#[tactic(auto, unfolding(graphql_parse_values::graphql_grammar::specs::OperationReading::selections, graphql_parse_values::graphql_grammar::specs::OperationReading::selection_list))]
+#[tactic(auto, unfolding(graphql_grammar::specs::OperationReading::selections, graphql_grammar::specs::OperationReading::selection_list))]
 pub fn selections(
     alloc: Global,
     tokens: &mut Source<'_>,

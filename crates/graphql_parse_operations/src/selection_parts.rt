@@ -4,16 +4,16 @@ ghost use Rattle.std.specs.Option.{option_map};
 ghost use Rattle.graphql_lexer.specs.Input as input;
 ghost use Rattle.graphql_values.specs.Placed.{name_tree};
 ghost use Rattle.graphql_values.specs.SelectionTree.{selection_tree, selection_trees, no_selections};
-ghost use Rattle.graphql_parse_values.specs.in_grammar.Begins as begins;
-ghost use Rattle.graphql_parse_values.specs.in_grammar.Kinds as kinds;
-ghost use Rattle.graphql_parse_values.specs.in_grammar.OperationReading as reading;
-ghost use Rattle.graphql_parse_values.specs.in_grammar.Reading as read;
-ghost use Rattle.graphql_parse_values.specs.in_grammar.Reading.{Reads};
+ghost use Rattle.graphql_grammar.specs.Begins as begins;
+ghost use Rattle.graphql_grammar.specs.Kinds as kinds;
+ghost use Rattle.graphql_grammar.specs.OperationReading as reading;
+ghost use Rattle.graphql_grammar.specs.Reading as read;
+ghost use Rattle.graphql_grammar.specs.Reading.{Reads};
 ghost use Rattle.graphql_parse_values.specs.Meanings.{in_file};
 ghost use Rattle.graphql_parse_operations.specs.SelectionSteps as steps;
 
 use crate::condition::{fragment_name, type_condition};
-use graphql_parse_values::graphql_grammar::Stop;
+use graphql_grammar::Stop;
 use graphql_lexer::{Source, Terminal};
 use graphql_names::{FileId, Name, Node};
 use graphql_parse_values::{
@@ -30,7 +30,7 @@ pub fn begins_selection(tokens: &Source<'_>) -> bool
 }
 
 /// `(Name ":")? Name`: an alias, where a colon follows the first name, and a name.
-#[tactic(auto, unfolding(graphql_parse_values::graphql_grammar::specs::OperationReading::alias_and_name))]
+#[tactic(auto, unfolding(graphql_grammar::specs::OperationReading::alias_and_name))]
 pub fn alias_and_name(
     alloc: Global,
     tokens: &mut Source<'_>,

@@ -6,14 +6,14 @@ ghost use Rattle.graphql_values.specs.TypeTree.{type_tree};
 ghost use Rattle.graphql_values.specs.ValueTree.{value_tree};
 ghost use Rattle.graphql_values.specs.DirectiveTree.{directives_tree};
 ghost use Rattle.graphql_values.specs.OperationTree.{variable_definition_tree};
-ghost use Rattle.graphql_parse_values.specs.in_grammar.Kinds as kinds;
-ghost use Rattle.graphql_parse_values.specs.in_grammar.OperationReading as reading;
-ghost use Rattle.graphql_parse_values.specs.in_grammar.Reading as read;
-ghost use Rattle.graphql_parse_values.specs.in_grammar.Reading.{Reads};
+ghost use Rattle.graphql_grammar.specs.Kinds as kinds;
+ghost use Rattle.graphql_grammar.specs.OperationReading as reading;
+ghost use Rattle.graphql_grammar.specs.Reading as read;
+ghost use Rattle.graphql_grammar.specs.Reading.{Reads};
 ghost use Rattle.graphql_parse_values.specs.Meanings.{in_file};
 ghost use Rattle.graphql_parse_operations.specs.OperationSteps as steps;
 
-use graphql_parse_values::graphql_grammar::Stop;
+use graphql_grammar::Stop;
 use graphql_lexer::{Source, Terminal};
 use graphql_names::{FileId, Node};
 use graphql_parse_values::{
@@ -39,7 +39,7 @@ fn type_and_default(
 }
 
 /// VariableDefinition: `Variable ":" Type DefaultValue? Directives?`, without variables in its values.
-#[tactic(auto, unfolding(graphql_parse_values::graphql_grammar::specs::OperationReading::variable_definition))]
+#[tactic(auto, unfolding(graphql_grammar::specs::OperationReading::variable_definition))]
 fn variable_definition(
     alloc: Global,
     tokens: &mut Source<'_>,

@@ -4,13 +4,13 @@ use Rattle.graphql_values.specs.DirectiveTree.{DirectiveDefinitionTree}
 use Rattle.graphql_values.specs.Placed.{Placed, Text}
 use Rattle.graphql_parse_members.specs.in_ast.DefinitionTree.{DefinitionTree}
 use Rattle.graphql_lexer.specs.Input.{Input, next}
-use Rattle.graphql_parse_members.specs.in_grammar.Meaning.{Meaning, begin_of, place_between}
-use Rattle.graphql_parse_members.specs.in_grammar.Kinds.{next_is, is_string, is_directive}
-use Rattle.graphql_parse_members.specs.in_grammar.DocumentReading as d
-use Rattle.graphql_parse_members.specs.in_grammar.Grammar.{type_system_of}
-use Rattle.graphql_parse_members.specs.in_grammar.Reading.{Outcome, and_then, try, ◌<&>◌}
-use Rattle.graphql_parse_members.specs.in_grammar.TypeSystemGrammar.{KindTree}
-use Rattle.graphql_parse_members.specs.in_grammar.TypeSystemReading as y
+use Rattle.graphql_grammar.specs.Meaning.{Meaning, begin_of, place_between}
+use Rattle.graphql_grammar.specs.Kinds.{next_is, is_string, is_directive}
+use Rattle.graphql_grammar.specs.DocumentReading as d
+use Rattle.graphql_grammar.specs.Grammar.{type_system_of}
+use Rattle.graphql_grammar.specs.Reading.{Outcome, and_then, try, ◌<&>◌}
+use Rattle.graphql_grammar.specs.TypeSystemGrammar.{KindTree}
+use Rattle.graphql_grammar.specs.TypeSystemReading as y
 use Rattle.graphql_parse_types.specs.KindSteps.{definition_kind, kind_from, directive_from}
 use Rattle.graphql_parse_types.proofs.Dispatch.{undescribed_directive, undescribed_kind}
 

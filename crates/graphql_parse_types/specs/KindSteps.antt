@@ -3,14 +3,14 @@ use Rattle.std.specs.Prelude.{ℕ, List, Option, Ok}
 use Rattle.graphql_values.specs.DirectiveTree.{Directives, InputValues}
 use Rattle.graphql_values.specs.Placed.{Text}
 use Rattle.graphql_parse_members.specs.in_ast.DefinitionTree.{DefinitionTree, DirectiveDefinition}
-use Rattle.graphql_parse_members.specs.in_grammar.Meaning.{Meaning}
-use Rattle.graphql_parse_members.specs.in_grammar.Kinds.{is_at, is_equals, is_implements, is_open_brace, is_schema}
-use Rattle.graphql_parse_members.specs.in_grammar.Grammar.{definition_of}
-use Rattle.graphql_parse_members.specs.in_grammar.TypeSystemGrammar.{KindTree, Fields, Values, SchemaKind, ScalarKind, ObjectKind, InterfaceKind, UnionKind, EnumKind, InputObjectKind}
-use Rattle.graphql_parse_members.specs.in_grammar.Reading.{Parser, and_then, when, try, ◌⊙◌, ◌<&>◌}
-use Rattle.graphql_parse_members.specs.in_grammar.TypeSystemReading as types
-use Rattle.graphql_parse_members.specs.in_grammar.ValueGrammar.{constant}
-use Rattle.graphql_parse_members.specs.in_grammar.ValueReading.{directives}
+use Rattle.graphql_grammar.specs.Meaning.{Meaning}
+use Rattle.graphql_grammar.specs.Kinds.{is_at, is_equals, is_implements, is_open_brace, is_schema}
+use Rattle.graphql_grammar.specs.Grammar.{definition_of}
+use Rattle.graphql_grammar.specs.TypeSystemGrammar.{KindTree, Fields, Values, SchemaKind, ScalarKind, ObjectKind, InterfaceKind, UnionKind, EnumKind, InputObjectKind}
+use Rattle.graphql_grammar.specs.Reading.{Parser, and_then, when, try, ◌⊙◌, ◌<&>◌}
+use Rattle.graphql_grammar.specs.TypeSystemReading as types
+use Rattle.graphql_grammar.specs.ValueGrammar.{constant}
+use Rattle.graphql_grammar.specs.ValueReading.{directives}
 
 module _ {P : Type 0} (m : Meaning P) where
   -- ---- what stands behind a name

@@ -4,7 +4,7 @@ ghost use Rattle.std.specs.Option.{option_map};
 ghost use Rattle.graphql_values.specs.DirectiveTree.{directives_tree};
 ghost use Rattle.graphql_values.specs.Placed.{name_tree, node_tree};
 ghost use Rattle.graphql_parse_members.specs.in_ast.TypeSystemTree.{field_definition_tree};
-ghost use Rattle.graphql_parse_members.specs.in_grammar.Reading.{Reads};
+ghost use Rattle.graphql_grammar.specs.Reading.{Reads};
 ghost use Rattle.graphql_parse_types.specs.KindSteps as steps;
 ghost use Rattle.graphql_parse_types.specs.KindTrees.{kind_tree};
 ghost use Rattle.graphql_parse_members.specs.in_parse_values.Meanings.{in_file};
@@ -13,7 +13,7 @@ use crate::kind::Kind;
 use graphql_parse_members::graphql_ast::{
     FieldDefinition, InterfaceTypeExtension, ObjectTypeExtension, UnionTypeExtension,
 };
-use graphql_parse_members::graphql_grammar::Stop;
+use graphql_grammar::Stop;
 use graphql_lexer::{Source, Terminal};
 use graphql_names::{FileId, Node};
 use graphql_parse_members::{
@@ -47,7 +47,7 @@ fn fields_rest(
 }
 
 /// ObjectTypeDefinition (section 3.6): `"type" Name ImplementsInterfaces? Directives? FieldsDefinition?`.
-#[tactic(auto, unfolding(graphql_parse_members::graphql_grammar::specs::TypeSystemReading::object_type))]
+#[tactic(auto, unfolding(graphql_grammar::specs::TypeSystemReading::object_type))]
 pub fn object_type(
     alloc: Global,
     tokens: &mut Source<'_>,
@@ -68,7 +68,7 @@ pub fn object_type(
 }
 
 /// InterfaceTypeDefinition (section 3.7): `"interface" Name ImplementsInterfaces? Directives? FieldsDefinition?`.
-#[tactic(auto, unfolding(graphql_parse_members::graphql_grammar::specs::TypeSystemReading::interface_type))]
+#[tactic(auto, unfolding(graphql_grammar::specs::TypeSystemReading::interface_type))]
 pub fn interface_type(
     alloc: Global,
     tokens: &mut Source<'_>,
@@ -103,7 +103,7 @@ fn union_rest(
 }
 
 /// UnionTypeDefinition (section 3.8): `"union" Name Directives? UnionMemberTypes?`.
-#[tactic(auto, unfolding(graphql_parse_members::graphql_grammar::specs::TypeSystemReading::union_type))]
+#[tactic(auto, unfolding(graphql_grammar::specs::TypeSystemReading::union_type))]
 pub fn union_type(
     alloc: Global,
     tokens: &mut Source<'_>,

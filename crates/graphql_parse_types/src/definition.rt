@@ -5,9 +5,9 @@ ghost use Rattle.graphql_names.specs.Node.{content, place as place_of};
 ghost use Rattle.graphql_names.specs.declared.node.Node.{Node};
 ghost use Rattle.graphql_values.specs.Placed.{text_tree};
 ghost use Rattle.graphql_parse_members.specs.in_ast.DefinitionTree.{definition_tree};
-ghost use Rattle.graphql_parse_members.specs.in_grammar.DocumentReading as reading;
-ghost use Rattle.graphql_parse_members.specs.in_grammar.Grammar as grammar;
-ghost use Rattle.graphql_parse_members.specs.in_grammar.Reading.{Reads};
+ghost use Rattle.graphql_grammar.specs.DocumentReading as reading;
+ghost use Rattle.graphql_grammar.specs.Grammar as grammar;
+ghost use Rattle.graphql_grammar.specs.Reading.{Reads};
 ghost use Rattle.graphql_parse_types.specs.KindSteps as steps;
 ghost use Rattle.graphql_parse_types.specs.KindTrees.{kind_tree};
 ghost use Rattle.graphql_parse_members.specs.in_parse_values.Meanings.{in_file};
@@ -21,7 +21,7 @@ use crate::with_description::{
     union_with_description,
 };
 use graphql_parse_members::graphql_ast::Definition;
-use graphql_parse_members::graphql_grammar::Stop;
+use graphql_grammar::Stop;
 use graphql_lexer::{Source, Terminal};
 use graphql_names::{FileId, Node, NodeStr, SourceSpan};
 use graphql_parse_members::directive_definition;

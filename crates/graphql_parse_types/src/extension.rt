@@ -1,9 +1,9 @@
 //! Extensions of the type system (sections 3.3.2 and 3.4.3).
 ghost use Rattle.std.specs.Prelude.{◌≡◌, Some, IfOk};
 ghost use Rattle.graphql_parse_members.specs.in_ast.DefinitionTree.{definition_tree};
-ghost use Rattle.graphql_parse_members.specs.in_grammar.DocumentReading as reading;
-ghost use Rattle.graphql_parse_members.specs.in_grammar.Grammar as grammar;
-ghost use Rattle.graphql_parse_members.specs.in_grammar.Reading.{Reads};
+ghost use Rattle.graphql_grammar.specs.DocumentReading as reading;
+ghost use Rattle.graphql_grammar.specs.Grammar as grammar;
+ghost use Rattle.graphql_grammar.specs.Reading.{Reads};
 ghost use Rattle.graphql_parse_types.specs.KindSteps as steps;
 ghost use Rattle.graphql_parse_types.specs.KindTrees.{kind_tree};
 ghost use Rattle.graphql_parse_members.specs.in_parse_values.Meanings.{in_file};
@@ -13,7 +13,7 @@ use crate::kind::Kind;
 use crate::schema::schema_extension;
 use crate::types::type_definition;
 use graphql_parse_members::graphql_ast::Definition;
-use graphql_parse_members::graphql_grammar::Stop;
+use graphql_grammar::Stop;
 use graphql_lexer::{Source, Terminal};
 use graphql_names::{FileId, SourceSpan};
 use graphql_parse_members::graphql_parse_values::{begin, expect, next_is, since};
@@ -35,7 +35,7 @@ fn extension_kind(
 }
 
 /// What an extension says behind `extend`, with at least one part.
-#[tactic(auto, unfolding(graphql_parse_members::graphql_grammar::specs::DocumentReading::extension))]
+#[tactic(auto, unfolding(graphql_grammar::specs::DocumentReading::extension))]
 fn extension(
     alloc: Global,
     tokens: &mut Source<'_>,
@@ -68,7 +68,7 @@ fn extended(alloc: Global, place: SourceSpan, kind: Kind) -> Result<Definition, 
 }
 
 /// TypeSystemExtension: `"extend" (SchemaExtension / TypeDefinition)`, with at least one part.
-#[tactic(auto, unfolding(graphql_parse_members::graphql_grammar::specs::DocumentReading::type_system_extension))]
+#[tactic(auto, unfolding(graphql_grammar::specs::DocumentReading::type_system_extension))]
 pub fn type_system_extension(
     alloc: Global,
     tokens: &mut Source<'_>,

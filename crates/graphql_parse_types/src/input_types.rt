@@ -4,7 +4,7 @@ ghost use Rattle.std.specs.Option.{option_map};
 ghost use Rattle.graphql_values.specs.DirectiveTree.{directives_tree, input_value_tree};
 ghost use Rattle.graphql_values.specs.Placed.{node_tree};
 ghost use Rattle.graphql_parse_members.specs.in_ast.TypeSystemTree.{enum_value_tree};
-ghost use Rattle.graphql_parse_members.specs.in_grammar.Reading.{Reads};
+ghost use Rattle.graphql_grammar.specs.Reading.{Reads};
 ghost use Rattle.graphql_parse_types.specs.KindSteps as steps;
 ghost use Rattle.graphql_parse_types.specs.KindTrees.{kind_tree};
 ghost use Rattle.graphql_parse_members.specs.in_parse_values.Meanings.{in_file};
@@ -13,7 +13,7 @@ use crate::kind::Kind;
 use graphql_parse_members::graphql_ast::{
     EnumTypeExtension, EnumValueDefinition, InputObjectTypeExtension, ScalarTypeExtension,
 };
-use graphql_parse_members::graphql_grammar::Stop;
+use graphql_grammar::Stop;
 use graphql_lexer::{Source, Terminal};
 use graphql_names::{FileId, Node};
 use graphql_parse_members::{
@@ -25,7 +25,7 @@ use graphql_values::{DirectiveList, InputValueDefinition};
 use std::alloc::Global;
 
 /// ScalarTypeDefinition (section 3.5): `"scalar" Name Directives?`.
-#[tactic(auto, unfolding(graphql_parse_members::graphql_grammar::specs::TypeSystemReading::scalar_type))]
+#[tactic(auto, unfolding(graphql_grammar::specs::TypeSystemReading::scalar_type))]
 pub fn scalar_type(
     alloc: Global,
     tokens: &mut Source<'_>,
@@ -64,7 +64,7 @@ fn enum_rest(
 }
 
 /// EnumTypeDefinition (section 3.9): `"enum" Name Directives? EnumValuesDefinition?`.
-#[tactic(auto, unfolding(graphql_parse_members::graphql_grammar::specs::TypeSystemReading::enum_type))]
+#[tactic(auto, unfolding(graphql_grammar::specs::TypeSystemReading::enum_type))]
 pub fn enum_type(
     alloc: Global,
     tokens: &mut Source<'_>,
@@ -104,7 +104,7 @@ fn input_object_rest(
 }
 
 /// InputObjectTypeDefinition (section 3.10): `"input" Name Directives? InputFieldsDefinition?`.
-#[tactic(auto, unfolding(graphql_parse_members::graphql_grammar::specs::TypeSystemReading::input_object_type))]
+#[tactic(auto, unfolding(graphql_grammar::specs::TypeSystemReading::input_object_type))]
 pub fn input_object_type(
     alloc: Global,
     tokens: &mut Source<'_>,

@@ -1,13 +1,13 @@
 //! The schema: its root operation types (section 3.3).
 ghost use Rattle.std.specs.Prelude.{◌≡◌};
-ghost use Rattle.graphql_parse_members.specs.in_grammar.Reading.{Reads};
+ghost use Rattle.graphql_grammar.specs.Reading.{Reads};
 ghost use Rattle.graphql_parse_types.specs.KindSteps as steps;
 ghost use Rattle.graphql_parse_types.specs.KindTrees.{kind_tree};
 ghost use Rattle.graphql_parse_members.specs.in_parse_values.Meanings.{in_file};
 
 use crate::kind::Kind;
 use graphql_parse_members::graphql_ast::SchemaExtension;
-use graphql_parse_members::graphql_grammar::Stop;
+use graphql_grammar::Stop;
 use graphql_lexer::{Source, Terminal};
 use graphql_names::FileId;
 use graphql_parse_members::{optional_roots, roots, roots_or_none};
@@ -15,7 +15,7 @@ use graphql_parse_members::graphql_parse_values::{directives_or_none, expect, op
 use std::alloc::Global;
 
 /// SchemaDefinition (section 3.3): `"schema" Directives? "{" RootOperationTypeDefinition+ "}"`.
-#[tactic(auto, unfolding(graphql_parse_members::graphql_grammar::specs::TypeSystemReading::schema_definition))]
+#[tactic(auto, unfolding(graphql_grammar::specs::TypeSystemReading::schema_definition))]
 pub fn schema_definition(
     alloc: Global,
     tokens: &mut Source<'_>,
@@ -34,7 +34,7 @@ pub fn schema_definition(
 }
 
 /// SchemaExtension behind `extend` (section 3.3.2): `"schema" Directives? ("{" RootOperationTypeDefinition+ "}")?`.
-#[tactic(auto, unfolding(graphql_parse_members::graphql_grammar::specs::TypeSystemReading::schema_extension))]
+#[tactic(auto, unfolding(graphql_grammar::specs::TypeSystemReading::schema_extension))]
 pub fn schema_extension(
     alloc: Global,
     tokens: &mut Source<'_>,

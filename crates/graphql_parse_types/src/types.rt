@@ -1,14 +1,14 @@
 //! Types of any kind (section 3.4).
 ghost use Rattle.std.specs.Prelude.{◌≡◌};
-ghost use Rattle.graphql_parse_members.specs.in_grammar.Reading.{Reads};
-ghost use Rattle.graphql_parse_members.specs.in_grammar.TypeSystemReading as reading;
+ghost use Rattle.graphql_grammar.specs.Reading.{Reads};
+ghost use Rattle.graphql_grammar.specs.TypeSystemReading as reading;
 ghost use Rattle.graphql_parse_types.specs.KindTrees.{kind_tree};
 ghost use Rattle.graphql_parse_members.specs.in_parse_values.Meanings.{in_file};
 
 use crate::composite_types::{interface_type, object_type, union_type};
 use crate::input_types::{enum_type, input_object_type, scalar_type};
 use crate::kind::Kind;
-use graphql_parse_members::graphql_grammar::Stop;
+use graphql_grammar::Stop;
 use graphql_lexer::{Source, Terminal};
 use graphql_names::FileId;
 use graphql_parse_members::graphql_parse_values::next_is;

@@ -6,10 +6,10 @@ use Rattle.graphql_lexer.specs.Tokens.{ignored_at, token_at}
 use Rattle.graphql_lexer.specs.Lex.{Piece, piece_at, ArePieces, Lex, NothingBegins}
 use Rattle.graphql_lexer.specs.Cursor.{EndsAs, is_stuck, is_stuck_at}
 use Rattle.graphql_lexer.proofs.Lexed.{lex_unique}
-use Rattle.graphql_parse_operations.specs.in_grammar.declared.stop.Stop.{Stop}
-use Rattle.graphql_parse_operations.specs.in_grammar.declared.stop.Stop.TheVariants.{Memory, Unexpected}
-use Rattle.graphql_parse_operations.specs.in_grammar.Reading.{Outcome, Parser, and_then, ended, ended_at, whole}
-use Rattle.graphql_parse_operations.proofs.in_grammar.Exact.{ok_is}
+use Rattle.graphql_grammar.specs.declared.stop.Stop.{Stop}
+use Rattle.graphql_grammar.specs.declared.stop.Stop.TheVariants.{Memory, Unexpected}
+use Rattle.graphql_grammar.specs.Reading.{Outcome, Parser, and_then, ended, ended_at, whole}
+use Rattle.graphql_grammar.proofs.Exact.{ok_is}
 use Rattle.graphql_read.specs.Calls.{end_of_text, end_of_text_at, all_of}
 
 -- ---- a text that is all tokens

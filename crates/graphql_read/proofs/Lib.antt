@@ -13,4 +13,4 @@ pub mod Soundness
 pub mod Endings
 pub mod Texts
 pub mod Symbols
-pub use Rattle.graphql_parse_operations.proofs.in_grammar as in_grammar
+pub use Rattle.graphql_grammar.proofs as in_grammar

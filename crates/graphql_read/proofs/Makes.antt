@@ -8,9 +8,9 @@ use Rattle.graphql_lexer.specs.declared.token.TokenKind.{TokenKind}
 use Rattle.graphql_lexer.specs.Terminals.{terminal_of}
 use Rattle.graphql_lexer.specs.Input.{Token, Input, past}
 use Rattle.graphql_lexer.specs.Lex.{Piece, with_token, tokens_among, LexesFront}
-use Rattle.graphql_parse_operations.specs.in_grammar.Meaning.{Meaning}
-use Rattle.graphql_parse_operations.specs.in_grammar.Rules as rule
-use Rattle.graphql_parse_operations.specs.in_grammar.Rules.{Rule, one, ◌·◌, ◌<$>◌, ◌∣◌, nothing, optional, optional_unless}
+use Rattle.graphql_grammar.specs.Meaning.{Meaning}
+use Rattle.graphql_grammar.specs.Rules as rule
+use Rattle.graphql_grammar.specs.Rules.{Rule, one, ◌·◌, ◌<$>◌, ◌∣◌, nothing, optional, optional_unless}
 
 -- ---- the tokens of a text
 

@@ -9,14 +9,14 @@ use Rattle.graphql_values.specs.Writable.{has_selection, selections_writable, di
 use Rattle.graphql_parse_operations.specs.in_ast.DefinitionTree.{DefinitionTree, Operation, Fragment, DirectiveDefinition, Schema, ScalarType, ObjectType, InterfaceType, UnionType, EnumType, InputObjectType, ExtendSchema, ExtendScalar, ExtendObject, ExtendInterface, ExtendUnion, ExtendEnum, ExtendInputObject}
 use Rattle.graphql_parse_operations.specs.in_ast.Writable.{has_some, schema_writable, fields_writable, enum_writable, input_object_writable, definition_writable, document_writable}
 use Rattle.graphql_lexer.specs.Input.{Token}
-use Rattle.graphql_parse_operations.specs.in_grammar.Meaning.{Meaning, start}
-use Rattle.graphql_parse_operations.specs.in_grammar.Kinds.{is_extend}
-use Rattle.graphql_parse_operations.specs.in_grammar.Rules as rule
-use Rattle.graphql_parse_operations.specs.in_grammar.Rules.{◌·◌, ◌<$>◌, ◌∣◌}
-use Rattle.graphql_parse_operations.specs.in_grammar.TypeSystemGrammar.{KindTree, SchemaKind, ScalarKind, ObjectKind, InterfaceKind, UnionKind, EnumKind, InputObjectKind}
-use Rattle.graphql_parse_operations.specs.in_grammar.TypeSystemGrammar as y
-use Rattle.graphql_parse_operations.specs.in_grammar.Grammar as g
-use Rattle.graphql_parse_operations.specs.in_grammar.Grammar.{is_empty, definition_of, described, type_system_of, extended, extension_of, has_part, Derives, DerivesSelections}
+use Rattle.graphql_grammar.specs.Meaning.{Meaning, start}
+use Rattle.graphql_grammar.specs.Kinds.{is_extend}
+use Rattle.graphql_grammar.specs.Rules as rule
+use Rattle.graphql_grammar.specs.Rules.{◌·◌, ◌<$>◌, ◌∣◌}
+use Rattle.graphql_grammar.specs.TypeSystemGrammar.{KindTree, SchemaKind, ScalarKind, ObjectKind, InterfaceKind, UnionKind, EnumKind, InputObjectKind}
+use Rattle.graphql_grammar.specs.TypeSystemGrammar as y
+use Rattle.graphql_grammar.specs.Grammar as g
+use Rattle.graphql_grammar.specs.Grammar.{is_empty, definition_of, described, type_system_of, extended, extension_of, has_part, Derives, DerivesSelections}
 use Rattle.graphql_read.specs.Sound.{names_root}
 use Rattle.graphql_read.proofs.Makes.{AreTerminals, Makes, mapped, mark, seq, choice, such_that, maybe_any, one_or_more, located}
 use Rattle.graphql_read.proofs.MakesOperations.{selections_makes, operation_makes, fragment_makes}

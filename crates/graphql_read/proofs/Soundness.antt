@@ -5,7 +5,7 @@ use Rattle.graphql_values.specs.Placed.{Place}
 use Rattle.graphql_values.specs.TypeTree.{TypeTree}
 use Rattle.graphql_values.specs.SelectionTree.{SelectionTrees}
 use Rattle.graphql_parse_operations.specs.in_ast.DefinitionTree.{DefinitionTree}
-use Rattle.graphql_parse_operations.specs.in_grammar.Grammar.{Derives, DerivesType, DerivesSelections}
+use Rattle.graphql_grammar.specs.Grammar.{Derives, DerivesType, DerivesSelections}
 use Rattle.graphql_parse_operations.specs.in_parse_values.Meanings.{in_file, string_of}
 use Rattle.graphql_read.specs.Reads.{Reads}
 use Rattle.graphql_read.specs.Sound.{IsSound, IsSoundType, AreSound}

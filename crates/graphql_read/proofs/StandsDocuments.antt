@@ -7,14 +7,14 @@ use Rattle.graphql_values.specs.SelectionTree.{SelectionTrees}
 use Rattle.graphql_values.specs.DirectiveTree.{DirectiveDefinitionTree}
 use Rattle.graphql_parse_operations.specs.in_ast.DefinitionTree.{DefinitionTree, Operation, Fragment}
 use Rattle.graphql_lexer.specs.Input.{Token}
-use Rattle.graphql_parse_operations.specs.in_grammar.Meaning.{Meaning, start}
-use Rattle.graphql_parse_operations.specs.in_grammar.Kinds.{is_extend}
-use Rattle.graphql_parse_operations.specs.in_grammar.Places.{place_if, place_in, meaning_in}
-use Rattle.graphql_parse_operations.specs.in_grammar.Rules.{◌<$>◌, ◌∣◌}
-use Rattle.graphql_parse_operations.specs.in_grammar.TypeSystemGrammar.{KindTree, SchemaKind, ScalarKind, ObjectKind, InterfaceKind, UnionKind, EnumKind, InputObjectKind}
-use Rattle.graphql_parse_operations.specs.in_grammar.TypeSystemGrammar as y
-use Rattle.graphql_parse_operations.specs.in_grammar.Grammar as g
-use Rattle.graphql_parse_operations.specs.in_grammar.Grammar.{described, type_system_of, extended, extension_of, has_part, Derives, DerivesType, DerivesSelections}
+use Rattle.graphql_grammar.specs.Meaning.{Meaning, start}
+use Rattle.graphql_grammar.specs.Kinds.{is_extend}
+use Rattle.graphql_grammar.specs.Places.{place_if, place_in, meaning_in}
+use Rattle.graphql_grammar.specs.Rules.{◌<$>◌, ◌∣◌}
+use Rattle.graphql_grammar.specs.TypeSystemGrammar.{KindTree, SchemaKind, ScalarKind, ObjectKind, InterfaceKind, UnionKind, EnumKind, InputObjectKind}
+use Rattle.graphql_grammar.specs.TypeSystemGrammar as y
+use Rattle.graphql_grammar.specs.Grammar as g
+use Rattle.graphql_grammar.specs.Grammar.{described, type_system_of, extended, extension_of, has_part, Derives, DerivesType, DerivesSelections}
 use Rattle.graphql_read.specs.EachPlace.{all_in_any, all_in_text, all_in_type, all_in_input_values, all_in_directive_definition, all_in_selections, all_in_definition, all_in_document}
 use Rattle.graphql_read.specs.Sound.{is_own}
 use Rattle.graphql_read.proofs.Makes.{AreTerminals, Makes, mapped, mark, seq, choice, such_that, some_all, three}

@@ -3,20 +3,20 @@ use Rattle.std.proofs.Common.{◌≡◌, ◌≢◌, ◌⊎◌, ℕ, ◌≤◌, t
 use Rattle.graphql_lexer.specs.declared.terminal.Terminal.{Terminal}
 use Rattle.graphql_lexer.specs.Input.{Token, Input, Ending, Ended, NoTokenAt, next}
 use Rattle.graphql_lexer.specs.Cursor.{EndsAs, is_stuck_at, input_from}
-use Rattle.graphql_parse_operations.specs.in_grammar.declared.stop.Stop.{Stop}
-use Rattle.graphql_parse_operations.specs.in_grammar.declared.stop.Stop.TheVariants.{Memory, Unexpected, Nesting}
-use Rattle.graphql_parse_operations.specs.in_grammar.Rules.{Rule}
-use Rattle.graphql_parse_operations.specs.in_grammar.Grammar.{DerivesAs}
-use Rattle.graphql_parse_operations.specs.in_grammar.Depth.{depth}
-use Rattle.graphql_parse_operations.specs.in_grammar.Faults as faults
-use Rattle.graphql_parse_operations.specs.in_grammar.Faults.{Symbol, Says}
-use Rattle.graphql_parse_operations.specs.in_grammar.Stops.{fault_of, unexpected_at}
-use Rattle.graphql_parse_operations.specs.in_grammar.Reading.{Parser, ended, ended_at, whole}
-use Rattle.graphql_parse_operations.proofs.in_grammar.Tests.{Test}
-use Rattle.graphql_parse_operations.proofs.in_grammar.Keeps as kept
-use Rattle.graphql_parse_operations.proofs.in_grammar.Keeps.{Keeps, ending_of}
-use Rattle.graphql_parse_operations.proofs.in_grammar.Parses.{Parses}
-use Rattle.graphql_parse_operations.proofs.in_grammar.Theorems as t
+use Rattle.graphql_grammar.specs.declared.stop.Stop.{Stop}
+use Rattle.graphql_grammar.specs.declared.stop.Stop.TheVariants.{Memory, Unexpected, Nesting}
+use Rattle.graphql_grammar.specs.Rules.{Rule}
+use Rattle.graphql_grammar.specs.Grammar.{DerivesAs}
+use Rattle.graphql_grammar.specs.Depth.{depth}
+use Rattle.graphql_grammar.specs.Faults as faults
+use Rattle.graphql_grammar.specs.Faults.{Symbol, Says}
+use Rattle.graphql_grammar.specs.Stops.{fault_of, unexpected_at}
+use Rattle.graphql_grammar.specs.Reading.{Parser, ended, ended_at, whole}
+use Rattle.graphql_grammar.proofs.Tests.{Test}
+use Rattle.graphql_grammar.proofs.Keeps as kept
+use Rattle.graphql_grammar.proofs.Keeps.{Keeps, ending_of}
+use Rattle.graphql_grammar.proofs.Parses.{Parses}
+use Rattle.graphql_grammar.proofs.Theorems as t
 use Rattle.graphql_read.specs.Calls.{all_of}
 use Rattle.graphql_read.specs.Reads.{Reads, IsDue}
 use Rattle.graphql_read.proofs.Endings.{AtEnd, ends_whole, not_stuck, lexed_whole, all_ok, all_err}

@@ -3,8 +3,8 @@ use Rattle.std.specs.Prelude.{Option, Some, None, Ok, Err, if◌then◌else◌}
 use Rattle.graphql_lexer.specs.declared.terminal.Terminal.{Terminal}
 use Rattle.graphql_lexer.specs.Input.{next}
 use Rattle.graphql_lexer.specs.Cursor.{is_stuck}
-use Rattle.graphql_parse_operations.specs.in_grammar.declared.stop.Stop.TheVariants.{Unexpected}
-use Rattle.graphql_parse_operations.specs.in_grammar.Reading.{Parser, and_then}
+use Rattle.graphql_grammar.specs.declared.stop.Stop.TheVariants.{Unexpected}
+use Rattle.graphql_grammar.specs.Reading.{Parser, and_then}
 
 -- nothing is left, and no text behind the tokens that is none
 abbrev pub end_of_text_at : Option Terminal → Parser (Unit {0})

@@ -7,8 +7,8 @@ use Rattle.graphql_operations.specs.declared.selection.Selection.{Selection}
 use Rattle.graphql_parse_operations.specs.in_definitions.DefinitionTree.{DefinitionTree, definition_tree}
 use Rattle.graphql_parse_operations.specs.in_definitions.Sources.{Source}
 use Rattle.graphql_parse_operations.specs.in_definitions.declared.definition.Definition.{Definition}
-use Rattle.graphql_parse_operations.specs.in_grammar.Faults as faults
-use Rattle.graphql_parse_operations.specs.in_grammar.Faults.{Fault}
+use Rattle.graphql_grammar.specs.Faults as faults
+use Rattle.graphql_grammar.specs.Faults.{Fault}
 use Rattle.graphql_read.specs.declared.fault.SyntaxFaultKind.{SyntaxFaultKind}
 use Rattle.graphql_read.specs.declared.fault.SyntaxFaultKind.TheVariants.{NoToken, Unexpected, End}
 use Rattle.graphql_read.specs.declared.fault.ReadFault.{ReadFault}

@@ -3,8 +3,8 @@ use Rattle.std.specs.Prelude.{ℕ, ◌≤◌, List}
 use Rattle.graphql_lexer.specs.Input.{Token, Ending}
 use Rattle.graphql_lexer.specs.Lex.{Lex}
 use Rattle.graphql_lexer.specs.Cursor.{EndsAs}
-use Rattle.graphql_parse_operations.specs.in_grammar.Depth.{depth}
-use Rattle.graphql_parse_operations.specs.in_grammar.Faults.{Symbol, Fault, Says}
+use Rattle.graphql_grammar.specs.Depth.{depth}
+use Rattle.graphql_grammar.specs.Faults.{Symbol, Fault, Says}
 
 -- The text is these tokens, they are a text of the symbol with this tree, and their brackets nest no deeper.
 pub record Reads {A : Type 0} (symbol : Symbol A) (nesting : ℕ) (text : List ℕ) (tree : A) : Type 0 where

@@ -3,9 +3,9 @@ ghost use Rattle.std.specs.Prelude.{◌≡◌, IfOk, IfErr, List, [], ◌∷◌,
 ghost use Rattle.graphql_values.specs.Placed.{Place};
 ghost use Rattle.graphql_parse_operations.specs.in_definitions.DefinitionTree.{DefinitionTree, document_tree};
 ghost use Rattle.graphql_parse_operations.specs.in_definitions.Sources.{source_of, numbered_source, sources_of};
-ghost use Rattle.graphql_parse_operations.specs.in_grammar.DocumentReading as reading;
-ghost use Rattle.graphql_parse_operations.specs.in_grammar.Grammar.{Derives};
-ghost use Rattle.graphql_parse_operations.specs.in_grammar.Reading as read;
+ghost use Rattle.graphql_grammar.specs.DocumentReading as reading;
+ghost use Rattle.graphql_grammar.specs.Grammar.{Derives};
+ghost use Rattle.graphql_grammar.specs.Reading as read;
 ghost use Rattle.graphql_parse_operations.specs.in_parse_values.Meanings.{in_file};
 ghost use Rattle.graphql_read.specs.Calls.{all_of};
 ghost use Rattle.graphql_read.specs.ReadFaults.{fault_view, definitions_tree, unnamed_source, IsTreeUnlessMemory};
@@ -16,14 +16,14 @@ use crate::document_list::definitions;
 use crate::fault::ReadFault;
 use crate::finish::{end_of_text, fault};
 use graphql_parse_operations::graphql_ast::{Definition, Document, SourceFile};
-use graphql_parse_operations::graphql_grammar::Stop;
+use graphql_grammar::Stop;
 use graphql_lexer::Source;
 use graphql_names::FileId;
 use indexmap::IndexMap;
 use std::alloc::{AllocError, Global};
 
 /// Document, and nothing behind it.
-#[tactic(auto, unfolding(graphql_parse_operations::graphql_grammar::specs::DocumentReading::document))]
+#[tactic(auto, unfolding(graphql_grammar::specs::DocumentReading::document))]
 fn whole_document(
     alloc: Global,
     tokens: &mut Source<'_>,

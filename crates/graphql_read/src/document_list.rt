@@ -2,14 +2,14 @@
 ghost use Rattle.std.specs.Prelude.{◌≡◌, map};
 ghost use Rattle.graphql_lexer.specs.Input as input;
 ghost use Rattle.graphql_parse_operations.specs.in_definitions.DefinitionTree.{definition_tree};
-ghost use Rattle.graphql_parse_operations.specs.in_grammar.Begins as begins;
-ghost use Rattle.graphql_parse_operations.specs.in_grammar.Kinds as kinds;
-ghost use Rattle.graphql_parse_operations.specs.in_grammar.DocumentReading as reading;
-ghost use Rattle.graphql_parse_operations.specs.in_grammar.Reading as read;
+ghost use Rattle.graphql_grammar.specs.Begins as begins;
+ghost use Rattle.graphql_grammar.specs.Kinds as kinds;
+ghost use Rattle.graphql_grammar.specs.DocumentReading as reading;
+ghost use Rattle.graphql_grammar.specs.Reading as read;
 ghost use Rattle.graphql_parse_operations.specs.in_parse_values.Meanings.{in_file};
 
 use graphql_parse_operations::graphql_ast::Definition;
-use graphql_parse_operations::graphql_grammar::Stop;
+use graphql_grammar::Stop;
 use graphql_lexer::{Source, Terminal};
 use graphql_names::FileId;
 use graphql_parse_operations::{placed_fragment, placed_operation};
@@ -60,7 +60,7 @@ fn begins_definition(tokens: &Source<'_>) -> bool
 }
 
 /// Definition: OperationDefinition, FragmentDefinition, TypeSystemDefinition or TypeSystemExtension.
-#[tactic(auto, unfolding(graphql_parse_operations::graphql_grammar::specs::DocumentReading::definition))]
+#[tactic(auto, unfolding(graphql_grammar::specs::DocumentReading::definition))]
 fn definition(
     alloc: Global,
     tokens: &mut Source<'_>,

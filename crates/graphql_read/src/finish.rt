@@ -1,13 +1,13 @@
 //! The end of a text, and the fault where reading stops.
 ghost use Rattle.std.specs.Prelude.{◌≡◌};
 ghost use Rattle.graphql_lexer.specs.Cursor.{next_offset};
-ghost use Rattle.graphql_parse_operations.specs.in_grammar.Reading.{Reads};
-ghost use Rattle.graphql_parse_operations.specs.in_grammar.Stops.{unexpected_at, fault_of};
+ghost use Rattle.graphql_grammar.specs.Reading.{Reads};
+ghost use Rattle.graphql_grammar.specs.Stops.{unexpected_at, fault_of};
 ghost use Rattle.graphql_read.specs.Calls.{end_of_text};
 ghost use Rattle.graphql_read.specs.ReadFaults.{fault_at, fault_view};
 
 use crate::fault::{ReadFault, SyntaxFault, SyntaxFaultKind};
-use graphql_parse_operations::graphql_grammar::Stop;
+use graphql_grammar::Stop;
 use graphql_lexer::Source;
 use graphql_parse_operations::graphql_parse_values::begin;
 

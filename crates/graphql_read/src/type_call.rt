@@ -2,9 +2,9 @@
 ghost use Rattle.std.specs.Prelude.{IfOk, IfErr};
 ghost use Rattle.graphql_values.specs.Placed.{Place};
 ghost use Rattle.graphql_values.specs.TypeTree.{TypeTree, type_tree};
-ghost use Rattle.graphql_parse_operations.specs.in_grammar.ValueReading as values;
-ghost use Rattle.graphql_parse_operations.specs.in_grammar.Reading as read;
-ghost use Rattle.graphql_parse_operations.specs.in_grammar.Grammar.{DerivesType};
+ghost use Rattle.graphql_grammar.specs.ValueReading as values;
+ghost use Rattle.graphql_grammar.specs.Reading as read;
+ghost use Rattle.graphql_grammar.specs.Grammar.{DerivesType};
 ghost use Rattle.graphql_parse_operations.specs.in_parse_values.Meanings.{in_file};
 ghost use Rattle.graphql_read.specs.Calls.{all_of};
 ghost use Rattle.graphql_read.specs.ReadFaults.{fault_view, IsTreeUnlessMemory};
@@ -13,7 +13,7 @@ ghost use Rattle.graphql_read.specs.Sound.{IsSoundType};
 
 use crate::fault::ReadFault;
 use crate::finish::{end_of_text, fault};
-use graphql_parse_operations::graphql_grammar::Stop;
+use graphql_grammar::Stop;
 use graphql_lexer::Source;
 use graphql_names::FileId;
 use graphql_parse_operations::graphql_parse_values::ty;

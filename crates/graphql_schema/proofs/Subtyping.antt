@@ -19,10 +19,12 @@ use Rattle.graphql_schema_building.specs.in_schema_types.Addresses.{under, type_
 use Rattle.graphql_schema_building.specs.in_schema_types.declared.extended_type.ExtendedType.{ExtendedType}
 use Rattle.graphql_schema_building.specs.in_schema_types.declared.type_kind.TypeKind.{TypeKind}
 use Rattle.graphql_schema_building.specs.in_schema_types.declared.type_kind.TypeKind.TheVariants as kind
-use Rattle.graphql_schema.specs.Implementers.{Naming, ImplementersTree, nobody, with_name, and_type, and_naming, naming, namings_of, namings, implementers_in}
+use Rattle.graphql_schema.specs.Implementers.{ImplementersTree, implementers_in}
+use Rattle.graphql_schema.specs.Noting.{Naming, nobody, with_name, and_type, and_naming, naming, namings_of, namings, noted_in}
 use Rattle.graphql_schema.specs.LookUps.{implements}
 use Rattle.graphql_schema.specs.Subtypes.{is_implementer, SubtypesAreImplementers}
 use Rattle.graphql_schema.specs.SchemaOf.{schema_tree}
+use Rattle.graphql_schema.proofs.Implemented.{noted_is}
 use Rattle.graphql_schema.specs.declared.schema.Schema.{Schema}
 
 or_false : (b : Bool) → (b || false) ≡ b
@@ -137,7 +139,7 @@ module _ (i t : List ℕ) where
             ∙ or_false (implements s e.1 i)
         by false is rest = rest
 
-    listed : IsDistinct bytes_eq (keys_of s.types) → is_implementer (implementers_in (namings s) i) t ≡ option_map_or (λ b. implements s b i) (type_at s t) false
+    listed : IsDistinct bytes_eq (keys_of s.types) → is_implementer (noted_in (namings s) i) t ≡ option_map_or (λ b. implements s b i) (type_at s t) false
     listed distinct = all_added None (namings s) ∙ types_name s.types ∙ one_stands s.types distinct
 
     -- ---- subtypes
@@ -160,8 +162,8 @@ module _ (i t : List ℕ) where
     names None h = absurd (true≢false (sym h))
     names (Some a) h = of_interface a.kind (chosen (same_kind a.kind kind.Interface) a h) (is_among t (map given_name a.members)) (option_map_or (λ b. implements s b i) (type_at s t) false)
 
-pub subtypes_are_implementers : (s : SchemaTree Place) → IsDistinct bytes_eq (keys_of s.types) → SubtypesAreImplementers s
-subtypes_are_implementers s distinct i t there = names i t s (type_at s i) there ∙ sym (listed i t s distinct)
+pub subtypes_are_implementers : (s : SchemaTree Place) → ((i : List ℕ) → noted_in (namings s) i ≡ implementers_in s i) → IsDistinct bytes_eq (keys_of s.types) → SubtypesAreImplementers s
+subtypes_are_implementers s noted distinct i t there = names i t s (type_at s i) there ∙ sym (listed i t s distinct) ∙ ap (λ o. is_implementer o t) (noted i)
 
 -- ---- each name is there once
 
@@ -180,4 +182,4 @@ once (k ∷ ks) h = (apart k ks h.0, once ks h.1)
 
 -- of a schema
 pub schema_subtypes : (s : Schema) → IsDistinct (same_text name_text) (keys_of s.types.entries) → SubtypesAreImplementers (schema_tree s)
-schema_subtypes s unique = subtypes_are_implementers (schema_tree s) (subst (IsDistinct bytes_eq) (sym (keys_named s.types.entries)) (once (keys_of s.types.entries) unique))
+schema_subtypes s unique = subtypes_are_implementers (schema_tree s) (noted_is s.types.entries) (subst (IsDistinct bytes_eq) (sym (keys_named s.types.entries)) (once (keys_of s.types.entries) unique))

@@ -7,7 +7,8 @@ use Rattle.graphql_names.specs.NameValue.{NameValue}
 use Rattle.graphql_components.specs.Names.{same_text}
 use Rattle.graphql_schema_building.specs.in_schema_types.TypeView.{name_text, extended_type}
 use Rattle.graphql_schema_building.specs.in_schema_types.declared.extended_type.ExtendedType.{ExtendedType}
-use Rattle.graphql_schema.specs.Implementers.{ImplementersTree, Naming, namings_of}
+use Rattle.graphql_schema.specs.Implementers.{ImplementersTree}
+use Rattle.graphql_schema.specs.Noting.{Naming, namings_of}
 use Rattle.graphql_schema.specs.declared.implementers.Implementers.{Implementers}
 use Rattle.graphql_schema.specs.declared.implementers.ImplementersNames.{ImplementersNames}
 

@@ -1,7 +1,10 @@
 pub mod SchemaOf
 pub mod BuilderOf
+pub mod MetaField
 pub mod LookUps
+pub mod FieldLooks
 pub mod Implementers
+pub mod Noting
 pub mod ImplementersView
 pub mod Subtypes
 pub use Rattle.graphql_components.specs.Names
@@ -24,6 +27,7 @@ pub use Rattle.graphql_schema_building.specs.in_folding.FaultView
 pub use Rattle.graphql_schema_building.specs.in_folding.Messages
 pub use Rattle.graphql_schema_building.specs.in_folding.Adoption
 pub use Rattle.graphql_schema_building.specs.in_built_in.Table
+pub use Rattle.graphql_schema_building.specs.in_built_in.MetaFields
 pub use Rattle.graphql_schema_building.specs.in_type_folding.OwnNames
 pub use Rattle.graphql_schema_building.specs.BuilderValue
 pub use Rattle.graphql_schema_building.specs.Building

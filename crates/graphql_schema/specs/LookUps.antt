@@ -1,6 +1,7 @@
--- What look-ups in a schema answer.
+-- What look-ups in a schema answer (GraphQL, October 2021, sections 2.5, 3.4.2, 3.7, 3.8, 4.1 and 4.2).
 use Rattle.std.specs.Prelude.{◌≡◌, ℕ, Bool, false, ◌&&◌, ◌||◌, List, map, Option, None, Some, option_and_then, if◌then◌else◌}
-use Rattle.std.specs.Option.{option_map_or}
+use Rattle.std.specs.Option.{option_map, option_map_or, option_or}
+use Rattle.std.specs.Str.{bytes_eq}
 use Rattle.graphql_values.specs.Placed.{Placed, Place}
 use Rattle.graphql_literals.specs.TypeTree.{TypeTree}
 use Rattle.graphql_literals.specs.TypeQueries.{inner_name}
@@ -8,12 +9,19 @@ use Rattle.graphql_schema_building.specs.in_ast.TypeSystemTree.{FieldDefinitionT
 use Rattle.graphql_components.specs.Lists.{is_among}
 use Rattle.graphql_components.specs.Given.{Given, given_name}
 use Rattle.graphql_schema_building.specs.in_schema_types.SchemaTree.{SchemaType, SchemaTree, same_kind}
-use Rattle.graphql_schema_building.specs.in_schema_types.Addresses.{under, type_at}
+use Rattle.graphql_schema_building.specs.in_schema_types.Addresses.{under, type_at, root_at}
 use Rattle.graphql_schema_building.specs.in_schema_types.TypeView.{extended_type}
 use Rattle.graphql_schema_building.specs.in_schema_types.declared.type_kind.TypeKind.{TypeKind}
-use Rattle.graphql_schema_building.specs.in_schema_types.declared.type_kind.TypeKind.TheVariants.{Interface, Union}
+use Rattle.graphql_schema_building.specs.in_schema_types.declared.type_kind.TypeKind.TheVariants.{Object, Interface, Union}
+use Rattle.graphql_operations.specs.declared.operation.OperationType.TheVariants.{Query}
+use Rattle.graphql_schema_building.specs.in_built_in.MetaFields.{meta_field_of}
+use Rattle.graphql_schema.specs.MetaField.{by_definition}
 use Rattle.graphql_schema.specs.declared.field_lookup.FieldLookupError.{FieldLookupError}
 use Rattle.graphql_schema.specs.declared.field_lookup.FieldLookupError.TheVariants.{NoSuchType, NoSuchField}
+
+-- composite types: objects, interfaces and unions (section 2.5)
+abbrev pub is_composite_kind : TypeKind → Bool
+is_composite_kind k = same_kind k Object || same_kind k Interface || same_kind k Union
 
 module _ (s : SchemaTree Place) where
   -- the type of that name, if it is of this kind
@@ -24,10 +32,29 @@ module _ (s : SchemaTree Place) where
   abbrev pub explicit_field : List ℕ → List ℕ → Option (Given Place (Placed Place (FieldDefinitionTree Place)))
   explicit_field n m = option_and_then (λ t. under m t.fields) (type_at s n)
 
+  -- the schema definition names that type as the root of queries, whatever its kind
+  abbrev pub is_query_root : List ℕ → Bool
+  is_query_root n = option_map_or (λ root. bytes_eq n root.it) (root_at s Query) false
+
+  -- the meta-field of that name of a type that stands under the name n (sections 4.1 and 4.2)
+  abbrev pub meta_field_on : List ℕ → SchemaType Place → List ℕ → Option (Given Place (Placed Place (FieldDefinitionTree Place)))
+  meta_field_on n t m = option_map by_definition (meta_field_of (is_composite_kind t.kind) (is_query_root n) m)
+
+  abbrev pub meta_field : List ℕ → List ℕ → Option (Given Place (Placed Place (FieldDefinitionTree Place)))
+  meta_field n m = option_and_then (λ t. meta_field_on n t m) (type_at s n)
+
+  -- the field of that name of a type that stands under the name n: an explicit field comes before a meta-field
+  abbrev pub field_on : List ℕ → SchemaType Place → List ℕ → Option (Given Place (Placed Place (FieldDefinitionTree Place)))
+  field_on n t m = option_or (under m t.fields) (meta_field_on n t m)
+
+  -- the field of that name of the type of that name: the explicit one, else the meta-field
+  abbrev pub field_named : List ℕ → List ℕ → Option (Given Place (Placed Place (FieldDefinitionTree Place)))
+  field_named n m = option_or (explicit_field n m) (meta_field n m)
+
   -- why there is no such field: the type is missing, or it is there, under its name, and has no such field
   abbrev pub FieldIsMissing : List ℕ → List ℕ → FieldLookupError → Type 0
   FieldIsMissing n m NoSuchType = type_at s n ≡ None
-  FieldIsMissing n m (NoSuchField name type) = (name.now.text ≡ n) × ((type_at s n ≡ Some (extended_type type.now)) × (explicit_field n m ≡ None))
+  FieldIsMissing n m (NoSuchField name type) = (name.now.text ≡ n) × ((type_at s n ≡ Some (extended_type type.now)) × (field_named n m ≡ None))
 
   -- the type lists the name among its interfaces; only objects and interfaces list any
   abbrev pub implements : SchemaType Place → List ℕ → Bool

@@ -5,7 +5,7 @@ use Rattle.graphql_values.specs.Placed.{Place}
 use Rattle.graphql_components.specs.Lists.{is_among}
 use Rattle.graphql_schema_building.specs.in_schema_types.SchemaTree.{SchemaTree}
 use Rattle.graphql_schema_building.specs.in_schema_types.declared.type_kind.TypeKind.TheVariants.{Interface}
-use Rattle.graphql_schema.specs.Implementers.{ImplementersTree, namings, implementers_in}
+use Rattle.graphql_schema.specs.Implementers.{ImplementersTree, implementers_in}
 use Rattle.graphql_schema.specs.LookUps.{type_of_kind, is_subtype}
 
 -- the type is one of these objects and interfaces
@@ -14,4 +14,4 @@ is_implementer o t = option_map_or (λ x. is_among t x.objects || is_among t x.i
 
 -- what is a subtype of an interface i is one of those that stand under i, and no other is
 abbrev pub SubtypesAreImplementers : SchemaTree Place → Type 0
-SubtypesAreImplementers s = (i t : List ℕ) → is_some (type_of_kind s Interface i) ≡ true → is_subtype s i t ≡ is_implementer (implementers_in (namings s) i) t
+SubtypesAreImplementers s = (i t : List ℕ) → is_some (type_of_kind s Interface i) ≡ true → is_subtype s i t ≡ is_implementer (implementers_in s i) t

@@ -15,9 +15,10 @@ ghost use Rattle.graphql_schema_building.specs.in_type_folding.OwnNames.{UnderOw
 ghost use Rattle.graphql_schema.specs.BuilderOf.{builder_value};
 ghost use Rattle.graphql_schema.specs.SchemaOf.{schema_tree};
 
+use crate::meta_fields::MetaFields;
 use crate::schema::Schema;
-use graphql_schema_building::graphql_ast::{Document, SourceSpan};
 use graphql_components::Extensions;
+use graphql_schema_building::graphql_ast::{Document, SourceSpan};
 use graphql_schema_building::graphql_folding::BuildError;
 use graphql_schema_building::{BuilderRefusal, Building, Built, OrphanExtensionTypes};
 use std::alloc::{AllocError, Global};
@@ -28,6 +29,7 @@ use std::alloc::{AllocError, Global};
 /// extension, the sources, the settings, and whether memory or numbers ran out.
 #[derive(Drop)]
 pub struct SchemaBuilder {
+    alloc: Global,
     building: Building,
 }
 
@@ -37,6 +39,7 @@ impl SchemaBuilder {
         ensures { builder_value result ≡ record { first = 1; texts = []; sources = []; settings = plain_settings; failed = false } }
     {
         SchemaBuilder {
+            alloc,
             building: Building::new(alloc),
         }
     }
@@ -46,6 +49,7 @@ impl SchemaBuilder {
         ensures { builder_value result ≡ record { first = extensions; texts = []; sources = []; settings = plain_settings; failed = false } }
     {
         SchemaBuilder {
+            alloc,
             building: Building::with_extensions(alloc, extensions),
         }
     }
@@ -55,6 +59,7 @@ impl SchemaBuilder {
         ensures { builder_value result ≡ record (builder_value self) { settings = record (builder_value self).settings { adopts = true } } }
     {
         SchemaBuilder {
+            alloc: self.alloc,
             building: self.building.adopt_orphan_extensions(),
         }
     }
@@ -64,6 +69,7 @@ impl SchemaBuilder {
         ensures { builder_value result ≡ record (builder_value self) { settings = record (builder_value self).settings { ignores = true } } }
     {
         SchemaBuilder {
+            alloc: self.alloc,
             building: self.building.ignore_builtin_redefinitions(),
         }
     }
@@ -100,12 +106,13 @@ impl SchemaBuilder {
         ensures refused { IfErr result (IsBuildRefusal (builder_value self)) }
     {
         let (built, faults) = self.building.build()?;
-        Ok((schema_of(built), faults))
+        let meta_fields = MetaFields::new(self.alloc)?;
+        Ok((schema_of(built, meta_fields), faults))
     }
 }
 
-/// What is built, as a schema.
-fn schema_of(built: Built) -> Schema
+/// What is built, with the meta-fields, as a schema.
+fn schema_of(built: Built, meta_fields: MetaFields) -> Schema
     ensures schema { schema_tree result ≡ built_view built }
     ensures sources { result.sources ≡ built.sources }
 {
@@ -114,6 +121,7 @@ fn schema_of(built: Built) -> Schema
         schema_definition: built.schema_definition,
         directive_definitions: built.directive_definitions,
         types: built.types,
+        meta_fields,
     }
 }
 

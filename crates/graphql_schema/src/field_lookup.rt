@@ -6,11 +6,11 @@ ghost use Rattle.graphql_components.specs.Given.{component_tree};
 ghost use Rattle.graphql_schema_building.specs.in_schema_types.Addresses.{under};
 ghost use Rattle.graphql_schema_building.specs.in_schema_types.TypeView.{extended_type};
 ghost use Rattle.graphql_schema.specs.SchemaOf.{schema_tree};
-ghost use Rattle.graphql_schema.specs.LookUps.{explicit_field, FieldIsMissing};
+ghost use Rattle.graphql_schema.specs.LookUps.{is_composite_kind, is_query_root, field_on, field_named, FieldIsMissing};
 
 use crate::schema::Schema;
-use graphql_schema_building::graphql_ast::{FieldDefinition, Name};
 use graphql_components::Component;
+use graphql_schema_building::graphql_ast::{FieldDefinition, Name, OperationType};
 use graphql_schema_building::graphql_schema_types::ExtendedType;
 
 /// Why a type has no field of a name.
@@ -23,23 +23,62 @@ pub enum FieldLookupError<'schema> {
 }
 
 impl Schema {
-    /// The field of that name of the type of that name.
+    /// The field of that name of the type of that name: the one that its definition or an extension gives, or else the
+    /// meta-field, which is `__typename` of an object, an interface or a union, and `__schema` and `__type` of the root of
+    /// queries (sections 2.5, 4.1 and 4.2).
     pub fn type_field(
         &self,
         type_name: &Name,
         field_name: &Name,
     ) -> Result<&Component<FieldDefinition>, FieldLookupError<'_>>
-        ensures found { IfOk result (λ f. explicit_field (schema_tree self.now) type_name.now.text field_name.now.text ≡ Some (component_tree field_definition_tree f.now)) }
+        ensures found { IfOk result (λ f. field_named (schema_tree self.now) type_name.now.text field_name.now.text ≡ Some (component_tree field_definition_tree f.now)) }
         ensures missing { IfErr result (FieldIsMissing (schema_tree self.now) type_name.now.text field_name.now.text) }
     {
         let Some((name, ty)) = self.types.get_key_value(type_name) else {
             return Err(FieldLookupError::NoSuchType);
         };
-        match field_of(ty, field_name) {
+        match self.field_on(type_name, ty, field_name) {
             None => Err(FieldLookupError::NoSuchField(name, ty)),
             Some(field) => Ok(field),
         }
     }
+
+    /// The field of that name of a type, which stands under the name `type_name`: its own, or else the meta-field.
+    fn field_on<'schema>(
+        &'schema self,
+        type_name: &Name,
+        ty: &'schema ExtendedType,
+        name: &Name,
+    ) -> Option<&'schema Component<FieldDefinition>>
+        ensures { option_map (λ f. component_tree field_definition_tree f.now) result ≡ field_on (schema_tree self.now) type_name.now.text (extended_type ty.now) name.now.text }
+    {
+        match field_of(ty, name) {
+            Some(field) => Some(field),
+            None => self
+                .meta_fields
+                .get(is_composite(ty), self.is_query_root(type_name), name),
+        }
+    }
+
+    /// Whether the schema definition names that type as the root of queries.
+    fn is_query_root(&self, type_name: &Name) -> bool
+        ensures { result ≡ is_query_root (schema_tree self.now) type_name.now.text }
+    {
+        match self.root_operation(OperationType::Query) {
+            None => false,
+            Some(root) => type_name.as_str() == root.as_str(),
+        }
+    }
+}
+
+/// Whether it is a composite type (section 2.5): an object, an interface or a union.
+fn is_composite(ty: &ExtendedType) -> bool
+    ensures { result ≡ is_composite_kind (extended_type ty.now).kind }
+{
+    matches!(
+        ty,
+        ExtendedType::Object(_) | ExtendedType::Interface(_) | ExtendedType::Union(_)
+    )
 }
 
 /// The field of that name of an object or an interface.

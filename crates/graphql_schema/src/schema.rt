@@ -5,14 +5,17 @@ ghost use Rattle.graphql_values.specs.Placed.{name_tree};
 ghost use Rattle.graphql_schema_building.specs.in_schema_types.Addresses.{root_at};
 ghost use Rattle.graphql_schema.specs.SchemaOf.{schema_tree};
 
-use graphql_schema_building::graphql_ast::{DirectiveDefinition, FileId, Name, Node, OperationType, SourceFile};
+use crate::meta_fields::MetaFields;
 use graphql_components::ComponentName;
+use graphql_schema_building::graphql_ast::{
+    DirectiveDefinition, FileId, Name, Node, OperationType, SourceFile,
+};
 use graphql_schema_building::graphql_schema_types::{ExtendedType, SchemaDefinition};
 use indexmap::IndexMap;
 
 /// A schema (section 3): its schema definition, and its directive definitions and types under their names, in order;
-/// and the texts that it was read from, by the numbers of their files. Equality ignores these texts, places, origins
-/// and the order of what has names.
+/// and the texts that it was read from, by the numbers of their files. It holds the definitions of the meta-fields too,
+/// which are the same in each schema. Equality ignores these, the texts, places, origins and the order of what has names.
 #[derive(Drop)]
 #[derive_where(PartialEq, Eq)]
 pub struct Schema {
@@ -21,6 +24,8 @@ pub struct Schema {
     pub schema_definition: Node<SchemaDefinition>,
     pub directive_definitions: IndexMap<Name, Node<DirectiveDefinition>>,
     pub types: IndexMap<Name, ExtendedType>,
+    #[derive_where(skip)]
+    pub(crate) meta_fields: MetaFields,
 }
 
 impl Schema {

@@ -7,8 +7,8 @@ ghost use Rattle.graphql_schema.specs.SchemaOf.{schema_tree};
 ghost use Rattle.graphql_schema.specs.LookUps.{is_subtype, implements};
 
 use crate::schema::Schema;
-use graphql_schema_building::graphql_ast::Name;
 use graphql_components::ComponentName;
+use graphql_schema_building::graphql_ast::Name;
 use graphql_schema_building::graphql_schema_types::ExtendedType;
 
 impl Schema {

@@ -4,15 +4,19 @@ ghost use Rattle.std.specs.Option.{option_map};
 ghost use Rattle.graphql_names.specs.Places.{is_built_in};
 ghost use Rattle.graphql_values.specs.Placed.{name_tree, text_tree};
 ghost use Rattle.graphql_components.specs.Applied.{applied_tree};
+ghost use Rattle.graphql_schema_types.specs.declared.extended_type.ExtendedType.TheVariants as rust;
 ghost use Rattle.graphql_schema_writing.specs.Contents.{type_contents, bare_contents};
 ghost use Rattle.graphql_schema_writing.specs.ContentsView.{contents_view};
 
-use graphql_schema_types::graphql_ast::{
-    Directive, EnumValueDefinition, FieldDefinition, FileId, InputValueDefinition, Name, NodeStr,
-    SourceSpan,
-};
 use graphql_components::{Component, ComponentName, DirectiveList};
-use graphql_schema_types::{ExtendedType, TypeKind};
+use graphql_schema_types::graphql_ast::{
+    Directive, EnumValueDefinition, FieldDefinition, FileId, InputValueDefinition, Name, Node,
+    NodeStr, SourceSpan,
+};
+use graphql_schema_types::{
+    EnumType, ExtendedType, InputObjectType, InterfaceType, ObjectType, ScalarType, TypeKind,
+    UnionType,
+};
 
 /// What a type has, lent. Interfaces, fields, members, values and input fields are empty where the kind has none.
 #[derive(Drop)]
@@ -46,83 +50,118 @@ pub(crate) fn contents_of(t: &ExtendedType) -> Contents<'_>
     ensures { contents_view result ≡ type_contents t.now }
 {
     match t {
-        ExtendedType::Scalar(node) => {
-            let t = node.content();
-            bare_contents(
-                TypeKind::Scalar,
-                node.location(),
-                &t.description,
-                &t.name,
-                &t.directives,
-            )
-        }
-        ExtendedType::Object(node) => {
-            let t = node.content();
-            Contents {
-                interfaces: t.implements_interfaces.as_slice(),
-                fields: t.fields.values().as_slice(),
-                ..bare_contents(
-                    TypeKind::Object,
-                    node.location(),
-                    &t.description,
-                    &t.name,
-                    &t.directives,
-                )
-            }
-        }
-        ExtendedType::Interface(node) => {
-            let t = node.content();
-            Contents {
-                interfaces: t.implements_interfaces.as_slice(),
-                fields: t.fields.values().as_slice(),
-                ..bare_contents(
-                    TypeKind::Interface,
-                    node.location(),
-                    &t.description,
-                    &t.name,
-                    &t.directives,
-                )
-            }
-        }
-        ExtendedType::Union(node) => {
-            let t = node.content();
-            Contents {
-                members: t.members.as_slice(),
-                ..bare_contents(
-                    TypeKind::Union,
-                    node.location(),
-                    &t.description,
-                    &t.name,
-                    &t.directives,
-                )
-            }
-        }
-        ExtendedType::Enum(node) => {
-            let t = node.content();
-            Contents {
-                values: t.values.values().as_slice(),
-                ..bare_contents(
-                    TypeKind::Enum,
-                    node.location(),
-                    &t.description,
-                    &t.name,
-                    &t.directives,
-                )
-            }
-        }
-        ExtendedType::InputObject(node) => {
-            let t = node.content();
-            Contents {
-                inputs: t.fields.values().as_slice(),
-                ..bare_contents(
-                    TypeKind::InputObject,
-                    node.location(),
-                    &t.description,
-                    &t.name,
-                    &t.directives,
-                )
-            }
-        }
+        ExtendedType::Scalar(node) => scalar_contents(node),
+        ExtendedType::Object(node) => object_contents(node),
+        ExtendedType::Interface(node) => interface_contents(node),
+        ExtendedType::Union(node) => union_contents(node),
+        ExtendedType::Enum(node) => enum_contents(node),
+        ExtendedType::InputObject(node) => input_object_contents(node),
+    }
+}
+
+/// What a scalar type has.
+fn scalar_contents(node: &Node<ScalarType>) -> Contents<'_>
+    ensures { contents_view result ≡ type_contents (rust.Scalar node.now) }
+{
+    let t = node.content();
+    bare_contents(
+        TypeKind::Scalar,
+        node.location(),
+        &t.description,
+        &t.name,
+        &t.directives,
+    )
+}
+
+/// What an object type has.
+fn object_contents(node: &Node<ObjectType>) -> Contents<'_>
+    ensures { contents_view result ≡ type_contents (rust.Object node.now) }
+{
+    let t = node.content();
+    let bare = bare_contents(
+        TypeKind::Object,
+        node.location(),
+        &t.description,
+        &t.name,
+        &t.directives,
+    );
+    Contents {
+        interfaces: t.implements_interfaces.as_slice(),
+        fields: t.fields.values().as_slice(),
+        ..bare
+    }
+}
+
+/// What an interface type has.
+fn interface_contents(node: &Node<InterfaceType>) -> Contents<'_>
+    ensures { contents_view result ≡ type_contents (rust.Interface node.now) }
+{
+    let t = node.content();
+    let bare = bare_contents(
+        TypeKind::Interface,
+        node.location(),
+        &t.description,
+        &t.name,
+        &t.directives,
+    );
+    Contents {
+        interfaces: t.implements_interfaces.as_slice(),
+        fields: t.fields.values().as_slice(),
+        ..bare
+    }
+}
+
+/// What a union type has.
+fn union_contents(node: &Node<UnionType>) -> Contents<'_>
+    ensures { contents_view result ≡ type_contents (rust.Union node.now) }
+{
+    let t = node.content();
+    let bare = bare_contents(
+        TypeKind::Union,
+        node.location(),
+        &t.description,
+        &t.name,
+        &t.directives,
+    );
+    Contents {
+        members: t.members.as_slice(),
+        ..bare
+    }
+}
+
+/// What an enum type has.
+fn enum_contents(node: &Node<EnumType>) -> Contents<'_>
+    ensures { contents_view result ≡ type_contents (rust.Enum node.now) }
+{
+    let t = node.content();
+    let bare = bare_contents(
+        TypeKind::Enum,
+        node.location(),
+        &t.description,
+        &t.name,
+        &t.directives,
+    );
+    Contents {
+        values: t.values.values().as_slice(),
+        ..bare
+    }
+}
+
+/// What an input object type has.
+fn input_object_contents(node: &Node<InputObjectType>) -> Contents<'_>
+    ensures { contents_view result ≡ type_contents (rust.InputObject node.now) }
+{
+    let t = node.content();
+    let bare = bare_contents(
+        TypeKind::InputObject,
+        node.location(),
+        &t.description,
+        &t.name,
+        &t.directives,
+    );
+    Contents {
+        inputs: t.fields.values().as_slice(),
+        ..bare
     }
 }
 

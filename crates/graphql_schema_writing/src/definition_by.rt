@@ -10,11 +10,11 @@ ghost use Rattle.graphql_schema_writing.specs.Contents.{named_parts};
 ghost use Rattle.graphql_schema_writing.specs.ContentsView.{parts_view};
 
 use crate::parts::Parts;
+use graphql_schema_types::TypeKind;
 use graphql_schema_types::graphql_ast::{
     Definition, EnumTypeDefinition, InputObjectTypeDefinition, InterfaceTypeDefinition, Name, Node,
     NodeStr, ObjectTypeDefinition, ScalarTypeDefinition, SourceSpan, UnionTypeDefinition,
 };
-use graphql_schema_types::TypeKind;
 use std::alloc::{AllocError, Global};
 
 /// The definition of a type of that kind.

@@ -9,11 +9,11 @@ ghost use Rattle.graphql_schema_writing.specs.ContentsView.{parts_view};
 
 use crate::definition_by::node_at;
 use crate::parts::Parts;
+use graphql_schema_types::TypeKind;
 use graphql_schema_types::graphql_ast::{
     Definition, EnumTypeExtension, InputObjectTypeExtension, InterfaceTypeExtension, Name,
     ObjectTypeExtension, ScalarTypeExtension, SourceSpan, UnionTypeExtension,
 };
-use graphql_schema_types::TypeKind;
 use std::alloc::{AllocError, Global};
 
 /// An extension of a type of that kind.

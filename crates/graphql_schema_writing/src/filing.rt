@@ -5,8 +5,8 @@ ghost use Rattle.graphql_components.specs.Given.{origin_tree, component_name_tre
 ghost use Rattle.graphql_schema_types.specs.Out.{given_by};
 ghost use Rattle.graphql_schema_writing.specs.Filed.{filed_under, FilesOn, itself, given_contents, lent_node, lent_name};
 
-use graphql_schema_types::graphql_ast::{Name, Node};
 use graphql_components::{Component, ComponentName, ComponentOrigin};
+use graphql_schema_types::graphql_ast::{Name, Node};
 use indexmap::IndexMap;
 use std::alloc::{AllocError, Global};
 

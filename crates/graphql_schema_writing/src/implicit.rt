@@ -11,8 +11,8 @@ ghost use Rattle.graphql_schema_types.specs.Origins.{schema_origins, extensions_
 ghost use Rattle.graphql_schema_types.specs.Out.{is_empty, is_implicit_root, is_left_out, is_object_named};
 ghost use Rattle.graphql_schema_writing.specs.SchemaParts.{schema_and_types};
 
-use graphql_schema_types::graphql_ast::{Name, Node, OperationType};
 use graphql_components::{ComponentName, ExtensionId};
+use graphql_schema_types::graphql_ast::{Name, Node, OperationType};
 use graphql_schema_types::{ExtendedType, SchemaDefinition};
 use indexmap::IndexMap;
 

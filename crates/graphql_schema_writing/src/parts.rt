@@ -6,11 +6,11 @@ ghost use Rattle.graphql_schema_writing.specs.ContentsView.{HoldsNothing, conten
 
 use crate::contents::Contents;
 use crate::filing::{file_components, file_names, given_names, given_nodes};
+use graphql_components::ComponentOrigin;
 use graphql_schema_types::graphql_ast::{
     Directive, DirectiveList, EnumValueDefinition, FieldDefinition, InputValueDefinition, Name,
     Node,
 };
-use graphql_components::ComponentOrigin;
 use indexmap::IndexMap;
 use std::alloc::{AllocError, Global};
 

@@ -7,9 +7,9 @@ ghost use Rattle.graphql_components.specs.Given.{origin_tree, component_name_tre
 ghost use Rattle.graphql_schema_types.specs.TypeView.{schema_roots};
 ghost use Rattle.graphql_schema_types.specs.Out.{same_giver, root_given_by, schema_parts_given_by};
 
-use graphql_schema_types::graphql_ast::{NamedType, Node, OperationType};
 use graphql_components::{ComponentName, ComponentOrigin};
 use graphql_schema_types::SchemaDefinition;
+use graphql_schema_types::graphql_ast::{NamedType, Node, OperationType};
 use std::alloc::{AllocError, Global};
 
 /// The roots that this giver gave, in the order query, mutation, subscription.

@@ -1,10 +1,11 @@
 //! The schema definition and its extensions.
-ghost use Rattle.std.specs.Prelude.{◌≡◌, ◌++◌, map, None, Some, IfOk, OnOk};
+ghost use Rattle.std.specs.Prelude.{◌≡◌, ◌++◌, [], ◌∷◌, map, Option, None, Some, IfOk, OnOk};
+ghost use Rattle.graphql_values.specs.Placed.{Place};
 ghost use Rattle.graphql_values.specs.DirectiveTree.{directive_tree};
 ghost use Rattle.graphql_schema_types.specs.in_ast.DefinitionTree.{definition_tree};
-ghost use Rattle.graphql_components.specs.Given.{extension_tree};
+ghost use Rattle.graphql_components.specs.Given.{ExtensionTree, extension_tree};
 ghost use Rattle.graphql_schema_types.specs.TypeView.{schema_roots};
-ghost use Rattle.graphql_schema_types.specs.Out.{written_schema};
+ghost use Rattle.graphql_schema_types.specs.Out.{written_schema, given_by};
 ghost use Rattle.graphql_schema_writing.specs.Filed.{filed_under};
 ghost use Rattle.graphql_schema_writing.specs.ContentsView.{lent_trees};
 ghost use Rattle.graphql_schema_writing.specs.SchemaParts.{schema_and_types, schema_from, schema_extended_from, whole_schema};
@@ -14,11 +15,11 @@ use crate::filing::{file_components, given_nodes};
 use crate::implicit::is_left_out;
 use crate::roots::roots_of;
 use crate::types::shared_description;
+use graphql_components::{ComponentOrigin, ExtensionId};
 use graphql_schema_types::graphql_ast::{
     Definition, Directive, DirectiveList, Name, Node, SchemaDefinition as WrittenSchema,
     SchemaExtension,
 };
-use graphql_components::{ComponentOrigin, ExtensionId};
 use graphql_schema_types::{ExtendedType, SchemaDefinition};
 use indexmap::IndexMap;
 use std::alloc::{AllocError, Global};
@@ -48,15 +49,39 @@ fn write_whole_schema(
 ) -> Result<(), AllocError>
     ensures { OnOk result (map definition_tree out.new.items ≡ map definition_tree out.old.items ++ whole_schema (schema_roots definition.now) (map extension_tree extensions.now)) }
 {
+    let directives = filed_directives(alloc, definition)?;
+    write_definition(alloc, definition, &directives, out)?;
+    write_schema_extensions(alloc, definition, &directives, extensions, out)
+}
+
+/// The applied directives of the schema, filed under those that gave them.
+fn filed_directives(
+    alloc: Global,
+    definition: &Node<SchemaDefinition>,
+) -> Result<IndexMap<ComponentOrigin, Vec<&Node<Directive>>>, AllocError>
+    ensures { IfOk result (λ filed. (giver : Option (ExtensionTree Place)) → lent_trees directive_tree (filed_under giver filed.entries) ≡ given_by giver (schema_roots definition.now).directives) }
+{
     let mut directives = IndexMap::new(alloc);
     file_components(
         alloc,
         definition.content().directives.0.as_slice(),
         &mut directives,
     )?;
-    let schema = schema_definition(alloc, definition, &directives)?;
+    Ok(directives)
+}
+
+/// Writes the schema definition.
+fn write_definition(
+    alloc: Global,
+    definition: &Node<SchemaDefinition>,
+    directives: &IndexMap<ComponentOrigin, Vec<&Node<Directive>>>,
+    out: &mut Vec<Definition>,
+) -> Result<(), AllocError>
+    ensures { OnOk result (map definition_tree out.new.items ≡ map definition_tree out.old.items ++ schema_from (schema_roots definition.now) (lent_trees directive_tree (filed_under None directives.now.entries)) ∷ []) }
+{
+    let schema = schema_definition(alloc, definition, directives)?;
     out.push(schema)?;
-    write_schema_extensions(alloc, definition, &directives, extensions, out)
+    Ok(())
 }
 
 /// Writes these extensions of the schema, in order.

@@ -13,9 +13,9 @@ use crate::contents::{Contents, contents_of};
 use crate::definition_by::definition_by;
 use crate::extension_by::extension_by;
 use crate::parts::{FiledType, parts_of};
-use graphql_schema_types::graphql_ast::{Definition, NodeStr};
 use graphql_components::{ComponentOrigin, ExtensionId};
 use graphql_schema_types::ExtendedType;
+use graphql_schema_types::graphql_ast::{Definition, NodeStr};
 use std::alloc::{AllocError, Global};
 
 /// Writes each type.

@@ -1,5 +1,5 @@
 use Rattle.std.proofs.Common.{rules}
-use Rattle.graphql_parse_values.proofs.in_grammar.Opened.{enum_values_definition_is}
+use Rattle.graphql_grammar.proofs.Opened.{enum_values_definition_is}
 use Rattle.graphql_parse_values.specs.Meanings.{in_file}
 use Rattle.graphql_parse_members.proofs.enum_value_list.enum_values_definition.Goals as goal
 

@@ -5,14 +5,14 @@ use Rattle.graphql_names.specs.declared.span.FileId.{FileId}
 use Rattle.graphql_values.specs.Placed.{node_tree}
 use Rattle.graphql_parse_values.specs.in_ast.TypeSystemTree.{field_definition_tree}
 use Rattle.graphql_lexer.specs.Input.{next}
-use Rattle.graphql_parse_values.specs.in_grammar.Begins as begins
-use Rattle.graphql_parse_values.specs.in_grammar.Kinds.{next_is}
-use Rattle.graphql_parse_values.specs.in_grammar.Reading as read
-use Rattle.graphql_parse_values.specs.in_grammar.TypeSystemReading as reading
-use Rattle.graphql_parse_values.proofs.in_grammar.Steady.{Steady}
-use Rattle.graphql_parse_values.proofs.in_grammar.Parses.{located}
-use Rattle.graphql_parse_values.proofs.in_grammar.TypeSystem.{field_definition_parses}
-use Rattle.graphql_parse_values.proofs.in_grammar.Steps.{viewed_turn, turn_stops_with, turns_end, turn_takes, some_starts, some_not}
+use Rattle.graphql_grammar.specs.Begins as begins
+use Rattle.graphql_grammar.specs.Kinds.{next_is}
+use Rattle.graphql_grammar.specs.Reading as read
+use Rattle.graphql_grammar.specs.TypeSystemReading as reading
+use Rattle.graphql_grammar.proofs.Steady.{Steady}
+use Rattle.graphql_grammar.proofs.Parses.{located}
+use Rattle.graphql_grammar.proofs.TypeSystem.{field_definition_parses}
+use Rattle.graphql_grammar.proofs.Steps.{viewed_turn, turn_stops_with, turns_end, turn_takes, some_starts, some_not}
 use Rattle.graphql_parse_values.specs.Meanings.{in_file}
 use Rattle.graphql_parse_members.proofs.field_list.some_fields.Goals as goal
 

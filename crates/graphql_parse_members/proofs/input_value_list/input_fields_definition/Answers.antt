@@ -1,5 +1,5 @@
 use Rattle.std.proofs.Common.{rules}
-use Rattle.graphql_parse_values.proofs.in_grammar.Opened.{input_fields_definition_is}
+use Rattle.graphql_grammar.proofs.Opened.{input_fields_definition_is}
 use Rattle.graphql_parse_values.specs.Meanings.{in_file}
 use Rattle.graphql_parse_members.proofs.input_value_list.input_fields_definition.Goals as goal
 

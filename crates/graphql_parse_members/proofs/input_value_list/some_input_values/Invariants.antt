@@ -2,10 +2,10 @@ use Rattle.std.proofs.Common.{◌≡◌, length}
 use Rattle.std.specs.Prelude.{map}
 use Rattle.graphql_values.specs.Placed.{node_tree}
 use Rattle.graphql_values.specs.DirectiveTree.{input_value_tree}
-use Rattle.graphql_parse_values.specs.in_grammar.Begins as begins
-use Rattle.graphql_parse_values.specs.in_grammar.Reading as read
-use Rattle.graphql_parse_values.specs.in_grammar.TypeSystemReading as reading
-use Rattle.graphql_parse_values.proofs.in_grammar.Steps.{with_front}
+use Rattle.graphql_grammar.specs.Begins as begins
+use Rattle.graphql_grammar.specs.Reading as read
+use Rattle.graphql_grammar.specs.TypeSystemReading as reading
+use Rattle.graphql_grammar.proofs.Steps.{with_front}
 use Rattle.graphql_parse_values.specs.Meanings.{in_file}
 use Rattle.graphql_parse_members.proofs.input_value_list.some_input_values.Given as goal
 

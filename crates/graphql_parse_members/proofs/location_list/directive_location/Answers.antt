@@ -2,11 +2,11 @@ use Rattle.std.proofs.Common.{◌≡◌, true, false, ap, ◌∙◌, sym, Ok}
 use Rattle.graphql_directives.specs.declared.directive_location.DirectiveLocation.{DirectiveLocation}
 use Rattle.graphql_lexer.specs.Cursor.{text_of}
 use Rattle.graphql_lexer.specs.Input.{Input, next}
-use Rattle.graphql_parse_values.specs.in_grammar.Kinds.{next_is, is_location}
-use Rattle.graphql_parse_values.specs.in_grammar.Locations.{location_of}
-use Rattle.graphql_parse_values.specs.in_grammar.Reading.{Outcome}
-use Rattle.graphql_parse_values.specs.in_grammar.TypeSystemReading as reading
-use Rattle.graphql_parse_values.proofs.in_grammar.Moves.{taken_yes, taken_no}
+use Rattle.graphql_grammar.specs.Kinds.{next_is, is_location}
+use Rattle.graphql_grammar.specs.Locations.{location_of}
+use Rattle.graphql_grammar.specs.Reading.{Outcome}
+use Rattle.graphql_grammar.specs.TypeSystemReading as reading
+use Rattle.graphql_grammar.proofs.Moves.{taken_yes, taken_no}
 use Rattle.graphql_parse_members.proofs.location_list.directive_location.Goals as goal
 
 abbrev done : DirectiveLocation → Input → Outcome DirectiveLocation

@@ -1,6 +1,6 @@
 use Rattle.std.proofs.Common.{rules}
-use Rattle.graphql_parse_values.specs.in_grammar.Kinds as kinds
-use Rattle.graphql_parse_values.specs.in_grammar.TypeSystemReading as reading
+use Rattle.graphql_grammar.specs.Kinds as kinds
+use Rattle.graphql_grammar.specs.TypeSystemReading as reading
 use Rattle.graphql_parse_members.proofs.Separated.{separated_is}
 use Rattle.graphql_parse_members.proofs.location_list.directive_locations.Goals as goal
 

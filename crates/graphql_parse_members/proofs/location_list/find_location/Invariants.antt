@@ -1,5 +1,5 @@
 use Rattle.std.proofs.Common.{◌≡◌, drop}
-use Rattle.graphql_parse_values.specs.in_grammar.Locations.{named_among}
+use Rattle.graphql_grammar.specs.Locations.{named_among}
 use Rattle.graphql_parse_members.proofs.location_list.find_location.Given as goal
 
 abbrev pub invariant-loop-location : goal.invariant-loop-location

@@ -1,14 +1,14 @@
 use Rattle.std.proofs.Common.{◌≡◌, true, false}
 use Rattle.std.proofs.lemmas.Result.{err_from_is_err_and}
 use Rattle.graphql_lexer.specs.Input.{next}
-use Rattle.graphql_parse_values.specs.in_grammar.Kinds as kinds
-use Rattle.graphql_parse_values.specs.in_grammar.Kinds.{next_is}
-use Rattle.graphql_parse_values.specs.in_grammar.Locations.{location_of}
-use Rattle.graphql_parse_values.specs.in_grammar.Reading as read
-use Rattle.graphql_parse_values.specs.in_grammar.TypeSystemReading as reading
-use Rattle.graphql_parse_values.proofs.in_grammar.Steady as st
-use Rattle.graphql_parse_values.proofs.in_grammar.Steady.{Steady}
-use Rattle.graphql_parse_values.proofs.in_grammar.Steps.{turn, turn_stops_with, turns_end, turn_takes}
+use Rattle.graphql_grammar.specs.Kinds as kinds
+use Rattle.graphql_grammar.specs.Kinds.{next_is}
+use Rattle.graphql_grammar.specs.Locations.{location_of}
+use Rattle.graphql_grammar.specs.Reading as read
+use Rattle.graphql_grammar.specs.TypeSystemReading as reading
+use Rattle.graphql_grammar.proofs.Steady as st
+use Rattle.graphql_grammar.proofs.Steady.{Steady}
+use Rattle.graphql_grammar.proofs.Steps.{turn, turn_stops_with, turns_end, turn_takes}
 use Rattle.graphql_parse_members.proofs.Separated.{behind_steady}
 use Rattle.graphql_parse_members.proofs.location_list.other_locations.Goals as goal
 

@@ -1,8 +1,8 @@
 use Rattle.std.proofs.Common.{◌≡◌, length}
-use Rattle.graphql_parse_values.specs.in_grammar.Kinds as kinds
-use Rattle.graphql_parse_values.specs.in_grammar.Reading as read
-use Rattle.graphql_parse_values.specs.in_grammar.TypeSystemReading as reading
-use Rattle.graphql_parse_values.proofs.in_grammar.Steps.{with_front}
+use Rattle.graphql_grammar.specs.Kinds as kinds
+use Rattle.graphql_grammar.specs.Reading as read
+use Rattle.graphql_grammar.specs.TypeSystemReading as reading
+use Rattle.graphql_grammar.proofs.Steps.{with_front}
 use Rattle.graphql_parse_members.specs.MemberSteps as steps
 use Rattle.graphql_parse_members.proofs.location_list.other_locations.Given as goal
 

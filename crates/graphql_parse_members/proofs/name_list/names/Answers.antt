@@ -1,6 +1,6 @@
 use Rattle.std.proofs.Common.{rules}
-use Rattle.graphql_parse_values.specs.in_grammar.Kinds as kinds
-use Rattle.graphql_parse_values.specs.in_grammar.ValueReading as values
+use Rattle.graphql_grammar.specs.Kinds as kinds
+use Rattle.graphql_grammar.specs.ValueReading as values
 use Rattle.graphql_parse_values.specs.Meanings.{in_file}
 use Rattle.graphql_parse_members.proofs.Separated.{separated_is}
 use Rattle.graphql_parse_members.proofs.name_list.names.Goals as goal

@@ -5,13 +5,13 @@ use Rattle.graphql_names.specs.declared.span.FileId.{FileId}
 use Rattle.graphql_values.specs.Placed.{name_tree}
 use Rattle.graphql_lexer.specs.Input.{next}
 use Rattle.graphql_lexer.specs.declared.terminal.Terminal.{Terminal}
-use Rattle.graphql_parse_values.specs.in_grammar.Kinds as kinds
-use Rattle.graphql_parse_values.specs.in_grammar.Kinds.{next_is}
-use Rattle.graphql_parse_values.specs.in_grammar.Reading as read
-use Rattle.graphql_parse_values.specs.in_grammar.ValueReading as values
-use Rattle.graphql_parse_values.proofs.in_grammar.Steady.{Steady}
-use Rattle.graphql_parse_values.proofs.in_grammar.Steps.{viewed_turn, turn_stops_with, turns_end, turn_takes}
-use Rattle.graphql_parse_values.proofs.in_grammar.Values.{name_parses}
+use Rattle.graphql_grammar.specs.Kinds as kinds
+use Rattle.graphql_grammar.specs.Kinds.{next_is}
+use Rattle.graphql_grammar.specs.Reading as read
+use Rattle.graphql_grammar.specs.ValueReading as values
+use Rattle.graphql_grammar.proofs.Steady.{Steady}
+use Rattle.graphql_grammar.proofs.Steps.{viewed_turn, turn_stops_with, turns_end, turn_takes}
+use Rattle.graphql_grammar.proofs.Values.{name_parses}
 use Rattle.graphql_parse_values.specs.Meanings.{in_file}
 use Rattle.graphql_parse_members.proofs.Separated.{behind_steady}
 use Rattle.graphql_parse_members.proofs.name_list.other_names.Goals as goal

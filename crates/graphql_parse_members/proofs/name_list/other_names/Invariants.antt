@@ -1,10 +1,10 @@
 use Rattle.std.proofs.Common.{◌≡◌, length}
 use Rattle.std.specs.Prelude.{map}
 use Rattle.graphql_values.specs.Placed.{name_tree}
-use Rattle.graphql_parse_values.specs.in_grammar.Kinds as kinds
-use Rattle.graphql_parse_values.specs.in_grammar.Reading as read
-use Rattle.graphql_parse_values.specs.in_grammar.ValueReading as values
-use Rattle.graphql_parse_values.proofs.in_grammar.Steps.{with_front}
+use Rattle.graphql_grammar.specs.Kinds as kinds
+use Rattle.graphql_grammar.specs.Reading as read
+use Rattle.graphql_grammar.specs.ValueReading as values
+use Rattle.graphql_grammar.proofs.Steps.{with_front}
 use Rattle.graphql_parse_values.specs.Meanings.{in_file}
 use Rattle.graphql_parse_members.specs.MemberSteps as steps
 use Rattle.graphql_parse_members.proofs.name_list.other_names.Given as goal

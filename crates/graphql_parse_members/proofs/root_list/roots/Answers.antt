@@ -1,5 +1,5 @@
 use Rattle.std.proofs.Common.{rules}
-use Rattle.graphql_parse_values.proofs.in_grammar.Opened.{roots_is}
+use Rattle.graphql_grammar.proofs.Opened.{roots_is}
 use Rattle.graphql_parse_values.specs.Meanings.{in_file}
 use Rattle.graphql_parse_members.proofs.root_list.roots.Goals as goal
 

@@ -1,10 +1,10 @@
 use Rattle.std.proofs.Common.{◌≡◌, true, false, rules}
 use Rattle.graphql_lexer.specs.Input.{next}
-use Rattle.graphql_parse_values.specs.in_grammar.Kinds.{next_is, is_fragment_name}
-use Rattle.graphql_parse_values.specs.in_grammar.Meaning.{name_of}
-use Rattle.graphql_parse_values.specs.in_grammar.OperationReading as reading
-use Rattle.graphql_parse_values.proofs.in_grammar.Moves.{taken_no}
-use Rattle.graphql_parse_values.proofs.in_grammar.Words.{fragment_name_is}
+use Rattle.graphql_grammar.specs.Kinds.{next_is, is_fragment_name}
+use Rattle.graphql_grammar.specs.Meaning.{name_of}
+use Rattle.graphql_grammar.specs.OperationReading as reading
+use Rattle.graphql_grammar.proofs.Moves.{taken_no}
+use Rattle.graphql_grammar.proofs.Words.{fragment_name_is}
 use Rattle.graphql_parse_values.specs.Meanings.{in_file}
 use Rattle.graphql_parse_operations.proofs.condition.fragment_name.Goals as goal
 

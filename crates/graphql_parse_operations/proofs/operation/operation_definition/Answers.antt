@@ -1,6 +1,6 @@
 use Rattle.std.proofs.Common.{◌≡◌, true, false}
 use Rattle.graphql_lexer.specs.Input.{next}
-use Rattle.graphql_parse_values.specs.in_grammar.Kinds.{next_is, is_open_brace}
+use Rattle.graphql_grammar.specs.Kinds.{next_is, is_open_brace}
 use Rattle.graphql_parse_values.specs.Meanings.{in_file}
 use Rattle.graphql_parse_operations.proofs.Operations.{operation_short, operation_full}
 use Rattle.graphql_parse_operations.proofs.operation.operation_definition.Goals as goal

@@ -4,14 +4,14 @@ use Rattle.std.specs.Prelude.{map}
 use Rattle.graphql_names.specs.declared.span.FileId.{FileId}
 use Rattle.graphql_values.specs.SelectionTree.{selection_tree}
 use Rattle.graphql_lexer.specs.Input.{next}
-use Rattle.graphql_parse_values.specs.in_grammar.Begins as begins
-use Rattle.graphql_parse_values.specs.in_grammar.Kinds.{next_is, is_name, is_fragment_name}
-use Rattle.graphql_parse_values.specs.in_grammar.OperationReading as reading
-use Rattle.graphql_parse_values.proofs.in_grammar.Operations.{selection_parses, selection_set_parses}
-use Rattle.graphql_parse_values.proofs.in_grammar.Steady.{Steady}
-use Rattle.graphql_parse_values.proofs.in_grammar.Steps.{viewed_turn, turn_stops_with, turns_end, turn_takes, some_starts, some_not}
-use Rattle.graphql_parse_values.proofs.in_grammar.Opened.{selection_set_is}
-use Rattle.graphql_parse_values.proofs.in_grammar.Views.{selections_viewed}
+use Rattle.graphql_grammar.specs.Begins as begins
+use Rattle.graphql_grammar.specs.Kinds.{next_is, is_name, is_fragment_name}
+use Rattle.graphql_grammar.specs.OperationReading as reading
+use Rattle.graphql_grammar.proofs.Operations.{selection_parses, selection_set_parses}
+use Rattle.graphql_grammar.proofs.Steady.{Steady}
+use Rattle.graphql_grammar.proofs.Steps.{viewed_turn, turn_stops_with, turns_end, turn_takes, some_starts, some_not}
+use Rattle.graphql_grammar.proofs.Opened.{selection_set_is}
+use Rattle.graphql_grammar.proofs.Views.{selections_viewed}
 use Rattle.graphql_operations.proofs.SelectionTrees.{selection_tree_field, selection_tree_inline}
 use Rattle.graphql_parse_operations.proofs.SelectionRules.{field_is, dots_spread, dots_inline, selection_field, selection_dots}
 use Rattle.graphql_parse_values.specs.Meanings.{in_file}

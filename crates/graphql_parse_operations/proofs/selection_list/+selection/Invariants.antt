@@ -1,10 +1,10 @@
 use Rattle.std.proofs.Common.{◌≡◌, ◌+◌, ◌*◌, length}
 use Rattle.std.specs.Prelude.{map}
 use Rattle.graphql_values.specs.SelectionTree.{selection_tree}
-use Rattle.graphql_parse_values.specs.in_grammar.Begins as begins
-use Rattle.graphql_parse_values.specs.in_grammar.Reading as read
-use Rattle.graphql_parse_values.specs.in_grammar.OperationReading as reading
-use Rattle.graphql_parse_values.proofs.in_grammar.Steps.{with_front}
+use Rattle.graphql_grammar.specs.Begins as begins
+use Rattle.graphql_grammar.specs.Reading as read
+use Rattle.graphql_grammar.specs.OperationReading as reading
+use Rattle.graphql_grammar.proofs.Steps.{with_front}
 use Rattle.graphql_parse_values.specs.Meanings.{in_file}
 use Rattle.graphql_parse_operations.proofs.selection_list.+selection.Given as goal
 

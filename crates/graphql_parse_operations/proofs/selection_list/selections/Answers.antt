@@ -1,6 +1,6 @@
 use Rattle.std.proofs.Common.{rules}
-use Rattle.graphql_parse_values.specs.in_grammar.OperationReading as reading
-use Rattle.graphql_parse_values.proofs.in_grammar.Views.{selections_viewed}
+use Rattle.graphql_grammar.specs.OperationReading as reading
+use Rattle.graphql_grammar.proofs.Views.{selections_viewed}
 use Rattle.graphql_parse_operations.proofs.selection_list.selections.Goals as goal
 
 pub returns : goal.returns

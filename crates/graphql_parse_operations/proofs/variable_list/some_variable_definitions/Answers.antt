@@ -6,14 +6,14 @@ use Rattle.graphql_names.specs.declared.span.FileId.{FileId}
 use Rattle.graphql_values.specs.Placed.{node_tree}
 use Rattle.graphql_values.specs.OperationTree.{variable_definition_tree}
 use Rattle.graphql_lexer.specs.Input.{next}
-use Rattle.graphql_parse_values.specs.in_grammar.Kinds as kinds
-use Rattle.graphql_parse_values.specs.in_grammar.Kinds.{next_is}
-use Rattle.graphql_parse_values.specs.in_grammar.Reading as read
-use Rattle.graphql_parse_values.specs.in_grammar.OperationReading as reading
-use Rattle.graphql_parse_values.proofs.in_grammar.Steady.{Steady}
-use Rattle.graphql_parse_values.proofs.in_grammar.Parses.{located}
-use Rattle.graphql_parse_values.proofs.in_grammar.Operations.{variable_definition_parses}
-use Rattle.graphql_parse_values.proofs.in_grammar.Steps.{turn, turn_stops_with, turns_end, turn_takes, some_starts, some_not}
+use Rattle.graphql_grammar.specs.Kinds as kinds
+use Rattle.graphql_grammar.specs.Kinds.{next_is}
+use Rattle.graphql_grammar.specs.Reading as read
+use Rattle.graphql_grammar.specs.OperationReading as reading
+use Rattle.graphql_grammar.proofs.Steady.{Steady}
+use Rattle.graphql_grammar.proofs.Parses.{located}
+use Rattle.graphql_grammar.proofs.Operations.{variable_definition_parses}
+use Rattle.graphql_grammar.proofs.Steps.{turn, turn_stops_with, turns_end, turn_takes, some_starts, some_not}
 use Rattle.graphql_parse_values.specs.Meanings.{in_file}
 use Rattle.graphql_parse_operations.proofs.variable_list.some_variable_definitions.Goals as goal
 

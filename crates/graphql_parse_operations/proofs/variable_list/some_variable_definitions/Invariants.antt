@@ -2,10 +2,10 @@ use Rattle.std.proofs.Common.{◌≡◌, length}
 use Rattle.std.specs.Prelude.{map}
 use Rattle.graphql_values.specs.Placed.{node_tree}
 use Rattle.graphql_values.specs.OperationTree.{variable_definition_tree}
-use Rattle.graphql_parse_values.specs.in_grammar.Kinds as kinds
-use Rattle.graphql_parse_values.specs.in_grammar.Reading as read
-use Rattle.graphql_parse_values.specs.in_grammar.OperationReading as reading
-use Rattle.graphql_parse_values.proofs.in_grammar.Steps.{with_front}
+use Rattle.graphql_grammar.specs.Kinds as kinds
+use Rattle.graphql_grammar.specs.Reading as read
+use Rattle.graphql_grammar.specs.OperationReading as reading
+use Rattle.graphql_grammar.proofs.Steps.{with_front}
 use Rattle.graphql_parse_values.specs.Meanings.{in_file}
 use Rattle.graphql_parse_operations.proofs.variable_list.some_variable_definitions.Given as goal
 

@@ -1,5 +1,5 @@
 use Rattle.std.proofs.Common.{rules}
-use Rattle.graphql_parse_values.proofs.in_grammar.Opened.{variable_definitions_is}
+use Rattle.graphql_grammar.proofs.Opened.{variable_definitions_is}
 use Rattle.graphql_parse_values.specs.Meanings.{in_file}
 use Rattle.graphql_parse_operations.proofs.variable_list.variable_definitions.Goals as goal
 

@@ -1,6 +1,6 @@
 use Rattle.std.proofs.Common.{◌≡◌, true, false}
 use Rattle.graphql_lexer.specs.Input.{next}
-use Rattle.graphql_parse_members.specs.in_grammar.Kinds.{next_is, is_schema}
+use Rattle.graphql_grammar.specs.Kinds.{next_is, is_schema}
 use Rattle.graphql_parse_members.specs.in_parse_values.Meanings.{in_file}
 use Rattle.graphql_parse_types.proofs.Dispatch.{defines_schema, defines_type}
 use Rattle.graphql_parse_types.proofs.definition.definition_kind.Goals as goal

@@ -1,6 +1,6 @@
 use Rattle.std.proofs.Common.{◌≡◌, true, false, rules}
 use Rattle.graphql_lexer.specs.Input.{next}
-use Rattle.graphql_parse_members.specs.in_grammar.Kinds.{next_is, is_directive}
+use Rattle.graphql_grammar.specs.Kinds.{next_is, is_directive}
 use Rattle.graphql_parse_members.specs.in_parse_values.Meanings.{in_file}
 use Rattle.graphql_parse_types.proofs.Described.{definition_is}
 use Rattle.graphql_parse_types.proofs.definition.type_system_definition.Goals as goal

@@ -1,6 +1,6 @@
 use Rattle.std.proofs.Common.{◌≡◌, true, false}
 use Rattle.graphql_lexer.specs.Input.{next}
-use Rattle.graphql_parse_members.specs.in_grammar.Kinds.{next_is, is_schema}
+use Rattle.graphql_grammar.specs.Kinds.{next_is, is_schema}
 use Rattle.graphql_parse_members.specs.in_parse_values.Meanings.{in_file}
 use Rattle.graphql_parse_types.proofs.Dispatch.{extends_schema, extends_type}
 use Rattle.graphql_parse_types.proofs.extension.extension_kind.Goals as goal

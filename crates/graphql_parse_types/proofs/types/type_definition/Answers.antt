@@ -1,6 +1,6 @@
 use Rattle.std.proofs.Common.{◌≡◌, true, false}
 use Rattle.graphql_lexer.specs.Input.{next}
-use Rattle.graphql_parse_members.specs.in_grammar.Kinds.{next_is, is_scalar, is_type, is_interface, is_union, is_enum, is_input}
+use Rattle.graphql_grammar.specs.Kinds.{next_is, is_scalar, is_type, is_interface, is_union, is_enum, is_input}
 use Rattle.graphql_parse_members.specs.in_parse_values.Meanings.{in_file}
 use Rattle.graphql_parse_types.proofs.Dispatch.{type_scalar, type_object, type_interface, type_union, type_enum, type_input_object, type_refused}
 use Rattle.graphql_parse_types.proofs.types.type_definition.Goals as goal

@@ -1,6 +1,6 @@
 use Rattle.std.proofs.Common.{refl, sym, subst, ◌∙◌}
-use Rattle.graphql_parse_operations.specs.in_grammar.Grammar.{Derives}
-use Rattle.graphql_parse_operations.proofs.in_grammar.Documents.{document_parses}
+use Rattle.graphql_grammar.specs.Grammar.{Derives}
+use Rattle.graphql_grammar.proofs.Documents.{document_parses}
 use Rattle.graphql_parse_operations.specs.in_parse_values.Meanings.{in_file}
 use Rattle.graphql_read.specs.ReadFaults.{definitions_tree}
 use Rattle.graphql_read.specs.Reads.{IsDue}

@@ -1,5 +1,5 @@
 use Rattle.std.proofs.lemmas.Result.{err_from_is_err_and}
-use Rattle.graphql_parse_operations.specs.in_grammar.Grammar.{Derives}
+use Rattle.graphql_grammar.specs.Grammar.{Derives}
 use Rattle.graphql_parse_operations.specs.in_parse_values.Meanings.{in_file}
 use Rattle.graphql_read.specs.ReadFaults.{definitions_tree}
 use Rattle.graphql_read.proofs.Texts.{memory_due}

@@ -4,12 +4,12 @@ use Rattle.std.specs.Prelude.{map}
 use Rattle.graphql_names.specs.declared.span.FileId.{FileId}
 use Rattle.graphql_parse_operations.specs.in_definitions.DefinitionTree.{definition_tree}
 use Rattle.graphql_lexer.specs.Input.{next}
-use Rattle.graphql_parse_operations.specs.in_grammar.Begins as begins
-use Rattle.graphql_parse_operations.specs.in_grammar.Kinds.{next_is}
-use Rattle.graphql_parse_operations.specs.in_grammar.DocumentReading as reading
-use Rattle.graphql_parse_operations.proofs.in_grammar.Documents.{definition_parses}
-use Rattle.graphql_parse_operations.proofs.in_grammar.Steady.{Steady}
-use Rattle.graphql_parse_operations.proofs.in_grammar.Steps.{viewed_turn, turn_stops_with, turns_end, turn_takes, some_starts, some_not}
+use Rattle.graphql_grammar.specs.Begins as begins
+use Rattle.graphql_grammar.specs.Kinds.{next_is}
+use Rattle.graphql_grammar.specs.DocumentReading as reading
+use Rattle.graphql_grammar.proofs.Documents.{definition_parses}
+use Rattle.graphql_grammar.proofs.Steady.{Steady}
+use Rattle.graphql_grammar.proofs.Steps.{viewed_turn, turn_stops_with, turns_end, turn_takes, some_starts, some_not}
 use Rattle.graphql_parse_operations.specs.in_parse_values.Meanings.{in_file}
 use Rattle.graphql_read.proofs.document_list.definitions.Goals as goal
 

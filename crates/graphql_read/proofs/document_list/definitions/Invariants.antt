@@ -1,10 +1,10 @@
 use Rattle.std.proofs.Common.{◌≡◌, length}
 use Rattle.std.specs.Prelude.{map}
 use Rattle.graphql_parse_operations.specs.in_definitions.DefinitionTree.{definition_tree}
-use Rattle.graphql_parse_operations.specs.in_grammar.Begins as begins
-use Rattle.graphql_parse_operations.specs.in_grammar.Reading as read
-use Rattle.graphql_parse_operations.specs.in_grammar.DocumentReading as reading
-use Rattle.graphql_parse_operations.proofs.in_grammar.Steps.{with_front}
+use Rattle.graphql_grammar.specs.Begins as begins
+use Rattle.graphql_grammar.specs.Reading as read
+use Rattle.graphql_grammar.specs.DocumentReading as reading
+use Rattle.graphql_grammar.proofs.Steps.{with_front}
 use Rattle.graphql_parse_operations.specs.in_parse_values.Meanings.{in_file}
 use Rattle.graphql_read.proofs.document_list.definitions.Given as goal
 

@@ -1,6 +1,6 @@
 use Rattle.std.proofs.Common.{refl, sym, subst, ◌∙◌}
-use Rattle.graphql_parse_operations.specs.in_grammar.Grammar.{DerivesSelections}
-use Rattle.graphql_parse_operations.proofs.in_grammar.Operations.{selections_parses}
+use Rattle.graphql_grammar.specs.Grammar.{DerivesSelections}
+use Rattle.graphql_grammar.proofs.Operations.{selections_parses}
 use Rattle.graphql_parse_operations.specs.in_parse_values.Meanings.{in_file}
 use Rattle.graphql_read.specs.ReadFaults.{selections_tree}
 use Rattle.graphql_read.specs.Reads.{IsDue}

@@ -6,7 +6,7 @@ use Rattle.graphql_names.specs.NameValue.{NameValue}
 use Rattle.graphql_components.specs.Names.{same_text}
 use Rattle.graphql_components.specs.Given.{component_name_tree}
 use Rattle.graphql_schema_building.specs.in_schema_types.TypeView.{name_text}
-use Rattle.graphql_schema.specs.Implementers.{and_type, naming}
+use Rattle.graphql_schema.specs.Noting.{and_type, naming}
 use Rattle.graphql_schema.proofs.Implementing.{noted}
 use Rattle.graphql_schema.proofs.implementers.note_name.Goals as goal
 

@@ -3,7 +3,7 @@ use Rattle.indexmap.specs.IndexSet.{insert_key}
 use Rattle.graphql_names.specs.NameValue.{NameValue}
 use Rattle.graphql_components.specs.Names.{same_text}
 use Rattle.graphql_schema_building.specs.in_schema_types.TypeView.{name_text}
-use Rattle.graphql_schema.specs.Implementers.{and_type}
+use Rattle.graphql_schema.specs.Noting.{and_type}
 use Rattle.graphql_schema.specs.ImplementersView.{implementers_tree}
 use Rattle.graphql_schema.proofs.Implementing.{added}
 use Rattle.graphql_schema.proofs.implementers.Implementers.add.Goals as goal

@@ -1,0 +1,45 @@
+-- Implementers that are noted one after another (private: it leads to `implementers_in`).
+use Rattle.std.specs.Prelude.{ℕ, Bool, List, [], ◌∷◌, ◌++◌, map, Option, None, Some, unwrap_or, fold, if◌then◌else◌}
+use Rattle.std.specs.List.{flat_map}
+use Rattle.std.specs.Str.{bytes_eq}
+use Rattle.graphql_values.specs.Placed.{Place, Text}
+use Rattle.graphql_components.specs.Lists.{is_among}
+use Rattle.graphql_components.specs.Given.{Given, given_name}
+use Rattle.graphql_schema_building.specs.in_schema_types.SchemaTree.{SchemaType, SchemaTree, same_kind}
+use Rattle.graphql_schema_building.specs.in_schema_types.declared.type_kind.TypeKind.TheVariants.{Object}
+use Rattle.graphql_schema.specs.Implementers.{ImplementersTree}
+
+-- a type, an object or an interface, names an interface
+pub record Naming : Type 0 where
+  pub interface : List ℕ
+  pub is_object : Bool
+  pub type : List ℕ
+
+abbrev pub nobody : ImplementersTree
+nobody = record { objects = []; interfaces = [] }
+
+abbrev pub with_name : List ℕ → List (List ℕ) → List (List ℕ)
+with_name n ns = if is_among n ns then ns else ns ++ n ∷ []
+
+-- one type more
+abbrev pub and_type : Bool → List ℕ → ImplementersTree → ImplementersTree
+and_type is_object n t = if is_object then record t { objects = with_name n t.objects } else record t { interfaces = with_name n t.interfaces }
+
+-- what stands under the interface i, one naming more
+abbrev pub and_naming : List ℕ → Option ImplementersTree → Naming → Option ImplementersTree
+and_naming i o x = if bytes_eq x.interface i then Some (and_type x.is_object x.type (unwrap_or o nobody)) else o
+
+-- those that name the interface i, if any does
+abbrev pub noted_in : List Naming → List ℕ → Option ImplementersTree
+noted_in xs i = fold (and_naming i) None xs
+
+abbrev pub naming : Bool → List ℕ → Given Place (Text Place) → Naming
+naming is_object type g = record { interface = given_name g; is_object = is_object; type = type }
+
+-- the interfaces that a type names, in order; only objects and interfaces name any
+abbrev pub namings_of : List ℕ × SchemaType Place → List Naming
+namings_of e = map (naming (same_kind e.1.kind Object) e.0) e.1.interfaces
+
+-- all of a schema's, in the order of its types
+abbrev pub namings : SchemaTree Place → List Naming
+namings s = flat_map namings_of s.types
