@@ -5,4 +5,5 @@ pub mod SetFailures
 pub mod DefinedFields
 pub mod Roots
 pub mod KeptFirsts
+pub mod KnownNames
 pub mod Turns

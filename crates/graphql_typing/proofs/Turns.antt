@@ -12,7 +12,7 @@ use Rattle.graphql_ast.specs.Queries.{definition_place}
 use Rattle.graphql_components.specs.Lists.{each_place, has_name}
 use Rattle.graphql_components.proofs.Places.{each_place-push}
 use Rattle.graphql_typing.specs.Meanings.{Meanings}
-use Rattle.graphql_typing.specs.KeptDocument.{Based, based_operation, anonymous_here, named_here, fragment_here, text_of, operation_name, fragment_name, kept_anonymous, kept_named, kept_fragments, meant_operation, meant_fragment, kept_document}
+use Rattle.graphql_typing.specs.KeptDocument.{Based, based_operation, anonymous_here, named_here, fragment_here, text_of, operation_name, fragment_name, kept_anonymous, kept_named, kept_fragments, meant_operation, meant_fragment, named_entry, fragment_entry, kept_document}
 use Rattle.graphql_typing.specs.TypingFaults.{Fault, At, is_operation, TypeSystemDefinition, AmbiguousAnonymousOperation, OperationNameCollision, FragmentNameCollision, UndefinedRootOperation, UndefinedTypeInNamedFragmentTypeCondition}
 use Rattle.graphql_typing.specs.SetFaults.{set_faults}
 use Rattle.graphql_typing.specs.Steps.{Typed, told, faults_if, based, is_under, with_anonymous, with_named, with_fragment, and_operation, and_fragment, and_definition, nothing, typed_in}
@@ -50,8 +50,8 @@ module _ {P : Type 0} (m : Meanings) (beside : Bool) where
 
   state-of : (before : List (DefinitionTree P)) (d : DefinitionTree P) (st : Typed P)
       → st.document.anonymous ≡ option_map (meant_operation m) (kept_anonymous m (before ++ d ∷ []))
-      → st.document.named ≡ map (λ o. (operation_name o, meant_operation m o)) (kept_named m (before ++ d ∷ []))
-      → st.document.fragments ≡ map (λ f. (fragment_name f, meant_fragment m f)) (kept_fragments m (before ++ d ∷ []))
+      → st.document.named ≡ map (named_entry m) (kept_named m (before ++ d ∷ []))
+      → st.document.fragments ≡ map (fragment_entry m) (kept_fragments m (before ++ d ∷ []))
       → st.faults ≡ each_place faults_at before ++ faults_at before d
       → st ≡ state (before ++ d ∷ [])
   state-of before d st ea en ef eq = λ i. record {
@@ -64,16 +64,16 @@ module _ {P : Type 0} (m : Meanings) (beside : Bool) where
     same-anonymous : anonymous_here m d ≡ [] → option_map (meant_operation m) (kept_anonymous m before) ≡ option_map (meant_operation m) (kept_anonymous m (before ++ d ∷ []))
     same-anonymous e = ap (option_map (meant_operation m)) (sym (first-none (anonymous_here m) before d e))
 
-    same-named : named_here m d ≡ [] → map (λ o. (operation_name o, meant_operation m o)) (kept_named m before) ≡ map (λ o. (operation_name o, meant_operation m o)) (kept_named m (before ++ d ∷ []))
-    same-named e = ap (map (λ o. (operation_name o, meant_operation m o))) (sym (kept-none (named_here m) operation_name before d e))
+    same-named : named_here m d ≡ [] → map (named_entry m) (kept_named m before) ≡ map (named_entry m) (kept_named m (before ++ d ∷ []))
+    same-named e = ap (map (named_entry m)) (sym (kept-none (named_here m) operation_name before d e))
 
-    same-fragments : fragment_here m d ≡ [] → map (λ f. (fragment_name f, meant_fragment m f)) (kept_fragments m before) ≡ map (λ f. (fragment_name f, meant_fragment m f)) (kept_fragments m (before ++ d ∷ []))
-    same-fragments e = ap (map (λ f. (fragment_name f, meant_fragment m f))) (sym (kept-none (fragment_here m) fragment_name before d e))
+    same-fragments : fragment_here m d ≡ [] → map (fragment_entry m) (kept_fragments m before) ≡ map (fragment_entry m) (kept_fragments m (before ++ d ∷ []))
+    same-fragments e = ap (map (fragment_entry m)) (sym (kept-none (fragment_here m) fragment_name before d e))
 
   -- ---- an operation without a name
 
   module _ (before : List (DefinitionTree P)) (p : P) (o : OperationTree P) (e : o.name ≡ None) where
-    nameless-here : (r : Option (List ℕ)) → m.root o.operation_type ≡ r → anonymous_here m (Operation p o) ≡ option_to_list (option_map (λ t. based p t o) r)
+    pub nameless-here : (r : Option (List ℕ)) → m.root o.operation_type ≡ r → anonymous_here m (Operation p o) ≡ option_to_list (option_map (λ t. based p t o) r)
     nameless-here r re = ap (λ n. if is_none n then based_operation m p o else []) e ∙ ap (λ s. option_to_list (option_map (λ t. based p t o) s)) re
 
     nameless-named : named_here m (Operation p o) ≡ []
@@ -91,24 +91,24 @@ module _ {P : Type 0} (m : Meanings) (beside : Bool) where
         let told_so : Typed P = told (faults_if beside (At p AmbiguousAnonymousOperation)) (state before) in
         ap (λ c. if c then told_so else record { document = record told_so.document { anonymous = Some (meant_operation m (based p t o)) }; faults = told_so.faults ++ set_faults m o.selections t }) (is_some-made (meant_operation m) (kept_anonymous m before) ∙ k)
         ∙ state-of before (Operation p o) told_so
-          (ap (option_map (meant_operation m)) (sym (first-seen (anonymous_here m) before (Operation p o) k)))
-          (same-named before (Operation p o) nameless-named)
-          (same-fragments before (Operation p o) refl)
-          (ap (λ l. each_place faults_at before ++ l) (sym (append-nil (faults_if beside (At p AmbiguousAnonymousOperation))) ∙ sym (nameless-told true (Some t) k re)))
+        (ap (option_map (meant_operation m)) (sym (first-seen (anonymous_here m) before (Operation p o) k)))
+        (same-named before (Operation p o) nameless-named)
+        (same-fragments before (Operation p o) refl)
+        (ap (λ l. each_place faults_at before ++ l) (sym (append-nil (faults_if beside (At p AmbiguousAnonymousOperation))) ∙ sym (nameless-told true (Some t) k re)))
     nameless-on t re false k =
         let told_so : Typed P = told (faults_if beside (At p AmbiguousAnonymousOperation)) (state before) in
         let kept_so : Typed P = record { document = record told_so.document { anonymous = Some (meant_operation m (based p t o)) }; faults = told_so.faults ++ set_faults m o.selections t } in
         ap (λ c. if c then told_so else kept_so) (is_some-made (meant_operation m) (kept_anonymous m before) ∙ k)
         ∙ state-of before (Operation p o) kept_so
-          (ap (option_map (meant_operation m)) (sym (first-new (anonymous_here m) before (Operation p o) (based p t o) (nameless-here (Some t) re) k)))
-          (same-named before (Operation p o) nameless-named)
-          (same-fragments before (Operation p o) refl)
-          (append_assoc (each_place faults_at before) (faults_if beside (At p AmbiguousAnonymousOperation)) (set_faults m o.selections t)
-          ∙ ap (λ l. each_place faults_at before ++ l) (sym (nameless-told false (Some t) k re)))
+        (ap (option_map (meant_operation m)) (sym (first-new (anonymous_here m) before (Operation p o) (based p t o) (nameless-here (Some t) re) k)))
+        (same-named before (Operation p o) nameless-named)
+        (same-fragments before (Operation p o) refl)
+        (append_assoc (each_place faults_at before) (faults_if beside (At p AmbiguousAnonymousOperation)) (set_faults m o.selections t)
+        ∙ ap (λ l. each_place faults_at before ++ l) (sym (nameless-told false (Some t) k re)))
 
     nameless : (r : Option (List ℕ)) → m.root o.operation_type ≡ r
         → option_map_or (λ t. with_anonymous m p o t (told (faults_if beside (At p AmbiguousAnonymousOperation)) (state before))) r
-          (told (At p (UndefinedRootOperation o.operation_type) ∷ []) (told (faults_if beside (At p AmbiguousAnonymousOperation)) (state before)))
+        (told (At p (UndefinedRootOperation o.operation_type) ∷ []) (told (faults_if beside (At p AmbiguousAnonymousOperation)) (state before)))
         ≡ state (before ++ Operation p o ∷ [])
     nameless None re =
         state-of before (Operation p o) (told (At p (UndefinedRootOperation o.operation_type) ∷ []) (told (faults_if beside (At p AmbiguousAnonymousOperation)) (state before)))
@@ -128,7 +128,7 @@ module _ {P : Type 0} (m : Meanings) (beside : Bool) where
     abbrev collision : List (Fault P)
     collision = faults_if known (At p (OperationNameCollision n.it))
 
-    called-here : (r : Option (List ℕ)) → m.root o.operation_type ≡ r → named_here m (Operation p o) ≡ option_to_list (option_map (λ t. based p t o) r)
+    pub called-here : (r : Option (List ℕ)) → m.root o.operation_type ≡ r → named_here m (Operation p o) ≡ option_to_list (option_map (λ t. based p t o) r)
     called-here r re = ap (λ x. if is_none x then [] else based_operation m p o) e ∙ ap (λ s. option_to_list (option_map (λ t. based p t o) s)) re
 
     called-anonymous : anonymous_here m (Operation p o) ≡ []
@@ -146,22 +146,22 @@ module _ {P : Type 0} (m : Meanings) (beside : Bool) where
         let told_so : Typed P = told collision (state before) in
         ap (λ c. if c then told_so else record { document = record told_so.document { named = told_so.document.named ++ (n.it, meant_operation m (based p t o)) ∷ [] }; faults = told_so.faults ++ set_faults m o.selections t }) (under-made operation_name (meant_operation m) n.it (kept_named m before) ∙ k)
         ∙ state-of before (Operation p o) told_so
-          (same-anonymous before (Operation p o) called-anonymous)
-          (ap (map (λ x. (operation_name x, meant_operation m x))) (sym (kept-seen (named_here m) operation_name before (Operation p o) (based p t o) (called-here (Some t) re) (ap (λ x. has_name operation_name x (kept_named m before)) (name-is t) ∙ k))))
-          (same-fragments before (Operation p o) refl)
-          (ap (λ l. each_place faults_at before ++ l) (sym (append-nil collision) ∙ sym (called-told true (Some t) k re)))
+        (same-anonymous before (Operation p o) called-anonymous)
+        (ap (map (named_entry m)) (sym (kept-seen (named_here m) operation_name before (Operation p o) (based p t o) (called-here (Some t) re) (ap (λ x. has_name operation_name x (kept_named m before)) (name-is t) ∙ k))))
+        (same-fragments before (Operation p o) refl)
+        (ap (λ l. each_place faults_at before ++ l) (sym (append-nil collision) ∙ sym (called-told true (Some t) k re)))
     called-on t re false k =
         let told_so : Typed P = told collision (state before) in
         let kept_so : Typed P = record { document = record told_so.document { named = told_so.document.named ++ (n.it, meant_operation m (based p t o)) ∷ [] }; faults = told_so.faults ++ set_faults m o.selections t } in
         ap (λ c. if c then told_so else kept_so) (under-made operation_name (meant_operation m) n.it (kept_named m before) ∙ k)
         ∙ state-of before (Operation p o) kept_so
-          (same-anonymous before (Operation p o) called-anonymous)
-          (ap (λ x. map (λ y. (operation_name y, meant_operation m y)) (kept_named m before) ++ (x, meant_operation m (based p t o)) ∷ []) (sym (name-is t))
-          ∙ sym (map-append (λ y. (operation_name y, meant_operation m y)) (kept_named m before) (based p t o ∷ []))
-          ∙ ap (map (λ x. (operation_name x, meant_operation m x))) (sym (kept-new (named_here m) operation_name before (Operation p o) (based p t o) (called-here (Some t) re) (ap (λ x. has_name operation_name x (kept_named m before)) (name-is t) ∙ k))))
-          (same-fragments before (Operation p o) refl)
-          (append_assoc (each_place faults_at before) collision (set_faults m o.selections t)
-          ∙ ap (λ l. each_place faults_at before ++ l) (sym (called-told false (Some t) k re)))
+        (same-anonymous before (Operation p o) called-anonymous)
+        (ap (λ (x : List ℕ). map (named_entry m) (kept_named m before) ++ (x, meant_operation m (based p t o)) ∷ []) (sym (name-is t))
+        ∙ sym (map-append (named_entry m) (kept_named m before) (based p t o ∷ []))
+        ∙ ap (map (named_entry m)) (sym (kept-new (named_here m) operation_name before (Operation p o) (based p t o) (called-here (Some t) re) (ap (λ x. has_name operation_name x (kept_named m before)) (name-is t) ∙ k))))
+        (same-fragments before (Operation p o) refl)
+        (append_assoc (each_place faults_at before) collision (set_faults m o.selections t)
+        ∙ ap (λ l. each_place faults_at before ++ l) (sym (called-told false (Some t) k re)))
 
     -- what the name adds to, by whether the entries have it
     entries-known : faults_if (is_under n.it (state before).document.named) (At p (OperationNameCollision n.it)) ≡ collision
@@ -169,7 +169,7 @@ module _ {P : Type 0} (m : Meanings) (beside : Bool) where
 
     called-root : (r : Option (List ℕ)) → m.root o.operation_type ≡ r
         → option_map_or (λ t. with_named m p o n.it t (told collision (state before))) r
-          (told (At p (UndefinedRootOperation o.operation_type) ∷ []) (told collision (state before)))
+        (told (At p (UndefinedRootOperation o.operation_type) ∷ []) (told collision (state before)))
         ≡ state (before ++ Operation p o ∷ [])
     called-root None re =
         state-of before (Operation p o) (told (At p (UndefinedRootOperation o.operation_type) ∷ []) (told collision (state before)))
@@ -201,7 +201,7 @@ module _ {P : Type 0} (m : Meanings) (beside : Bool) where
     abbrev conditioned : Based P (FragmentTree P)
     conditioned = record { place = p; base = f.type_condition.it; it = f }
 
-    fragment-here : (b : Bool) → m.has_type f.type_condition.it ≡ b → fragment_here m (Fragment p f) ≡ (if b then conditioned ∷ [] else [])
+    pub fragment-here : (b : Bool) → m.has_type f.type_condition.it ≡ b → fragment_here m (Fragment p f) ≡ (if b then conditioned ∷ [] else [])
     fragment-here b there = ap (λ c. if c then conditioned ∷ [] else []) there
 
     fragment-told : (b c : Bool) → known_fragment ≡ b → m.has_type f.type_condition.it ≡ c → faults_at before (Fragment p f) ≡ fragment_collision ++ condition_faults p f b c
@@ -213,21 +213,21 @@ module _ {P : Type 0} (m : Meanings) (beside : Bool) where
         let told_so : Typed P = told fragment_collision (state before) in
         ap (λ c. if c then told_so else record { document = record told_so.document { fragments = told_so.document.fragments ++ (f.name.it, meant_fragment m conditioned) ∷ [] }; faults = told_so.faults ++ set_faults m f.selections f.type_condition.it }) (under-made fragment_name (meant_fragment m) f.name.it (kept_fragments m before) ∙ k)
         ∙ state-of before (Fragment p f) told_so
-          (same-anonymous before (Fragment p f) refl)
-          (same-named before (Fragment p f) refl)
-          (ap (map (λ x. (fragment_name x, meant_fragment m x))) (sym (kept-seen (fragment_here m) fragment_name before (Fragment p f) conditioned (fragment-here true there) k)))
-          (ap (λ l. each_place faults_at before ++ l) (sym (append-nil fragment_collision) ∙ sym (fragment-told true true k there)))
+        (same-anonymous before (Fragment p f) refl)
+        (same-named before (Fragment p f) refl)
+        (ap (map (fragment_entry m)) (sym (kept-seen (fragment_here m) fragment_name before (Fragment p f) conditioned (fragment-here true there) k)))
+        (ap (λ l. each_place faults_at before ++ l) (sym (append-nil fragment_collision) ∙ sym (fragment-told true true k there)))
     fragment-on there false k =
         let told_so : Typed P = told fragment_collision (state before) in
         let kept_so : Typed P = record { document = record told_so.document { fragments = told_so.document.fragments ++ (f.name.it, meant_fragment m conditioned) ∷ [] }; faults = told_so.faults ++ set_faults m f.selections f.type_condition.it } in
         ap (λ c. if c then told_so else kept_so) (under-made fragment_name (meant_fragment m) f.name.it (kept_fragments m before) ∙ k)
         ∙ state-of before (Fragment p f) kept_so
-          (same-anonymous before (Fragment p f) refl)
-          (same-named before (Fragment p f) refl)
-          (sym (map-append (λ x. (fragment_name x, meant_fragment m x)) (kept_fragments m before) (conditioned ∷ []))
-          ∙ ap (map (λ x. (fragment_name x, meant_fragment m x))) (sym (kept-new (fragment_here m) fragment_name before (Fragment p f) conditioned (fragment-here true there) k)))
-          (append_assoc (each_place faults_at before) fragment_collision (set_faults m f.selections f.type_condition.it)
-          ∙ ap (λ l. each_place faults_at before ++ l) (sym (fragment-told false true k there)))
+        (same-anonymous before (Fragment p f) refl)
+        (same-named before (Fragment p f) refl)
+        (sym (map-append (fragment_entry m) (kept_fragments m before) (conditioned ∷ []))
+        ∙ ap (map (fragment_entry m)) (sym (kept-new (fragment_here m) fragment_name before (Fragment p f) conditioned (fragment-here true there) k)))
+        (append_assoc (each_place faults_at before) fragment_collision (set_faults m f.selections f.type_condition.it)
+        ∙ ap (λ l. each_place faults_at before ++ l) (sym (fragment-told false true k there)))
 
     fragment-by : (b : Bool) → m.has_type f.type_condition.it ≡ b
         → (if b then with_fragment m p f (told fragment_collision (state before)) else told (At p (UndefinedTypeInNamedFragmentTypeCondition f.type_condition.it) ∷ []) (told fragment_collision (state before)))

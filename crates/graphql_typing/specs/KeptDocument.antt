@@ -90,10 +90,16 @@ module _ {P : Type 0} where
   abbrev pub meant_fragment : Meanings → Based P (FragmentTree P) → MeantFragment P
   meant_fragment m f = fragment_with f.place f.it f.it.type_condition (set_on f.base (kept_all m f.it.selections f.base))
 
+  abbrev pub named_entry : Meanings → Based P (OperationTree P) → List ℕ × MeantOperation P
+  named_entry m o = (operation_name o, meant_operation m o)
+
+  abbrev pub fragment_entry : Meanings → Based P (FragmentTree P) → List ℕ × MeantFragment P
+  fragment_entry m f = (fragment_name f, meant_fragment m f)
+
   -- the kept document
   abbrev pub kept_document : Meanings → List (DefinitionTree P) → MeantDocument P
   kept_document m ds = record {
     anonymous = option_map (meant_operation m) (kept_anonymous m ds);
-    named = map (λ o. (operation_name o, meant_operation m o)) (kept_named m ds);
-    fragments = map (λ f. (fragment_name f, meant_fragment m f)) (kept_fragments m ds);
+    named = map (named_entry m) (kept_named m ds);
+    fragments = map (fragment_entry m) (kept_fragments m ds);
   }

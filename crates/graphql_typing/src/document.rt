@@ -1,12 +1,9 @@
 //! Typing of the definitions of a document.
-ghost use Rattle.std.specs.Prelude.{◌≡◌, ◌++◌, [], ◌∷◌, map, Option, None, Some, IfOk, OnOk, nat_lt, length, fold, if◌then◌else◌};
+ghost use Rattle.std.specs.Prelude.{◌≡◌, ◌++◌, [], ◌∷◌, map, Option, None, false, IfOk, OnOk, nat_lt, length, fold, if◌then◌else◌};
 ghost use Rattle.std.specs.List.{filter};
 ghost use Rattle.std.specs.Option.{option_map};
-ghost use Rattle.indexmap.specs.IndexMap.{get};
 ghost use Rattle.graphql_names.specs.Node.{content, place};
 ghost use Rattle.graphql_names.specs.Placed.{name_tree};
-ghost use Rattle.graphql_components.specs.Names.{same_text};
-ghost use Rattle.graphql_schema_types.specs.TypeView.{name_text};
 ghost use Rattle.graphql_operations.specs.OperationTree.{operation_tree, fragment_tree};
 ghost use Rattle.graphql_ast.specs.DefinitionTree.{definition_tree};
 ghost use Rattle.graphql_typing.specs.KeptDocument.{meant_operation, meant_fragment};
@@ -97,13 +94,27 @@ fn typed_fragment(
     keep_fragment(alloc, fragment, set)
 }
 
+/// Whether an operation has that name.
+fn has_operation(named: &IndexMap<Name, Node<Operation>>, name: &Name) -> bool
+    ensures { result ≡ is_under name.now.text (named_meanings named.now) }
+{
+    named.contains_key(name)
+}
+
+/// Whether a fragment has that name.
+fn has_fragment(fragments: &FragmentMap, name: &Name) -> bool
+    ensures { result ≡ is_under name.now.text (fragment_meanings fragments.now) }
+{
+    fragments.contains_key(name)
+}
+
 /// Puts an operation under a name that no other has.
 fn put_operation(
     named: &mut IndexMap<Name, Node<Operation>>,
     name: &Name,
     operation: Node<Operation>,
 ) -> Result<(), AllocError>
-    requires { get (same_text name_text) named.old name.now ≡ None }
+    requires { is_under name.now.text (named_meanings named.old) ≡ false }
     ensures { OnOk result (named_meanings named.new ≡ named_meanings named.old ++ (name.now.text, operation_meaning operation) ∷ []) }
 {
     let name = name.clone()?;
@@ -117,7 +128,7 @@ fn put_fragment(
     name: &Name,
     fragment: Node<Fragment>,
 ) -> Result<(), AllocError>
-    requires { get (same_text name_text) fragments.old name.now ≡ None }
+    requires { is_under name.now.text (fragment_meanings fragments.old) ≡ false }
     ensures { OnOk result (fragment_meanings fragments.new ≡ fragment_meanings fragments.old ++ (name.now.text, fragment_meaning fragment) ∷ []) }
 {
     let name = name.clone()?;
@@ -166,7 +177,7 @@ impl TypedDocument {
     ) -> Result<(), AllocError>
         ensures { OnOk result (typed_view self.new ≡ with_named (meanings_under schema.entry) (place operation.now) (operation_tree (content operation.now)) name.now.text root.now.text (typed_view self.old)) }
     {
-        if self.operations.named.contains_key(name) {
+        if has_operation(&self.operations.named, name) {
             return Ok(());
         }
         let typed = typed_operation(alloc, schema, root, operation, &mut self.faults)?;
@@ -207,7 +218,7 @@ impl TypedDocument {
     {
         let operation_type = operation.content().operation_type;
         operation_name_collision(
-            self.operations.named.contains_key(name),
+            has_operation(&self.operations.named, name),
             operation.location(),
             name,
             &mut self.faults,
@@ -248,7 +259,7 @@ impl TypedDocument {
         ensures { OnOk result (typed_view self.new ≡ with_fragment (meanings_under schema.entry) (place fragment.now) (fragment_tree (content fragment.now)) (typed_view self.old)) }
     {
         let name = &fragment.content().name;
-        if self.fragments.contains_key(name) {
+        if has_fragment(&self.fragments, name) {
             return Ok(());
         }
         let typed = typed_fragment(alloc, schema, fragment, &mut self.faults)?;
@@ -267,7 +278,7 @@ impl TypedDocument {
         let name = &fragment.content().name;
         let condition = &fragment.content().type_condition;
         fragment_name_collision(
-            self.fragments.contains_key(name),
+            has_fragment(&self.fragments, name),
             fragment.location(),
             name,
             &mut self.faults,

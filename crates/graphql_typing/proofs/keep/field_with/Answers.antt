@@ -5,5 +5,8 @@ use Rattle.graphql_typing.proofs.keep.field_with.Goals as goal
 
 pub returns-clause-head : goal.returns-clause-head
 returns-clause-head c =
-    let arguments = nodes-copies argument_tree _ _ c.in_ok-alias.ensures.2 in
+    let alias = c.in_ok-alias.ensures.0 in
+    let name = c.in_ok-alias.ensures.1 in
+    let arguments = nodes-copies argument_tree _ _ c.in_ok-alias.ensures.2.0 in
+    let directives = c.in_ok-alias.ensures.3 in
     search (rules, arguments)
