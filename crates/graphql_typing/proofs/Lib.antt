@@ -7,3 +7,5 @@ pub mod Roots
 pub mod KeptFirsts
 pub mod KnownNames
 pub mod Turns
+pub mod DocumentFailures
+pub mod FullLists

@@ -15,7 +15,7 @@ use Rattle.graphql_typing.specs.TypingFaults.{Fault, At, UndefinedField, Subsele
 use Rattle.graphql_typing.specs.SetFaults.{leaf_faults, selection_faults, set_faults}
 
 -- what a test that fails says
-both-so : (a b : Bool) → not (a && b) ≡ false → (a ≡ true) × (b ≡ true)
+pub both-so : (a b : Bool) → not (a && b) ≡ false → (a ≡ true) × (b ≡ true)
 both-so true true h = (refl, refl)
 both-so true false h = absurd (true≢false h)
 both-so false b h = absurd (true≢false h)
@@ -32,11 +32,11 @@ or-right false b e = e
 
 module _ {X : Type 0} where
   -- the only element of a list that is there under a condition
-  if-told : (b : Bool) (x y : X) → Contains (if b then x ∷ [] else []) y → (b ≡ true) × (y ≡ x)
+  pub if-told : (b : Bool) (x y : X) → Contains (if b then x ∷ [] else []) y → (b ≡ true) × (y ≡ x)
   if-told true x y h = (refl, only x y h)
   if-told false x y h = absurd (not_in_nil y h)
 
-  told-if : (b : Bool) (x y : X) → b ≡ true → y ≡ x → Contains (if b then x ∷ [] else []) y
+  pub told-if : (b : Bool) (x y : X) → b ≡ true → y ≡ x → Contains (if b then x ∷ [] else []) y
   told-if b x y e f = subst (λ c. Contains (if c then x ∷ [] else []) y) (sym e) (is_only x y f)
 
 module _ {P : Type 0} (m : Meanings) where
