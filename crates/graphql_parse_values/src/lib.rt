@@ -26,4 +26,5 @@ pub use value_reader::{default_value, placed_value};
 pub use value_token::{enum_value, variable};
 
 // The crates beneath, for those above.
+pub use graphql_grammar;
 pub use graphql_grammar::graphql_ast;

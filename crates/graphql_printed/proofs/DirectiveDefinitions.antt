@@ -119,7 +119,7 @@ locations_read l ls =
     (seq {f = any} (λ behind fine. refl) (left_out (mark is_pipe) any)
     (seq {f = ends_word} (λ behind fine. further_ends 32 (124 ∷ 32 ∷ []) (map location_keyword ls) behind refl fine) (location_read l) (further_locations ls)))
 
-abbrev directive_with : List ℕ → InputValues (Unit {0}) → Bool → List DirectiveLocation → DirectiveDefinitionTree (Unit {0})
+abbrev pub directive_with : List ℕ → InputValues (Unit {0}) → Bool → List DirectiveLocation → DirectiveDefinitionTree (Unit {0})
 directive_with n vs r ls = record { description = None; name = record { it = n; place = tt }; arguments = vs; repeatable = r; locations = ls }
 
 one_directive : (l n : List ℕ) (vs ws : InputValues (Unit {0})) (r s : Bool) (ls ks : List DirectiveLocation) → l ≡ n → vs ≡ ws → r ≡ s → ls ≡ ks → directive_with l vs r ls ≡ directive_with n ws s ks

@@ -22,5 +22,8 @@ pub mod DirectiveDefinitions
 pub mod StringTokens
 pub mod NumberTokens
 pub mod Alone
-pub mod Executable
+pub mod Definitions
+pub mod Documents
+pub mod Unplaced
+pub mod EqualTexts
 pub mod Rows

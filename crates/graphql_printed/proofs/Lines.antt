@@ -4,7 +4,7 @@ use Rattle.std.specs.List.{list_all}
 use Rattle.std.proofs.lemmas.Bool.{and_parts}
 use Rattle.graphql_printing.specs.Joined.{joined}
 use Rattle.graphql_printing.specs.StringLayout.{is_tab_or_space}
-use Rattle.graphql_printing.specs.LineLayout.{Prefix, Leveled, line_start, break_text, members_text, braced_text, set_text}
+use Rattle.graphql_printing.specs.LineLayout.{Prefix, Leveled, line_start, start_text, break_text, members_text, braced_text, set_text}
 use Rattle.graphql_lexer.specs.Tokens.{is_ignored_byte}
 use Rattle.graphql_lexer.specs.Input.{Token, Ending}
 use Rattle.graphql_parse_values.specs.in_grammar.Kinds.{is_open_brace, is_close_brace}
@@ -41,6 +41,12 @@ pub break_ignored : (prefix : Prefix) (level : ℕ) → is_white_prefix prefix �
 unfolding joined
 break_ignored None level h = refl
 break_ignored (Some prefix) level h = all_joined is_ignored_byte (line_start prefix level) [] (line_start_ignored prefix level (all_white prefix h)) refl
+
+-- and before the first line
+pub start_ignored : (prefix : Prefix) (level : ℕ) → is_white_prefix prefix ≡ true → list_all is_ignored_byte (start_text prefix level) ≡ true
+unfolding joined
+start_ignored None level h = refl
+start_ignored (Some prefix) level h = subst (λ (l : List ℕ). list_all is_ignored_byte l ≡ true) (append-nil (line_start prefix level)) (break_ignored (Some prefix) level h)
 
 -- it ends a word
 pub break_ends : (prefix : Prefix) (level : ℕ) (behind : List ℕ) → ends_word (break_text prefix level ++ behind) ≡ true

@@ -1,18 +1,21 @@
--- A small document and a value, for which the laws ask nothing that is not so.
+-- Small documents, selections and a value, for which the laws ask nothing that is not so.
 use Rattle.std.specs.Prelude.{◌≡◌, ℕ, true, List, [], ◌∷◌, codes, None, Some}
+use Rattle.std.specs.List.{list_all}
 use Rattle.std.proofs.Common.{refl}
 use Rattle.graphql_printing.specs.Joined.{joined}
 use Rattle.graphql_literals.specs.ValueLayout.{value_text}
 use Rattle.graphql_operations.specs.declared.operation.OperationType.TheVariants.{Query}
 use Rattle.graphql_values.specs.Placed.{Text}
-use Rattle.graphql_values.specs.Writable.{value_writable}
+use Rattle.graphql_values.specs.Writable.{value_writable, selections_writable}
+use Rattle.graphql_values.specs.TypeTree.{NamedTree}
 use Rattle.graphql_values.specs.ValueTree.{ValueTree, StringTree, FloatTree, IntTree, ListTree, no_items, item_then}
-use Rattle.graphql_values.specs.SelectionTree.{FieldTree, no_selections, selection_then}
-use Rattle.graphql_parse_values.specs.in_ast.DefinitionTree.{DefinitionTree, Operation}
+use Rattle.graphql_values.specs.SelectionTree.{SelectionTrees, FieldTree, SpreadTree, no_selections, selection_then}
+use Rattle.graphql_parse_values.specs.in_ast.DefinitionTree.{DefinitionTree, Operation, UnionType, ObjectType, ExtendInterface}
 use Rattle.graphql_parse_values.specs.in_ast.DocumentLayout.{document_text}
 use Rattle.graphql_parse_values.specs.in_ast.Writable.{definition_writable}
-use Rattle.graphql_printed.specs.WellFormed.{value_well_formed}
-use Rattle.graphql_printed.specs.Executable.{executable_well_formed}
+use Rattle.graphql_printed.specs.WellFormed.{value_well_formed, selections_well_formed}
+use Rattle.graphql_printed.specs.SelectionsLayout.{selections_text}
+use Rattle.graphql_printed.specs.Definitions.{definition_well_formed}
 
 abbrev plain : List ℕ → Text (Unit {0})
 plain text = record { it = text; place = tt }
@@ -33,6 +36,37 @@ some_operation = Operation tt (record {
   selections = selection_then (FieldTree tt (record { alias = None; name = plain (codes "a"); arguments = []; directives = [] }) no_selections) no_selections;
 })
 
-document_row : (executable_well_formed some_operation ≡ true) × ((definition_writable some_operation ≡ true) × (document_text None 0 (some_operation ∷ []) ≡ codes "query q { a }"))
+operation_row : (definition_well_formed some_operation ≡ true) × ((definition_writable some_operation ≡ true) × (document_text None 0 (some_operation ∷ []) ≡ codes "query q { a }"))
 unfolding joined
-document_row = (refl, (refl, refl))
+operation_row = (refl, (refl, refl))
+
+abbrev some_selections : SelectionTrees (Unit {0})
+some_selections = selection_then (FieldTree tt (record { alias = None; name = plain (codes "a"); arguments = []; directives = [] }) no_selections) (selection_then (SpreadTree tt (plain (codes "b")) []) no_selections)
+
+selections_row : (selections_well_formed some_selections ≡ true) × ((selections_writable some_selections ≡ true) × (selections_text None some_selections 1 ≡ codes "a ...b"))
+unfolding joined
+selections_row = (refl, (refl, refl))
+
+selections_on_lines_row : selections_text (Some (codes " ")) some_selections 1 ≡ codes " a\n ...b"
+unfolding joined
+selections_on_lines_row = refl
+
+abbrev some_types : List (DefinitionTree (Unit {0}))
+some_types =
+    UnionType tt (Some (plain (codes "d"))) (record { name = plain (codes "U"); directives = []; members = plain (codes "A") ∷ [] })
+    ∷ ObjectType tt None (record { name = plain (codes "A"); interfaces = plain (codes "I") ∷ []; directives = []; fields = [] })
+    ∷ ExtendInterface tt (record {
+      name = plain (codes "I");
+      interfaces = [];
+      directives = [];
+      fields = record { place = tt; it = record { description = None; name = plain (codes "f"); arguments = []; ty = NamedTree (plain (codes "A")); directives = [] } } ∷ [];
+    })
+    ∷ []
+
+types_row : (list_all definition_well_formed some_types ≡ true) × ((list_all definition_writable some_types ≡ true) × (document_text None 0 some_types ≡ codes "\"d\" union U = A type A implements I extend interface I { f: A }"))
+unfolding joined
+types_row = (refl, (refl, refl))
+
+types_on_lines_row : document_text (Some (codes " ")) 0 some_types ≡ codes "\"d\"\nunion U = A\n\ntype A implements I\n\nextend interface I {\n f: A\n}\n"
+unfolding joined
+types_on_lines_row = refl

@@ -1,9 +1,9 @@
 -- Selections are read as they are printed, under both kinds of layout.
-use Rattle.std.proofs.Common.{◌≡◌, ◌≤◌, ◌+◌, ℕ, zero, suc, true, ◌&&◌, List, [], ◌∷◌, ◌++◌, codes, Option, Some, None, unwrap_or, option_map, refl, sym, ap, ◌∙◌, append_assoc, arith}
+use Rattle.std.proofs.Common.{◌≡◌, ◌≤◌, ◌+◌, ℕ, zero, suc, true, ◌&&◌, List, [], ◌∷◌, ◌++◌, codes, Option, Some, None, unwrap_or, option_map, refl, sym, ap, ◌∙◌, append_assoc, append-nil, arith}
 use Rattle.std.proofs.lemmas.Bool.{and_parts}
 use Rattle.graphql_names.specs.NameSyntax as names
 use Rattle.graphql_printing.specs.Joined.{joined}
-use Rattle.graphql_printing.specs.LineLayout.{Prefix, members_text, braced_text, set_text, texts_of}
+use Rattle.graphql_printing.specs.LineLayout.{Prefix, start_text, members_text, braced_text, set_text, texts_of}
 use Rattle.graphql_directives.specs.DirectiveLayout.{argument_text, arguments_text, directives_text}
 use Rattle.graphql_operations.specs.OperationLayout.{alias_text, condition_text, spread_text, selection_text, selection_texts}
 use Rattle.graphql_values.specs.Placed.{Text, unplaced_text}
@@ -16,17 +16,18 @@ use Rattle.graphql_parse_values.specs.in_grammar.Meaning.{Meaning}
 use Rattle.graphql_parse_values.specs.in_grammar.Kinds.{is_fragment_name, is_on}
 use Rattle.graphql_parse_values.specs.in_grammar.Rules.{Rule, ◌·◌, ◌∣◌, optional, many}
 use Rattle.graphql_parse_values.specs.in_grammar.ValueGrammar.{with_variables}
-use Rattle.graphql_parse_values.specs.in_grammar.OperationGrammar.{selections_of, field_of, spread_of, inline_of, alias, field, type_condition, fragment_spread, inline_fragment, selection, selection_list, selection_set}
+use Rattle.graphql_parse_values.specs.in_grammar.OperationGrammar.{selections_of, field_of, spread_of, inline_of, alias, field, type_condition, fragment_spread, inline_fragment, selection, selection_list, selection_set, selections}
 use Rattle.graphql_printed.specs.Printed.{Follow, any, ends_word, Printed}
 use Rattle.graphql_printed.specs.Literals.{LiteralsRead}
+use Rattle.graphql_printed.specs.SelectionsLayout.{selections_text}
 use Rattle.graphql_printed.specs.WellFormed.{is_white_prefix, name_well_formed, directives_well_formed, head_well_formed, selection_well_formed, selections_well_formed, directives_depth, head_depth, selection_depth, selections_depth}
-use Rattle.graphql_printed.proofs.Sequences.{ends_before, seq, seq_word, mapped, left, right, placed, ignored, given, left_out, more, no_more, as_text, nothing_more, saying, before_any}
+use Rattle.graphql_printed.proofs.Sequences.{ends_before, seq, seq_word, mapped, left, right, placed, ignored, given, left_out, more, one_or_more, no_more, as_text, nothing_more, saying, before_any}
 use Rattle.graphql_printed.proofs.Tokens.{any_name, named, keyword, spelled_passes}
 use Rattle.graphql_printed.proofs.Punctuators.{colon, spread}
 use Rattle.graphql_printed.proofs.Literals.{not_word}
 use Rattle.graphql_printed.proofs.Nodes.{parenthesized_ends}
 use Rattle.graphql_printed.proofs.Directives.{arguments_read, directives_read, directives_end}
-use Rattle.graphql_printed.proofs.Lines.{break_ignored, set_ends, members_is, members_end, some_of_many, braced, in_braces}
+use Rattle.graphql_printed.proofs.Lines.{start_ignored, break_ignored, set_ends, members_is, members_end, some_of_many, braced, in_braces}
 
 -- the selection, and the selections, places aside
 abbrev pub IsSelection : {P : Type 0} → SelectionTree (Unit {0}) → SelectionTree P → Type 0
@@ -63,7 +64,7 @@ one_spread l n ds es e f = rw e (rw f refl)
 one_inline : (a b : Option (Text (Unit {0}))) (ds es : Directives (Unit {0})) (ts us : SelectionTrees (Unit {0})) → a ≡ b → ds ≡ es → ts ≡ us → InlineTree tt a ds ts ≡ InlineTree tt b es us
 one_inline a b ds es ts us e f g = rw e (rw f (rw g refl))
 
-one_selection : (x y : SelectionTree (Unit {0})) (xs ys : SelectionTrees (Unit {0})) → x ≡ y → xs ≡ ys → selection_then x xs ≡ selection_then y ys
+pub one_selection : (x y : SelectionTree (Unit {0})) (xs ys : SelectionTrees (Unit {0})) → x ≡ y → xs ≡ ys → selection_then x xs ≡ selection_then y ys
 one_selection x y xs ys e f = rw e (rw f refl)
 
 never_none : (P : Type 0) (x : SelectionTree (Unit {0})) (xs : SelectionTrees (Unit {0})) → AreSelections {P = P} (selection_then x xs) [] → ⊥
@@ -235,3 +236,18 @@ module _ {P Q : Type 0} (m : Meaning P) (lits : LiteralsRead m.string) where
           let (h1, h2) = and_parts (selection_well_formed t) (selections_well_formed ts) h in
           let (w1, w2) = and_parts (selection_writable t) (selections_writable ts) w in
           selection_more prefix n level t ts white (selection_read t n level h1 w1 (omega arith)) (selections_read ts n level h2 w2 (omega arith))
+
+    -- selections without their braces
+    pub bare_selections_read : (ts : SelectionTrees Q) (n level : ℕ) → has_selection ts ≡ true → selections_well_formed ts ≡ true → selections_writable ts ≡ true → selections_depth ts ≤ n
+        → Printed (selections m n) (IsSet (unplaced_selections ts)) ends_word (selections_text prefix ts level)
+    unfolding joined selections selection_list
+    bare_selections_read no_selections n level has h w le = absurd cc
+    bare_selections_read (selection_then t ts) n level has h w le =
+        let (h1, h2) = and_parts (selection_well_formed t) (selections_well_formed ts) h in
+        let (w1, w2) = and_parts (selection_writable t) (selections_writable ts) w in
+        let others : List ℕ = members_text prefix level (selection_texts prefix ts) in
+        ignored (start_text prefix level) (start_ignored prefix level white)
+        (as_text _ (ap (λ (l : List ℕ). selection_text prefix t level ++ l) (sym (append-nil others)))
+        (mapped selections_of (IsSet (unplaced_selections (selection_then t ts))) (λ xs said. said)
+        (one_or_more {f = ends_word} (AreSelections (unplaced_selections (selection_then t ts))) (λ y ys e f. one_selection (unplaced_selection y) (unplaced_selection t) (unplaced_selections (selections_of ys)) (unplaced_selections ts) e f)
+        (λ behind fine. members_end prefix level (selection_texts prefix ts) behind fine) (selection_read t n level h1 w1 (omega arith)) (selections_read ts n level h2 w2 (omega arith)))))

@@ -2,4 +2,5 @@ pub mod Printed
 pub mod WellFormed
 pub mod Literals
 pub mod ReadsAlone
-pub mod Executable
+pub mod Definitions
+pub mod SelectionsLayout

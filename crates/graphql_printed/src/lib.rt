@@ -6,27 +6,29 @@
 //! Begin with `specs/ReadsAlone.antt`, then `specs/Printed.antt`, from which the proofs are put together.
 #![tactic(auto)]
 
-ghost use Rattle.std.specs.Prelude.{◌≡◌, ℕ, Bool, true, List, ◌∷◌};
+ghost use Rattle.std.specs.Prelude.{◌≡◌, ◌↔◌, ℕ, Bool, true, List, ◌∷◌};
 ghost use Rattle.std.specs.List.{list_all};
 ghost use Rattle.graphql_names.specs.declared.span.FileId.{FileId};
 ghost use Rattle.graphql_printing.specs.LineLayout.{Prefix};
 ghost use Rattle.graphql_literals.specs.ValueLayout.{type_text, value_text};
 ghost use Rattle.graphql_operations.specs.OperationLayout.{operation_text, fragment_text};
 ghost use Rattle.graphql_values.specs.Placed.{Place};
-ghost use Rattle.graphql_values.specs.Writable.{value_writable, operation_writable, fragment_writable};
+ghost use Rattle.graphql_values.specs.Writable.{value_writable, has_selection, selections_writable, operation_writable, fragment_writable};
 ghost use Rattle.graphql_values.specs.TypeTree.{TypeTree, unplaced_type};
 ghost use Rattle.graphql_values.specs.ValueTree.{ValueTree, unplaced_value};
+ghost use Rattle.graphql_values.specs.SelectionTree.{SelectionTrees, unplaced_selections};
 ghost use Rattle.graphql_values.specs.OperationTree.{OperationTree, FragmentTree, unplaced_operation, unplaced_fragment};
 ghost use Rattle.graphql_parse_values.specs.in_ast.DefinitionTree.{DefinitionTree, unplaced_document};
 ghost use Rattle.graphql_parse_values.specs.in_ast.DocumentLayout.{document_text};
 ghost use Rattle.graphql_parse_values.specs.in_ast.Writable.{definition_writable};
 ghost use Rattle.graphql_parse_values.specs.in_grammar.Meaning.{Meaning};
-ghost use Rattle.graphql_parse_values.specs.in_grammar.Grammar.{DerivesAs, Derives, DerivesType};
+ghost use Rattle.graphql_parse_values.specs.in_grammar.Grammar.{DerivesAs, Derives, DerivesType, DerivesSelections};
 ghost use Rattle.graphql_parse_values.specs.in_grammar.ValueGrammar.{Const, value};
 ghost use Rattle.graphql_parse_values.specs.in_grammar.OperationGrammar.{operation_definition, fragment_definition};
 ghost use Rattle.graphql_parse_values.specs.Meanings.{in_file};
-ghost use Rattle.graphql_printed.specs.WellFormed.{is_white_prefix, type_well_formed, value_well_formed, operation_well_formed, fragment_well_formed};
-ghost use Rattle.graphql_printed.specs.Executable.{executable_well_formed};
+ghost use Rattle.graphql_printed.specs.WellFormed.{is_white_prefix, type_well_formed, value_well_formed, selections_well_formed, operation_well_formed, fragment_well_formed};
+ghost use Rattle.graphql_printed.specs.Definitions.{definition_well_formed};
+ghost use Rattle.graphql_printed.specs.SelectionsLayout.{selections_text};
 ghost use Rattle.graphql_printed.specs.ReadsAlone.{ReadsAlone};
 
 /// The text of a type whose names are names reads as it alone, places aside.
@@ -53,10 +55,40 @@ pub fn printed_operations_read()
         → ReadsAlone (DerivesAs (fragment_definition (in_file file))) unplaced_fragment (fragment_text prefix tree level) (unplaced_fragment tree) }
 {}
 
-/// The text of a document that is operations and fragments alone, one at least, each well-formed and writable, reads as it
-/// alone, places aside; under the same layouts.
-pub fn printed_executable_document_reads()
+/// The text of selections without braces, of one at least, that are well-formed and writable, reads as them alone, places
+/// aside; under the same layouts.
+pub fn printed_selections_read()
+    ensures { (file : FileId) → (prefix : Prefix) → (level : ℕ) → (tree : SelectionTrees Place)
+        → is_white_prefix prefix ≡ true → has_selection tree ≡ true → selections_well_formed tree ≡ true → selections_writable tree ≡ true
+        → ReadsAlone (DerivesSelections (in_file file)) unplaced_selections (selections_text prefix tree level) (unplaced_selections tree) }
+{}
+
+/// The text of a document, of one definition at least, each well-formed and writable, reads as it alone, places aside; under
+/// the same layouts.
+pub fn printed_document_reads()
     ensures { (file : FileId) → (prefix : Prefix) → (level : ℕ) → (tree : DefinitionTree Place) → (trees : List (DefinitionTree Place))
-        → is_white_prefix prefix ≡ true → list_all executable_well_formed (tree ∷ trees) ≡ true → list_all definition_writable (tree ∷ trees) ≡ true
+        → is_white_prefix prefix ≡ true → list_all definition_well_formed (tree ∷ trees) ≡ true → list_all definition_writable (tree ∷ trees) ≡ true
         → ReadsAlone (Derives (in_file file)) unplaced_document (document_text prefix level (tree ∷ trees)) (unplaced_document (tree ∷ trees)) }
+{}
+
+/// Two trees of one kind that are well-formed and writable have one text under a layout, on one line or on lines that white
+/// space begins, exactly where they are equal, places aside.
+pub fn equal_texts_are_of_equal_trees()
+    ensures types { (a : TypeTree Place) → (b : TypeTree Place) → type_well_formed a ≡ true → type_well_formed b ≡ true
+        → (type_text a ≡ type_text b) ↔ (unplaced_type a ≡ unplaced_type b) }
+    ensures values { (const : Const) → (a : ValueTree Place) → (b : ValueTree Place) → value_well_formed a ≡ true → value_well_formed b ≡ true
+        → value_writable const a ≡ true → value_writable const b ≡ true
+        → (value_text a ≡ value_text b) ↔ (unplaced_value a ≡ unplaced_value b) }
+    ensures operations { (prefix : Prefix) → (level : ℕ) → (at_start : Bool) → (a : OperationTree Place) → (b : OperationTree Place) → is_white_prefix prefix ≡ true
+        → operation_well_formed a ≡ true → operation_well_formed b ≡ true → operation_writable a ≡ true → operation_writable b ≡ true
+        → (operation_text at_start prefix a level ≡ operation_text at_start prefix b level) ↔ (unplaced_operation a ≡ unplaced_operation b) }
+    ensures fragments { (prefix : Prefix) → (level : ℕ) → (a : FragmentTree Place) → (b : FragmentTree Place) → is_white_prefix prefix ≡ true
+        → fragment_well_formed a ≡ true → fragment_well_formed b ≡ true → fragment_writable a ≡ true → fragment_writable b ≡ true
+        → (fragment_text prefix a level ≡ fragment_text prefix b level) ↔ (unplaced_fragment a ≡ unplaced_fragment b) }
+    ensures selections { (prefix : Prefix) → (level : ℕ) → (a : SelectionTrees Place) → (b : SelectionTrees Place) → is_white_prefix prefix ≡ true
+        → has_selection a ≡ true → has_selection b ≡ true → selections_well_formed a ≡ true → selections_well_formed b ≡ true → selections_writable a ≡ true → selections_writable b ≡ true
+        → (selections_text prefix a level ≡ selections_text prefix b level) ↔ (unplaced_selections a ≡ unplaced_selections b) }
+    ensures documents { (prefix : Prefix) → (level : ℕ) → (a : DefinitionTree Place) → (b : DefinitionTree Place) → (as' : List (DefinitionTree Place)) → (bs : List (DefinitionTree Place)) → is_white_prefix prefix ≡ true
+        → list_all definition_well_formed (a ∷ as') ≡ true → list_all definition_well_formed (b ∷ bs) ≡ true → list_all definition_writable (a ∷ as') ≡ true → list_all definition_writable (b ∷ bs) ≡ true
+        → (document_text prefix level (a ∷ as') ≡ document_text prefix level (b ∷ bs)) ↔ (unplaced_document (a ∷ as') ≡ unplaced_document (b ∷ bs)) }
 {}

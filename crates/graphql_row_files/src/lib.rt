@@ -11,4 +11,4 @@ mod settings;
 pub use escape::bytes_of;
 pub use problem::Problem;
 pub use row_file::{Field, Row, fields_of, rows_of};
-pub use settings::{number, numbers, output, texts};
+pub use settings::{number, numbers, output, says, texts};

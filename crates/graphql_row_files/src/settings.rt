@@ -47,6 +47,15 @@ fn words(alloc: Global, field: Field<'_>) -> Result<Vec<usize>, Problem> {
     Ok(list)
 }
 
+/// Whether the row has the field of this name. It says this word, and nothing else.
+pub fn says(row: Row<'_>, name: &str, word: &str) -> Result<bool, Problem> {
+    match row.one(name)? {
+        None => Ok(false),
+        Some(field) if field.value == word => Ok(true),
+        Some(field) => Err(field.problem("the field says something else than it may")),
+    }
+}
+
 /// The texts of the fields of this name.
 pub fn texts(alloc: Global, row: Row<'_>, name: &str) -> Result<Vec<Vec<u8>>, Problem> {
     let mut list = Vec::new(alloc);

@@ -31,7 +31,7 @@ fn form_of(case: Case<'_>) -> Result<(Form, usize), Problem> {
 }
 
 /// The layout of this word.
-fn form_named(word: &str) -> Option<Form> {
+pub(crate) fn form_named(word: &str) -> Option<Form> {
     let prefix = match word {
         "line" => return Some(Form::OneLine),
         "empty" => "",
@@ -45,7 +45,7 @@ fn form_named(word: &str) -> Option<Form> {
 }
 
 /// The tree under its layout.
-fn laid_out<'a, T: Tree>(tree: &'a T, form: (Form, usize)) -> Serialize<'a, T> {
+pub(crate) fn laid_out<'a, T: Tree>(tree: &'a T, form: (Form, usize)) -> Serialize<'a, T> {
     let layout = tree.serialize().initial_indent_level(form.1);
     match form.0 {
         Form::Unsaid => layout,

@@ -6,10 +6,10 @@ ghost use Rattle.graphql_names.specs.Device.{device_failed};
 use crate::by_texts::Texts;
 use crate::case::{Answer, Case, Tally, Way};
 use crate::plan::{Plan, device, reader};
-use crate::plans::{compare_cut, is_each, plans};
+use crate::plans::{compare_cut, plans};
 use graphql_checked::{Layout, Limits, Outcome, RunFault, exit_status, run};
 use graphql_names::{Cut, Device};
-use graphql_row_files::Problem;
+use graphql_row_files::{Problem, says};
 use std::alloc::{AllocError, Global};
 
 /// Judges the row by `run`, by each of its plans.
@@ -19,7 +19,7 @@ pub(crate) fn by_run(
     given: Texts<'_>,
     tally: &mut Tally,
 ) -> Result<(), Problem> {
-    let is_each = is_each(case, "read")?;
+    let is_each = says(case.row, "read", "each")?;
     for plan in &plans(rt.alloc(), case)? {
         run_answer(rt, case, given, *plan, tally)?;
         if is_each && plan.write == case.out.len() {

@@ -14,6 +14,9 @@ fn names_of(call: &str) -> Option<&'static [&'static str]> {
         "writable" => Some(&["tree"]),
         "parse_document" | "parse_type" | "parse_selections" => Some(&["nesting", "input"]),
         "next_token" => Some(&["input"]),
+        "layouts" => Some(&["input", "flat"]),
+        "schema" | "orphans" => Some(&["schema", "first", "adopt", "ignore"]),
+        "coordinate" => Some(&["schema", "form", "input"]),
         _ => None,
     }
 }

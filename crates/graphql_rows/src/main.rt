@@ -3,9 +3,12 @@
 #![tactic(auto)]
 
 mod by_calls;
+mod by_coordinate;
+mod by_layouts;
 mod by_print;
 mod by_read;
 mod by_run;
+mod by_schema;
 mod by_texts;
 mod calls;
 mod case;
@@ -13,8 +16,11 @@ mod plan;
 mod plans;
 mod trees;
 
+use crate::by_coordinate::by_coordinate;
+use crate::by_layouts::by_layouts;
 use crate::by_print::{by_print, by_writable};
 use crate::by_read::by_read;
+use crate::by_schema::by_schema;
 use crate::by_texts::by_texts;
 use crate::calls::call_of;
 use crate::case::{Case, Tally};
@@ -42,6 +48,9 @@ fn judge_case(rt: &HostRuntime, case: Case<'_>, tally: &mut Tally) -> Result<(),
     match call_of(case.row)? {
         "print" => by_print(rt, case, tally)?,
         "writable" => by_writable(rt, case, tally)?,
+        "layouts" => by_layouts(rt, case, tally)?,
+        "coordinate" => by_coordinate(rt, case, tally)?,
+        call @ ("schema" | "orphans") => by_schema(rt, case, call, tally)?,
         call @ ("parse_document" | "parse_type" | "parse_selections" | "next_token") => {
             by_read(rt, case, call, tally)?;
         }

@@ -2,14 +2,14 @@
 
 use crate::case::{Answer, Case, Tally, Way, compare};
 use crate::plan::{Plan, endings, whole};
-use graphql_row_files::{Problem, number, numbers};
+use graphql_row_files::{Problem, number, numbers, says};
 use std::alloc::{AllocError, Global};
 
 /// The plans of the row: at each of its numbers of bytes a call and for each ending, the writer ends where the
 /// output does, and where the row says `write: each` also after each smaller number of bytes.
 pub(crate) fn plans(alloc: Global, case: Case<'_>) -> Result<Vec<Plan>, Problem> {
     let text = number(case.row, "behind", usize::MAX)?;
-    let least = if is_each(case, "write")? {
+    let least = if says(case.row, "write", "each")? {
         0
     } else {
         case.out.len()
@@ -43,15 +43,6 @@ fn push_cuts(
         }
     }
     Ok(())
-}
-
-/// Whether a device of the row ends at each of its bytes.
-pub(crate) fn is_each(case: Case<'_>, name: &str) -> Result<bool, Problem> {
-    match case.row.one(name)? {
-        None => Ok(false),
-        Some(field) if field.value == "each" => Ok(true),
-        Some(field) => Err(field.problem("it says `each` or is not there")),
-    }
 }
 
 /// Compares the answer by a plan: where its writer ends before the output does, so many bytes are out.

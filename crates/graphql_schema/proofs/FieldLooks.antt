@@ -1,5 +1,5 @@
 -- The fields that look-ups find, without places and order.
-use Rattle.std.proofs.Common.{◌≡◌, ℕ, Bool, true, false, cond, if◌then◌else◌, List, [], ◌∷◌, map, Option, None, Some, refl, sym, ap, ◌∙◌}
+use Rattle.std.proofs.Common.{◌≡◌, ℕ, Bool, true, false, ◌&&◌, cond, if◌then◌else◌, List, [], ◌∷◌, map, Option, None, Some, refl, sym, ap, ◌∙◌}
 use Rattle.std.specs.Prelude.{option_and_then}
 use Rattle.std.specs.List.{find}
 use Rattle.std.specs.Option.{option_map, option_map_or, option_or}
@@ -18,7 +18,7 @@ use Rattle.graphql_components.specs.Given.{Given, given_name, plain_given}
 use Rattle.graphql_schema.specs.MetaField.{by_definition}
 use Rattle.graphql_schema.specs.LookUps.{is_composite_kind, meta_field_on}
 use Rattle.graphql_schema.specs.LookUps as look_up
-use Rattle.graphql_schema.specs.FieldLooks.{is_query_root, field_on, FieldsArePlain}
+use Rattle.graphql_schema.specs.FieldLooks.{field_on, FieldsArePlain}
 
 module _ {A B : Type 0} (f : A → B) (n : List ℕ) where
   abbrev mapped : Entries A → Entries B
@@ -64,8 +64,8 @@ module _ (s : SchemaTree Place) (n m : List ℕ) where
       map_or field_plain (under m t.fields) (meta_field_on s n t m)
       ∙ ap (λ o. option_or o (option_map field_plain (meta_field_on s n t m))) (sym (get_under field_plain m t.fields))
       ∙ ap (option_or (fin.get (named field_plain t.fields) m)) (
-      meta_plain (meta_field_of (is_composite_kind t.kind) (look_up.is_query_root s n) m)
-      ∙ ap (λ b. option_map (λ (f : Placed Place (FieldDefinitionTree Place)). unplaced_field_definition f.it) (meta_field_of (is_composite_kind t.kind) b m)) (root_plain n s.definition.query))
+      meta_plain (meta_field_of (is_composite_kind t.kind) (is_composite_kind t.kind && look_up.is_query_root s n) m)
+      ∙ ap (λ b. option_map (λ (f : Placed Place (FieldDefinitionTree Place)). unplaced_field_definition f.it) (meta_field_of (is_composite_kind t.kind) (is_composite_kind t.kind && b) m)) (root_plain n s.definition.query))
 
   of_found : (o : Option (SchemaType Place))
       → option_map field_plain (option_or (option_and_then (λ (t : SchemaType Place). under m t.fields) o) (option_and_then (λ t. meta_field_on s n t m) o))

@@ -1,5 +1,5 @@
 -- The fields of a type by name, without places: all that typing and rules read of them (GraphQL, October 2021, sections 2.5, 4.1 and 4.2).
-use Rattle.std.specs.Prelude.{◌≡◌, ℕ, Bool, false, List, Option, option_and_then}
+use Rattle.std.specs.Prelude.{◌≡◌, ℕ, Bool, false, ◌&&◌, List, Option, option_and_then}
 use Rattle.std.specs.Option.{option_map, option_map_or, option_or}
 use Rattle.std.specs.Str.{bytes_eq}
 use Rattle.graphql_values.specs.Placed.{Place}
@@ -19,7 +19,7 @@ module _ (l : Looks) where
 
   -- the field of that name of a type that stands under the name n: an explicit field comes before a meta-field
   abbrev pub field_on : List ℕ → TypeLooks → List ℕ → Option (FieldDefinitionTree (Unit {0}))
-  field_on n t m = option_or (t.field m) (option_map (λ f. unplaced_field_definition f.it) (meta_field_of (is_composite_kind t.kind) (is_query_root n) m))
+  field_on n t m = option_or (t.field m) (option_map (λ f. unplaced_field_definition f.it) (meta_field_of (is_composite_kind t.kind) (is_composite_kind t.kind && is_query_root n) m))
 
   -- the field of that name of the type of that name
   abbrev pub field_named : List ℕ → List ℕ → Option (FieldDefinitionTree (Unit {0}))

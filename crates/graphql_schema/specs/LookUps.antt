@@ -36,9 +36,9 @@ module _ (s : SchemaTree Place) where
   abbrev pub is_query_root : List ℕ → Bool
   is_query_root n = option_map_or (λ root. bytes_eq n root.it) (root_at s Query) false
 
-  -- the meta-field of that name of a type that stands under the name n (sections 4.1 and 4.2)
+  -- the meta-field of that name of a type that stands under the name n; composite types alone have any (sections 4.1 and 4.2)
   abbrev pub meta_field_on : List ℕ → SchemaType Place → List ℕ → Option (Given Place (Placed Place (FieldDefinitionTree Place)))
-  meta_field_on n t m = option_map by_definition (meta_field_of (is_composite_kind t.kind) (is_query_root n) m)
+  meta_field_on n t m = option_map by_definition (meta_field_of (is_composite_kind t.kind) (is_composite_kind t.kind && is_query_root n) m)
 
   abbrev pub meta_field : List ℕ → List ℕ → Option (Given Place (Placed Place (FieldDefinitionTree Place)))
   meta_field n m = option_and_then (λ t. meta_field_on n t m) (type_at s n)

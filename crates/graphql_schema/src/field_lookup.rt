@@ -25,7 +25,7 @@ pub enum FieldLookupError<'schema> {
 impl Schema {
     /// The field of that name of the type of that name: the one that its definition or an extension gives, or else the
     /// meta-field, which is `__typename` of an object, an interface or a union, and `__schema` and `__type` of the root of
-    /// queries (sections 2.5, 4.1 and 4.2).
+    /// queries, if that is one of these (sections 2.5, 4.1 and 4.2).
     pub fn type_field(
         &self,
         type_name: &Name,
@@ -52,11 +52,14 @@ impl Schema {
     ) -> Option<&'schema Component<FieldDefinition>>
         ensures { option_map (λ f. component_tree field_definition_tree f.now) result ≡ field_on (schema_tree self.now) type_name.now.text (extended_type ty.now) name.now.text }
     {
+        let composite = is_composite(ty);
         match field_of(ty, name) {
             Some(field) => Some(field),
-            None => self
-                .meta_fields
-                .get(is_composite(ty), self.is_query_root(type_name), name),
+            None => self.meta_fields.get(
+                composite,
+                composite && self.is_query_root(type_name),
+                name,
+            ),
         }
     }
 

@@ -13,4 +13,6 @@ mod documents;
 #[cfg(test)]
 mod hold;
 #[cfg(test)]
+mod schemas;
+#[cfg(test)]
 mod values;

@@ -1,0 +1,12 @@
+-- Selections (GraphQL, October 2021, section 2.4) by themselves: as they stand in a set, without its braces.
+use Rattle.std.specs.Prelude.{ℕ, List, [], ◌∷◌}
+use Rattle.graphql_printing.specs.Joined.{joined}
+use Rattle.graphql_printing.specs.LineLayout.{Prefix, start_text, members_text}
+use Rattle.graphql_operations.specs.OperationLayout.{selection_text, selection_texts}
+use Rattle.graphql_values.specs.SelectionTree.{SelectionTrees, no_selections, selection_then}
+
+-- each on a line at the level, or a space between each two where all stands on one line
+abbrev pub selections_text : {P : Type 0} → Prefix → SelectionTrees P → ℕ → List ℕ
+selections_text prefix no_selections level = joined []
+selections_text prefix (selection_then t ts) level =
+    joined (start_text prefix level ∷ selection_text prefix t level ∷ members_text prefix level (selection_texts prefix ts) ∷ [])

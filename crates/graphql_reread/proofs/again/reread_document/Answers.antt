@@ -1,0 +1,20 @@
+use Rattle.std.proofs.Common.{◌∙◌}
+use Rattle.std.specs.Option.{option_copied}
+use Rattle.graphql_ast.specs.DefinitionTree.{document_tree, unplaced_document}
+use Rattle.graphql_grammar.specs.Grammar.{Derives}
+use Rattle.graphql_parse_values.specs.Meanings.{in_file}
+use Rattle.graphql_reread.specs.ReadsAgain.{laid_out}
+use Rattle.graphql_reread.proofs.SameTree.{same_of, within_of, document_reads}
+use Rattle.graphql_reread.proofs.again.reread_document.Goals as goal
+
+pub returns-clause-same : goal.returns-clause-same
+returns-clause-same c = λ ready.
+    same_of (Derives (in_file c.args.file)) unplaced_document document_tree c.args.nesting (laid_out c.args.layout) (unplaced_document (document_tree c.args.layout.tree.now))
+    (document_reads c.args.file (option_copied c.args.layout.prefix) c.args.layout.level c.args.layout.tree.now.definitions.items ready.0 ready.1)
+    c.deref.result.now (c.deref.ensures ∙ c.in_ok-text.ensures) c.parse_document.result c.parse_document.ensures.found c.parse_document.ensures.fault
+
+pub returns-clause-within : goal.returns-clause-within
+returns-clause-within c = λ ready.
+    within_of (Derives (in_file c.args.file)) unplaced_document document_tree c.args.nesting (laid_out c.args.layout) (unplaced_document (document_tree c.args.layout.tree.now))
+    (document_reads c.args.file (option_copied c.args.layout.prefix) c.args.layout.level c.args.layout.tree.now.definitions.items ready.0 ready.1)
+    c.deref.result.now (c.deref.ensures ∙ c.in_ok-text.ensures) c.parse_document.result c.parse_document.ensures.only

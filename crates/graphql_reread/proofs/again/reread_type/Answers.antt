@@ -1,0 +1,19 @@
+use Rattle.std.proofs.Common.{◌∙◌}
+use Rattle.graphql_literals.specs.ValueLayout.{type_text}
+use Rattle.graphql_literals.specs.TypeTree.{type_tree, unplaced_type}
+use Rattle.graphql_grammar.specs.Grammar.{DerivesType}
+use Rattle.graphql_parse_values.specs.Meanings.{in_file}
+use Rattle.graphql_reread.proofs.SameTree.{same_of, within_of, type_reads, standing_on_one_line}
+use Rattle.graphql_reread.proofs.again.reread_type.Goals as goal
+
+pub returns-clause-same : goal.returns-clause-same
+returns-clause-same c =
+    same_of (DerivesType (in_file c.args.file)) unplaced_type type_tree c.args.nesting (type_text (type_tree c.args.ty.now)) (unplaced_type (type_tree c.args.ty.now))
+    (type_reads c.args.file c.args.ty.now)
+    c.deref.result.now (c.deref.ensures ∙ c.in_ok-text.ensures ∙ standing_on_one_line 0 (type_text (type_tree c.args.ty.now))) c.parse_type.result c.parse_type.ensures.found c.parse_type.ensures.fault
+
+pub returns-clause-within : goal.returns-clause-within
+returns-clause-within c =
+    within_of (DerivesType (in_file c.args.file)) unplaced_type type_tree c.args.nesting (type_text (type_tree c.args.ty.now)) (unplaced_type (type_tree c.args.ty.now))
+    (type_reads c.args.file c.args.ty.now)
+    c.deref.result.now (c.deref.ensures ∙ c.in_ok-text.ensures ∙ standing_on_one_line 0 (type_text (type_tree c.args.ty.now))) c.parse_type.result c.parse_type.ensures.only

@@ -1,0 +1,39 @@
+-- What is printed is read again as it was.
+use Rattle.std.specs.Prelude.{◌≡◌, ℕ, ◌≤◌, true, List, Result, Ok, Err}
+use Rattle.std.specs.Option.{option_copied}
+use Rattle.graphql_printing.specs.Serialized.{serialized}
+use Rattle.graphql_printing.specs.declared.serialize.Serialize.{Serialize}
+use Rattle.graphql_lexer.specs.Input.{Token}
+use Rattle.graphql_lexer.specs.Lex.{Lex}
+use Rattle.graphql_ast.specs.DefinitionTree.{document_tree}
+use Rattle.graphql_ast.specs.DocumentLayout.{document_text}
+use Rattle.graphql_ast.specs.Writable.{document_writable}
+use Rattle.graphql_ast.specs.in_definitions.declared.document.Document.{Document}
+use Rattle.graphql_grammar.specs.Depth.{depth}
+use Rattle.graphql_grammar.specs.Faults.{IsTooDeep}
+use Rattle.graphql_read.specs.declared.fault.ReadFault.{ReadFault}
+use Rattle.graphql_read.specs.declared.fault.ReadFault.TheVariants.{Syntax, Nesting, Memory}
+use Rattle.graphql_printed.specs.WellFormed.{is_white_prefix}
+
+-- A limit kept the text from being read: memory ran out, or the first of its brackets that goes above the limit opens there.
+abbrev pub IsLimit : ℕ → List ℕ → ReadFault → Type 0
+IsLimit nesting text Memory = Unit {0}
+IsLimit nesting text (Nesting offset) = (tokens : List Token) × Lex text tokens × IsTooDeep tokens nesting offset
+IsLimit nesting text (Syntax fault) = ⊥
+
+-- The answer is the same as what was printed, or a limit kept the text from being read.
+abbrev pub IsSameUnlessLimit : {X B : Type 0} → (X → B) → B → ℕ → List ℕ → Result X ReadFault → Type 0
+IsSameUnlessLimit view printed nesting text (Ok x) = view x ≡ printed
+IsSameUnlessLimit view printed nesting text (Err fault) = IsLimit nesting text fault
+
+-- The brackets of the text's tokens nest within the limit.
+abbrev pub NestsWithin : ℕ → List ℕ → Type 0
+NestsWithin nesting text = (tokens : List Token) × Lex text tokens × (depth tokens ≤ nesting)
+
+-- the text of a document under its layout
+abbrev pub laid_out : Serialize Document → List ℕ
+laid_out s = serialized (λ d prefix level. document_text prefix level (document_tree d)) s
+
+-- Spaces and tabs alone begin its lines, or all stands on one line; and the grammar can write the document.
+abbrev pub CanBeReread : Serialize Document → Type 0
+CanBeReread s = (is_white_prefix (option_copied s.prefix) ≡ true) × (document_writable (document_tree s.tree.now) ≡ true)
