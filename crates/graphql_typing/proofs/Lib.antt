@@ -9,3 +9,4 @@ pub mod KnownNames
 pub mod Turns
 pub mod DocumentFailures
 pub mod FullLists
+pub mod FieldsFound

@@ -2,11 +2,13 @@
 use Rattle.std.proofs.Common.{◌≡◌, ℕ, List, [], ◌∷◌, map, refl, codes, Option, None, Some}
 use Rattle.graphql_literals.specs.TypeTree.{NamedTree, ListTree}
 use Rattle.graphql_operations.specs.declared.operation.OperationType.TheVariants.{Query, Mutation}
+use Rattle.graphql_type_members.specs.TypeSystemTree.{unplaced_field_definition}
 use Rattle.graphql_ast.specs.DefinitionTree.{DefinitionTree}
+use Rattle.graphql_built_in.specs.MetaFields.{typename_field}
 use Rattle.graphql_schema_types.specs.Looks.{Looks}
 use Rattle.graphql_schema_types.specs.declared.type_kind.TypeKind.TheVariants as kind
 use Rattle.graphql_typing.specs.MeantTree.{MeantField, MeantInline, set_on}
-use Rattle.graphql_typing.specs.Meanings.{Meanings, meanings_in, meanings_without_schema, bare, plain_field, typename_field, schema_field}
+use Rattle.graphql_typing.specs.Meanings.{Meanings, meanings_in, meanings_without_schema, bare, plain_field}
 use Rattle.graphql_typing.specs.KeptSelections.{kept_all}
 use Rattle.graphql_typing.specs.KeptDocument.{kept_document}
 use Rattle.graphql_typing.specs.TypingFaults.{At, UndefinedField, SubselectionOnScalarType, SubselectionOnEnumType, UndefinedTypeInInlineFragmentTypeCondition}
@@ -32,7 +34,7 @@ missing-faults : set_faults sample (set_of (field 2 (codes "missing") [] ∷ [])
 missing-faults = refl
 
 -- { __typename }: its type is String!
-typename-kept : kept_all sample (set_of (field 2 (codes "__typename") [] ∷ [])) (codes "Query") ≡ MeantField 2 typename_field (head 2 (codes "__typename")) (set_on (codes "String") []) ∷ []
+typename-kept : kept_all sample (set_of (field 2 (codes "__typename") [] ∷ [])) (codes "Query") ≡ MeantField 2 (unplaced_field_definition typename_field.it) (head 2 (codes "__typename")) (set_on (codes "String") []) ∷ []
 typename-kept = refl
 
 -- a union has `__typename` alone, whatever its members have; an object may stand without a set

@@ -1,9 +1,8 @@
 -- What typing reads of a schema: the roots, which types there are, and the fields that can be selected on each (GraphQL, October 2021, sections 3.3.1, 4.1, 4.2 and 5.3.1). Of equal schemas it is the same.
-use Rattle.std.specs.Prelude.{ℕ, Bool, true, false, ◌&&◌, ◌||◌, List, [], ◌∷◌, codes, Option, None, Some, is_some, if◌then◌else◌}
+use Rattle.std.specs.Prelude.{ℕ, Bool, true, false, List, [], codes, Option, None, Some, is_some}
 use Rattle.std.specs.Option.{option_map_or}
-use Rattle.std.specs.Str.{bytes_eq}
 use Rattle.graphql_names.specs.Placed.{Text}
-use Rattle.graphql_literals.specs.TypeTree.{TypeTree, NamedTree, NonNullNamedTree}
+use Rattle.graphql_literals.specs.TypeTree.{TypeTree, NamedTree}
 use Rattle.graphql_literals.specs.TypeQueries.{inner_name}
 use Rattle.graphql_directives.specs.DirectiveTree.{InputValues}
 use Rattle.graphql_operations.specs.OperationQueries.{default_root_name}
@@ -11,9 +10,10 @@ use Rattle.graphql_operations.specs.declared.operation.OperationType.{OperationT
 use Rattle.graphql_operations.specs.declared.operation.OperationType.TheVariants.{Query, Mutation, Subscription}
 use Rattle.graphql_schema_types.specs.SchemaTree.{same_kind}
 use Rattle.graphql_schema_types.specs.Plain.{PlainSchema}
-use Rattle.graphql_schema_types.specs.Looks.{Looks, TypeLooks, looks}
+use Rattle.graphql_schema_types.specs.Looks.{Looks, looks}
 use Rattle.graphql_schema_types.specs.declared.type_kind.TypeKind.{TypeKind}
 use Rattle.graphql_schema_types.specs.declared.type_kind.TypeKind.TheVariants as kind
+use Rattle.graphql_schema.specs.FieldLooks.{field_named}
 use Rattle.graphql_typing.specs.MeantTree.{Definition}
 
 pub record Meanings : Type 0 where
@@ -39,37 +39,6 @@ plain_field n arguments ty = record { description = None; name = bare n; argumen
 abbrev pub inner_type : Definition → List ℕ
 inner_type d = (inner_name d.ty).it
 
--- ---- meta-fields
-
--- __typename: String! (section 4.1)
-abbrev pub typename_field : Definition
-typename_field = plain_field (codes "__typename") [] (NonNullNamedTree (bare (codes "String")))
-
--- __schema: __Schema! (section 4.2)
-abbrev pub schema_field : Definition
-schema_field = plain_field (codes "__schema") [] (NonNullNamedTree (bare (codes "__Schema")))
-
--- name: String!
-abbrev pub name_argument : InputValues (Unit {0})
-name_argument = record { it = record { description = None; name = bare (codes "name"); ty = record { it = NonNullNamedTree (bare (codes "String")); place = tt }; default_value = None; directives = [] }; place = tt } ∷ []
-
--- __type(name: String!): __Type (section 4.2)
-abbrev pub type_field : Definition
-type_field = plain_field (codes "__type") name_argument (NamedTree (bare (codes "__Type")))
-
--- objects, interfaces and unions: they have a set of fields to select
-abbrev pub is_composite : TypeKind → Bool
-is_composite k = same_kind k kind.Object || same_kind k kind.Interface || same_kind k kind.Union
-
--- `__schema` and `__type`
-abbrev pub schema_meta_field : List ℕ → Option Definition
-schema_meta_field m = if bytes_eq m (codes "__schema") then Some schema_field else if bytes_eq m (codes "__type") then Some type_field else None
-
--- the meta-field of that name on a composite type, which is the query root or is not
-abbrev pub meta_field : Bool → List ℕ → Option Definition
-meta_field is_query_root m =
-    if bytes_eq m (codes "__typename") then Some typename_field else if is_query_root then schema_meta_field m else None
-
 -- ---- under a schema
 
 module _ (s : Looks) where
@@ -81,26 +50,23 @@ module _ (s : Looks) where
   abbrev pub is_of_kind : TypeKind → List ℕ → Bool
   is_of_kind k n = option_map_or (λ t. same_kind t.kind k) (s.type_named n) false
 
-  abbrev pub is_query_root : List ℕ → Bool
-  is_query_root n = option_map_or (λ q. bytes_eq q n) s.definition.query false
-
-  -- the field of that name on this type, which stands under the name n: the one that the type defines comes first
-  abbrev pub field_on : List ℕ → TypeLooks → List ℕ → Option Definition
-  field_on n t m = option_map_or (λ d. Some d) (t.field m) (if is_composite t.kind then meta_field (is_query_root n) m else None)
-
   abbrev pub meanings_in : Meanings
   meanings_in = record {
     root = root_named;
     has_type = λ n. is_some (s.type_named n);
     is_scalar = is_of_kind kind.Scalar;
     is_enum = is_of_kind kind.Enum;
-    field = λ n m. option_map_or (λ t. field_on n t m) (s.type_named n) None;
+    field = field_named s;
   }
 
 abbrev pub meanings : PlainSchema → Meanings
 meanings s = meanings_in (looks s)
 
 -- ---- without a schema
+
+-- a field of that name: it has no arguments, and its type is `UNKNOWN`
+abbrev pub unknown_definition : List ℕ → Definition
+unknown_definition m = plain_field m [] (NamedTree (bare (codes "UNKNOWN")))
 
 -- each root has its default name, each type condition a type, and each field a definition
 abbrev pub meanings_without_schema : Meanings
@@ -109,7 +75,7 @@ meanings_without_schema = record {
   has_type = λ n. true;
   is_scalar = λ n. false;
   is_enum = λ n. false;
-  field = λ n m. Some (plain_field m [] (NamedTree (bare (codes "UNKNOWN"))));
+  field = λ n m. Some (unknown_definition m);
 }
 
 -- of a schema, if there is one

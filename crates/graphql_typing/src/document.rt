@@ -24,7 +24,7 @@ use crate::keep::{keep_fragment, keep_operation, set_on};
 use crate::look_ups::{has_type, root_of};
 use crate::selections::type_selections;
 use graphql_ast::{Definition, FragmentDefinition, Name, Node, OperationDefinition, SourceSpan};
-use graphql_schema_stub::Schema;
+use graphql_schema::Schema;
 use graphql_typed_operations::{Fragment, FragmentMap, Operation, OperationMap};
 use indexmap::IndexMap;
 use std::alloc::{AllocError, Global};

@@ -2,7 +2,7 @@
 ghost use Rattle.std.specs.Prelude.{◌≡◌, ◌↔◌, [], IfOk, Contains};
 ghost use Rattle.graphql_operations.specs.SelectionTree.{selection_tree, selection_trees};
 ghost use Rattle.graphql_schema_types.specs.Plain.{plain};
-ghost use Rattle.graphql_schema_stub.specs.SchemaOf.{schema_tree};
+ghost use Rattle.graphql_schema.specs.SchemaOf.{schema_tree};
 ghost use Rattle.graphql_typed_selections.specs.TypedTree.{typed_set_tree};
 ghost use Rattle.graphql_typing.specs.MeantTree.{meant_of_set, set_on};
 ghost use Rattle.graphql_typing.specs.Meanings.{meanings};
@@ -15,7 +15,7 @@ use crate::build_error::BuildError;
 use crate::keep::set_on;
 use crate::selections::type_selections;
 use graphql_ast::{Name, Selection, SourceSpan};
-use graphql_schema_stub::Schema;
+use graphql_schema::Schema;
 use graphql_typed_operations::FieldSet;
 use indexmap::IndexMap;
 use std::alloc::{AllocError, Global};

@@ -6,15 +6,15 @@ ghost use Rattle.graphql_names.specs.Node.{content};
 ghost use Rattle.graphql_type_members.specs.TypeSystemTree.{field_definition_tree, unplaced_field_definition};
 ghost use Rattle.graphql_schema_types.specs.Plain.{plain, plain_type};
 ghost use Rattle.graphql_schema_types.specs.TypeView.{extended_type};
-ghost use Rattle.graphql_schema_stub.specs.SchemaOf.{schema_tree};
+ghost use Rattle.graphql_schema.specs.SchemaOf.{schema_tree};
 ghost use Rattle.graphql_operations.specs.OperationQueries.{default_root_name};
-ghost use Rattle.graphql_typing.specs.Meanings.{inner_type, meanings};
+ghost use Rattle.graphql_typing.specs.Meanings.{inner_type, unknown_definition, meanings};
 ghost use Rattle.graphql_typing.specs.DefinedField.{definition_view};
 ghost use Rattle.graphql_typing.specs.MeaningView.{meanings_under};
 
-use graphql_ast::{FieldDefinition, Name, Node, OperationType};
-use graphql_schema_stub::Schema;
-use graphql_schema_stub::graphql_schema_types::ExtendedType;
+use graphql_ast::{DirectiveList, FieldDefinition, Name, Node, OperationType, Type};
+use graphql_schema::Schema;
+use graphql_schema::graphql_schema_types::ExtendedType;
 use std::alloc::{AllocError, Global};
 
 /// The type of that name, if there is one.
@@ -60,16 +60,51 @@ pub(crate) fn is_enum(schema: Option<&Schema>, name: &Name) -> bool
     }
 }
 
-/// The definition of the field of that name on the type of that name, if there is one.
+/// The definition of the field of that name on the type of that name in a schema, if there is one.
+fn field_in<'schema>(
+    schema: &'schema Schema,
+    type_name: &Name,
+    field_name: &Name,
+) -> Option<&'schema Node<FieldDefinition>>
+    ensures { option_map (λ n. definition_view n.now) result ≡ (meanings (plain (schema_tree schema.now))).field type_name.now.text field_name.now.text }
+{
+    match schema.type_field(type_name, field_name) {
+        Ok(field) => Some(&field.node),
+        Err(_) => None,
+    }
+}
+
+/// The definition of a field of that name without a schema: its type is `UNKNOWN`.
+fn unknown_field(alloc: Global, name: &Name) -> Result<Node<FieldDefinition>, AllocError>
+    ensures { IfOk result (λ n. definition_view n ≡ unknown_definition name.now.text) }
+{
+    let definition = FieldDefinition {
+        description: None,
+        name: name.clone()?,
+        arguments: Vec::new(alloc),
+        ty: Type::Named(Name::new_static_unchecked("UNKNOWN")),
+        directives: DirectiveList::new(alloc),
+    };
+    Ok(Node::new(alloc, definition)?)
+}
+
+/// The definition of the field of that name on the type of that name, if there is one. It is shared with the schema;
+/// without a schema each field has one.
 pub(crate) fn definition_of(
     alloc: Global,
     schema: Option<&Schema>,
     type_name: &Name,
     field_name: &Name,
 ) -> Result<Option<Node<FieldDefinition>>, AllocError>
-    ensures { IfOk result (λ r. option_map (λ n. unplaced_field_definition (field_definition_tree (content n))) r ≡ (meanings_under schema.entry).field type_name.now.text field_name.now.text) }
+    ensures { IfOk result (λ r. option_map definition_view r ≡ (meanings_under schema.entry).field type_name.now.text field_name.now.text) }
 {
-    Ok(None)
+    let Some(schema) = schema else {
+        return Ok(Some(unknown_field(alloc, field_name)?));
+    };
+    match field_in(schema, type_name, field_name) {
+        None => Ok(None),
+        Some(definition) => Ok(Some(definition.clone()?)),
+    }
 }
 
 /// The name inside the type of a field.

@@ -12,7 +12,7 @@ ghost use Rattle.graphql_typing.specs.MeaningView.{meanings_under};
 use crate::build_error::BuildError;
 use crate::look_ups::{is_enum, is_scalar};
 use graphql_ast::{Name, Selection, SourceSpan};
-use graphql_schema_stub::Schema;
+use graphql_schema::Schema;
 use std::alloc::AllocError;
 
 /// Tells a fault at a place.

@@ -21,7 +21,7 @@ use crate::rules::{
     undefined_type_in_inline_fragment_type_condition,
 };
 use graphql_ast::{Field, FieldDefinition, InlineFragment, Name, Node, Selection, SourceSpan};
-use graphql_schema_stub::Schema;
+use graphql_schema::Schema;
 use graphql_typed_selections as typed;
 use std::alloc::{AllocError, Global};
 
