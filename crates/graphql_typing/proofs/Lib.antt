@@ -1,0 +1,12 @@
+pub mod Samples
+pub mod TypingRows
+pub mod MeantSets
+pub mod SetFailures
+pub mod DefinedFields
+pub mod Roots
+pub mod KeptFirsts
+pub mod KnownNames
+pub mod Turns
+pub mod DocumentFailures
+pub mod FullLists
+pub mod FieldsFound

@@ -1,0 +1,12 @@
+use Rattle.std.proofs.Common.{◌≡◌, map, drop}
+use Rattle.std.specs.Prelude.{fold}
+use Rattle.graphql_ast.specs.DefinitionTree.{definition_tree}
+use Rattle.graphql_typing.specs.MeaningView.{meanings_under}
+use Rattle.graphql_typing.specs.Steps.{and_definition, typed_in}
+use Rattle.graphql_typing.specs.StepsView.{typed_view}
+use Rattle.graphql_typing.proofs.document.type_document.Given as goal
+
+abbrev pub invariant-loop-definition : goal.invariant-loop-definition
+invariant-loop-definition l =
+    fold (and_definition (meanings_under l.schema) l.beside) (typed_view l.typed) (map definition_tree (drop l.definition-index l.definitions))
+    ≡ typed_in (meanings_under l.schema) (map definition_tree l.definitions)

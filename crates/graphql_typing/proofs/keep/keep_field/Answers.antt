@@ -1,0 +1,24 @@
+use Rattle.std.proofs.Common.{◌≡◌, [], ◌∷◌, ◌++◌, map, ap, ◌∙◌}
+use Rattle.std.proofs.lemmas.List.{map-append}
+use Rattle.graphql_names.specs.Node.{content}
+use Rattle.graphql_operations.specs.SelectionParts.{field_head}
+use Rattle.graphql_typed_selections.specs.TypedTree.{typed_selection_tree}
+use Rattle.graphql_typed_selections.specs.TypedParts.{typed_head}
+use Rattle.graphql_typed_selections.specs.declared.selection.Field.{Field}
+use Rattle.graphql_typed_selections.specs.declared.selection.Selection.TheViews.{Field as Field'}
+use Rattle.graphql_typing.specs.MeantTree.{meant}
+use Rattle.graphql_typing.specs.MeaningView.{meant_selections}
+use Rattle.graphql_typing.proofs.MeantSets.{field-meant}
+use Rattle.graphql_typing.proofs.keep.keep_field.Goals as goal
+
+pub returns : goal.returns
+returns c =
+    let n = c.in_ok-same_location.field-0 in
+    let same = c.in_ok-same_location.ensures.content in
+    ap (map (λ s. meant (typed_selection_tree s))) c.in_ok-push.ensures.items
+    ∙ map-append (λ s. meant (typed_selection_tree s)) c.args.kept.now.items (Field' n ∷ [])
+    ∙ ap (λ x. meant_selections c.args.kept.now ++ x ∷ [])
+    (field-meant n _ _ _ _ c.in_ok-same_location.ensures.place
+    (ap (λ (f : Field). f.definition) same ∙ c.in_ok-typed.ensures.definition)
+    (ap typed_head same ∙ c.in_ok-typed.ensures.head ∙ ap field_head c.content.ensures)
+    (ap (λ (f : Field). f.selection_set) same ∙ c.in_ok-typed.ensures.selects))

@@ -1,0 +1,14 @@
+use Rattle.std.proofs.Common.{◌≡◌, ◌++◌, drop}
+use Rattle.graphql_operations.specs.SelectionTree.{selection_tree, selection_trees}
+use Rattle.graphql_typing.specs.KeptSelections.{kept_all}
+use Rattle.graphql_typing.specs.SetFaults.{set_faults}
+use Rattle.graphql_typing.specs.FaultView.{faults_of}
+use Rattle.graphql_typing.specs.MeaningView.{meanings_under, meant_selections}
+use Rattle.graphql_typing.proofs.selections.+typing.Given as goal
+
+abbrev pub invariant-type_selections-loop-selection : goal.invariant-type_selections-loop-selection
+invariant-type_selections-loop-selection l =
+    (meant_selections l.kept ++ kept_all (meanings_under l.schema) (selection_trees selection_tree (drop l.selection-index l.selections)) l.parent.text
+    ≡ kept_all (meanings_under l.schema) (selection_trees selection_tree l.selections) l.parent.text)
+    × (faults_of l.faults ++ set_faults (meanings_under l.schema) (selection_trees selection_tree (drop l.selection-index l.selections)) l.parent.text
+    ≡ faults_of l.fn.faults ++ set_faults (meanings_under l.schema) (selection_trees selection_tree l.selections) l.parent.text)

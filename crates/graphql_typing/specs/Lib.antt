@@ -1,0 +1,16 @@
+pub mod MeantTree
+pub mod Meanings
+pub mod KeptSelections
+pub mod KeptDocument
+pub mod TypingFaults
+pub mod FullList
+pub mod OutDoc
+pub mod Messages
+pub mod FaultView
+pub mod MeaningView
+pub mod SetFaults
+pub mod FilledTemplate
+pub mod DefinedField
+pub mod Steps
+pub mod DocumentView
+pub mod StepsView

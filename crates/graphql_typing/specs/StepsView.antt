@@ -1,0 +1,39 @@
+-- What contracts see of a document that is being typed (private: it leads to `Steps.antt`).
+use Rattle.std.specs.Prelude.{ℕ, List, map}
+use Rattle.std.specs.Option.{option_map}
+use Rattle.indexmap.specs.IndexMap.{IndexMap}
+use Rattle.graphql_names.specs.NameValue.{NameValue}
+use Rattle.graphql_names.specs.Placed.{Place, node_tree}
+use Rattle.graphql_names.specs.declared.node.Node.{Node}
+use Rattle.graphql_components.specs.Names.{Entries, entries_of}
+use Rattle.graphql_schema_types.specs.TypeView.{name_text}
+use Rattle.graphql_typed_operations.specs.TypedDocument.{typed_operation_tree, typed_fragment_tree}
+use Rattle.graphql_typed_operations.specs.declared.operation.Operation.{Operation}
+use Rattle.graphql_typed_operations.specs.declared.operation.Fragment.{Fragment}
+use Rattle.graphql_typing.specs.MeantTree.{MeantOperation, MeantFragment}
+use Rattle.graphql_typing.specs.Steps.{Typed}
+use Rattle.graphql_typing.specs.DocumentView.{meant_by_operation, meant_by_fragment}
+use Rattle.graphql_typing.specs.FaultView.{faults_of}
+use Rattle.graphql_typing.specs.declared.document.TypedDocument.{TypedDocument}
+
+abbrev pub operation_meaning : Node Operation → MeantOperation Place
+operation_meaning n = meant_by_operation (node_tree typed_operation_tree n)
+
+abbrev pub fragment_meaning : Node Fragment → MeantFragment Place
+fragment_meaning n = meant_by_fragment (node_tree typed_fragment_tree n)
+
+abbrev pub named_meanings : {S : Type 0} → IndexMap NameValue (Node Operation) S → Entries (MeantOperation Place)
+named_meanings m = entries_of name_text operation_meaning m
+
+abbrev pub fragment_meanings : {S : Type 0} → IndexMap NameValue (Node Fragment) S → Entries (MeantFragment Place)
+fragment_meanings m = entries_of name_text fragment_meaning m
+
+abbrev pub typed_view : TypedDocument → Typed Place
+typed_view t = record {
+  document = record {
+    anonymous = option_map operation_meaning t.operations.anonymous;
+    named = named_meanings t.operations.named;
+    fragments = fragment_meanings t.fragments;
+  };
+  faults = faults_of t.faults;
+}

@@ -1,0 +1,25 @@
+//! Typing of documents: what selections mean under a schema, or without one, and what has no meaning.
+//!
+//! For the layer above: what is kept of a document and of a set is that of `specs/KeptDocument.antt` and
+//! `specs/KeptSelections.antt`, over what a schema says of names alone (`specs/Meanings.antt`), so equal schemas give the
+//! same; the faults are the ways in which a rule of `specs/TypingFaults.antt` is broken, none left out
+//! (`specs/FullList.antt`).
+//!
+//! Begin with `specs/Meanings.antt` and `selections.rt`; `document.rt` has whole documents.
+#![tactic(auto)]
+
+mod build_error;
+mod build_error_text;
+mod definition_rules;
+mod document;
+mod field_set;
+mod keep;
+mod look_ups;
+mod rules;
+mod selections;
+
+pub use build_error::BuildError;
+pub use field_set::field_set_from_ast;
+
+// The crates beneath, for those above.
+pub use graphql_typed_operations;
