@@ -12,3 +12,5 @@ pub mod Cycles
 pub mod Values
 pub mod Uses
 pub mod Rules
+pub mod Kept
+pub mod Laws

@@ -46,6 +46,18 @@ module _ {P : Type 0} where
       ⊎ (((has_mark x.ty.it ≡ false) × (has_mark v.ty.it ≡ true))
       × (((is_some x.default_value ≡ true) ⊎ (is_some v.default_value ≡ true)) × AreTypesCompatible (unplaced_type x.ty.it) (nullable_type v.ty.it)))
 
+  -- the use of a directive as what takes arguments
+  abbrev pub directive_taker : Placed P (DirectiveTree P) → InputValues (Unit {0}) → Taker P
+  directive_taker d definitions = record {
+    place = d.place;
+    given = d.it.arguments;
+    holder = DirectiveDefinitionAt (directive_name d);
+    definitions = definitions;
+    definition_location = d.place;
+    coordinate = OfDirective (directive_name d);
+    argument_coordinate = OfDirectiveArgument (directive_name d);
+  }
+
 module _ {P E : Type 0} (at : Address → P) (s : Judged) (variables : Variables P) where
   -- ---- arguments
 
@@ -106,18 +118,6 @@ module _ {P E : Type 0} (at : Address → P) (s : Judged) (variables : Variables
   abbrev pub UniqueDirectiveAt : Directives P → FaultAt P E → Type 0
   UniqueDirectiveAt ds fault = Repeats directive_name ds (λ i first j later. Present (s.directive (directive_name later)) (λ defined.
       (defined.repeatable ≡ false) × (fault ≡ wrong later.place (UniqueDirective (directive_name later) first.place))))
-
-  -- the use of a directive as what takes arguments
-  abbrev pub directive_taker : Placed P (DirectiveTree P) → InputValues (Unit {0}) → Taker P
-  directive_taker d definitions = record {
-    place = d.place;
-    given = d.it.arguments;
-    holder = DirectiveDefinitionAt (directive_name d);
-    definitions = definitions;
-    definition_location = d.place;
-    coordinate = OfDirective (directive_name d);
-    argument_coordinate = OfDirectiveArgument (directive_name d);
-  }
 
   -- a rule on one use fails so
   abbrev pub UseBreaks : DirectiveLocation → Placed P (DirectiveTree P) → FaultAt P E → Type 0

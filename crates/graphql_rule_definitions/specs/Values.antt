@@ -82,30 +82,31 @@ module _ {P E : Type 0} (variables : Variables P) where
     UndefinedVariableInEntries no_entries fault = ⊥
     UndefinedVariableInEntries (entry_then n p v es) fault = UndefinedVariableIn p v fault ⊎ UndefinedVariableInEntries es fault
 
-module _ {P E : Type 0} (at : Address → P) (s : Judged) (variables : Variables P) where
-  -- ---- one value against the type it is given for, what is inside a list or an object aside
+-- ---- one value against the type it is given for, what is inside a list or an object aside
 
-  -- a scalar of any other name than the five takes every value; a built-in one is among these
-  abbrev pub IsScalarAmong : List (List ℕ) → List ℕ → TypeLooks → Type 0
-  IsScalarAmong names n t = IsCustomScalar s n t ⊎ (IsBuiltInScalar s n t × Contains names n)
+-- a custom scalar, or a built-in one of these names
+abbrev pub IsScalarAmong : Judged → List (List ℕ) → List ℕ → TypeLooks → Type 0
+IsScalarAmong s names n t = IsCustomScalar s n t ⊎ (IsBuiltInScalar s n t × Contains names n)
 
+module _ {P : Type 0} (s : Judged) (variables : Variables P) (ty : Wanted P) (t : TypeLooks) where
   -- the form of the value fits the type of which t stands inside all brackets
-  abbrev pub FitsForm : Wanted P → TypeLooks → ValueTree P → Type 0
-  FitsForm ty t NullTree = has_mark ty.it ≡ false
-  FitsForm ty t (VariableTree v) = (x : Placed P (VariableDefinitionTree P))
+  abbrev pub FitsForm : ValueTree P → Type 0
+  FitsForm NullTree = has_mark ty.it ≡ false
+  FitsForm (VariableTree v) = (x : Placed P (VariableDefinitionTree P))
       → find (λ d. bytes_eq (defined_name d) v.it) variables ≡ Some x → (inner_name x.it.ty.it).it ≡ wanted_name ty
-  FitsForm ty t (IntTree digits) = IsScalarAmong (codes "Int" ∷ codes "Float" ∷ codes "ID" ∷ []) (wanted_name ty) t
-  FitsForm ty t (FloatTree digits) = IsScalarAmong (codes "Float" ∷ []) (wanted_name ty) t
-  FitsForm ty t (StringTree text) = IsScalarAmong (codes "String" ∷ codes "ID" ∷ []) (wanted_name ty) t
-  FitsForm ty t (BooleanTree b) = IsScalarAmong (codes "Boolean" ∷ []) (wanted_name ty) t
-  FitsForm ty t (EnumTree n) = (t.kind ≡ kind.Enum) ⊎ IsCustomScalar s (wanted_name ty) t
-  FitsForm ty t (ListTree items) = (is_list_type ty.it ≡ true) ⊎ IsCustomScalar s (wanted_name ty) t
-  FitsForm ty t (ObjectTree es) = (t.kind ≡ kind.InputObject) ⊎ IsCustomScalar s (wanted_name ty) t
+  FitsForm (IntTree digits) = IsScalarAmong s (codes "Int" ∷ codes "Float" ∷ codes "ID" ∷ []) (wanted_name ty) t
+  FitsForm (FloatTree digits) = IsScalarAmong s (codes "Float" ∷ []) (wanted_name ty) t
+  FitsForm (StringTree text) = IsScalarAmong s (codes "String" ∷ codes "ID" ∷ []) (wanted_name ty) t
+  FitsForm (BooleanTree b) = IsScalarAmong s (codes "Boolean" ∷ []) (wanted_name ty) t
+  FitsForm (EnumTree n) = (t.kind ≡ kind.Enum) ⊎ IsCustomScalar s (wanted_name ty) t
+  FitsForm (ListTree items) = (is_list_type ty.it ≡ true) ⊎ IsCustomScalar s (wanted_name ty) t
+  FitsForm (ObjectTree es) = (t.kind ≡ kind.InputObject) ⊎ IsCustomScalar s (wanted_name ty) t
 
+module _ {P E : Type 0} (at : Address → P) (s : Judged) (variables : Variables P) where
   module _ (ty : Wanted P) (place : P) (v : ValueTree P) (fault : FaultAt P E) where
     -- UnsupportedValueType: the form of a value fits its type, if that type is there
     abbrev pub UnsupportedValueTypeAt : Type 0
-    UnsupportedValueTypeAt = Present (s.type_named (wanted_name ty)) (λ t. (FitsForm ty t v → ⊥)
+    UnsupportedValueTypeAt = Present (s.type_named (wanted_name ty)) (λ t. (FitsForm s variables ty t v → ⊥)
         × (fault ≡ wrong place (UnsupportedValueType (unplaced_value v) ty.it ty.place)))
 
     -- IntCoercionError: an integer for Int fits 32 bits (section 3.5.1)
@@ -139,7 +140,7 @@ module _ {P E : Type 0} (at : Address → P) (s : Judged) (variables : Variables
     -- a rule fails of the value, of an item of it against the type of items, or of what it gives a field against the field's type
     pub TypeBreaks : Wanted P → P → ValueTree P → FaultAt P E → Type 0
     TypeBreaks ty p (ListTree ts) fault = FormBreaks ty p (ListTree ts) fault
-        ⊎ (Present (s.type_named (wanted_name ty)) (λ t. FitsForm ty t (ListTree ts)) × TypeBreaksItems (wanted_item ty) ts fault)
+        ⊎ (Present (s.type_named (wanted_name ty)) (λ t. FitsForm s variables ty t (ListTree ts)) × TypeBreaksItems (wanted_item ty) ts fault)
     TypeBreaks ty p (ObjectTree es) fault = FormBreaks ty p (ObjectTree es) fault
         ⊎ Present (s.type_named (wanted_name ty)) (λ t. (t.kind ≡ kind.InputObject) × TypeBreaksEntries (wanted_name ty) t [] es fault)
     TypeBreaks ty p v fault = FormBreaks ty p v fault
@@ -159,6 +160,6 @@ module _ {P E : Type 0} (at : Address → P) (s : Judged) (variables : Variables
   abbrev pub ValueBreaks : Wanted P → P → ValueTree P → FaultAt P E → Type 0
   ValueBreaks ty p v fault = TypeBreaks ty p v fault ⊎ UndefinedVariableIn variables p v fault
 
-  -- the type accepts the value: no rule on values fails (section 5.6.1)
-  abbrev pub Accepts : Wanted P → P → ValueTree P → Type 0
-  Accepts ty p v = (fault : FaultAt P E) → ValueBreaks ty p v fault → ⊥
+-- the type accepts the value: no rule on values fails (section 5.6.1)
+abbrev pub Accepts : {P : Type 0} → (Address → P) → Judged → Variables P → Wanted P → P → ValueTree P → Type 0
+Accepts {P} at s variables ty p v = (fault : FaultAt P Address) → ValueBreaks at s variables ty p v fault → ⊥
