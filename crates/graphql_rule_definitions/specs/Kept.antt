@@ -1,6 +1,6 @@
 -- Kept: a schema without each built-in scalar that is the inner type of no field, argument or input field, introspection types
 -- counted (GraphQL, October 2021, section 3.5).
-use Rattle.std.specs.Prelude.{◌≡◌, ℕ, Bool, ◌&&◌, ◌||◌, not, false, List, filter, bytes_eq, None, ◌⊎◌}
+use Rattle.std.specs.Prelude.{◌≡◌, ℕ, Bool, ◌&&◌, ◌||◌, not, false, List, [], ◌++◌, map, filter, bytes_eq, is_none, None, ◌⊎◌}
 use Rattle.std.specs.List.{list_any}
 use Rattle.graphql_names.specs.Placed.{Placed, Place}
 use Rattle.graphql_names.specs.Places.{is_built_in}
@@ -8,12 +8,13 @@ use Rattle.graphql_literals.specs.TypeTree.{TypeTree}
 use Rattle.graphql_literals.specs.TypeQueries.{inner_name}
 use Rattle.graphql_directives.specs.DirectiveTree.{InputValues}
 use Rattle.graphql_type_members.specs.TypeSystemTree.{FieldDefinitionTree}
+use Rattle.graphql_folding.specs.BuiltIn.{built_in, name}
 use Rattle.graphql_schema_types.specs.SchemaTree.{SchemaType, SchemaTree, same_kind}
-use Rattle.graphql_schema_types.specs.Addresses.{Address, TypeAt}
+use Rattle.graphql_schema_types.specs.Addresses.{type_at}
 use Rattle.graphql_schema_types.specs.declared.type_kind.TypeKind.TheVariants as kind
 use Rattle.graphql_rule_definitions.specs.Words.{Present}
 use Rattle.graphql_rule_definitions.specs.Judged.{Judged, AtField, AtInputValue, IsBuiltInScalar}
-use Rattle.graphql_rule_definitions.specs.TypesUsed.{named_in}
+use Rattle.graphql_rule_definitions.specs.TypesUsed.{named_in, scalar_names}
 
 -- ---- on entries
 
@@ -40,6 +41,17 @@ is_dropped s e = same_kind e.1.kind kind.Scalar && is_built_in e.1.place && not 
 
 abbrev pub kept : SchemaTree Place → SchemaTree Place
 kept s = record s { types = filter (λ e. not (is_dropped s e)) s.types }
+
+-- a scalar of the table of what is built in, as a schema has it
+abbrev pub built_in_scalar : List ℕ → List ℕ × SchemaType Place
+built_in_scalar n = (n, record { kind = kind.Scalar; place = built_in; description = None; name = name n; directives = []; interfaces = []; fields = []; members = []; values = []; inputs = [] })
+
+abbrev pub is_missing : SchemaTree Place → List ℕ → Bool
+is_missing s n = is_none (type_at s n) && is_referenced n s
+
+-- what is kept, and behind it each built-in scalar that something refers to and that is not there
+abbrev pub validated : SchemaTree Place → SchemaTree Place
+validated s = record (kept s) { types = (kept s).types ++ map built_in_scalar (filter (is_missing s) scalar_names) }
 
 -- ---- the same on what rules read
 

@@ -12,7 +12,7 @@ use Rattle.graphql_schema_types.specs.Addresses.{Address, SchemaAt, TypeAt, Fiel
 use Rattle.graphql_schema_types.specs.declared.type_kind.TypeKind.{TypeKind}
 use Rattle.graphql_schema_types.specs.declared.type_kind.TypeKind.TheVariants as kind
 use Rattle.graphql_rule_definitions.specs.Diagnostics.{map_places}
-use Rattle.graphql_rule_definitions.specs.Spots.{Spot, At, directives_at, spot_place, StandsAt}
+use Rattle.graphql_rule_definitions.specs.Spots.{Spot, At, spotted_directives, spot_place, StandsAt}
 use Rattle.graphql_rule_definitions.specs.Faults.{FaultAt, SchemaFault}
 use Rattle.graphql_rule_definitions.specs.Judged.{Judged, judged, bare, IsBuiltInScalar, AtType, AtField, AtValue, AtInputField, AtArgument}
 use Rattle.graphql_rule_definitions.specs.Roots.{QueryRootOperationTypeAt, UndefinedRootAt, RootOperationObjectTypeAt, DuplicateRootOperationTypeAt}
@@ -45,7 +45,7 @@ module _ (s : Judged) where
 
   -- a rule on the use of a directive fails so: there are no variables
   abbrev pub SchemaUsesBreak : SchemaFault → Type 0
-  SchemaUsesBreak fault = AtDirectives (λ holder place ds. UsesBreak At s [] place (directives_at holder ds) fault)
+  SchemaUsesBreak fault = AtDirectives (λ holder place ds. UsesBreak At s [] place (spotted_directives holder ds) fault)
 
   -- a rule on roots, names or the types that are named fails so
   abbrev pub ReferencesBreak : SchemaFault → Type 0

@@ -24,45 +24,45 @@ abbrev pub each_from : {X Y : Type 0} → (ℕ → X → Y) → ℕ → List X �
 each_from f i [] = []
 each_from f i (x ∷ xs) = f i x ∷ each_from f (suc i) xs
 
-abbrev pub text_at : Spot → Text (Unit {0}) → Text Spot
-text_at at t = record { it = t.it; place = at }
+abbrev pub spotted_text : Spot → Text (Unit {0}) → Text Spot
+spotted_text at t = record { it = t.it; place = at }
 
 abbrev mutual
-  pub value_at : Spot → ValueTree (Unit {0}) → ValueTree Spot
-  value_at at NullTree = NullTree
-  value_at at (EnumTree n) = EnumTree (text_at at n)
-  value_at at (VariableTree n) = VariableTree (text_at at n)
-  value_at at (StringTree s) = StringTree s
-  value_at at (FloatTree s) = FloatTree s
-  value_at at (IntTree s) = IntTree s
-  value_at at (BooleanTree b) = BooleanTree b
-  value_at at (ListTree ts) = ListTree (items_at at 0 ts)
-  value_at at (ObjectTree ts) = ObjectTree (entries_at at 0 ts)
+  pub spotted_value : Spot → ValueTree (Unit {0}) → ValueTree Spot
+  spotted_value at NullTree = NullTree
+  spotted_value at (EnumTree n) = EnumTree (spotted_text at n)
+  spotted_value at (VariableTree n) = VariableTree (spotted_text at n)
+  spotted_value at (StringTree s) = StringTree s
+  spotted_value at (FloatTree s) = FloatTree s
+  spotted_value at (IntTree s) = IntTree s
+  spotted_value at (BooleanTree b) = BooleanTree b
+  spotted_value at (ListTree ts) = ListTree (spotted_items at 0 ts)
+  spotted_value at (ObjectTree ts) = ObjectTree (spotted_entries at 0 ts)
 
-  pub items_at : Spot → ℕ → ItemTrees (Unit {0}) → ItemTrees Spot
-  items_at at i no_items = no_items
-  items_at at i (item_then p t ts) = item_then (ItemAt at i) (value_at (ItemAt at i) t) (items_at at (suc i) ts)
+  pub spotted_items : Spot → ℕ → ItemTrees (Unit {0}) → ItemTrees Spot
+  spotted_items at i no_items = no_items
+  spotted_items at i (item_then p t ts) = item_then (ItemAt at i) (spotted_value (ItemAt at i) t) (spotted_items at (suc i) ts)
 
-  pub entries_at : Spot → ℕ → EntryTrees (Unit {0}) → EntryTrees Spot
-  entries_at at i no_entries = no_entries
-  entries_at at i (entry_then n p t ts) = entry_then (text_at (KeyAt at i) n) (EntryAt at i) (value_at (EntryAt at i) t) (entries_at at (suc i) ts)
+  pub spotted_entries : Spot → ℕ → EntryTrees (Unit {0}) → EntryTrees Spot
+  spotted_entries at i no_entries = no_entries
+  spotted_entries at i (entry_then n p t ts) = entry_then (spotted_text (KeyAt at i) n) (EntryAt at i) (spotted_value (EntryAt at i) t) (spotted_entries at (suc i) ts)
 
-abbrev pub argument_at : Address → Placed (Unit {0}) (ArgumentTree (Unit {0})) → Placed Spot (ArgumentTree Spot)
-argument_at at a = record {
-  it = record { name = text_at (At (NameAt at)) a.it.name; value = record { it = value_at (At (GivenValueAt at)) a.it.value.it; place = At (GivenValueAt at) } };
+abbrev pub spotted_argument : Address → Placed (Unit {0}) (ArgumentTree (Unit {0})) → Placed Spot (ArgumentTree Spot)
+spotted_argument at a = record {
+  it = record { name = spotted_text (At (NameAt at)) a.it.name; value = record { it = spotted_value (At (GivenValueAt at)) a.it.value.it; place = At (GivenValueAt at) } };
   place = At at;
 }
 
 -- a directive that is applied there
-abbrev pub directive_at : Address → DirectiveTree (Unit {0}) → Placed Spot (DirectiveTree Spot)
-directive_at at d = record {
-  it = record { name = text_at (At (NameAt at)) d.name; arguments = each_from (λ i a. argument_at (GivenAt at i) a) 0 d.arguments };
+abbrev pub spotted_directive : Address → DirectiveTree (Unit {0}) → Placed Spot (DirectiveTree Spot)
+spotted_directive at d = record {
+  it = record { name = spotted_text (At (NameAt at)) d.name; arguments = each_from (λ i a. spotted_argument (GivenAt at i) a) 0 d.arguments };
   place = At at;
 }
 
 -- the directives that are applied there
-abbrev pub directives_at : Address → List (DirectiveTree (Unit {0})) → Directives Spot
-directives_at holder ds = each_from (λ i d. directive_at (DirectiveAt holder i) d) 0 ds
+abbrev pub spotted_directives : Address → List (DirectiveTree (Unit {0})) → Directives Spot
+spotted_directives holder ds = each_from (λ i d. spotted_directive (DirectiveAt holder i) d) 0 ds
 
 -- ---- where a spot is written
 
