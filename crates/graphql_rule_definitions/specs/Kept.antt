@@ -1,7 +1,8 @@
 -- Kept: a schema without each built-in scalar that is the inner type of no field, argument or input field, introspection types
 -- counted (GraphQL, October 2021, section 3.5).
 use Rattle.std.specs.Prelude.{◌≡◌, ℕ, Bool, ◌&&◌, ◌||◌, not, false, List, [], ◌++◌, map, filter, bytes_eq, is_none, None, ◌⊎◌}
-use Rattle.std.specs.List.{list_any}
+use Rattle.std.specs.List.{list_any, IsDistinct, AllByRecursion}
+use Rattle.std.specs.Map.{keys_of}
 use Rattle.graphql_names.specs.Placed.{Placed, Place}
 use Rattle.graphql_names.specs.Places.{is_built_in}
 use Rattle.graphql_literals.specs.TypeTree.{TypeTree}
@@ -54,6 +55,12 @@ abbrev pub validated : SchemaTree Place → SchemaTree Place
 validated s = record (kept s) { types = (kept s).types ++ map built_in_scalar (filter (is_missing s) scalar_names) }
 
 -- ---- the same on what rules read
+
+-- no two directives, types, or fields of one type stand under one name
+pub record AreDistinct (s : SchemaTree Place) : Type 0 where
+  pub directives : IsDistinct bytes_eq (keys_of s.directives)
+  pub types : IsDistinct bytes_eq (keys_of s.types)
+  pub parts : AllByRecursion (λ e. IsDistinct bytes_eq (keys_of e.1.fields) × IsDistinct bytes_eq (keys_of e.1.inputs)) s.types
 
 module _ (s : Judged) where
   abbrev pub IsReferenced : List ℕ → Type 0
