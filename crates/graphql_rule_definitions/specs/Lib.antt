@@ -1,0 +1,16 @@
+pub mod Words
+pub mod Diagnostics
+pub mod Spots
+pub mod Faults
+pub mod Judged
+pub mod Roots
+pub mod ReservedNames
+pub mod TypesUsed
+pub mod Empty
+pub mod Interfaces
+pub mod Cycles
+pub mod Values
+pub mod Uses
+pub mod Rules
+pub mod Kept
+pub mod Laws

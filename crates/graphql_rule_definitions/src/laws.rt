@@ -1,0 +1,11 @@
+//! Laws of the rules, each the contract of a function that does nothing.
+
+ghost use Rattle.graphql_rule_definitions.specs.Laws.{ReadTheSame, SameBreaches, SameVerdict};
+
+/// Schemas that are equal, with the same built in, break the same rules at the same addresses, whatever the rules are:
+/// rules read the same of both.
+pub fn equal_schemas_same_breaches()
+    ensures read { ReadTheSame }
+    ensures breaches { SameBreaches }
+    ensures verdict { SameVerdict }
+{}
