@@ -115,9 +115,19 @@ inputs ty = schema_of (only i_name (input_type ty))
 -- leads back, by the field `a`
 leads_back : RecursiveInputObjectDefinitionAt (inputs (NonNullNamedTree (text i_name)))
     (wrong (At (TypeAt i_name)) (RecursiveInputObjectDefinition i_name (record { it = input_of a_name (NonNullNamedTree (text i_name)); place = At (InputAt i_name a_name) } ∷ [])))
-leads_back =
-    (i_name, (record { it = input_of a_name (NonNullNamedTree (text i_name)); place = At (InputAt i_name a_name) }, ([], (
-    (i_name, ((input_type (NonNullNamedTree (text i_name)), (refl, (refl, ((a_name, (input_of a_name (NonNullNamedTree (text i_name)), (refl, (refl, (text i_name, (refl, refl)))))), (input_type (NonNullNamedTree (text i_name)), (refl, refl)))))), refl)), refl))))
+leads_back = (
+  i_name,
+  (
+    record { it = input_of a_name (NonNullNamedTree (text i_name)); place = At (InputAt i_name a_name) },
+    (
+      [],
+      (
+        (i_name, ((input_type (NonNullNamedTree (text i_name)), (refl, (refl, ((a_name, (input_of a_name (NonNullNamedTree (text i_name)), (refl, (refl, (text i_name, (refl, refl)))))), (input_type (NonNullNamedTree (text i_name)), (refl, refl)))))), refl)),
+        refl,
+      ),
+    ),
+  ),
+)
 
 -- `Name!` has the mark, and is no list
 abbrev is_required_name : TypeTree (Unit {0}) → Bool

@@ -52,6 +52,7 @@ module _ {X Y : Type 0} (test : X → Bool) (f : X → Y) (P : Y → Type 0) (d 
       to : P (f x) ⊎ AtSomeIndex (map f xs) (λ i y. P y) → AtSomeIndex (map f (x ∷ xs)) (λ i y. P y)
       to (inl p) = (zero, (f x, (refl, p)))
       to (inr (i, (y, (e, p)))) = (suc i, (y, (e, p)))
+
       from : AtSomeIndex (map f (x ∷ xs)) (λ i y. P y) → P (f x) ⊎ AtSomeIndex (map f xs) (λ i y. P y)
       from (zero, (y, (e, p))) = inl (subst P (sym (same_Some _ _ e)) p)
       from (suc i, (y, (e, p))) = inr (i, (y, (e, p)))
@@ -80,9 +81,11 @@ module _ {A V : Type 0} (f : A → V) (test : A → Bool) (P : V → Type 0) whe
       later : (n : List ℕ) (v : V) (b : Bool) → eq_by_cmp by_bytes n x.0 ≡ b → found f es n ≡ Some v → found f (x ∷ es) n ≡ Some v
       later n v true t e = no_some v (sym (ap (found f es) (tied n x.0 t) ∙ absent f x.0 es u.0) ∙ e)
       later n v false t e = ap (λ b. cond b (Some (f x.1)) (found f es n)) t ∙ e
+
       to : P (f x.1) ⊎ Somewhere (found f es) (λ n v. P v) → Somewhere (found f (x ∷ es)) (λ n v. P v)
       to (inl p) = (x.0, (f x.1, (ap (λ b. cond b (Some (f x.1)) (found f es x.0)) (tied_itself x.0), p)))
       to (inr (n, (v, (e, p)))) = (n, (v, (later n v (eq_by_cmp by_bytes n x.0) refl e, p)))
+
       split : (n : List ℕ) (v : V) (b : Bool) → cond b (Some (f x.1)) (found f es n) ≡ Some v → P v → P (f x.1) ⊎ Somewhere (found f es) (λ n v. P v)
       split n v true e p = inl (subst P (sym (same_Some _ _ e)) p)
       split n v false e p = inr (n, (v, (e, p)))

@@ -76,11 +76,11 @@ module _ (s : Judged) (fault : SchemaFault) where
   InvalidImplementationFieldArgumentTypeAt = AtImplementation s (λ n i m wanted field. AtSomeIndex wanted.arguments (λ k w.
       FirstNamed (λ v. v.it.name.it) field.arguments w.it.name.it (λ j v. (w.it.ty.it ≢ v.it.ty.it)
       × (fault ≡ told (ArgumentAt (FieldAt n m) j) (InvalidImplementationFieldArgumentType n i m w.it.name.it w.it.ty.it v.it.ty.it
-          (ArgumentAt (FieldAt n m) j) (ArgumentAt (FieldAt i m) k))))))
+      (ArgumentAt (FieldAt n m) j) (ArgumentAt (FieldAt i m) k))))))
 
   -- ExtraRequiredImplementationFieldArgument: no further argument of the field is required
   abbrev pub ExtraRequiredImplementationFieldArgumentAt : Type 0
   ExtraRequiredImplementationFieldArgumentAt = AtImplementation s (λ n i m wanted field. AtSomeIndex field.arguments (λ j v.
       Lacks (λ w. w.it.name.it) wanted.arguments v.it.name.it × ((is_required_input v.it ≡ true)
       × (fault ≡ told (ArgumentAt (FieldAt n m) j) (ExtraRequiredImplementationFieldArgument n i m v.it.name.it
-          (ArgumentAt (FieldAt n m) j) (FieldAt i m))))))
+      (ArgumentAt (FieldAt n m) j) (FieldAt i m))))))

@@ -39,7 +39,7 @@ module _ (s : Judged) where
   abbrev pub IsCustomScalar : List ℕ → TypeLooks → Type 0
   IsCustomScalar n t = (t.kind ≡ kind.Scalar) × (s.built_in (TypeAt n) ≡ false)
 
--- ---- at some place of a schema
+  -- ---- at some place of a schema
 
   -- a type
   abbrev pub AtType : (List ℕ → TypeLooks → Type 0) → Type 0
