@@ -1,18 +1,20 @@
 //! Rows of texts that are read, and of trees that are printed.
 //!
-//! For the layer above: each function judges a row of one call, and counts its answers. Begin with `by_read.rt`.
+//! For the layer above: each function judges a row of one call, and counts its answers. Begin with `read.rt`.
 #![tactic(auto)]
 
-mod by_layouts;
-mod by_print;
-mod by_read;
+mod layouts;
+mod print;
+mod read;
 mod shown;
+mod taken;
 mod trees;
 
-pub use by_layouts::by_layouts;
-pub use by_print::{by_print, by_writable};
-pub use by_read::by_read;
+pub use layouts::by_layouts;
+pub use print::{by_print, by_writable};
+pub use read::by_read;
 pub use shown::{shown_answer, writable_answer};
+pub use taken::{Taker, taken_by};
 
 // The crates beneath, for those above.
 pub use graphql_read;

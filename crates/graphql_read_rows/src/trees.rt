@@ -1,6 +1,6 @@
 //! The trees that rows name, built without places.
 
-use crate::by_print::{Form, Named, by_tree};
+use crate::print::{Form, Named, by_tree};
 use graphql_read::graphql_ast::{
     Definition, Directive, DirectiveDefinition, DirectiveList, Document, FieldDefinition,
     FragmentDefinition, InputValueDefinition, Name, Node, NodeStr, ObjectTypeDefinition,

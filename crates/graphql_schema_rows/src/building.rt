@@ -1,8 +1,8 @@
 //! Builders with a row's settings and texts.
 
-use graphql_read_rows::graphql_read::graphql_ast::FileId;
-use graphql_read_rows::graphql_read::parse_document;
+use graphql_read_rows::graphql_read::graphql_ast::{Document, FileId};
 use graphql_read_rows::graphql_row_files::{Case, Problem, number, says, texts};
+use graphql_read_rows::{Taker, taken_by};
 use graphql_schema::{BuilderRefusal, Extensions, SchemaBuilder};
 use std::alloc::Global;
 
@@ -41,15 +41,16 @@ fn ignoring(builder: SchemaBuilder, is_so: bool) -> SchemaBuilder {
     }
 }
 
-/// Adds the row's schema texts, numbered from 1. Each must be read.
+/// Adds the row's schema texts, numbered from 1, which must be read: the status of a builder that refuses, or nothing.
 pub(crate) fn add_texts(
     alloc: Global,
     case: Case<'_>,
     builder: &mut SchemaBuilder,
-) -> Result<Option<BuilderRefusal>, Problem> {
+) -> Result<Option<&'static str>, Problem> {
+    let mut adding = Adding { builder };
     let mut file = 1;
     for text in &texts(alloc, case.row, "schema")? {
-        let refusal = add_text(alloc, case, text.as_slice(), FileId(file), builder)?;
+        let refusal = taken_by(alloc, case, text.as_slice(), FileId(file), &mut adding)?;
         if refusal.is_some() {
             return Ok(refusal);
         }
@@ -58,19 +59,25 @@ pub(crate) fn add_texts(
     Ok(None)
 }
 
-/// Adds a schema text, which must be read.
-fn add_text(
-    alloc: Global,
-    case: Case<'_>,
-    bytes: &[u8],
-    file: FileId,
-    builder: &mut SchemaBuilder,
-) -> Result<Option<BuilderRefusal>, Problem> {
-    let Ok(text) = str::from_utf8(bytes) else {
-        return Err(case.row.head.problem("a schema text is not UTF-8"));
-    };
-    match parse_document(alloc, text, file, 500) {
-        Ok(document) => Ok(builder.add_ast(&document).err()),
-        Err(_) => Err(case.row.head.problem("a schema text is not read")),
+/// A builder to which documents are added.
+struct Adding<'a> {
+    builder: &'a mut SchemaBuilder,
+}
+
+impl Taker for Adding<'_> {
+    fn take(&mut self, document: &Document) -> Option<&'static str> {
+        match self.builder.add_ast(document) {
+            Ok(()) => None,
+            Err(refusal) => Some(refusal_words(refusal)),
+        }
+    }
+}
+
+/// Why a builder refuses.
+pub(crate) fn refusal_words(refusal: BuilderRefusal) -> &'static str {
+    match refusal {
+        BuilderRefusal::Memory => "4 out of memory",
+        BuilderRefusal::Spent => "3 spent",
+        BuilderRefusal::Failed => "4 failed",
     }
 }

@@ -1,6 +1,6 @@
 //! Rows of documents that are printed under each layout, read again and printed again.
 
-use crate::by_print::{Form, form_named, laid_out};
+use crate::print::{Form, form_named, laid_out};
 use graphql_read::graphql_ast::{Document, FileId};
 use graphql_read::parse_document;
 use graphql_row_files::{Answer, Case, Problem, Tally, Way, answer_of, compare, texts, whole};

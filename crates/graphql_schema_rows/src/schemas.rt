@@ -1,12 +1,12 @@
 //! Rows of schemas that are built and written out.
 
-use crate::building::{add_texts, builder_of};
+use crate::building::{add_texts, builder_of, refusal_words};
 use graphql_read_rows::graphql_read::graphql_ast::SourceSpan;
 use graphql_read_rows::graphql_row_files::{
     Answer, Case, Problem, Tally, Way, answer_of, compare, whole,
 };
 use graphql_read_rows::writable_answer;
-use graphql_schema::{BuildError, BuilderRefusal, Schema, SchemaBuilder};
+use graphql_schema::{BuildError, Schema, SchemaBuilder};
 use std::alloc::{AllocError, Global};
 
 /// Judges the row: what its texts build, or which extensions they leave without a definition.
@@ -31,21 +31,11 @@ fn answer_by(alloc: Global, case: Case<'_>, call: &str) -> Result<Answer, Proble
     let mut builder = builder_of(alloc, case)?;
     let refusal = add_texts(alloc, case, &mut builder)?;
     let answer = match refusal {
-        Some(refusal) => refusal_answer(alloc, refusal),
+        Some(refusal) => answer_of(alloc, refusal, ""),
         None if call == "orphans" => orphans_answer(alloc, &builder),
         None => build_answer(alloc, builder),
     };
     Ok(answer?)
-}
-
-/// Why a builder refuses.
-fn refusal_answer(alloc: Global, refusal: BuilderRefusal) -> Result<Answer, AllocError> {
-    let status = match refusal {
-        BuilderRefusal::Memory => "4 out of memory",
-        BuilderRefusal::Spent => "3 spent",
-        BuilderRefusal::Failed => "4 failed",
-    };
-    answer_of(alloc, status, "")
 }
 
 /// The names that have an extension and no definition, a line each.
@@ -65,7 +55,7 @@ type Built = (Schema, Vec<(Option<SourceSpan>, BuildError)>);
 fn build_answer(alloc: Global, builder: SchemaBuilder) -> Result<Answer, AllocError> {
     match builder.build() {
         Ok(built) => built_answer(alloc, &built),
-        Err(refusal) => refusal_answer(alloc, refusal),
+        Err(refusal) => answer_of(alloc, refusal_words(refusal), ""),
     }
 }
 
