@@ -49,6 +49,21 @@ pub(crate) fn by_name(
     let field = case.row.needed("tree")?;
     match field.value {
         "list type" => by_tree(alloc, case, list_type(alloc), form, tally),
+        "fragment named on" => by_tree(alloc, case, fragment(alloc), form, tally),
+        "directive without locations" => by_tree(alloc, case, Ok(directive(alloc)), form, tally),
+        _ => by_operation(alloc, case, field, form, tally),
+    }
+}
+
+/// Judges what the row asks of the operation that the field names, or of the document.
+fn by_operation(
+    alloc: Global,
+    case: Case<'_>,
+    field: Field<'_>,
+    form: Option<(Form, usize)>,
+    tally: &mut Tally,
+) -> Result<(), Problem> {
+    match field.value {
         "operation" => by_tree(alloc, case, operation(alloc, true), form, tally),
         "operation with a directive" => by_tree(alloc, case, directed(alloc), form, tally),
         "operation without selections" => by_tree(
@@ -58,8 +73,6 @@ pub(crate) fn by_name(
             form,
             tally,
         ),
-        "fragment named on" => by_tree(alloc, case, fragment(alloc), form, tally),
-        "directive without locations" => by_tree(alloc, case, Ok(directive(alloc)), form, tally),
         _ => by_document(alloc, case, field, form, tally),
     }
 }
