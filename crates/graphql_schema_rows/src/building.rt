@@ -8,19 +8,20 @@ use std::alloc::Global;
 
 /// A builder with the row's settings.
 pub(crate) fn builder_of(alloc: Global, case: Case<'_>) -> Result<SchemaBuilder, Problem> {
-    let first = first_of(case)?;
+    let extensions = extensions_of(case)?;
     let adopts = says(case.row, "adopt", "yes")?;
     let ignores = says(case.row, "ignore", "yes")?;
-    let builder = SchemaBuilder::with_extensions(alloc, Extensions::starting_at(first));
+    let builder = SchemaBuilder::with_extensions(alloc, extensions);
     Ok(ignoring(adopting(builder, adopts), ignores))
 }
 
-/// The number from which extensions are counted.
-fn first_of(case: Case<'_>) -> Result<u64, Problem> {
-    match number(case.row, "first", 1)? {
-        0 => Err(case.row.head.problem("extensions are counted from 1 on")),
-        first => Ok(first as u64),
+/// The numbers of extensions, from the one that the row says on.
+fn extensions_of(case: Case<'_>) -> Result<Extensions, Problem> {
+    let first = number(case.row, "first", 1)?;
+    if first == 0 {
+        return Err(case.row.head.problem("extensions are counted from 1 on"));
     }
+    Ok(Extensions::starting_at(first as u64))
 }
 
 /// The builder, which adopts orphan extensions where that is so.
