@@ -61,6 +61,7 @@ pub(crate) fn add_texts(
 }
 
 /// A builder to which documents are added.
+#[derive(Drop)]
 struct Adding<'a> {
     builder: &'a mut SchemaBuilder,
 }
