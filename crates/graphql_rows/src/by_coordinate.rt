@@ -20,8 +20,18 @@ pub(crate) fn by_coordinate(
     tally: &mut Tally,
 ) -> Result<(), Problem> {
     let schema = built(rt.alloc(), case)?;
+    by_inputs(rt, case, &schema, tally)
+}
+
+/// Judges each input over the schema.
+fn by_inputs(
+    rt: &HostRuntime,
+    case: Case<'_>,
+    schema: &Schema,
+    tally: &mut Tally,
+) -> Result<(), Problem> {
     for input in &texts(rt.alloc(), case.row, "input")? {
-        by_input(rt, case, &schema, input.as_slice(), tally)?;
+        by_input(rt, case, schema, input.as_slice(), tally)?;
     }
     Ok(())
 }
@@ -57,14 +67,21 @@ fn by_input(
 fn any_answer(alloc: Global, schema: &Schema, text: &str) -> Result<Answer, AllocError> {
     match SchemaCoordinate::from_str(alloc, text) {
         Err(error) => answer_of(alloc, parse_words(error), ""),
-        Ok(coordinate) => {
-            let printed = coordinate.to_string(alloc)?;
-            match coordinate.lookup(schema) {
-                Ok(named) => answer_of(alloc, named_words(named), &printed),
-                Err(error) => answer_of(alloc, missing_words(error), &printed),
-            }
-        }
+        Ok(coordinate) => named_answer(alloc, schema, &coordinate),
     }
+}
+
+/// What the coordinate names, or why it names nothing, and what it prints.
+fn named_answer(
+    alloc: Global,
+    schema: &Schema,
+    coordinate: &SchemaCoordinate,
+) -> Result<Answer, AllocError> {
+    let words = match coordinate.lookup(schema) {
+        Ok(named) => named_words(named),
+        Err(error) => missing_words(error),
+    };
+    answer_of(alloc, words, &coordinate.to_string(alloc)?)
 }
 
 /// A coordinate of one form: what it prints, or why the text is none.

@@ -16,12 +16,9 @@ pub(crate) fn by_schema(
     call: &str,
     tally: &mut Tally,
 ) -> Result<(), Problem> {
-    let texts = texts(rt.alloc(), case.row, "schema")?;
-    let mut builder = builder_of(rt.alloc(), case)?;
-    let answer = match add_texts(rt.alloc(), case, &texts, &mut builder)? {
+    let answer = match filled(rt.alloc(), case)? {
         Err(refusal) => refusal_answer(rt.alloc(), refusal)?,
-        Ok(()) if call == "orphans" => orphans_answer(rt.alloc(), &builder)?,
-        Ok(()) => build_answer(rt.alloc(), builder)?,
+        Ok(builder) => filled_answer(rt.alloc(), call, builder)?,
     };
     let way = Way {
         call,
@@ -34,15 +31,35 @@ pub(crate) fn by_schema(
 
 /// The schema of the row's texts, whatever its faults are.
 pub(crate) fn built(alloc: Global, case: Case<'_>) -> Result<Schema, Problem> {
-    let texts = texts(alloc, case.row, "schema")?;
-    let mut builder = builder_of(alloc, case)?;
-    let head = case.row.head;
-    if add_texts(alloc, case, &texts, &mut builder)?.is_err() {
-        return Err(head.problem("the texts are refused"));
+    match filled(alloc, case)? {
+        Err(_) => Err(case.row.head.problem("the texts are refused")),
+        Ok(builder) => schema_of(case, builder),
     }
+}
+
+/// The schema of the builder.
+fn schema_of(case: Case<'_>, builder: SchemaBuilder) -> Result<Schema, Problem> {
     match builder.build() {
         Ok((schema, _faults)) => Ok(schema),
-        Err(_) => Err(head.problem("the texts build no schema")),
+        Err(_) => Err(case.row.head.problem("the texts build no schema")),
+    }
+}
+
+/// A builder with the row's settings and texts.
+fn filled(alloc: Global, case: Case<'_>) -> Result<Result<SchemaBuilder, BuilderRefusal>, Problem> {
+    let mut builder = builder_of(alloc, case)?;
+    match add_texts(alloc, case, &mut builder)? {
+        Ok(()) => Ok(Ok(builder)),
+        Err(refusal) => Ok(Err(refusal)),
+    }
+}
+
+/// What a builder with texts answers to the call.
+fn filled_answer(alloc: Global, call: &str, builder: SchemaBuilder) -> Result<Answer, AllocError> {
+    if call == "orphans" {
+        orphans_answer(alloc, &builder)
+    } else {
+        build_answer(alloc, builder)
     }
 }
 
@@ -52,37 +69,55 @@ fn builder_of(alloc: Global, case: Case<'_>) -> Result<SchemaBuilder, Problem> {
     if first == 0 {
         return Err(case.row.head.problem("extensions are counted from 1 on"));
     }
-    let mut builder = SchemaBuilder::with_extensions(alloc, Extensions::starting_at(first as u64));
-    if says(case.row, "adopt", "yes")? {
-        builder = builder.adopt_orphan_extensions();
-    }
-    if says(case.row, "ignore", "yes")? {
-        builder = builder.ignore_builtin_redefinitions();
-    }
-    Ok(builder)
+    let adopts = says(case.row, "adopt", "yes")?;
+    let ignores = says(case.row, "ignore", "yes")?;
+    let builder = SchemaBuilder::with_extensions(alloc, Extensions::starting_at(first as u64));
+    Ok(with_settings(builder, adopts, ignores))
 }
 
-/// Adds the texts, numbered from 1. Each must be read.
+/// The builder with these settings.
+fn with_settings(builder: SchemaBuilder, adopts: bool, ignores: bool) -> SchemaBuilder {
+    match (adopts, ignores) {
+        (false, false) => builder,
+        (true, false) => builder.adopt_orphan_extensions(),
+        (false, true) => builder.ignore_builtin_redefinitions(),
+        (true, true) => builder
+            .adopt_orphan_extensions()
+            .ignore_builtin_redefinitions(),
+    }
+}
+
+/// Adds the row's texts, numbered from 1. Each must be read.
 fn add_texts(
     alloc: Global,
     case: Case<'_>,
-    texts: &[Vec<u8>],
     builder: &mut SchemaBuilder,
 ) -> Result<Result<(), BuilderRefusal>, Problem> {
     let mut file = 1;
-    for text in texts {
-        let Ok(text) = str::from_utf8(text) else {
-            return Err(case.row.head.problem("a schema text is not UTF-8"));
-        };
-        let Ok(document) = parse_document(alloc, text, FileId(file), 500) else {
-            return Err(case.row.head.problem("a schema text is not read"));
-        };
-        if let Err(refusal) = builder.add_ast(&document) {
+    for text in &texts(alloc, case.row, "schema")? {
+        if let Err(refusal) = add_text(alloc, case, text.as_slice(), file, builder)? {
             return Ok(Err(refusal));
         }
         file = file.wrapping_add(1);
     }
     Ok(Ok(()))
+}
+
+/// Adds a text of this number, which must be read.
+fn add_text(
+    alloc: Global,
+    case: Case<'_>,
+    text: &[u8],
+    file: u64,
+    builder: &mut SchemaBuilder,
+) -> Result<Result<(), BuilderRefusal>, Problem> {
+    let Ok(text) = str::from_utf8(text) else {
+        return Err(case.row.head.problem("a schema text is not UTF-8"));
+    };
+    match parse_document(alloc, text, FileId(file), 500) {
+        Ok(document) => Ok(builder.add_ast(&document)),
+        Err(_) => Err(case.row.head.problem("a schema text is not read")),
+    }
 }
 
 /// Why a builder refuses.
@@ -109,8 +144,20 @@ fn orphans_answer(alloc: Global, builder: &SchemaBuilder) -> Result<Answer, Allo
 fn build_answer(alloc: Global, builder: SchemaBuilder) -> Result<Answer, AllocError> {
     match builder.build() {
         Err(refusal) => refusal_answer(alloc, refusal),
-        Ok((schema, faults)) if faults.is_empty() => written_answer(alloc, &schema),
-        Ok((_schema, faults)) => faults_answer(alloc, &faults),
+        Ok((schema, faults)) => built_answer(alloc, &schema, &faults),
+    }
+}
+
+/// The written schema, or its faults.
+fn built_answer(
+    alloc: Global,
+    schema: &Schema,
+    faults: &[(Option<SourceSpan>, BuildError)],
+) -> Result<Answer, AllocError> {
+    if faults.is_empty() {
+        written_answer(alloc, schema)
+    } else {
+        faults_answer(alloc, faults)
     }
 }
 
