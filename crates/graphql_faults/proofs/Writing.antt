@@ -1,6 +1,7 @@
 -- Texts that are written one after another, where they are known.
-use Rattle.std.proofs.Common.{◌≡◌, ℕ, List, [], ◌∷◌, ◌++◌, Option, None, Some, IfSome, refl, ap, append-nil, append_assoc, sym, ◌∙◌}
-use Rattle.std.specs.Fmt.{HasWritten, IsPlainFormatter, option_append}
+use Rattle.std.proofs.Common.{◌≡◌, ℕ, List, [], ◌∷◌, ◌++◌, Option, None, Some, IfSome, Result, IsOk, refl, ap, append-nil, append_assoc, subst, sym, ◌∙◌}
+use Rattle.std.specs.Fmt.{DisplaysOnOk, HasWritten, IsPlainFormatter, option_append}
+use Rattle.std.specs.declared.fmt.Error.{Error}
 use Rattle.std.specs.declared.fmt.Formatter.{Formatter}
 use Rattle.std.proofs.Output.{has_written_append}
 use Rattle.graphql_faults.specs.Words.{further_item, further_items}
@@ -31,3 +32,14 @@ shown_both took f g h (Some a) None first second = tt
 shown_both took f g h (Some a) (Some b) first second = λ plain.
     let begun = first plain in
     has_written_append took f a g b h begun (second begun.plain)
+
+shown_ok : {W : Type 0} (took : W → List ℕ → W → Type 0) (g h : Formatter W) (r : Result (Unit {0}) Error) (o : Option (List ℕ)) → IsOk r → DisplaysOnOk took g r o h → HasShown took g o h
+shown_ok took g h r None ok shown = tt
+shown_ok took g h r (Some text) ok shown = λ plain. shown plain ok
+
+-- one item more
+pub shown_more : {A W : Type 0} (text : A → Option (List ℕ)) (took : W → List ℕ → W → Type 0) (f g h : Formatter W) (r : Result (Unit {0}) Error) (before after : List A) (x : A) → after ≡ before ++ x ∷ [] → IsOk r → HasShown took f (further_items text before) g → DisplaysOnOk took g r (further_item text x) h → HasShown took f (further_items text after) h
+shown_more text took f g h r before after x more ok begun item =
+    subst (λ xs. HasShown took f (further_items text xs) h) (sym more)
+      (subst (λ o. HasShown took f o h) (sym (further_items-push text before x))
+        (shown_both took f g h (further_items text before) (further_item text x) begun (shown_ok took g h r (further_item text x) ok item)))
