@@ -6,6 +6,7 @@
 //! Begin with `diagnostic_data.rt` and `specs/Diagnostics.antt`.
 #![tactic(auto)]
 
+mod copies;
 mod diagnostic_data;
 mod message;
 mod template;
