@@ -27,10 +27,10 @@ use Rattle.graphql_rule_definitions.specs.Judged.{judged}
 use Rattle.graphql_rule_definitions.specs.TypesUsed.{named_in}
 use Rattle.graphql_rule_definitions.specs.Kept.{is_inside, is_inside_arguments, is_inside_field, is_inside_type, is_referenced, AreDistinct, IsReferenced}
 
-no_true : {A : Type 0} → false ≡ true → A
+pub no_true : {A : Type 0} → false ≡ true → A
 no_true h = absurd (true≢false (sym h))
 
-no_some : {X A : Type 0} (x : X) → None ≡ Some x → A
+pub no_some : {X A : Type 0} (x : X) → None ≡ Some x → A
 no_some x e = no_true (ap is_some e)
 
 -- two facts, either of them
@@ -58,7 +58,7 @@ module _ {X Y : Type 0} (test : X → Bool) (f : X → Y) (P : Y → Type 0) (d 
 
 -- ---- entries by name
 
-abbrev found : {A V : Type 0} → (A → V) → Entries A → List ℕ → Option V
+abbrev pub found : {A V : Type 0} → (A → V) → Entries A → List ℕ → Option V
 found f es n = fin.find by_bytes n (map (λ e. (e.0, f e.1)) es)
 
 pub get_found : {A V : Type 0} (f : A → V) (es : Entries A) (n : List ℕ) → fin.get (named f es) n ≡ found f es n

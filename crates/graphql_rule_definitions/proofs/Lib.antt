@@ -1,3 +1,4 @@
 pub mod Same
 pub mod KeptFacts
+pub mod KeptOf
 pub mod Examples

@@ -6,6 +6,7 @@ use Rattle.graphql_schema_types.specs.Plain.{plain}
 use Rattle.graphql_schema_types.specs.Addresses.{Address, is_marked}
 use Rattle.graphql_rule_definitions.specs.Faults.{SchemaFault}
 use Rattle.graphql_rule_definitions.specs.Judged.{judged}
+use Rattle.graphql_rule_definitions.specs.Kept.{AreDistinct, Keeps, kept}
 use Rattle.graphql_rule_definitions.specs.Rules.{Breaks, SchemaRules}
 
 -- equal, places, origins and order aside, and with the same built in
@@ -21,3 +22,11 @@ SameBreaches = (a b : SchemaTree Place) → AreEqual a b → (fault : SchemaFaul
 
 abbrev pub SameVerdict : Type 0
 SameVerdict = (a b : SchemaTree Place) → AreEqual a b → SchemaRules (judged a) ↔ SchemaRules (judged b)
+
+-- what is kept of a schema is as rules read it
+abbrev pub KeptIsKept : Type 0
+KeptIsKept = (s : SchemaTree Place) → AreDistinct s → Keeps (judged s) (judged (kept s))
+
+-- and rules read the same of what is kept of equal schemas
+abbrev pub ReadKeptTheSame : Type 0
+ReadKeptTheSame = (a b : SchemaTree Place) → AreEqual a b → AreDistinct a → AreDistinct b → judged (kept a) ≡ judged (kept b)
