@@ -1,21 +1,24 @@
 //! What is asked of a schema builder's state.
-ghost use Rattle.std.specs.Prelude.{◌≡◌, ◌↔◌, ◌++◌, [], true, false, IfOk, IfErr, OnOk, Contains};
+ghost use Rattle.std.specs.Prelude.{◌≡◌, ◌↔◌, ◌++◌, [], true, false, length, map, IfOk, IfErr, OnOk, Contains};
 ghost use Rattle.graphql_type_folding.specs.in_ast.DefinitionTree.{document_tree};
 ghost use Rattle.graphql_type_folding.specs.in_ast.Sources.{sources_of};
 ghost use Rattle.graphql_built_in.specs.Table.{built_in_definitions};
 ghost use Rattle.graphql_type_folding.specs.in_folding.BuildErrors.{FoldingRules};
 ghost use Rattle.graphql_type_folding.specs.in_folding.FaultView.{faults_of};
 ghost use Rattle.graphql_schema_building.specs.Building.{plain_settings, folded, FailsIn, counted, lent_names, IsAddRefusal, IsBuildRefusal};
-ghost use Rattle.graphql_schema_building.specs.BuiltView.{built_view};
+ghost use Rattle.graphql_schema_building.specs.BuiltView.{built_view, folded_view};
+ghost use Rattle.graphql_schema_building.specs.ListBuilt.{Folds};
+ghost use Rattle.graphql_schema_building.specs.SettingsView.{settings_view};
+ghost use Rattle.graphql_schema_building.specs.Settling.{unnumbered, settled_from};
 ghost use Rattle.graphql_schema_building.specs.BuildingView.{builder_view};
 ghost use Rattle.graphql_schema_building.specs.Noted.{Notes};
 ghost use Rattle.graphql_schema_building.specs.TextsList.{Adds, IsListRefusal};
 ghost use Rattle.graphql_schema_building.specs.TextsView.{texts_view};
 ghost use Rattle.graphql_schema_building.specs.Numbers.{HaveNumbers};
 ghost use Rattle.graphql_schema_building.specs.SourcesView.{sources_view, with_sources};
-ghost use Rattle.graphql_schema_building.specs.Waiting.{left_names};
+ghost use Rattle.graphql_schema_building.specs.Waiting.{left_names, orphan_kinds};
 
-use crate::fold::fold_list;
+use crate::fold::{Folded, fold_list};
 use crate::orphans::Orphans;
 use crate::refusal::BuilderRefusal;
 use crate::settle::{Settings, settle};
@@ -23,11 +26,11 @@ use crate::sources::add_sources;
 use crate::state::{Building, Built};
 use crate::texts::Texts;
 use crate::waiting::OrphanExtensionTypes;
-use graphql_type_folding::graphql_ast::{Document, FileId, SourceFile, SourceSpan};
 use graphql_components::Extensions;
+use graphql_type_folding::graphql_ast::{Document, FileId, SourceFile, SourceSpan};
 use graphql_type_folding::graphql_folding::BuildError;
 use indexmap::IndexMap;
-use std::alloc::Global;
+use std::alloc::{AllocError, Global};
 
 impl Building {
     /// A builder of no definitions, which counts extensions from 1. It takes no memory.
@@ -121,8 +124,7 @@ impl Building {
         if self.failed {
             return Err(BuilderRefusal::Failed);
         }
-        let settled = settle(self.alloc, self.settings, &self.texts, &self.orphans)?;
-        let (folded, faults) = fold_list(self.alloc, &settled.list, settled.built_in)?;
+        let (folded, faults) = fold_texts(self.alloc, self.settings, &self.texts, &self.orphans)?;
         let built = Built {
             sources: self.sources,
             schema_definition: folded.schema_definition,
@@ -149,4 +151,17 @@ fn add_document(
     orphans.note_all(&document.definitions)?;
     add_sources(sources, &document.sources)?;
     Ok(())
+}
+
+/// Folds what the settings make of the texts, behind what is built in, and tells each rule that is broken.
+fn fold_texts(
+    alloc: Global,
+    settings: Settings,
+    texts: &Texts,
+    orphans: &Orphans,
+) -> Result<(Folded, Vec<(Option<SourceSpan>, BuildError)>), AllocError>
+    ensures { IfOk result (λ r. Folds (settled_from (settings_view settings) (texts_view texts.now).list (orphan_kinds orphans.now) (map unnumbered built_in_definitions)) (length built_in_definitions) (folded_view r.0) (faults_of r.1)) }
+{
+    let settled = settle(alloc, settings, texts, orphans)?;
+    fold_list(alloc, &settled.list, settled.built_in)
 }

@@ -5,12 +5,12 @@ ghost use Rattle.graphql_type_folding.specs.in_folding.ListedView.{listed_view};
 ghost use Rattle.graphql_schema_building.specs.BuiltView.{folded_view};
 ghost use Rattle.graphql_schema_building.specs.ListBuilt.{Folds, FoldsParts};
 
+use graphql_folding_rules::tell_misplaced;
+use graphql_type_folding::fold_types;
 use graphql_type_folding::graphql_ast::{DirectiveDefinition, Name, Node, SourceSpan};
 use graphql_type_folding::graphql_folding::{BuildError, Listed};
-use graphql_folding_rules::tell_misplaced;
 use graphql_type_folding::graphql_schema_folding::{fold_directives, fold_schema};
 use graphql_type_folding::graphql_schema_types::{ExtendedType, SchemaDefinition};
-use graphql_type_folding::fold_types;
 use indexmap::IndexMap;
 use std::alloc::{AllocError, Global};
 

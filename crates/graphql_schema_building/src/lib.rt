@@ -26,4 +26,5 @@ pub use state::{Building, Built};
 pub use waiting::OrphanExtensionTypes;
 
 // The crates beneath, for those above.
+pub use graphql_built_in;
 pub use graphql_type_folding::{graphql_ast, graphql_folding, graphql_schema_types};

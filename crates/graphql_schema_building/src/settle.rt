@@ -13,8 +13,8 @@ use crate::adopt::{adopt_schema, adopt_types};
 use crate::built_in_types::is_redefinition;
 use crate::orphans::Orphans;
 use crate::texts::{Texts, push_shared};
-use graphql_type_folding::graphql_ast::Definition;
 use graphql_built_in::built_in_definitions;
+use graphql_type_folding::graphql_ast::Definition;
 use graphql_type_folding::graphql_folding::Listed;
 use std::alloc::{AllocError, Global};
 

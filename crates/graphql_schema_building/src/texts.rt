@@ -9,8 +9,8 @@ ghost use Rattle.graphql_schema_building.specs.TextsView.{texts_view};
 ghost use Rattle.graphql_schema_building.specs.TextsList.{Adds, IsListRefusal};
 
 use crate::refusal::BuilderRefusal;
-use graphql_type_folding::graphql_ast::{Definition, Spent};
 use graphql_components::{ExtensionId, Extensions};
+use graphql_type_folding::graphql_ast::{Definition, Spent};
 use graphql_type_folding::graphql_folding::Listed;
 use std::alloc::{AllocError, Global};
 

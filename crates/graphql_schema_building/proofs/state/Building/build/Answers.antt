@@ -1,11 +1,13 @@
-use Rattle.std.proofs.Common.{map, ap, ◌∙◌}
+use Rattle.std.proofs.Common.{map, refl}
 use Rattle.graphql_built_in.specs.Table.{built_in_definitions}
 use Rattle.graphql_type_folding.specs.in_folding.FaultView.{faults_of}
-use Rattle.graphql_type_folding.specs.in_folding.ListedView.{listed_view}
 use Rattle.graphql_schema_building.specs.Building.{counted}
 use Rattle.graphql_schema_building.specs.BuildingView.{builder_view}
 use Rattle.graphql_schema_building.specs.KeptView.{first_number}
 use Rattle.graphql_schema_building.specs.SettingsView.{settings_view}
+use Rattle.graphql_schema_building.specs.Settling.{unnumbered, settled_from}
+use Rattle.graphql_schema_building.specs.TextsView.{texts_view}
+use Rattle.graphql_schema_building.specs.Waiting.{orphan_kinds}
 use Rattle.graphql_schema_building.proofs.Folding.{faultless}
 use Rattle.graphql_schema_building.proofs.Keeping.{from_kept, list_is}
 use Rattle.graphql_schema_building.proofs.state.Building.build.Goals as goal
@@ -13,17 +15,17 @@ use Rattle.graphql_schema_building.proofs.state.Building.build.Goals as goal
 pub returns-clause-schema : goal.returns-clause-schema
 returns-clause-schema c =
     let b = c.args.self in
-    let is = list_is b.texts b.orphans (settings_view b.settings) (map listed_view c.deref.result.now) (from_kept b.texts b.orphans (b.kept c.if-self.false)) (ap (map listed_view) c.deref.ensures.value ∙ c.in_ok-settled.ensures.settles) in
-    (c.in_ok-folded.ensures (first_number b.texts) (counted (builder_view b)) is c.in_ok-settled.ensures.built_in).0
+    let is = list_is b.texts b.orphans (settings_view b.settings) (settled_from (settings_view b.settings) (texts_view b.texts).list (orphan_kinds b.orphans) (map unnumbered built_in_definitions)) (from_kept b.texts b.orphans (b.kept c.if-self.false)) refl in
+    (c.in_ok-folded.ensures (first_number b.texts) (counted (builder_view b)) is refl).0
 
 pub returns-clause-faults : goal.returns-clause-faults
 returns-clause-faults c =
     let b = c.args.self in
-    let is = list_is b.texts b.orphans (settings_view b.settings) (map listed_view c.deref.result.now) (from_kept b.texts b.orphans (b.kept c.if-self.false)) (ap (map listed_view) c.deref.ensures.value ∙ c.in_ok-settled.ensures.settles) in
-    (c.in_ok-folded.ensures (first_number b.texts) (counted (builder_view b)) is c.in_ok-settled.ensures.built_in).1
+    let is = list_is b.texts b.orphans (settings_view b.settings) (settled_from (settings_view b.settings) (texts_view b.texts).list (orphan_kinds b.orphans) (map unnumbered built_in_definitions)) (from_kept b.texts b.orphans (b.kept c.if-self.false)) refl in
+    (c.in_ok-folded.ensures (first_number b.texts) (counted (builder_view b)) is refl).1
 
 pub returns-clause-faultless : goal.returns-clause-faultless
 returns-clause-faultless c =
     let b = c.args.self in
-    let is = list_is b.texts b.orphans (settings_view b.settings) (map listed_view c.deref.result.now) (from_kept b.texts b.orphans (b.kept c.if-self.false)) (ap (map listed_view) c.deref.ensures.value ∙ c.in_ok-settled.ensures.settles) in
-    faultless built_in_definitions (first_number b.texts) (counted (builder_view b)) (faults_of c.in_ok-folded.faults) (c.in_ok-folded.ensures (first_number b.texts) (counted (builder_view b)) is c.in_ok-settled.ensures.built_in).1
+    let is = list_is b.texts b.orphans (settings_view b.settings) (settled_from (settings_view b.settings) (texts_view b.texts).list (orphan_kinds b.orphans) (map unnumbered built_in_definitions)) (from_kept b.texts b.orphans (b.kept c.if-self.false)) refl in
+    faultless built_in_definitions (first_number b.texts) (counted (builder_view b)) (faults_of c.in_ok-folded.faults) (c.in_ok-folded.ensures (first_number b.texts) (counted (builder_view b)) is refl).1
