@@ -59,6 +59,17 @@ field_repeat _ = repeat.InterfaceField
 abbrev pub repeat_faults : {A : Type 0} → Repeat → List ℕ → (Given Place A → List ℕ) → (A → Place) → List (Given Place A) → List Fault
 repeat_faults repeat type_name key place gs = map (λ g. record { place = place g.it; breach = repeat_breach repeat type_name (key g) }) (repeats key gs)
 
+abbrev pub composite_faults : TypeKind → List ℕ → List (Given Place (Text Place)) → List (Given Place (Placed Place (FieldDefinitionTree Place))) → List Fault
+composite_faults kind type_name interfaces fields =
+    repeat_faults (interface_repeat kind) type_name given_name (λ x. x.place) interfaces
+    ++ repeat_faults (field_repeat kind) type_name field_key (λ x. x.place) fields
+
+abbrev pub other_faults : List ℕ → List (Given Place (Text Place)) → List (Given Place (Placed Place (EnumValueTree Place))) → List (Given Place (Placed Place (InputValueTree Place))) → List Fault
+other_faults type_name members values inputs =
+    repeat_faults repeat.UnionMember type_name given_name (λ x. x.place) members
+    ++ (repeat_faults repeat.EnumValue type_name value_key (λ x. x.place) values
+    ++ repeat_faults repeat.InputField type_name input_key (λ x. x.place) inputs)
+
 abbrev pub component_faults : TypeKind → List ℕ → AllComponents → List Fault
 component_faults kind type_name all =
     repeat_faults (interface_repeat kind) type_name given_name (λ x. x.place) all.interfaces

@@ -7,10 +7,10 @@ ghost use Rattle.graphql_folding.specs.PartsView.{itself, given_contents, parts_
 ghost use Rattle.graphql_folding.specs.Collected.{collected, collected_from, collected_and};
 
 use crate::parts::Parts;
+use graphql_components::{Component, ComponentName, ComponentOrigin};
 use graphql_schema_types::graphql_ast::{
     Directive, EnumValueDefinition, FieldDefinition, InputValueDefinition, Name, Node,
 };
-use graphql_components::{Component, ComponentName, ComponentOrigin};
 use std::alloc::{AllocError, Global};
 
 /// The node, shared, from that origin.

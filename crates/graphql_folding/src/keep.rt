@@ -13,8 +13,10 @@ ghost use Rattle.graphql_folding.specs.PartsView.{itself, given_contents};
 ghost use Rattle.graphql_folding.specs.Keeping.{content_key, component_fault, name_fault, KeepsOn, KeepsNames};
 
 use crate::build_error::{BuildError, Repeat, note_repeat};
-use graphql_schema_types::graphql_ast::{EnumValueDefinition, FieldDefinition, InputValueDefinition, Name, SourceSpan};
 use graphql_components::{Component, ComponentName};
+use graphql_schema_types::graphql_ast::{
+    EnumValueDefinition, FieldDefinition, InputValueDefinition, Name, SourceSpan,
+};
 use indexmap::{IndexMap, IndexSet};
 use std::alloc::{AllocError, Global};
 

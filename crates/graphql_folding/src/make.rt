@@ -10,8 +10,8 @@ ghost use Rattle.graphql_folding.specs.Made.{defined_view, made, headed, IsOfKin
 
 use crate::kept_classes::Kept;
 use crate::parts::Defined;
-use graphql_schema_types::graphql_ast::{Name, Node, NodeStr, SourceSpan};
 use graphql_components::DirectiveList;
+use graphql_schema_types::graphql_ast::{Name, Node, NodeStr, SourceSpan};
 use graphql_schema_types::{
     EnumType, ExtendedType, InputObjectType, InterfaceType, ObjectType, ScalarType, TypeKind,
     UnionType,

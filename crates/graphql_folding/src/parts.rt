@@ -9,11 +9,11 @@ ghost use Rattle.graphql_schema_types.specs.TypeParts.{type_here, type_extension
 ghost use Rattle.graphql_folding.specs.PartsView.{parts_view};
 ghost use Rattle.graphql_folding.specs.Made.{defined_view};
 
+use graphql_schema_types::TypeKind;
 use graphql_schema_types::graphql_ast::{
     Definition, DirectiveList, EnumValueDefinition, FieldDefinition, InputValueDefinition, Name,
     Node, NodeStr, SourceSpan,
 };
-use graphql_schema_types::TypeKind;
 
 /// What a definition or an extension gives to its type. Interfaces, fields, members, values and input fields
 /// are empty where the kind has none.
