@@ -73,12 +73,12 @@ impl<'schema> ExecutableDocumentBuilder<'schema> {
     pub fn build(
         self,
     ) -> Result<(ExecutableDocument, Vec<(Option<SourceSpan>, BuildError)>), BuilderRefusal>
-        ensures running { OnOk result ((builder_value self).failed ≡ false) }
-        ensures document { IfOk result (λ r. meant_document (typed_document_tree r.0) ≡ kept_document (builder_value self).meanings (builder_value self).definitions) }
-        ensures sources { IfOk result (λ r. sources_view r.0.sources ≡ (builder_value self).sources) }
-        ensures faults { IfOk result (λ r. (f : _) → Contains (faults_of r.1) f ↔ TypingFails (builder_value self).meanings (builder_value self).definitions f) }
-        ensures full { IfOk result (λ r. TellsAll (builder_value self).meanings (builder_value self).definitions (faults_of r.1)) }
-        ensures refused { IfErr result (IsBuildRefusal (builder_value self)) }
+        ensures running { OnOk result ((builder_value self.entry).failed ≡ false) }
+        ensures document { IfOk result (λ r. meant_document (typed_document_tree r.0) ≡ kept_document (builder_value self.entry).meanings (builder_value self.entry).definitions) }
+        ensures sources { IfOk result (λ r. sources_view r.0.sources ≡ (builder_value self.entry).sources) }
+        ensures faults { IfOk result (λ r. (f : _) → Contains (faults_of r.1) f ↔ TypingFails (builder_value self.entry).meanings (builder_value self.entry).definitions f) }
+        ensures full { IfOk result (λ r. TellsAll (builder_value self.entry).meanings (builder_value self.entry).definitions (faults_of r.1)) }
+        ensures refused { IfErr result (IsBuildRefusal (builder_value self.entry)) }
     {
         if self.failed {
             return Err(BuilderRefusal::Failed);

@@ -24,6 +24,7 @@ mod sources;
 pub use build_error::BuildError;
 pub use builder::ExecutableDocumentBuilder;
 pub use field_set::field_set_from_ast;
+pub use refusal::BuilderRefusal;
 
 // The crates beneath, for those above.
 pub use graphql_typed_operations;
