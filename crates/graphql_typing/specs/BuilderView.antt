@@ -1,5 +1,5 @@
 -- What contracts see of a builder of documents, and when it refuses.
-use Rattle.std.specs.Prelude.{◌≡◌, ℕ, Bool, true, false, List, map}
+use Rattle.std.specs.Prelude.{◌≡◌, Bool, true, false, List, map}
 use Rattle.graphql_names.specs.Placed.{Place}
 use Rattle.graphql_ast.specs.DefinitionTree.{DefinitionTree, definition_tree}
 use Rattle.graphql_schema.specs.SourcesView.{Sources, sources_view}
