@@ -15,7 +15,7 @@ module _ {V W X : Type 0} (meant : W → X) (view : V → W) where
 
   entries : {K : Type 0} (key : K → List ℕ) (es : List (K × V))
       → map {B = List ℕ × X} (λ (e : List ℕ × W). (e.0, meant e.1)) (map {B = List ℕ × W} (λ (e : K × V). (key e.0, view e.1)) es)
-          ≡ map {B = List ℕ × X} (λ (e : K × V). (key e.0, meant (view e.1))) es
+      ≡ map {B = List ℕ × X} (λ (e : K × V). (key e.0, meant (view e.1))) es
   entries key [] = refl
   entries key (e ∷ es) = let first : List ℕ × X = (key e.0, meant (view e.1)) in ap (λ l. first ∷ l) (entries key es)
 
