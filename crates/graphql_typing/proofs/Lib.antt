@@ -10,3 +10,4 @@ pub mod Turns
 pub mod DocumentFailures
 pub mod FullLists
 pub mod FieldsFound
+pub mod DocumentMeant

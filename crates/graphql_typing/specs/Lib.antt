@@ -14,3 +14,4 @@ pub mod DefinedField
 pub mod Steps
 pub mod DocumentView
 pub mod StepsView
+pub mod BuilderView

@@ -10,16 +10,21 @@
 
 mod build_error;
 mod build_error_text;
+mod builder;
 mod definition_rules;
 mod document;
 mod field_set;
 mod keep;
 mod look_ups;
+mod refusal;
 mod rules;
 mod selections;
+mod sources;
 
 pub use build_error::BuildError;
+pub use builder::ExecutableDocumentBuilder;
 pub use field_set::field_set_from_ast;
+pub use refusal::BuilderRefusal;
 
 // The crates beneath, for those above.
 pub use graphql_typed_operations;

@@ -1,0 +1,35 @@
+-- What contracts see of a builder of documents, and when it refuses.
+use Rattle.std.specs.Prelude.{◌≡◌, Bool, true, false, List, map}
+use Rattle.graphql_names.specs.Placed.{Place}
+use Rattle.graphql_ast.specs.DefinitionTree.{DefinitionTree, definition_tree}
+use Rattle.graphql_schema.specs.SourcesView.{Sources, sources_view}
+use Rattle.graphql_typing.specs.Meanings.{Meanings}
+use Rattle.graphql_typing.specs.MeaningView.{meanings_under}
+use Rattle.graphql_typing.specs.declared.refusal.BuilderRefusal.{BuilderRefusal}
+use Rattle.graphql_typing.specs.declared.refusal.BuilderRefusal.TheVariants.{Memory, Failed}
+use Rattle.graphql_typing.specs.declared.builder.ExecutableDocumentBuilder.{ExecutableDocumentBuilder}
+
+-- what the schema says, the definitions and the sources that were added, and whether memory ran out
+pub record DocumentBuilder : Type 0 where
+  pub meanings : Meanings
+  pub definitions : List (DefinitionTree Place)
+  pub sources : Sources
+  pub failed : Bool
+
+abbrev pub builder_value : ExecutableDocumentBuilder → DocumentBuilder
+builder_value b = record {
+  meanings = meanings_under b.schema;
+  definitions = map definition_tree b.definitions.items;
+  sources = sources_view b.sources;
+  failed = b.failed;
+}
+
+-- definitions are not added: from then on the builder has failed
+abbrev pub IsAddRefusal : DocumentBuilder → DocumentBuilder → BuilderRefusal → Type 0
+IsAddRefusal old new Memory = (old.failed ≡ false) × (new.failed ≡ true)
+IsAddRefusal old new Failed = (old.failed ≡ true) × (new ≡ old)
+
+-- nothing is built
+abbrev pub IsBuildRefusal : DocumentBuilder → BuilderRefusal → Type 0
+IsBuildRefusal b Memory = b.failed ≡ false
+IsBuildRefusal b Failed = b.failed ≡ true

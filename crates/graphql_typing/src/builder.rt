@@ -1,0 +1,128 @@
+//! The builder of documents.
+ghost use Rattle.std.specs.Prelude.{◌≡◌, ◌↔◌, ◌++◌, [], ◌∷◌, map, true, false, IfOk, IfErr, OnOk, Contains};
+ghost use Rattle.graphql_ast.specs.DefinitionTree.{definition_tree, document_tree};
+ghost use Rattle.graphql_ast.specs.Sources.{sources_of};
+ghost use Rattle.graphql_schema.specs.SourcesView.{sources_view, with_sources};
+ghost use Rattle.graphql_typed_operations.specs.TypedDocument.{typed_document_tree};
+ghost use Rattle.graphql_typing.specs.KeptDocument.{kept_document};
+ghost use Rattle.graphql_typing.specs.TypingFaults.{TypingFails};
+ghost use Rattle.graphql_typing.specs.FullList.{TellsAll};
+ghost use Rattle.graphql_typing.specs.FaultView.{faults_of};
+ghost use Rattle.graphql_typing.specs.DocumentView.{meant_document};
+ghost use Rattle.graphql_typing.specs.MeaningView.{meanings_under};
+ghost use Rattle.graphql_typing.specs.BuilderView.{builder_value, IsAddRefusal, IsBuildRefusal};
+
+use crate::build_error::BuildError;
+use crate::document::type_document;
+use crate::refusal::BuilderRefusal;
+use crate::sources::add_sources;
+use graphql_ast::{Definition, Document, FileId, SourceFile, SourceSpan};
+use graphql_schema::Schema;
+use graphql_typed_operations::ExecutableDocument;
+use indexmap::IndexMap;
+use std::alloc::{AllocError, Global};
+
+/// Takes the definitions of documents, and gives them all a meaning under a schema, or without one.
+///
+/// Contracts see it by `builder_value` alone: what the schema says, the definitions and sources that were added, in
+/// order, and whether memory ran out.
+#[derive(Drop)]
+pub struct ExecutableDocumentBuilder<'schema> {
+    alloc: Global,
+    schema: Option<&'schema Schema>,
+    definitions: Vec<Definition>,
+    sources: IndexMap<FileId, SourceFile>,
+    failed: bool,
+}
+
+impl<'schema> ExecutableDocumentBuilder<'schema> {
+    /// A builder of no definitions, under this schema or without one. It takes no memory.
+    pub fn new(alloc: Global, schema: Option<&'schema Schema>) -> ExecutableDocumentBuilder<'schema>
+        ensures { builder_value result ≡ record { meanings = meanings_under schema.entry; definitions = []; sources = []; failed = false } }
+    {
+        ExecutableDocumentBuilder {
+            alloc,
+            schema,
+            definitions: Vec::new(alloc),
+            sources: IndexMap::new(alloc),
+            failed: false,
+        }
+    }
+
+    /// Adds the definitions and the sources of a document behind the others.
+    ///
+    /// Where memory runs out it answers so, and from then on [`BuilderRefusal::Failed`].
+    pub fn add_ast_document(&mut self, document: &Document) -> Result<(), BuilderRefusal>
+        ensures running { OnOk result ((builder_value self.old).failed ≡ false) }
+        ensures added { OnOk result (builder_value self.new ≡ record (builder_value self.old) { definitions = (builder_value self.old).definitions ++ document_tree document.now; sources = with_sources (builder_value self.old).sources (sources_of document.now) }) }
+        ensures refused { IfErr result (IsAddRefusal (builder_value self.old) (builder_value self.new)) }
+    {
+        if self.failed {
+            return Err(BuilderRefusal::Failed);
+        }
+        match add_document(&mut self.definitions, &mut self.sources, document) {
+            Ok(()) => Ok(()),
+            Err(_) => {
+                self.failed = true;
+                Err(BuilderRefusal::Memory)
+            }
+        }
+    }
+
+    /// The document that is kept, and each way in which a rule of typing is broken.
+    pub fn build(
+        self,
+    ) -> Result<(ExecutableDocument, Vec<(Option<SourceSpan>, BuildError)>), BuilderRefusal>
+        ensures running { OnOk result ((builder_value self.entry).failed ≡ false) }
+        ensures document { IfOk result (λ r. meant_document (typed_document_tree r.0) ≡ kept_document (builder_value self.entry).meanings (builder_value self.entry).definitions) }
+        ensures sources { IfOk result (λ r. sources_view r.0.sources ≡ (builder_value self.entry).sources) }
+        ensures faults { IfOk result (λ r. (f : _) → Contains (faults_of r.1) f ↔ TypingFails (builder_value self.entry).meanings (builder_value self.entry).definitions f) }
+        ensures full { IfOk result (λ r. TellsAll (builder_value self.entry).meanings (builder_value self.entry).definitions (faults_of r.1)) }
+        ensures refused { IfErr result (IsBuildRefusal (builder_value self.entry)) }
+    {
+        if self.failed {
+            return Err(BuilderRefusal::Failed);
+        }
+        let typed = type_document(self.alloc, self.schema, &self.definitions)?;
+        let document = ExecutableDocument {
+            sources: self.sources,
+            operations: typed.operations,
+            fragments: typed.fragments,
+        };
+        Ok((document, typed.faults))
+    }
+}
+
+/// Adds what a document has to what a builder keeps.
+fn add_document(
+    definitions: &mut Vec<Definition>,
+    sources: &mut IndexMap<FileId, SourceFile>,
+    document: &Document,
+) -> Result<(), AllocError>
+    ensures definitions { OnOk result (map definition_tree definitions.new.items ≡ map definition_tree definitions.old.items ++ document_tree document.now) }
+    ensures sources { OnOk result (sources_view sources.new ≡ with_sources (sources_view sources.old) (sources_of document.now)) }
+{
+    add_definitions(definitions, &document.definitions)?;
+    add_sources(sources, &document.sources)
+}
+
+/// Adds copies of definitions.
+fn add_definitions(definitions: &mut Vec<Definition>, more: &[Definition]) -> Result<(), AllocError>
+    ensures { OnOk result (map definition_tree definitions.new.items ≡ map definition_tree definitions.old.items ++ map definition_tree more.now) }
+{
+    for definition in more {
+        add_definition(definitions, definition)?;
+    }
+    Ok(())
+}
+
+/// Adds a copy of a definition, which shares all that it holds.
+fn add_definition(
+    definitions: &mut Vec<Definition>,
+    definition: &Definition,
+) -> Result<(), AllocError>
+    ensures { OnOk result (map definition_tree definitions.new.items ≡ map definition_tree definitions.old.items ++ definition_tree definition.now ∷ []) }
+{
+    definitions.push(definition.clone()?)?;
+    Ok(())
+}

@@ -1,0 +1,37 @@
+//! The sources of several documents.
+ghost use Rattle.std.specs.Prelude.{◌≡◌, nat_eq, OnOk};
+ghost use Rattle.graphql_ast.specs.Sources.{source_of};
+ghost use Rattle.indexmap.specs.IndexMap.{insert_entry};
+ghost use Rattle.graphql_schema.specs.SourcesView.{sources_view, with_sources};
+
+use graphql_ast::{FileId, SourceFile};
+use indexmap::IndexMap;
+use std::alloc::AllocError;
+
+/// Adds the sources of a document. One that has the number of an earlier one stands in its place.
+pub(crate) fn add_sources(
+    sources: &mut IndexMap<FileId, SourceFile>,
+    more: &IndexMap<FileId, SourceFile>,
+) -> Result<(), AllocError>
+    ensures { OnOk result (sources_view sources.new ≡ with_sources (sources_view sources.old) (sources_view more.now)) }
+{
+    let mut left = more.as_slice();
+    while let Some(((file, source), others)) = left.split_first() {
+        add_source(sources, *file, source)?;
+        left = others;
+    }
+    Ok(())
+}
+
+/// Adds a copy of a source.
+fn add_source(
+    sources: &mut IndexMap<FileId, SourceFile>,
+    file: FileId,
+    source: &SourceFile,
+) -> Result<(), AllocError>
+    ensures { OnOk result (sources_view sources.new ≡ insert_entry nat_eq (sources_view sources.old) file.0 (source_of source.now)) }
+{
+    let source = source.clone()?;
+    sources.insert(file, source)?;
+    Ok(())
+}
