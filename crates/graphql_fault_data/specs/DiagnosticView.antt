@@ -14,8 +14,8 @@ use Rattle.graphql_directives.specs.declared.directive.Directive.{Directive}
 use Rattle.graphql_directives.specs.declared.input_value.InputValueDefinition.{InputValueDefinition}
 use Rattle.graphql_coords.specs.CoordinateView.{schema_coordinate, attribute_coordinate}
 use Rattle.graphql_typed_selections.specs.declared.selection.FragmentSpread.{FragmentSpread}
-use Rattle.graphql_fault_data.specs.Diagnostics as tree
-use Rattle.graphql_fault_data.specs.Diagnostics.{Diagnostic, PlainType, SpreadTree}
+use Rattle.graphql_rule_definitions.specs.Diagnostics as tree
+use Rattle.graphql_rule_definitions.specs.Diagnostics.{Diagnostic, PlainType, SpreadTree}
 use Rattle.graphql_fault_data.specs.declared.diagnostic_data.DiagnosticData.{DiagnosticData}
 use Rattle.graphql_fault_data.specs.declared.diagnostic_data.DiagnosticData.TheVariants as rust
 
