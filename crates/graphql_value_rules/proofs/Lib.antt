@@ -1,0 +1,10 @@
+pub mod Tells
+pub mod Looking
+pub mod VariablesTold
+pub mod KeysTold
+pub mod FormsTold
+pub mod TypesTold
+pub mod Adding
+pub mod Looping
+pub mod Examples
+pub use Rattle.graphql_fault_data.proofs as in_fault_data

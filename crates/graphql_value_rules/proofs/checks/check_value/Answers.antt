@@ -1,0 +1,20 @@
+use Rattle.std.proofs.lemmas.Result.{on_ok_weaker}
+use Rattle.graphql_names.specs.Node.{content, place}
+use Rattle.graphql_literals.specs.ValueTree.{value_tree}
+use Rattle.graphql_schema.specs.SchemaOf.{schema_tree}
+use Rattle.graphql_schema.specs.in_schema_types.Addresses.{place_at}
+use Rattle.graphql_rule_definitions.specs.Judged.{judged}
+use Rattle.graphql_rule_definitions.specs.Values.{TypeBreaks, UndefinedVariableIn}
+use Rattle.graphql_value_rules.specs.Wanting.{wanted_type, variables_of}
+use Rattle.graphql_value_rules.proofs.Adding.{adds_both}
+use Rattle.graphql_value_rules.proofs.checks.check_value.Goals as goal
+
+pub returns : goal.returns
+returns c =
+    let s = schema_tree c.args.schema.now in
+    let vs = variables_of c.args.variables.now in
+    let p = place c.args.value.now in
+    let v = value_tree (content c.args.value.now) in
+    on_ok_weaker c.undefined_variables.result
+    (adds_both c.args.faults.now c.type_breaks.new.faults c.undefined_variables.new.faults (TypeBreaks (place_at s) (judged s) vs (wanted_type c.args.ty.now) p v) (UndefinedVariableIn vs p v) c.in_ok-type_breaks.ensures)
+    c.undefined_variables.ensures

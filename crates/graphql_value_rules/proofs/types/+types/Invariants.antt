@@ -1,0 +1,19 @@
+use Rattle.std.proofs.Common.{◌≡◌, ◌++◌, [], map, take, drop}
+use Rattle.graphql_literals.specs.TypeTree.{type_tree}
+use Rattle.graphql_literals.specs.ValueTree.{value_tree, item_trees, entry_trees}
+use Rattle.graphql_schema.specs.SchemaOf.{schema_tree}
+use Rattle.graphql_schema.specs.in_schema_types.TypeView.{extended_type}
+use Rattle.graphql_fault_data.specs.FaultView.{faults_of}
+use Rattle.graphql_value_rules.specs.Wanting.{variables_of}
+use Rattle.graphql_value_rules.specs.ValueFaults.{item_faults, entry_faults}
+use Rattle.graphql_value_rules.proofs.types.+types.Given as goal
+
+abbrev pub invariant-tell_items-loop-item : goal.invariant-tell_items-loop-item
+invariant-tell_items-loop-item l =
+    faults_of l.fn.faults ++ item_faults (schema_tree l.schema) (variables_of l.variables) (type_tree l.ty) l.type_location (item_trees value_tree l.items)
+    ≡ faults_of l.faults ++ item_faults (schema_tree l.schema) (variables_of l.variables) (type_tree l.ty) l.type_location (item_trees value_tree (drop l.item-index l.items))
+
+abbrev pub invariant-tell_entries-loop-index : goal.invariant-tell_entries-loop-index
+invariant-tell_entries-loop-index l =
+    faults_of l.fn.faults ++ entry_faults (schema_tree l.schema) (variables_of l.variables) (extended_type l.found) [] (entry_trees value_tree l.entries)
+    ≡ faults_of l.faults ++ entry_faults (schema_tree l.schema) (variables_of l.variables) (extended_type l.found) (map (λ e. e.0.text) (take l.index l.entries)) (entry_trees value_tree (drop l.index l.entries))

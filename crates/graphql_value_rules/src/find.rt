@@ -1,0 +1,98 @@
+//! What values refer to, by name.
+ghost use Rattle.std.specs.Prelude.{◌≡◌, find, map, bytes_eq};
+ghost use Rattle.std.specs.Option.{option_map};
+ghost use Rattle.graphql_names.specs.Placed.{node_tree};
+ghost use Rattle.graphql_literals.specs.ValueTree.{value_tree, entry_trees};
+ghost use Rattle.graphql_directives.specs.DirectiveTree.{input_value_tree};
+ghost use Rattle.graphql_operations.specs.OperationTree.{variable_definition_tree};
+ghost use Rattle.graphql_components.specs.Given.{component_tree};
+ghost use Rattle.graphql_schema.specs.SchemaOf.{schema_tree};
+ghost use Rattle.graphql_schema.specs.in_ast.TypeSystemTree.{enum_value_tree};
+ghost use Rattle.graphql_schema.specs.in_schema_types.TypeView.{extended_type};
+ghost use Rattle.graphql_schema.specs.in_schema_types.Addresses.{under, type_at};
+ghost use Rattle.graphql_rule_definitions.specs.Values.{defined_name};
+ghost use Rattle.graphql_value_rules.specs.Wanting.{variables_of};
+ghost use Rattle.graphql_value_rules.specs.ValueFaults.{given_entry, is_key};
+
+use graphql_components::Component;
+use graphql_directives::InputValueDefinition;
+use graphql_literals::Value;
+use graphql_names::{Name, Node};
+use graphql_operations::VariableDefinition;
+use graphql_schema::graphql_ast::EnumValueDefinition;
+use graphql_schema::{ExtendedType, Schema};
+
+/// The variable of that name, if there is one.
+pub(crate) fn find_variable<'a>(
+    variables: &'a [Node<VariableDefinition>],
+    name: &Name,
+) -> Option<&'a Node<VariableDefinition>>
+    ensures { option_map (λ v. node_tree variable_definition_tree v.now) result ≡ find (λ v. bytes_eq (defined_name v) name.now.text) (variables_of variables.now) }
+{
+    for variable in variables {
+        if variable.content().name.as_str() == name.as_str() {
+            return Some(variable);
+        }
+    }
+    None
+}
+
+/// The type of that name, if there is one.
+pub(crate) fn find_type<'a>(schema: &'a Schema, name: &Name) -> Option<&'a ExtendedType>
+    ensures { option_map (λ t. extended_type t.now) result ≡ type_at (schema_tree schema.now) name.now.text }
+{
+    schema.types.get(name)
+}
+
+/// The field of that name of an input object, if there is one; other types have none.
+pub(crate) fn find_input<'a>(
+    ty: &'a ExtendedType,
+    name: &Name,
+) -> Option<&'a Component<InputValueDefinition>>
+    ensures { option_map (λ f. component_tree input_value_tree f.now) result ≡ under name.now.text (extended_type ty.now).inputs }
+{
+    match ty {
+        ExtendedType::InputObject(object) => object.content().fields.get(name),
+        _ => None,
+    }
+}
+
+/// The value of that name of an enum, if there is one; other types have none.
+pub(crate) fn find_value<'a>(
+    ty: &'a ExtendedType,
+    name: &Name,
+) -> Option<&'a Component<EnumValueDefinition>>
+    ensures { option_map (λ v. component_tree enum_value_tree v.now) result ≡ under name.now.text (extended_type ty.now).values }
+{
+    match ty {
+        ExtendedType::Enum(own) => own.content().values.get(name),
+        _ => None,
+    }
+}
+
+/// The value of the first entry of that name, if there is one.
+pub(crate) fn find_entry<'a>(
+    entries: &'a [(Name, Node<Value>)],
+    name: &Name,
+) -> Option<&'a Node<Value>>
+    ensures { option_map (λ v. node_tree value_tree v.now) result ≡ given_entry name.now.text (entry_trees value_tree entries.now) }
+{
+    for entry in entries {
+        if entry.0.as_str() == name.as_str() {
+            return Some(&entry.1);
+        }
+    }
+    None
+}
+
+/// Whether one of these entries has that name.
+pub(crate) fn stands_before(before: &[(Name, Node<Value>)], name: &Name) -> bool
+    ensures { result ≡ is_key name.now.text (map (λ e. e.0.text) before.now) }
+{
+    for entry in before {
+        if entry.0.as_str() == name.as_str() {
+            return true;
+        }
+    }
+    false
+}

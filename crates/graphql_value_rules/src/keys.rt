@@ -1,0 +1,122 @@
+//! Keys of objects.
+ghost use Rattle.std.specs.Prelude.{◌≡◌, ◌++◌, [], map, IfOk, OnOk, option_to_list};
+ghost use Rattle.std.specs.Option.{option_map};
+ghost use Rattle.graphql_names.specs.Node.{content};
+ghost use Rattle.graphql_names.specs.Placed.{name_tree};
+ghost use Rattle.graphql_literals.specs.ValueTree.{value_tree, item_trees, entry_trees};
+ghost use Rattle.graphql_fault_data.specs.FaultView.{fault_of, faults_of};
+ghost use Rattle.graphql_value_rules.specs.KeyFaults.{first_key, repeated_key, repeated_keys, key_faults, key_faults_items, key_faults_object, key_faults_entries};
+ghost use Rattle.graphql_value_rules.specs.Wanting.{keys_of_entries};
+
+use graphql_fault_data::{DiagnosticData, Fault, tell};
+use graphql_literals::Value;
+use graphql_names::{Name, Node};
+use std::alloc::AllocError;
+
+/// The first of these keys that has that name.
+fn first_key<'a>(before: &'a [(Name, Node<Value>)], name: &Name) -> Option<&'a Name>
+    ensures { option_map (λ k. name_tree k.now) result ≡ first_key (keys_of_entries before.now) (name_tree name.now) }
+{
+    for entry in before {
+        if entry.0.as_str() == name.as_str() {
+            return Some(&entry.0);
+        }
+    }
+    None
+}
+
+/// UniqueInputValue: no key stands twice in an object (section 5.6.3). `before` are the entries before the key.
+fn unique_input_value(
+    before: &[(Name, Node<Value>)],
+    key: &Name,
+) -> Result<Option<Fault>, AllocError>
+    ensures { IfOk result (λ r. map fault_of (option_to_list r) ≡ repeated_key (keys_of_entries before.now) (name_tree key.now)) }
+{
+    let Some(first) = first_key(before, key) else {
+        return Ok(None);
+    };
+    let location = key.location();
+    let data = DiagnosticData::UniqueInputValue {
+        name: key.clone()?,
+        original_definition: first.location(),
+        redefined_definition: location,
+    };
+    Ok(Some(Fault { location, data }))
+}
+
+/// Adds a fault for each key that stands before among the entries.
+fn tell_repeated_keys(
+    entries: &[(Name, Node<Value>)],
+    faults: &mut Vec<Fault>,
+) -> Result<(), AllocError>
+    ensures { OnOk result (faults_of faults.new ≡ faults_of faults.old ++ repeated_keys [] (entry_trees value_tree entries.now)) }
+{
+    for index in 0..entries.len() {
+        let fault = unique_input_value(&entries[..index], &entries[index].0)?;
+        tell(faults, fault)?;
+    }
+    Ok(())
+}
+
+/// Adds the faults of the keys in a value.
+pub(crate) fn tell_key_faults(
+    value: &Node<Value>,
+    faults: &mut Vec<Fault>,
+) -> Result<(), AllocError>
+    ensures { OnOk result (faults_of faults.new ≡ faults_of faults.old ++ key_faults (value_tree (content value.now))) }
+{
+    tell_keys(value.content(), faults)
+}
+
+/// Adds the faults of the keys in a value, at any depth.
+#[cycle(keys)]
+#[tactic(auto, using(graphql_literals::proofs::Trees::value_tree_rules))]
+fn tell_keys(value: &Value, faults: &mut Vec<Fault>) -> Result<(), AllocError>
+    ensures { OnOk result (faults_of faults.new ≡ faults_of faults.old ++ key_faults (value_tree value.now)) }
+{
+    match value {
+        Value::List(items) => tell_keys_of_items(items, faults),
+        Value::Object(entries) => tell_keys_of_object(entries, faults),
+        Value::Null
+        | Value::Enum(_)
+        | Value::Variable(_)
+        | Value::String(_)
+        | Value::Float(_)
+        | Value::Int(_)
+        | Value::Boolean(_) => Ok(()),
+    }
+}
+
+#[cycle(keys)]
+fn tell_keys_of_items(items: &[Node<Value>], faults: &mut Vec<Fault>) -> Result<(), AllocError>
+    ensures { OnOk result (faults_of faults.new ≡ faults_of faults.old ++ key_faults_items (item_trees value_tree items.now)) }
+{
+    for item in items {
+        tell_keys(item.content(), faults)?;
+    }
+    Ok(())
+}
+
+#[cycle(keys)]
+fn tell_keys_of_object(
+    entries: &[(Name, Node<Value>)],
+    faults: &mut Vec<Fault>,
+) -> Result<(), AllocError>
+    ensures { OnOk result (faults_of faults.new ≡ faults_of faults.old ++ key_faults_object (entry_trees value_tree entries.now)) }
+{
+    tell_repeated_keys(entries, faults)?;
+    tell_keys_of_entries(entries, faults)
+}
+
+#[cycle(keys)]
+fn tell_keys_of_entries(
+    entries: &[(Name, Node<Value>)],
+    faults: &mut Vec<Fault>,
+) -> Result<(), AllocError>
+    ensures { OnOk result (faults_of faults.new ≡ faults_of faults.old ++ key_faults_entries (entry_trees value_tree entries.now)) }
+{
+    for entry in entries {
+        tell_keys(entry.1.content(), faults)?;
+    }
+    Ok(())
+}

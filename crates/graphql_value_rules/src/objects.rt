@@ -1,0 +1,177 @@
+//! Rules on the entries of an object.
+ghost use Rattle.std.specs.Prelude.{◌≡◌, ◌++◌, ◌∷◌, [], map, IfOk, OnOk, option_to_list};
+ghost use Rattle.graphql_names.specs.Node.{place};
+ghost use Rattle.graphql_literals.specs.ValueTree.{value_tree, entry_trees};
+ghost use Rattle.graphql_directives.specs.DirectiveTree.{input_value_tree};
+ghost use Rattle.graphql_components.specs.Given.{component_tree};
+ghost use Rattle.graphql_components.specs.Names.{entries_of};
+ghost use Rattle.graphql_schema.specs.in_schema_types.TypeView.{extended_type, name_text};
+ghost use Rattle.graphql_rule_definitions.specs.in_coords.Coordinate.{OfAttribute};
+ghost use Rattle.graphql_rule_definitions.specs.in_coords.CoordinateView.{attribute_coordinate};
+ghost use Rattle.graphql_rule_definitions.specs.Diagnostics.{UndefinedInputValue};
+ghost use Rattle.graphql_rule_definitions.specs.Faults.{wrong};
+ghost use Rattle.graphql_fault_data.specs.FaultView.{fault_of, faults_of};
+ghost use Rattle.graphql_value_rules.specs.ValueFaults.{is_missing_entry, undefined_key, undefined_input_value, required_field, required_fields, each_first};
+ghost use Rattle.graphql_value_rules.specs.Wanting.{required_among};
+
+use crate::find::{find_entry, find_input};
+use graphql_components::Component;
+use graphql_directives::InputValueDefinition;
+use graphql_fault_data::graphql_coords::TypeAttributeCoordinate;
+use graphql_fault_data::{DiagnosticData, Fault, tell};
+use graphql_literals::Value;
+use graphql_names::{Name, Node, SourceSpan};
+use graphql_schema::ExtendedType;
+use indexmap::IndexMap;
+use std::alloc::AllocError;
+
+/// UndefinedInputValue: an input object has a field for each key; the first key without one is told (section 5.6.2).
+pub(crate) fn undefined_input_value(
+    name: &Name,
+    found: &ExtendedType,
+    value: &Value,
+) -> Result<Option<Fault>, AllocError>
+    ensures { IfOk result (λ r. map fault_of (option_to_list r) ≡ undefined_input_value name.now.text (extended_type found.now) (value_tree value.now)) }
+{
+    if !found.is_input_object() {
+        return Ok(None);
+    }
+    let Some(entries) = value.as_object() else {
+        return Ok(None);
+    };
+    undefined_key(name, found, entries)
+}
+
+/// The first key without a field.
+fn undefined_key(
+    name: &Name,
+    found: &ExtendedType,
+    entries: &[(Name, Node<Value>)],
+) -> Result<Option<Fault>, AllocError>
+    ensures { IfOk result (λ r. map fault_of (option_to_list r) ≡ undefined_key name.now.text (extended_type found.now) (entry_trees value_tree entries.now)) }
+{
+    for entry in entries {
+        if find_input(found, &entry.0).is_none() {
+            return told_key(name, found, entry);
+        }
+    }
+    Ok(None)
+}
+
+/// What is told of a key without a field.
+fn told_key(
+    name: &Name,
+    found: &ExtendedType,
+    entry: &(Name, Node<Value>),
+) -> Result<Option<Fault>, AllocError>
+    ensures { IfOk result (λ r. map fault_of (option_to_list r) ≡ wrong (place entry.now.1) (UndefinedInputValue entry.now.0.text name.now.text (extended_type found.now).place) ∷ []) }
+{
+    let key = entry.0.clone()?;
+    let data = DiagnosticData::UndefinedInputValue {
+        value: key,
+        definition: name.clone()?,
+        definition_location: found.location(),
+    };
+    Ok(Some(Fault {
+        location: entry.1.location(),
+        data,
+    }))
+}
+
+/// Whether there is no entry of that name, or it is null.
+fn is_missing_entry(entries: &[(Name, Node<Value>)], name: &Name) -> bool
+    ensures { result ≡ is_missing_entry name.now.text (entry_trees value_tree entries.now) }
+{
+    match find_entry(entries, name) {
+        None => true,
+        Some(value) => value.content().is_null(),
+    }
+}
+
+/// RequiredField: a required field of an input object is given, and not as null (section 5.6.4). `field` stands under the
+/// name `field_name` in the type of that name.
+fn required_field(
+    name: &Name,
+    location: Option<SourceSpan>,
+    entries: &[(Name, Node<Value>)],
+    field_name: &Name,
+    field: &Component<InputValueDefinition>,
+) -> Result<Option<Fault>, AllocError>
+    ensures { IfOk result (λ r. map fault_of (option_to_list r) ≡ required_field name.now.text location (entry_trees value_tree entries.now) field_name.now.text (component_tree input_value_tree field.now)) }
+{
+    let definition = field.node.content();
+    if !(definition.is_required() && is_missing_entry(entries, field_name)) {
+        return Ok(None);
+    }
+    let coordinate = attribute_coordinate(name, field_name)?;
+    let expected_type = definition.ty.clone()?;
+    let data = DiagnosticData::RequiredField {
+        name: field_name.clone()?,
+        coordinate,
+        expected_type,
+        definition_location: field.node.location(),
+    };
+    Ok(Some(Fault { location, data }))
+}
+
+/// The attribute of that name of the type of that name.
+fn attribute_coordinate(ty: &Name, attribute: &Name) -> Result<TypeAttributeCoordinate, AllocError>
+    ensures { IfOk result (λ c. attribute_coordinate c ≡ OfAttribute ty.now.text attribute.now.text) }
+{
+    let ty = ty.clone()?;
+    Ok(TypeAttributeCoordinate {
+        ty,
+        attribute: attribute.clone()?,
+    })
+}
+
+/// Adds the faults of the required fields that an object does not give.
+pub(crate) fn tell_required_fields(
+    name: &Name,
+    found: &ExtendedType,
+    value: &Value,
+    location: Option<SourceSpan>,
+    faults: &mut Vec<Fault>,
+) -> Result<(), AllocError>
+    ensures { OnOk result (faults_of faults.new ≡ faults_of faults.old ++ required_fields name.now.text (extended_type found.now) location (value_tree value.now)) }
+{
+    let Some(entries) = value.as_object() else {
+        return Ok(());
+    };
+    let ExtendedType::InputObject(object) = found else {
+        return Ok(());
+    };
+    tell_required(name, location, entries, &object.content().fields, faults)
+}
+
+/// Adds the faults of the required ones of these fields that the entries do not give.
+fn tell_required(
+    name: &Name,
+    location: Option<SourceSpan>,
+    entries: &[(Name, Node<Value>)],
+    fields: &IndexMap<Name, Component<InputValueDefinition>>,
+    faults: &mut Vec<Fault>,
+) -> Result<(), AllocError>
+    ensures { OnOk result (faults_of faults.new ≡ faults_of faults.old ++ each_first (required_field name.now.text location (entry_trees value_tree entries.now)) [] (entries_of name_text (component_tree input_value_tree) fields.now)) }
+{
+    if fields.len() == 0 {
+        return Ok(());
+    }
+    tell_each_required(name, location, entries, fields, faults)
+}
+
+fn tell_each_required(
+    name: &Name,
+    location: Option<SourceSpan>,
+    entries: &[(Name, Node<Value>)],
+    fields: &IndexMap<Name, Component<InputValueDefinition>>,
+    faults: &mut Vec<Fault>,
+) -> Result<(), AllocError>
+    ensures { OnOk result (faults_of faults.new ≡ faults_of faults.old ++ required_among name.now.text location (entry_trees value_tree entries.now) fields.now.entries) }
+{
+    for (field_name, field) in fields {
+        let fault = required_field(name, location, entries, field_name, field)?;
+        tell(faults, fault)?;
+    }
+    Ok(())
+}
