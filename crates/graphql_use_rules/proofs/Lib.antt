@@ -1,0 +1,5 @@
+pub mod Moves
+pub mod MovedValues
+pub mod MovedUses
+pub mod SpottedUses
+pub mod SchemaTold

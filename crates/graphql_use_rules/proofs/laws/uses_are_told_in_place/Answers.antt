@@ -1,0 +1,11 @@
+use Rattle.graphql_rule_definitions.specs.Judged.{judged}
+use Rattle.graphql_rule_definitions.specs.Rules.{extension_places_at}
+use Rattle.graphql_use_rules.proofs.SpottedUses.{uses_told}
+use Rattle.graphql_use_rules.proofs.SchemaTold.{schema_uses_told}
+use Rattle.graphql_use_rules.proofs.laws.uses_are_told_in_place.Goals as goal
+
+pub returns-clause-one : goal.returns-clause-one
+returns-clause-one c = λ s holder location ds same f. uses_told s (judged s) (extension_places_at s) holder location ds same f
+
+pub returns-clause-all : goal.returns-clause-all
+returns-clause-all c = λ s distinct f. schema_uses_told s distinct f

@@ -1,0 +1,5 @@
+pub mod Moved
+pub mod SchemaUses
+pub mod Laws
+-- The crates beneath, for those above.
+pub use Rattle.graphql_rule_definitions.specs as in_rule_definitions
