@@ -1,3 +1,4 @@
 pub mod TypedSets
 pub mod OperationMaps
 pub mod DocumentEquality
+pub mod Written

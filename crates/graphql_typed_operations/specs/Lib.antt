@@ -1,3 +1,4 @@
 pub mod TypedDocument
 pub mod PlainDocument
 pub mod OperationsByName
+pub mod ToAst

@@ -1,7 +1,8 @@
 //! Documents under a schema: operations and fragments whose selections have definitions and types.
 //!
 //! For the layers above: contracts see operations, fragments and documents as plain trees (`specs/TypedDocument.antt`);
-//! equality is that of the trees without places, sources and the order of what has names (`specs/PlainDocument.antt`).
+//! equality is that of the trees without places, sources and the order of what has names (`specs/PlainDocument.antt`);
+//! what is written of a document is `ast_document` of its tree (`specs/ToAst.antt`).
 //!
 //! Begin with `specs/TypedDocument.antt` and `document.rt`.
 #![tactic(auto)]
@@ -10,6 +11,8 @@ mod document;
 pub mod laws;
 mod operation;
 mod operation_map;
+mod selections_to_ast;
+mod to_ast;
 
 pub use document::{ExecutableDocument, FieldSet, FragmentMap};
 pub use operation::{Fragment, Operation};

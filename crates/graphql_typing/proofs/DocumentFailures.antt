@@ -1,19 +1,19 @@
 -- What is told of a document are exactly the ways in which a rule of typing is broken in it.
-use Rattle.std.proofs.Common.{◌≡◌, ℕ, ◌<◌, Bool, true, false, ◌↔◌, ◌⊎◌, inl, inr, List, [], ◌∷◌, ◌++◌, map, flat_map, Option, None, Some, refl, sym, ap, subst, ◌∙◌, append_assoc, if◌then◌else◌, is_some, option_to_list, Contains, true≢false, length, lt-ltb, ltb-true}
+use Rattle.std.proofs.Common.{◌≡◌, ℕ, Bool, true, false, ◌↔◌, ◌⊎◌, inl, inr, List, [], ◌∷◌, ◌++◌, flat_map, Option, None, Some, refl, sym, ap, subst, ◌∙◌, if◌then◌else◌, is_some, option_to_list, Contains, true≢false, length, lt-ltb, ltb-true}
 use Rattle.std.specs.Prelude.{nat_lt, slice_get}
 use Rattle.std.specs.List.{filter}
-use Rattle.std.specs.Option.{option_map, option_map_or}
+use Rattle.std.specs.Option.{option_map}
 use Rattle.std.proofs.lemmas.List.{append-nil}
 use Rattle.std.proofs.lemmas.List.Elements.{Contains-append_left, Contains-append_right, Contains-append_cases}
 use Rattle.graphql_names.specs.Placed.{Text}
 use Rattle.graphql_operations.specs.OperationLayout.{is_none}
 use Rattle.graphql_operations.specs.OperationTree.{OperationTree, FragmentTree}
 use Rattle.graphql_ast.specs.DefinitionTree.{DefinitionTree, Operation, Fragment}
-use Rattle.graphql_ast.specs.Queries.{is_executable, definition_place}
+use Rattle.graphql_ast.specs.Queries.{definition_place}
 use Rattle.graphql_components.specs.Lists.{each_place, StandsAfter, AtSomePlace, firsts, has_name}
 use Rattle.graphql_components.proofs.Places.{not_in_nil, only, is_only, found_at, given_at}
 use Rattle.graphql_typing.specs.Meanings.{Meanings}
-use Rattle.graphql_typing.specs.KeptDocument.{Based, based_operation, based_fragment, anonymous_here, named_here, fragment_here, text_of, operation_name, fragment_name, kept_anonymous, kept_named, kept_operations, kept_fragments}
+use Rattle.graphql_typing.specs.KeptDocument.{Based, based_operation, anonymous_here, named_here, fragment_here, text_of, operation_name, fragment_name, kept_anonymous, kept_named, kept_operations, kept_fragments}
 use Rattle.graphql_typing.specs.TypingFaults as rule
 use Rattle.graphql_typing.specs.TypingFaults.{Fault, At, is_operation, TypeSystemDefinition, AmbiguousAnonymousOperation, OperationNameCollision, FragmentNameCollision, UndefinedRootOperation, UndefinedTypeInNamedFragmentTypeCondition, SetFails, DefinitionBreaks, TypingFails}
 use Rattle.graphql_typing.specs.SetFaults.{set_faults}
@@ -126,15 +126,15 @@ single : {B : Type 0} (b : B) → AtMostOne (b ∷ [])
 single b = inr (b, refl)
 
 module _ {P : Type 0} (m : Meanings) where
-  one-anonymous : (d : DefinitionTree P) → AtMostOne (anonymous_here m d)
+  pub one-anonymous : (d : DefinitionTree P) → AtMostOne (anonymous_here m d)
   one-anonymous (Operation p o) = if-one (is_none o.name) (based_operation m p o) [] (optional (λ t. based p t o) (m.root o.operation_type)) none
   one-anonymous d = none
 
-  one-named : (d : DefinitionTree P) → AtMostOne (named_here m d)
+  pub one-named : (d : DefinitionTree P) → AtMostOne (named_here m d)
   one-named (Operation p o) = if-one (is_none o.name) [] (based_operation m p o) none (optional (λ t. based p t o) (m.root o.operation_type))
   one-named d = none
 
-  one-fragment : (d : DefinitionTree P) → AtMostOne (fragment_here m d)
+  pub one-fragment : (d : DefinitionTree P) → AtMostOne (fragment_here m d)
   one-fragment (Fragment p f) = if-one (m.has_type f.type_condition.it) (record { place = p; base = f.type_condition.it; it = f } ∷ []) [] (single (record { place = p; base = f.type_condition.it; it = f })) none
   one-fragment d = none
 

@@ -1,5 +1,5 @@
 -- What a look-up of a field finds, without places.
-use Rattle.std.proofs.Common.{◌≡◌, ℕ, List, Option, None, Some, Result, Ok, Err, IfOk, IfErr, Bor, sym, ap, subst, ◌∙◌, option_and_then}
+use Rattle.std.proofs.Common.{◌≡◌, ℕ, List, None, Some, Result, Ok, Err, IfOk, IfErr, Bor, sym, ap, subst, ◌∙◌, option_and_then}
 use Rattle.std.specs.Option.{option_map, option_or}
 use Rattle.graphql_names.specs.Placed.{Place}
 use Rattle.graphql_type_members.specs.TypeSystemTree.{field_definition_tree, unplaced_field_definition}

@@ -1,17 +1,17 @@
 -- A list with all faults of typing is full.
-use Rattle.std.proofs.Common.{◌≡◌, ℕ, ◌<◌, Bool, true, false, not, ◌&&◌, ◌||◌, List, [], ◌∷◌, ◌++◌, Option, None, Some, refl, sym, ap, subst, ◌∙◌, if◌then◌else◌, is_some, Contains, true≢false, length, arith, flat_map}
+use Rattle.std.proofs.Common.{◌≡◌, ℕ, ◌<◌, Bool, true, false, not, ◌&&◌, ◌||◌, List, [], ◌∷◌, ◌++◌, Option, None, Some, refl, sym, ap, subst, if◌then◌else◌, is_some, Contains, true≢false, length, arith, flat_map}
 use Rattle.std.specs.Prelude.{slice_get}
 use Rattle.std.specs.List.{filter}
 use Rattle.std.specs.Option.{option_map_or}
 use Rattle.graphql_names.specs.Placed.{Text}
 use Rattle.graphql_operations.specs.OperationLayout.{is_none}
-use Rattle.graphql_operations.specs.OperationTree.{OperationTree, FragmentTree}
+use Rattle.graphql_operations.specs.OperationTree.{OperationTree}
 use Rattle.graphql_operations.specs.OperationWritable.{has_selection}
 use Rattle.graphql_operations.specs.SelectionTree.{FieldHead, SelectionTree, FieldTree, SpreadTree, InlineTree, SelectionTrees}
 use Rattle.graphql_ast.specs.DefinitionTree.{DefinitionTree, Operation, Fragment}
 use Rattle.graphql_ast.specs.Queries.{definition_place}
 use Rattle.graphql_components.specs.Lists.{StandsAfter, has_name}
-use Rattle.graphql_typing.specs.MeantTree.{Definition, MeantSelection, MeantField, MeantInline, set_on}
+use Rattle.graphql_typing.specs.MeantTree.{Definition, MeantField, MeantInline, set_on}
 use Rattle.graphql_typing.specs.Meanings.{Meanings, inner_type}
 use Rattle.graphql_typing.specs.KeptSelections.{is_leaf, may_select, kept, kept_all}
 use Rattle.graphql_typing.specs.KeptDocument.{anonymous_here, text_of, operation_name, fragment_name, kept_anonymous, kept_named, kept_fragments}
@@ -39,7 +39,7 @@ module _ {P : Type 0} (m : Meanings) where
   leaf-out p h ts u d e has false so leaf = (At p (SubselectionOnEnumType (inner_type d)), rule.subselection_on_enum_type (d, (e, leaf, has, refl)))
 
   -- a selection that is left out breaks a rule
-  left-out : (s : SelectionTree P) (u : List ℕ) → kept m s u ≡ [] → (f : Fault P) × SelectionBreaks m u s f
+  pub left-out : (s : SelectionTree P) (u : List ℕ) → kept m s u ≡ [] → (f : Fault P) × SelectionBreaks m u s f
   left-out (FieldTree p h ts) u e = by (m.field u h.name.it) refl e
     where
       by_test : (d : Definition) → m.field u h.name.it ≡ Some d → (b : Bool) → may_select m (inner_type d) ts ≡ b
@@ -84,7 +84,7 @@ module _ {P : Type 0} where
   some-operation m (d ∷ xs) h = some-operation m xs h
 
 module _ {P : Type 0} (m : Meanings) (ds : List (DefinitionTree P)) where
-  not-kept : (before : List (DefinitionTree P)) (d : DefinitionTree P) → StandsAfter ds before d → is_kept m before d ≡ false → (f : Fault P) × DefinitionBreaks m ds before d f
+  pub not-kept : (before : List (DefinitionTree P)) (d : DefinitionTree P) → StandsAfter ds before d → is_kept m before d ≡ false → (f : Fault P) × DefinitionBreaks m ds before d f
   not-kept before (Operation p o) (after, at) h = by (m.root o.operation_type) refl h
     where
       by_name : (x : Option (Text P)) → o.name ≡ x → (if is_none x then is_some (kept_anonymous m before) else has_name operation_name (text_of x) (kept_named m before)) ≡ true

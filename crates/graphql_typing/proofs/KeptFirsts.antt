@@ -1,11 +1,10 @@
 -- What a further definition does to what is kept: it adds what it has, if its name is new.
-use Rattle.std.proofs.Common.{◌≡◌, ℕ, Bool, true, false, ◌||◌, List, [], ◌∷◌, ◌++◌, map, flat_map, Option, None, Some, refl, sym, ap, ◌∙◌, append_assoc, if◌then◌else◌, cond, is_some}
+use Rattle.std.proofs.Common.{◌≡◌, ℕ, true, false, ◌||◌, List, [], ◌∷◌, ◌++◌, map, flat_map, Option, None, Some, refl, sym, ap, ◌∙◌, append_assoc, if◌then◌else◌, is_some}
 use Rattle.std.specs.Prelude.{slice_get}
 use Rattle.std.specs.Str.{bytes_eq}
 use Rattle.std.specs.Option.{option_map}
-use Rattle.std.proofs.lemmas.List.{append-nil, map-append}
-use Rattle.graphql_components.specs.Lists.{each_place, each_place_after, firsts, has_name, is_among}
-use Rattle.graphql_components.specs.Names.{Entries}
+use Rattle.std.proofs.lemmas.List.{append-nil}
+use Rattle.graphql_components.specs.Lists.{each_place, each_place_after, firsts, has_name}
 use Rattle.graphql_components.proofs.Firsts.{has_name-firsts, firsts-push_new, firsts-push_seen}
 use Rattle.graphql_typing.specs.Steps.{is_under}
 

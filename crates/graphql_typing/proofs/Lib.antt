@@ -11,3 +11,6 @@ pub mod DocumentFailures
 pub mod FullLists
 pub mod FieldsFound
 pub mod DocumentMeant
+pub mod TypedPlaces
+pub mod WholeDocuments
+pub mod WrittenMeant

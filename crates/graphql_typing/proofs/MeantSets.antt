@@ -1,5 +1,5 @@
 -- What typed sets mean, and how sets go on.
-use Rattle.std.proofs.Common.{◌≡◌, ℕ, List, [], ◌∷◌, ◌++◌, map, refl, ap, ◌∙◌}
+use Rattle.std.proofs.Common.{◌≡◌, List, [], ◌∷◌, map, refl, ap, ◌∙◌}
 use Rattle.graphql_names.specs.Placed.{name_tree, Place}
 use Rattle.graphql_typed_selections.specs.TypedTree.{set_type, typed_selections, typed_selection_tree, typed_set_tree}
 use Rattle.graphql_typed_selections.specs.TypedParts.{typed_head}

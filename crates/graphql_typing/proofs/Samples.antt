@@ -1,12 +1,11 @@
 -- A schema and selections for the rows of `TypingRows.antt`.
-use Rattle.std.specs.Prelude.{ℕ, Bool, true, false, List, [], ◌∷◌, codes, Option, None, Some}
+use Rattle.std.specs.Prelude.{ℕ, false, List, [], ◌∷◌, Option, None, Some}
 use Rattle.std.specs.List.{find}
 use Rattle.std.specs.Option.{option_map}
 use Rattle.std.specs.Str.{bytes_eq}
-use Rattle.graphql_names.specs.Placed.{Placed, Text}
-use Rattle.graphql_literals.specs.TypeTree.{TypeTree, NamedTree, ListTree}
-use Rattle.graphql_operations.specs.SelectionTree.{FieldHead, SelectionTree, FieldTree, SpreadTree, InlineTree, SelectionTrees, no_selections, selection_then}
-use Rattle.graphql_operations.specs.OperationTree.{OperationTree, FragmentTree}
+use Rattle.graphql_names.specs.Placed.{Text}
+use Rattle.graphql_literals.specs.TypeTree.{TypeTree}
+use Rattle.graphql_operations.specs.SelectionTree.{FieldHead, SelectionTree, FieldTree, InlineTree, SelectionTrees, no_selections, selection_then}
 use Rattle.graphql_operations.specs.declared.operation.OperationType.{OperationType}
 use Rattle.graphql_ast.specs.DefinitionTree.{DefinitionTree, Operation, Fragment}
 use Rattle.graphql_components.specs.Lists.{is_among}

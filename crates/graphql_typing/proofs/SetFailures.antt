@@ -1,5 +1,5 @@
 -- The list of a set's faults holds exactly the ways in which a selection of it breaks a rule, and one for each that is left out.
-use Rattle.std.proofs.Common.{◌≡◌, ℕ, Bool, true, false, not, ◌&&◌, ◌||◌, ◌↔◌, ◌⊎◌, inl, inr, List, [], ◌∷◌, ◌++◌, Option, None, Some, refl, sym, ap, subst, ◌∙◌, if◌then◌else◌, cond, Contains, true≢false, is_some}
+use Rattle.std.proofs.Common.{◌≡◌, ℕ, Bool, true, false, not, ◌&&◌, ◌||◌, ◌↔◌, inl, inr, List, [], ◌∷◌, Option, None, Some, refl, sym, ap, subst, ◌∙◌, if◌then◌else◌, Contains, true≢false}
 use Rattle.std.specs.Option.{option_map_or}
 use Rattle.std.proofs.lemmas.List.Elements.{Contains-append_left, Contains-append_right, Contains-append_cases}
 use Rattle.graphql_names.specs.Placed.{Text}
@@ -7,9 +7,9 @@ use Rattle.graphql_directives.specs.DirectiveTree.{Directives}
 use Rattle.graphql_operations.specs.SelectionTree.{FieldHead, SelectionTree, FieldTree, SpreadTree, InlineTree, SelectionTrees, no_selections, selection_then}
 use Rattle.graphql_operations.specs.OperationWritable.{has_selection}
 use Rattle.graphql_components.proofs.Places.{not_in_nil, only, is_only}
-use Rattle.graphql_typing.specs.MeantTree.{Definition, MeantSelection, MeantField, set_on}
+use Rattle.graphql_typing.specs.MeantTree.{Definition}
 use Rattle.graphql_typing.specs.Meanings.{Meanings, inner_type}
-use Rattle.graphql_typing.specs.KeptSelections.{is_leaf, may_select, kept, kept_all}
+use Rattle.graphql_typing.specs.KeptSelections.{is_leaf, may_select}
 use Rattle.graphql_typing.specs.TypingFaults as rule
 use Rattle.graphql_typing.specs.TypingFaults.{Fault, At, UndefinedField, SubselectionOnScalarType, SubselectionOnEnumType, UndefinedTypeInInlineFragmentTypeCondition, SelectionBreaks, StandsIn, SetFails}
 use Rattle.graphql_typing.specs.SetFaults.{leaf_faults, selection_faults, set_faults}

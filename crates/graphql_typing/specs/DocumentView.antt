@@ -1,8 +1,7 @@
 -- What contracts see of typed documents: what they mean.
-use Rattle.std.specs.Prelude.{ℕ, List, map, Option, Vec}
+use Rattle.std.specs.Prelude.{map}
 use Rattle.std.specs.Option.{option_map}
-use Rattle.std.specs.declared.alloc.Global.{Global}
-use Rattle.graphql_names.specs.Placed.{Placed, Place}
+use Rattle.graphql_names.specs.Placed.{Placed}
 use Rattle.graphql_typed_selections.specs.TypedTree.{set_type}
 use Rattle.graphql_typed_operations.specs.TypedDocument.{TypedOperation, TypedFragment, TypedDocumentTree}
 use Rattle.graphql_typing.specs.MeantTree.{MeantOperation, MeantFragment, MeantDocument, meant_of_set}

@@ -1,5 +1,5 @@
 -- Which operations and fragments of a document are kept, and what they mean (GraphQL, October 2021, sections 3.3.1, 5.2.1.1, 5.5.1.1 and 5.5.1.2).
-use Rattle.std.specs.Prelude.{ℕ, List, [], ◌∷◌, ◌++◌, map, Option, None, Some, slice_get, option_to_list, unwrap_or, if◌then◌else◌}
+use Rattle.std.specs.Prelude.{ℕ, List, [], ◌∷◌, ◌++◌, map, Option, None, Some, slice_get, option_to_list, if◌then◌else◌}
 use Rattle.std.specs.List.{flat_map}
 use Rattle.std.specs.Option.{option_map}
 use Rattle.graphql_names.specs.Placed.{Text}

@@ -5,11 +5,10 @@ pub mod KeptDocument
 pub mod TypingFaults
 pub mod FullList
 pub mod OutDoc
-pub mod Messages
+pub mod TypedByPlace
 pub mod FaultView
 pub mod MeaningView
 pub mod SetFaults
-pub mod FilledTemplate
 pub mod DefinedField
 pub mod Steps
 pub mod DocumentView

@@ -1,5 +1,5 @@
 -- What contracts see of the schema under which a document is typed, and of what is kept of a set.
-use Rattle.std.specs.Prelude.{ℕ, List, map, Option, Vec}
+use Rattle.std.specs.Prelude.{List, map, Option, Vec}
 use Rattle.std.specs.Borrow.{Bor}
 use Rattle.std.specs.Option.{option_map}
 use Rattle.std.specs.declared.alloc.Global.{Global}

@@ -1,7 +1,6 @@
 -- What is written of a document: its operations, one without a name first, and then its fragments, each in the order read (GraphQL, October 2021, sections 2.2, 2.3 and 2.8).
-use Rattle.std.specs.Prelude.{ℕ, Bool, true, false, ◌&&◌, not, List, [], ◌∷◌, ◌++◌, map, option_to_list, Option, Some}
+use Rattle.std.specs.Prelude.{Bool, true, false, not, List, ◌++◌, map, option_to_list}
 use Rattle.std.specs.List.{filter}
-use Rattle.graphql_names.specs.Placed.{Text}
 use Rattle.graphql_operations.specs.OperationLayout.{is_none}
 use Rattle.graphql_operations.specs.SelectionTree.{SelectionTree, FieldTree, SpreadTree, InlineTree, SelectionTrees, no_selections, selection_then}
 use Rattle.graphql_ast.specs.DefinitionTree.{DefinitionTree, Operation, Fragment}

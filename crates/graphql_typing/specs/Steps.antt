@@ -1,5 +1,5 @@
 -- What one definition adds to what is kept and told of those before it (private: it leads to `KeptDocument.antt`, `TypingFaults.antt`).
-use Rattle.std.specs.Prelude.{ℕ, Bool, List, [], ◌∷◌, ◌++◌, map, Option, None, Some, is_some, fold, nat_lt, length, if◌then◌else◌}
+use Rattle.std.specs.Prelude.{ℕ, Bool, List, [], ◌∷◌, ◌++◌, Option, None, Some, is_some, fold, nat_lt, length, if◌then◌else◌}
 use Rattle.std.specs.List.{filter}
 use Rattle.std.specs.Option.{option_map_or}
 use Rattle.graphql_names.specs.Placed.{Text}
@@ -8,7 +8,7 @@ use Rattle.graphql_ast.specs.DefinitionTree.{DefinitionTree, Operation, Fragment
 use Rattle.graphql_ast.specs.Queries.{definition_place}
 use Rattle.graphql_components.specs.Lists.{has_name}
 use Rattle.graphql_components.specs.Names.{Entries}
-use Rattle.graphql_typing.specs.MeantTree.{MeantOperation, MeantFragment, MeantDocument}
+use Rattle.graphql_typing.specs.MeantTree.{MeantDocument}
 use Rattle.graphql_typing.specs.Meanings.{Meanings}
 use Rattle.graphql_typing.specs.KeptDocument.{Based, meant_operation, meant_fragment}
 use Rattle.graphql_typing.specs.TypingFaults.{Fault, At, is_operation, TypeSystemDefinition, AmbiguousAnonymousOperation, OperationNameCollision, FragmentNameCollision, UndefinedRootOperation, UndefinedTypeInNamedFragmentTypeCondition}

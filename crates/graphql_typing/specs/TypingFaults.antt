@@ -1,39 +1,25 @@
 -- The rules of typing, each by what breaks it in the document as read: a fault with its place and its data (GraphQL, October 2021, sections 5.1.1, 5.2.1.1, 5.2.2.1, 5.3.1, 5.3.3, 5.5.1.1 and 5.5.1.2).
-use Rattle.std.specs.Prelude.{◌≡◌, ℕ, ◌<◌, Bool, true, false, List, length, Option, None, Some, Contains}
+use Rattle.std.specs.Prelude.{◌≡◌, ℕ, ◌<◌, Bool, true, false, List, length, None, Some, Contains}
 use Rattle.std.specs.List.{filter}
-use Rattle.graphql_operations.specs.OperationTree.{OperationTree, FragmentTree}
-use Rattle.graphql_operations.specs.SelectionTree.{SelectionTree, FieldTree, SpreadTree, InlineTree, SelectionTrees, selection_then, FieldHead}
+use Rattle.graphql_operations.specs.SelectionTree.{SelectionTree, FieldTree, InlineTree, SelectionTrees, selection_then, FieldHead}
 use Rattle.graphql_operations.specs.OperationWritable.{has_selection}
-use Rattle.graphql_operations.specs.declared.operation.OperationType.{OperationType}
 use Rattle.graphql_names.specs.Placed.{Text}
 use Rattle.graphql_directives.specs.DirectiveTree.{Directives}
 use Rattle.graphql_ast.specs.DefinitionTree.{DefinitionTree, Operation, Fragment}
 use Rattle.graphql_ast.specs.Queries.{is_executable, definition_place}
 use Rattle.graphql_components.specs.Lists.{AtSomePlace, has_name}
+pub use Rattle.graphql_document_faults.specs.DocumentBreaches.{DocumentBreach, TypeSystemDefinition, AmbiguousAnonymousOperation, OperationNameCollision, FragmentNameCollision, UndefinedRootOperation, UndefinedTypeInNamedFragmentTypeCondition, UndefinedTypeInInlineFragmentTypeCondition, SubselectionOnScalarType, SubselectionOnEnumType, UndefinedField}
 use Rattle.graphql_typing.specs.MeantTree.{Definition}
 use Rattle.graphql_typing.specs.Meanings.{Meanings, inner_type}
 use Rattle.graphql_typing.specs.KeptSelections.{may_select}
 use Rattle.graphql_typing.specs.KeptDocument.{operation_name, fragment_name, kept_named, kept_operations, kept_fragments}
 
--- what is wrong
-pub data Breach : Type 0 where
-  TypeSystemDefinition : Breach
-  AmbiguousAnonymousOperation : Breach
-  OperationNameCollision : (name : List ℕ) → Breach
-  FragmentNameCollision : (name : List ℕ) → Breach
-  UndefinedRootOperation : (operation : OperationType) → Breach
-  UndefinedTypeInNamedFragmentTypeCondition : (type_name : List ℕ) → Breach
-  UndefinedTypeInInlineFragmentTypeCondition : (type_name : List ℕ) → Breach
-  SubselectionOnScalarType : (type_name : List ℕ) → Breach
-  SubselectionOnEnumType : (type_name : List ℕ) → Breach
-  UndefinedField : (type_name field_name : List ℕ) → Breach
-
 -- what is wrong, and where
 pub record Fault (P : Type 0) : Type 0 where
   pub place : P
-  pub breach : Breach
+  pub breach : DocumentBreach P
 
-abbrev pub At : {P : Type 0} → P → Breach → Fault P
+abbrev pub At : {P : Type 0} → P → DocumentBreach P → Fault P
 At p breach = record { place = p; breach = breach }
 
 -- ---- rules on a selection that stands under the type t

@@ -7,16 +7,18 @@ ghost use Rattle.graphql_typed_operations.specs.TypedDocument.{typed_document_tr
 ghost use Rattle.graphql_typing.specs.KeptDocument.{kept_document};
 ghost use Rattle.graphql_typing.specs.TypingFaults.{TypingFails};
 ghost use Rattle.graphql_typing.specs.FullList.{TellsAll};
+ghost use Rattle.graphql_typing.specs.OutDoc.{out_doc, written_document};
+ghost use Rattle.graphql_typing.specs.TypedByPlace.{IsTypedDocument};
 ghost use Rattle.graphql_typing.specs.FaultView.{faults_of};
 ghost use Rattle.graphql_typing.specs.DocumentView.{meant_document};
 ghost use Rattle.graphql_typing.specs.MeaningView.{meanings_under};
 ghost use Rattle.graphql_typing.specs.BuilderView.{builder_value, IsAddRefusal, IsBuildRefusal};
 
-use crate::build_error::BuildError;
 use crate::document::type_document;
 use crate::refusal::BuilderRefusal;
 use crate::sources::add_sources;
 use graphql_ast::{Definition, Document, FileId, SourceFile, SourceSpan};
+use graphql_document_faults::BuildError;
 use graphql_schema::Schema;
 use graphql_typed_operations::ExecutableDocument;
 use indexmap::IndexMap;
@@ -69,12 +71,15 @@ impl<'schema> ExecutableDocumentBuilder<'schema> {
         }
     }
 
-    /// The document that is kept, and each way in which a rule of typing is broken.
+    /// The document that is kept, which is typed by its place, and each way in which a rule of typing is broken. Where
+    /// none is, the whole document is kept.
     pub fn build(
         self,
     ) -> Result<(ExecutableDocument, Vec<(Option<SourceSpan>, BuildError)>), BuilderRefusal>
         ensures running { OnOk result ((builder_value self.entry).failed ≡ false) }
         ensures document { IfOk result (λ r. meant_document (typed_document_tree r.0) ≡ kept_document (builder_value self.entry).meanings (builder_value self.entry).definitions) }
+        ensures typed { IfOk result (λ r. IsTypedDocument (builder_value self.entry).meanings (meant_document (typed_document_tree r.0))) }
+        ensures whole { IfOk result (λ r. faults_of r.1 ≡ [] → written_document (meant_document (typed_document_tree r.0)) ≡ out_doc (builder_value self.entry).definitions) }
         ensures sources { IfOk result (λ r. sources_view r.0.sources ≡ (builder_value self.entry).sources) }
         ensures faults { IfOk result (λ r. (f : _) → Contains (faults_of r.1) f ↔ TypingFails (builder_value self.entry).meanings (builder_value self.entry).definitions f) }
         ensures full { IfOk result (λ r. TellsAll (builder_value self.entry).meanings (builder_value self.entry).definitions (faults_of r.1)) }

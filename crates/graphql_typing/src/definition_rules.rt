@@ -1,13 +1,13 @@
 //! The rules of typing on definitions: each tells where it is broken.
 ghost use Rattle.std.specs.Prelude.{◌≡◌, ◌++◌, [], ◌∷◌, OnOk};
-ghost use Rattle.graphql_typing.specs.TypingFaults as breach;
+ghost use Rattle.graphql_document_faults.specs.DocumentBreaches as breach;
 ghost use Rattle.graphql_typing.specs.TypingFaults.{At};
 ghost use Rattle.graphql_typing.specs.Steps.{faults_if};
 ghost use Rattle.graphql_typing.specs.FaultView.{faults_of};
 
-use crate::build_error::BuildError;
 use crate::rules::tell;
 use graphql_ast::{Name, OperationType, SourceSpan};
+use graphql_document_faults::BuildError;
 use std::alloc::AllocError;
 
 /// A document holds operations and fragments alone (section 5.1.1): this definition is of the type system.

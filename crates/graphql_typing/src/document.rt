@@ -14,7 +14,6 @@ ghost use Rattle.graphql_typing.specs.StepsView.{operation_meaning, fragment_mea
 ghost use Rattle.graphql_typing.specs.FaultView.{faults_of};
 ghost use Rattle.graphql_typing.specs.MeaningView.{meanings_under};
 
-use crate::build_error::BuildError;
 use crate::definition_rules::{
     ambiguous_anonymous_operation, fragment_name_collision, operation_name_collision,
     type_system_definition, undefined_root_operation,
@@ -24,6 +23,7 @@ use crate::keep::{keep_fragment, keep_operation, set_on};
 use crate::look_ups::{has_type, root_of};
 use crate::selections::type_selections;
 use graphql_ast::{Definition, FragmentDefinition, Name, Node, OperationDefinition, SourceSpan};
+use graphql_document_faults::BuildError;
 use graphql_schema::Schema;
 use graphql_typed_operations::{Fragment, FragmentMap, Operation, OperationMap};
 use indexmap::IndexMap;

@@ -11,10 +11,10 @@ ghost use Rattle.graphql_typing.specs.TypingFaults.{SetFails};
 ghost use Rattle.graphql_typing.specs.FullList.{TellsSet};
 ghost use Rattle.graphql_typing.specs.FaultView.{faults_of};
 
-use crate::build_error::BuildError;
 use crate::keep::set_on;
 use crate::selections::type_selections;
 use graphql_ast::{Name, Selection, SourceSpan};
+use graphql_document_faults::BuildError;
 use graphql_schema::Schema;
 use graphql_typed_operations::FieldSet;
 use indexmap::IndexMap;

@@ -8,8 +8,6 @@
 //! Begin with `specs/Meanings.antt` and `selections.rt`; `document.rt` has whole documents.
 #![tactic(auto)]
 
-mod build_error;
-mod build_error_text;
 mod builder;
 mod definition_rules;
 mod document;
@@ -21,10 +19,11 @@ mod rules;
 mod selections;
 mod sources;
 
-pub use build_error::BuildError;
 pub use builder::ExecutableDocumentBuilder;
 pub use field_set::field_set_from_ast;
+pub use graphql_document_faults::BuildError;
 pub use refusal::BuilderRefusal;
 
 // The crates beneath, for those above.
+pub use graphql_document_faults;
 pub use graphql_typed_operations;

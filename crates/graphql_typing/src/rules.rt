@@ -1,17 +1,18 @@
 //! The rules of typing on selections: each gives what breaks it.
 ghost use Rattle.std.specs.Prelude.{◌≡◌, ◌++◌, [], ◌∷◌, map, IfOk, OnOk, option_to_list, Bool, ◌&&◌, if◌then◌else◌};
 ghost use Rattle.std.specs.Option.{option_map};
-ghost use Rattle.graphql_typing.specs.TypingFaults as breach;
-ghost use Rattle.graphql_typing.specs.FaultView.{breach_of, faults_of};
+ghost use Rattle.graphql_document_faults.specs.DocumentBreaches as breach;
+ghost use Rattle.graphql_document_faults.specs.DocumentBreachView.{document_breach_of};
+ghost use Rattle.graphql_typing.specs.FaultView.{faults_of};
 ghost use Rattle.graphql_operations.specs.SelectionTree.{selection_tree, selection_trees};
 ghost use Rattle.graphql_typing.specs.KeptSelections.{is_leaf, may_select};
 ghost use Rattle.graphql_operations.specs.OperationWritable.{has_selection};
 ghost use Rattle.graphql_typing.specs.SetFaults.{leaf_faults};
 ghost use Rattle.graphql_typing.specs.MeaningView.{meanings_under};
 
-use crate::build_error::BuildError;
 use crate::look_ups::{is_enum, is_scalar};
 use graphql_ast::{Name, Selection, SourceSpan};
+use graphql_document_faults::BuildError;
 use graphql_schema::Schema;
 use std::alloc::AllocError;
 
@@ -21,7 +22,7 @@ pub(crate) fn tell(
     error: BuildError,
     faults: &mut Vec<(Option<SourceSpan>, BuildError)>,
 ) -> Result<(), AllocError>
-    ensures { OnOk result (faults_of faults.new ≡ faults_of faults.old ++ record { place = location; breach = breach_of error } ∷ []) }
+    ensures { OnOk result (faults_of faults.new ≡ faults_of faults.old ++ record { place = location; breach = document_breach_of error } ∷ []) }
 {
     faults.push((location, error))?;
     Ok(())

@@ -13,7 +13,6 @@ ghost use Rattle.graphql_typing.specs.DefinedField.{definition_view, kept_define
 ghost use Rattle.graphql_typing.specs.FaultView.{faults_of};
 ghost use Rattle.graphql_typing.specs.MeaningView.{meanings_under, meant_selections};
 
-use crate::build_error::BuildError;
 use crate::keep::{keep_field, keep_inline, keep_spread, set_on};
 use crate::look_ups::{definition_of, has_type, inner_name};
 use crate::rules::{
@@ -21,6 +20,7 @@ use crate::rules::{
     undefined_type_in_inline_fragment_type_condition,
 };
 use graphql_ast::{Field, FieldDefinition, InlineFragment, Name, Node, Selection, SourceSpan};
+use graphql_document_faults::BuildError;
 use graphql_schema::Schema;
 use graphql_typed_selections as typed;
 use std::alloc::{AllocError, Global};

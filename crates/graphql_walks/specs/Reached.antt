@@ -1,6 +1,6 @@
 -- Which fields a walk lends: those of a selection set, and those of the fragments that it reaches
 -- (GraphQL, October 2021, sections 2.4, 2.5 and 2.8).
-use Rattle.std.specs.Prelude.{◌≡◌, ◌↔◌, ◌++◌, ℕ, Bool, true, false, List, [], ◌∷◌, map, if◌then◌else◌, Option, Some, None, Contains}
+use Rattle.std.specs.Prelude.{◌≡◌, ◌↔◌, ◌⊎◌, ◌++◌, ℕ, Bool, true, false, List, [], ◌∷◌, map, if◌then◌else◌, Option, Some, None, Contains}
 use Rattle.std.specs.List.{flat_map, filter, find, IsDistinct}
 use Rattle.std.specs.Str.{bytes_eq}
 use Rattle.graphql_typed_operations.specs.TypedDocument.{TypedDocumentTree}
@@ -73,3 +73,7 @@ pub record IsWalk {P : Type 0} (nested : Bool) (fragments : Fragments P) (start 
   pub reached : (f : NamedSet P) → Contains order f ↔ Reached nested fragments start f
   pub once : IsDistinct bytes_eq (map (λ f. f.0) order)
   pub fields : given ≡ fields_in nested start ++ flat_map (λ f. fields_in nested f.1) order
+
+-- a field occurrence of the start or of a reached fragment
+abbrev pub IsReachedField : {P : Type 0} → Bool → Fragments P → TypedSet P → TypedSelection P → Type 0
+IsReachedField {P} nested fragments start x = Contains (fields_in nested start) x ⊎ ((f : NamedSet P) × (Reached nested fragments start f × Contains (fields_in nested f.1) x))

@@ -1,6 +1,5 @@
-use Rattle.std.proofs.Common.{◌≡◌, [], ◌∷◌, ◌++◌, map, ap, ◌∙◌}
+use Rattle.std.proofs.Common.{[], ◌∷◌, ◌++◌, map, ap, ◌∙◌}
 use Rattle.std.proofs.lemmas.List.{map-append}
-use Rattle.graphql_names.specs.Node.{content}
 use Rattle.graphql_operations.specs.SelectionParts.{field_head}
 use Rattle.graphql_typed_selections.specs.TypedTree.{typed_selection_tree}
 use Rattle.graphql_typed_selections.specs.TypedParts.{typed_head}

@@ -1,4 +1,4 @@
-use Rattle.std.proofs.Common.{◌≡◌, ℕ, List, sym, ap, ◌∙◌, rules}
+use Rattle.std.proofs.Common.{rules}
 use Rattle.graphql_names.specs.Node.{content}
 use Rattle.graphql_literals.specs.TypeTree.{type_tree}
 use Rattle.graphql_typing.proofs.DefinedFields.{inner-unplaced}
