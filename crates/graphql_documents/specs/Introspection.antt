@@ -1,0 +1,25 @@
+-- Which operations ask for the schema alone: queries of which each root field is a meta-field (GraphQL, October 2021, sections 4, 4.1 and 4.2).
+use Rattle.std.specs.Prelude.{◌≡◌, ◌↔◌, ℕ, Bool, false, IsTrue, List, [], ◌∷◌, codes}
+use Rattle.std.specs.List.{list_all}
+use Rattle.graphql_operations.specs.declared.operation.OperationType.TheVariants.{Query}
+use Rattle.graphql_components.specs.Lists.{is_among}
+use Rattle.graphql_typed_selections.specs.TypedTree.{TypedSelection, TypedField, TypedSpread, TypedInline}
+use Rattle.graphql_typed_operations.specs.TypedDocument.{TypedOperation}
+use Rattle.graphql_walks.specs.Reached.{Fragments, IsWalk}
+
+-- the names of the meta-fields
+abbrev pub is_meta_name : List ℕ → Bool
+is_meta_name n = is_among n (codes "__typename" ∷ codes "__schema" ∷ codes "__type" ∷ [])
+
+module _ {P : Type 0} where
+  abbrev pub is_meta_field : TypedSelection P → Bool
+  is_meta_field (TypedField p d h s) = is_meta_name h.name.it
+  is_meta_field (TypedSpread p n ds) = false
+  is_meta_field (TypedInline p c ds s) = false
+
+  abbrev pub are_meta_fields : List (TypedSelection P) → Bool
+  are_meta_fields = list_all is_meta_field
+
+  -- the operation, in a document of these fragments, is a query and its root fields are meta-fields: just then it is said
+  abbrev pub SaysIntrospection : Fragments P → TypedOperation P → Bool → Type 0
+  SaysIntrospection fragments o b = (given : List (TypedSelection P)) × (IsWalk false fragments o.set given × (IsTrue b ↔ ((o.operation_type ≡ Query) × IsTrue (are_meta_fields given))))

@@ -1,0 +1,19 @@
+-- Fields that a selection set makes: of a name, with the definition on the type of the set (GraphQL, October 2021, sections 2.5 and 5.3.1).
+use Rattle.std.specs.Prelude.{ℕ, List, [], None}
+use Rattle.graphql_names.specs.Placed.{Placed, Place, Text}
+use Rattle.graphql_literals.specs.TypeQueries.{inner_name}
+use Rattle.graphql_type_members.specs.TypeSystemTree.{FieldDefinitionTree}
+use Rattle.graphql_schema_types.specs.SchemaTree.{SchemaTree}
+use Rattle.graphql_schema.specs.LookUps.{FieldIsMissing}
+use Rattle.graphql_typed_selections.specs.TypedTree.{TypedSelection, TypedField, typed_set, no_typed}
+use Rattle.graphql_documents.specs.declared.new_field_error.NewFieldError.{NewFieldError}
+use Rattle.graphql_documents.specs.declared.new_field_error.NewFieldError.TheVariants.{Lookup, Memory}
+
+-- name, a field of this definition, its set empty on the type inside that of the definition
+abbrev pub bare_field : Text Place → Placed Place (FieldDefinitionTree Place) → TypedSelection Place
+bare_field n d = TypedField None d (record { alias = None; name = n; arguments = []; directives = [] }) (typed_set (inner_name d.it.ty) no_typed)
+
+-- why no field of a name is made on the type of a name: it has none, or memory ran out
+abbrev pub IsNewFieldError : SchemaTree Place → List ℕ → List ℕ → NewFieldError → Type 0
+IsNewFieldError s t n (Lookup e) = FieldIsMissing s t n e
+IsNewFieldError s t n Memory = Unit {0}

@@ -1,0 +1,29 @@
+//! Making documents.
+ghost use Rattle.std.specs.Prelude.{◌≡◌, [], false};
+ghost use Rattle.graphql_typing.specs.MeaningView.{meanings_under};
+ghost use Rattle.graphql_typing.specs.BuilderView.{builder_value};
+
+use graphql_schema::Schema;
+use graphql_typed_operations::ExecutableDocument;
+use graphql_typing::ExecutableDocumentBuilder;
+use std::alloc::Global;
+
+/// Calls that make a document.
+pub trait ExecutableDocumentExt {
+    /// A builder of no definitions, under this schema or without one. It takes no memory.
+    fn builder<'schema>(
+        alloc: Global,
+        schema: Option<&'schema Schema>,
+    ) -> ExecutableDocumentBuilder<'schema>;
+}
+
+impl ExecutableDocumentExt for ExecutableDocument {
+    fn builder<'schema>(
+        alloc: Global,
+        schema: Option<&'schema Schema>,
+    ) -> ExecutableDocumentBuilder<'schema>
+        ensures { builder_value result ≡ record { meanings = meanings_under schema.entry; definitions = []; sources = []; failed = false } }
+    {
+        ExecutableDocumentBuilder::new(alloc, schema)
+    }
+}

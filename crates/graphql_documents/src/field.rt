@@ -1,0 +1,26 @@
+//! Calls of fields that need a schema.
+ghost use Rattle.std.specs.Prelude.{◌≡◌};
+ghost use Rattle.std.specs.Option.{option_map};
+ghost use Rattle.graphql_names.specs.Placed.{node_tree};
+ghost use Rattle.graphql_literals.specs.TypeQueries.{inner_name};
+ghost use Rattle.graphql_type_members.specs.TypeSystemTree.{field_definition_tree};
+ghost use Rattle.graphql_schema_types.specs.TypeView.{extended_type};
+ghost use Rattle.graphql_schema_types.specs.Addresses.{type_at};
+ghost use Rattle.graphql_schema.specs.SchemaOf.{schema_tree};
+
+use graphql_schema::{ExtendedType, Schema};
+use graphql_typed_selections::Field;
+
+/// Calls of a field that need a schema.
+pub trait FieldExt {
+    /// The type inside that of the field's definition, if the schema has it.
+    fn inner_type_def<'schema>(&self, schema: &'schema Schema) -> Option<&'schema ExtendedType>;
+}
+
+impl FieldExt for Field {
+    fn inner_type_def<'schema>(&self, schema: &'schema Schema) -> Option<&'schema ExtendedType>
+        ensures { option_map (λ t. extended_type t.now) result ≡ type_at (schema_tree schema.now) (inner_name (node_tree field_definition_tree self.now.definition).it.ty).it }
+    {
+        schema.types.get(self.ty().inner_named_type())
+    }
+}

@@ -1,0 +1,47 @@
+//! Making selection sets by themselves.
+ghost use Rattle.std.specs.Prelude.{◌≡◌, ◌↔◌, [], IfOk, Contains};
+ghost use Rattle.graphql_operations.specs.SelectionTree.{selection_tree, selection_trees};
+ghost use Rattle.graphql_schema_types.specs.Plain.{plain};
+ghost use Rattle.graphql_schema.specs.SchemaOf.{schema_tree};
+ghost use Rattle.graphql_typed_selections.specs.TypedTree.{typed_set_tree};
+ghost use Rattle.graphql_typing.specs.MeantTree.{meant_of_set, set_on};
+ghost use Rattle.graphql_typing.specs.Meanings.{meanings};
+ghost use Rattle.graphql_typing.specs.KeptSelections.{kept_all};
+ghost use Rattle.graphql_typing.specs.TypingFaults.{SetFails};
+ghost use Rattle.graphql_typing.specs.FullList.{TellsSet};
+ghost use Rattle.graphql_typing.specs.FaultView.{faults_of};
+
+use graphql_document_faults::BuildError;
+use graphql_schema::Schema;
+use graphql_typed_operations::FieldSet;
+use graphql_typed_selections::graphql_ast::{Name, Selection, SourceSpan};
+use graphql_typing::field_set_from_ast;
+use std::alloc::{AllocError, Global};
+
+/// Calls that make a selection set by itself.
+pub trait FieldSetExt {
+    /// The selections that have a meaning under the type of that name, as a set on it, and each way in which a rule of
+    /// typing is broken in it.
+    fn from_ast(
+        alloc: Global,
+        schema: &Schema,
+        type_name: &Name,
+        selections: &[Selection],
+    ) -> Result<(FieldSet, Vec<(Option<SourceSpan>, BuildError)>), AllocError>;
+}
+
+impl FieldSetExt for FieldSet {
+    fn from_ast(
+        alloc: Global,
+        schema: &Schema,
+        type_name: &Name,
+        selections: &[Selection],
+    ) -> Result<(FieldSet, Vec<(Option<SourceSpan>, BuildError)>), AllocError>
+        ensures set { IfOk result (λ r. meant_of_set (typed_set_tree r.0.selection_set) ≡ set_on type_name.now.text (kept_all (meanings (plain (schema_tree schema.now))) (selection_trees selection_tree selections.now) type_name.now.text)) }
+        ensures sources { IfOk result (λ r. r.0.sources.entries ≡ []) }
+        ensures faults { IfOk result (λ r. (f : _) → Contains (faults_of r.1) f ↔ SetFails (meanings (plain (schema_tree schema.now))) type_name.now.text (selection_trees selection_tree selections.now) f) }
+        ensures full { IfOk result (λ r. TellsSet (meanings (plain (schema_tree schema.now))) type_name.now.text (selection_trees selection_tree selections.now) (faults_of r.1)) }
+    {
+        field_set_from_ast(alloc, schema, type_name, selections)
+    }
+}

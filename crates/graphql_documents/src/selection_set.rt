@@ -1,0 +1,85 @@
+//! Calls of selection sets that need a schema or a document.
+ghost use Rattle.std.specs.Prelude.{◌≡◌, true, false, None, Some, IfOk, IfErr};
+ghost use Rattle.std.specs.Option.{option_map};
+ghost use Rattle.graphql_names.specs.Placed.{name_tree};
+ghost use Rattle.graphql_schema.specs.SchemaOf.{schema_tree};
+ghost use Rattle.graphql_schema.specs.LookUps.{field_named};
+ghost use Rattle.graphql_typed_selections.specs.TypedTree.{set_type, typed_set_tree};
+ghost use Rattle.graphql_typed_selections.specs.TypedParts.{typed_field};
+ghost use Rattle.graphql_typed_operations.specs.TypedDocument.{typed_document_tree};
+ghost use Rattle.graphql_walks.specs.Reached.{IsWalk, document_fragments};
+ghost use Rattle.graphql_walks.specs.Lending.{all_fields_is_over, all_fields_left, root_fields_is_over, root_fields_left};
+ghost use Rattle.graphql_documents.specs.NewFields.{bare_field, IsNewFieldError};
+
+use crate::new_field_error::NewFieldError;
+use crate::walks;
+use graphql_schema::Schema;
+use graphql_typed_operations::ExecutableDocument;
+use graphql_typed_selections::graphql_ast::Name;
+use graphql_typed_selections::{Field, SelectionSet};
+use graphql_walks::{AllFields, RootFields};
+use std::alloc::Global;
+
+/// Calls of a selection set that need a schema or a document.
+pub trait SelectionSetExt {
+    /// A field of that name with its definition on the type of this set. It is not added.
+    fn new_field<'schema>(
+        &self,
+        alloc: Global,
+        schema: &'schema Schema,
+        name: Name,
+    ) -> Result<Field, NewFieldError<'schema>>;
+
+    /// Lends each field that the set reaches in the document and that stands in no other field, once.
+    fn root_fields<'doc>(
+        &'doc self,
+        alloc: Global,
+        document: &'doc ExecutableDocument,
+    ) -> RootFields<'doc>;
+
+    /// Lends each field that the set reaches in the document, once.
+    fn all_fields<'doc>(
+        &'doc self,
+        alloc: Global,
+        document: &'doc ExecutableDocument,
+    ) -> AllFields<'doc>;
+}
+
+impl SelectionSetExt for SelectionSet {
+    fn new_field<'schema>(
+        &self,
+        alloc: Global,
+        schema: &'schema Schema,
+        name: Name,
+    ) -> Result<Field, NewFieldError<'schema>>
+        ensures made { IfOk result (λ f. option_map (λ d. bare_field (name_tree name) d.it) (field_named (schema_tree schema.now) self.now.ty.text name.text) ≡ Some (typed_field None f)) }
+        ensures refused { IfErr result (IsNewFieldError (schema_tree schema.now) self.now.ty.text name.text) }
+    {
+        match schema.type_field(&self.ty, &name) {
+            Err(error) => Err(NewFieldError::Lookup(error)),
+            Ok(field) => Ok(Field::new(alloc, name, field.node.clone()?)?),
+        }
+    }
+
+    fn root_fields<'doc>(
+        &'doc self,
+        alloc: Global,
+        document: &'doc ExecutableDocument,
+    ) -> RootFields<'doc>
+        ensures walk { IsWalk false (document_fragments (typed_document_tree document.now)) (typed_set_tree self.now) (root_fields_left result) }
+        ensures is_over { root_fields_is_over result ≡ false }
+    {
+        walks::root_fields(alloc, self, document)
+    }
+
+    fn all_fields<'doc>(
+        &'doc self,
+        alloc: Global,
+        document: &'doc ExecutableDocument,
+    ) -> AllFields<'doc>
+        ensures walk { IsWalk true (document_fragments (typed_document_tree document.now)) (typed_set_tree self.now) (all_fields_left result) }
+        ensures is_over { all_fields_is_over result ≡ false }
+    {
+        walks::all_fields(alloc, self, document)
+    }
+}
