@@ -1,0 +1,5 @@
+pub mod Told
+pub mod Distinct
+pub mod FaultLists
+pub mod Seen
+pub mod NamedWords
