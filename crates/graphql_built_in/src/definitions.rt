@@ -7,12 +7,15 @@ ghost use Rattle.graphql_values.specs.DirectiveTree.{input_value_tree};
 ghost use Rattle.graphql_folding.specs.in_ast.DefinitionTree.{definition_tree};
 ghost use Rattle.graphql_folding.specs.BuiltIn.{directive, scalar, object, enum};
 ghost use Rattle.graphql_folding.specs.BuildErrors.{is_built_in_scalar};
+ghost use Rattle.graphql_folding.specs.Listed.{unnumbered};
+ghost use Rattle.graphql_folding.specs.ListedView.{listed_view};
 ghost use Rattle.graphql_built_in.specs.Table.{built_in_definitions};
 ghost use Rattle.graphql_built_in.specs.Rows.{row_argument, row_field, row_definition, is_scalar_named, has_argument_names, has_field_names, has_names};
 
 use crate::members::{fields_of, values_of};
 use crate::parts::{arguments_of, node_here};
 use crate::table::{ArgumentRow, FieldRow, ROWS, Row};
+use graphql_folding::Listed;
 use graphql_folding::graphql_ast::{
     Definition, DirectiveDefinition, DirectiveList, DirectiveLocation, EnumTypeDefinition,
     InputValueDefinition, Name, Node, ObjectTypeDefinition, ScalarTypeDefinition,
@@ -119,35 +122,34 @@ fn definition_of(alloc: Global, row: Row) -> Result<Definition, AllocError>
 }
 
 /// Adds the definition of the row.
-fn add_definition(
-    alloc: Global,
-    definitions: &mut Vec<Definition>,
-    row: Row,
-) -> Result<(), AllocError>
+fn add_definition(alloc: Global, row: Row, list: &mut Vec<Listed>) -> Result<(), AllocError>
     requires { IsTrue (has_names row) }
-    ensures { OnOk result (map definition_tree definitions.new.items ≡ map definition_tree definitions.old.items ++ row_definition row ∷ []) }
+    ensures { OnOk result (map listed_view list.new.items ≡ map listed_view list.old.items ++ unnumbered (row_definition row) ∷ []) }
 {
     let definition = definition_of(alloc, row)?;
-    definitions.push(definition)?;
+    list.push(Listed {
+        definition,
+        extension: None,
+    })?;
     Ok(())
 }
 
 /// The definitions of the rows.
-fn definitions_of(alloc: Global, rows: &[Row]) -> Result<Vec<Definition>, AllocError>
+fn definitions_of(alloc: Global, rows: &[Row]) -> Result<Vec<Listed>, AllocError>
     requires { IsTrue (list_all has_names rows.now) }
-    ensures { IfOk result (λ v. map definition_tree v.items ≡ map row_definition rows.now) }
+    ensures { IfOk result (λ v. map listed_view v.items ≡ map (λ row. unnumbered (row_definition row)) rows.now) }
 {
-    let mut definitions = Vec::new(alloc);
+    let mut list = Vec::new(alloc);
     for row in rows {
-        add_definition(alloc, &mut definitions, *row)?;
+        add_definition(alloc, *row, &mut list)?;
     }
-    Ok(definitions)
+    Ok(list)
 }
 
 /// The definitions that each schema has, in the order in which it has them: the directives (section 3.13), the scalars
 /// (section 3.5) and the types of introspection (section 4.2).
-pub fn built_in_definitions(alloc: Global) -> Result<Vec<Definition>, AllocError>
-    ensures { IfOk result (λ v. map definition_tree v.items ≡ built_in_definitions) }
+pub fn built_in_definitions(alloc: Global) -> Result<Vec<Listed>, AllocError>
+    ensures { IfOk result (λ v. map listed_view v.items ≡ map unnumbered built_in_definitions) }
 {
     definitions_of(alloc, ROWS)
 }

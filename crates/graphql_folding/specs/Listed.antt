@@ -20,6 +20,10 @@ pub record Listed : Type 0 where
   pub definition : DefinitionTree Place
   pub extension : Option (ExtensionTree Place)
 
+-- a definition that is no extension
+abbrev pub unnumbered : DefinitionTree Place → Listed
+unnumbered d = record { definition = d; extension = None }
+
 -- the number of the extension that stands behind these, where they are counted from `first`
 abbrev pub extension_number : ℕ → Definitions → ℕ
 extension_number first before = first + length (filter is_extension before)

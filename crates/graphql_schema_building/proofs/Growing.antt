@@ -15,12 +15,6 @@ module _ {X Y : Type 0} (view : X → Y) (xs : List X) (i : ℕ) (x : X) (h : i 
       ap (map view) (sym (take-append-drop i xs) ∙ at_drop_more (λ r. take i xs ++ r) xs i x h ∙ ap (λ y. take i xs ++ y ∷ drop (i + 1) xs) (sym is))
       ∙ map-append view (take i xs) (x ∷ drop (i + 1) xs)
 
-  module _ {Z : Type 0} (old now new : List Z) where
-    pub mapped : (f : Y → Z) → now ≡ old ++ map f (map view (take i xs)) → new ≡ now ++ f (view x) ∷ [] → new ≡ old ++ map f (map view (take (i + 1) xs))
-    mapped f before step =
-        step ∙ ap (λ l. l ++ f (view x) ∷ []) before ∙ append_assoc old (map f (map view (take i xs))) (f (view x) ∷ [])
-        ∙ ap (λ l. old ++ l) (sym (ap (map f) front ∙ map-append f (map view (take i xs)) (view x ∷ [])))
-
   pub filtered : (p : Y → Bool) (old now new : List Y) → now ≡ old ++ filter p (map view (take i xs)) → new ≡ now ++ filter p (view x ∷ []) → new ≡ old ++ filter p (map view (take (i + 1) xs))
   filtered p old now new before step =
       step ∙ ap (λ l. l ++ filter p (view x ∷ [])) before ∙ append_assoc old (filter p (map view (take i xs))) (filter p (view x ∷ []))

@@ -5,16 +5,13 @@ use Rattle.graphql_values.specs.Placed.{Place}
 use Rattle.graphql_type_folding.specs.in_ast.DefinitionTree.{DefinitionTree}
 use Rattle.graphql_type_folding.specs.in_schema_types.TypeParts.{bare, definition_by}
 use Rattle.graphql_type_folding.specs.in_folding.Listed.{Definitions, Listed}
+pub use Rattle.graphql_type_folding.specs.in_folding.Listed.{unnumbered}
 use Rattle.graphql_type_folding.specs.in_folding.SchemaFold.{schema_extension_here, schema_is_defined}
 use Rattle.graphql_type_folding.specs.in_folding.Adoption.{Settings, is_redefinition, empty_type, empty_schema, orphans}
 use Rattle.graphql_built_in.specs.Table.{built_in_definitions}
 use Rattle.graphql_components.specs.Lists.{firsts}
 use Rattle.graphql_schema_building.specs.Noted.{NamedKind, parts_key}
 use Rattle.graphql_type_folding.specs.in_schema_folding.ListFold.{definitions_of}
-
--- a definition that is no extension
-abbrev pub unnumbered : DefinitionTree Place → Listed
-unnumbered d = record { definition = d; extension = None }
 
 -- the empty definition of a type of that name and kind
 abbrev pub empty_of : NamedKind → DefinitionTree Place

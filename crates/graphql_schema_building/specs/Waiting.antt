@@ -1,4 +1,4 @@
--- What is left of the types that are extended and not defined (private: it leads to `specs/Building.antt`).
+-- What an iterator over the types that are extended and not defined still gives, and by which look-ups.
 use Rattle.std.specs.Prelude.{ℕ, Bool, not, ◌&&◌, List, map, is_some}
 use Rattle.std.specs.Borrow.{Bor}
 use Rattle.std.specs.List.{filter}

@@ -1,7 +1,6 @@
 //! The list of definitions that counts: what is built in, and what the settings make of the texts.
 ghost use Rattle.std.specs.Prelude.{◌≡◌, ◌≤◌, ◌++◌, [], ◌∷◌, length, map, OnOk, IfOk};
 ghost use Rattle.std.specs.List.{filter};
-ghost use Rattle.graphql_type_folding.specs.in_ast.DefinitionTree.{definition_tree};
 ghost use Rattle.graphql_built_in.specs.Table.{built_in_definitions};
 ghost use Rattle.graphql_type_folding.specs.in_folding.ListedView.{listed_view};
 ghost use Rattle.graphql_schema_building.specs.Settling.{unnumbered, is_kept, settled_from};
@@ -14,7 +13,6 @@ use crate::built_in_types::is_redefinition;
 use crate::orphans::Orphans;
 use crate::texts::{Texts, push_shared};
 use graphql_built_in::built_in_definitions;
-use graphql_type_folding::graphql_ast::Definition;
 use graphql_type_folding::graphql_folding::Listed;
 use std::alloc::{AllocError, Global};
 
@@ -43,8 +41,7 @@ pub(crate) fn settle(
     ensures built_in { IfOk result (λ s. s.built_in ≡ length built_in_definitions) }
     ensures within { IfOk result (λ s. s.built_in ≤ length s.list.items) }
 {
-    let mut list = Vec::new(alloc);
-    list_built_in(alloc, &mut list)?;
+    let mut list = built_in_definitions(alloc)?;
     let built_in = list.len();
     settle_texts(alloc, settings, texts, orphans, &mut list)?;
     Ok(Settled { list, built_in })
@@ -66,24 +63,6 @@ fn settle_texts(
     }
     adopt_types(alloc, orphans, list)?;
     adopt_schema(alloc, list)
-}
-
-/// Puts what is built in behind the others of the list.
-fn list_built_in(alloc: Global, list: &mut Vec<Listed>) -> Result<(), AllocError>
-    ensures { OnOk result (map listed_view list.new.items ≡ map listed_view list.old.items ++ map unnumbered built_in_definitions) }
-{
-    let definitions = built_in_definitions(alloc)?;
-    list_all(&definitions, list)
-}
-
-/// Puts definitions that are no extensions behind the others of the list.
-fn list_all(definitions: &[Definition], list: &mut Vec<Listed>) -> Result<(), AllocError>
-    ensures { OnOk result (map listed_view list.new.items ≡ map listed_view list.old.items ++ map unnumbered (map definition_tree definitions.now)) }
-{
-    for definition in definitions {
-        push_shared(list, definition, None)?;
-    }
-    Ok(())
 }
 
 /// Puts the definitions of the texts behind the others of the list, shared. Redefinitions are passed over, where

@@ -1,7 +1,6 @@
 //! The definition of a type of each kind.
 ghost use Rattle.std.specs.Prelude.{◌≡◌, IfOk};
 ghost use Rattle.std.specs.Option.{option_map};
-ghost use Rattle.graphql_names.specs.Node.{content, place};
 ghost use Rattle.graphql_values.specs.Placed.{name_tree, text_tree};
 ghost use Rattle.graphql_schema_types.specs.in_ast.DefinitionTree.{definition_tree};
 ghost use Rattle.graphql_schema_types.specs.TypeParts.{definition_by};
@@ -10,11 +9,11 @@ ghost use Rattle.graphql_schema_writing.specs.Contents.{named_parts};
 ghost use Rattle.graphql_schema_writing.specs.ContentsView.{parts_view};
 
 use crate::parts::Parts;
-use graphql_schema_types::TypeKind;
 use graphql_schema_types::graphql_ast::{
-    Definition, EnumTypeDefinition, InputObjectTypeDefinition, InterfaceTypeDefinition, Name, Node,
+    Definition, EnumTypeDefinition, InputObjectTypeDefinition, InterfaceTypeDefinition, Name,
     NodeStr, ObjectTypeDefinition, ScalarTypeDefinition, SourceSpan, UnionTypeDefinition,
 };
+use graphql_schema_types::{TypeKind, node_at};
 use std::alloc::{AllocError, Global};
 
 /// The definition of a type of that kind.
@@ -151,19 +150,4 @@ fn input_object_definition(
         fields: parts.inputs,
     };
     Ok(Definition::InputObjectTypeDefinition(node_at(alloc, location, definition)?))
-}
-
-/// A node of the value with that place.
-pub(crate) fn node_at<T: Drop>(
-    alloc: Global,
-    location: Option<SourceSpan>,
-    value: T,
-) -> Result<Node<T>, AllocError>
-    ensures content { IfOk result (λ n. content n ≡ value) }
-    ensures place { IfOk result (λ n. place n ≡ location) }
-{
-    match location {
-        None => Ok(Node::new(alloc, value)?),
-        Some(location) => Ok(Node::new_parsed(alloc, value, location)?),
-    }
 }

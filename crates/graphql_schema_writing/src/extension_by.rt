@@ -7,13 +7,12 @@ ghost use Rattle.graphql_schema_types.specs.declared.type_kind.TypeKind.TheVaria
 ghost use Rattle.graphql_schema_writing.specs.Contents.{named_parts};
 ghost use Rattle.graphql_schema_writing.specs.ContentsView.{parts_view};
 
-use crate::definition_by::node_at;
 use crate::parts::Parts;
-use graphql_schema_types::TypeKind;
 use graphql_schema_types::graphql_ast::{
     Definition, EnumTypeExtension, InputObjectTypeExtension, InterfaceTypeExtension, Name,
     ObjectTypeExtension, ScalarTypeExtension, SourceSpan, UnionTypeExtension,
 };
+use graphql_schema_types::{TypeKind, node_at};
 use std::alloc::{AllocError, Global};
 
 /// An extension of a type of that kind.

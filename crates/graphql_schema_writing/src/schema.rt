@@ -10,17 +10,15 @@ ghost use Rattle.graphql_schema_writing.specs.Filed.{filed_under};
 ghost use Rattle.graphql_schema_writing.specs.ContentsView.{lent_trees};
 ghost use Rattle.graphql_schema_writing.specs.SchemaParts.{schema_and_types, schema_from, schema_extended_from, whole_schema};
 
-use crate::definition_by::node_at;
 use crate::filing::{file_components, given_nodes};
 use crate::implicit::is_left_out;
 use crate::roots::roots_of;
-use crate::types::shared_description;
 use graphql_components::{ComponentOrigin, ExtensionId};
 use graphql_schema_types::graphql_ast::{
     Definition, Directive, DirectiveList, Name, Node, SchemaDefinition as WrittenSchema,
     SchemaExtension,
 };
-use graphql_schema_types::{ExtendedType, SchemaDefinition};
+use graphql_schema_types::{ExtendedType, SchemaDefinition, node_at, shared_description};
 use indexmap::IndexMap;
 use std::alloc::{AllocError, Global};
 

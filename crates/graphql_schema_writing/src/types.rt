@@ -1,9 +1,7 @@
 //! The definitions and extensions of types.
 ghost use Rattle.std.specs.Prelude.{◌≡◌, ◌++◌, [], ◌∷◌, map, None, Some, IfOk, OnOk, if◌then◌else◌};
 ghost use Rattle.std.specs.List.{flat_map};
-ghost use Rattle.std.specs.Option.{option_map};
 ghost use Rattle.graphql_names.specs.Places.{is_built_in};
-ghost use Rattle.graphql_values.specs.Placed.{text_tree};
 ghost use Rattle.graphql_schema_types.specs.in_ast.DefinitionTree.{definition_tree};
 ghost use Rattle.graphql_components.specs.Given.{extension_tree, place_of};
 ghost use Rattle.graphql_schema_writing.specs.Contents.{type_contents, written_contents, defined_from, extended_from};
@@ -14,8 +12,8 @@ use crate::definition_by::definition_by;
 use crate::extension_by::extension_by;
 use crate::parts::{FiledType, parts_of};
 use graphql_components::{ComponentOrigin, ExtensionId};
-use graphql_schema_types::ExtendedType;
-use graphql_schema_types::graphql_ast::{Definition, NodeStr};
+use graphql_schema_types::graphql_ast::Definition;
+use graphql_schema_types::{ExtendedType, shared_description};
 use std::alloc::{AllocError, Global};
 
 /// Writes each type.
@@ -128,16 +126,4 @@ fn type_extension(
     let name = contents.name.clone()?;
     let parts = parts_of(alloc, filed, ComponentOrigin::Extension(id))?;
     extension_by(alloc, contents.kind, id.location(), name, parts)
-}
-
-/// The same description, with its place. No text is copied.
-pub(crate) fn shared_description(
-    description: Option<&NodeStr>,
-) -> Result<Option<NodeStr>, AllocError>
-    ensures { IfOk result (λ copy. option_map text_tree copy ≡ option_map (λ d. text_tree d.now) description.entry) }
-{
-    match description {
-        None => Ok(None),
-        Some(text) => Ok(Some(text.clone()?)),
-    }
 }
