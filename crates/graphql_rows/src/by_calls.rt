@@ -1,12 +1,11 @@
 //! Answers of `check_texts`, and of the checker call by call.
 
-use crate::case::Answer;
 use graphql_checked::{
     CheckError, CheckedDocument, CheckedSchema, Checker, Details, DiagnosticList, Layout, Limits,
     Refusal, Verdict, check_texts,
 };
-use graphql_names::{FileId, SourceSpan};
-use graphql_row_files::Problem;
+use graphql_row_files::graphql_names::{FileId, SourceSpan};
+use graphql_row_files::{Answer, answer_of};
 use std::alloc::{AllocError, Global};
 
 /// The answer of `check_texts`.
@@ -106,12 +105,4 @@ fn not_yet(alloc: Global, file: FileId, offset: usize) -> Result<Answer, AllocEr
     let number = file.0;
     let status = format!(in alloc; "5 not yet {number}:{offset}")?;
     answer_of(alloc, status.as_str(), "")
-}
-
-/// The answer of this status and output.
-pub(crate) fn answer_of(alloc: Global, status: &str, out: &str) -> Result<Answer, AllocError> {
-    Ok(Answer {
-        status: String::from_str(alloc, status)?,
-        out: Vec::from_slice(alloc, out.as_bytes())?,
-    })
 }

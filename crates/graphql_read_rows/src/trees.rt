@@ -1,13 +1,12 @@
 //! The trees that rows name, built without places.
 
-use crate::by_print::{Form, Named, by_tree};
-use crate::case::{Case, Tally};
-use graphql_checked::graphql_ast::{
+use crate::print::{Form, Named, by_tree};
+use graphql_read::graphql_ast::{
     Definition, Directive, DirectiveDefinition, DirectiveList, Document, FieldDefinition,
     FragmentDefinition, InputValueDefinition, Name, Node, NodeStr, ObjectTypeDefinition,
     OperationDefinition, OperationType, Selection, Type,
 };
-use graphql_row_files::{Field, Problem};
+use graphql_row_files::{Case, Field, Problem, Tally};
 use std::alloc::{AllocError, Global};
 
 impl Named for Type {
@@ -42,33 +41,50 @@ impl Named for Document {
 
 /// Judges what the row asks of the tree that it names.
 pub(crate) fn by_name(
-    rt: &HostRuntime,
+    alloc: Global,
     case: Case<'_>,
     form: Option<(Form, usize)>,
     tally: &mut Tally,
 ) -> Result<(), Problem> {
-    let alloc = rt.alloc();
     let field = case.row.needed("tree")?;
     match field.value {
-        "list type" => by_tree(rt, case, list_type(alloc), form, tally),
-        "operation" => by_tree(rt, case, operation(alloc, true), form, tally),
-        "operation with a directive" => by_tree(rt, case, directed(alloc), form, tally),
-        "operation without selections" => by_tree(rt, case, operation(alloc, false), form, tally),
-        "fragment named on" => by_tree(rt, case, fragment(alloc), form, tally),
-        "directive without locations" => by_tree(rt, case, Ok(directive(alloc)), form, tally),
-        _ => by_document(rt, case, field, form, tally),
+        "list type" => by_tree(alloc, case, list_type(alloc), form, tally),
+        "fragment named on" => by_tree(alloc, case, fragment(alloc), form, tally),
+        "directive without locations" => by_tree(alloc, case, Ok(directive(alloc)), form, tally),
+        _ => by_operation(alloc, case, field, form, tally),
     }
 }
 
-/// Judges what the row asks of the document that the field names.
-fn by_document(
-    rt: &HostRuntime,
+/// Judges what the row asks of the operation that the field names, or of the document.
+fn by_operation(
+    alloc: Global,
     case: Case<'_>,
     field: Field<'_>,
     form: Option<(Form, usize)>,
     tally: &mut Tally,
 ) -> Result<(), Problem> {
-    let alloc = rt.alloc();
+    match field.value {
+        "operation" => by_tree(alloc, case, operation(alloc, true), form, tally),
+        "operation with a directive" => by_tree(alloc, case, directed(alloc), form, tally),
+        "operation without selections" => by_tree(
+            alloc,
+            case,
+            operation(alloc, false),
+            form,
+            tally,
+        ),
+        _ => by_document(alloc, case, field, form, tally),
+    }
+}
+
+/// Judges what the row asks of the document that the field names.
+fn by_document(
+    alloc: Global,
+    case: Case<'_>,
+    field: Field<'_>,
+    form: Option<(Form, usize)>,
+    tally: &mut Tally,
+) -> Result<(), Problem> {
     let definitions = match field.value {
         "document without definitions" => Ok(Vec::new(alloc)),
         "two operations" => two_operations(alloc),
@@ -77,7 +93,7 @@ fn by_document(
         "operations and a type" => operations_and_type(alloc),
         _ => return Err(field.problem("there is no such tree")),
     };
-    by_tree(rt, case, document(alloc, definitions), form, tally)
+    by_tree(alloc, case, document(alloc, definitions), form, tally)
 }
 
 /// The document of these definitions.
@@ -102,7 +118,7 @@ fn list_type(alloc: Global) -> Result<Type, AllocError> {
 fn selections(alloc: Global, is_there: bool) -> Result<Vec<Selection>, AllocError> {
     let mut selection_set = Vec::new(alloc);
     if is_there {
-        let field = graphql_checked::graphql_ast::Field {
+        let field = graphql_read::graphql_ast::Field {
             alias: None,
             name: Name::new_static_unchecked("field"),
             arguments: Vec::new(alloc),
