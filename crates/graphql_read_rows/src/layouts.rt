@@ -1,5 +1,6 @@
 //! Rows of documents that are printed under each layout, read again and printed again.
 
+use crate::given::text_of;
 use crate::print::{Form, form_named, laid_out};
 use graphql_read::graphql_ast::{Document, FileId};
 use graphql_read::parse_document;
@@ -49,11 +50,8 @@ fn by_layout(
     input: &[u8],
     tally: &mut Tally,
 ) -> Result<(), Problem> {
-    let Ok(text) = str::from_utf8(input) else {
-        return Err(case.row.head.problem("an input is not UTF-8"));
-    };
     let form = form_named(layout).unwrap_or(Form::Unsaid);
-    let answer = answer_under(alloc, text, form)?;
+    let answer = answer_under(alloc, text_of(case, input)?, form)?;
     let out = match layout {
         "line" => flat,
         "two" => case.out,

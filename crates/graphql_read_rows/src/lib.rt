@@ -3,18 +3,18 @@
 //! For the layer above: each function judges a row of one call, and counts its answers. Begin with `read.rt`.
 #![tactic(auto)]
 
+mod given;
 mod layouts;
 mod print;
 mod read;
 mod shown;
-mod taken;
 mod trees;
 
+pub use given::{document_of, text_of};
 pub use layouts::by_layouts;
 pub use print::{by_print, by_writable};
 pub use read::by_read;
 pub use shown::{shown_answer, writable_answer};
-pub use taken::{Taker, taken_by};
 
 // The crates beneath, for those above.
 pub use graphql_read;

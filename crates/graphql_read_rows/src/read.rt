@@ -1,5 +1,6 @@
 //! Rows of texts that are read by themselves.
 
+use crate::given::text_of;
 use crate::shown::shown_answer;
 use graphql_read::graphql_ast::{FileId, Selection, Tree};
 use graphql_read::{
@@ -46,9 +47,7 @@ fn by_inputs(
 
 /// Judges the answer to an input, which must be UTF-8.
 fn by_input(alloc: Global, case: Case<'_>, way: Way<'_>, tally: &mut Tally) -> Result<(), Problem> {
-    let Ok(text) = str::from_utf8(way.document) else {
-        return Err(case.row.head.problem("an input is not UTF-8"));
-    };
+    let text = text_of(case, way.document)?;
     let answer = answer_by(alloc, way.call, text, way.nesting)?;
     compare(alloc, as_it_stands(case, way.document), way, &answer, tally)
 }

@@ -2,6 +2,7 @@
 
 use crate::by_calls::{by_calls, by_check_texts};
 use crate::by_run::by_run;
+use graphql_read_rows::text_of;
 use graphql_row_files::{Answer, Case, Problem, Tally, Way, compare, numbers, texts, whole};
 use std::alloc::Global;
 
@@ -87,14 +88,6 @@ fn schemas_of<'a>(
         schemas.push(text_of(case, bytes.as_slice())?)?;
     }
     Ok(schemas)
-}
-
-/// The text, which must be UTF-8.
-fn text_of<'a>(case: Case<'_>, bytes: &'a [u8]) -> Result<&'a str, Problem> {
-    match str::from_utf8(bytes) {
-        Ok(text) => Ok(text),
-        Err(_) => Err(case.row.head.problem("a text of this call is not UTF-8")),
-    }
 }
 
 /// The answer of `check_texts`, or the one call by call. `check_texts` writes no texts: of those accepted the row's

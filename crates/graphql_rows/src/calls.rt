@@ -17,6 +17,10 @@ fn names_of(call: &str) -> Option<&'static [&'static str]> {
         "layouts" => Some(&["input", "flat"]),
         "schema" | "orphans" => Some(&["schema", "first", "adopt", "ignore"]),
         "coordinate" => Some(&["schema", "form", "input"]),
+        "document" | "fields" | "all_fields" | "root_fields" => {
+            Some(&["schema", "standalone", "document"])
+        }
+        "field_set" => Some(&["schema", "type", "input"]),
         _ => None,
     }
 }

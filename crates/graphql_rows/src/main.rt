@@ -9,6 +9,7 @@ mod calls;
 
 use crate::by_texts::by_texts;
 use crate::calls::call_of;
+use graphql_document_rows::{by_document, by_field_set};
 use graphql_read_rows::{by_layouts, by_print, by_read, by_writable};
 use graphql_row_files::{Case, Field, Problem, Row, Tally, fields_of, output, rows_of};
 use graphql_schema_rows::{by_coordinate, by_schema};
@@ -48,6 +49,10 @@ fn by_call(alloc: Global, case: Case<'_>, call: &str, tally: &mut Tally) -> Resu
         "layouts" => by_layouts(alloc, case, tally),
         "coordinate" => by_coordinate(alloc, case, tally),
         "schema" | "orphans" => by_schema(alloc, case, call, tally),
+        "document" | "fields" | "all_fields" | "root_fields" => {
+            by_document(alloc, case, call, tally)
+        }
+        "field_set" => by_field_set(alloc, case, tally),
         "parse_document" | "parse_type" | "parse_selections" | "next_token" => {
             by_read(alloc, case, call, tally)
         }

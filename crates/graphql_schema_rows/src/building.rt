@@ -1,9 +1,9 @@
 //! Builders with a row's settings and texts.
 
-use graphql_read_rows::graphql_read::graphql_ast::{Document, FileId};
+use graphql_read_rows::document_of;
+use graphql_read_rows::graphql_read::graphql_ast::FileId;
 use graphql_read_rows::graphql_row_files::{Case, Problem, number, says, texts};
-use graphql_read_rows::{Taker, taken_by};
-use graphql_schema::{BuilderRefusal, Extensions, SchemaBuilder};
+use graphql_schema::{BuilderRefusal, Extensions, Schema, SchemaBuilder};
 use std::alloc::Global;
 
 /// A builder with the row's settings.
@@ -48,10 +48,9 @@ pub(crate) fn add_texts(
     case: Case<'_>,
     builder: &mut SchemaBuilder,
 ) -> Result<Option<&'static str>, Problem> {
-    let mut adding = Adding { builder };
     let mut file = 1;
     for text in &texts(alloc, case.row, "schema")? {
-        let refusal = taken_by(alloc, case, text.as_slice(), FileId(file), &mut adding)?;
+        let refusal = add_text(alloc, case, text.as_slice(), FileId(file), builder)?;
         if refusal.is_some() {
             return Ok(refusal);
         }
@@ -60,18 +59,35 @@ pub(crate) fn add_texts(
     Ok(None)
 }
 
-/// A builder to which documents are added.
-#[derive(Drop)]
-struct Adding<'a> {
-    builder: &'a mut SchemaBuilder,
+/// Adds a schema text: the status of a builder that refuses it, or nothing.
+fn add_text(
+    alloc: Global,
+    case: Case<'_>,
+    text: &[u8],
+    file: FileId,
+    builder: &mut SchemaBuilder,
+) -> Result<Option<&'static str>, Problem> {
+    let document = document_of(alloc, case, text, file)?;
+    match builder.add_ast(&document) {
+        Ok(()) => Ok(None),
+        Err(refusal) => Ok(Some(refusal_words(refusal))),
+    }
 }
 
-impl Taker for Adding<'_> {
-    fn take(&mut self, document: &Document) -> Option<&'static str> {
-        match self.builder.add_ast(document) {
-            Ok(()) => None,
-            Err(refusal) => Some(refusal_words(refusal)),
-        }
+/// The schema of the row's texts, whatever its faults are.
+pub fn built(alloc: Global, case: Case<'_>) -> Result<Schema, Problem> {
+    let mut builder = builder_of(alloc, case)?;
+    match add_texts(alloc, case, &mut builder)? {
+        None => schema_of(case, builder),
+        Some(_) => Err(case.row.head.problem("the texts are refused")),
+    }
+}
+
+/// The schema that the builder builds.
+fn schema_of(case: Case<'_>, builder: SchemaBuilder) -> Result<Schema, Problem> {
+    match builder.build() {
+        Ok(built) => Ok(built.0),
+        Err(_) => Err(case.row.head.problem("the texts build no schema")),
     }
 }
 

@@ -1,6 +1,6 @@
 //! Rows of coordinates, and of what they name in a schema.
 
-use crate::building::{add_texts, builder_of};
+use crate::building::built;
 use crate::words::{missing_words, named_words, parse_words};
 use graphql_coords::{
     DirectiveArgumentCoordinate, DirectiveCoordinate, FieldArgumentCoordinate, SchemaCoordinate,
@@ -9,8 +9,8 @@ use graphql_coords::{
 use graphql_read_rows::graphql_row_files::{
     Answer, Case, Field, Problem, Tally, Way, answer_of, compare, texts, whole,
 };
-use graphql_read_rows::shown_answer;
-use graphql_schema::{Schema, SchemaBuilder};
+use graphql_read_rows::{shown_answer, text_of};
+use graphql_schema::Schema;
 use std::alloc::{AllocError, Global};
 use std::fmt::Display;
 
@@ -18,23 +18,6 @@ use std::fmt::Display;
 pub fn by_coordinate(alloc: Global, case: Case<'_>, tally: &mut Tally) -> Result<(), Problem> {
     let schema = built(alloc, case)?;
     by_inputs(alloc, case, &schema, tally)
-}
-
-/// The schema of the row's texts, whatever its faults are.
-fn built(alloc: Global, case: Case<'_>) -> Result<Schema, Problem> {
-    let mut builder = builder_of(alloc, case)?;
-    match add_texts(alloc, case, &mut builder)? {
-        None => schema_of(case, builder),
-        Some(_) => Err(case.row.head.problem("the texts are refused")),
-    }
-}
-
-/// The schema that the builder builds.
-fn schema_of(case: Case<'_>, builder: SchemaBuilder) -> Result<Schema, Problem> {
-    match builder.build() {
-        Ok(built) => Ok(built.0),
-        Err(_) => Err(case.row.head.problem("the texts build no schema")),
-    }
 }
 
 /// Judges each input of the row.
@@ -58,10 +41,7 @@ fn by_input(
     input: &[u8],
     tally: &mut Tally,
 ) -> Result<(), Problem> {
-    let Ok(text) = str::from_utf8(input) else {
-        return Err(case.row.head.problem("an input is not UTF-8"));
-    };
-    let answer = answer_by(alloc, case, schema, text)?;
+    let answer = answer_by(alloc, case, schema, text_of(case, input)?)?;
     let way = Way {
         call: "coordinate",
         document: input,

@@ -8,8 +8,9 @@ mod coordinates;
 mod schemas;
 mod words;
 
+pub use building::built;
 pub use coordinates::by_coordinate;
-pub use schemas::by_schema;
+pub use schemas::{by_schema, push_faults};
 
 // The crates beneath, for those above.
 pub use graphql_coords;

@@ -8,6 +8,7 @@ use graphql_read_rows::graphql_row_files::{
 use graphql_read_rows::writable_answer;
 use graphql_schema::{BuildError, Schema, SchemaBuilder};
 use std::alloc::{AllocError, Global};
+use std::fmt::Display;
 
 /// Judges the row: what its texts build, or which extensions they leave without a definition.
 pub fn by_schema(
@@ -74,17 +75,27 @@ fn faults_answer(
     faults: &[(Option<SourceSpan>, BuildError)],
 ) -> Result<Answer, AllocError> {
     let mut lines = String::new(alloc);
-    for (place, error) in faults {
-        lines.push_str(&fault_line(alloc, *place, error)?)?;
-    }
+    push_faults(alloc, faults, &mut lines)?;
     answer_of(alloc, "1", &lines)
 }
 
+/// Adds a line for each fault, in order.
+pub fn push_faults<T: Display + Drop>(
+    alloc: Global,
+    faults: &[(Option<SourceSpan>, T)],
+    lines: &mut String,
+) -> Result<(), AllocError> {
+    for (place, error) in faults {
+        lines.push_str(&fault_line(alloc, *place, error)?)?;
+    }
+    Ok(())
+}
+
 /// The line of a fault: where it is, and what it tells.
-fn fault_line(
+fn fault_line<T: Display>(
     alloc: Global,
     place: Option<SourceSpan>,
-    error: &BuildError,
+    error: &T,
 ) -> Result<String, AllocError> {
     match place {
         None => format!(in alloc; "-: {error}\n"),
