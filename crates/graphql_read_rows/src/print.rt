@@ -55,7 +55,7 @@ pub(crate) fn laid_out<'a, T: Tree>(tree: &'a T, form: (Form, usize)) -> Seriali
 }
 
 /// A tree that rows name.
-pub(crate) trait Named: Tree + Drop {
+pub(crate) trait Named: Tree {
     /// Its `is_writable`.
     fn writable(&self) -> bool;
 }
@@ -64,13 +64,12 @@ pub(crate) trait Named: Tree + Drop {
 pub(crate) fn by_tree<T: Named>(
     alloc: Global,
     case: Case<'_>,
-    tree: Result<T, AllocError>,
+    tree: &T,
     form: Option<(Form, usize)>,
     tally: &mut Tally,
 ) -> Result<(), Problem> {
-    let tree = tree?;
     match form {
-        Some(form) => prints(alloc, case, &tree, form, tally),
+        Some(form) => prints(alloc, case, tree, form, tally),
         None => tells_writable(alloc, case, tree.writable(), tally),
     }
 }

@@ -1,12 +1,13 @@
-//! The trees that rows name, built without places.
+//! The trees that rows name: those that a row's input is read as, and some that no text is read as.
 
+use crate::given::{document_of, text_of};
 use crate::print::{Form, Named, by_tree};
 use graphql_read::graphql_ast::{
-    Definition, Directive, DirectiveDefinition, DirectiveList, Document, FieldDefinition,
-    FragmentDefinition, InputValueDefinition, Name, Node, NodeStr, ObjectTypeDefinition,
-    OperationDefinition, OperationType, Selection, Type,
+    Definition, Directive, DirectiveDefinition, DirectiveList, Document, FileId,
+    FragmentDefinition, Name, Node, OperationDefinition, Type,
 };
-use graphql_row_files::{Case, Field, Problem, Tally};
+use graphql_read::parse_type;
+use graphql_row_files::{Case, Field, Problem, Tally, bytes_of};
 use std::alloc::{AllocError, Global};
 
 impl Named for Type {
@@ -48,126 +49,11 @@ pub(crate) fn by_name(
 ) -> Result<(), Problem> {
     let field = case.row.needed("tree")?;
     match field.value {
-        "list type" => by_tree(alloc, case, list_type(alloc), form, tally),
-        "fragment named on" => by_tree(alloc, case, fragment(alloc), form, tally),
-        "directive without locations" => by_tree(alloc, case, Ok(directive(alloc)), form, tally),
-        _ => by_operation(alloc, case, field, form, tally),
-    }
-}
-
-/// Judges what the row asks of the operation that the field names, or of the document.
-fn by_operation(
-    alloc: Global,
-    case: Case<'_>,
-    field: Field<'_>,
-    form: Option<(Form, usize)>,
-    tally: &mut Tally,
-) -> Result<(), Problem> {
-    match field.value {
-        "operation" => by_tree(alloc, case, operation(alloc, true), form, tally),
-        "operation with a directive" => by_tree(alloc, case, directed(alloc), form, tally),
-        "operation without selections" => by_tree(
-            alloc,
-            case,
-            operation(alloc, false),
-            form,
-            tally,
-        ),
+        "type" => by_type(alloc, case, form, tally),
+        "directive without locations" => by_tree(alloc, case, &directive(alloc), form, tally),
+        "document without definitions" => by_tree(alloc, case, &Document::new(alloc), form, tally),
         _ => by_document(alloc, case, field, form, tally),
     }
-}
-
-/// Judges what the row asks of the document that the field names.
-fn by_document(
-    alloc: Global,
-    case: Case<'_>,
-    field: Field<'_>,
-    form: Option<(Form, usize)>,
-    tally: &mut Tally,
-) -> Result<(), Problem> {
-    let definitions = match field.value {
-        "document without definitions" => Ok(Vec::new(alloc)),
-        "two operations" => two_operations(alloc),
-        "described argument" => described(alloc, None, "d"),
-        "described type" => described(alloc, Some("x\ny"), "d"),
-        "operations and a type" => operations_and_type(alloc),
-        _ => return Err(field.problem("there is no such tree")),
-    };
-    by_tree(alloc, case, document(alloc, definitions), form, tally)
-}
-
-/// The document of these definitions.
-fn document(
-    alloc: Global,
-    definitions: Result<Vec<Definition>, AllocError>,
-) -> Result<Document, AllocError> {
-    let definitions = definitions?;
-    let mut document = Document::new(alloc);
-    document.definitions = definitions;
-    Ok(document)
-}
-
-/// `[[[Obj]!]]!`
-fn list_type(alloc: Global) -> Result<Type, AllocError> {
-    let object = Type::Named(Name::new_static_unchecked("Obj"));
-    let inner = Type::NonNullList(Box::new(alloc, object)?);
-    Ok(Type::NonNullList(Box::new(alloc, Type::List(Box::new(alloc, inner)?))?))
-}
-
-/// `field`, alone or not there.
-fn selections(alloc: Global, is_there: bool) -> Result<Vec<Selection>, AllocError> {
-    let mut selection_set = Vec::new(alloc);
-    if is_there {
-        let field = graphql_read::graphql_ast::Field {
-            alias: None,
-            name: Name::new_static_unchecked("field"),
-            arguments: Vec::new(alloc),
-            directives: DirectiveList(Vec::new(alloc)),
-            selection_set: Vec::new(alloc),
-        };
-        selection_set.push(Selection::Field(Node::new(alloc, field)?))?;
-    }
-    Ok(selection_set)
-}
-
-/// `{ field }`, or without the field.
-fn operation(alloc: Global, has_field: bool) -> Result<OperationDefinition, AllocError> {
-    let selection_set = selections(alloc, has_field)?;
-    Ok(OperationDefinition {
-        operation_type: OperationType::Query,
-        name: None,
-        variables: Vec::new(alloc),
-        directives: DirectiveList(Vec::new(alloc)),
-        selection_set,
-    })
-}
-
-/// `{ field }` with `@dir` pushed to it.
-fn directed(alloc: Global) -> Result<OperationDefinition, AllocError> {
-    let mut operation = operation(alloc, true)?;
-    push_directive(alloc, &mut operation.directives)?;
-    Ok(operation)
-}
-
-/// Adds `@dir`.
-fn push_directive(alloc: Global, directives: &mut DirectiveList) -> Result<(), AllocError> {
-    let directive = Directive {
-        name: Name::new_static_unchecked("dir"),
-        arguments: Vec::new(alloc),
-    };
-    directives.0.push(Node::new(alloc, directive)?)?;
-    Ok(())
-}
-
-/// `fragment on on T { field }`
-fn fragment(alloc: Global) -> Result<FragmentDefinition, AllocError> {
-    let selection_set = selections(alloc, true)?;
-    Ok(FragmentDefinition {
-        name: Name::new_static_unchecked("on"),
-        type_condition: Name::new_static_unchecked("T"),
-        directives: DirectiveList(Vec::new(alloc)),
-        selection_set,
-    })
 }
 
 /// `directive @d on`
@@ -181,109 +67,113 @@ fn directive(alloc: Global) -> DirectiveDefinition {
     }
 }
 
-/// `Int`
-fn int() -> Type {
-    Type::Named(Name::new_static_unchecked("Int"))
-}
-
-/// The description of this text, if there is one.
-fn description(alloc: Global, text: Option<&str>) -> Result<Option<NodeStr>, AllocError> {
-    match text {
-        None => Ok(None),
-        Some(text) => Ok(Some(NodeStr::new_str(alloc, text)?)),
+/// Judges what the row asks of its input, read as a type.
+fn by_type(
+    alloc: Global,
+    case: Case<'_>,
+    form: Option<(Form, usize)>,
+    tally: &mut Tally,
+) -> Result<(), Problem> {
+    let input = bytes_of(alloc, case.row.needed("input")?)?;
+    match parse_type(alloc, text_of(case, &input)?, FileId(1), 500) {
+        Ok(ty) => by_tree(alloc, case, &ty, form, tally),
+        Err(_) => Err(case.row.head.problem("a text of this call is not read")),
     }
 }
 
-/// Adds an argument of this name and type `Int`.
-fn push_argument(
+/// Judges what the row asks of its input, read as a document.
+fn by_document(
     alloc: Global,
-    arguments: &mut Vec<Node<InputValueDefinition>>,
-    text: Option<&str>,
-    name: Name,
-) -> Result<(), AllocError> {
-    let ty = Node::new(alloc, int())?;
-    let argument = InputValueDefinition {
-        description: description(alloc, text)?,
-        name,
-        ty,
-        default_value: None,
-        directives: DirectiveList(Vec::new(alloc)),
-    };
-    arguments.push(Node::new(alloc, argument)?)?;
+    case: Case<'_>,
+    field: Field<'_>,
+    form: Option<(Form, usize)>,
+    tally: &mut Tally,
+) -> Result<(), Problem> {
+    let input = bytes_of(alloc, case.row.needed("input")?)?;
+    let document = document_of(alloc, case, &input, FileId(1))?;
+    if field.value == "document" {
+        return by_tree(alloc, case, &document, form, tally);
+    }
+    by_definition(alloc, case, field, &document, form, tally)
+}
+
+/// Judges what the row asks of the one definition of the document.
+fn by_definition(
+    alloc: Global,
+    case: Case<'_>,
+    field: Field<'_>,
+    document: &Document,
+    form: Option<(Form, usize)>,
+    tally: &mut Tally,
+) -> Result<(), Problem> {
+    match document.definitions.as_slice() {
+        [Definition::OperationDefinition(node)] => {
+            by_operation(alloc, case, field, node.content(), form, tally)
+        }
+        [Definition::FragmentDefinition(node)] if field.value == "fragment named on" => {
+            by_tree(alloc, case, &named_on(node.content())?, form, tally)
+        }
+        _ => Err(field.problem("there is no such tree")),
+    }
+}
+
+/// Judges what the row asks of the operation, or of one that is made of it.
+fn by_operation(
+    alloc: Global,
+    case: Case<'_>,
+    field: Field<'_>,
+    operation: &OperationDefinition,
+    form: Option<(Form, usize)>,
+    tally: &mut Tally,
+) -> Result<(), Problem> {
+    match field.value {
+        "operation" => by_tree(alloc, case, operation, form, tally),
+        "operation with a directive" => {
+            by_tree(alloc, case, &directed(alloc, operation)?, form, tally)
+        }
+        "operation without selections" => {
+            by_tree(
+                alloc,
+                case,
+                &without_selections(alloc, operation)?,
+                form,
+                tally,
+            )
+        }
+        _ => Err(field.problem("there is no such tree")),
+    }
+}
+
+/// The operation with `@dir` pushed to it.
+fn directed(
+    alloc: Global,
+    operation: &OperationDefinition,
+) -> Result<OperationDefinition, AllocError> {
+    let mut directed = operation.clone()?;
+    push_directive(alloc, &mut directed.directives)?;
+    Ok(directed)
+}
+
+/// Adds `@dir`.
+fn push_directive(alloc: Global, directives: &mut DirectiveList) -> Result<(), AllocError> {
+    let directive = Directive::new(alloc, Name::new_static_unchecked("dir"));
+    directives.0.push(Node::new(alloc, directive)?)?;
     Ok(())
 }
 
-/// `f("text" x: Int, y: Int): Int`
-fn field(alloc: Global, text: &str) -> Result<Node<FieldDefinition>, AllocError> {
-    let mut arguments = Vec::new(alloc);
-    push_argument(
-        alloc,
-        &mut arguments,
-        Some(text),
-        Name::new_static_unchecked("x"),
-    )?;
-    push_argument(alloc, &mut arguments, None, Name::new_static_unchecked("y"))?;
-    let definition = FieldDefinition {
-        description: None,
-        name: Name::new_static_unchecked("f"),
-        arguments,
-        ty: int(),
-        directives: DirectiveList(Vec::new(alloc)),
-    };
-    Ok(Node::new(alloc, definition)?)
-}
-
-/// Adds the type `Query` with that field.
-fn push_object(
+/// The operation without its selections.
+fn without_selections(
     alloc: Global,
-    definitions: &mut Vec<Definition>,
-    type_text: Option<&str>,
-    argument_text: &str,
-) -> Result<(), AllocError> {
-    let fields = vec![in alloc; field(alloc, argument_text)?]?;
-    let definition = ObjectTypeDefinition {
-        description: description(alloc, type_text)?,
-        name: Name::new_static_unchecked("Query"),
-        implements_interfaces: Vec::new(alloc),
-        directives: DirectiveList(Vec::new(alloc)),
-        fields,
-    };
-    let node = Node::new(alloc, definition)?;
-    definitions.push(Definition::ObjectTypeDefinition(node))?;
-    Ok(())
+    operation: &OperationDefinition,
+) -> Result<OperationDefinition, AllocError> {
+    let mut bare = operation.clone()?;
+    bare.selection_set = Vec::new(alloc);
+    Ok(bare)
 }
 
-/// Adds `{ field }`.
-fn push_operation(alloc: Global, definitions: &mut Vec<Definition>) -> Result<(), AllocError> {
-    let node = Node::new(alloc, operation(alloc, true)?)?;
-    definitions.push(Definition::OperationDefinition(node))?;
-    Ok(())
-}
-
-/// `{ field }` twice.
-fn two_operations(alloc: Global) -> Result<Vec<Definition>, AllocError> {
-    let mut definitions = Vec::new(alloc);
-    push_operation(alloc, &mut definitions)?;
-    push_operation(alloc, &mut definitions)?;
-    Ok(definitions)
-}
-
-/// The type `Query`, with the descriptions that are given.
-fn described(
-    alloc: Global,
-    type_text: Option<&str>,
-    argument_text: &str,
-) -> Result<Vec<Definition>, AllocError> {
-    let mut definitions = Vec::new(alloc);
-    push_object(alloc, &mut definitions, type_text, argument_text)?;
-    Ok(definitions)
-}
-
-/// `{ field }`, the type `Query` with descriptions that need escapes, `{ field }`.
-fn operations_and_type(alloc: Global) -> Result<Vec<Definition>, AllocError> {
-    let mut definitions = Vec::new(alloc);
-    push_operation(alloc, &mut definitions)?;
-    push_object(alloc, &mut definitions, Some("x\n\"\"\"\"y"), "\"\u{7F}d")?;
-    push_operation(alloc, &mut definitions)?;
-    Ok(definitions)
+/// The fragment under the name `on`.
+fn named_on(fragment: &FragmentDefinition) -> Result<FragmentDefinition, AllocError> {
+    let mut renamed = fragment.clone()?;
+    renamed.name = Name::new_static_unchecked("on");
+    Ok(renamed)
 }

@@ -15,4 +15,6 @@ mod hold;
 #[cfg(test)]
 mod schemas;
 #[cfg(test)]
+mod typed_documents;
+#[cfg(test)]
 mod values;
