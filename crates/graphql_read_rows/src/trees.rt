@@ -97,7 +97,7 @@ fn by_document(
     by_definition(alloc, case, field, &document, form, tally)
 }
 
-/// Judges what the row asks of the one definition of the document.
+/// Judges what the row asks of the first definition of the document.
 fn by_definition(
     alloc: Global,
     case: Case<'_>,
@@ -106,11 +106,11 @@ fn by_definition(
     form: Option<(Form, usize)>,
     tally: &mut Tally,
 ) -> Result<(), Problem> {
-    match document.definitions.as_slice() {
-        [Definition::OperationDefinition(node)] => {
+    match document.definitions.first() {
+        Some(Definition::OperationDefinition(node)) => {
             by_operation(alloc, case, field, node.content(), form, tally)
         }
-        [Definition::FragmentDefinition(node)] if field.value == "fragment named on" => {
+        Some(Definition::FragmentDefinition(node)) if field.value == "fragment named on" => {
             by_tree(alloc, case, &named_on(node.content())?, form, tally)
         }
         _ => Err(field.problem("there is no such tree")),

@@ -1,8 +1,6 @@
 //! The lines that tell of a part of a document.
 
-use graphql_schema_rows::graphql_read_rows::graphql_read::graphql_ast::{
-    DirectiveList, Name, Node,
-};
+use graphql_read_rows::graphql_read::graphql_ast::{DirectiveList, Name, Node};
 use graphql_typing::graphql_typed_operations::graphql_typed_selections::{
     Field, FragmentSpread, InlineFragment,
 };

@@ -1,13 +1,14 @@
 //! Rows of documents that are built under a schema, or without one.
 
+use crate::building::built;
+use crate::schemas::push_faults;
 use crate::walks::push_document;
-use graphql_schema::Schema;
-use graphql_schema_rows::graphql_read_rows::document_of;
-use graphql_schema_rows::graphql_read_rows::graphql_read::graphql_ast::{FileId, SourceSpan};
-use graphql_schema_rows::graphql_read_rows::graphql_row_files::{
+use graphql_read_rows::document_of;
+use graphql_read_rows::graphql_read::graphql_ast::{FileId, SourceSpan};
+use graphql_read_rows::graphql_row_files::{
     Answer, Case, Problem, Tally, Way, answer_of, compare, says, texts, whole,
 };
-use graphql_schema_rows::{built, push_faults};
+use graphql_schema::Schema;
 use graphql_typing::graphql_typed_operations::ExecutableDocument;
 use graphql_typing::{BuildError, ExecutableDocumentBuilder};
 use std::alloc::{AllocError, Global};

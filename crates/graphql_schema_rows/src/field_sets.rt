@@ -1,17 +1,15 @@
 //! Rows of sets of fields by themselves.
 
+use crate::building::built;
 use crate::documents::{faults_answer, first_file};
 use crate::outline::push_set;
-use graphql_schema::Schema;
-use graphql_schema_rows::built;
-use graphql_schema_rows::graphql_read_rows::graphql_read::graphql_ast::{
-    FileId, Name, Selection, SourceSpan,
-};
-use graphql_schema_rows::graphql_read_rows::graphql_read::parse_selections;
-use graphql_schema_rows::graphql_read_rows::graphql_row_files::{
+use graphql_read_rows::graphql_read::graphql_ast::{FileId, Name, Selection, SourceSpan};
+use graphql_read_rows::graphql_read::parse_selections;
+use graphql_read_rows::graphql_row_files::{
     Answer, Case, Problem, Tally, Way, compare, texts, whole,
 };
-use graphql_schema_rows::graphql_read_rows::text_of;
+use graphql_read_rows::text_of;
+use graphql_schema::Schema;
 use graphql_typing::graphql_typed_operations::FieldSet;
 use graphql_typing::{BuildError, field_set_from_ast};
 use std::alloc::{AllocError, Global};
