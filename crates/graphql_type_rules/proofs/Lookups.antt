@@ -1,5 +1,5 @@
 -- What stands under a name among entries, and a name among others, once for all rules.
-use Rattle.std.proofs.Common.{◌≡◌, ℕ, Bool, true, false, ◌||◌, List, [], ◌∷◌, map, refl, sym, ap, subst, ◌∙◌, Option, None, Some, Contains, inl, inr, true≢false, if◌then◌else◌}
+use Rattle.std.proofs.Common.{◌≡◌, ℕ, ◌<◌, zero, suc, arith, take, slice_get, Bool, true, false, ◌||◌, List, [], ◌∷◌, map, refl, sym, ap, subst, ◌∙◌, Option, None, Some, Contains, inl, inr, true≢false, if◌then◌else◌}
 use Rattle.std.specs.List.{find, list_any, IsDistinct, AllByRecursion}
 use Rattle.std.specs.Map.{keys_of}
 use Rattle.std.specs.Option.{option_map}
@@ -24,6 +24,40 @@ module _ {X : Type 0} (test : X → Bool) where
       by : (b : Bool) → test y ≡ b → (find test xs ≡ Some x → Contains xs x × (test x ≡ true)) → (if b then Some y else find test xs) ≡ Some x → Contains (y ∷ xs) x × (test x ≡ true)
       by true t rest e = let same : y ≡ x = cc in (Contains-first y xs x same, ap test (sym same) ∙ t)
       by false t rest e = let r = rest e in (Contains-append_right (y ∷ []) xs x r.0, r.1)
+
+-- the first that passes before an index, and where it stands
+module _ {X : Type 0} (test : X → Bool) where
+  pub first_found : (xs : List X) (j : ℕ) (w : X) → find test (take j xs) ≡ Some w
+      → (i : ℕ) × ((i < j) × ((slice_get xs i ≡ Some w) × ((test w ≡ true) × ((k : ℕ) (y : X) → k < i → slice_get xs k ≡ Some y → test y ≡ false))))
+  first_found xs zero w e = cc
+  first_found [] (suc j) w e = cc
+  first_found (x ∷ xs) (suc j) w e = by (test x) refl (first_found xs j w) e
+    where
+      by : (b : Bool) → test x ≡ b
+          → (find test (take j xs) ≡ Some w → (i : ℕ) × ((i < j) × ((slice_get xs i ≡ Some w) × ((test w ≡ true) × ((k : ℕ) (y : X) → k < i → slice_get xs k ≡ Some y → test y ≡ false)))))
+          → (if b then Some x else find test (take j xs)) ≡ Some w
+          → (i : ℕ) × ((i < suc j) × ((slice_get (x ∷ xs) i ≡ Some w) × ((test w ≡ true) × ((k : ℕ) (y : X) → k < i → slice_get (x ∷ xs) k ≡ Some y → test y ≡ false))))
+      by true t rest e = let same : x ≡ w = cc in (0, (omega arith, (e, (ap test (sym same) ∙ t, λ k y h. absurd (omega (arith, h))))))
+      by false t rest e =
+          let (i, (below, (at, (passes, earlier)))) = rest e in
+          (suc i, (omega (arith, below), (at, (passes, λ k y h at'. later t i earlier k y h at'))))
+
+      later : test x ≡ false → (i : ℕ) → ((k : ℕ) (y : X) → k < i → slice_get xs k ≡ Some y → test y ≡ false) → (k : ℕ) (y : X) → k < suc i → slice_get (x ∷ xs) k ≡ Some y → test y ≡ false
+      later t i earlier zero y h at' = let same : x ≡ y = cc in ap test (sym same) ∙ t
+      later t i earlier (suc k) y h at' = earlier k y (omega (arith, h)) at'
+
+  pub none_found : (xs : List X) (j : ℕ) → find test (take j xs) ≡ None → (i : ℕ) (x : X) → i < j → slice_get xs i ≡ Some x → test x ≡ false
+  none_found xs zero e i x h at = absurd (omega (arith, h))
+  none_found [] (suc j) e i x h at = cc
+  none_found (y ∷ xs) (suc j) e i x h at = by (test y) refl e
+    where
+      by : (b : Bool) → test y ≡ b → (if b then Some y else find test (take j xs)) ≡ None → test x ≡ false
+      by true t e = cc
+      by false t e = at_index i h at
+        where
+          at_index : (i : ℕ) → i < suc j → slice_get (y ∷ xs) i ≡ Some x → test x ≡ false
+          at_index zero h at = let same : y ≡ x = cc in ap test (sym same) ∙ t
+          at_index (suc i) h at = none_found xs j e i x (omega (arith, h)) at
 
 -- the first of a name, where names differ
 module _ {X : Type 0} (name : X → List ℕ) where
@@ -91,3 +125,18 @@ among_given {X} name (y ∷ xs) n e = by (bytes_eq n (name y)) refl (among_given
     by : (b : Bool) → bytes_eq n (name y) ≡ b → (is_among n (map name xs) ≡ true → (x : X) × (Contains xs x × (name x ≡ n))) → (b || is_among n (map name xs)) ≡ true → (x : X) × (Contains (y ∷ xs) x × (name x ≡ n))
     by true t rest e = (y, (Contains-first y xs y refl, sym ((bytes_eq-Decides n (name y)).0 t)))
     by false t rest e = let r = rest e in (r.0, (Contains-append_right (y ∷ []) xs r.0 r.1.0, r.1.1))
+
+-- a text among others, and names that are none
+map_self : {X : Type 0} (xs : List X) → map (λ x. x) xs ≡ xs
+map_self [] = refl
+map_self (x ∷ xs) = ap (λ l. x ∷ l) (map_self xs)
+
+pub text_found : (texts : List (List ℕ)) (n : List ℕ) → Contains texts n → is_among n texts ≡ true
+text_found texts n c = sym (ap (is_among n) (map_self texts)) ∙ among_found (λ x. x) texts n c
+
+pub text_given : (texts : List (List ℕ)) (n : List ℕ) → is_among n texts ≡ true → Contains texts n
+text_given texts n e = let r = among_given (λ (x : List ℕ). x) texts n (ap (is_among n) (map_self texts) ∙ e) in subst (Contains texts) r.1.1 r.1.0
+
+pub no_names : {X : Type 0} (name : X → List ℕ) (xs : List X) → ((n : List ℕ) → is_among n (map name xs) ≡ false) → xs ≡ []
+no_names name [] h = refl
+no_names name (x ∷ xs) h = absurd (true≢false (sym (among_found name (x ∷ xs) x (Contains-first x xs x refl)) ∙ h (name x)))

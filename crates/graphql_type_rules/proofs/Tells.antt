@@ -7,12 +7,13 @@ use Rattle.std.specs.Str.{bytes_eq}
 use Rattle.std.proofs.lemmas.List.Elements.{Contains-append_left, Contains-append_right, Contains-append_cases}
 use Rattle.std.proofs.lemmas.List.{append-nil}
 use Rattle.std.proofs.lemmas.Option.{same_Some}
+use Rattle.std.proofs.lemmas.Slice.Eq.{bytes_eq-Decides}
 use Rattle.graphql_components.specs.Lists.{is_among, each_place_after, each_place}
 use Rattle.graphql_components.specs.Names.{Entries}
 use Rattle.graphql_schema_types.specs.Addresses.{under}
-use Rattle.graphql_rule_definitions.specs.Words.{Present, Somewhere, Among, AtSomeIndex}
+use Rattle.graphql_rule_definitions.specs.Words.{Present, Somewhere, Among, AtSomeIndex, IsFirst, FirstNamed, Repeats}
 use Rattle.graphql_type_rules.proofs.Lists.{found_in, given_in, not_in_nil, only, is_only, index_found, index_given, slice_get-map, mapped_some}
-use Rattle.graphql_type_rules.proofs.Lookups.{under_found, under_given, find_of, find_given, among_found, among_given}
+use Rattle.graphql_type_rules.proofs.Lookups.{under_found, under_given, find_of, first_found, none_found, among_found, among_given}
 
 module _ {A B : Type 0} (Is : A → B → Type 0) where
   -- the list has what breaks the rule, each as it is told, and nothing else
@@ -147,3 +148,56 @@ module _ {A B : Type 0} (Is : A → B → Type 0) where
     pub tells_places : (xs : List X) (R : ℕ → Y → A → Type 0) → ((i : ℕ) (x : X) → slice_get xs i ≡ Some x → Tells (tells (take i xs) x) (R i (u x)))
         → Tells (each_place tells xs) (λ g. AtSomeIndex (map u xs) (λ i y. R i y g))
     tells_places xs R each = tells_after [] xs R each
+
+  -- of each of a list that has the name of an earlier one, with the first that has it
+  module _ {X Y : Type 0} (u : X → Y) (name : Y → List ℕ) (say : X → X → B) (fault : ℕ → Y → ℕ → Y → A) where
+    -- what is told of one, with those before it
+    abbrev pub repeat_of : List X → X → List B
+    repeat_of before v = option_map_or (λ w. say w v ∷ []) (find (λ w. bytes_eq (name (u v)) (name (u w))) before) []
+
+    pub tells_repeats : (xs : List X) → ((i j : ℕ) (x y : X) → slice_get xs i ≡ Some x → slice_get xs j ≡ Some y → name (u x) ≡ name (u y) → Says (fault i (u x) j (u y)) (say x y))
+        → Tells (each_place repeat_of xs) (λ g. Repeats name (map u xs) (λ i first j later. g ≡ fault i first j later))
+    tells_repeats xs says = tells_places u repeat_of xs _ (λ j v there f. by j v there f)
+      where
+        -- what stands first under the name of v before j
+        into : (j : ℕ) (v : X) → slice_get xs j ≡ Some v → (f : B) → (o : Option X) → find (λ w. bytes_eq (name (u v)) (name (u w))) (take j xs) ≡ o → Contains (option_map_or (λ w. say w v ∷ []) o []) f
+            → (g : A) × (FirstNamed name (map u xs) (name (u v)) (λ i first. (i < j) × (g ≡ fault i first j (u v))) × Is g f)
+        into j v there f None e c = not_in_nil f c
+        into j v there f (Some w) e c =
+            let (i, (below, (at, (passes, earlier)))) = first_found (λ w. bytes_eq (name (u v)) (name (u w))) xs j w e in
+            let same : name (u v) ≡ name (u w) = (bytes_eq-Decides (name (u v)) (name (u w))).0 passes in (
+              fault i (u w) j (u v),
+              (
+                (i, (u w, (slice_get-map u xs i ∙ ap (option_map u) at, (sym same, (none_before i earlier, (below, refl)))))),
+                ((says i j w v at there (sym same) f).1 (only (say w v) f c)),
+              ),
+            )
+          where
+            none_before : (i : ℕ) → ((k : ℕ) (y : X) → k < i → slice_get xs k ≡ Some y → bytes_eq (name (u v)) (name (u y)) ≡ false) → IsFirst name (map u xs) (name (u v)) i
+            none_before i earlier (k, (y, (at, (less, same)))) =
+                let (x, (is, text)) = mapped_some u (slice_get xs k) y (sym (slice_get-map u xs k) ∙ at) in
+                true≢false (sym ((bytes_eq-Decides (name (u v)) (name (u x))).1 (sym same ∙ ap name text)) ∙ earlier k x less is)
+
+        out : (j : ℕ) (v : X) → slice_get xs j ≡ Some v → (f : B) → (o : Option X) → find (λ w. bytes_eq (name (u v)) (name (u w))) (take j xs) ≡ o
+            → (g : A) × (FirstNamed name (map u xs) (name (u v)) (λ i first. (i < j) × (g ≡ fault i first j (u v))) × Is g f) → Contains (option_map_or (λ w. say w v ∷ []) o []) f
+        out j v there f o e (g, ((i, (y, (at, (same, (first, (below, is)))))), told)) = by_first o e
+          where
+            by_first : (o : Option X) → find (λ w. bytes_eq (name (u v)) (name (u w))) (take j xs) ≡ o → Contains (option_map_or (λ w. say w v ∷ []) o []) f
+            by_first None e =
+                let (x, (at', text)) = mapped_some u (slice_get xs i) y (sym (slice_get-map u xs i) ∙ at) in
+                absurd (true≢false (sym ((bytes_eq-Decides (name (u v)) (name (u x))).1 (sym same ∙ ap name text)) ∙ none_found (λ w. bytes_eq (name (u v)) (name (u w))) xs j e i x below at'))
+            by_first (Some w) e =
+                let (k, (below', (at', (passes, earlier)))) = first_found (λ w. bytes_eq (name (u v)) (name (u w))) xs j w e in
+                let (x, (at'', text)) = mapped_some u (slice_get xs i) y (sym (slice_get-map u xs i) ∙ at) in
+                let named : name (u w) ≡ name (u v) = sym ((bytes_eq-Decides (name (u v)) (name (u w))).0 passes) in
+                let passes' : bytes_eq (name (u v)) (name (u x)) ≡ true = (bytes_eq-Decides (name (u v)) (name (u x))).1 (sym same ∙ ap name text) in
+                let one : k ≡ i = same_index k i (λ less. first (k, (u w, (slice_get-map u xs k ∙ ap (option_map u) at', (less, named))))) (λ less. true≢false (sym passes' ∙ earlier i x less at'')) in
+                let it : w ≡ x = same_Some _ _ (sym at' ∙ ap (slice_get xs) one ∙ at'') in
+                is_only (say w v) f ((says k j w v at' there named f).0 (subst (λ a. Is a f) (is ∙ (λ n. fault (sym one n) ((text ∙ ap u (sym it)) n) j (u v))) told))
+
+            same_index : (a b : ℕ) → (a < b → ⊥) → (b < a → ⊥) → a ≡ b
+            same_index a b h k = omega (arith, h, k)
+
+        by : (j : ℕ) (v : X) → slice_get xs j ≡ Some v → (f : B) → Contains (repeat_of (take j xs) v) f
+            ↔ ((g : A) × (FirstNamed name (map u xs) (name (u v)) (λ i first. (i < j) × (g ≡ fault i first j (u v))) × Is g f))
+        by j v there f = (into j v there f _ refl, out j v there f _ refl)

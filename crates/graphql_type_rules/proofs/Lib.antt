@@ -1,0 +1,11 @@
+pub mod Lists
+pub mod Lookups
+pub mod Tells
+pub mod Judgings
+pub mod ByPlace
+pub mod Says
+pub mod Roots
+pub mod Whole
+pub mod ExtensionPlaces
+pub mod SeenFacts
+pub mod DistinctFacts

@@ -1,0 +1,128 @@
+//! Rules on argument definitions and input fields (sections 3.6, 3.10 and 3.13).
+ghost use Rattle.std.specs.Prelude.{◌≡◌, ◌++◌, map, IfOk, OnOk, option_to_list, codes, flat_map, take};
+ghost use Rattle.std.specs.Option.{option_map, option_map_or};
+ghost use Rattle.graphql_names.specs.Placed.{node_tree};
+ghost use Rattle.graphql_directives.specs.DirectiveTree.{input_value_tree};
+ghost use Rattle.graphql_components.specs.Lists.{each_place};
+ghost use Rattle.graphql_schema.specs.SchemaOf.{schema_tree};
+ghost use Rattle.graphql_fault_data.specs.FaultView.{fault_of, faults_of};
+ghost use Rattle.graphql_type_rules.specs.FaultLists.{unique_input_value, input_value_faults, argument_faults, arguments_faults};
+ghost use Rattle.graphql_type_rules.specs.Seen.{AreSeen};
+
+use crate::look_ups::kind_inside;
+use crate::reserved::reserved_name;
+use crate::types_used::{input_type, undefined_type};
+use graphql_fault_data::{DiagnosticData, Fault, tell};
+use graphql_schema::Schema;
+use graphql_schema::graphql_ast::{InputValueDefinition, Name, Node, SourceSpan};
+use indexmap::IndexMap;
+use std::alloc::{AllocError, Global};
+
+/// Tells the faults of the argument definitions of a field or directive.
+pub(crate) fn check_arguments(
+    alloc: Global,
+    schema: &Schema,
+    arguments: &[Node<InputValueDefinition>],
+    faults: &mut Vec<Fault>,
+) -> Result<(), AllocError>
+    ensures { OnOk result (faults_of faults.new ≡ faults_of faults.old ++ arguments_faults (schema_tree schema.now) (map (node_tree input_value_tree) arguments.now)) }
+{
+    check_each_argument(schema, arguments, faults)?;
+    check_repeats(alloc, arguments, faults)
+}
+
+/// Tells the faults of each argument definition.
+fn check_each_argument(
+    schema: &Schema,
+    arguments: &[Node<InputValueDefinition>],
+    faults: &mut Vec<Fault>,
+) -> Result<(), AllocError>
+    ensures { OnOk result (faults_of faults.new ≡ faults_of faults.old ++ flat_map (argument_faults (schema_tree schema.now)) (map (node_tree input_value_tree) arguments.now)) }
+{
+    for argument in arguments {
+        check_input_value(
+            schema,
+            &argument.content().name,
+            argument,
+            "an argument",
+            faults,
+        )?;
+    }
+    Ok(())
+}
+
+/// Tells the faults of an argument definition or input field of that name.
+pub(crate) fn check_input_value(
+    schema: &Schema,
+    name: &Name,
+    input: &Node<InputValueDefinition>,
+    describe: &'static str,
+    faults: &mut Vec<Fault>,
+) -> Result<(), AllocError>
+    ensures { OnOk result (faults_of faults.new ≡ faults_of faults.old ++ input_value_faults (schema_tree schema.now) name.now.text describe.now (node_tree input_value_tree input.now)) }
+{
+    let content = input.content();
+    let ty = content.ty.content();
+    let kind = kind_inside(schema, ty);
+    tell(
+        faults,
+        reserved_name(input.is_built_in(), name, content.name.location(), describe)?,
+    )?;
+    tell(faults, undefined_type(ty, kind)?)?;
+    tell(faults, input_type(input, kind)?)
+}
+
+/// Tells each argument definition of which an earlier one has the name.
+fn check_repeats(
+    alloc: Global,
+    arguments: &[Node<InputValueDefinition>],
+    faults: &mut Vec<Fault>,
+) -> Result<(), AllocError>
+    ensures { OnOk result (faults_of faults.new ≡ faults_of faults.old ++ each_place unique_input_value (map (node_tree input_value_tree) arguments.now)) }
+{
+    let mut seen = IndexMap::new(alloc);
+    for argument in arguments {
+        tell(faults, unique_input_value(&seen, argument)?)?;
+        see(&mut seen, argument)?;
+    }
+    Ok(())
+}
+
+/// UniqueInputValue: no earlier argument of the same field or directive has the name. `seen` has the first place of each name.
+fn unique_input_value(
+    seen: &IndexMap<Name, Option<SourceSpan>>,
+    argument: &Node<InputValueDefinition>,
+) -> Result<Option<Fault>, AllocError>
+    ensures { (before : _) → AreSeen seen.now before → IfOk result (λ r. map fault_of (option_to_list r) ≡ unique_input_value before (node_tree input_value_tree argument.now)) }
+{
+    let name = &argument.content().name;
+    match seen.get(name) {
+        None => Ok(None),
+        Some(first) => {
+            let first = *first;
+            Ok(Some(Fault {
+                location: first,
+                data: DiagnosticData::UniqueInputValue {
+                    name: name.clone()?,
+                    original_definition: first,
+                    redefined_definition: argument.location(),
+                },
+            }))
+        }
+    }
+}
+
+/// Notes the place of an argument, if it is the first of its name.
+fn see(
+    seen: &mut IndexMap<Name, Option<SourceSpan>>,
+    argument: &Node<InputValueDefinition>,
+) -> Result<(), AllocError>
+    ensures { (before : _) → AreSeen seen.old before → OnOk result (AreSeen seen.new (before ++ node_tree input_value_tree argument.now ∷ [])) }
+{
+    let name = &argument.content().name;
+    if seen.get(name).is_some() {
+        return Ok(());
+    }
+    seen.insert(name.clone()?, argument.location())?;
+    Ok(())
+}

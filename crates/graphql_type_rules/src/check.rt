@@ -1,0 +1,142 @@
+//! Tells which rules a schema breaks on its roots, names, the types that are named, and what a type must have.
+ghost use Rattle.std.specs.Prelude.{◌≡◌, ◌↔◌, ◌++◌, ◌⊎◌, OnOk, Contains, flat_map};
+ghost use Rattle.graphql_names.specs.Placed.{node_tree};
+ghost use Rattle.graphql_directives.specs.DirectiveTree.{directive_definition_tree};
+ghost use Rattle.graphql_schema_types.specs.TypeView.{extended_type};
+ghost use Rattle.graphql_schema.specs.SchemaOf.{schema_tree};
+ghost use Rattle.graphql_fault_data.specs.FaultView.{faults_of};
+ghost use Rattle.graphql_type_rules.specs.Told.{Told, TypesBreak};
+ghost use Rattle.graphql_type_rules.specs.FaultLists.{type_faults, directive_faults, all_faults};
+
+use crate::arguments::check_arguments;
+use crate::distinct::names_differ;
+use crate::members::{check_fields, check_input_fields, check_members, check_values};
+use crate::reserved::reserved_name;
+use crate::roots::check_roots;
+use graphql_fault_data::{Fault, tell};
+use graphql_schema::graphql_ast::{DirectiveDefinition, Name, Node};
+use graphql_schema::{ExtendedType, Schema};
+use std::alloc::{AllocError, Global};
+
+/// Tells each fault of the rules on roots, names, the types that are named, and what a type must have. It fails only
+/// where memory is refused; then some may be told.
+pub fn check_types(
+    alloc: Global,
+    schema: &Schema,
+    faults: &mut Vec<Fault>,
+) -> Result<(), AllocError>
+    ensures { OnOk result ((f : _) → Contains (faults_of faults.new) f ↔ (Contains (faults_of faults.old) f ⊎ Told (schema_tree schema.now) TypesBreak f)) }
+{
+    let _ = names_differ(schema);
+    check_all(alloc, schema, faults)
+}
+
+/// Tells the faults of the roots, then those of each type, then those of each directive definition.
+fn check_all(
+    alloc: Global,
+    schema: &Schema,
+    faults: &mut Vec<Fault>,
+) -> Result<(), AllocError>
+    ensures { OnOk result (faults_of faults.new ≡ faults_of faults.old ++ all_faults (schema_tree schema.now)) }
+{
+    check_roots(schema, faults)?;
+    check_each_type(alloc, schema, faults)?;
+    check_each_directive(alloc, schema, faults)
+}
+
+/// Tells the faults of each type.
+fn check_each_type(
+    alloc: Global,
+    schema: &Schema,
+    faults: &mut Vec<Fault>,
+) -> Result<(), AllocError>
+    ensures { OnOk result (faults_of faults.new ≡ faults_of faults.old ++ flat_map (λ e. type_faults (schema_tree schema.now) e.0 e.1) (schema_tree schema.now).types) }
+{
+    for (name, ty) in &schema.types {
+        check_type(alloc, schema, name, ty, faults)?;
+    }
+    Ok(())
+}
+
+/// Tells the faults of a type.
+fn check_type(
+    alloc: Global,
+    schema: &Schema,
+    name: &Name,
+    ty: &ExtendedType,
+    faults: &mut Vec<Fault>,
+) -> Result<(), AllocError>
+    ensures { OnOk result (faults_of faults.new ≡ faults_of faults.old ++ type_faults (schema_tree schema.now) name.now.text (extended_type ty.now)) }
+{
+    let location = ty.name().location();
+    tell(
+        faults,
+        reserved_name(ty.is_built_in(), name, location, ty.describe())?,
+    )?;
+    check_parts(alloc, schema, name, ty, faults)
+}
+
+/// Tells the faults of what a type has.
+fn check_parts(
+    alloc: Global,
+    schema: &Schema,
+    name: &Name,
+    ty: &ExtendedType,
+    faults: &mut Vec<Fault>,
+) -> Result<(), AllocError>
+    ensures { OnOk result (faults_of faults.new ≡ faults_of faults.old ++ parts_faults (schema_tree schema.now) name.now.text (extended_type ty.now) (extended_type ty.now).kind) }
+{
+    match ty {
+        ExtendedType::Scalar(_) => Ok(()),
+        ExtendedType::Object(own) => {
+            check_fields(alloc, schema, name, ty, &own.content().fields, faults)
+        }
+        ExtendedType::Interface(own) => {
+            check_fields(alloc, schema, name, ty, &own.content().fields, faults)
+        }
+        ExtendedType::Union(own) => {
+            check_members(alloc, schema, name, ty, &own.content().members, faults)
+        }
+        ExtendedType::Enum(own) => check_values(alloc, name, ty, &own.content().values, faults),
+        ExtendedType::InputObject(own) => {
+            check_input_fields(alloc, schema, name, ty, &own.content().fields, faults)
+        }
+    }
+}
+
+/// Tells the faults of each directive definition.
+fn check_each_directive(
+    alloc: Global,
+    schema: &Schema,
+    faults: &mut Vec<Fault>,
+) -> Result<(), AllocError>
+    ensures { OnOk result (faults_of faults.new ≡ faults_of faults.old ++ flat_map (λ e. directive_faults (schema_tree schema.now) e.0 e.1) (schema_tree schema.now).directives) }
+{
+    for (name, directive) in &schema.directive_definitions {
+        check_directive(alloc, schema, name, directive, faults)?;
+    }
+    Ok(())
+}
+
+/// Tells the faults of a directive definition.
+fn check_directive(
+    alloc: Global,
+    schema: &Schema,
+    name: &Name,
+    directive: &Node<DirectiveDefinition>,
+    faults: &mut Vec<Fault>,
+) -> Result<(), AllocError>
+    ensures { OnOk result (faults_of faults.new ≡ faults_of faults.old ++ directive_faults (schema_tree schema.now) name.now.text (node_tree directive_definition_tree directive.now)) }
+{
+    let content = directive.content();
+    tell(
+        faults,
+        reserved_name(
+            directive.is_built_in(),
+            name,
+            content.name.location(),
+            "a directive definition",
+        )?,
+    )?;
+    check_arguments(alloc, schema, &content.arguments, faults)
+}

@@ -1,0 +1,149 @@
+//! The rules on what a type has: fields, members, values or input fields.
+ghost use Rattle.std.specs.Prelude.{◌≡◌, ◌++◌, map, OnOk, flat_map};
+ghost use Rattle.graphql_directives.specs.DirectiveTree.{input_value_tree};
+ghost use Rattle.graphql_type_members.specs.TypeSystemTree.{field_definition_tree, enum_value_tree};
+ghost use Rattle.graphql_components.specs.Names.{entries_of};
+ghost use Rattle.graphql_components.specs.Given.{component_tree, component_name_tree};
+ghost use Rattle.graphql_schema_types.specs.TypeView.{name_text, extended_type};
+ghost use Rattle.graphql_schema.specs.SchemaOf.{schema_tree};
+ghost use Rattle.graphql_fault_data.specs.FaultView.{faults_of};
+ghost use Rattle.graphql_type_rules.specs.FaultLists.{field_faults, member_faults, fields_faults, members_faults, values_faults, inputs_faults};
+
+use crate::arguments::{check_arguments, check_input_value};
+use crate::empty::{empty_field_set, empty_input_value_set, empty_member_set, empty_value_set};
+use crate::look_ups::{kind_inside, kind_named};
+use crate::reserved::reserved_name;
+use crate::types_used::{output_type, undefined_name, undefined_type, union_member_object_type};
+use graphql_fault_data::{Fault, tell};
+use graphql_schema::graphql_ast::{
+    EnumValueDefinition, FieldDefinition, InputValueDefinition, Name, Node,
+};
+use graphql_schema::{Component, ComponentName, ExtendedType, Schema};
+use indexmap::{IndexMap, IndexSet};
+use std::alloc::{AllocError, Global};
+
+/// Tells the faults of the fields of an object or interface.
+pub(crate) fn check_fields(
+    alloc: Global,
+    schema: &Schema,
+    name: &Name,
+    ty: &ExtendedType,
+    fields: &IndexMap<Name, Component<FieldDefinition>>,
+    faults: &mut Vec<Fault>,
+) -> Result<(), AllocError>
+    ensures { OnOk result (faults_of faults.new ≡ faults_of faults.old ++ fields_faults (schema_tree schema.now) name.now.text (extended_type ty.now) (entries_of name_text (component_tree field_definition_tree) fields.now)) }
+{
+    tell(faults, empty_field_set(alloc, name, ty, fields)?)?;
+    for (field_name, field) in fields {
+        check_field(alloc, schema, field_name, &field.node, faults)?;
+    }
+    Ok(())
+}
+
+/// Tells the faults of a field.
+fn check_field(
+    alloc: Global,
+    schema: &Schema,
+    name: &Name,
+    field: &Node<FieldDefinition>,
+    faults: &mut Vec<Fault>,
+) -> Result<(), AllocError>
+    ensures { OnOk result (faults_of faults.new ≡ faults_of faults.old ++ field_faults (schema_tree schema.now) name.now.text (node_tree field_definition_tree field.now)) }
+{
+    let content = field.content();
+    let kind = kind_inside(schema, &content.ty);
+    tell(
+        faults,
+        reserved_name(
+            field.is_built_in(),
+            name,
+            content.name.location(),
+            "a field",
+        )?,
+    )?;
+    tell(faults, undefined_type(&content.ty, kind)?)?;
+    tell(faults, output_type(name, field, kind)?)?;
+    check_arguments(alloc, schema, &content.arguments, faults)
+}
+
+/// Tells the faults of the members of a union.
+pub(crate) fn check_members(
+    alloc: Global,
+    schema: &Schema,
+    name: &Name,
+    ty: &ExtendedType,
+    members: &IndexSet<ComponentName>,
+    faults: &mut Vec<Fault>,
+) -> Result<(), AllocError>
+    ensures { OnOk result (faults_of faults.new ≡ faults_of faults.old ++ members_faults (schema_tree schema.now) name.now.text (extended_type ty.now) (map component_name_tree members.now.keys)) }
+{
+    tell(faults, empty_member_set(alloc, name, ty, members)?)?;
+    for member in members.as_slice() {
+        check_member(schema, &member.name, faults)?;
+    }
+    Ok(())
+}
+
+/// Tells the faults of a member of a union.
+fn check_member(
+    schema: &Schema,
+    member: &Name,
+    faults: &mut Vec<Fault>,
+) -> Result<(), AllocError>
+    ensures { OnOk result (faults_of faults.new ≡ faults_of faults.old ++ member_faults (schema_tree schema.now) (name_tree member.now)) }
+{
+    let kind = kind_named(schema, member);
+    tell(faults, undefined_name(member, kind)?)?;
+    tell(faults, union_member_object_type(member, kind)?)
+}
+
+/// Tells the faults of the values of an enum.
+pub(crate) fn check_values(
+    alloc: Global,
+    name: &Name,
+    ty: &ExtendedType,
+    values: &IndexMap<Name, Component<EnumValueDefinition>>,
+    faults: &mut Vec<Fault>,
+) -> Result<(), AllocError>
+    ensures { OnOk result (faults_of faults.new ≡ faults_of faults.old ++ values_faults name.now.text (extended_type ty.now) (entries_of name_text (component_tree enum_value_tree) values.now)) }
+{
+    tell(faults, empty_value_set(alloc, name, ty, values)?)?;
+    for (value_name, value) in values {
+        check_value(value_name, &value.node, faults)?;
+    }
+    Ok(())
+}
+
+/// Tells the faults of a value of an enum.
+fn check_value(
+    name: &Name,
+    value: &Node<EnumValueDefinition>,
+    faults: &mut Vec<Fault>,
+) -> Result<(), AllocError>
+    ensures { OnOk result (faults_of faults.new ≡ faults_of faults.old ++ value_faults name.now.text (node_tree enum_value_tree value.now)) }
+{
+    let location = value.content().value.location();
+    tell(
+        faults,
+        reserved_name(value.is_built_in(), name, location, "an enum value")?,
+    )
+}
+
+/// Tells the faults of the fields of an input object.
+pub(crate) fn check_input_fields(
+    alloc: Global,
+    schema: &Schema,
+    name: &Name,
+    ty: &ExtendedType,
+    fields: &IndexMap<Name, Component<InputValueDefinition>>,
+    faults: &mut Vec<Fault>,
+) -> Result<(), AllocError>
+    ensures { OnOk result (faults_of faults.new ≡ faults_of faults.old ++ inputs_faults (schema_tree schema.now) name.now.text (extended_type ty.now) (entries_of name_text (component_tree input_value_tree) fields.now)) }
+{
+    tell(faults, empty_input_value_set(alloc, name, ty, fields)?)?;
+    for (field_name, field) in fields {
+        let describe = "an input object field";
+        check_input_value(schema, field_name, &field.node, describe, faults)?;
+    }
+    Ok(())
+}

@@ -1,0 +1,38 @@
+//! Names that begin with `__` are reserved for introspection (section 2.1.9).
+ghost use Rattle.std.specs.Prelude.{◌≡◌, map, IfOk, option_to_list};
+ghost use Rattle.graphql_fault_data.specs.FaultView.{fault_of};
+ghost use Rattle.graphql_rule_definitions.specs.ReservedNames.{is_reserved};
+ghost use Rattle.graphql_type_rules.specs.FaultLists.{reserved_name};
+
+use graphql_fault_data::{DiagnosticData, Fault};
+use graphql_schema::graphql_ast::{Name, SourceSpan};
+use std::alloc::AllocError;
+
+/// ReservedName: what is not built in has no name that begins with `__`. `location` is that of the name.
+pub(crate) fn reserved_name(
+    built_in: bool,
+    name: &Name,
+    location: Option<SourceSpan>,
+    describe: &'static str,
+) -> Result<Option<Fault>, AllocError>
+    ensures { IfOk result (λ r. map fault_of (option_to_list r) ≡ reserved_name built_in name.now.text location describe.now) }
+{
+    if built_in {
+        return Ok(None);
+    }
+    if !is_reserved(name.as_str()) {
+        return Ok(None);
+    }
+    let name = name.clone()?;
+    Ok(Some(Fault {
+        location,
+        data: DiagnosticData::ReservedName { name, describe },
+    }))
+}
+
+/// Whether the name begins with `__`.
+fn is_reserved(text: &str) -> bool
+    ensures { result ≡ is_reserved text.now }
+{
+    matches!(text.as_bytes(), [b'_', b'_', ..])
+}
