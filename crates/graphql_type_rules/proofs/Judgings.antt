@@ -12,6 +12,7 @@ use Rattle.graphql_literals.specs.TypeQueries.{inner_name}
 use Rattle.graphql_directives.specs.DirectiveTree.{InputValueTree, DirectiveDefinitionTree, unplaced_input_value, unplaced_directive_definition}
 use Rattle.graphql_type_members.specs.TypeSystemTree.{FieldDefinitionTree, EnumValueTree, unplaced_field_definition, unplaced_enum_value}
 use Rattle.graphql_components.specs.Lists.{is_among}
+use Rattle.graphql_components.specs.Names.{names}
 use Rattle.graphql_components.specs.Given.{Given, given_name, plain_given}
 use Rattle.graphql_schema_types.specs.SchemaTree.{SchemaType, SchemaTree}
 use Rattle.graphql_schema_types.specs.Plain.{plain_type, plain_directive_definition}
@@ -50,7 +51,7 @@ module _ (t : SchemaType Place) (n : List ℕ) where
   pub input_look : (type_seen t).input n ≡ option_map (plain_given unplaced_input_value) (under n t.inputs)
   input_look = get_under (plain_given unplaced_input_value) n t.inputs
 
-  names_look : (gs : List (Given Place (Text Place))) → set.contains (set.from_list (map given_name gs)) n ≡ is_among n (map given_name gs)
+  names_look : (gs : List (Given Place (Text Place))) → set.contains (names given_name gs) n ≡ is_among n (map given_name gs)
   names_look gs = set.contains-from_list nat_list_cmp_total (map given_name gs) n ∙ (λ i. list_any (λ m. sym (texts_ties n m) i) (map given_name gs))
 
   pub member_look : (type_seen t).has_member n ≡ is_among n (map given_name t.members)

@@ -4,7 +4,7 @@ pub mod Tells
 pub mod Judgings
 pub mod ByPlace
 pub mod Says
-pub mod Roots
+pub mod RootFaults
 pub mod Whole
 pub mod ExtensionPlaces
 pub mod SeenFacts

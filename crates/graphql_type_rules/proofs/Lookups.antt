@@ -49,15 +49,13 @@ module _ {X : Type 0} (test : X → Bool) where
   pub none_found : (xs : List X) (j : ℕ) → find test (take j xs) ≡ None → (i : ℕ) (x : X) → i < j → slice_get xs i ≡ Some x → test x ≡ false
   none_found xs zero e i x h at = absurd (omega (arith, h))
   none_found [] (suc j) e i x h at = cc
-  none_found (y ∷ xs) (suc j) e i x h at = by (test y) refl e
+  none_found (y ∷ xs) (suc j) e i x h at = by (test y) refl e (none_found xs j) i h at
     where
-      by : (b : Bool) → test y ≡ b → (if b then Some y else find test (take j xs)) ≡ None → test x ≡ false
-      by true t e = cc
-      by false t e = at_index i h at
-        where
-          at_index : (i : ℕ) → i < suc j → slice_get (y ∷ xs) i ≡ Some x → test x ≡ false
-          at_index zero h at = let same : y ≡ x = cc in ap test (sym same) ∙ t
-          at_index (suc i) h at = none_found xs j e i x (omega (arith, h)) at
+      by : (b : Bool) → test y ≡ b → (if b then Some y else find test (take j xs)) ≡ None → (find test (take j xs) ≡ None → (i : ℕ) (x : X) → i < j → slice_get xs i ≡ Some x → test x ≡ false)
+          → (i : ℕ) → i < suc j → slice_get (y ∷ xs) i ≡ Some x → test x ≡ false
+      by true t e rest i h at = cc
+      by false t e rest zero h at = let same : y ≡ x = cc in ap test (sym same) ∙ t
+      by false t e rest (suc i) h at = rest e i x (omega (arith, h)) at
 
 -- the first of a name, where names differ
 module _ {X : Type 0} (name : X → List ℕ) where
@@ -73,8 +71,8 @@ module _ {X : Type 0} (name : X → List ℕ) where
   find_of (y ∷ xs) h x c = elim (Contains-cons y xs x c) [
     | inl e ↦ ap (λ (b : Bool). if b then Some y else find (λ z. bytes_eq (name x) (name z)) xs) (ap (λ z. bytes_eq (name x) (name z)) e ∙ itself (name x)) ∙ ap Some e
     | inr r ↦
-      let differs : bytes_eq (name x) (name y) ≡ false = other (bytes_eq (name x) (name y)) refl (none_other (name y) xs x (IsDistinct-head bytes_eq (name y) (map name xs) h) r) in
-      ap (λ (b : Bool). if b then Some y else find (λ z. bytes_eq (name x) (name z)) xs) differs ∙ find_of xs (IsDistinct-tail bytes_eq (name y) (map name xs) h) x r
+        let differs : bytes_eq (name x) (name y) ≡ false = other (bytes_eq (name x) (name y)) refl (none_other (name y) xs x (IsDistinct-head bytes_eq (name y) (map name xs) h) r) in
+        ap (λ (b : Bool). if b then Some y else find (λ z. bytes_eq (name x) (name z)) xs) differs ∙ find_of xs (IsDistinct-tail bytes_eq (name y) (map name xs) h) x r
   ]
     where
       other : (b : Bool) → bytes_eq (name x) (name y) ≡ b → bytes_eq (name y) (name x) ≡ false → b ≡ false

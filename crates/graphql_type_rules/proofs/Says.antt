@@ -82,6 +82,25 @@ map_self : {X : Type 0} (o : Option X) → o ≡ option_map (λ x. x) o
 map_self None = refl
 map_self (Some x) = refl
 
+-- the parts of a type, whatever its kind
+module _ (n : List ℕ) (t : SchemaType Place) where
+  abbrev pub no_fields : List PlacedFault
+  no_fields = if same_kind t.kind kind.Object || same_kind t.kind kind.Interface then empty_field_set n t t.fields else []
+
+  abbrev pub no_members : List PlacedFault
+  no_members = if same_kind t.kind kind.Union then empty_member_set n t t.members else []
+
+  abbrev pub no_values : List PlacedFault
+  no_values = if same_kind t.kind kind.Enum then empty_value_set n t t.values else []
+
+  abbrev pub no_inputs : List PlacedFault
+  no_inputs = if same_kind t.kind kind.InputObject then empty_input_value_set n t t.inputs else []
+
+abbrev pub all_parts : SchemaTree Place → List ℕ → SchemaType Place → List PlacedFault
+all_parts s n t =
+    (no_fields n t ++ flat_map (λ e. field_faults s e.0 e.1.it) t.fields) ++ ((no_members n t ++ flat_map (λ g. member_faults s g.it) t.members)
+    ++ ((no_values n t ++ flat_map (λ e. value_faults e.0 e.1.it) t.values) ++ (no_inputs n t ++ flat_map (λ e. input_faults s e.0 e.1.it) t.inputs)))
+
 module _ (s : SchemaTree Place) where
   abbrev pub Is : SchemaFault → PlacedFault → Type 0
   Is = IsToldAs s
@@ -245,7 +264,7 @@ module _ (s : SchemaTree Place) where
         let found : field_at s n m ≡ Some f = field_there s n t there m g has in
         let here : f.place ≡ place_at s at = sym (ap place_of found) in
         let inside : (inner_name f.it.ty).place ≡ place_at s (TypeNameAt at) =
-          sym (inner_place f.it.ty) ∙ sym (ap (λ o. or_nothing (option_map (λ (x : Placed Place (FieldDefinitionTree Place)). inner_name_place x.it.ty) o)) found) in
+        sym (inner_place f.it.ty) ∙ sym (ap (λ o. or_nothing (option_map (λ (x : Placed Place (FieldDefinitionTree Place)). inner_name_place x.it.ty) o)) found) in
         tells_both Is (reserved_name (is_built_in f.place) m f.it.name.place (codes "a field")) (undefined_type f.it.ty k ++ (output_type m f k ++ arguments_faults s f.it.arguments)) _ _
         (says_reserved at m (codes "a field") (is_built_in f.place) f.it.name.place (ap (λ o. is_built_in (place_of o)) found) (sym (ap (λ o. or_nothing (option_map (λ (x : Placed Place (FieldDefinitionTree Place)). x.it.name.place) o)) found)))
         (tells_both Is (undefined_type f.it.ty k) (output_type m f k ++ arguments_faults s f.it.arguments) _ _ (says_undefined at f.it.ty inside)
@@ -271,83 +290,61 @@ module _ (s : SchemaTree Place) where
     places : extension_places t ≡ extension_places_at s (TypeAt n)
     places = sym (ap (λ o. option_map_or extension_places o []) there)
 
-    -- a fault of what is empty, at the type
-    says_empty : (breach : {P E : Type 0} → List ℕ → P → E → Diagnostic P E) → map_places (spot_place s) (extension_places_at s) (map_places At (λ e. e) (breach n (TypeAt n) (TypeAt n))) ≡ breach n (place_at s (TypeAt n)) (extension_places_at s (TypeAt n))
-        → Says Is (told (TypeAt n) (breach n (TypeAt n) (TypeAt n))) (wrong t.place (breach n t.place (extension_places t)))
-    says_empty breach maps = says (TypeAt n) (breach n (TypeAt n) (TypeAt n)) (wrong t.place (breach n t.place (extension_places t))) type_place ((λ i. breach n (type_place i) (places i)) ∙ sym maps)
-
     -- ---- the parts of a type, whatever its kind
 
-    abbrev no_fields : List PlacedFault
-    no_fields = if same_kind t.kind kind.Object || same_kind t.kind kind.Interface then empty_field_set n t t.fields else []
-
-    abbrev no_members : List PlacedFault
-    no_members = if same_kind t.kind kind.Union then empty_member_set n t t.members else []
-
-    abbrev no_values : List PlacedFault
-    no_values = if same_kind t.kind kind.Enum then empty_value_set n t t.values else []
-
-    abbrev no_inputs : List PlacedFault
-    no_inputs = if same_kind t.kind kind.InputObject then empty_input_value_set n t t.inputs else []
-
-    says_no_fields : Tells Is no_fields (λ g. HasNoField (judged s) g n (type_seen t))
+    says_no_fields : Tells Is (no_fields n t) (λ g. HasNoField (judged s) g n (type_seen t))
     says_no_fields =
-        tells_empty (same_kind t.kind kind.Object || same_kind t.kind kind.Interface) _ (has_fields t.kind) t.fields (IsEmpty (type_seen t).field)
-        (
+        tells_empty (same_kind t.kind kind.Object || same_kind t.kind kind.Interface) _ (has_fields t.kind) t.fields (IsEmpty (type_seen t).field) (
           λ e m. field_look t m ∙ ap (λ es. option_map (plain_given unplaced_field_definition) (under m es)) e,
           λ none. no_entries t.fields (λ m. mapped_none (plain_given unplaced_field_definition) (under m t.fields) (sym (field_look t m) ∙ none m)),
         )
-        (wrong t.place (EmptyFieldSet n t.place (extension_places t))) (told (TypeAt n) (EmptyFieldSet n (TypeAt n) (TypeAt n))) (says_empty EmptyFieldSet refl)
+        (wrong t.place (EmptyFieldSet n t.place (extension_places t))) (told (TypeAt n) (EmptyFieldSet n (TypeAt n) (TypeAt n)))
+        (says (TypeAt n) (EmptyFieldSet n (TypeAt n) (TypeAt n)) (wrong t.place (EmptyFieldSet n t.place (extension_places t))) type_place (λ i. EmptyFieldSet n (type_place i) (places i)))
 
-    says_no_members : Tells Is no_members (λ g. HasNoMember (judged s) g n (type_seen t))
+    says_no_members : Tells Is (no_members n t) (λ g. HasNoMember (judged s) g n (type_seen t))
     says_no_members =
-        tells_empty (same_kind t.kind kind.Union) _ (is_union t.kind) t.members ((m : List ℕ) → (type_seen t).has_member m ≡ false)
-        (
+        tells_empty (same_kind t.kind kind.Union) _ (is_union t.kind) t.members ((m : List ℕ) → (type_seen t).has_member m ≡ false) (
           λ e m. member_look t m ∙ ap (λ gs. is_among m (map given_name gs)) e,
           λ none. no_names given_name t.members (λ m. sym (member_look t m) ∙ none m),
         )
-        (wrong t.place (EmptyMemberSet n t.place (extension_places t))) (told (TypeAt n) (EmptyMemberSet n (TypeAt n) (TypeAt n))) (says_empty EmptyMemberSet refl)
+        (wrong t.place (EmptyMemberSet n t.place (extension_places t))) (told (TypeAt n) (EmptyMemberSet n (TypeAt n) (TypeAt n)))
+        (says (TypeAt n) (EmptyMemberSet n (TypeAt n) (TypeAt n)) (wrong t.place (EmptyMemberSet n t.place (extension_places t))) type_place (λ i. EmptyMemberSet n (type_place i) (places i)))
 
-    says_no_values : Tells Is no_values (λ g. HasNoValue (judged s) g n (type_seen t))
+    says_no_values : Tells Is (no_values n t) (λ g. HasNoValue (judged s) g n (type_seen t))
     says_no_values =
-        tells_empty (same_kind t.kind kind.Enum) _ (is_enum t.kind) t.values (IsEmpty (type_seen t).value)
-        (
+        tells_empty (same_kind t.kind kind.Enum) _ (is_enum t.kind) t.values (IsEmpty (type_seen t).value) (
           λ e m. value_look t m ∙ ap (λ es. option_map (plain_given unplaced_enum_value) (under m es)) e,
           λ none. no_entries t.values (λ m. mapped_none (plain_given unplaced_enum_value) (under m t.values) (sym (value_look t m) ∙ none m)),
         )
-        (wrong t.place (EmptyValueSet n t.place (extension_places t))) (told (TypeAt n) (EmptyValueSet n (TypeAt n) (TypeAt n))) (says_empty EmptyValueSet refl)
+        (wrong t.place (EmptyValueSet n t.place (extension_places t))) (told (TypeAt n) (EmptyValueSet n (TypeAt n) (TypeAt n)))
+        (says (TypeAt n) (EmptyValueSet n (TypeAt n) (TypeAt n)) (wrong t.place (EmptyValueSet n t.place (extension_places t))) type_place (λ i. EmptyValueSet n (type_place i) (places i)))
 
-    says_no_inputs : Tells Is no_inputs (λ g. HasNoInput (judged s) g n (type_seen t))
+    says_no_inputs : Tells Is (no_inputs n t) (λ g. HasNoInput (judged s) g n (type_seen t))
     says_no_inputs =
-        tells_empty (same_kind t.kind kind.InputObject) _ (is_input_object t.kind) t.inputs (IsEmpty (type_seen t).input)
-        (
+        tells_empty (same_kind t.kind kind.InputObject) _ (is_input_object t.kind) t.inputs (IsEmpty (type_seen t).input) (
           λ e m. input_look t m ∙ ap (λ es. option_map (plain_given unplaced_input_value) (under m es)) e,
           λ none. no_entries t.inputs (λ m. mapped_none (plain_given unplaced_input_value) (under m t.inputs) (sym (input_look t m) ∙ none m)),
         )
-        (wrong t.place (EmptyInputValueSet n t.place (extension_places t))) (told (TypeAt n) (EmptyInputValueSet n (TypeAt n) (TypeAt n))) (says_empty EmptyInputValueSet refl)
+        (wrong t.place (EmptyInputValueSet n t.place (extension_places t))) (told (TypeAt n) (EmptyInputValueSet n (TypeAt n) (TypeAt n)))
+        (says (TypeAt n) (EmptyInputValueSet n (TypeAt n) (TypeAt n)) (wrong t.place (EmptyInputValueSet n t.place (extension_places t))) type_place (λ i. EmptyInputValueSet n (type_place i) (places i)))
 
-    abbrev pub all_parts : List PlacedFault
-    all_parts =
-        (no_fields ++ flat_map (λ e. field_faults s e.0 e.1.it) t.fields) ++ ((no_members ++ flat_map (λ g. member_faults s g.it) t.members)
-        ++ ((no_values ++ flat_map (λ e. value_faults e.0 e.1.it) t.values) ++ (no_inputs ++ flat_map (λ e. input_faults s e.0 e.1.it) t.inputs)))
-
-    pub says_parts : ArePartsDistinct t → Tells Is all_parts (λ g. PartsBreak (judged s) g n (type_seen t))
+    pub says_parts : ArePartsDistinct t → Tells Is (all_parts s n t) (λ g. PartsBreak (judged s) g n (type_seen t))
     says_parts distinct =
-        tells_both Is (no_fields ++ flat_map (λ e. field_faults s e.0 e.1.it) t.fields) _ (λ g. FieldsBreak (judged s) g n (type_seen t)) _
-        (tells_both Is no_fields (flat_map (λ e. field_faults s e.0 e.1.it) t.fields) _ _ says_no_fields
+        tells_both Is (no_fields n t ++ flat_map (λ e. field_faults s e.0 e.1.it) t.fields) _ (λ g. FieldsBreak (judged s) g n (type_seen t)) _
+        (tells_both Is (no_fields n t) (flat_map (λ e. field_faults s e.0 e.1.it) t.fields) _ _ says_no_fields
         (tells_entries Is (plain_given unplaced_field_definition) t.fields distinct.fields (type_seen t).field (field_look t) (λ m g. field_faults s m g.it) (λ m f g. FieldBreaks (judged s) g n m f) says_field))
-        (tells_both Is (no_members ++ flat_map (λ g. member_faults s g.it) t.members) _ (λ g. MembersBreak (judged s) g n (type_seen t)) _
-        (tells_both Is no_members (flat_map (λ g. member_faults s g.it) t.members) _ _ says_no_members
+        (tells_both Is (no_members n t ++ flat_map (λ g. member_faults s g.it) t.members) _ (λ g. MembersBreak (judged s) g n (type_seen t)) _
+        (tells_both Is (no_members n t) (flat_map (λ g. member_faults s g.it) t.members) _ _ says_no_members
         (tells_names Is given_name t.members distinct.members (type_seen t).has_member (member_look t) (λ g. member_faults s g.it) (λ m g. MemberBreaks (judged s) g n m) says_member))
-        (tells_both Is (no_values ++ flat_map (λ e. value_faults e.0 e.1.it) t.values) (no_inputs ++ flat_map (λ e. input_faults s e.0 e.1.it) t.inputs) (λ g. ValuesBreak (judged s) g n (type_seen t)) (λ g. InputsBreak (judged s) g n (type_seen t))
-        (tells_both Is no_values (flat_map (λ e. value_faults e.0 e.1.it) t.values) _ _ says_no_values
+        (tells_both Is (no_values n t ++ flat_map (λ e. value_faults e.0 e.1.it) t.values) (no_inputs n t ++ flat_map (λ e. input_faults s e.0 e.1.it) t.inputs) (λ g. ValuesBreak (judged s) g n (type_seen t)) (λ g. InputsBreak (judged s) g n (type_seen t))
+        (tells_both Is (no_values n t) (flat_map (λ e. value_faults e.0 e.1.it) t.values) _ _ says_no_values
         (tells_entries Is (plain_given unplaced_enum_value) t.values distinct.values (type_seen t).value (value_look t) (λ m g. value_faults m g.it) (λ m v g. ValueBreaks (judged s) g n m) says_value))
-        (tells_both Is no_inputs (flat_map (λ e. input_faults s e.0 e.1.it) t.inputs) _ _ says_no_inputs
+        (tells_both Is (no_inputs n t) (flat_map (λ e. input_faults s e.0 e.1.it) t.inputs) _ _ says_no_inputs
         (tells_entries Is (plain_given unplaced_input_value) t.inputs distinct.inputs (type_seen t).input (input_look t) (λ m g. input_faults s m g.it) (λ m v g. InputBreaks (judged s) g n m v) says_input_field))))
 
-    pub says_type : ArePartsDistinct t → Tells Is (reserved_name (is_built_in t.place) n t.name.place (kind_words t.kind) ++ all_parts) (λ g. TypeBreaks (judged s) g n (type_seen t))
+    pub says_type : ArePartsDistinct t → Tells Is (reserved_name (is_built_in t.place) n t.name.place (kind_words t.kind) ++ all_parts s n t) (λ g. TypeBreaks (judged s) g n (type_seen t))
     says_type distinct =
-        tells_both Is (reserved_name (is_built_in t.place) n t.name.place (kind_words t.kind)) all_parts _ _
+        tells_both Is (reserved_name (is_built_in t.place) n t.name.place (kind_words t.kind)) (all_parts s n t) _ _
         (says_reserved (TypeAt n) n (kind_words t.kind) (is_built_in t.place) t.name.place (ap is_built_in (sym type_place)) (sym (ap (λ o. or_nothing (option_map (λ (x : SchemaType Place). x.name.place) o)) there)))
         (says_parts distinct)
 

@@ -21,7 +21,7 @@ use Rattle.graphql_type_rules.proofs.Judgings.{type_seen, type_look, directive_l
 use Rattle.graphql_type_rules.proofs.ByPlace.{TypeBreaks, DirectiveBreaks, PlacesBreak, to_places, from_places}
 use Rattle.graphql_type_rules.proofs.Tells.{Tells, tells_same, tells_list, tells_both, tells_entries}
 use Rattle.graphql_type_rules.proofs.Says.{Is, all_parts, says_type, says_directive}
-use Rattle.graphql_type_rules.proofs.Roots.{says_roots}
+use Rattle.graphql_type_rules.proofs.RootFaults.{says_roots}
 
 module _ (s : SchemaTree Place) where
   -- a type has no parts but those of its kind
@@ -54,7 +54,7 @@ module _ (s : SchemaTree Place) where
   says_all : AreAllDistinct s → (es : List (NameValue × ExtendedType)) → s.types ≡ map (λ e. (name_text e.0, extended_type e.1)) es → Tells (Is s) (all_faults s) (λ g. TypesBreak (judged s) g)
   says_all distinct es are =
       let same : flat_map (λ e. type_faults s e.0 e.1) s.types ≡ flat_map (λ e. whole_faults e.0 e.1) s.types =
-        ap (flat_map (λ (e : List ℕ × SchemaType Place). type_faults s e.0 e.1)) are ∙ types_same es ∙ sym (ap (flat_map (λ (e : List ℕ × SchemaType Place). whole_faults e.0 e.1)) are) in
+      ap (flat_map (λ (e : List ℕ × SchemaType Place). type_faults s e.0 e.1)) are ∙ types_same es ∙ sym (ap (flat_map (λ (e : List ℕ × SchemaType Place). whole_faults e.0 e.1)) are) in
       tells_list (Is s) (roots_faults s ++ (flat_map (λ e. whole_faults e.0 e.1) s.types ++ flat_map (λ e. directive_faults s e.0 e.1) s.directives)) (all_faults s) (λ g. TypesBreak (judged s) g)
       (ap (λ l. roots_faults s ++ (l ++ flat_map (λ e. directive_faults s e.0 e.1) s.directives)) (sym same))
       (tells_same (Is s) _ (λ g. PlacesBreak (judged s) g) (λ g. TypesBreak (judged s) g) (λ g. (from_places (judged s) g, to_places (judged s) g)) (says_places distinct))

@@ -6,7 +6,7 @@ ghost use Rattle.graphql_schema_types.specs.TypeView.{extended_type};
 ghost use Rattle.graphql_schema.specs.SchemaOf.{schema_tree};
 ghost use Rattle.graphql_fault_data.specs.FaultView.{faults_of};
 ghost use Rattle.graphql_type_rules.specs.Told.{Told, TypesBreak};
-ghost use Rattle.graphql_type_rules.specs.FaultLists.{type_faults, directive_faults, all_faults};
+ghost use Rattle.graphql_type_rules.specs.FaultLists.{parts_faults, type_faults, directive_faults, all_faults};
 
 use crate::arguments::check_arguments;
 use crate::distinct::names_differ;
@@ -32,11 +32,7 @@ pub fn check_types(
 }
 
 /// Tells the faults of the roots, then those of each type, then those of each directive definition.
-fn check_all(
-    alloc: Global,
-    schema: &Schema,
-    faults: &mut Vec<Fault>,
-) -> Result<(), AllocError>
+fn check_all(alloc: Global, schema: &Schema, faults: &mut Vec<Fault>) -> Result<(), AllocError>
     ensures { OnOk result (faults_of faults.new ≡ faults_of faults.old ++ all_faults (schema_tree schema.now)) }
 {
     check_roots(schema, faults)?;

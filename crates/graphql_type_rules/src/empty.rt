@@ -1,9 +1,8 @@
 //! A type must have something (sections 3.6 to 3.10).
-ghost use Rattle.std.specs.Prelude.{◌≡◌, ◌++◌, [], map, take, IfOk, OnOk, option_to_list};
+ghost use Rattle.std.specs.Prelude.{◌≡◌, map, IfOk, option_to_list};
 ghost use Rattle.graphql_fault_data.specs.FaultView.{fault_of};
 ghost use Rattle.graphql_rule_definitions.specs.Rules.{extension_places};
 ghost use Rattle.graphql_schema_types.specs.TypeView.{extended_type};
-ghost use Rattle.graphql_schema_types.specs.Origins.{extensions_in, type_origins};
 ghost use Rattle.graphql_components.specs.Given.{place_of};
 ghost use Rattle.graphql_type_rules.specs.FaultLists.{empty_field_set, empty_member_set, empty_value_set, empty_input_value_set};
 
@@ -112,14 +111,11 @@ pub(crate) fn empty_input_value_set(
 }
 
 /// The places of the extensions of a type, by first appearance.
-#[tactic(auto, using(crate::proofs::ExtensionPlaces::type_extension_places))]
-fn extension_places(
-    alloc: Global,
-    ty: &ExtendedType,
-) -> Result<Vec<Option<SourceSpan>>, AllocError>
+fn extension_places(alloc: Global, ty: &ExtendedType) -> Result<Vec<Option<SourceSpan>>, AllocError>
     ensures { IfOk result (λ places. places.items ≡ extension_places (extended_type ty.now)) }
 {
-    places_of(alloc, &ty.extensions(alloc)?)
+    let extensions = ty.extensions(alloc)?;
+    places_of(alloc, &extensions)
 }
 
 /// The places of these extensions.

@@ -1,5 +1,6 @@
 //! The rules on what a type has: fields, members, values or input fields.
-ghost use Rattle.std.specs.Prelude.{◌≡◌, ◌++◌, map, OnOk, flat_map};
+ghost use Rattle.std.specs.Prelude.{◌≡◌, ◌++◌, map, OnOk};
+ghost use Rattle.graphql_names.specs.Placed.{name_tree, node_tree};
 ghost use Rattle.graphql_directives.specs.DirectiveTree.{input_value_tree};
 ghost use Rattle.graphql_type_members.specs.TypeSystemTree.{field_definition_tree, enum_value_tree};
 ghost use Rattle.graphql_components.specs.Names.{entries_of};
@@ -7,7 +8,7 @@ ghost use Rattle.graphql_components.specs.Given.{component_tree, component_name_
 ghost use Rattle.graphql_schema_types.specs.TypeView.{name_text, extended_type};
 ghost use Rattle.graphql_schema.specs.SchemaOf.{schema_tree};
 ghost use Rattle.graphql_fault_data.specs.FaultView.{faults_of};
-ghost use Rattle.graphql_type_rules.specs.FaultLists.{field_faults, member_faults, fields_faults, members_faults, values_faults, inputs_faults};
+ghost use Rattle.graphql_type_rules.specs.FaultLists.{field_faults, member_faults, value_faults, fields_faults, members_faults, values_faults, inputs_faults};
 
 use crate::arguments::{check_arguments, check_input_value};
 use crate::empty::{empty_field_set, empty_input_value_set, empty_member_set, empty_value_set};
@@ -85,11 +86,7 @@ pub(crate) fn check_members(
 }
 
 /// Tells the faults of a member of a union.
-fn check_member(
-    schema: &Schema,
-    member: &Name,
-    faults: &mut Vec<Fault>,
-) -> Result<(), AllocError>
+fn check_member(schema: &Schema, member: &Name, faults: &mut Vec<Fault>) -> Result<(), AllocError>
     ensures { OnOk result (faults_of faults.new ≡ faults_of faults.old ++ member_faults (schema_tree schema.now) (name_tree member.now)) }
 {
     let kind = kind_named(schema, member);

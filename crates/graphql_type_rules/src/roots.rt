@@ -2,6 +2,7 @@
 ghost use Rattle.std.specs.Prelude.{◌≡◌, ◌++◌, map, IfOk, OnOk, option_to_list};
 ghost use Rattle.std.specs.Option.{option_map};
 ghost use Rattle.graphql_names.specs.Placed.{name_tree};
+ghost use Rattle.graphql_operations.specs.declared.operation.OperationType.TheVariants as operation;
 ghost use Rattle.graphql_components.specs.Given.{component_name_tree};
 ghost use Rattle.graphql_schema_types.specs.TypeView.{schema_roots};
 ghost use Rattle.graphql_schema.specs.SchemaOf.{schema_tree};
@@ -53,7 +54,7 @@ fn check_repeats(
     definition: &Node<SchemaDefinition>,
     faults: &mut Vec<Fault>,
 ) -> Result<(), AllocError>
-    ensures { OnOk result (faults_of faults.new ≡ faults_of faults.old ++ (same_root OperationType.Query (schema_roots definition.now).query OperationType.Mutation (schema_roots definition.now).mutation ++ subscription_again (schema_roots definition.now))) }
+    ensures { OnOk result (faults_of faults.new ≡ faults_of faults.old ++ (same_root operation.Query (schema_roots definition.now).query operation.Mutation (schema_roots definition.now).mutation ++ subscription_again (schema_roots definition.now))) }
 {
     let roots = definition.content();
     tell(
@@ -74,7 +75,7 @@ fn query_root_operation_type(
 ) -> Result<Option<Fault>, AllocError>
     ensures { IfOk result (λ r. map fault_of (option_to_list r) ≡ query_root_operation_type (schema_roots definition.now)) }
 {
-    match definition.content().query {
+    match &definition.content().query {
         Some(_) => Ok(None),
         None => Ok(Some(Fault {
             location: definition.location(),
@@ -116,25 +117,24 @@ fn duplicate_root_operation_type(
 ) -> Result<Option<Fault>, AllocError>
     ensures { IfOk result (λ r. map fault_of (option_to_list r) ≡ same_root original_operation (option_map component_name_tree original.now) redefined_operation (option_map component_name_tree redefined.now)) }
 {
-    let Some(original) = original else {
-        return Ok(None);
-    };
-    let Some(redefined) = redefined else {
-        return Ok(None);
-    };
-    if redefined.name.as_str() != original.name.as_str() {
-        return Ok(None);
+    match (original, redefined) {
+        (Some(original), Some(redefined)) => {
+            if redefined.name.as_str() == original.name.as_str() {
+                return Ok(Some(Fault {
+                    location: redefined.name.location(),
+                    data: DiagnosticData::DuplicateRootOperationType {
+                        name: redefined.name.clone()?,
+                        original_operation,
+                        original_definition: original.name.location(),
+                        redefined_operation,
+                        redefined_definition: redefined.name.location(),
+                    },
+                }));
+            }
+            Ok(None)
+        }
+        _ => Ok(None),
     }
-    Ok(Some(Fault {
-        location: redefined.name.location(),
-        data: DiagnosticData::DuplicateRootOperationType {
-            name: redefined.name.clone()?,
-            original_operation,
-            original_definition: original.name.location(),
-            redefined_operation,
-            redefined_definition: redefined.name.location(),
-        },
-    }))
 }
 
 /// The root of subscriptions, where that of queries or else that of mutations is the same type.

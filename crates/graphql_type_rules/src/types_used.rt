@@ -33,10 +33,7 @@ pub(crate) fn undefined_name(
 }
 
 /// UndefinedDefinition: the type inside a reference is there, or it has the name of a built-in scalar.
-pub(crate) fn undefined_type(
-    ty: &Type,
-    kind: Option<TypeKind>,
-) -> Result<Option<Fault>, AllocError>
+pub(crate) fn undefined_type(ty: &Type, kind: Option<TypeKind>) -> Result<Option<Fault>, AllocError>
     ensures { IfOk result (λ r. map fault_of (option_to_list r) ≡ undefined_type (type_tree ty.now) kind) }
 {
     match kind {

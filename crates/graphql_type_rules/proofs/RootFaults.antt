@@ -20,7 +20,7 @@ use Rattle.graphql_type_rules.specs.Told.{PlacedFault}
 use Rattle.graphql_type_rules.specs.FaultLists.{query_root_operation_type, same_root, or_else, subscription_again, root_faults, roots_faults}
 use Rattle.graphql_type_rules.proofs.Lists.{not_in_nil, only, found_in, index_given}
 use Rattle.graphql_type_rules.proofs.ByPlace.{RootBreaks, RootsBreak}
-use Rattle.graphql_type_rules.proofs.Tells.{Tells, Says, tells_same, tells_list, tells_both, tells_one, tells_no, repeat_of, tells_repeats}
+use Rattle.graphql_type_rules.proofs.Tells.{Tells, Says, tells_same, tells_list, tells_both, tells_one, tells_no, tells_repeats}
 use Rattle.graphql_type_rules.proofs.Says.{Is, says, says_root}
 
 abbrev Root : Type 0
@@ -73,9 +73,13 @@ duplicates (Some q) (Some m) None = by (bytes_eq m.it.it q.it.it)
     by false = refl
 duplicates (Some q) (Some m) (Some b) = by (bytes_eq m.it.it q.it.it) (bytes_eq b.it.it q.it.it) (bytes_eq b.it.it m.it.it)
   where
-    x y z : PlacedFault
+    x : PlacedFault
     x = say (operation.Query, q.it) (operation.Mutation, m.it)
+
+    y : PlacedFault
     y = say (operation.Query, q.it) (operation.Subscription, b.it)
+
+    z : PlacedFault
     z = say (operation.Mutation, m.it) (operation.Subscription, b.it)
 
     by : (c d e : Bool) → (if c then x ∷ [] else []) ++ or_else (if d then y ∷ [] else []) (if e then z ∷ [] else [])
@@ -109,9 +113,9 @@ module _ (s : SchemaTree Place) where
   root_stands x c = elim (Contains-append_cases (rooted operation.Query s.definition.query) _ x c) [
     | inl h ↦ of_one operation.Query s.definition.query refl h
     | inr r ↦ elim (Contains-append_cases (rooted operation.Mutation s.definition.mutation) _ x r) [
-        | inl h ↦ of_one operation.Mutation s.definition.mutation refl h
-        | inr h ↦ of_one operation.Subscription s.definition.subscription refl h
-      ]
+      | inl h ↦ of_one operation.Mutation s.definition.mutation refl h
+      | inr h ↦ of_one operation.Subscription s.definition.subscription refl h
+    ]
   ]
     where
       of_one : (o : OperationType) (root : Root) → root_at s o ≡ option_map (λ (g : Given Place (Text Place)). g.it) root → Contains (rooted o root) x → x.1.place ≡ place_at s (RootAt x.0)
@@ -156,9 +160,9 @@ module _ (s : SchemaTree Place) where
         λ h. elim h [
           | inl q ↦ inl (operation.Query, q)
           | inr r ↦ elim r [
-              | inl m ↦ inl (operation.Mutation, m)
-              | inr u ↦ elim u [ inl b ↦ inl (operation.Subscription, b) | inr d ↦ inr d ]
-            ]
+            | inl m ↦ inl (operation.Mutation, m)
+            | inr u ↦ elim u [ inl b ↦ inl (operation.Subscription, b) | inr d ↦ inr d ]
+          ]
         ],
         λ h. elim h [ inl r ↦ by_operation g r.0 r.1 | inr d ↦ inr (inr (inr d)) ],
       )
