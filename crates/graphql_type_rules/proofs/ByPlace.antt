@@ -186,25 +186,25 @@ module _ (s : Judged) (fault : SchemaFault) where
   at_unique q = inl (inr (inr (inr (inr (inr (inr (inr (inr (inr (inr (inr q)))))))))))
 
   from_argument : (at : Address) (v : InputValueTree (Unit {0})) → ((P : Address → InputValueTree (Unit {0}) → Type 0) → P at v → AtArgument s P) → ArgumentBreaks at v → TypesBreak s fault
-  from_argument at v lift (inl p) = at_reserved (inr (inr (inr (inl (lift _ p)))))
-  from_argument at v lift (inr (inl p)) = at_undefined_input (inl (lift _ p))
-  from_argument at v lift (inr (inr p)) = at_input (inl (lift _ p))
+  from_argument at v lift (inl p) = at_reserved (inr (inr (inr (inl (lift (λ x y. IsReservedAt s fault x y.name.it (codes "an argument")) p)))))
+  from_argument at v lift (inr (inl p)) = at_undefined_input (inl (lift (λ x y. IsUndefinedAt s fault x y.ty.it) p))
+  from_argument at v lift (inr (inr p)) = at_input (inl (lift IsNoInputAt p))
 
   from_arguments : (holder : Address) (vs : InputValues (Unit {0})) → ((P : Address → InputValues (Unit {0}) → Type 0) → P holder vs → AtArguments s P) → ArgumentsBreak holder vs → TypesBreak s fault
   from_arguments holder vs lift (inl (i, (v, (there, p)))) =
       from_argument (ArgumentAt holder i) v.it (λ P q. lift (λ h ws. AtSomeIndex ws (λ k w. P (ArgumentAt h k) w.it)) (i, (v, (there, q)))) p
-  from_arguments holder vs lift (inr p) = at_unique (lift _ p)
+  from_arguments holder vs lift (inr p) = at_unique (lift IsRepeatedAt p)
 
   from_field : (n m : List ℕ) (f : FieldDefinitionTree (Unit {0})) → ((P : List ℕ → List ℕ → FieldDefinitionTree (Unit {0}) → Type 0) → P n m f → AtField s P) → FieldBreaks n m f → TypesBreak s fault
-  from_field n m f lift (inl p) = at_reserved (inr (inr (inl (lift _ p))))
-  from_field n m f lift (inr (inl p)) = at_undefined_field (lift _ p)
-  from_field n m f lift (inr (inr (inl p))) = at_output (lift _ p)
+  from_field n m f lift (inl p) = at_reserved (inr (inr (inl (lift (λ k l g. IsReservedAt s fault (FieldAt k l) l (codes "a field")) p))))
+  from_field n m f lift (inr (inl p)) = at_undefined_field (lift (λ k l g. IsUndefinedAt s fault (FieldAt k l) g.ty) p)
+  from_field n m f lift (inr (inr (inl p))) = at_output (lift IsNoOutputAt p)
   from_field n m f lift (inr (inr (inr p))) = from_arguments (FieldAt n m) f.arguments (λ P q. inl (lift (λ k l g. P (FieldAt k l) g.arguments) q)) p
 
   from_input : (n m : List ℕ) (v : InputValueTree (Unit {0})) → ((P : List ℕ → List ℕ → InputValueTree (Unit {0}) → Type 0) → P n m v → AtInputField s P) → InputBreaks n m v → TypesBreak s fault
-  from_input n m v lift (inl p) = at_reserved (inr (inr (inr (inr (inl (lift _ p))))))
-  from_input n m v lift (inr (inl p)) = at_undefined_input (inr (lift _ p))
-  from_input n m v lift (inr (inr p)) = at_input (inr (lift _ p))
+  from_input n m v lift (inl p) = at_reserved (inr (inr (inr (inr (inl (lift (λ k l w. IsReservedAt s fault (InputAt k l) l (codes "an input object field")) p))))))
+  from_input n m v lift (inr (inl p)) = at_undefined_input (inr (lift (λ k l w. IsUndefinedAt s fault (InputAt k l) w.ty.it) p))
+  from_input n m v lift (inr (inr p)) = at_input (inr (lift (λ k l w. IsNoInputAt (InputAt k l) w) p))
 
   from_type : (n : List ℕ) (t : TypeLooks) → s.type_named n ≡ Some t → TypeBreaks n t → TypesBreak s fault
   from_type n t there (inl p) = at_reserved (inl (n, (t, (there, p))))

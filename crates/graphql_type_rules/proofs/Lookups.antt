@@ -33,6 +33,10 @@ module _ {X : Type 0} (test : X → Bool) where
   first_found [] (suc j) w e = cc
   first_found (x ∷ xs) (suc j) w e = by (test x) refl (first_found xs j w) e
     where
+      later : test x ≡ false → (i : ℕ) → ((k : ℕ) (y : X) → k < i → slice_get xs k ≡ Some y → test y ≡ false) → (k : ℕ) (y : X) → k < suc i → slice_get (x ∷ xs) k ≡ Some y → test y ≡ false
+      later t i earlier zero y h at' = let same : x ≡ y = cc in ap test (sym same) ∙ t
+      later t i earlier (suc k) y h at' = earlier k y (omega (arith, h)) at'
+
       by : (b : Bool) → test x ≡ b
           → (find test (take j xs) ≡ Some w → (i : ℕ) × ((i < j) × ((slice_get xs i ≡ Some w) × ((test w ≡ true) × ((k : ℕ) (y : X) → k < i → slice_get xs k ≡ Some y → test y ≡ false)))))
           → (if b then Some x else find test (take j xs)) ≡ Some w
@@ -41,10 +45,6 @@ module _ {X : Type 0} (test : X → Bool) where
       by false t rest e =
           let (i, (below, (at, (passes, earlier)))) = rest e in
           (suc i, (omega (arith, below), (at, (passes, λ k y h at'. later t i earlier k y h at'))))
-
-      later : test x ≡ false → (i : ℕ) → ((k : ℕ) (y : X) → k < i → slice_get xs k ≡ Some y → test y ≡ false) → (k : ℕ) (y : X) → k < suc i → slice_get (x ∷ xs) k ≡ Some y → test y ≡ false
-      later t i earlier zero y h at' = let same : x ≡ y = cc in ap test (sym same) ∙ t
-      later t i earlier (suc k) y h at' = earlier k y (omega (arith, h)) at'
 
   pub none_found : (xs : List X) (j : ℕ) → find test (take j xs) ≡ None → (i : ℕ) (x : X) → i < j → slice_get xs i ≡ Some x → test x ≡ false
   none_found xs zero e i x h at = absurd (omega (arith, h))

@@ -140,9 +140,9 @@ module _ (s : SchemaTree Place) where
       x : PlacedFault
       x = wrong s.definition.place QueryRootOperationType
 
-      by : (root : Root) → Tells (Is s) (option_map_or (λ q. []) root (x ∷ [])) (λ g. (option_map given_name root ≡ None) × (g ≡ told SchemaAt QueryRootOperationType))
-      by None = tells_one (Is s) (option_map given_name None ≡ None) x (told SchemaAt QueryRootOperationType) refl (says s SchemaAt QueryRootOperationType x refl refl)
-      by (Some g) = tells_no (Is s) (option_map given_name (Some g) ≡ None) (told SchemaAt QueryRootOperationType) (λ e. cc)
+      by : (root : Root) → Tells (Is s) (option_map_or (λ q. []) root (x ∷ [])) (λ g. (option_map (given_name {P = Place}) root ≡ None) × (g ≡ told SchemaAt QueryRootOperationType))
+      by None = tells_one (Is s) (option_map (given_name {P = Place}) None ≡ None) x (told SchemaAt QueryRootOperationType) refl (says s SchemaAt QueryRootOperationType x refl refl)
+      by (Some g) = tells_no (Is s) (option_map (given_name {P = Place}) (Some g) ≡ None) (told SchemaAt QueryRootOperationType) (λ e. cc)
 
   pub says_roots : Tells (Is s) (roots_faults s) (λ g. RootsBreak (judged s) g)
   says_roots =
@@ -153,6 +153,12 @@ module _ (s : SchemaTree Place) where
       (tells_both (Is s) (root_faults s s.definition.mutation) _ (λ g. RootBreaks (judged s) g operation.Mutation) _ (says_root s operation.Mutation s.definition.mutation refl refl)
       (tells_both (Is s) (root_faults s s.definition.subscription) _ (λ g. RootBreaks (judged s) g operation.Subscription) _ (says_root s operation.Subscription s.definition.subscription refl refl) says_duplicates))))
     where
+      by_operation : (g : SchemaFault) (o : OperationType) → RootBreaks (judged s) g o
+          → RootBreaks (judged s) g operation.Query ⊎ (RootBreaks (judged s) g operation.Mutation ⊎ (RootBreaks (judged s) g operation.Subscription ⊎ DuplicateRootOperationTypeAt (judged s) g))
+      by_operation g operation.Query r = inl r
+      by_operation g operation.Mutation r = inr (inl r)
+      by_operation g operation.Subscription r = inr (inr (inl r))
+
       each_root : (g : SchemaFault)
           → (RootBreaks (judged s) g operation.Query ⊎ (RootBreaks (judged s) g operation.Mutation ⊎ (RootBreaks (judged s) g operation.Subscription ⊎ DuplicateRootOperationTypeAt (judged s) g)))
           ↔ (((o : OperationType) × RootBreaks (judged s) g o) ⊎ DuplicateRootOperationTypeAt (judged s) g)
@@ -166,9 +172,3 @@ module _ (s : SchemaTree Place) where
         ],
         λ h. elim h [ inl r ↦ by_operation g r.0 r.1 | inr d ↦ inr (inr (inr d)) ],
       )
-
-      by_operation : (g : SchemaFault) (o : OperationType) → RootBreaks (judged s) g o
-          → RootBreaks (judged s) g operation.Query ⊎ (RootBreaks (judged s) g operation.Mutation ⊎ (RootBreaks (judged s) g operation.Subscription ⊎ DuplicateRootOperationTypeAt (judged s) g))
-      by_operation g operation.Query r = inl r
-      by_operation g operation.Mutation r = inr (inl r)
-      by_operation g operation.Subscription r = inr (inr (inl r))

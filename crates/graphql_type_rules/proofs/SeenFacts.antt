@@ -22,12 +22,15 @@ Input = Placed Place (InputValueTree Place)
 abbrev place : Input → Place
 place v = v.place
 
+abbrev again : Input → Place → PlacedFault
+again v p = wrong p (UniqueInputValue v.it.name.it p v.place)
+
 -- what is told where this place was noted under the name
 pub told_seen : (before : InputValues Place) (v : Input) (o : Option Place) → o ≡ option_map place (first_named before v.it.name.it)
-    → option_map_or (λ p. wrong p (UniqueInputValue v.it.name.it p v.place) ∷ []) o [] ≡ unique_input_value before v
-told_seen before v o e = ap (λ o. option_map_or (λ p. wrong p (UniqueInputValue v.it.name.it p v.place) ∷ []) o []) e ∙ by (first_named before v.it.name.it)
+    → option_map_or (λ p. again v p ∷ []) o [] ≡ unique_input_value before v
+told_seen before v o e = ap (λ o. option_map_or (λ p. again v p ∷ []) o []) e ∙ by (first_named before v.it.name.it)
   where
-    by : (f : Option Input) → option_map_or (λ (p : Place). wrong p (UniqueInputValue v.it.name.it p v.place) ∷ []) (option_map place f) [] ≡ option_map_or (λ (w : Input). wrong w.place (UniqueInputValue v.it.name.it w.place v.place) ∷ []) f []
+    by : (f : Option Input) → option_map_or (λ (p : Place). again v p ∷ []) (option_map place f) [] ≡ option_map_or (λ (w : Input). again v w.place ∷ []) f []
     by None = refl
     by (Some w) = refl
 
@@ -47,7 +50,7 @@ or_none (Some x) = refl
 module _ {S : Type 0} (before : InputValues Place) (v : Input) where
   -- a name that was noted already
   pub seen_again : (seen : IndexMap NameValue Place S) (k : NameValue) → k.text ≡ v.it.name.it → AreSeen seen before → is_some (get (same_text name_text) seen k) ≡ true → AreSeen seen (before ++ v ∷ [])
-  seen_again seen k named are there n = are n ∙ ap (option_map place) (sym (first_push before v n ∙ by (bytes_eq n.text v.it.name.it) refl))
+  seen_again seen k named are there n = are n ∙ ap (option_map place) (sym (first_push before v n.text ∙ by (bytes_eq n.text v.it.name.it) refl))
     where
       found : (o : Option Input) → is_some (option_map place o) ≡ true → (x : Option Input) → option_or o x ≡ o
       found None h x = absurd (true≢false (sym h))
@@ -62,7 +65,7 @@ module _ {S : Type 0} (before : InputValues Place) (v : Input) where
   -- a new name, noted with its place
   pub seen_first : (old new : IndexMap NameValue Place S) (k : NameValue) → k.text ≡ v.it.name.it → AreSeen old before → is_some (get (same_text name_text) old k) ≡ false
       → ((q : NameValue) → get (same_text name_text) new q ≡ cond (same_text name_text k q) (Some v.place) (get (same_text name_text) old q)) → AreSeen new (before ++ v ∷ [])
-  seen_first old new k named are absent puts n = puts n ∙ by (bytes_eq n.text v.it.name.it) refl (bytes_eq k.text n.text) refl ∙ ap (option_map place) (sym (first_push before v n))
+  seen_first old new k named are absent puts n = puts n ∙ by (bytes_eq n.text v.it.name.it) refl (bytes_eq k.text n.text) refl ∙ ap (option_map place) (sym (first_push before v n.text))
     where
       none : (o : Option Input) → is_some (option_map place o) ≡ false → o ≡ None
       none None h = refl

@@ -15,6 +15,12 @@ use Rattle.graphql_rule_definitions.specs.Words.{Present, Somewhere, Among, AtSo
 use Rattle.graphql_type_rules.proofs.Lists.{found_in, given_in, not_in_nil, only, is_only, index_found, index_given, slice_get-map, mapped_some}
 use Rattle.graphql_type_rules.proofs.Lookups.{under_found, under_given, find_of, first_found, none_found, among_found, among_given}
 
+same_index : (a b : ℕ) → (a < b → ⊥) → (b < a → ⊥) → a ≡ b
+same_index zero zero h k = refl
+same_index zero (suc b) h k = absurd (h (omega arith))
+same_index (suc a) zero h k = absurd (k (omega arith))
+same_index (suc a) (suc b) h k = ap suc (same_index a b (λ l. h (omega (arith, l))) (λ l. k (omega (arith, l))))
+
 module _ {A B : Type 0} (Is : A → B → Type 0) where
   -- the list has what breaks the rule, each as it is told, and nothing else
   abbrev pub Tells : List B → (A → Type 0) → Type 0
@@ -194,9 +200,6 @@ module _ {A B : Type 0} (Is : A → B → Type 0) where
                 let one : k ≡ i = same_index k i (λ less. first (k, (u w, (slice_get-map u xs k ∙ ap (option_map u) at', (less, named))))) (λ less. true≢false (sym passes' ∙ earlier i x less at'')) in
                 let it : w ≡ x = same_Some _ _ (sym at' ∙ ap (slice_get xs) one ∙ at'') in
                 is_only (say w v) f ((says k j w v at' there named f).0 (subst (λ a. Is a f) (is ∙ (λ n. fault (sym one n) ((text ∙ ap u (sym it)) n) j (u v))) told))
-
-            same_index : (a b : ℕ) → (a < b → ⊥) → (b < a → ⊥) → a ≡ b
-            same_index a b h k = omega (arith, h, k)
 
         by : (j : ℕ) (v : X) → slice_get xs j ≡ Some v → (f : B) → Contains (repeat_of (take j xs) v) f
             ↔ ((g : A) × (FirstNamed name (map u xs) (name (u v)) (λ i first. (i < j) × (g ≡ fault i first j (u v))) × Is g f))

@@ -2,9 +2,20 @@
 use Rattle.std.proofs.Common.{◌≡◌, ℕ, ◌⊎◌, ◌↔◌, List, [], ◌∷◌, ◌++◌, map, refl, sym, ap, subst, ◌∙◌, inl, inr, Contains}
 use Rattle.std.specs.List.{flat_map}
 use Rattle.std.proofs.lemmas.List.{append-nil}
+use Rattle.std.proofs.lemmas.List.Folds.{flat_map-map}
 use Rattle.std.proofs.lemmas.List.Elements.{Contains-append_left, Contains-append_right, Contains-append_cases}
 use Rattle.graphql_names.specs.NameValue.{NameValue}
-use Rattle.graphql_names.specs.Placed.{Place}
+use Rattle.graphql_names.specs.Node.{content}
+use Rattle.graphql_names.specs.Placed.{Placed, Place, node_tree}
+use Rattle.graphql_names.specs.declared.node.Node.{Node}
+use Rattle.graphql_directives.specs.DirectiveTree.{InputValueTree, DirectiveDefinitionTree, input_value_tree, directive_definition_tree}
+use Rattle.graphql_directives.specs.declared.directive.DirectiveDefinition.{DirectiveDefinition}
+use Rattle.graphql_directives.specs.declared.input_value.InputValueDefinition.{InputValueDefinition}
+use Rattle.graphql_type_members.specs.TypeSystemTree.{FieldDefinitionTree, EnumValueTree, field_definition_tree, enum_value_tree}
+use Rattle.graphql_type_members.specs.declared.field_definition.FieldDefinition.{FieldDefinition}
+use Rattle.graphql_type_members.specs.declared.enum_value.EnumValueDefinition.{EnumValueDefinition}
+use Rattle.graphql_components.specs.Given.{Given, component_tree}
+use Rattle.graphql_components.specs.declared.component.Component.{Component}
 use Rattle.graphql_names.specs.Places.{is_built_in}
 use Rattle.graphql_components.specs.Names.{Entries}
 use Rattle.graphql_schema_types.specs.SchemaTree.{SchemaType, SchemaTree, kind_words}
@@ -12,10 +23,13 @@ use Rattle.graphql_schema_types.specs.Plain.{plain_directive_definition}
 use Rattle.graphql_schema_types.specs.TypeView.{name_text, extended_type}
 use Rattle.graphql_schema_types.specs.declared.extended_type.ExtendedType.{ExtendedType}
 use Rattle.graphql_schema_types.specs.declared.extended_type.ExtendedType.TheVariants as rust
+use Rattle.graphql_rule_definitions.specs.Diagnostics.{Diagnostic, EmptyFieldSet, EmptyValueSet, EmptyInputValueSet}
+use Rattle.graphql_rule_definitions.specs.Faults.{wrong}
 use Rattle.graphql_rule_definitions.specs.Judged.{judged}
+use Rattle.graphql_rule_definitions.specs.Rules.{extension_places}
 use Rattle.graphql_type_rules.specs.Told.{PlacedFault, Told, TypesBreak}
 use Rattle.graphql_type_rules.specs.Distinct.{AreAllDistinct}
-use Rattle.graphql_type_rules.specs.FaultLists.{reserved_name, parts_faults, type_faults, directive_faults, roots_faults, all_faults}
+use Rattle.graphql_type_rules.specs.FaultLists.{if_none, reserved_name, value_faults, field_faults, input_faults, parts_faults, types_faults, directive_faults, directives_faults, roots_faults, all_faults}
 use Rattle.graphql_type_rules.proofs.Lookups.{under_given}
 use Rattle.graphql_type_rules.proofs.Judgings.{type_seen, type_look, directive_look}
 use Rattle.graphql_type_rules.proofs.ByPlace.{TypeBreaks, DirectiveBreaks, PlacesBreak, to_places, from_places}
@@ -23,46 +37,79 @@ use Rattle.graphql_type_rules.proofs.Tells.{Tells, tells_same, tells_list, tells
 use Rattle.graphql_type_rules.proofs.Says.{Is, all_parts, says_type, says_directive}
 use Rattle.graphql_type_rules.proofs.RootFaults.{says_roots}
 
+none_mapped : {X Y Z : Type 0} (f : X → Y) (xs : List X) (z : Z) → if_none xs z ≡ if_none (map f xs) z
+none_mapped f [] z = refl
+none_mapped f (x ∷ xs) z = refl
+
+abbrev told_of : Diagnostic Place (List Place) → SchemaType Place → PlacedFault
+told_of breach t = wrong t.place breach
+
 module _ (s : SchemaTree Place) where
   -- a type has no parts but those of its kind
-  parts_same : (n : List ℕ) (x : ExtendedType) → parts_faults s n (extended_type x) (extended_type x).kind ≡ all_parts s n (extended_type x)
+  parts_same : (n : List ℕ) (x : ExtendedType) → parts_faults s n x ≡ all_parts s n (extended_type x)
   parts_same n (rust.Scalar t) = refl
-  parts_same n (rust.Object t) = sym (append-nil _)
-  parts_same n (rust.Interface t) = sym (append-nil _)
+  parts_same n (rust.Object t) =
+      let es = (content t).fields.entries in
+      let x = extended_type (rust.Object t) in
+      (λ i. none_mapped (λ (e : NameValue × Component FieldDefinition). (name_text e.0, component_tree field_definition_tree e.1)) es (told_of (EmptyFieldSet n x.place (extension_places x)) x) i
+      ++ sym (flat_map-map (λ (e : List ℕ × Given Place (Placed Place (FieldDefinitionTree Place))). field_faults s e.0 e.1.it) (λ (e : NameValue × Component FieldDefinition). (name_text e.0, component_tree field_definition_tree e.1)) es) i)
+      ∙ sym (append-nil _)
+  parts_same n (rust.Interface t) =
+      let es = (content t).fields.entries in
+      let x = extended_type (rust.Interface t) in
+      (λ i. none_mapped (λ (e : NameValue × Component FieldDefinition). (name_text e.0, component_tree field_definition_tree e.1)) es (told_of (EmptyFieldSet n x.place (extension_places x)) x) i
+      ++ sym (flat_map-map (λ (e : List ℕ × Given Place (Placed Place (FieldDefinitionTree Place))). field_faults s e.0 e.1.it) (λ (e : NameValue × Component FieldDefinition). (name_text e.0, component_tree field_definition_tree e.1)) es) i)
+      ∙ sym (append-nil _)
   parts_same n (rust.Union t) = sym (append-nil _)
-  parts_same n (rust.Enum t) = sym (append-nil _)
-  parts_same n (rust.InputObject t) = refl
+  parts_same n (rust.Enum t) =
+      let es = (content t).values.entries in
+      let x = extended_type (rust.Enum t) in
+      (λ i. none_mapped (λ (e : NameValue × Component EnumValueDefinition). (name_text e.0, component_tree enum_value_tree e.1)) es (told_of (EmptyValueSet n x.place (extension_places x)) x) i
+      ++ sym (flat_map-map (λ (e : List ℕ × Given Place (Placed Place (EnumValueTree Place))). value_faults e.0 e.1.it) (λ (e : NameValue × Component EnumValueDefinition). (name_text e.0, component_tree enum_value_tree e.1)) es) i)
+      ∙ sym (append-nil _)
+  parts_same n (rust.InputObject t) =
+      let es = (content t).fields.entries in
+      let x = extended_type (rust.InputObject t) in
+      (λ i. none_mapped (λ (e : NameValue × Component InputValueDefinition). (name_text e.0, component_tree input_value_tree e.1)) es (told_of (EmptyInputValueSet n x.place (extension_places x)) x) i
+      ++ sym (flat_map-map (λ (e : List ℕ × Given Place (Placed Place (InputValueTree Place))). input_faults s e.0 e.1.it) (λ (e : NameValue × Component InputValueDefinition). (name_text e.0, component_tree input_value_tree e.1)) es) i)
 
   abbrev whole_faults : List ℕ → SchemaType Place → List PlacedFault
   whole_faults n t = reserved_name (is_built_in t.place) n t.name.place (kind_words t.kind) ++ all_parts s n t
 
-  types_same : (es : List (NameValue × ExtendedType))
-      → flat_map (λ e. type_faults s e.0 e.1) (map (λ e. (name_text e.0, extended_type e.1)) es) ≡ flat_map (λ e. whole_faults e.0 e.1) (map (λ e. (name_text e.0, extended_type e.1)) es)
+  types_same : (es : List (NameValue × ExtendedType)) → types_faults s es ≡ flat_map (λ (e : List ℕ × SchemaType Place). whole_faults e.0 e.1) (map (λ e. (name_text e.0, extended_type e.1)) es)
   types_same [] = refl
   types_same (e ∷ es) = λ i.
-      let t = extended_type e.1 in
-      (reserved_name (is_built_in t.place) (name_text e.0) t.name.place (kind_words t.kind) ++ parts_same (name_text e.0) e.1 i) ++ types_same es i
+      (reserved_name (is_built_in (extended_type e.1).place) (name_text e.0) (extended_type e.1).name.place (kind_words (extended_type e.1).kind) ++ parts_same (name_text e.0) e.1 i) ++ types_same es i
 
-  says_places : AreAllDistinct s → Tells (Is s) (roots_faults s ++ (flat_map (λ e. whole_faults e.0 e.1) s.types ++ flat_map (λ e. directive_faults s e.0 e.1) s.directives)) (λ g. PlacesBreak (judged s) g)
+  directives_same : (es : List (NameValue × Node DirectiveDefinition))
+      → directives_faults s es ≡ flat_map (λ (e : List ℕ × Placed Place (DirectiveDefinitionTree Place)). directive_faults s e.0 e.1) (map (λ e. (name_text e.0, node_tree directive_definition_tree e.1)) es)
+  directives_same es =
+      sym (flat_map-map (λ (e : List ℕ × Placed Place (DirectiveDefinitionTree Place)). directive_faults s e.0 e.1) (λ (e : NameValue × Node DirectiveDefinition). (name_text e.0, node_tree directive_definition_tree e.1)) es)
+
+  says_places : AreAllDistinct s → Tells (Is s) (roots_faults s ++ (flat_map (λ (e : List ℕ × SchemaType Place). whole_faults e.0 e.1) s.types ++ flat_map (λ (e : List ℕ × Placed Place (DirectiveDefinitionTree Place)). directive_faults s e.0 e.1) s.directives)) (λ g. PlacesBreak (judged s) g)
   says_places distinct =
       tells_both (Is s) (roots_faults s) _ _ _ (says_roots s)
-      (tells_both (Is s) (flat_map (λ e. whole_faults e.0 e.1) s.types) (flat_map (λ e. directive_faults s e.0 e.1) s.directives) _ _
+      (tells_both (Is s) (flat_map (λ (e : List ℕ × SchemaType Place). whole_faults e.0 e.1) s.types) (flat_map (λ (e : List ℕ × Placed Place (DirectiveDefinitionTree Place)). directive_faults s e.0 e.1) s.directives) _ _
       (tells_entries (Is s) type_seen s.types distinct.types (judged s).type_named (type_look s) whole_faults (λ n t g. TypeBreaks (judged s) g n t) (λ n t there.
       says_type s n t there (distinct.parts (n, t) (under_given n s.types t there))))
       (tells_entries (Is s) plain_directive_definition s.directives distinct.directives (judged s).directive (directive_look s) (directive_faults s) (λ n d g. DirectiveBreaks (judged s) g n d) (says_directive s)))
 
-  says_all : AreAllDistinct s → (es : List (NameValue × ExtendedType)) → s.types ≡ map (λ e. (name_text e.0, extended_type e.1)) es → Tells (Is s) (all_faults s) (λ g. TypesBreak (judged s) g)
-  says_all distinct es are =
-      let same : flat_map (λ e. type_faults s e.0 e.1) s.types ≡ flat_map (λ e. whole_faults e.0 e.1) s.types =
-      ap (flat_map (λ (e : List ℕ × SchemaType Place). type_faults s e.0 e.1)) are ∙ types_same es ∙ sym (ap (flat_map (λ (e : List ℕ × SchemaType Place). whole_faults e.0 e.1)) are) in
-      tells_list (Is s) (roots_faults s ++ (flat_map (λ e. whole_faults e.0 e.1) s.types ++ flat_map (λ e. directive_faults s e.0 e.1) s.directives)) (all_faults s) (λ g. TypesBreak (judged s) g)
-      (ap (λ l. roots_faults s ++ (l ++ flat_map (λ e. directive_faults s e.0 e.1) s.directives)) (sym same))
+  says_all : AreAllDistinct s → (types : List (NameValue × ExtendedType)) → s.types ≡ map (λ e. (name_text e.0, extended_type e.1)) types
+      → (directives : List (NameValue × Node DirectiveDefinition)) → s.directives ≡ map (λ e. (name_text e.0, node_tree directive_definition_tree e.1)) directives
+      → Tells (Is s) (all_faults s types directives) (λ g. TypesBreak (judged s) g)
+  says_all distinct types are directives are' =
+      let same : flat_map (λ (e : List ℕ × SchemaType Place). whole_faults e.0 e.1) s.types ≡ types_faults s types = ap (flat_map (λ (e : List ℕ × SchemaType Place). whole_faults e.0 e.1)) are ∙ sym (types_same types) in
+      let same' : flat_map (λ (e : List ℕ × Placed Place (DirectiveDefinitionTree Place)). directive_faults s e.0 e.1) s.directives ≡ directives_faults s directives =
+      ap (flat_map (λ (e : List ℕ × Placed Place (DirectiveDefinitionTree Place)). directive_faults s e.0 e.1)) are' ∙ sym (directives_same directives) in
+      tells_list (Is s) (roots_faults s ++ (flat_map (λ (e : List ℕ × SchemaType Place). whole_faults e.0 e.1) s.types ++ flat_map (λ (e : List ℕ × Placed Place (DirectiveDefinitionTree Place)). directive_faults s e.0 e.1) s.directives))
+      (all_faults s types directives) (λ g. TypesBreak (judged s) g) (λ i. roots_faults s ++ (same i ++ same' i))
       (tells_same (Is s) _ (λ g. PlacesBreak (judged s) g) (λ g. TypesBreak (judged s) g) (λ g. (from_places (judged s) g, to_places (judged s) g)) (says_places distinct))
 
 -- what is told behind other faults
-pub told_behind : (s : SchemaTree Place) → AreAllDistinct s → (es : List (NameValue × ExtendedType)) → s.types ≡ map (λ e. (name_text e.0, extended_type e.1)) es
-    → (old new : List PlacedFault) → new ≡ old ++ all_faults s → (f : PlacedFault) → Contains new f ↔ (Contains old f ⊎ Told s TypesBreak f)
-told_behind s distinct es are old new is f = (
-  λ h. elim (Contains-append_cases old _ f (subst (λ l. Contains l f) is h)) [ inl e ↦ inl e | inr r ↦ inr ((says_all s distinct es are f).0 r) ],
-  λ h. subst (λ l. Contains l f) (sym is) (elim h [ inl e ↦ Contains-append_left old _ f e | inr r ↦ Contains-append_right old _ f ((says_all s distinct es are f).1 r) ]),
+pub told_behind : (s : SchemaTree Place) → AreAllDistinct s → (types : List (NameValue × ExtendedType)) → s.types ≡ map (λ e. (name_text e.0, extended_type e.1)) types
+    → (directives : List (NameValue × Node DirectiveDefinition)) → s.directives ≡ map (λ e. (name_text e.0, node_tree directive_definition_tree e.1)) directives
+    → (old new : List PlacedFault) → new ≡ old ++ all_faults s types directives → (f : PlacedFault) → Contains new f ↔ (Contains old f ⊎ Told s TypesBreak f)
+told_behind s distinct types are directives are' old new is f = (
+  λ h. elim (Contains-append_cases old _ f (subst (λ l. Contains l f) is h)) [ inl e ↦ inl e | inr r ↦ inr ((says_all s distinct types are directives are' f).0 r) ],
+  λ h. subst (λ l. Contains l f) (sym is) (elim h [ inl e ↦ Contains-append_left old _ f e | inr r ↦ Contains-append_right old _ f ((says_all s distinct types are directives are' f).1 r) ]),
 )

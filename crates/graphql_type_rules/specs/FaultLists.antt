@@ -1,19 +1,29 @@
 -- The faults that each rule tells of one place, and those of all of them, in order. The public contract cites the rules alone.
 use Rattle.std.specs.Prelude.{◌≡◌, ℕ, Bool, List, [], ◌∷◌, ◌++◌, map, if◌then◌else◌, find, bytes_eq, codes, flat_map, Option, None, Some}
 use Rattle.std.specs.Option.{option_map, option_map_or}
-use Rattle.graphql_names.specs.Placed.{Placed, Place, Text}
+use Rattle.graphql_names.specs.NameValue.{NameValue}
+use Rattle.graphql_names.specs.Node.{content}
+use Rattle.graphql_names.specs.Placed.{Placed, Place, Text, node_tree}
+use Rattle.graphql_names.specs.declared.node.Node.{Node}
 use Rattle.graphql_names.specs.Places.{is_built_in}
 use Rattle.graphql_literals.specs.TypeTree.{TypeTree}
 use Rattle.graphql_literals.specs.TypeQueries.{inner_name}
-use Rattle.graphql_directives.specs.DirectiveTree.{InputValueTree, InputValues, DirectiveDefinitionTree}
+use Rattle.graphql_directives.specs.DirectiveTree.{InputValueTree, InputValues, DirectiveDefinitionTree, input_value_tree, directive_definition_tree}
+use Rattle.graphql_directives.specs.declared.directive.DirectiveDefinition.{DirectiveDefinition}
+use Rattle.graphql_directives.specs.declared.input_value.InputValueDefinition.{InputValueDefinition}
 use Rattle.graphql_operations.specs.declared.operation.OperationType.{OperationType}
 use Rattle.graphql_operations.specs.declared.operation.OperationType.TheVariants as operation
-use Rattle.graphql_type_members.specs.TypeSystemTree.{FieldDefinitionTree, EnumValueTree}
+use Rattle.graphql_type_members.specs.TypeSystemTree.{FieldDefinitionTree, EnumValueTree, field_definition_tree, enum_value_tree}
+use Rattle.graphql_type_members.specs.declared.field_definition.FieldDefinition.{FieldDefinition}
+use Rattle.graphql_type_members.specs.declared.enum_value.EnumValueDefinition.{EnumValueDefinition}
 use Rattle.graphql_components.specs.Lists.{is_among, each_place}
-use Rattle.graphql_components.specs.Names.{Entries}
-use Rattle.graphql_components.specs.Given.{Given}
+use Rattle.graphql_components.specs.Given.{Given, component_name_tree}
+use Rattle.graphql_components.specs.declared.component.Component.{Component}
 use Rattle.graphql_schema_types.specs.SchemaTree.{SchemaType, SchemaRoots, SchemaTree, kind_words, is_input_kind, is_output_kind, same_kind}
 use Rattle.graphql_schema_types.specs.Addresses.{type_at}
+use Rattle.graphql_schema_types.specs.TypeView.{name_text, extended_type}
+use Rattle.graphql_schema_types.specs.declared.extended_type.ExtendedType.{ExtendedType}
+use Rattle.graphql_schema_types.specs.declared.extended_type.ExtendedType.TheVariants as rust
 use Rattle.graphql_schema_types.specs.declared.type_kind.TypeKind.{TypeKind}
 use Rattle.graphql_schema_types.specs.declared.type_kind.TypeKind.TheVariants as kind
 use Rattle.graphql_rule_definitions.specs.Diagnostics.{QueryRootOperationType, UndefinedDefinition, RootOperationObjectType, DuplicateRootOperationType, ReservedName, OutputType, InputType, EmptyFieldSet, EmptyValueSet, EmptyMemberSet, EmptyInputValueSet, UnionMemberObjectType, UniqueInputValue}
@@ -88,8 +98,8 @@ unique_input_value before v = option_map_or (λ w. wrong w.place (UniqueInputVal
 abbrev pub value_faults : List ℕ → Placed Place (EnumValueTree Place) → List PlacedFault
 value_faults m v = reserved_name (is_built_in v.place) m v.it.value.place (codes "an enum value")
 
-abbrev pub values_faults : List ℕ → SchemaType Place → Entries (Given Place (Placed Place (EnumValueTree Place))) → List PlacedFault
-values_faults n t es = empty_value_set n t es ++ flat_map (λ e. value_faults e.0 e.1.it) es
+abbrev pub values_faults : List ℕ → SchemaType Place → List (NameValue × Component EnumValueDefinition) → List PlacedFault
+values_faults n t es = empty_value_set n t es ++ flat_map (λ (e : NameValue × Component EnumValueDefinition). value_faults (name_text e.0) (node_tree enum_value_tree e.1.node)) es
 
 -- of a root, where an earlier one, if it is there, is the same type
 abbrev pub same_root : OperationType → Option (Given Place (Text Place)) → OperationType → Option (Given Place (Text Place)) → List PlacedFault
@@ -132,26 +142,26 @@ module _ (s : SchemaTree Place) where
   abbrev pub input_faults : List ℕ → Placed Place (InputValueTree Place) → List PlacedFault
   input_faults m v = input_value_faults m (codes "an input object field") v
 
-  abbrev pub fields_faults : List ℕ → SchemaType Place → Entries (Given Place (Placed Place (FieldDefinitionTree Place))) → List PlacedFault
-  fields_faults n t es = empty_field_set n t es ++ flat_map (λ e. field_faults e.0 e.1.it) es
+  abbrev pub fields_faults : List ℕ → SchemaType Place → List (NameValue × Component FieldDefinition) → List PlacedFault
+  fields_faults n t es = empty_field_set n t es ++ flat_map (λ (e : NameValue × Component FieldDefinition). field_faults (name_text e.0) (node_tree field_definition_tree e.1.node)) es
 
   abbrev pub members_faults : List ℕ → SchemaType Place → List (Given Place (Text Place)) → List PlacedFault
   members_faults n t gs = empty_member_set n t gs ++ flat_map (λ g. member_faults g.it) gs
 
-  abbrev pub inputs_faults : List ℕ → SchemaType Place → Entries (Given Place (Placed Place (InputValueTree Place))) → List PlacedFault
-  inputs_faults n t es = empty_input_value_set n t es ++ flat_map (λ e. input_faults e.0 e.1.it) es
+  abbrev pub inputs_faults : List ℕ → SchemaType Place → List (NameValue × Component InputValueDefinition) → List PlacedFault
+  inputs_faults n t es = empty_input_value_set n t es ++ flat_map (λ (e : NameValue × Component InputValueDefinition). input_faults (name_text e.0) (node_tree input_value_tree e.1.node)) es
 
-  -- of what a type of that kind has
-  abbrev pub parts_faults : List ℕ → SchemaType Place → TypeKind → List PlacedFault
-  parts_faults n t kind.Scalar = []
-  parts_faults n t kind.Object = fields_faults n t t.fields
-  parts_faults n t kind.Interface = fields_faults n t t.fields
-  parts_faults n t kind.Union = members_faults n t t.members
-  parts_faults n t kind.Enum = values_faults n t t.values
-  parts_faults n t kind.InputObject = inputs_faults n t t.inputs
+  -- of what a type has
+  abbrev pub parts_faults : List ℕ → ExtendedType → List PlacedFault
+  parts_faults n (rust.Scalar t) = []
+  parts_faults n (rust.Object t) = fields_faults n (extended_type (rust.Object t)) (content t).fields.entries
+  parts_faults n (rust.Interface t) = fields_faults n (extended_type (rust.Interface t)) (content t).fields.entries
+  parts_faults n (rust.Union t) = members_faults n (extended_type (rust.Union t)) (map component_name_tree (content t).members.keys)
+  parts_faults n (rust.Enum t) = values_faults n (extended_type (rust.Enum t)) (content t).values.entries
+  parts_faults n (rust.InputObject t) = inputs_faults n (extended_type (rust.InputObject t)) (content t).fields.entries
 
-  abbrev pub type_faults : List ℕ → SchemaType Place → List PlacedFault
-  type_faults n t = reserved_name (is_built_in t.place) n t.name.place (kind_words t.kind) ++ parts_faults n t t.kind
+  abbrev pub type_faults : List ℕ → ExtendedType → List PlacedFault
+  type_faults n x = reserved_name (is_built_in (extended_type x).place) n (extended_type x).name.place (kind_words (extended_type x).kind) ++ parts_faults n x
 
   abbrev pub directive_faults : List ℕ → Placed Place (DirectiveDefinitionTree Place) → List PlacedFault
   directive_faults n d = reserved_name (is_built_in d.place) n d.it.name.place (codes "a directive definition") ++ arguments_faults d.it.arguments
@@ -166,5 +176,12 @@ module _ (s : SchemaTree Place) where
       ++ (root_faults s.definition.query ++ (root_faults s.definition.mutation ++ (root_faults s.definition.subscription
       ++ (same_root operation.Query s.definition.query operation.Mutation s.definition.mutation ++ subscription_again s.definition))))
 
-  abbrev pub all_faults : List PlacedFault
-  all_faults = roots_faults ++ (flat_map (λ e. type_faults e.0 e.1) s.types ++ flat_map (λ e. directive_faults e.0 e.1) s.directives)
+  abbrev pub types_faults : List (NameValue × ExtendedType) → List PlacedFault
+  types_faults es = flat_map (λ (e : NameValue × ExtendedType). type_faults (name_text e.0) e.1) es
+
+  abbrev pub directives_faults : List (NameValue × Node DirectiveDefinition) → List PlacedFault
+  directives_faults es = flat_map (λ (e : NameValue × Node DirectiveDefinition). directive_faults (name_text e.0) (node_tree directive_definition_tree e.1)) es
+
+-- of a schema with these types and directive definitions
+abbrev pub all_faults : SchemaTree Place → List (NameValue × ExtendedType) → List (NameValue × Node DirectiveDefinition) → List PlacedFault
+all_faults s types directives = roots_faults s ++ (types_faults s types ++ directives_faults s directives)

@@ -2,3 +2,4 @@ pub mod Told
 pub mod Distinct
 pub mod FaultLists
 pub mod Seen
+pub mod NamedWords

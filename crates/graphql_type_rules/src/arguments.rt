@@ -6,10 +6,11 @@ ghost use Rattle.graphql_components.specs.Lists.{each_place};
 ghost use Rattle.graphql_schema.specs.SchemaOf.{schema_tree};
 ghost use Rattle.graphql_fault_data.specs.FaultView.{fault_of, faults_of};
 ghost use Rattle.graphql_type_rules.specs.FaultLists.{unique_input_value, input_value_faults, argument_faults, arguments_faults};
+ghost use Rattle.graphql_type_rules.specs.NamedWords.{named_words};
 ghost use Rattle.graphql_type_rules.specs.Seen.{AreSeen};
 
 use crate::look_ups::kind_inside;
-use crate::reserved::reserved_name;
+use crate::reserved::{Named, reserved_name};
 use crate::types_used::{input_type, undefined_type};
 use graphql_fault_data::{DiagnosticData, Fault, tell};
 use graphql_schema::Schema;
@@ -39,15 +40,21 @@ fn check_each_argument(
     ensures { OnOk result (faults_of faults.new ≡ faults_of faults.old ++ flat_map (argument_faults (schema_tree schema.now)) (map (node_tree input_value_tree) arguments.now)) }
 {
     for argument in arguments {
-        check_input_value(
-            schema,
-            &argument.content().name,
-            argument,
-            "an argument",
-            faults,
-        )?;
+        check_argument(schema, argument, faults)?;
     }
     Ok(())
+}
+
+/// Tells the faults of an argument definition.
+fn check_argument(
+    schema: &Schema,
+    argument: &Node<InputValueDefinition>,
+    faults: &mut Vec<Fault>,
+) -> Result<(), AllocError>
+    ensures { OnOk result (faults_of faults.new ≡ faults_of faults.old ++ argument_faults (schema_tree schema.now) (node_tree input_value_tree argument.now)) }
+{
+    let name = &argument.content().name;
+    check_input_value(schema, name, argument, Named::Argument, faults)
 }
 
 /// Tells the faults of an argument definition or input field of that name.
@@ -55,17 +62,22 @@ pub(crate) fn check_input_value(
     schema: &Schema,
     name: &Name,
     input: &Node<InputValueDefinition>,
-    describe: &'static str,
+    named: Named,
     faults: &mut Vec<Fault>,
 ) -> Result<(), AllocError>
-    ensures { OnOk result (faults_of faults.new ≡ faults_of faults.old ++ input_value_faults (schema_tree schema.now) name.now.text describe.now (node_tree input_value_tree input.now)) }
+    ensures { OnOk result (faults_of faults.new ≡ faults_of faults.old ++ input_value_faults (schema_tree schema.now) name.now.text (named_words named) (node_tree input_value_tree input.now)) }
 {
     let content = input.content();
     let ty = content.ty.content();
     let kind = kind_inside(schema, ty);
     tell(
         faults,
-        reserved_name(input.is_built_in(), name, content.name.location(), describe)?,
+        reserved_name(
+            input.is_built_in(),
+            name,
+            content.name.location(),
+            named.describe(),
+        )?,
     )?;
     tell(faults, undefined_type(ty, kind)?)?;
     tell(faults, input_type(input, kind)?)

@@ -1,17 +1,16 @@
 //! Tells which rules a schema breaks on its roots, names, the types that are named, and what a type must have.
-ghost use Rattle.std.specs.Prelude.{◌≡◌, ◌↔◌, ◌++◌, ◌⊎◌, OnOk, Contains, flat_map};
+ghost use Rattle.std.specs.Prelude.{◌≡◌, ◌↔◌, ◌++◌, ◌⊎◌, OnOk, Contains};
 ghost use Rattle.graphql_names.specs.Placed.{node_tree};
 ghost use Rattle.graphql_directives.specs.DirectiveTree.{directive_definition_tree};
-ghost use Rattle.graphql_schema_types.specs.TypeView.{extended_type};
 ghost use Rattle.graphql_schema.specs.SchemaOf.{schema_tree};
 ghost use Rattle.graphql_fault_data.specs.FaultView.{faults_of};
 ghost use Rattle.graphql_type_rules.specs.Told.{Told, TypesBreak};
-ghost use Rattle.graphql_type_rules.specs.FaultLists.{parts_faults, type_faults, directive_faults, all_faults};
+ghost use Rattle.graphql_type_rules.specs.FaultLists.{parts_faults, type_faults, types_faults, directive_faults, directives_faults, all_faults};
 
 use crate::arguments::check_arguments;
 use crate::distinct::names_differ;
 use crate::members::{check_fields, check_input_fields, check_members, check_values};
-use crate::reserved::reserved_name;
+use crate::reserved::{Named, reserved_name};
 use crate::roots::check_roots;
 use graphql_fault_data::{Fault, tell};
 use graphql_schema::graphql_ast::{DirectiveDefinition, Name, Node};
@@ -33,7 +32,7 @@ pub fn check_types(
 
 /// Tells the faults of the roots, then those of each type, then those of each directive definition.
 fn check_all(alloc: Global, schema: &Schema, faults: &mut Vec<Fault>) -> Result<(), AllocError>
-    ensures { OnOk result (faults_of faults.new ≡ faults_of faults.old ++ all_faults (schema_tree schema.now)) }
+    ensures { OnOk result (faults_of faults.new ≡ faults_of faults.old ++ all_faults (schema_tree schema.now) schema.now.types.entries schema.now.directive_definitions.entries) }
 {
     check_roots(schema, faults)?;
     check_each_type(alloc, schema, faults)?;
@@ -46,7 +45,7 @@ fn check_each_type(
     schema: &Schema,
     faults: &mut Vec<Fault>,
 ) -> Result<(), AllocError>
-    ensures { OnOk result (faults_of faults.new ≡ faults_of faults.old ++ flat_map (λ e. type_faults (schema_tree schema.now) e.0 e.1) (schema_tree schema.now).types) }
+    ensures { OnOk result (faults_of faults.new ≡ faults_of faults.old ++ types_faults (schema_tree schema.now) schema.now.types.entries) }
 {
     for (name, ty) in &schema.types {
         check_type(alloc, schema, name, ty, faults)?;
@@ -62,7 +61,7 @@ fn check_type(
     ty: &ExtendedType,
     faults: &mut Vec<Fault>,
 ) -> Result<(), AllocError>
-    ensures { OnOk result (faults_of faults.new ≡ faults_of faults.old ++ type_faults (schema_tree schema.now) name.now.text (extended_type ty.now)) }
+    ensures { OnOk result (faults_of faults.new ≡ faults_of faults.old ++ type_faults (schema_tree schema.now) name.now.text ty.now) }
 {
     let location = ty.name().location();
     tell(
@@ -80,7 +79,7 @@ fn check_parts(
     ty: &ExtendedType,
     faults: &mut Vec<Fault>,
 ) -> Result<(), AllocError>
-    ensures { OnOk result (faults_of faults.new ≡ faults_of faults.old ++ parts_faults (schema_tree schema.now) name.now.text (extended_type ty.now) (extended_type ty.now).kind) }
+    ensures { OnOk result (faults_of faults.new ≡ faults_of faults.old ++ parts_faults (schema_tree schema.now) name.now.text ty.now) }
 {
     match ty {
         ExtendedType::Scalar(_) => Ok(()),
@@ -106,7 +105,7 @@ fn check_each_directive(
     schema: &Schema,
     faults: &mut Vec<Fault>,
 ) -> Result<(), AllocError>
-    ensures { OnOk result (faults_of faults.new ≡ faults_of faults.old ++ flat_map (λ e. directive_faults (schema_tree schema.now) e.0 e.1) (schema_tree schema.now).directives) }
+    ensures { OnOk result (faults_of faults.new ≡ faults_of faults.old ++ directives_faults (schema_tree schema.now) schema.now.directive_definitions.entries) }
 {
     for (name, directive) in &schema.directive_definitions {
         check_directive(alloc, schema, name, directive, faults)?;
@@ -131,7 +130,7 @@ fn check_directive(
             directive.is_built_in(),
             name,
             content.name.location(),
-            "a directive definition",
+            Named::Directive.describe(),
         )?,
     )?;
     check_arguments(alloc, schema, &content.arguments, faults)

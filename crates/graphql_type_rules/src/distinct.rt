@@ -1,21 +1,25 @@
 //! Things of one kind stand under different names, as in every map and set.
-ghost use Rattle.std.specs.Prelude.{◌≡◌};
-ghost use Rattle.graphql_schema_types.specs.TypeView.{extended_type};
-ghost use Rattle.graphql_schema.specs.SchemaOf.{schema_tree};
-ghost use Rattle.graphql_type_rules.specs.Distinct.{ArePartsDistinct, AreAllDistinct};
+ghost use Rattle.std.specs.Prelude.{Contains};
+ghost use Rattle.std.specs.List.{IsDistinct};
+ghost use Rattle.std.specs.Map.{keys_of};
+ghost use Rattle.graphql_components.specs.Names.{same_text};
+ghost use Rattle.graphql_schema_types.specs.TypeView.{name_text, extended_type};
+ghost use Rattle.graphql_type_rules.specs.Distinct.{ArePartsDistinct};
 
 use graphql_schema::{ExtendedType, Schema};
 
 /// The names in the maps and sets of a schema differ. It says nothing else.
 pub(crate) fn names_differ(schema: &Schema) -> usize
-    ensures { AreAllDistinct (schema_tree schema.now) }
+    ensures types { IsDistinct (same_text name_text) (keys_of schema.now.types.entries) }
+    ensures directives { IsDistinct (same_text name_text) (keys_of schema.now.directive_definitions.entries) }
+    ensures parts { (e : _) → Contains schema.now.types.entries e → ArePartsDistinct (extended_type e.1) }
 {
     let mut seen = schema.types.len();
+    let _ = schema.directive_definitions.len();
     for (_, ty) in &schema.types {
         seen = parts_differ(ty);
     }
-    let directives = schema.directive_definitions.len();
-    if directives < seen { directives } else { seen }
+    seen
 }
 
 /// The names in the maps and sets of a type differ.

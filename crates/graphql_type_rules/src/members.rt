@@ -3,17 +3,16 @@ ghost use Rattle.std.specs.Prelude.{◌≡◌, ◌++◌, map, OnOk};
 ghost use Rattle.graphql_names.specs.Placed.{name_tree, node_tree};
 ghost use Rattle.graphql_directives.specs.DirectiveTree.{input_value_tree};
 ghost use Rattle.graphql_type_members.specs.TypeSystemTree.{field_definition_tree, enum_value_tree};
-ghost use Rattle.graphql_components.specs.Names.{entries_of};
-ghost use Rattle.graphql_components.specs.Given.{component_tree, component_name_tree};
-ghost use Rattle.graphql_schema_types.specs.TypeView.{name_text, extended_type};
+ghost use Rattle.graphql_components.specs.Given.{component_name_tree};
+ghost use Rattle.graphql_schema_types.specs.TypeView.{extended_type};
 ghost use Rattle.graphql_schema.specs.SchemaOf.{schema_tree};
 ghost use Rattle.graphql_fault_data.specs.FaultView.{faults_of};
-ghost use Rattle.graphql_type_rules.specs.FaultLists.{field_faults, member_faults, value_faults, fields_faults, members_faults, values_faults, inputs_faults};
+ghost use Rattle.graphql_type_rules.specs.FaultLists.{field_faults, member_faults, value_faults, input_faults, fields_faults, members_faults, values_faults, inputs_faults};
 
 use crate::arguments::{check_arguments, check_input_value};
 use crate::empty::{empty_field_set, empty_input_value_set, empty_member_set, empty_value_set};
 use crate::look_ups::{kind_inside, kind_named};
-use crate::reserved::reserved_name;
+use crate::reserved::{Named, reserved_name};
 use crate::types_used::{output_type, undefined_name, undefined_type, union_member_object_type};
 use graphql_fault_data::{Fault, tell};
 use graphql_schema::graphql_ast::{
@@ -32,7 +31,7 @@ pub(crate) fn check_fields(
     fields: &IndexMap<Name, Component<FieldDefinition>>,
     faults: &mut Vec<Fault>,
 ) -> Result<(), AllocError>
-    ensures { OnOk result (faults_of faults.new ≡ faults_of faults.old ++ fields_faults (schema_tree schema.now) name.now.text (extended_type ty.now) (entries_of name_text (component_tree field_definition_tree) fields.now)) }
+    ensures { OnOk result (faults_of faults.new ≡ faults_of faults.old ++ fields_faults (schema_tree schema.now) name.now.text (extended_type ty.now) fields.now.entries) }
 {
     tell(faults, empty_field_set(alloc, name, ty, fields)?)?;
     for (field_name, field) in fields {
@@ -59,7 +58,7 @@ fn check_field(
             field.is_built_in(),
             name,
             content.name.location(),
-            "a field",
+            Named::Field.describe(),
         )?,
     )?;
     tell(faults, undefined_type(&content.ty, kind)?)?;
@@ -102,7 +101,7 @@ pub(crate) fn check_values(
     values: &IndexMap<Name, Component<EnumValueDefinition>>,
     faults: &mut Vec<Fault>,
 ) -> Result<(), AllocError>
-    ensures { OnOk result (faults_of faults.new ≡ faults_of faults.old ++ values_faults name.now.text (extended_type ty.now) (entries_of name_text (component_tree enum_value_tree) values.now)) }
+    ensures { OnOk result (faults_of faults.new ≡ faults_of faults.old ++ values_faults name.now.text (extended_type ty.now) values.now.entries) }
 {
     tell(faults, empty_value_set(alloc, name, ty, values)?)?;
     for (value_name, value) in values {
@@ -122,7 +121,12 @@ fn check_value(
     let location = value.content().value.location();
     tell(
         faults,
-        reserved_name(value.is_built_in(), name, location, "an enum value")?,
+        reserved_name(
+            value.is_built_in(),
+            name,
+            location,
+            Named::EnumValue.describe(),
+        )?,
     )
 }
 
@@ -135,12 +139,23 @@ pub(crate) fn check_input_fields(
     fields: &IndexMap<Name, Component<InputValueDefinition>>,
     faults: &mut Vec<Fault>,
 ) -> Result<(), AllocError>
-    ensures { OnOk result (faults_of faults.new ≡ faults_of faults.old ++ inputs_faults (schema_tree schema.now) name.now.text (extended_type ty.now) (entries_of name_text (component_tree input_value_tree) fields.now)) }
+    ensures { OnOk result (faults_of faults.new ≡ faults_of faults.old ++ inputs_faults (schema_tree schema.now) name.now.text (extended_type ty.now) fields.now.entries) }
 {
     tell(faults, empty_input_value_set(alloc, name, ty, fields)?)?;
     for (field_name, field) in fields {
-        let describe = "an input object field";
-        check_input_value(schema, field_name, &field.node, describe, faults)?;
+        check_input_field(schema, field_name, &field.node, faults)?;
     }
     Ok(())
+}
+
+/// Tells the faults of a field of an input object.
+fn check_input_field(
+    schema: &Schema,
+    name: &Name,
+    field: &Node<InputValueDefinition>,
+    faults: &mut Vec<Fault>,
+) -> Result<(), AllocError>
+    ensures { OnOk result (faults_of faults.new ≡ faults_of faults.old ++ input_faults (schema_tree schema.now) name.now.text (node_tree input_value_tree field.now)) }
+{
+    check_input_value(schema, name, field, Named::InputField, faults)
 }

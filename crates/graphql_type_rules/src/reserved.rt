@@ -3,10 +3,36 @@ ghost use Rattle.std.specs.Prelude.{◌≡◌, map, IfOk, option_to_list};
 ghost use Rattle.graphql_fault_data.specs.FaultView.{fault_of};
 ghost use Rattle.graphql_rule_definitions.specs.ReservedNames.{is_reserved};
 ghost use Rattle.graphql_type_rules.specs.FaultLists.{reserved_name};
+ghost use Rattle.graphql_type_rules.specs.NamedWords.{named_words};
 
 use graphql_fault_data::{DiagnosticData, Fault};
 use graphql_schema::graphql_ast::{Name, SourceSpan};
 use std::alloc::AllocError;
+
+/// What has a name, besides types.
+#[derive(Clone, Copy)]
+pub(crate) enum Named {
+    Directive,
+    Field,
+    Argument,
+    InputField,
+    EnumValue,
+}
+
+impl Named {
+    /// It in words, with the article.
+    pub(crate) fn describe(self) -> &'static str
+        ensures { result.now ≡ named_words self }
+    {
+        match self {
+            Named::Directive => "a directive definition",
+            Named::Field => "a field",
+            Named::Argument => "an argument",
+            Named::InputField => "an input object field",
+            Named::EnumValue => "an enum value",
+        }
+    }
+}
 
 /// ReservedName: what is not built in has no name that begins with `__`. `location` is that of the name.
 pub(crate) fn reserved_name(

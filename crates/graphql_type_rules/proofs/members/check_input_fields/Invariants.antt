@@ -2,7 +2,10 @@ use Rattle.std.proofs.Common.{◌≡◌, ◌++◌, map}
 use Rattle.std.specs.List.{flat_map}
 use Rattle.graphql_directives.specs.DirectiveTree.{input_value_tree}
 use Rattle.graphql_type_members.specs.TypeSystemTree.{field_definition_tree, enum_value_tree}
+use Rattle.graphql_names.specs.NameValue.{NameValue}
 use Rattle.graphql_names.specs.Placed.{node_tree}
+use Rattle.graphql_components.specs.declared.component.Component.{Component}
+use Rattle.graphql_directives.specs.declared.input_value.InputValueDefinition.{InputValueDefinition}
 use Rattle.graphql_schema_types.specs.TypeView.{name_text, extended_type}
 use Rattle.graphql_schema.specs.SchemaOf.{schema_tree}
 use Rattle.graphql_fault_data.specs.FaultView.{faults_of}
@@ -10,4 +13,4 @@ use Rattle.graphql_type_rules.specs.FaultLists.{empty_input_value_set, input_fau
 use Rattle.graphql_type_rules.proofs.members.check_input_fields.Given as goal
 
 abbrev pub invariant-loop-field_name : goal.invariant-loop-field_name
-invariant-loop-field_name l = faults_of l.faults ≡ (faults_of l.fn.faults ++ empty_input_value_set l.name.text (extended_type l.ty) l.fields.entries) ++ flat_map (λ e. input_faults (schema_tree l.schema) (name_text e.0) (node_tree input_value_tree e.1.node)) (map (λ e. (e.0.now, e.1.now)) l.yielded)
+invariant-loop-field_name l = faults_of l.faults ≡ (faults_of l.fn.faults ++ empty_input_value_set l.name.text (extended_type l.ty) l.fields.entries) ++ flat_map (λ (e : NameValue × Component InputValueDefinition). input_faults (schema_tree l.schema) (name_text e.0) (node_tree input_value_tree e.1.node)) (map (λ e. (e.0.now, e.1.now)) l.yielded)

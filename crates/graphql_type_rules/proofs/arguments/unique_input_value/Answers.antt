@@ -1,0 +1,20 @@
+use Rattle.std.proofs.Common.{[], ◌∷◌, Some, ap, ◌∙◌}
+use Rattle.std.specs.Option.{option_map}
+use Rattle.graphql_names.specs.NameValue.{NameValue}
+use Rattle.graphql_names.specs.Placed.{node_tree}
+use Rattle.graphql_directives.specs.DirectiveTree.{input_value_tree}
+use Rattle.graphql_directives.specs.declared.input_value.InputValueDefinition.{InputValueDefinition}
+use Rattle.graphql_rule_definitions.specs.Diagnostics.{UniqueInputValue}
+use Rattle.graphql_rule_definitions.specs.Faults.{wrong}
+use Rattle.graphql_type_rules.specs.Told.{PlacedFault}
+use Rattle.graphql_type_rules.specs.FaultLists.{first_named}
+use Rattle.graphql_type_rules.proofs.SeenFacts.{told_seen, place}
+use Rattle.graphql_type_rules.proofs.arguments.unique_input_value.Goals as goal
+
+pub returns-in_ok-clone-in-Some : goal.returns-in_ok-clone-in-Some
+returns-in_ok-clone-in-Some c = λ before are.
+    let first = c.in-Some.first.now in
+    let named = ap (λ (n : NameValue). n.text) c.in_ok-clone-in-Some.ensures.same ∙ ap (λ (v : InputValueDefinition). v.name.text) c.content.ensures in
+    (λ i. let fault : PlacedFault = wrong first (UniqueInputValue (named i) first (c.location.ensures i)) in fault ∷ [])
+    ∙ told_seen before (node_tree input_value_tree c.args.argument.now) (Some first)
+    (c.in-Some.ensures.value ∙ are c.content.result.now.name ∙ ap (λ (v : InputValueDefinition). option_map place (first_named before v.name.text)) c.content.ensures)
