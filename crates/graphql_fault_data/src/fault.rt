@@ -15,7 +15,7 @@ pub struct Fault {
 
 /// Adds the fault at the end, if there is one. After a refusal the list is as it was.
 pub fn tell(faults: &mut Vec<Fault>, fault: Option<Fault>) -> Result<(), AllocError>
-    ensures told { OnOk result (faults_of faults.new ≡ faults_of faults.old ++ map fault_of (option_to_list fault.entry)) }
+    ensures told { OnOk result (faults_of faults.new ≡ faults_of faults.old ++ map fault_of (option_to_list fault)) }
     ensures kept { OnErr result (faults_of faults.new ≡ faults_of faults.old) }
 {
     match fault {
