@@ -19,7 +19,7 @@ use Rattle.graphql_schema_types.specs.declared.extended_type.ExtendedType.TheVar
 use Rattle.graphql_schema_writing.proofs.Extensions.{type_extensions}
 use Rattle.graphql_rule_definitions.specs.Rules.{extensions_of, extension_places}
 
-given_values : {X A : Type 0} (f : X → A) (es : List (NameValue × X)) → map (λ e. e.1) (map (λ e. (name_text e.0, f e.1)) es) ≡ map f (values_of es)
+given_values : {X A : Type 0} (f : X → A) (es : List (NameValue × X)) → map (λ (e : List ℕ × A). e.1) (map (λ (e : NameValue × X). (name_text e.0, f e.1)) es) ≡ map f (values_of es)
 given_values f [] = refl
 given_values f (e ∷ es) = ap (λ l. f e.1 ∷ l) (given_values f es)
 

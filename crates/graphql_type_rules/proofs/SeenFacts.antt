@@ -16,10 +16,10 @@ use Rattle.graphql_type_rules.specs.Told.{PlacedFault}
 use Rattle.graphql_type_rules.specs.FaultLists.{first_named, unique_input_value}
 use Rattle.graphql_type_rules.specs.Seen.{AreSeen}
 
-abbrev Input : Type 0
+abbrev pub Input : Type 0
 Input = Placed Place (InputValueTree Place)
 
-abbrev place : Input → Place
+abbrev pub place : Input → Place
 place v = v.place
 
 abbrev again : Input → Place → PlacedFault

@@ -51,26 +51,26 @@ module _ (s : SchemaTree Place) where
   parts_same n (rust.Object t) =
       let es = (content t).fields.entries in
       let x = extended_type (rust.Object t) in
-      (λ i. none_mapped (λ (e : NameValue × Component FieldDefinition). (name_text e.0, component_tree field_definition_tree e.1)) es (told_of (EmptyFieldSet n x.place (extension_places x)) x) i
+      (λ i. none_mapped {Y = List ℕ × Given Place (Placed Place (FieldDefinitionTree Place))} (λ (e : NameValue × Component FieldDefinition). (name_text e.0, component_tree field_definition_tree e.1)) es (told_of (EmptyFieldSet n x.place (extension_places x)) x) i
       ++ sym (flat_map-map (λ (e : List ℕ × Given Place (Placed Place (FieldDefinitionTree Place))). field_faults s e.0 e.1.it) (λ (e : NameValue × Component FieldDefinition). (name_text e.0, component_tree field_definition_tree e.1)) es) i)
       ∙ sym (append-nil _)
   parts_same n (rust.Interface t) =
       let es = (content t).fields.entries in
       let x = extended_type (rust.Interface t) in
-      (λ i. none_mapped (λ (e : NameValue × Component FieldDefinition). (name_text e.0, component_tree field_definition_tree e.1)) es (told_of (EmptyFieldSet n x.place (extension_places x)) x) i
+      (λ i. none_mapped {Y = List ℕ × Given Place (Placed Place (FieldDefinitionTree Place))} (λ (e : NameValue × Component FieldDefinition). (name_text e.0, component_tree field_definition_tree e.1)) es (told_of (EmptyFieldSet n x.place (extension_places x)) x) i
       ++ sym (flat_map-map (λ (e : List ℕ × Given Place (Placed Place (FieldDefinitionTree Place))). field_faults s e.0 e.1.it) (λ (e : NameValue × Component FieldDefinition). (name_text e.0, component_tree field_definition_tree e.1)) es) i)
       ∙ sym (append-nil _)
   parts_same n (rust.Union t) = sym (append-nil _)
   parts_same n (rust.Enum t) =
       let es = (content t).values.entries in
       let x = extended_type (rust.Enum t) in
-      (λ i. none_mapped (λ (e : NameValue × Component EnumValueDefinition). (name_text e.0, component_tree enum_value_tree e.1)) es (told_of (EmptyValueSet n x.place (extension_places x)) x) i
+      (λ i. none_mapped {Y = List ℕ × Given Place (Placed Place (EnumValueTree Place))} (λ (e : NameValue × Component EnumValueDefinition). (name_text e.0, component_tree enum_value_tree e.1)) es (told_of (EmptyValueSet n x.place (extension_places x)) x) i
       ++ sym (flat_map-map (λ (e : List ℕ × Given Place (Placed Place (EnumValueTree Place))). value_faults e.0 e.1.it) (λ (e : NameValue × Component EnumValueDefinition). (name_text e.0, component_tree enum_value_tree e.1)) es) i)
       ∙ sym (append-nil _)
   parts_same n (rust.InputObject t) =
       let es = (content t).fields.entries in
       let x = extended_type (rust.InputObject t) in
-      (λ i. none_mapped (λ (e : NameValue × Component InputValueDefinition). (name_text e.0, component_tree input_value_tree e.1)) es (told_of (EmptyInputValueSet n x.place (extension_places x)) x) i
+      (λ i. none_mapped {Y = List ℕ × Given Place (Placed Place (InputValueTree Place))} (λ (e : NameValue × Component InputValueDefinition). (name_text e.0, component_tree input_value_tree e.1)) es (told_of (EmptyInputValueSet n x.place (extension_places x)) x) i
       ++ sym (flat_map-map (λ (e : List ℕ × Given Place (Placed Place (InputValueTree Place))). input_faults s e.0 e.1.it) (λ (e : NameValue × Component InputValueDefinition). (name_text e.0, component_tree input_value_tree e.1)) es) i)
 
   abbrev whole_faults : List ℕ → SchemaType Place → List PlacedFault

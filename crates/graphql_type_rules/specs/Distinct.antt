@@ -2,10 +2,13 @@
 use Rattle.std.specs.Prelude.{ℕ, List, map, bytes_eq, Contains}
 use Rattle.std.specs.List.{IsDistinct}
 use Rattle.std.specs.Map.{keys_of}
+use Rattle.graphql_names.specs.NameValue.{NameValue}
 use Rattle.graphql_names.specs.Placed.{Place}
 use Rattle.graphql_components.specs.Given.{given_name}
 use Rattle.graphql_components.specs.Names.{Entries}
 use Rattle.graphql_schema_types.specs.SchemaTree.{SchemaType, SchemaTree}
+use Rattle.graphql_schema_types.specs.TypeView.{extended_type}
+use Rattle.graphql_schema_types.specs.declared.extended_type.ExtendedType.{ExtendedType}
 
 -- no two of these entries have one name
 abbrev pub AreUnder : {V : Type 0} → Entries V → Type 0
@@ -24,3 +27,7 @@ pub record AreAllDistinct (s : SchemaTree Place) : Type 0 where
   pub types : AreUnder s.types
   pub directives : AreUnder s.directives
   pub parts : (e : List ℕ × SchemaType Place) → Contains s.types e → ArePartsDistinct e.1
+
+-- nor what each of these types has under one name
+abbrev pub AreEachDistinct : List (NameValue × ExtendedType) → Type 0
+AreEachDistinct es = (e : NameValue × ExtendedType) → Contains es e → ArePartsDistinct (extended_type e.1)

@@ -1,10 +1,9 @@
 //! Things of one kind stand under different names, as in every map and set.
-ghost use Rattle.std.specs.Prelude.{Contains};
 ghost use Rattle.std.specs.List.{IsDistinct};
 ghost use Rattle.std.specs.Map.{keys_of};
 ghost use Rattle.graphql_components.specs.Names.{same_text};
 ghost use Rattle.graphql_schema_types.specs.TypeView.{name_text, extended_type};
-ghost use Rattle.graphql_type_rules.specs.Distinct.{ArePartsDistinct};
+ghost use Rattle.graphql_type_rules.specs.Distinct.{ArePartsDistinct, AreEachDistinct};
 
 use graphql_schema::{ExtendedType, Schema};
 
@@ -12,7 +11,7 @@ use graphql_schema::{ExtendedType, Schema};
 pub(crate) fn names_differ(schema: &Schema) -> usize
     ensures types { IsDistinct (same_text name_text) (keys_of schema.now.types.entries) }
     ensures directives { IsDistinct (same_text name_text) (keys_of schema.now.directive_definitions.entries) }
-    ensures parts { (e : _) → Contains schema.now.types.entries e → ArePartsDistinct (extended_type e.1) }
+    ensures parts { AreEachDistinct schema.now.types.entries }
 {
     let mut seen = schema.types.len();
     let _ = schema.directive_definitions.len();
