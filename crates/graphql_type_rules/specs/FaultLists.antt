@@ -130,6 +130,12 @@ module _ (s : SchemaTree Place) where
   abbrev pub arguments_faults : InputValues Place → List PlacedFault
   arguments_faults vs = flat_map argument_faults vs ++ each_place unique_input_value vs
 
+  -- of the name and the type of a field
+  abbrev pub field_type_faults : List ℕ → Placed Place (FieldDefinitionTree Place) → List PlacedFault
+  field_type_faults m f =
+      reserved_name (is_built_in f.place) m f.it.name.place (codes "a field")
+      ++ (undefined_type f.it.ty (kind_named s (inner_name f.it.ty).it) ++ output_type m f (kind_named s (inner_name f.it.ty).it))
+
   abbrev pub field_faults : List ℕ → Placed Place (FieldDefinitionTree Place) → List PlacedFault
   field_faults m f =
       reserved_name (is_built_in f.place) m f.it.name.place (codes "a field")
@@ -148,8 +154,11 @@ module _ (s : SchemaTree Place) where
   abbrev pub members_faults : List ℕ → SchemaType Place → List (Given Place (Text Place)) → List PlacedFault
   members_faults n t gs = empty_member_set n t gs ++ flat_map (λ g. member_faults g.it) gs
 
+  abbrev pub each_input_faults : List (NameValue × Component InputValueDefinition) → List PlacedFault
+  each_input_faults es = flat_map (λ (e : NameValue × Component InputValueDefinition). input_faults (name_text e.0) (node_tree input_value_tree e.1.node)) es
+
   abbrev pub inputs_faults : List ℕ → SchemaType Place → List (NameValue × Component InputValueDefinition) → List PlacedFault
-  inputs_faults n t es = empty_input_value_set n t es ++ flat_map (λ (e : NameValue × Component InputValueDefinition). input_faults (name_text e.0) (node_tree input_value_tree e.1.node)) es
+  inputs_faults n t es = empty_input_value_set n t es ++ each_input_faults es
 
   -- of what a type has
   abbrev pub parts_faults : List ℕ → ExtendedType → List PlacedFault

@@ -7,7 +7,7 @@ ghost use Rattle.graphql_components.specs.Given.{component_name_tree};
 ghost use Rattle.graphql_schema_types.specs.TypeView.{extended_type};
 ghost use Rattle.graphql_schema.specs.SchemaOf.{schema_tree};
 ghost use Rattle.graphql_fault_data.specs.FaultView.{faults_of};
-ghost use Rattle.graphql_type_rules.specs.FaultLists.{field_faults, member_faults, value_faults, input_faults, fields_faults, members_faults, values_faults, inputs_faults};
+ghost use Rattle.graphql_type_rules.specs.FaultLists.{field_type_faults, field_faults, each_input_faults, member_faults, value_faults, input_faults, fields_faults, members_faults, values_faults, inputs_faults};
 
 use crate::arguments::{check_arguments, check_input_value};
 use crate::empty::{empty_field_set, empty_input_value_set, empty_member_set, empty_value_set};
@@ -50,6 +50,19 @@ fn check_field(
 ) -> Result<(), AllocError>
     ensures { OnOk result (faults_of faults.new ≡ faults_of faults.old ++ field_faults (schema_tree schema.now) name.now.text (node_tree field_definition_tree field.now)) }
 {
+    check_field_type(schema, name, field, faults)?;
+    check_arguments(alloc, schema, &field.content().arguments, faults)
+}
+
+/// Tells the faults of the name and the type of a field.
+fn check_field_type(
+    schema: &Schema,
+    name: &Name,
+    field: &Node<FieldDefinition>,
+    faults: &mut Vec<Fault>,
+) -> Result<(), AllocError>
+    ensures { OnOk result (faults_of faults.new ≡ faults_of faults.old ++ field_type_faults (schema_tree schema.now) name.now.text (node_tree field_definition_tree field.now)) }
+{
     let content = field.content();
     let kind = kind_inside(schema, &content.ty);
     tell(
@@ -62,8 +75,7 @@ fn check_field(
         )?,
     )?;
     tell(faults, undefined_type(&content.ty, kind)?)?;
-    tell(faults, output_type(name, field, kind)?)?;
-    check_arguments(alloc, schema, &content.arguments, faults)
+    tell(faults, output_type(name, field, kind)?)
 }
 
 /// Tells the faults of the members of a union.
@@ -142,6 +154,17 @@ pub(crate) fn check_input_fields(
     ensures { OnOk result (faults_of faults.new ≡ faults_of faults.old ++ inputs_faults (schema_tree schema.now) name.now.text (extended_type ty.now) fields.now.entries) }
 {
     tell(faults, empty_input_value_set(alloc, name, ty, fields)?)?;
+    check_each_input_field(schema, fields, faults)
+}
+
+/// Tells the faults of each field of an input object.
+fn check_each_input_field(
+    schema: &Schema,
+    fields: &IndexMap<Name, Component<InputValueDefinition>>,
+    faults: &mut Vec<Fault>,
+) -> Result<(), AllocError>
+    ensures { OnOk result (faults_of faults.new ≡ faults_of faults.old ++ each_input_faults (schema_tree schema.now) fields.now.entries) }
+{
     for (field_name, field) in fields {
         check_input_field(schema, field_name, &field.node, faults)?;
     }
