@@ -24,7 +24,7 @@ returns c =
     let output = output_type m f inner in
     let arguments = arguments_faults s f.it.arguments in
     let definition : c.deref.result.now ≡ (content c.args.field.now).arguments.items =
-        c.deref.ensures.value ∙ ap (λ (d : FieldDefinition). d.arguments.items) c.content.ensures in
+    c.deref.ensures.value ∙ ap (λ (d : FieldDefinition). d.arguments.items) c.content.ensures in
     IfOk-equal c.check_arguments.result _ _ _ c.check_arguments.ensures
     ((λ i. c.in_ok-check_field_type.ensures i ++ arguments_faults s (map (node_tree input_value_tree) (definition i)))
     ∙ append_assoc old (named ++ (undefined ++ output)) arguments
