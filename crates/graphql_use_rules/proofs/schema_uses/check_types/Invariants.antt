@@ -1,0 +1,9 @@
+use Rattle.std.proofs.Common.{map}
+use Rattle.graphql_schema.specs.in_schema_types.TypeView.{name_text, extended_type}
+use Rattle.graphql_schema.specs.SchemaOf.{schema_tree}
+use Rattle.graphql_value_rules.specs.Adds.{Adds}
+use Rattle.graphql_use_rules.specs.SchemaUses.{TypesUses}
+use Rattle.graphql_use_rules.proofs.schema_uses.check_types.Given as goal
+
+abbrev pub invariant-loop-ty : goal.invariant-loop-ty
+invariant-loop-ty l = Adds l.fn.faults l.faults (TypesUses (schema_tree l.schema) (map (λ e. (name_text e.0.now, extended_type e.1.now)) l.yielded))
