@@ -9,7 +9,7 @@ use Rattle.graphql_directives.specs.DirectiveTree.{ArgumentTree, Arguments, Dire
 use Rattle.graphql_directives.specs.DirectiveQueries.{is_required_input, given_value, argument_has_name}
 use Rattle.graphql_directives.specs.declared.directive_location.DirectiveLocation.{DirectiveLocation}
 use Rattle.graphql_operations.specs.OperationTree.{VariableDefinitionTree}
-use Rattle.graphql_schema.specs.in_schema_types.Addresses.{Address, DirectiveDefinitionAt, ArgumentAt, TypeReferenceAt}
+use Rattle.graphql_schema_types.specs.Addresses.{Address, DirectiveDefinitionAt, ArgumentAt, TypeReferenceAt}
 use Rattle.graphql_rule_definitions.specs.Diagnostics.{Diagnostic, UniqueArgument, UndefinedArgument, RequiredArgument, DisallowedVariableUsage, UniqueDirective}
 use Rattle.graphql_rule_definitions.specs.Words.{Present, AtSomeIndex, Lacks, IsFirst, FirstNamed, Repeats}
 use Rattle.graphql_rule_definitions.specs.Faults.{FaultAt, wrong}

@@ -12,9 +12,9 @@ use Rattle.graphql_directives.specs.DirectiveQueries.{is_required_input}
 use Rattle.graphql_operations.specs.OperationTree.{VariableDefinitionTree}
 use Rattle.graphql_coords.specs.Coordinate.{Coordinate, OfAttribute}
 use Rattle.graphql_directives.specs.declared.directive_location.DirectiveLocation.{DirectiveLocation}
-use Rattle.graphql_schema.specs.in_schema_types.Looks.{TypeLooks}
-use Rattle.graphql_schema.specs.in_schema_types.Addresses.{Address, TypeAt, InputAt, TypeReferenceAt}
-use Rattle.graphql_schema.specs.in_schema_types.declared.type_kind.TypeKind.TheVariants as kind
+use Rattle.graphql_schema_types.specs.Looks.{TypeLooks}
+use Rattle.graphql_schema_types.specs.Addresses.{Address, TypeAt, InputAt, TypeReferenceAt}
+use Rattle.graphql_schema_types.specs.declared.type_kind.TypeKind.TheVariants as kind
 use Rattle.graphql_rule_definitions.specs.Diagnostics.{Diagnostic, PlainType, UnsupportedValueType, IntCoercionError, UndefinedVariable, UndefinedEnumValue, UndefinedInputValue, RequiredField, UniqueInputValue, UniqueArgument, UndefinedArgument, RequiredArgument, UndefinedDirective, UnsupportedLocation, UniqueDirective}
 use Rattle.graphql_rule_definitions.specs.Words.{Present, Somewhere, AtSomeIndex, Lacks, Repeats}
 use Rattle.graphql_rule_definitions.specs.Spots.{entry_list}

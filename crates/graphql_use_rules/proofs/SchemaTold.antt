@@ -16,20 +16,19 @@ use Rattle.graphql_type_members.specs.TypeSystemTree.{FieldDefinitionTree, EnumV
 use Rattle.graphql_components.specs.Names.{Entries, by_bytes, named}
 use Rattle.graphql_components.specs.Given.{Given, plain_given}
 use Rattle.graphql_components.specs.Applied.{Applied}
-use Rattle.graphql_schema.specs.in_schema_types.SchemaTree.{SchemaType, SchemaTree, same_kind}
-use Rattle.graphql_schema.specs.in_schema_types.declared.type_kind.TypeKind.{TypeKind}
-use Rattle.graphql_schema.specs.in_schema_types.declared.type_kind.TypeKind.TheVariants as kind
-use Rattle.graphql_schema.specs.in_schema_types.Plain.{plain, plain_type, plain_directive_definition}
-use Rattle.graphql_schema.specs.in_schema_types.Looks.{TypeLooks, type_looks}
-use Rattle.graphql_schema.specs.in_schema_types.Addresses.{Address, SchemaAt, TypeAt, FieldAt, ValueAt, InputAt, ArgumentAt, DirectiveDefinitionAt, under, type_at, or_nothing, arguments_at, directives_at, applied, place_at, is_marked}
+use Rattle.graphql_schema_types.specs.SchemaTree.{SchemaType, SchemaTree, same_kind}
+use Rattle.graphql_schema_types.specs.declared.type_kind.TypeKind.{TypeKind}
+use Rattle.graphql_schema_types.specs.declared.type_kind.TypeKind.TheVariants as kind
+use Rattle.graphql_schema_types.specs.Plain.{plain, plain_type, plain_directive_definition}
+use Rattle.graphql_schema_types.specs.Looks.{TypeLooks, type_looks}
+use Rattle.graphql_schema_types.specs.Addresses.{Address, SchemaAt, TypeAt, FieldAt, ValueAt, InputAt, ArgumentAt, DirectiveDefinitionAt, under, type_at, or_nothing, arguments_at, directives_at, applied, place_at, is_marked}
 use Rattle.graphql_rule_definitions.specs.Words.{Present, Somewhere, AtSomeIndex}
 use Rattle.graphql_rule_definitions.specs.Spots.{At, spotted_directives}
 use Rattle.graphql_rule_definitions.specs.Faults.{FaultAt, SchemaFault}
 use Rattle.graphql_rule_definitions.specs.Judged.{Judged, judged, bare, IsBuiltInScalar, AtArgument}
 use Rattle.graphql_rule_definitions.specs.Uses.{UsesBreak}
 use Rattle.graphql_rule_definitions.specs.Rules.{type_location, AtDirectives, SchemaUsesBreak, IsToldAs, extension_places_at}
-use Rattle.graphql_value_rules.specs.Adds.{PlacedFault}
-use Rattle.graphql_use_rules.specs.SchemaUses.{Told, HasDistinctNames, is_built_in_scalar, UsesAt, ArgumentUses, FieldUses, FieldsUses, ValuesUses, InputsUses, OwnUses, TypeUses, DefinitionUses, SchemaUses}
+use Rattle.graphql_use_rules.specs.SchemaUses.{PlacedFault, Told, HasDistinctNames, is_built_in_scalar, UsesAt, ArgumentUses, FieldUses, FieldsUses, ValuesUses, InputsUses, OwnUses, TypeUses, DefinitionUses, SchemaUses}
 use Rattle.graphql_use_rules.proofs.Moves.{Moves, moves_either, moves_where}
 use Rattle.graphql_use_rules.proofs.SpottedUses.{uses_told}
 

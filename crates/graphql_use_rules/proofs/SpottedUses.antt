@@ -5,8 +5,8 @@ use Rattle.graphql_literals.specs.ValueTree.{ValueTree, ItemTrees, EntryTrees, N
 use Rattle.graphql_literals.specs.ValueQueries.{list_items, object_entries}
 use Rattle.graphql_directives.specs.DirectiveTree.{ArgumentTree, DirectiveTree, Directives, unplaced_argument, unplaced_directive}
 use Rattle.graphql_directives.specs.declared.directive_location.DirectiveLocation.{DirectiveLocation}
-use Rattle.graphql_schema.specs.in_schema_types.SchemaTree.{SchemaTree}
-use Rattle.graphql_schema.specs.in_schema_types.Addresses.{Address, SchemaAt, DirectiveAt, GivenAt, GivenValueAt, NameAt, place_at, directives_at, given_at, or_nothing}
+use Rattle.graphql_schema_types.specs.SchemaTree.{SchemaTree}
+use Rattle.graphql_schema_types.specs.Addresses.{Address, SchemaAt, DirectiveAt, GivenAt, GivenValueAt, NameAt, place_at, directives_at, given_at, or_nothing}
 use Rattle.graphql_rule_definitions.specs.Diagnostics.{Diagnostic, map_places}
 use Rattle.graphql_rule_definitions.specs.Spots.{Spot, At, HeadAt, ItemAt, KeyAt, EntryAt, each_from, spotted_value, spotted_items, spotted_entries, spotted_argument, spotted_directive, spotted_directives, item_of, entry_list, written_at, spot_place, StandsAt}
 use Rattle.graphql_rule_definitions.specs.Faults.{FaultAt, SchemaFault, wrong}

@@ -3,14 +3,13 @@ use Rattle.std.specs.Prelude.{◌≡◌, ◌↔◌, [], map}
 use Rattle.graphql_names.specs.Placed.{Place}
 use Rattle.graphql_directives.specs.DirectiveTree.{Directives, unplaced_directive}
 use Rattle.graphql_directives.specs.declared.directive_location.DirectiveLocation.{DirectiveLocation}
-use Rattle.graphql_schema.specs.in_schema_types.SchemaTree.{SchemaTree}
-use Rattle.graphql_schema.specs.in_schema_types.Addresses.{Address, place_at, directives_at}
+use Rattle.graphql_schema_types.specs.SchemaTree.{SchemaTree}
+use Rattle.graphql_schema_types.specs.Addresses.{Address, place_at, directives_at}
 use Rattle.graphql_rule_definitions.specs.Spots.{At, spotted_directives}
 use Rattle.graphql_rule_definitions.specs.Judged.{judged}
 use Rattle.graphql_rule_definitions.specs.Uses.{UsesBreak}
 use Rattle.graphql_rule_definitions.specs.Rules.{SchemaUsesBreak}
-use Rattle.graphql_value_rules.specs.Adds.{PlacedFault}
-use Rattle.graphql_use_rules.specs.SchemaUses.{Told, HasDistinctNames, SchemaUses}
+use Rattle.graphql_use_rules.specs.SchemaUses.{PlacedFault, Told, HasDistinctNames, SchemaUses}
 
 -- at one place
 abbrev pub UsesToldInPlace : Type 0

@@ -10,15 +10,18 @@ use Rattle.graphql_directives.specs.declared.directive_location.DirectiveLocatio
 use Rattle.graphql_type_members.specs.TypeSystemTree.{FieldDefinitionTree, EnumValueTree}
 use Rattle.graphql_components.specs.Names.{Entries}
 use Rattle.graphql_components.specs.Given.{Given}
-use Rattle.graphql_schema.specs.in_schema_types.SchemaTree.{SchemaType, SchemaTree, same_kind}
-use Rattle.graphql_schema.specs.in_schema_types.Addresses.{place_at, applied}
-use Rattle.graphql_schema.specs.in_schema_types.declared.type_kind.TypeKind.TheVariants as kind
+use Rattle.graphql_schema_types.specs.SchemaTree.{SchemaType, SchemaTree, same_kind}
+use Rattle.graphql_schema_types.specs.Addresses.{place_at, applied}
+use Rattle.graphql_schema_types.specs.declared.type_kind.TypeKind.TheVariants as kind
 use Rattle.graphql_rule_definitions.specs.Words.{AtSomeIndex}
-use Rattle.graphql_rule_definitions.specs.Faults.{SchemaFault}
+use Rattle.graphql_rule_definitions.specs.Faults.{FaultAt, SchemaFault}
 use Rattle.graphql_rule_definitions.specs.Judged.{Judged, judged}
 use Rattle.graphql_rule_definitions.specs.Uses.{UsesBreak}
 use Rattle.graphql_rule_definitions.specs.Rules.{type_location, IsToldAs}
-use Rattle.graphql_value_rules.specs.Adds.{PlacedFault}
+
+-- what breaks a rule, at its place in a text
+abbrev pub PlacedFault : Type 0
+PlacedFault = FaultAt Place (List Place)
 
 -- a rule on schemas fails, and this tells it
 abbrev pub Told : SchemaTree Place → (Judged → SchemaFault → Type 0) → PlacedFault → Type 0

@@ -1,0 +1,62 @@
+//! What is checked of a value.
+ghost use Rattle.std.specs.Prelude.{◌≡◌, OnOk};
+ghost use Rattle.graphql_names.specs.Node.{content, place};
+ghost use Rattle.graphql_literals.specs.ValueTree.{value_tree};
+ghost use Rattle.graphql_schema.specs.SchemaOf.{schema_tree};
+ghost use Rattle.graphql_schema.specs.in_schema_types.Addresses.{place_at};
+ghost use Rattle.graphql_rule_definitions.specs.Judged.{judged};
+ghost use Rattle.graphql_rule_definitions.specs.Values.{TypeBreaks, UndefinedVariableIn, UniqueInputValueIn, ValueBreaks};
+ghost use Rattle.graphql_value_rules.specs.Adds.{Adds};
+ghost use Rattle.graphql_value_rules.specs.Wanting.{wanted_type, variables_of};
+
+use graphql_fault_data::Fault;
+use graphql_literals::{Type, Value};
+use graphql_names::Node;
+use graphql_operations::VariableDefinition;
+use graphql_schema::Schema;
+use std::alloc::AllocError;
+
+/// Adds the faults of a value that is given for a type: those of `type_breaks` and of `undefined_variables`.
+pub fn check_value(
+    schema: &Schema,
+    ty: &Node<Type>,
+    value: &Node<Value>,
+    variables: &[Node<VariableDefinition>],
+    faults: &mut Vec<Fault>,
+) -> Result<(), AllocError>
+    ensures { OnOk result (Adds faults.old faults.new (ValueBreaks (place_at (schema_tree schema.now)) (judged (schema_tree schema.now)) (variables_of variables.now) (wanted_type ty.now) (place value.now) (value_tree (content value.now)))) }
+{
+    Err(AllocError)
+}
+
+/// Adds the faults of a value, at any depth, against a type: it fits the type, and what is inside it fits the types of items
+/// and fields (section 5.6).
+pub fn type_breaks(
+    schema: &Schema,
+    ty: &Node<Type>,
+    value: &Node<Value>,
+    variables: &[Node<VariableDefinition>],
+    faults: &mut Vec<Fault>,
+) -> Result<(), AllocError>
+    ensures { OnOk result (Adds faults.old faults.new (TypeBreaks (place_at (schema_tree schema.now)) (judged (schema_tree schema.now)) (variables_of variables.now) (wanted_type ty.now) (place value.now) (value_tree (content value.now)))) }
+{
+    Err(AllocError)
+}
+
+/// Adds a fault for each variable in a value, at any depth, that is not defined (section 5.8.3).
+pub fn undefined_variables(
+    value: &Node<Value>,
+    variables: &[Node<VariableDefinition>],
+    faults: &mut Vec<Fault>,
+) -> Result<(), AllocError>
+    ensures { OnOk result (Adds faults.old faults.new (UndefinedVariableIn (variables_of variables.now) (place value.now) (value_tree (content value.now)))) }
+{
+    Err(AllocError)
+}
+
+/// Adds a fault for each key of an object in a value, at any depth, that stands in it before (section 5.6.3).
+pub fn unique_input_values(value: &Node<Value>, faults: &mut Vec<Fault>) -> Result<(), AllocError>
+    ensures { OnOk result (Adds faults.old faults.new (UniqueInputValueIn (value_tree (content value.now)))) }
+{
+    Err(AllocError)
+}
