@@ -2,7 +2,8 @@ pub mod Moves
 pub mod MovedValues
 pub mod MovedUses
 pub mod SpottedUses
+pub mod SchemaTold
 pub mod Firsts
 pub mod Listing
+pub mod Types
 pub mod Uses
-pub mod SchemaTold

@@ -5,6 +5,7 @@ use Rattle.std.specs.Option.{option_map, option_map_or}
 use Rattle.std.proofs.lemmas.List.{append-nil, map-append, take_more}
 use Rattle.std.proofs.lemmas.List.Elements.{Contains-append_left, Contains-append_right, Contains-append_cases}
 use Rattle.graphql_components.specs.Lists.{each_place_after, each_place}
+use Rattle.graphql_components.proofs.Places.{each_place-push}
 use Rattle.graphql_rule_definitions.specs.Words.{Present, AtSomeIndex}
 
 not_in_nil : {X R : Type 0} (y : X) → Contains [] y → R
@@ -47,6 +48,14 @@ module _ {X : Type 0} where
 -- the front with the next element
 pub mapped_more : {X Y : Type 0} (f : X → Y) (xs : List X) (i : ℕ) (x : X) → i < length xs → x ≡ get_or xs i x → map f (take (i + 1) xs) ≡ map f (take i xs) ++ f x ∷ []
 mapped_more f xs i x h e = ap (map f) (take_more xs i x h) ∙ map-append f (take i xs) (get_or xs i x ∷ []) ∙ ap (λ y. map f (take i xs) ++ f y ∷ []) (sym e)
+
+-- what is told of one element more, with those before it
+pub places_more : {A X B : Type 0} (f : A → X) (tells : List X → X → List B) (old now new l : List B) (xs : List A) (i : ℕ) (x : A) → i < length xs → x ≡ get_or xs i x → now ≡ old ++ each_place tells (map f (take i xs)) → new ≡ now ++ l
+    → l ≡ tells (map f (take i xs)) (f x) → new ≡ old ++ each_place tells (map f (take (i + 1) xs))
+places_more f tells old now new l xs i x h e so_far step this =
+    let ys = map f (take i xs) in
+    step ∙ (λ k. so_far k ++ this k) ∙ append_assoc old (each_place tells ys) (tells ys (f x))
+    ∙ ap (λ r. old ++ r) (sym (ap (each_place tells) (mapped_more f xs i x h e) ∙ each_place-push tells ys (f x)))
 
 module _ {B : Type 0} where
   -- the list has what breaks the rule, and nothing else
