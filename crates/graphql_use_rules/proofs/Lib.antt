@@ -7,3 +7,4 @@ pub mod Firsts
 pub mod Listing
 pub mod Types
 pub mod Uses
+pub mod SchemaSteps

@@ -10,6 +10,7 @@ use Rattle.graphql_literals.specs.ValueQueries.{variable_name}
 use Rattle.graphql_directives.specs.DirectiveTree.{ArgumentTree, Arguments, DirectiveTree, Directives, InputValueTree, InputValues, DirectiveDefinitionTree, unplaced_input_value, unplaced_directive_definition}
 use Rattle.graphql_directives.specs.DirectiveQueries.{is_required_input, given_value, argument_has_name, input_value_has_name, directive_has_name}
 use Rattle.graphql_directives.specs.declared.directive_location.DirectiveLocation.{DirectiveLocation}
+use Rattle.graphql_coords.specs.Coordinate.{OfDirective, OfDirectiveArgument}
 use Rattle.graphql_components.specs.Lists.{each_place}
 use Rattle.graphql_schema.specs.in_schema_types.SchemaTree.{SchemaTree}
 use Rattle.graphql_schema.specs.in_schema_types.Addresses.{Address, ArgumentAt, TypeReferenceAt, DirectiveDefinitionAt, place_at, arguments_at, or_nothing, directive_definition_at}
@@ -171,6 +172,22 @@ module _ (s : SchemaTree Place) (variables : Variables Place) (taker : Taker Pla
 
 -- ---- directives
 
+-- a use of a directive as what takes arguments, part by part
+abbrev pub use_taker : Place → Arguments Place → List ℕ → InputValues Place → Taker Place
+use_taker p given n definitions = record {
+  place = p;
+  given = given;
+  holder = DirectiveDefinitionAt n;
+  definitions = plain_inputs definitions;
+  definition_location = p;
+  coordinate = OfDirective n;
+  argument_coordinate = OfDirectiveArgument n;
+}
+
+pub same_taker : (d : Placed Place (DirectiveTree Place)) (p : Place) (given : Arguments Place) (n : List ℕ) (definitions own : InputValues Place)
+    → p ≡ d.place → given ≡ d.it.arguments → n ≡ directive_name d → definitions ≡ own → use_taker p given n definitions ≡ directive_taker d (plain_inputs own)
+same_taker d p given n definitions own e f g h = λ i. use_taker (e i) (f i) (g i) (h i)
+
 module _ (s : SchemaTree Place) (variables : Variables Place) (defined : (n : List ℕ) → (judged s).directive n ≡ option_map (λ d. unplaced_directive_definition d.it) (directive_definition_at s n)) where
   -- what is said of a directive's definition
   of_definition : (n : List ℕ) (P : DirectiveDefinitionTree (Unit {0}) → Type 0) → Present ((judged s).directive n) P ↔ Present (directive_definition_at s n) (λ d. P (unplaced_directive_definition d.it))
@@ -272,3 +289,14 @@ module _ (s : SchemaTree Place) (variables : Variables Place) (defined : (n : Li
 
       no : {x : DirectiveDefinitionTree (Unit {0})} → (judged s).directive (directive_name d) ≡ Some x → ⊥
       no e = cc
+
+  -- where nothing is defined
+  pub uses_undefined : ((n : List ℕ) → directive_definition_at s n ≡ None) → (location : DirectiveLocation) (ds : Directives Place) (f : PlacedFault)
+      → AtSomeIndex ds (λ i d. UseBreaks (place_at s) (judged s) variables location d f) ↔ UsesBreak (place_at s) (judged s) variables location ds f
+  uses_undefined nothing location ds f = (
+    λ h. inr h,
+    λ h. elim h [ inl u ↦ let later = u.1.0 in let q = u.1.1.1 in absurd (no (directive_name later) q.1.1.1.1.1.1.1.0) | inr r ↦ r ],
+  )
+    where
+      no : {x : DirectiveDefinitionTree (Unit {0})} (n : List ℕ) → (judged s).directive n ≡ Some x → ⊥
+      no n e = let gone : (judged s).directive n ≡ None = defined n ∙ ap (option_map (λ x. unplaced_directive_definition x.it)) (nothing n) in cc

@@ -153,16 +153,16 @@ fn check_defined_use(
     requires { directive_definition_at (schema_tree schema.now) (content directive.now).name.text ≡ Some (node_tree directive_definition_tree definition.now) }
     ensures { OnOk result (Adds faults.old faults.new (DefinedUseBreaks (schema_tree schema.now) (variables_of variables.now) location (node_tree directive_tree directive.now) (inputs_of (content definition.now).arguments.items))) }
 {
-    tell(
-        faults,
-        unsupported_location(directive, definition, location)?,
-    )?;
+    let fault = unsupported_location(directive, definition, location)?;
+    tell(faults, fault)?;
+    let place = directive.location();
+    let used = directive.content();
     let taker = Taker {
-        location: directive.location(),
-        given: directive.content().arguments.as_slice(),
+        location: place,
+        given: used.arguments.as_slice(),
         definitions: definition.content().arguments.as_slice(),
-        definition_location: directive.location(),
-        name: TakerName::OfDirective(&directive.content().name),
+        definition_location: place,
+        name: TakerName::OfDirective(&used.name),
     };
     check_taken(schema, &taker, variables, faults)
 }
@@ -177,9 +177,13 @@ fn check_use(
 ) -> Result<(), AllocError>
     ensures { OnOk result (Adds faults.old faults.new (UseBreaks (place_at (schema_tree schema.now)) (judged (schema_tree schema.now)) (variables_of variables.now) location (node_tree directive_tree directive.now))) }
 {
-    check_given(&directive.content().arguments, variables, faults)?;
-    match find_definition(schema, &directive.content().name) {
-        None => tell(faults, Some(undefined_directive(directive)?)),
+    let used = directive.content();
+    check_given(&used.arguments, variables, faults)?;
+    match find_definition(schema, &used.name) {
+        None => {
+            let fault = undefined_directive(directive)?;
+            tell(faults, Some(fault))
+        }
         Some(definition) => check_defined_use(
             schema, directive, definition, location, variables, faults,
         ),
@@ -226,7 +230,8 @@ fn check_undefined_use(
     ensures { OnOk result ((location : DirectiveLocation) → Adds faults.old faults.new (UseBreaks (place_at no_schema) (judged no_schema) (variables_of variables.now) location (node_tree directive_tree directive.now))) }
 {
     check_given(&directive.content().arguments, variables, faults)?;
-    tell(faults, Some(undefined_directive(directive)?))
+    let fault = undefined_directive(directive)?;
+    tell(faults, Some(fault))
 }
 
 /// Adds the faults of each use where there is no schema.

@@ -27,7 +27,7 @@ use std::alloc::{AllocError, Global};
 
 /// The nodes of applied directives, in order.
 fn nodes_of(alloc: Global, list: &DirectiveList) -> Result<Vec<Node<Directive>>, AllocError>
-    ensures { IfOk result (λ v. directives_of v.items ≡ applied (applied_tree list.now)) }
+    ensures { IfOk result (λ v. directives_of v.items ≡ map (λ g. g.it) (applied_tree list.now)) }
 {
     let mut nodes = Vec::new(alloc);
     for directive in &list.0 {
@@ -69,7 +69,7 @@ fn check_applied(
     location: DirectiveLocation,
     faults: &mut Vec<Fault>,
 ) -> Result<(), AllocError>
-    ensures { OnOk result (Adds faults.old faults.new (UsesAt (schema_tree schema.now) location (applied (applied_tree list.now)))) }
+    ensures { OnOk result (Adds faults.old faults.new (UsesAt (schema_tree schema.now) location (applied (schema_tree schema.now) (applied_tree list.now)))) }
 {
     let nodes = nodes_of(*faults.allocator(), list)?;
     check_at(schema, &nodes, location, faults)

@@ -130,12 +130,11 @@ fn check_argument(
 ) -> Result<(), AllocError>
     ensures { OnOk result (Adds faults.old faults.new (GivenArgumentBreaks (schema_tree schema.now) (variables_of variables.now) (input_value_tree (content definition.now)) (node_tree argument_tree argument.now))) }
 {
-    tell(
-        faults,
-        disallowed_variable_usage(argument, definition.content(), variables)?,
-    )?;
-    let ty = &definition.content().ty;
-    type_breaks(schema, ty, &argument.content().value, variables, faults)
+    let defined = definition.content();
+    let fault = disallowed_variable_usage(argument, defined, variables)?;
+    tell(faults, fault)?;
+    let value = &argument.content().value;
+    type_breaks(schema, &defined.ty, value, variables, faults)
 }
 
 /// Adds the same for an argument, if it is the first of its name and defined. `before` are those that are given before it.

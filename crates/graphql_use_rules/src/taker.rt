@@ -33,7 +33,7 @@ pub struct Taker<'a> {
 impl TakerName<'_> {
     /// Its coordinate.
     pub(crate) fn coordinate(self) -> Result<SchemaCoordinate, AllocError>
-        ensures { IfOk result (λ c. schema_coordinate c ≡ coordinate_of self) }
+        ensures { IfOk result (λ c. schema_coordinate c ≡ coordinate_of self.entry) }
     {
         match self {
             TakerName::OfDirective(directive) => {
@@ -47,7 +47,7 @@ impl TakerName<'_> {
 
     /// The coordinate of its argument of that name.
     pub(crate) fn argument_coordinate(self, argument: &Name) -> Result<SchemaCoordinate, AllocError>
-        ensures { IfOk result (λ c. schema_coordinate c ≡ argument_coordinate_of self argument.now.text) }
+        ensures { IfOk result (λ c. schema_coordinate c ≡ argument_coordinate_of self.entry argument.now.text) }
     {
         match self {
             TakerName::OfDirective(directive) => directive_argument(directive, argument),

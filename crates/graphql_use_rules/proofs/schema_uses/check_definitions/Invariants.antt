@@ -8,4 +8,4 @@ use Rattle.graphql_directives.specs.DirectiveTree.{directive_definition_tree}
 use Rattle.graphql_use_rules.proofs.schema_uses.check_definitions.Given as goal
 
 abbrev pub invariant-loop-definition : goal.invariant-loop-definition
-invariant-loop-definition l = Adds l.fn.faults l.faults (DefinitionUses (schema_tree l.schema) (map (λ e. (name_text e.0.now, node_tree directive_definition_tree e.1.now)) l.yielded))
+invariant-loop-definition l = Adds l.fn.faults l.faults (DefinitionUses (schema_tree l.schema) (map (λ e. (name_text e.0, node_tree directive_definition_tree e.1)) (map (λ e. (e.0.now, e.1.now)) l.yielded)))

@@ -6,4 +6,4 @@ use Rattle.graphql_use_rules.specs.SchemaUses.{TypesUses}
 use Rattle.graphql_use_rules.proofs.schema_uses.check_types.Given as goal
 
 abbrev pub invariant-loop-ty : goal.invariant-loop-ty
-invariant-loop-ty l = Adds l.fn.faults l.faults (TypesUses (schema_tree l.schema) (map (λ e. (name_text e.0.now, extended_type e.1.now)) l.yielded))
+invariant-loop-ty l = Adds l.fn.faults l.faults (TypesUses (schema_tree l.schema) (map (λ e. (name_text e.0, extended_type e.1)) (map (λ e. (e.0.now, e.1.now)) l.yielded)))
