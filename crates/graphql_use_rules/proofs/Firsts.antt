@@ -45,6 +45,10 @@ module _ {X : Type 0} (name : X → List ℕ) where
   found_first (y ∷ xs) n zero x e = no_some x e
   found_first (y ∷ xs) n (suc j) x e = by (has n y) refl (found_first xs n j x) e
     where
+      no_other : (i : ℕ) → IsFirst name xs n i → has n y ≡ false → (k : ℕ) (z : X) → slice_get (y ∷ xs) k ≡ Some z → k < suc i → name z ≡ n → ⊥
+      no_other i first t zero z g h m = true≢false (sym ((bytes_eq-Decides (name y) n).1 (ap name (same_Some _ _ g) ∙ m)) ∙ t)
+      no_other i first t (suc k) z g h m = first (k, (z, (g, (less k i h, m))))
+
       by : (b : Bool) → has n y ≡ b → (find (has n) (take j xs) ≡ Some x → (i : ℕ) × ((i < j) × ((slice_get xs i ≡ Some x) × ((name x ≡ n) × IsFirst name xs n i))))
           → cond b (Some y) (find (has n) (take j xs)) ≡ Some x → (i : ℕ) × ((i < suc j) × ((slice_get (y ∷ xs) i ≡ Some x) × ((name x ≡ n) × IsFirst name (y ∷ xs) n i)))
       by true t rest f =
@@ -53,10 +57,6 @@ module _ {X : Type 0} (name : X → List ℕ) where
       by false t rest f =
           let r = rest f in
           (suc r.0, (later r.0 j r.1.0, (r.1.1.0, (r.1.1.1.0, λ q. no_other r.0 r.1.1.1.1 t q.0 q.1.0 q.1.1.0 q.1.1.1.0 q.1.1.1.1))))
-
-      no_other : (i : ℕ) → IsFirst name xs n i → has n y ≡ false → (k : ℕ) (z : X) → slice_get (y ∷ xs) k ≡ Some z → k < suc i → name z ≡ n → ⊥
-      no_other i first t zero z g h m = true≢false (sym ((bytes_eq-Decides (name y) n).1 (ap name (same_Some _ _ g) ∙ m)) ∙ t)
-      no_other i first t (suc k) z g h m = first (k, (z, (g, (less k i h, m))))
 
   -- where none is found there is none before j
   pub not_found : (xs : List X) (n : List ℕ) (j : ℕ) → find (has n) (take j xs) ≡ None → IsFirst name xs n j

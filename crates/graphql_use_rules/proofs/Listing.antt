@@ -72,7 +72,7 @@ module _ {B : Type 0} where
   )
 
   pub lists_nothing : (R : B → Type 0) → ((f : B) → R f → ⊥) → Lists [] R
-  lists_nothing R no f = (λ h. not_in_nil f h, λ r. absurd (no f r))
+  lists_nothing R never f = (λ h. not_in_nil f h, λ r. absurd (never f r))
 
   pub lists_one : (x : B) → Lists (x ∷ []) (λ f. f ≡ x)
   lists_one x f = (only x f, is_only x f)
@@ -155,7 +155,7 @@ module _ {B : Type 0} where
   )
 
   pub gains_nothing : (a : List B) (R : B → Type 0) → ((f : B) → R f → ⊥) → Gains a a R
-  gains_nothing a R no f = (λ h. inl h, λ q. elim q [ inl o ↦ o | inr r ↦ absurd (no f r) ])
+  gains_nothing a R never f = (λ h. inl h, λ q. elim q [ inl o ↦ o | inr r ↦ absurd (never f r) ])
 
   -- one element more of a loop
   pub gains_more : {X : Type 0} (a b c : List B) (ys zs : List X) (y : X) (R : ℕ → X → B → Type 0) → zs ≡ ys ++ y ∷ [] → Gains a b (λ f. AtSomeIndex ys (λ k x. R k x f)) → Gains b c (R (length ys) y) → Gains a c (λ f. AtSomeIndex zs (λ k x. R k x f))

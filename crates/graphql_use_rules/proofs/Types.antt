@@ -8,6 +8,7 @@ use Rattle.graphql_literals.specs.ValueTree.{unplaced_value}
 use Rattle.graphql_directives.specs.DirectiveTree.{InputValueTree, unplaced_input_value}
 use Rattle.graphql_operations.specs.OperationTree.{VariableDefinitionTree}
 use Rattle.graphql_rule_definitions.specs.Uses.{IsVariableUsageAllowed}
+use Rattle.graphql_use_rules.specs.Steps.{FitsWithDefault}
 
 same_fit : (a b : TypeTree Place) → AreTypesCompatible (unplaced_type a) (unplaced_type b) ↔ AreTypesCompatible a b
 same_fit (NamedTree a) (NamedTree b) = (λ h. h, λ h. h)
@@ -45,11 +46,6 @@ same_some f (Some x) = refl
 
 same_nullable_fit : (a b : TypeTree Place) → AreTypesCompatible (unplaced_type a) (nullable_type (unplaced_type b)) ↔ AreTypesCompatible a (nullable_type b)
 same_nullable_fit a b = subst (λ t. AreTypesCompatible (unplaced_type a) t ↔ AreTypesCompatible a (nullable_type b)) (same_nullable b) (same_fit a (nullable_type b))
-
--- a variable may stand there: the types fit, or a default makes it non-null
-abbrev pub FitsWithDefault : VariableDefinitionTree Place → InputValueTree Place → Type 0
-FitsWithDefault x v = ((has_mark x.ty.it ≡ false) × (has_mark v.ty.it ≡ true))
-    × (((is_some x.default_value ≡ true) ⊎ (is_some v.default_value ≡ true)) × AreTypesCompatible x.ty.it (nullable_type v.ty.it))
 
 pub usage_allowed : (x : VariableDefinitionTree Place) (v : InputValueTree Place) → (AreTypesCompatible x.ty.it v.ty.it ⊎ FitsWithDefault x v) ↔ IsVariableUsageAllowed x (unplaced_input_value v)
 usage_allowed x v =

@@ -1,5 +1,5 @@
 -- What is told of uses, by the first that is found, is what the rules on uses tell.
-use Rattle.std.proofs.Common.{◌≡◌, ℕ, ◌<◌, ◌⊎◌, ◌↔◌, Bool, true, false, ◌&&◌, List, [], ◌∷◌, map, take, refl, sym, ap, subst, ◌∙◌, inl, inr, Option, None, Some, is_none, find, bytes_eq, slice_get, Contains, if◌then◌else◌, true≢false}
+use Rattle.std.proofs.Common.{◌≡◌, ℕ, ◌<◌, ◌⊎◌, ◌↔◌, Bool, true, false, ◌&&◌, List, [], ◌∷◌, map, take, refl, sym, ap, subst, ◌∙◌, inl, inr, Option, None, Some, is_none, is_some, find, bytes_eq, slice_get, Contains, if◌then◌else◌, true≢false}
 use Rattle.std.specs.List.{flat_map}
 use Rattle.std.specs.Option.{option_map, option_map_or}
 use Rattle.graphql_names.specs.Placed.{Placed, Place, unplaced_node}
@@ -288,7 +288,7 @@ module _ (s : SchemaTree Place) (variables : Variables Place) (defined : (n : Li
       gone = defined (directive_name d) ∙ ap (option_map (λ x. unplaced_directive_definition x.it)) none
 
       no : {x : DirectiveDefinitionTree (Unit {0})} → (judged s).directive (directive_name d) ≡ Some x → ⊥
-      no e = cc
+      no e = true≢false (ap is_some (sym e ∙ gone))
 
   -- where nothing is defined
   pub uses_undefined : ((n : List ℕ) → directive_definition_at s n ≡ None) → (location : DirectiveLocation) (ds : Directives Place) (f : PlacedFault)
@@ -299,4 +299,4 @@ module _ (s : SchemaTree Place) (variables : Variables Place) (defined : (n : Li
   )
     where
       no : {x : DirectiveDefinitionTree (Unit {0})} (n : List ℕ) → (judged s).directive n ≡ Some x → ⊥
-      no n e = let gone : (judged s).directive n ≡ None = defined n ∙ ap (option_map (λ x. unplaced_directive_definition x.it)) (nothing n) in cc
+      no n e = true≢false (ap is_some (sym e ∙ defined n ∙ ap (option_map (λ x. unplaced_directive_definition x.it)) (nothing n)))

@@ -1,11 +1,13 @@
 -- What parts of the rules tell of what is given against what is defined, by the first that is found (private: it leads to specs/Uses.antt of the rules' definitions).
-use Rattle.std.specs.Prelude.{◌≡◌, ℕ, List, Option, None, Some, find, Contains, ◌↔◌, ◌⊎◌, bytes_eq}
+use Rattle.std.specs.Prelude.{◌≡◌, ℕ, true, false, is_some, List, Option, None, Some, find, Contains, ◌↔◌, ◌⊎◌, bytes_eq}
 use Rattle.graphql_names.specs.Placed.{Placed, Place}
 use Rattle.graphql_literals.specs.TypeTree.{unplaced_type}
+use Rattle.graphql_literals.specs.TypeQueries.{has_mark, nullable_type, AreTypesCompatible}
 use Rattle.graphql_literals.specs.ValueQueries.{variable_name}
 use Rattle.graphql_directives.specs.DirectiveTree.{ArgumentTree, Arguments, DirectiveTree, Directives, InputValueTree, InputValues, DirectiveDefinitionTree, unplaced_input_value}
 use Rattle.graphql_directives.specs.DirectiveQueries.{argument_has_name, input_value_has_name}
 use Rattle.graphql_directives.specs.declared.directive_location.DirectiveLocation.{DirectiveLocation}
+use Rattle.graphql_operations.specs.OperationTree.{VariableDefinitionTree}
 use Rattle.graphql_schema.specs.in_schema_types.SchemaTree.{SchemaTree}
 use Rattle.graphql_schema.specs.in_schema_types.Addresses.{place_at}
 use Rattle.graphql_rule_definitions.specs.Diagnostics.{DisallowedVariableUsage}
@@ -21,6 +23,11 @@ use Rattle.graphql_use_rules.specs.Trees.{plain_inputs}
 -- the list has the faults by which a rule breaks, and no others
 abbrev pub Lists : List PlacedFault → (PlacedFault → Type 0) → Type 0
 Lists l R = (f : PlacedFault) → Contains l f ↔ R f
+
+-- a default makes a nullable variable fit a non-null place
+abbrev pub FitsWithDefault : VariableDefinitionTree Place → InputValueTree Place → Type 0
+FitsWithDefault x v = ((has_mark x.ty.it ≡ false) × (has_mark v.ty.it ≡ true))
+    × (((is_some x.default_value ≡ true) ⊎ (is_some v.default_value ≡ true)) × AreTypesCompatible x.ty.it (nullable_type v.ty.it))
 
 -- the keys or the variables in what is given
 abbrev pub ValueGivenBreaks : Variables Place → Placed Place (ArgumentTree Place) → PlacedFault → Type 0

@@ -14,7 +14,7 @@ ghost use Rattle.graphql_rule_definitions.specs.Faults.{wrong};
 ghost use Rattle.graphql_rule_definitions.specs.Values.{defined_name};
 ghost use Rattle.graphql_rule_definitions.specs.Uses.{IsVariableUsageAllowed};
 ghost use Rattle.graphql_value_rules.specs.Wanting.{variables_of};
-ghost use Rattle.graphql_use_rules.specs.Steps.{Lists, DisallowedUsage};
+ghost use Rattle.graphql_use_rules.specs.Steps.{Lists, FitsWithDefault, DisallowedUsage};
 
 use graphql_directives::{Argument, InputValueDefinition};
 use graphql_fault_data::{DiagnosticData, Fault};
@@ -56,6 +56,19 @@ fn is_assignable_to_nullable(ty: &Type, target: &Type) -> bool
     }
 }
 
+/// Whether a default on either side makes a nullable variable fit a non-null place.
+fn fits_with_default(variable: &VariableDefinition, definition: &InputValueDefinition) -> bool
+    ensures { IsTrue result ↔ FitsWithDefault (variable_definition_tree variable.now) (input_value_tree definition.now) }
+{
+    let ty = variable.ty.content();
+    let wanted = definition.ty.content();
+    let has_default = variable.default_value.is_some() || definition.default_value.is_some();
+    if ty.is_non_null() || !wanted.is_non_null() || !has_default {
+        return false;
+    }
+    is_assignable_to_nullable(ty, wanted)
+}
+
 /// Whether a variable may stand where an argument is asked for: a nullable one fits a non-null place only with a default on
 /// either side (section 5.8.5, IsVariableUsageAllowed).
 fn is_variable_usage_allowed(
@@ -65,17 +78,10 @@ fn is_variable_usage_allowed(
     ensures { IsTrue result ↔ IsVariableUsageAllowed (variable_definition_tree variable.now) (unplaced_input_value (input_value_tree definition.now)) }
 {
     let ty = variable.ty.content();
-    let wanted = definition.ty.content();
-    if ty.is_assignable_to(wanted) {
+    if ty.is_assignable_to(definition.ty.content()) {
         return true;
     }
-    if ty.is_non_null() || !wanted.is_non_null() {
-        return false;
-    }
-    if variable.default_value.is_none() && definition.default_value.is_none() {
-        return false;
-    }
-    is_assignable_to_nullable(ty, wanted)
+    fits_with_default(variable, definition)
 }
 
 /// Copies of two types.
