@@ -6,5 +6,6 @@ pub mod SchemaTold
 pub mod Firsts
 pub mod Listing
 pub mod Types
+pub mod Known
 pub mod Uses
 pub mod SchemaSteps

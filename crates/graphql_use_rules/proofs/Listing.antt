@@ -49,6 +49,13 @@ module _ {X : Type 0} where
 pub mapped_more : {X Y : Type 0} (f : X → Y) (xs : List X) (i : ℕ) (x : X) → i < length xs → x ≡ get_or xs i x → map f (take (i + 1) xs) ≡ map f (take i xs) ++ f x ∷ []
 mapped_more f xs i x h e = ap (map f) (take_more xs i x h) ∙ map-append f (take i xs) (get_or xs i x ∷ []) ∙ ap (λ y. map f (take i xs) ++ f y ∷ []) (sym e)
 
+-- the front of what is made of a list
+pub front_of : {X Y : Type 0} (f : X → Y) (xs : List X) (i : ℕ) → take (length (map f (take i xs))) (map f xs) ≡ map f (take i xs)
+front_of f [] zero = refl
+front_of f [] (suc i) = refl
+front_of f (x ∷ xs) zero = refl
+front_of f (x ∷ xs) (suc i) = ap (λ l. f x ∷ l) (front_of f xs i)
+
 -- what is told of one element more, with those before it
 pub places_more : {A X B : Type 0} (f : A → X) (tells : List X → X → List B) (old now new l : List B) (xs : List A) (i : ℕ) (x : A) → i < length xs → x ≡ get_or xs i x → now ≡ old ++ each_place tells (map f (take i xs)) → new ≡ now ++ l
     → l ≡ tells (map f (take i xs)) (f x) → new ≡ old ++ each_place tells (map f (take (i + 1) xs))

@@ -54,17 +54,19 @@ fn undefined_argument(
     ensures { IfOk result (λ r. map fault_of (option_to_list r) ≡ undefined_argument (taker_of taker.now) (inputs_of taker.now.definitions.now) (node_tree argument_tree argument.now)) }
 {
     let name = &argument.content().name;
-    if find_definition(taker.definitions, name).is_some() {
-        return Ok(None);
+    match find_definition(taker.definitions, name) {
+        Some(_) => Ok(None),
+        None => {
+            let coordinate = taker.name.coordinate()?;
+            let data = DiagnosticData::UndefinedArgument {
+                name: name.clone()?,
+                coordinate,
+                definition_location: taker.definition_location,
+            };
+            let location = argument.location();
+            Ok(Some(Fault { location, data }))
+        }
     }
-    let coordinate = taker.name.coordinate()?;
-    let data = DiagnosticData::UndefinedArgument {
-        name: name.clone()?,
-        coordinate,
-        definition_location: taker.definition_location,
-    };
-    let location = argument.location();
-    Ok(Some(Fault { location, data }))
 }
 
 /// Adds a fault for each argument that is given and not defined.

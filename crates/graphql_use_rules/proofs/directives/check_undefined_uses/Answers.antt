@@ -1,6 +1,6 @@
 use Rattle.std.proofs.Common.{◌<◌, ◌+◌, [], take, length, refl, subst, arith}
 use Rattle.std.proofs.lemmas.List.{take_all}
-use Rattle.graphql_names.specs.Placed.{node_tree}
+use Rattle.graphql_names.specs.Placed.{Place, node_tree}
 use Rattle.graphql_directives.specs.DirectiveTree.{directive_tree}
 use Rattle.graphql_schema.specs.in_schema_types.Addresses.{place_at}
 use Rattle.graphql_schema.specs.in_schema_types.Plain.{plain_directive_definition}
@@ -30,6 +30,6 @@ pub returns : goal.returns
 returns c = λ location.
     let vs = variables_of c.args.variables.now in
     let ds = c.args.directives.now in
-    gains_same (faults_of c.args.faults.now) (faults_of c.loop-directive.faults) (uses_undefined no_schema vs (λ n. get_under plain_directive_definition n []) (λ n. refl) location (directives_of ds))
+    gains_same (faults_of c.args.faults.now) (faults_of c.loop-directive.faults) (uses_undefined no_schema vs (λ n. get_under (plain_directive_definition {P = Place}) n []) (λ n. refl) location (directives_of ds))
     (subst (λ l. Adds c.args.faults.now c.loop-directive.faults (λ f. AtSomeIndex (directives_of l) (λ i d. UseBreaks (place_at no_schema) (judged no_schema) vs location d f)))
     (take_all c.loop-directive.directive-index ds c.loop-directive-test.false) (c.loop-directive.invariant location))
