@@ -14,7 +14,7 @@ pub loop-ty-preserved : goal.loop-ty-preserved
 loop-ty-preserved c =
     let s = schema_tree c.args.schema.now in
     let g = λ (e : NameValue × ExtendedType). (name_text e.0, extended_type e.1) in
-    let d = λ (e : Bor NameValue × Bor ExtendedType). (e.0.now, e.1.now) in
+    let d : (Bor NameValue × Bor ExtendedType) → NameValue × ExtendedType = λ e. (e.0.now, e.1.now) in
     let now = faults_of c.loop-ty.faults in
     let after = faults_of c.check_parts.new.faults in
     gains_more (faults_of c.args.faults.now) now after (map g (map d c.loop-ty.yielded)) _ _
