@@ -1,0 +1,25 @@
+-- What is wrong with texts, schemas and documents, with its data.
+use Rattle.graphql_read.specs.declared.fault.SyntaxFaultKind.{SyntaxFaultKind}
+use Rattle.graphql_folding.specs.BuildErrors.{Breach}
+use Rattle.graphql_document_faults.specs.DocumentBreaches.{DocumentBreach}
+use Rattle.graphql_fault_data.specs.in_rule_definitions.Diagnostics.{Diagnostic}
+use Rattle.graphql_fault_data.specs.in_rule_definitions.Faults.{FaultAt}
+
+-- a P for each place that belongs to the data, an E for the places of a type's extensions
+pub data DetailsTree (P E : Type 0) : Type 0 where
+  Syntax : (kind : SyntaxFaultKind) → DetailsTree P E
+  Nesting : DetailsTree P E
+  Spent : DetailsTree P E
+  SchemaBuild : Breach → DetailsTree P E
+  DocumentBuild : DocumentBreach P → DetailsTree P E
+  Data : Diagnostic P E → DetailsTree P E
+  RecursionLimitError : DetailsTree P E
+
+-- what is wrong, and where
+pub record DetailsAt (P E : Type 0) : Type 0 where
+  pub place : P
+  pub details : DetailsTree P E
+
+-- what breaks a rule, among all that can be wrong
+abbrev pub of_rule : {P E : Type 0} → FaultAt P E → DetailsAt P E
+of_rule f = record { place = f.place; details = Data f.breach }

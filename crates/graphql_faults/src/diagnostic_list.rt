@@ -1,0 +1,88 @@
+//! Lists of what is wrong.
+ghost use Rattle.std.specs.Prelude.{◌≡◌, [], ◌∷◌, ◌++◌, length, map, OnOk, OnErr, IsTrue, ◌↔◌};
+ghost use Rattle.std.specs.Slice.Iter.{iter_rest};
+ghost use Rattle.graphql_fault_data.specs.FaultView.{fault_of, faults_of};
+ghost use Rattle.graphql_faults.specs.DetailsTree.{of_rule};
+ghost use Rattle.graphql_faults.specs.DetailsView.{details_at, diagnostics_of, BeginsAs};
+
+use crate::details::Details;
+use graphql_fault_data::Fault;
+use graphql_names::SourceSpan;
+use std::alloc::{AllocError, Global};
+use std::slice;
+
+/// What is wrong, each with its place where it has one, in the order in which it was told.
+#[derive(Drop)]
+pub struct DiagnosticList {
+    diagnostics: Vec<(Option<SourceSpan>, Details)>,
+}
+
+impl DiagnosticList {
+    /// The list of nothing.
+    pub fn new(alloc: Global) -> DiagnosticList
+        ensures { diagnostics_of result ≡ [] }
+    {
+        DiagnosticList {
+            diagnostics: Vec::new(alloc),
+        }
+    }
+
+    /// Adds one at the end. After a refusal the list is as it was.
+    pub fn push(&mut self, place: Option<SourceSpan>, details: Details) -> Result<(), AllocError>
+        ensures added { OnOk result (diagnostics_of self.new ≡ diagnostics_of self.old ++ details_at (place, details) ∷ []) }
+        ensures kept { OnErr result (diagnostics_of self.new ≡ diagnostics_of self.old) }
+    {
+        self.diagnostics.push((place, details))?;
+        Ok(())
+    }
+
+    /// Moves those of the other list to the end. After a refusal both lists are as they were.
+    pub fn append(&mut self, other: &mut DiagnosticList) -> Result<(), AllocError>
+        ensures added { OnOk result (diagnostics_of self.new ≡ diagnostics_of self.old ++ diagnostics_of other.old) }
+        ensures moved { OnOk result (diagnostics_of other.new ≡ []) }
+        ensures kept { OnErr result (diagnostics_of self.new ≡ diagnostics_of self.old) }
+        ensures other_kept { OnErr result (diagnostics_of other.new ≡ diagnostics_of other.old) }
+    {
+        self.diagnostics.append(&mut other.diagnostics)
+    }
+
+    /// Adds what breaks a rule at the end. After a refusal the list is as it was.
+    pub fn push_fault(&mut self, fault: Fault) -> Result<(), AllocError>
+        ensures added { OnOk result (diagnostics_of self.new ≡ diagnostics_of self.old ++ of_rule (fault_of fault) ∷ []) }
+        ensures kept { OnErr result (diagnostics_of self.new ≡ diagnostics_of self.old) }
+    {
+        self.push(fault.location, Details::Data(fault.data))
+    }
+
+    /// Moves what breaks rules to the end, in order. After a refusal the list begins as before.
+    pub fn append_faults(&mut self, faults: Vec<Fault>) -> Result<(), AllocError>
+        ensures added { OnOk result (diagnostics_of self.new ≡ diagnostics_of self.old ++ map of_rule (faults_of faults)) }
+        ensures begins { OnErr result (BeginsAs (diagnostics_of self.old) (diagnostics_of self.new)) }
+    {
+        for fault in faults {
+            self.push_fault(fault)?;
+        }
+        Ok(())
+    }
+
+    /// How many there are.
+    pub fn len(&self) -> usize
+        ensures { result ≡ length (diagnostics_of self.now) }
+    {
+        self.diagnostics.len()
+    }
+
+    /// Whether there are none.
+    pub fn is_empty(&self) -> bool
+        ensures { IsTrue result ↔ (diagnostics_of self.now ≡ []) }
+    {
+        self.diagnostics.is_empty()
+    }
+
+    /// They, in order.
+    pub fn iter(&self) -> slice::Iter<'_, (Option<SourceSpan>, Details)>
+        ensures { map details_at (iter_rest result) ≡ diagnostics_of self.now }
+    {
+        self.diagnostics.iter()
+    }
+}

@@ -1,0 +1,31 @@
+//! What is wrong with texts, schemas and documents: lists of it, and how it is told.
+//!
+//! For the layers above: contracts see a list as places and plain data (`specs/DetailsTree.antt`); a list grows at its end; a
+//! message is its template, filled (`specs/DetailsMessages.antt`, and those of the crates beneath).
+//!
+//! What breaks rules stands in `graphql_fault_data`, and for typing documents, merging, subscriptions and `@defer` in
+//! `graphql_document_faults`. Begin with `details.rt` and `diagnostic_list.rt`.
+#![tactic(auto)]
+
+mod comma_separated;
+mod details;
+mod diagnostic_list;
+mod name_or_anon;
+
+pub use comma_separated::CommaSeparated;
+pub use details::Details;
+pub use diagnostic_list::DiagnosticList;
+pub use graphql_document_faults::{
+    ConflictingFieldArgument, ConflictingFieldName, ConflictingFieldType,
+};
+pub use graphql_fault_data::{DiagnosticData, Fault, tell};
+pub use name_or_anon::NameOrAnon;
+
+// The crates beneath, for those above.
+pub use graphql_document_faults;
+pub use graphql_fault_data;
+pub use graphql_fault_data::{
+    graphql_ast, graphql_coords, graphql_rule_definitions, graphql_typed_selections,
+};
+pub use graphql_folding;
+pub use graphql_read;
