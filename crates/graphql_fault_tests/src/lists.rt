@@ -1,9 +1,10 @@
 //! Lists of what is wrong, and lists and names in words.
 
+use crate::parts::{fragment_name, other_type_name, third_type_name, type_name};
 use graphql_faults::{
     CommaSeparated, Details, DiagnosticData, DiagnosticList, Fault, NameOrAnon, tell,
 };
-use graphql_names::{Name, name};
+use graphql_names::Name;
 use std::alloc::{AllocError, Global};
 use std::io;
 
@@ -12,7 +13,9 @@ fn faults(alloc: Global) -> Result<Vec<Fault>, AllocError> {
     let mut faults = Vec::new(alloc);
     let unused = Fault {
         location: None,
-        data: DiagnosticData::UnusedFragment { name: name!("F") },
+        data: DiagnosticData::UnusedFragment {
+            name: fragment_name(),
+        },
     };
     tell(&mut faults, Some(unused))?;
     tell(&mut faults, None)?;
@@ -48,7 +51,7 @@ pub(crate) fn show_lists(rt: &HostRuntime) -> io::Result<()> {
 
 /// Prints names in words: three of them, one, none, and what stands in the place of one.
 pub(crate) fn show_words(rt: &HostRuntime) -> io::Result<()> {
-    let names = [name!("A"), name!("B"), name!("C")];
+    let names = [type_name(), other_type_name(), third_type_name()];
     println!(rt; "CommaSeparated: [{}]", CommaSeparated(&names[..]))?;
     println!(rt; "CommaSeparated: [{}]", CommaSeparated(&names[..1]))?;
     println!(rt; "CommaSeparated: [{}]", CommaSeparated(&names[..0]))?;

@@ -1,13 +1,15 @@
 //! What breaks the rules of typing documents, of merging, of subscriptions and of `@defer`.
 
-use crate::parts::{field, field_argument, int, required_int};
+use crate::parts::{
+    argument_name, enum_name, field, field_argument, field_name, fragment_name, int,
+    meta_field_name, operation_name, required_int, scalar_name, type_name,
+};
 use crate::show::show_details;
 use graphql_faults::graphql_ast::OperationType;
 use graphql_faults::graphql_document_faults::BuildError;
 use graphql_faults::{
     ConflictingFieldArgument, ConflictingFieldName, ConflictingFieldType, Details,
 };
-use graphql_names::name;
 use std::io;
 
 /// Prints what the error tells, behind the name of its variant.
@@ -23,9 +25,13 @@ pub(crate) fn show_definitions(rt: &HostRuntime) -> io::Result<()> {
         "AmbiguousAnonymousOperation",
         BuildError::AmbiguousAnonymousOperation,
     )?;
-    let operation = BuildError::OperationNameCollision { name: name!("Q") };
+    let operation = BuildError::OperationNameCollision {
+        name: operation_name(),
+    };
     show(rt, "OperationNameCollision", operation)?;
-    let fragment = BuildError::FragmentNameCollision { name: name!("F") };
+    let fragment = BuildError::FragmentNameCollision {
+        name: fragment_name(),
+    };
     show(rt, "FragmentNameCollision", fragment)?;
     let root = BuildError::UndefinedRootOperation {
         operation_type: OperationType::Mutation,
@@ -36,24 +42,24 @@ pub(crate) fn show_definitions(rt: &HostRuntime) -> io::Result<()> {
 /// Selections, and the types that they are made on.
 pub(crate) fn show_selections(rt: &HostRuntime) -> io::Result<()> {
     let named = BuildError::UndefinedTypeInNamedFragmentTypeCondition {
-        type_name: name!("A"),
+        type_name: type_name(),
     };
     show(rt, "UndefinedTypeInNamedFragmentTypeCondition", named)?;
     let inline = BuildError::UndefinedTypeInInlineFragmentTypeCondition {
-        type_name: name!("A"),
+        type_name: type_name(),
     };
     show(rt, "UndefinedTypeInInlineFragmentTypeCondition", inline)?;
     let scalar = BuildError::SubselectionOnScalarType {
-        type_name: name!("S"),
+        type_name: scalar_name(),
     };
     show(rt, "SubselectionOnScalarType", scalar)?;
     let enumeration = BuildError::SubselectionOnEnumType {
-        type_name: name!("E"),
+        type_name: enum_name(),
     };
     show(rt, "SubselectionOnEnumType", enumeration)?;
     let undefined = BuildError::UndefinedField {
-        type_name: name!("A"),
-        field_name: name!("f"),
+        type_name: type_name(),
+        field_name: field_name(),
     };
     show(rt, "UndefinedField", undefined)
 }
@@ -61,7 +67,7 @@ pub(crate) fn show_selections(rt: &HostRuntime) -> io::Result<()> {
 /// Fields that conflict.
 pub(crate) fn show_conflicts(rt: &HostRuntime) -> io::Result<()> {
     let names = ConflictingFieldName {
-        alias: name!("a"),
+        alias: argument_name(),
         original_location: None,
         original_selection: field(),
         conflicting_location: None,
@@ -70,7 +76,7 @@ pub(crate) fn show_conflicts(rt: &HostRuntime) -> io::Result<()> {
     let names = BuildError::ConflictingFieldName(Box::new(rt.alloc(), names)?);
     show(rt, "ConflictingFieldName", names)?;
     let arguments = ConflictingFieldArgument {
-        alias: name!("a"),
+        alias: argument_name(),
         original_location: None,
         original_coordinate: field_argument(),
         original_value: None,
@@ -81,7 +87,7 @@ pub(crate) fn show_conflicts(rt: &HostRuntime) -> io::Result<()> {
     let arguments = BuildError::ConflictingFieldArgument(Box::new(rt.alloc(), arguments)?);
     show(rt, "ConflictingFieldArgument", arguments)?;
     let types = ConflictingFieldType {
-        alias: name!("a"),
+        alias: argument_name(),
         original_location: None,
         original_coordinate: field(),
         original_type: int(),
@@ -102,7 +108,7 @@ pub(crate) fn show_subscriptions(rt: &HostRuntime) -> io::Result<()> {
     show(rt, "SubscriptionUsesMultipleFields", fields)?;
     let introspection = BuildError::SubscriptionUsesIntrospection {
         name: None,
-        field: name!("__schema"),
+        field: meta_field_name(),
     };
     show(rt, "SubscriptionUsesIntrospection", introspection)?;
     let conditional = BuildError::SubscriptionUsesConditionalSelection { name: None };

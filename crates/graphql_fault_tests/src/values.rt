@@ -1,10 +1,12 @@
 //! What breaks the rules of values.
 
-use crate::parts::{field, required_int_node};
+use crate::parts::{
+    argument_name, enum_name, field, field_name, interface_name, required_int_node, type_name,
+    variable_name,
+};
 use crate::show::show;
 use graphql_faults::DiagnosticData;
 use graphql_faults::graphql_ast::{Node, Value};
-use graphql_names::name;
 use std::io;
 
 /// Values that do not fit a type.
@@ -23,26 +25,28 @@ pub(crate) fn show_values(rt: &HostRuntime) -> io::Result<()> {
         value: String::from_str(rt.alloc(), "1e999")?,
     };
     show(rt, "FloatCoercionError", float)?;
-    let variable = DiagnosticData::UndefinedVariable { name: name!("v") };
+    let variable = DiagnosticData::UndefinedVariable {
+        name: variable_name(),
+    };
     show(rt, "UndefinedVariable", variable)
 }
 
 /// Names in values, and what an object must give.
 pub(crate) fn show_entries(rt: &HostRuntime) -> io::Result<()> {
     let enum_value = DiagnosticData::UndefinedEnumValue {
-        value: name!("A"),
-        definition: name!("E"),
+        value: type_name(),
+        definition: enum_name(),
         definition_location: None,
     };
     show(rt, "UndefinedEnumValue", enum_value)?;
     let input_value = DiagnosticData::UndefinedInputValue {
-        value: name!("a"),
-        definition: name!("I"),
+        value: argument_name(),
+        definition: interface_name(),
         definition_location: None,
     };
     show(rt, "UndefinedInputValue", input_value)?;
     let required = DiagnosticData::RequiredField {
-        name: name!("f"),
+        name: field_name(),
         coordinate: field(),
         expected_type: required_int_node(rt.alloc())?,
         definition_location: None,
