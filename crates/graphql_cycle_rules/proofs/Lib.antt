@@ -1,0 +1,4 @@
+pub mod Ways
+pub mod Search
+pub mod Transport
+pub mod Telling

@@ -1,0 +1,6 @@
+pub mod Graph
+pub mod Labels
+pub mod Marks
+pub mod Search
+pub mod Telling
+pub mod Ways

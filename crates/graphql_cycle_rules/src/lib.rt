@@ -1,0 +1,6 @@
+//! Definitions that lead back to themselves, and the bound on references.
+#![tactic(auto)]
+
+mod graph;
+mod marks;
+mod search;
