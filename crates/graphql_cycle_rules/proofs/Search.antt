@@ -5,16 +5,17 @@ use Rattle.std.specs.Global.{Global}
 use Rattle.std.specs.List.{list_all}
 use Rattle.std.specs.Option.{option_map_or}
 use Rattle.std.proofs.lemmas.Bool.{cases_lt, cases_eq, eq-eqb, eqb-true, eqb-false}
-use Rattle.std.proofs.lemmas.List.{length_push, map-append, get_or-set_same, get_or-set_other, get_or_past, get_or_append_left}
+use Rattle.std.proofs.lemmas.List.{length_push, take_at, get_or-set_same, get_or-set_other, get_or_past, get_or_append_left}
 use Rattle.std.proofs.lemmas.Option.{slice_get_past}
 use Rattle.std.proofs.Math.Seq.{get_or-append_seam}
+use Rattle.std.proofs.lemmas.List.Elements.{Contains-get_or}
 use Rattle.std.proofs.lemmas.List.Sums.{sum_by-append}
 use Rattle.std.proofs.lemmas.List.Folds.{list_all_at}
 use Rattle.graphql_cycle_rules.specs.declared.graph.Graph.{Graph}
 use Rattle.graphql_cycle_rules.specs.declared.marks.Mark.{Mark}
 use Rattle.graphql_cycle_rules.specs.declared.marks.Mark.TheVariants.{New, Seen, Settled}
 use Rattle.graphql_cycle_rules.specs.declared.marks.Room.{Room}
-use Rattle.graphql_cycle_rules.specs.Ways.{Leads, IsWay, HasNoRepeat}
+use Rattle.graphql_rule_definitions.specs.Cycles.{Leads, IsWay, HasNoRepeat}
 use Rattle.graphql_cycle_rules.specs.Graph.{references, RefersTo, LeadsTo, is_directive, is_type, IsWayBack, IsDeep}
 use Rattle.graphql_cycle_rules.specs.Marks.{mark_at, passes, is_passed, settles, is_settled, are_settled, directive_less, type_less, room_after, first_room}
 use Rattle.graphql_cycle_rules.specs.Search.{nodes, IsOff, IsSound, IsReady, IsTrail, IsPassed, WentAlong, IsFinished, Grows}
@@ -328,15 +329,19 @@ module _ (g : Graph) where
         types = omega (arith, count_nodes (is_type g), trail.types, (some_room room (is_directive g next) left h).1);
       }
 
-    -- the same path in grown marks
-    pub IsTrail-grown : (path' : List ℕ) (marks' : List Mark) → path' ≡ path → Grows g root marks marks' → IsTrail g root at room path' marks'
-    IsTrail-grown path' marks' same grows = subst (λ p. IsTrail g root at room p marks') (sym same) (record {
-      leads = trail.leads;
-      apart = trail.apart;
-      seen = λ n c. grows.kept n (inl (trail.seen n c)) ∙ trail.seen n c;
-      directives = trail.directives;
-      types = trail.types;
-    })
+  -- the same path in grown marks
+  pub IsTrail-grown : (root at : ℕ) (room : Room) (path : List ℕ) (marks : List Mark) → IsTrail g root at room path marks → (path' : List ℕ) (marks' : List Mark) → path' ≡ path → Grows g root marks marks' → IsTrail g root at room path' marks'
+  IsTrail-grown root at room path marks trail path' marks' same grows = subst (λ p. IsTrail g root at room p marks') (sym same) (record {
+    leads = trail.leads;
+    apart = trail.apart;
+    seen = λ n c. grows.kept n (inl (trail.seen n c)) ∙ trail.seen n c;
+    directives = trail.directives;
+    types = trail.types;
+  })
+
+  -- the element of the loop is a reference
+  pub refers_at : (at : ℕ) (ys : List ℕ) (i x : ℕ) → ys ≡ references g at → i < length ys → x ≡ get_or ys i 0 → Contains (references g at) x
+  refers_at at ys i x is h e = subst (λ l. Contains l x) is (subst (Contains ys) (sym e) (Contains-get_or ys i 0 h))
 
   -- ---- a whole search
 
@@ -442,3 +447,7 @@ module _ (g : Graph) where
     | inl low ↦ get_or_append_left marks (New ∷ []) Settled n low ∙ fresh n (omega arith)
     | inr high ↦ let last : n ≡ length marks = omega arith in ap (λ k. get_or (marks ++ New ∷ []) k Settled) last ∙ get_or-append_seam marks New [] Settled
   ]
+
+-- a push that is taken back
+pub popped : (path path' p : List ℕ) (y : ℕ) (n : ℕ) → path' ≡ path ++ y ∷ [] → p ≡ take (n - 1) path' → n ≡ length path' → p ≡ path
+popped path path' p y n pushed cut len = cut ∙ ap (take (n - 1)) pushed ∙ take_at path (y ∷ []) (n - 1) (omega (arith, length_push path y, ap length pushed))

@@ -3,4 +3,7 @@ pub mod Labels
 pub mod Marks
 pub mod Search
 pub mod Telling
-pub mod Ways
+pub mod Numbers
+pub mod Told
+pub mod FaultLists
+pub mod InputGraph
