@@ -1,7 +1,4 @@
 pub mod Ways
-pub mod Search
+pub mod Searching
 pub mod Transport
 pub mod Telling
-pub mod Entries
-pub mod InputBridge
-pub mod InputsTold

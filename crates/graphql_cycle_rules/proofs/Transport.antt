@@ -6,7 +6,7 @@ use Rattle.std.proofs.lemmas.Bool.{eqb-true, eq-eqb}
 use Rattle.std.proofs.lemmas.Option.{same_Some}
 use Rattle.std.proofs.lemmas.List.Elements.{Contains-append_right}
 use Rattle.std.proofs.lemmas.List.Sums.{sum_by-append}
-use Rattle.graphql_rule_definitions.specs.Cycles.{Leads, IsWay, HasNoRepeat}
+use Rattle.graphql_cycle_rules.specs.Ways.{Leads, IsWay, HasNoRepeat}
 use Rattle.graphql_cycle_rules.specs.Labels.{Labelled, targets, label, labels}
 use Rattle.graphql_cycle_rules.proofs.Ways.{Contains-cons, Contains-first, not_in_nil}
 
@@ -15,19 +15,19 @@ use Rattle.graphql_cycle_rules.proofs.Ways.{Contains-cons, Contains-first, not_i
 module _ {L : Type 0} where
   pub label_there : (rs : Labelled L) (to : ℕ) → Contains (targets rs) to → (l : L) × ((label rs to ≡ Some l) × Contains rs (to, l))
   label_there [] to c = not_in_nil to c
-  label_there (r ∷ rs) to c = by (r.0 == to) refl
+  label_there (r ∷ rs) to c = by (r.0 == to) refl (label_there rs to)
     where
-      by : (b : Bool) → (r.0 == to) ≡ b → (l : L) × ((label (r ∷ rs) to ≡ Some l) × Contains (r ∷ rs) (to, l))
-      by true e = (
+      by : (b : Bool) → (r.0 == to) ≡ b → (Contains (targets rs) to → (l : L) × ((label rs to ≡ Some l) × Contains rs (to, l))) → (l : L) × ((label (r ∷ rs) to ≡ Some l) × Contains (r ∷ rs) (to, l))
+      by true e later = (
         r.1,
         (
           ap (λ b. option_map (λ (x : ℕ × L). x.1) (if b then Some r else find (λ (x : ℕ × L). x.0 == to) rs)) e,
           Contains-first r rs (to, r.1) (λ i. (eqb-true r.0 to e i, r.1)),
         ),
       )
-      by false e = elim (Contains-cons r.0 (targets rs) to c) [
+      by false e later = elim (Contains-cons r.0 (targets rs) to c) [
         | inl q ↦ absurd (true≢false (sym (eq-eqb r.0 to q) ∙ e))
-        | inr q ↦ let t : (l : L) × ((label rs to ≡ Some l) × Contains rs (to, l)) = label_there rs to q in (
+        | inr q ↦ let t : (l : L) × ((label rs to ≡ Some l) × Contains rs (to, l)) = later q in (
           t.0,
           (
             ap (λ b. option_map (λ (x : ℕ × L). x.1) (if b then Some r else find (λ (x : ℕ × L). x.0 == to) rs)) e ∙ t.1.0,
@@ -164,4 +164,4 @@ module _ {X R : Type 0} (A B : X → R → X → Type 0) (same : (x : X) (by : R
 
 pub count_by-none : {Y : Type 0} (p : Y → Bool) → ((y : Y) → p y ≡ false) → (ys : List Y) → count_by p ys ≡ 0
 count_by-none p none [] = refl
-count_by-none p none (y ∷ ys) = omega (arith, sum_by-append (λ x. cond (p x) 1 0) (y ∷ []) ys, ap (λ (b : Bool). cond b 1 0) (none y), count_by-none p none ys)
+count_by-none p none (y ∷ ys) = omega (arith, sum_by-append (λ x. cond (p x) 1 0) (y ∷ []) ys, ap {B = ℕ} (λ (b : Bool). cond b 1 0) (none y), count_by-none p none ys)

@@ -1,9 +1,6 @@
+pub mod Ways
 pub mod Graph
 pub mod Labels
 pub mod Marks
 pub mod Search
 pub mod Telling
-pub mod Numbers
-pub mod Told
-pub mod FaultLists
-pub mod InputGraph

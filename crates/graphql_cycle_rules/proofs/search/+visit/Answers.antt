@@ -3,7 +3,7 @@ use Rattle.std.proofs.lemmas.List.{take_all, take_more}
 use Rattle.graphql_cycle_rules.specs.declared.marks.Mark.TheVariants.{Seen}
 use Rattle.graphql_cycle_rules.specs.Graph.{IsWayBack}
 use Rattle.graphql_cycle_rules.specs.Search.{WentAlong, IsTrail}
-use Rattle.graphql_cycle_rules.proofs.Search.{passed_at, way_back_here, deep_here, IsTrail-entered, IsTrail-grown, IsSound-entered, Grows-refl, Grows-trans, WentAlong-more, still_within, leaves, refers_at, popped}
+use Rattle.graphql_cycle_rules.proofs.Searching.{passed_at, way_back_here, deep_here, IsTrail-entered, IsTrail-grown, IsSound-entered, Grows-refl, Grows-trans, WentAlong-more, still_within, leaves, refers_at, popped}
 use Rattle.graphql_cycle_rules.proofs.search.+visit.Goals as goal
 
 pub step-returns-then-next-root : goal.step-returns-then-next-root

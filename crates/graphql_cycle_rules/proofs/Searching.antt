@@ -15,7 +15,7 @@ use Rattle.graphql_cycle_rules.specs.declared.graph.Graph.{Graph}
 use Rattle.graphql_cycle_rules.specs.declared.marks.Mark.{Mark}
 use Rattle.graphql_cycle_rules.specs.declared.marks.Mark.TheVariants.{New, Seen, Settled}
 use Rattle.graphql_cycle_rules.specs.declared.marks.Room.{Room}
-use Rattle.graphql_rule_definitions.specs.Cycles.{Leads, IsWay, HasNoRepeat}
+use Rattle.graphql_cycle_rules.specs.Ways.{Leads, IsWay, HasNoRepeat}
 use Rattle.graphql_cycle_rules.specs.Graph.{references, RefersTo, LeadsTo, is_directive, is_type, IsWayBack, IsDeep}
 use Rattle.graphql_cycle_rules.specs.Marks.{mark_at, passes, is_passed, settles, is_settled, are_settled, directive_less, type_less, room_after, first_room}
 use Rattle.graphql_cycle_rules.specs.Search.{nodes, IsOff, IsSound, IsReady, IsTrail, IsPassed, WentAlong, IsFinished, Grows}
@@ -314,8 +314,8 @@ module _ (g : Graph) where
         where
           by : (b : Bool) → is_directive g next ≡ b → room_after room b ≡ None
               → (32 < count_by (is_directive g) (nodes root (path ++ next ∷ []))) ⊎ (32 < count_by (is_type g) (nodes root (path ++ next ∷ [])))
-          by true e n = inl (omega (arith, count_nodes (is_directive g), ap (λ (b : Bool). cond b 1 0) e, trail.directives, no_room true room n))
-          by false e n = inr (omega (arith, count_nodes (is_type g), ap (λ (b : Bool). cond (not b) 1 0) e, trail.types, no_room false room n))
+          by true e n = inl (omega (arith, count_nodes (is_directive g), ap {B = ℕ} (λ (b : Bool). cond b 1 0) e, trail.directives, no_room true room n))
+          by false e n = inr (omega (arith, count_nodes (is_type g), ap {B = ℕ} (λ (b : Bool). cond (not b) 1 0) e, trail.types, no_room false room n))
 
       pub IsTrail-entered : (left : Room) → room_after room (is_directive g next) ≡ Some left → IsTrail g root next left (path ++ next ∷ []) (set marks next (Seen root))
       IsTrail-entered left h = record {
