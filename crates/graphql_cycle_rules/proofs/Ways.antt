@@ -6,7 +6,7 @@ use Rattle.std.proofs.lemmas.List.{length_push, get_or_append_left}
 use Rattle.std.proofs.lemmas.List.Elements.{Contains-append_cases, Contains-append_left, Contains-append_right}
 use Rattle.std.proofs.lemmas.Option.{slice_get_within, slice_get-get_or, get_or_from_slice_get}
 use Rattle.std.proofs.Math.Seq.{get_or-append_seam}
-use Rattle.graphql_cycle_rules.specs.Ways.{Leads, HasNoRepeat}
+use Rattle.graphql_rule_definitions.specs.Cycles.{Leads, HasNoRepeat}
 
 module _ {X R : Type 0} (Refers : X → R → X → Type 0) where
   pub Leads-append : (x : X) (bys : List R) (y : X) (more : List R) (z : X) → Leads Refers x bys y → Leads Refers y more z → Leads Refers x (bys ++ more) z

@@ -1,6 +1,23 @@
-//! Definitions that lead back to themselves, and the bound on references.
+//! The rules against definitions that lead back to themselves, and the bound on references (sections 3.10 and 3.13).
+//!
+//! Nodes are numbers: directives first, then types. `search.rt` looks for a way from each root back to it, once for
+//! input objects and once for directives; `specs/Graph.antt` says what it finds.
+//!
+//! Begin with `check_inputs.rt` and `search.rt`.
 #![tactic(auto)]
 
+mod check_inputs;
+mod directive_faults;
 mod graph;
+mod input_faults;
+mod inputs;
 mod marks;
+mod numbers;
 mod search;
+mod uses;
+
+pub use check_inputs::check_input_cycles;
+
+// The crates beneath, for those above.
+pub use graphql_fault_data;
+pub use graphql_schema;
