@@ -1,4 +1,5 @@
-pub mod Diagnostics
 pub mod DiagnosticView
+pub mod FaultView
 pub mod Messages
 pub mod FilledTemplate
+pub use Rattle.graphql_rule_definitions.specs as in_rule_definitions

@@ -1,17 +1,22 @@
 //! What breaks a rule: which data belong to it, and how it is told.
 //!
-//! For the layers above: contracts see a `DiagnosticData` as its variant with plain data (`specs/Diagnostics.antt`), which is
-//! what `==` compares; its text is the variant's template, filled (`specs/Messages.antt`).
+//! For the layers above: contracts see a `DiagnosticData` as its variant with plain data (`Diagnostic` of
+//! `graphql_rule_definitions`), which is what `==` compares; its text is the variant's template, filled
+//! (`specs/Messages.antt`). A `Fault` is such data with a place.
 //!
-//! Begin with `diagnostic_data.rt` and `specs/Diagnostics.antt`.
+//! Begin with `diagnostic_data.rt` and `specs/DiagnosticView.antt`.
 #![tactic(auto)]
 
 mod diagnostic_data;
+mod fault;
 mod message;
 mod template;
 
 pub use diagnostic_data::DiagnosticData;
+pub use fault::{Fault, tell};
 
 // The crates beneath, for those above.
-pub use graphql_coords;
+pub use graphql_ast;
+pub use graphql_rule_definitions;
+pub use graphql_rule_definitions::graphql_coords;
 pub use graphql_typed_selections;

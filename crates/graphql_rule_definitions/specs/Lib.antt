@@ -14,3 +14,4 @@ pub mod Uses
 pub mod Rules
 pub mod Kept
 pub mod Laws
+pub use Rattle.graphql_coords.specs as in_coords

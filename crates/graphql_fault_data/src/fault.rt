@@ -1,0 +1,28 @@
+//! What breaks rules, each with its place.
+ghost use Rattle.std.specs.Prelude.{◌≡◌, ◌++◌, map, OnErr, OnOk, option_to_list};
+ghost use Rattle.graphql_fault_data.specs.FaultView.{fault_of, faults_of};
+
+use crate::diagnostic_data::DiagnosticData;
+use graphql_names::SourceSpan;
+use std::alloc::AllocError;
+
+/// What breaks a rule, and where: None where there is no place.
+#[derive(Drop)]
+pub struct Fault {
+    pub location: Option<SourceSpan>,
+    pub data: DiagnosticData,
+}
+
+/// Adds the fault at the end, if there is one. After a refusal the list is as it was.
+pub fn tell(faults: &mut Vec<Fault>, fault: Option<Fault>) -> Result<(), AllocError>
+    ensures told { OnOk result (faults_of faults.new ≡ faults_of faults.old ++ map fault_of (option_to_list fault)) }
+    ensures kept { OnErr result (faults_of faults.new ≡ faults_of faults.old) }
+{
+    match fault {
+        None => Ok(()),
+        Some(fault) => {
+            faults.push(fault)?;
+            Ok(())
+        }
+    }
+}

@@ -1,0 +1,21 @@
+-- Types that are put under names one after another (private: it leads to `validated`).
+use Rattle.std.specs.Prelude.{ℕ, List, [], ◌∷◌, if◌then◌else◌}
+use Rattle.std.specs.Str.{bytes_eq}
+use Rattle.graphql_names.specs.Placed.{Place}
+use Rattle.graphql_components.specs.Names.{Entries}
+use Rattle.graphql_schema_types.specs.SchemaTree.{SchemaType, SchemaTree}
+use Rattle.graphql_rule_definitions.specs.Kept.{is_dropped, is_missing, built_in_scalar}
+
+-- the entries with this under the name: in the place of what stood under it, else last
+abbrev pub put_under : {A : Type 0} → List ℕ → A → Entries A → Entries A
+put_under n a [] = (n, a) ∷ []
+put_under n a (e ∷ es) = if bytes_eq n e.0 then (e.0, a) ∷ es else e ∷ put_under n a es
+
+module _ (s : SchemaTree Place) where
+  -- one type more, unless it is dropped
+  abbrev pub and_kept : Entries (SchemaType Place) → List ℕ × SchemaType Place → Entries (SchemaType Place)
+  and_kept es e = if is_dropped s e then es else put_under e.0 e.1 es
+
+  -- one of the five more, if it is missing
+  abbrev pub and_missing : Entries (SchemaType Place) → List ℕ → Entries (SchemaType Place)
+  and_missing es n = if is_missing s n then put_under n (built_in_scalar n).1 es else es
