@@ -23,6 +23,18 @@ itself n = (bytes_eq-Decides n n).1 refl
 pub same_bytes : (n m : List ℕ) → bytes_eq n m ≡ true → n ≡ m
 same_bytes n m h = (bytes_eq-Decides n m).0 h
 
+pub index_given : {X : Type 0} (xs : List X) (i : ℕ) (x : X) → slice_get xs i ≡ Some x → Contains xs x
+index_given [] i x e = cc
+index_given (z ∷ xs) zero x e = Contains-first z xs x (same_Some z x e)
+index_given (z ∷ xs) (suc i) x e = Contains-append_right (z ∷ []) xs x (index_given xs i x e)
+
+pub index_found : {X : Type 0} (xs : List X) (x : X) → Contains xs x → (i : ℕ) × (slice_get xs i ≡ Some x)
+index_found [] x h = not_in_nil x h
+index_found (z ∷ xs) x h = elim (Contains-cons z xs x h) [
+  | inl e ↦ (0, ap (λ y. Some y) e)
+  | inr r ↦ let p : (i : ℕ) × (slice_get xs i ≡ Some x) = index_found xs x r in (suc p.0, p.1)
+]
+
 module _ {V : Type 0} where
   -- ---- the number of a name
 
@@ -80,33 +92,21 @@ module _ {V : Type 0} where
   under_at (e ∷ es) d zero n v h =
       let same : e ≡ (n, v) = same_Some e (n, v) h in
       ap (λ (b : Bool). option_map (λ (x : List ℕ × V). x.1) (if b then Some e else find (λ (x : List ℕ × V). bytes_eq n x.0) es)) (ap (bytes_eq n) (ap (λ x. x.0) same) ∙ itself n) ∙ ap (λ x. Some x.1) same
-  under_at (e ∷ es) d (suc i) n v h = by (bytes_eq n e.0) refl
+  under_at (e ∷ es) d (suc i) n v h = by (bytes_eq n e.0) refl (under_at es (IsDistinct-tail bytes_eq e.0 (keys_of es) d) i n v h)
     where
-      by : (b : Bool) → bytes_eq n e.0 ≡ b → under n (e ∷ es) ≡ Some v
-      by true t = absurd (not_later n es i v (head_apart e es n d (sym (same_bytes n e.0 t))) h)
-      by false t =
+      by : (b : Bool) → bytes_eq n e.0 ≡ b → under n es ≡ Some v → under n (e ∷ es) ≡ Some v
+      by true t rest = absurd (not_later n es i v (head_apart e es n d (sym (same_bytes n e.0 t))) h)
+      by false t rest =
           ap (λ (b : Bool). option_map (λ (x : List ℕ × V). x.1) (if b then Some e else find (λ (x : List ℕ × V). bytes_eq n x.0) es)) t
-          ∙ under_at es (IsDistinct-tail bytes_eq e.0 (keys_of es) d) i n v h
+          ∙ rest
 
   pub under_given : (n : List ℕ) (es : Entries V) (v : V) → under n es ≡ Some v → (i : ℕ) × (slice_get es i ≡ Some (n, v))
   under_given n [] v h = cc
-  under_given n (e ∷ es) v h = by (bytes_eq n e.0) refl h
+  under_given n (e ∷ es) v h = by (bytes_eq n e.0) refl (λ q. under_given n es v q) h
     where
-      by : (b : Bool) → bytes_eq n e.0 ≡ b → option_map (λ (x : List ℕ × V). x.1) (if b then Some e else find (λ (x : List ℕ × V). bytes_eq n x.0) es) ≡ Some v → (i : ℕ) × (slice_get (e ∷ es) i ≡ Some (n, v))
-      by true t q = (0, (λ j. Some (sym (same_bytes n e.0 t) j, same_Some e.1 v q j)))
-      by false t q = let r : (i : ℕ) × (slice_get es i ≡ Some (n, v)) = under_given n es v q in (suc r.0, r.1)
-
-  pub index_given : {X : Type 0} (xs : List X) (i : ℕ) (x : X) → slice_get xs i ≡ Some x → Contains xs x
-  index_given [] i x e = cc
-  index_given (z ∷ xs) zero x e = Contains-first z xs x (same_Some z x e)
-  index_given (z ∷ xs) (suc i) x e = Contains-append_right (z ∷ []) xs x (index_given xs i x e)
-
-  pub index_found : {X : Type 0} (xs : List X) (x : X) → Contains xs x → (i : ℕ) × (slice_get xs i ≡ Some x)
-  index_found [] x h = not_in_nil x h
-  index_found (z ∷ xs) x h = elim (Contains-cons z xs x h) [
-    | inl e ↦ (0, ap (λ y. Some y) e)
-    | inr r ↦ let p : (i : ℕ) × (slice_get xs i ≡ Some x) = index_found xs x r in (suc p.0, p.1)
-  ]
+      by : (b : Bool) → bytes_eq n e.0 ≡ b → (under n es ≡ Some v → (i : ℕ) × (slice_get es i ≡ Some (n, v))) → option_map (λ (x : List ℕ × V). x.1) (if b then Some e else find (λ (x : List ℕ × V). bytes_eq n x.0) es) ≡ Some v → (i : ℕ) × (slice_get (e ∷ es) i ≡ Some (n, v))
+      by true t later q = (0, (λ j. Some (sym (same_bytes n e.0 t) j, same_Some e.1 v q j)))
+      by false t later q = let r : (i : ℕ) × (slice_get es i ≡ Some (n, v)) = later q in (suc r.0, r.1)
 
 -- what is given of a value
 module _ {K V Y : Type 0} (f : V → List Y) where

@@ -18,6 +18,8 @@ use Rattle.graphql_rule_definitions.specs.Cycles.{Leads, IsWay, HasNoRepeat, Ref
 use Rattle.graphql_rule_definitions.specs.Kept.{AreDistinct}
 use Rattle.graphql_cycle_rules.specs.declared.graph.Graph.{Graph}
 use Rattle.graphql_cycle_rules.specs.Graph.{references, RefersTo, LeadsTo, is_directive, is_type, IsWayBack, IsDeep}
+use Rattle.graphql_cycle_rules.specs.declared.marks.Mark.{Mark}
+use Rattle.graphql_cycle_rules.specs.Search.{IsSound, IsReady}
 use Rattle.graphql_cycle_rules.specs.Labels.{targets, labels}
 use Rattle.graphql_cycle_rules.specs.Numbers.{Field}
 use Rattle.graphql_cycle_rules.specs.InputGraph.{IsInputGraph}
@@ -29,9 +31,13 @@ use Rattle.graphql_cycle_rules.proofs.Entries.{number_given, under_at}
 use Rattle.graphql_cycle_rules.proofs.Transport.{Goes, AreNamed, Leads-named-on, IsWay-named, HasNoRepeat-named, count-named, Leads-numbered, Leads-same, IsWay-same, count_by-none}
 use Rattle.graphql_cycle_rules.proofs.InputBridge.{Refs, name_at, number_at, tells, says, input_sound, input_full, input_defined, input_one}
 
-map-reverse : {X Y : Type 0} (f : X → Y) (xs : List X) → map f (reverse xs) ≡ reverse (map f xs)
+pub map-reverse : {X Y : Type 0} (f : X → Y) (xs : List X) → map f (reverse xs) ≡ reverse (map f xs)
 map-reverse f [] = refl
 map-reverse f (x ∷ xs) = ap (map f) (reverse-append (x ∷ []) xs) ∙ map-append f (reverse xs) (x ∷ []) ∙ ap (λ l. l ++ f x ∷ []) (map-reverse f xs) ∙ sym (reverse-append (f x ∷ []) (map f xs))
+
+-- the searches go on with the next root
+pub ready_after : (g : Graph) (root : ℕ) (marks : List Mark) → IsSound g root marks → IsReady g (root + 1) marks
+ready_after g root marks sound = record { settled = sound.settled; earlier = λ n r e. omega (arith, sound.earlier n r e) }
 
 module _ (s : SchemaTree Place) (distinct : AreDistinct s) (g : Graph) (graph : IsInputGraph s g) where
   abbrev Walks : ℕ → ℕ → ℕ → Type 0
@@ -140,7 +146,7 @@ module _ (s : SchemaTree Place) (distinct : AreDistinct s) (g : Graph) (graph : 
     (
       sub (wrong t.place (DeeplyNestedType n (codes "input object"))) (subst (λ k. Contains k (wrong t.place (DeeplyNestedType n (codes "input object")))) (sym r.1)
           (first_fault (λ (x : List ℕ × SchemaType Place). wrong x.1.place (DeeplyNestedType x.0 (codes "input object"))) root (n, t) there)),
-      inr (n, (codes "input object", refl)),
+      inr (n, codes "input object", refl),
     ),
   )
 

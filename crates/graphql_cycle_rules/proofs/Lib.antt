@@ -3,6 +3,7 @@ pub mod Searching
 pub mod Transport
 pub mod Telling
 pub mod Entries
+pub mod Numbering
+pub mod InputGraphs
 pub mod InputBridge
 pub mod InputsTold
-pub mod UseBridge

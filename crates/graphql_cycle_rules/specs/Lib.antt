@@ -8,6 +8,3 @@ pub mod ReferenceViews
 pub mod Told
 pub mod FaultLists
 pub mod InputGraph
-pub mod UseNumbers
-pub mod UseViews
-pub mod DirectiveFaults

@@ -12,6 +12,7 @@ ghost use Rattle.graphql_cycle_rules.specs.Told.{InputsTold};
 use crate::graph::Graph;
 use crate::input_faults::{deeply_nested_input_object, recursive_input_object_definition};
 use crate::inputs::{input_references, input_targets};
+use crate::marks::Mark;
 use crate::search::{Found, new_marks, way_back};
 use graphql_fault_data::{Fault, tell};
 use graphql_schema::Schema;
@@ -51,11 +52,16 @@ fn check_input_object(
 {
     match way_back(graph, root, path, marks)? {
         Found::Nothing => Ok(()),
-        Found::WayBack => tell(
-            faults,
-            recursive_input_object_definition(alloc, schema, root, path)?,
-        ),
-        Found::Deep => tell(faults, deeply_nested_input_object(schema, root)?),
+        Found::WayBack => {
+            let fault = recursive_input_object_definition(alloc, schema, root, path)?;
+            tell(faults, fault)?;
+            Ok(())
+        }
+        Found::Deep => {
+            let fault = deeply_nested_input_object(schema, root)?;
+            tell(faults, fault)?;
+            Ok(())
+        }
     }
 }
 
@@ -70,8 +76,23 @@ fn check_input_objects(
 {
     let mut path = Vec::new(alloc);
     let mut marks = new_marks(alloc, graph)?;
+    check_each_input_object(alloc, schema, graph, &mut path, &mut marks, faults)
+}
+
+/// Tells them one after the other, where nothing is known of any.
+fn check_each_input_object(
+    alloc: Global,
+    schema: &Schema,
+    graph: &Graph,
+    path: &mut Vec<usize>,
+    marks: &mut [Mark],
+    faults: &mut Vec<Fault>,
+) -> Result<(), AllocError>
+    requires ready { IsReady graph.now 0 marks.old }
+    ensures { OnOk result (TellsRoots (TellsInput (schema_tree schema.now)) (TellsDeepInput (schema_tree schema.now)) graph.now graph.now.roots (faults_of faults.old) (faults_of faults.new)) }
+{
     for root in 0..graph.roots {
-        check_input_object(alloc, schema, graph, root, &mut path, &mut marks, faults)?;
+        check_input_object(alloc, schema, graph, root, path, marks, faults)?;
     }
     Ok(())
 }

@@ -7,14 +7,12 @@
 #![tactic(auto)]
 
 mod check_inputs;
-mod directive_faults;
 mod graph;
 mod input_faults;
 mod inputs;
 mod marks;
 mod numbers;
 mod search;
-mod uses;
 
 pub use check_inputs::check_input_cycles;
 
