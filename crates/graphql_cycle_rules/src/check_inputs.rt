@@ -88,7 +88,7 @@ fn check_each_input_object(
     marks: &mut [Mark],
     faults: &mut Vec<Fault>,
 ) -> Result<(), AllocError>
-    requires ready { IsReady graph.now 0 marks.old }
+    requires { IsReady graph.now 0 marks.old }
     ensures { OnOk result (TellsRoots (TellsInput (schema_tree schema.now)) (TellsDeepInput (schema_tree schema.now)) graph.now graph.now.roots (faults_of faults.old) (faults_of faults.new)) }
 {
     for root in 0..graph.roots {

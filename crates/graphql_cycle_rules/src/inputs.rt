@@ -99,7 +99,10 @@ pub(crate) fn input_references(
 }
 
 /// To what they refer.
-pub(crate) fn input_targets(alloc: Global, references: &[InputReference]) -> Result<Vec<usize>, AllocError>
+pub(crate) fn input_targets(
+    alloc: Global,
+    references: &[InputReference],
+) -> Result<Vec<usize>, AllocError>
     ensures { IfOk result (λ r. r.items ≡ targets (map input_reference_view references.now)) }
 {
     let mut targets = Vec::new(alloc);
@@ -110,7 +113,10 @@ pub(crate) fn input_targets(alloc: Global, references: &[InputReference]) -> Res
 }
 
 /// The first by which they refer to that number, if they do.
-pub(crate) fn first_field(references: &[InputReference], to: usize) -> Option<&Node<InputValueDefinition>>
+pub(crate) fn first_field(
+    references: &[InputReference],
+    to: usize,
+) -> Option<&Node<InputValueDefinition>>
     ensures { option_map (node_tree input_value_tree) (option_copied result) ≡ label (map input_reference_view references.now) to }
 {
     for reference in references {

@@ -1,7 +1,7 @@
 //! The rules against definitions that lead back to themselves, and the bound on references (sections 3.10 and 3.13).
 //!
-//! Nodes are numbers: directives first, then types. `search.rt` looks for a way from each root back to it, once for
-//! input objects and once for directives; `specs/Graph.antt` says what it finds.
+//! Nodes are numbers. `search.rt` looks for a way from each root back to it, in a graph of directives and types;
+//! `specs/Graph.antt` says what it finds. Input objects are told by `check_inputs.rt`; of directives nothing is told yet.
 //!
 //! Begin with `check_inputs.rt` and `search.rt`.
 #![tactic(auto)]

@@ -20,4 +20,4 @@ returns-in_ok-name-in-Some c =
     sym (map-map (plain_field s) (node_tree input_value_tree) c.in_ok-trace-in-Some.trace.items) ∙ ap (map (plain_field s)) c.in_ok-trace-in-Some.ensures in
     (λ i. wrong (c.location.ensures i) (RecursiveInputObjectDefinition (c.in_ok-name-in-Some.ensures.same i).text (traced i)) ∷ [])
     ∙ sym (found_entry extended_type (λ e. wrong e.1.place (RecursiveInputObjectDefinition e.0 fields) ∷ []) [] c.args.schema.now.types c.args.root c.get_index.result c.get_index.ensures.entry
-        ∙ ap (λ r. option_map_or (λ p. wrong (extended_type p.1.now).place (RecursiveInputObjectDefinition (name_text p.0.now) fields) ∷ []) r []) c.in-Some.is)
+    ∙ ap (λ r. option_map_or (λ p. wrong (extended_type p.1.now).place (RecursiveInputObjectDefinition (name_text p.0.now) fields) ∷ []) r []) c.in-Some.is)

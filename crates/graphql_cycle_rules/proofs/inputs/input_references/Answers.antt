@@ -12,7 +12,7 @@ returns-in-Some c =
     let es = (schema_tree c.args.schema.now).types in
     subst (λ l. IfOk c.references_of_type.result (λ r. map input_reference_view r.items ≡ l))
     (
-      sym (found_entry extended_type (λ e. input_references es e.1) [] c.args.schema.now.types c.args.number c.get_index.result c.get_index.ensures.entry
-          ∙ ap (λ r. option_map_or (λ p. input_references es (extended_type p.1.now)) r []) c.in-Some.is)
+    sym (found_entry extended_type (λ e. input_references es e.1) [] c.args.schema.now.types c.args.number c.get_index.result c.get_index.ensures.entry
+    ∙ ap (λ r. option_map_or (λ p. input_references es (extended_type p.1.now)) r []) c.in-Some.is)
     )
     c.references_of_type.ensures

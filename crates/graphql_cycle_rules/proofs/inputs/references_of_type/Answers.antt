@@ -15,8 +15,8 @@ returns-in-InputObject c =
     let es = (schema_tree c.args.schema.now).types in
     subst (λ l. IfOk c.references_of_fields.result (λ r. map input_reference_view r.items ≡ l))
     (
-      sym (each_entry (component_tree input_value_tree) (λ g. field_references es g.it) c.content.result.now.fields)
-      ∙ ap (λ (o : InputObjectType). each_value (λ g. field_references es g.it) (entries_of name_text (component_tree input_value_tree) o.fields)) c.content.ensures
-      ∙ ap (λ t. input_references es (extended_type t)) (sym c.in-InputObject.is)
+    sym (each_entry (component_tree input_value_tree) (λ g. field_references es g.it) c.content.result.now.fields)
+    ∙ ap (λ (o : InputObjectType). each_value (λ g. field_references es g.it) (entries_of name_text (component_tree input_value_tree) o.fields)) c.content.ensures
+    ∙ ap (λ t. input_references es (extended_type t)) (sym c.in-InputObject.is)
     )
     c.references_of_fields.ensures
