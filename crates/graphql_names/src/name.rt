@@ -54,12 +54,20 @@ impl From<AllocError> for NameError {
 ///
 /// Its text is a Name token (GraphQL October 2021, section 2.1.9 Names), and its place is as long as
 /// its text. Contracts see it as its text in bytes, whether that is static, and its place.
-#[derive(Drop)]
 pub struct Name {
     text: NameText,
     location: Option<SourceSpan>,
     ghost valid: { IsName (text_bytes text) },
     ghost as_long: { IsPlaceOf (text_bytes text) location },
+}
+
+impl Drop for Name {
+    fn drop(self) {
+        let Name {
+            text: _,
+            location: _,
+        } = self;
+    }
 }
 
 impl Model for Name {

@@ -10,10 +10,18 @@ use std::rc::Rc;
 
 /// A shared value, and the place that it was read from, if it was read. The place belongs to this node
 /// and not to the value. Contracts read a node by `content` and `place`.
-#[derive(Drop)]
 pub struct Node<T> {
     shared: Rc<T>,
     location: Option<SourceSpan>,
+}
+
+impl<T: Drop> Drop for Node<T> {
+    fn drop(self) {
+        let Node {
+            shared: _,
+            location: _,
+        } = self;
+    }
 }
 
 /// Nodes of values.

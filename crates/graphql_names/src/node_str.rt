@@ -20,10 +20,18 @@ use std::rc::RcStr;
 /// A shared text, and the place that it was read from, if it was read.
 ///
 /// Contracts see it as its text in bytes and its place.
-#[derive(Drop)]
 pub struct NodeStr {
     shared: RcStr,
     location: Option<SourceSpan>,
+}
+
+impl Drop for NodeStr {
+    fn drop(self) {
+        let NodeStr {
+            shared: _,
+            location: _,
+        } = self;
+    }
 }
 
 impl Model for NodeStr {
