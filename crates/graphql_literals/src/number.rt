@@ -18,10 +18,15 @@ use std::hash::{Hash, Hasher};
 use std::marker::Model;
 
 /// An integer as it is written (section 2.9.1). Contracts see its text, which is one Int token.
-#[derive(Drop)]
 pub struct IntValue {
     text: String,
     ghost valid: { IsIntValue (string_bytes text) },
+}
+
+impl Drop for IntValue {
+    fn drop(self) {
+        let IntValue { text: _ } = self;
+    }
 }
 
 impl Model for IntValue {
@@ -35,10 +40,15 @@ impl Model for IntValue {
 
 /// A number with a fraction or an exponent, as it is written (section 2.9.2). Contracts see its text, which is one
 /// Float token.
-#[derive(Drop)]
 pub struct FloatValue {
     text: String,
     ghost valid: { IsFloatValue (string_bytes text) },
+}
+
+impl Drop for FloatValue {
+    fn drop(self) {
+        let FloatValue { text: _ } = self;
+    }
 }
 
 impl Model for FloatValue {

@@ -11,7 +11,7 @@ use std::alloc::{AllocError, Global};
 pub type NamedType = Name;
 
 /// A reference to a type: its name, or a list of such, each nullable or not (section 3.11 and 3.12).
-#[derive(PartialEq, Eq, Hash, Drop)]
+#[derive(PartialEq, Eq, Hash)]
 pub enum Type {
     /// `Name`
     Named(NamedType),
@@ -21,6 +21,14 @@ pub enum Type {
     List(Box<Type>),
     /// `[Type]!`
     NonNullList(Box<Type>),
+}
+
+impl Drop for Type {
+    fn drop(self) {
+        match self {
+            Type::Named(_) | Type::NonNullNamed(_) | Type::List(_) | Type::NonNullList(_) => {}
+        }
+    }
 }
 
 #[tactic(auto, using(crate::proofs::Trees::type_tree_rules))]

@@ -12,7 +12,7 @@ use graphql_names::{Name, Node};
 use std::alloc::AllocError;
 
 /// A literal value, or a variable (section 2.9).
-#[derive(PartialEq, Eq, Hash, Drop)]
+#[derive(PartialEq, Eq, Hash)]
 pub enum Value {
     Null,
     Enum(Name),
@@ -23,6 +23,22 @@ pub enum Value {
     Boolean(bool),
     List(Vec<Node<Value>>),
     Object(Vec<(Name, Node<Value>)>),
+}
+
+impl Drop for Value {
+    fn drop(self) {
+        match self {
+            Value::Null
+            | Value::Enum(_)
+            | Value::Variable(_)
+            | Value::String(_)
+            | Value::Float(_)
+            | Value::Int(_)
+            | Value::Boolean(_)
+            | Value::List(_)
+            | Value::Object(_) => {}
+        }
+    }
 }
 
 #[tactic(auto, using(crate::proofs::Trees::value_tree_rules))]
