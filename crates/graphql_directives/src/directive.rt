@@ -14,31 +14,64 @@ use graphql_names::{Name, Node, NodeStr, copies_of_four};
 use std::alloc::{AllocError, Global};
 
 /// `name: value` (section 2.6).
-#[derive(PartialEq, Eq, Hash, Drop)]
+#[derive(PartialEq, Eq, Hash)]
 pub struct Argument {
     pub name: Name,
     pub value: Node<Value>,
 }
 
+impl Drop for Argument {
+    fn drop(self) {
+        let Argument { name: _, value: _ } = self;
+    }
+}
+
 /// `@name(arguments)` (section 2.12).
-#[derive(PartialEq, Eq, Hash, Drop)]
+#[derive(PartialEq, Eq, Hash)]
 pub struct Directive {
     pub name: Name,
     pub arguments: Vec<Node<Argument>>,
 }
 
+impl Drop for Directive {
+    fn drop(self) {
+        let Directive {
+            name: _,
+            arguments: _,
+        } = self;
+    }
+}
+
 /// The directives that are applied at one place, in order.
-#[derive(PartialEq, Eq, Hash, Drop)]
+#[derive(PartialEq, Eq, Hash)]
 pub struct DirectiveList(pub Vec<Node<Directive>>);
 
+impl Drop for DirectiveList {
+    fn drop(self) {
+        let DirectiveList(_) = self;
+    }
+}
+
 /// `directive @name(arguments) repeatable on locations` (section 3.13).
-#[derive(PartialEq, Eq, Hash, Drop)]
+#[derive(PartialEq, Eq, Hash)]
 pub struct DirectiveDefinition {
     pub description: Option<NodeStr>,
     pub name: Name,
     pub arguments: Vec<Node<InputValueDefinition>>,
     pub repeatable: bool,
     pub locations: Vec<DirectiveLocation>,
+}
+
+impl Drop for DirectiveDefinition {
+    fn drop(self) {
+        let DirectiveDefinition {
+            description: _,
+            name: _,
+            arguments: _,
+            repeatable: _,
+            locations: _,
+        } = self;
+    }
 }
 
 impl Directive {

@@ -11,13 +11,25 @@ use graphql_names::{Name, Node, NodeStr, copies_of_five};
 use std::alloc::AllocError;
 
 /// An argument of a field or directive, or a field of an input object (section 3.6.1 and 3.10).
-#[derive(PartialEq, Eq, Hash, Drop)]
+#[derive(PartialEq, Eq, Hash)]
 pub struct InputValueDefinition {
     pub description: Option<NodeStr>,
     pub name: Name,
     pub ty: Node<Type>,
     pub default_value: Option<Node<Value>>,
     pub directives: DirectiveList,
+}
+
+impl Drop for InputValueDefinition {
+    fn drop(self) {
+        let InputValueDefinition {
+            description: _,
+            name: _,
+            ty: _,
+            default_value: _,
+            directives: _,
+        } = self;
+    }
 }
 
 impl InputValueDefinition {
