@@ -29,12 +29,17 @@ impl ComponentOrigin {
 }
 
 /// A node, and where it comes from. Equality and hash are those of the node.
-#[derive(Drop)]
 #[derive_where(PartialEq, Eq, Hash; T)]
 pub struct Component<T> {
     #[derive_where(skip)]
     pub origin: ComponentOrigin,
     pub node: Node<T>,
+}
+
+impl<T: Drop> Drop for Component<T> {
+    fn drop(self) {
+        let Component { origin: _, node: _ } = self;
+    }
 }
 
 impl<T> Component<T> {

@@ -8,12 +8,17 @@ use std::fmt;
 use std::ops::Deref;
 
 /// A name, and where it comes from. Equality and hash are those of the name.
-#[derive(Drop)]
 #[derive_where(PartialEq, Eq, Hash)]
 pub struct ComponentName {
     #[derive_where(skip)]
     pub origin: ComponentOrigin,
     pub name: Name,
+}
+
+impl Drop for ComponentName {
+    fn drop(self) {
+        let ComponentName { origin: _, name: _ } = self;
+    }
 }
 
 impl ComponentName {

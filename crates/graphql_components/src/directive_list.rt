@@ -16,8 +16,14 @@ use std::ops::Deref;
 use std::slice;
 
 /// Applied directives, in order, with where each comes from.
-#[derive(PartialEq, Eq, Hash, Drop)]
+#[derive(PartialEq, Eq, Hash)]
 pub struct DirectiveList(pub Vec<Component<Directive>>);
+
+impl Drop for DirectiveList {
+    fn drop(self) {
+        let DirectiveList(_) = self;
+    }
+}
 
 impl DirectiveList {
     /// No directives.

@@ -10,7 +10,7 @@ use graphql_values::{DirectiveList, Name, NamedType, Node, NodeStr};
 use std::alloc::AllocError;
 
 /// `interface name implements interfaces @directives { fields }` (section 3.7).
-#[derive(PartialEq, Eq, Hash, Drop)]
+#[derive(PartialEq, Eq, Hash)]
 pub struct InterfaceTypeDefinition {
     pub description: Option<NodeStr>,
     pub name: Name,
@@ -19,13 +19,58 @@ pub struct InterfaceTypeDefinition {
     pub fields: Vec<Node<FieldDefinition>>,
 }
 
+impl Drop for InterfaceTypeDefinition {
+    fn drop(self) {
+        let InterfaceTypeDefinition {
+            description: _,
+            name: _,
+            implements_interfaces: _,
+            directives: _,
+            fields: _,
+        } = self;
+    }
+}
+
 /// `extend interface name implements interfaces @directives { fields }` (section 3.7.1).
-#[derive(PartialEq, Eq, Hash, Drop)]
+#[derive(PartialEq, Eq, Hash)]
 pub struct InterfaceTypeExtension {
     pub name: Name,
     pub implements_interfaces: Vec<NamedType>,
     pub directives: DirectiveList,
     pub fields: Vec<Node<FieldDefinition>>,
+}
+
+impl Drop for InterfaceTypeExtension {
+    fn drop(self) {
+        let InterfaceTypeExtension {
+            name: _,
+            implements_interfaces: _,
+            directives: _,
+            fields: _,
+        } = self;
+    }
+}
+
+impl InterfaceTypeExtension {
+    /// The definition with that description and these parts (section 3.7).
+    pub fn into_definition(self, description: Option<NodeStr>) -> InterfaceTypeDefinition
+        ensures description { result.description ≡ description }
+        ensures parts { interface_parts result ≡ interface_extension_parts self }
+    {
+        let InterfaceTypeExtension {
+            name,
+            implements_interfaces,
+            directives,
+            fields,
+        } = self;
+        InterfaceTypeDefinition {
+            description,
+            name,
+            implements_interfaces,
+            directives,
+            fields,
+        }
+    }
 }
 
 impl Clone for InterfaceTypeDefinition {

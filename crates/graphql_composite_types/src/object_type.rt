@@ -10,7 +10,7 @@ use graphql_values::{DirectiveList, Name, NamedType, Node, NodeStr};
 use std::alloc::AllocError;
 
 /// `type name implements interfaces @directives { fields }` (section 3.6).
-#[derive(PartialEq, Eq, Hash, Drop)]
+#[derive(PartialEq, Eq, Hash)]
 pub struct ObjectTypeDefinition {
     pub description: Option<NodeStr>,
     pub name: Name,
@@ -19,13 +19,58 @@ pub struct ObjectTypeDefinition {
     pub fields: Vec<Node<FieldDefinition>>,
 }
 
+impl Drop for ObjectTypeDefinition {
+    fn drop(self) {
+        let ObjectTypeDefinition {
+            description: _,
+            name: _,
+            implements_interfaces: _,
+            directives: _,
+            fields: _,
+        } = self;
+    }
+}
+
 /// `extend type name implements interfaces @directives { fields }` (section 3.6.3).
-#[derive(PartialEq, Eq, Hash, Drop)]
+#[derive(PartialEq, Eq, Hash)]
 pub struct ObjectTypeExtension {
     pub name: Name,
     pub implements_interfaces: Vec<NamedType>,
     pub directives: DirectiveList,
     pub fields: Vec<Node<FieldDefinition>>,
+}
+
+impl Drop for ObjectTypeExtension {
+    fn drop(self) {
+        let ObjectTypeExtension {
+            name: _,
+            implements_interfaces: _,
+            directives: _,
+            fields: _,
+        } = self;
+    }
+}
+
+impl ObjectTypeExtension {
+    /// The definition with that description and these parts (section 3.6).
+    pub fn into_definition(self, description: Option<NodeStr>) -> ObjectTypeDefinition
+        ensures description { result.description ≡ description }
+        ensures parts { object_parts result ≡ object_extension_parts self }
+    {
+        let ObjectTypeExtension {
+            name,
+            implements_interfaces,
+            directives,
+            fields,
+        } = self;
+        ObjectTypeDefinition {
+            description,
+            name,
+            implements_interfaces,
+            directives,
+            fields,
+        }
+    }
 }
 
 impl Clone for ObjectTypeDefinition {

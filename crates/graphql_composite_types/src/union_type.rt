@@ -9,7 +9,7 @@ use graphql_values::{DirectiveList, Name, NamedType, NodeStr};
 use std::alloc::AllocError;
 
 /// `union name @directives = members` (section 3.8).
-#[derive(PartialEq, Eq, Hash, Drop)]
+#[derive(PartialEq, Eq, Hash)]
 pub struct UnionTypeDefinition {
     pub description: Option<NodeStr>,
     pub name: Name,
@@ -17,12 +17,53 @@ pub struct UnionTypeDefinition {
     pub members: Vec<NamedType>,
 }
 
+impl Drop for UnionTypeDefinition {
+    fn drop(self) {
+        let UnionTypeDefinition {
+            description: _,
+            name: _,
+            directives: _,
+            members: _,
+        } = self;
+    }
+}
+
 /// `extend union name @directives = members` (section 3.8.1).
-#[derive(PartialEq, Eq, Hash, Drop)]
+#[derive(PartialEq, Eq, Hash)]
 pub struct UnionTypeExtension {
     pub name: Name,
     pub directives: DirectiveList,
     pub members: Vec<NamedType>,
+}
+
+impl Drop for UnionTypeExtension {
+    fn drop(self) {
+        let UnionTypeExtension {
+            name: _,
+            directives: _,
+            members: _,
+        } = self;
+    }
+}
+
+impl UnionTypeExtension {
+    /// The definition with that description and these parts (section 3.8).
+    pub fn into_definition(self, description: Option<NodeStr>) -> UnionTypeDefinition
+        ensures description { result.description ≡ description }
+        ensures parts { union_parts result ≡ union_extension_parts self }
+    {
+        let UnionTypeExtension {
+            name,
+            directives,
+            members,
+        } = self;
+        UnionTypeDefinition {
+            description,
+            name,
+            directives,
+            members,
+        }
+    }
 }
 
 impl Clone for UnionTypeDefinition {

@@ -16,7 +16,7 @@ use graphql_values::{DirectiveDefinition, FragmentDefinition, Node, OperationDef
 use std::alloc::AllocError;
 
 /// What a document holds, with a variant for each form (section 2.2).
-#[derive(PartialEq, Eq, Hash, Drop)]
+#[derive(PartialEq, Eq, Hash)]
 pub enum Definition {
     OperationDefinition(Node<OperationDefinition>),
     FragmentDefinition(Node<FragmentDefinition>),
@@ -35,6 +35,30 @@ pub enum Definition {
     UnionTypeExtension(Node<UnionTypeExtension>),
     EnumTypeExtension(Node<EnumTypeExtension>),
     InputObjectTypeExtension(Node<InputObjectTypeExtension>),
+}
+
+impl Drop for Definition {
+    fn drop(self) {
+        match self {
+            Definition::OperationDefinition(_)
+            | Definition::FragmentDefinition(_)
+            | Definition::DirectiveDefinition(_)
+            | Definition::SchemaDefinition(_)
+            | Definition::ScalarTypeDefinition(_)
+            | Definition::ObjectTypeDefinition(_)
+            | Definition::InterfaceTypeDefinition(_)
+            | Definition::UnionTypeDefinition(_)
+            | Definition::EnumTypeDefinition(_)
+            | Definition::InputObjectTypeDefinition(_)
+            | Definition::SchemaExtension(_)
+            | Definition::ScalarTypeExtension(_)
+            | Definition::ObjectTypeExtension(_)
+            | Definition::InterfaceTypeExtension(_)
+            | Definition::UnionTypeExtension(_)
+            | Definition::EnumTypeExtension(_)
+            | Definition::InputObjectTypeExtension(_) => {}
+        }
+    }
 }
 
 /// A definition of a copy of the node.

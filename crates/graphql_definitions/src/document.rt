@@ -9,10 +9,16 @@ use indexmap::IndexMap;
 use std::alloc::{AllocError, Global};
 
 /// A text that was read, and the path of its file.
-#[derive(PartialEq, Eq, Hash, Drop)]
+#[derive(PartialEq, Eq, Hash)]
 pub struct SourceFile {
     pub path: String,
     pub text: String,
+}
+
+impl Drop for SourceFile {
+    fn drop(self) {
+        let SourceFile { path: _, text: _ } = self;
+    }
 }
 
 /// What was read from texts: its definitions in order (section 2.2), and the texts by the numbers of their

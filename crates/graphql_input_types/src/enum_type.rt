@@ -9,7 +9,7 @@ use graphql_values::{DirectiveList, Name, Node, NodeStr};
 use std::alloc::AllocError;
 
 /// `enum name @directives { values }` (section 3.9).
-#[derive(PartialEq, Eq, Hash, Drop)]
+#[derive(PartialEq, Eq, Hash)]
 pub struct EnumTypeDefinition {
     pub description: Option<NodeStr>,
     pub name: Name,
@@ -17,12 +17,53 @@ pub struct EnumTypeDefinition {
     pub values: Vec<Node<EnumValueDefinition>>,
 }
 
+impl Drop for EnumTypeDefinition {
+    fn drop(self) {
+        let EnumTypeDefinition {
+            description: _,
+            name: _,
+            directives: _,
+            values: _,
+        } = self;
+    }
+}
+
 /// `extend enum name @directives { values }` (section 3.9.1).
-#[derive(PartialEq, Eq, Hash, Drop)]
+#[derive(PartialEq, Eq, Hash)]
 pub struct EnumTypeExtension {
     pub name: Name,
     pub directives: DirectiveList,
     pub values: Vec<Node<EnumValueDefinition>>,
+}
+
+impl Drop for EnumTypeExtension {
+    fn drop(self) {
+        let EnumTypeExtension {
+            name: _,
+            directives: _,
+            values: _,
+        } = self;
+    }
+}
+
+impl EnumTypeExtension {
+    /// The definition with that description and these parts (section 3.9).
+    pub fn into_definition(self, description: Option<NodeStr>) -> EnumTypeDefinition
+        ensures description { result.description ≡ description }
+        ensures parts { enum_parts result ≡ enum_extension_parts self }
+    {
+        let EnumTypeExtension {
+            name,
+            directives,
+            values,
+        } = self;
+        EnumTypeDefinition {
+            description,
+            name,
+            directives,
+            values,
+        }
+    }
 }
 
 impl Clone for EnumTypeDefinition {

@@ -9,7 +9,7 @@ use graphql_values::{DirectiveList, InputValueDefinition, Name, Node, NodeStr};
 use std::alloc::AllocError;
 
 /// `input name @directives { fields }` (section 3.10).
-#[derive(PartialEq, Eq, Hash, Drop)]
+#[derive(PartialEq, Eq, Hash)]
 pub struct InputObjectTypeDefinition {
     pub description: Option<NodeStr>,
     pub name: Name,
@@ -17,12 +17,53 @@ pub struct InputObjectTypeDefinition {
     pub fields: Vec<Node<InputValueDefinition>>,
 }
 
+impl Drop for InputObjectTypeDefinition {
+    fn drop(self) {
+        let InputObjectTypeDefinition {
+            description: _,
+            name: _,
+            directives: _,
+            fields: _,
+        } = self;
+    }
+}
+
 /// `extend input name @directives { fields }` (section 3.10.1).
-#[derive(PartialEq, Eq, Hash, Drop)]
+#[derive(PartialEq, Eq, Hash)]
 pub struct InputObjectTypeExtension {
     pub name: Name,
     pub directives: DirectiveList,
     pub fields: Vec<Node<InputValueDefinition>>,
+}
+
+impl Drop for InputObjectTypeExtension {
+    fn drop(self) {
+        let InputObjectTypeExtension {
+            name: _,
+            directives: _,
+            fields: _,
+        } = self;
+    }
+}
+
+impl InputObjectTypeExtension {
+    /// The definition with that description and these parts (section 3.10).
+    pub fn into_definition(self, description: Option<NodeStr>) -> InputObjectTypeDefinition
+        ensures description { result.description ≡ description }
+        ensures parts { input_object_parts result ≡ input_object_extension_parts self }
+    {
+        let InputObjectTypeExtension {
+            name,
+            directives,
+            fields,
+        } = self;
+        InputObjectTypeDefinition {
+            description,
+            name,
+            directives,
+            fields,
+        }
+    }
 }
 
 impl Clone for InputObjectTypeDefinition {

@@ -9,18 +9,52 @@ use graphql_values::{DirectiveList, Name, NodeStr};
 use std::alloc::AllocError;
 
 /// `scalar name @directives` (section 3.5).
-#[derive(PartialEq, Eq, Hash, Drop)]
+#[derive(PartialEq, Eq, Hash)]
 pub struct ScalarTypeDefinition {
     pub description: Option<NodeStr>,
     pub name: Name,
     pub directives: DirectiveList,
 }
 
+impl Drop for ScalarTypeDefinition {
+    fn drop(self) {
+        let ScalarTypeDefinition {
+            description: _,
+            name: _,
+            directives: _,
+        } = self;
+    }
+}
+
 /// `extend scalar name @directives` (section 3.5.7).
-#[derive(PartialEq, Eq, Hash, Drop)]
+#[derive(PartialEq, Eq, Hash)]
 pub struct ScalarTypeExtension {
     pub name: Name,
     pub directives: DirectiveList,
+}
+
+impl Drop for ScalarTypeExtension {
+    fn drop(self) {
+        let ScalarTypeExtension {
+            name: _,
+            directives: _,
+        } = self;
+    }
+}
+
+impl ScalarTypeExtension {
+    /// The definition with that description and these parts (section 3.5).
+    pub fn into_definition(self, description: Option<NodeStr>) -> ScalarTypeDefinition
+        ensures description { result.description ≡ description }
+        ensures parts { scalar_parts result ≡ scalar_extension_parts self }
+    {
+        let ScalarTypeExtension { name, directives } = self;
+        ScalarTypeDefinition {
+            description,
+            name,
+            directives,
+        }
+    }
 }
 
 impl Clone for ScalarTypeDefinition {

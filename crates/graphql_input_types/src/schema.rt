@@ -9,18 +9,55 @@ use graphql_values::{DirectiveList, NamedType, Node, NodeStr, OperationType};
 use std::alloc::AllocError;
 
 /// `schema @directives { root operation types }` (section 3.3).
-#[derive(PartialEq, Eq, Hash, Drop)]
+#[derive(PartialEq, Eq, Hash)]
 pub struct SchemaDefinition {
     pub description: Option<NodeStr>,
     pub directives: DirectiveList,
     pub root_operations: Vec<Node<(OperationType, NamedType)>>,
 }
 
+impl Drop for SchemaDefinition {
+    fn drop(self) {
+        let SchemaDefinition {
+            description: _,
+            directives: _,
+            root_operations: _,
+        } = self;
+    }
+}
+
 /// `extend schema @directives { root operation types }` (section 3.3.2).
-#[derive(PartialEq, Eq, Hash, Drop)]
+#[derive(PartialEq, Eq, Hash)]
 pub struct SchemaExtension {
     pub directives: DirectiveList,
     pub root_operations: Vec<Node<(OperationType, NamedType)>>,
+}
+
+impl Drop for SchemaExtension {
+    fn drop(self) {
+        let SchemaExtension {
+            directives: _,
+            root_operations: _,
+        } = self;
+    }
+}
+
+impl SchemaExtension {
+    /// The definition with that description and these parts (section 3.3).
+    pub fn into_definition(self, description: Option<NodeStr>) -> SchemaDefinition
+        ensures description { result.description ≡ description }
+        ensures parts { schema_parts result ≡ schema_extension_parts self }
+    {
+        let SchemaExtension {
+            directives,
+            root_operations,
+        } = self;
+        SchemaDefinition {
+            description,
+            directives,
+            root_operations,
+        }
+    }
 }
 
 impl Clone for SchemaDefinition {

@@ -85,7 +85,7 @@ impl From<OperationType> for DirectiveLocation {
 }
 
 /// `$name: ty = default_value @directives` (section 2.10).
-#[derive(PartialEq, Eq, Hash, Drop)]
+#[derive(PartialEq, Eq, Hash)]
 pub struct VariableDefinition {
     pub name: Name,
     pub ty: Node<Type>,
@@ -93,8 +93,19 @@ pub struct VariableDefinition {
     pub directives: DirectiveList,
 }
 
+impl Drop for VariableDefinition {
+    fn drop(self) {
+        let VariableDefinition {
+            name: _,
+            ty: _,
+            default_value: _,
+            directives: _,
+        } = self;
+    }
+}
+
 /// `query name(variables) @directives { selections }` (section 2.3).
-#[derive(PartialEq, Eq, Hash, Drop)]
+#[derive(PartialEq, Eq, Hash)]
 pub struct OperationDefinition {
     pub operation_type: OperationType,
     pub name: Option<Name>,
@@ -103,13 +114,36 @@ pub struct OperationDefinition {
     pub selection_set: Vec<Selection>,
 }
 
+impl Drop for OperationDefinition {
+    fn drop(self) {
+        let OperationDefinition {
+            operation_type: _,
+            name: _,
+            variables: _,
+            directives: _,
+            selection_set: _,
+        } = self;
+    }
+}
+
 /// `fragment name on type_condition @directives { selections }` (section 2.8).
-#[derive(PartialEq, Eq, Hash, Drop)]
+#[derive(PartialEq, Eq, Hash)]
 pub struct FragmentDefinition {
     pub name: Name,
     pub type_condition: NamedType,
     pub directives: DirectiveList,
     pub selection_set: Vec<Selection>,
+}
+
+impl Drop for FragmentDefinition {
+    fn drop(self) {
+        let FragmentDefinition {
+            name: _,
+            type_condition: _,
+            directives: _,
+            selection_set: _,
+        } = self;
+    }
 }
 
 impl Clone for VariableDefinition {

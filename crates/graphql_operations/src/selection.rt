@@ -12,16 +12,25 @@ use std::alloc::AllocError;
 
 /// What a selection set holds (section 2.4).
 #[cycle(selection)]
-#[derive(PartialEq, Eq, Hash, Drop)]
+#[derive(PartialEq, Eq, Hash)]
 pub enum Selection {
     Field(Node<Field>),
     FragmentSpread(Node<FragmentSpread>),
     InlineFragment(Node<InlineFragment>),
 }
 
+impl Drop for Selection {
+    #[cycle(drop_selection)]
+    fn drop(self) {
+        match self {
+            Selection::Field(_) | Selection::FragmentSpread(_) | Selection::InlineFragment(_) => {}
+        }
+    }
+}
+
 /// `alias: name(arguments) @directives { selections }` (section 2.5).
 #[cycle(selection)]
-#[derive(PartialEq, Eq, Hash, Drop)]
+#[derive(PartialEq, Eq, Hash)]
 pub struct Field {
     pub alias: Option<Name>,
     pub name: Name,
@@ -30,20 +39,53 @@ pub struct Field {
     pub selection_set: Vec<Selection>,
 }
 
+impl Drop for Field {
+    #[cycle(drop_selection)]
+    fn drop(self) {
+        let Field {
+            alias: _,
+            name: _,
+            arguments: _,
+            directives: _,
+            selection_set: _,
+        } = self;
+    }
+}
+
 /// `...fragment_name @directives` (section 2.8).
-#[derive(PartialEq, Eq, Hash, Drop)]
+#[derive(PartialEq, Eq, Hash)]
 pub struct FragmentSpread {
     pub fragment_name: Name,
     pub directives: DirectiveList,
 }
 
+impl Drop for FragmentSpread {
+    fn drop(self) {
+        let FragmentSpread {
+            fragment_name: _,
+            directives: _,
+        } = self;
+    }
+}
+
 /// `... on type_condition @directives { selections }` (section 2.8.2).
 #[cycle(selection)]
-#[derive(PartialEq, Eq, Hash, Drop)]
+#[derive(PartialEq, Eq, Hash)]
 pub struct InlineFragment {
     pub type_condition: Option<NamedType>,
     pub directives: DirectiveList,
     pub selection_set: Vec<Selection>,
+}
+
+impl Drop for InlineFragment {
+    #[cycle(drop_selection)]
+    fn drop(self) {
+        let InlineFragment {
+            type_condition: _,
+            directives: _,
+            selection_set: _,
+        } = self;
+    }
 }
 
 #[tactic(auto, using(crate::proofs::SelectionTrees::selection_tree_rules))]

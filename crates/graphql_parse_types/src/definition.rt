@@ -15,11 +15,6 @@ ghost use Rattle.graphql_parse_members.specs.in_parse_values.Meanings.{in_file};
 use crate::kind::Kind;
 use crate::schema::schema_definition;
 use crate::types::type_definition;
-use crate::with_description::{
-    enum_with_description, input_object_with_description, interface_with_description,
-    object_with_description, scalar_with_description, schema_with_description,
-    union_with_description,
-};
 use graphql_grammar::Stop;
 use graphql_lexer::{Source, Terminal};
 use graphql_names::{FileId, Node, NodeStr, SourceSpan};
@@ -62,21 +57,13 @@ fn defined(
     ensures { IfOk result (λ d. definition_tree d ≡ grammar.definition_of (Some place) (option_map text_tree description) (kind_tree kind)) }
 {
     match kind {
-        Kind::Schema(parts) => placed(alloc, place, schema_with_description(description, parts)),
-        Kind::Scalar(parts) => placed(alloc, place, scalar_with_description(description, parts)),
-        Kind::Object(parts) => placed(alloc, place, object_with_description(description, parts)),
-        Kind::Interface(parts) => placed(
-            alloc,
-            place,
-            interface_with_description(description, parts),
-        ),
-        Kind::Union(parts) => placed(alloc, place, union_with_description(description, parts)),
-        Kind::Enum(parts) => placed(alloc, place, enum_with_description(description, parts)),
-        Kind::InputObject(parts) => placed(
-            alloc,
-            place,
-            input_object_with_description(description, parts),
-        ),
+        Kind::Schema(parts) => placed(alloc, place, parts.into_definition(description)),
+        Kind::Scalar(parts) => placed(alloc, place, parts.into_definition(description)),
+        Kind::Object(parts) => placed(alloc, place, parts.into_definition(description)),
+        Kind::Interface(parts) => placed(alloc, place, parts.into_definition(description)),
+        Kind::Union(parts) => placed(alloc, place, parts.into_definition(description)),
+        Kind::Enum(parts) => placed(alloc, place, parts.into_definition(description)),
+        Kind::InputObject(parts) => placed(alloc, place, parts.into_definition(description)),
     }
 }
 

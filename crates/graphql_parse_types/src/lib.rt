@@ -13,7 +13,6 @@ mod input_types;
 mod kind;
 mod schema;
 mod types;
-mod with_description;
 
 pub use definition::type_system_definition;
 pub use extension::type_system_extension;

@@ -7,11 +7,21 @@ use graphql_values::{DirectiveList, Name, NodeStr};
 use std::alloc::AllocError;
 
 /// `value @directives` (section 3.9).
-#[derive(PartialEq, Eq, Hash, Drop)]
+#[derive(PartialEq, Eq, Hash)]
 pub struct EnumValueDefinition {
     pub description: Option<NodeStr>,
     pub value: Name,
     pub directives: DirectiveList,
+}
+
+impl Drop for EnumValueDefinition {
+    fn drop(self) {
+        let EnumValueDefinition {
+            description: _,
+            value: _,
+            directives: _,
+        } = self;
+    }
 }
 
 impl Clone for EnumValueDefinition {

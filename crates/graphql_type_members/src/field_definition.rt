@@ -12,13 +12,25 @@ use graphql_values::{DirectiveList, InputValueDefinition, Name, Node, NodeStr, T
 use std::alloc::AllocError;
 
 /// `name(arguments): ty @directives` (section 3.6).
-#[derive(PartialEq, Eq, Hash, Drop)]
+#[derive(PartialEq, Eq, Hash)]
 pub struct FieldDefinition {
     pub description: Option<NodeStr>,
     pub name: Name,
     pub arguments: Vec<Node<InputValueDefinition>>,
     pub ty: Type,
     pub directives: DirectiveList,
+}
+
+impl Drop for FieldDefinition {
+    fn drop(self) {
+        let FieldDefinition {
+            description: _,
+            name: _,
+            arguments: _,
+            ty: _,
+            directives: _,
+        } = self;
+    }
 }
 
 impl FieldDefinition {
