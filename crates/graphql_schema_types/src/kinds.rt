@@ -1,19 +1,32 @@
 //! The types of each kind. Equality ignores places, origins and the order of fields, values, members and interfaces.
+//!
+//! Each has a `drop` of its own, which is proved here once; a derived one would be proved again in each crate above that
+//! lets a schema go. So no field moves out of one of them: it is lent, shared or replaced.
 
 use graphql_ast::{EnumValueDefinition, FieldDefinition, InputValueDefinition, Name, NodeStr};
 use graphql_components::{Component, ComponentName, DirectiveList};
 use indexmap::{IndexMap, IndexSet};
 
 /// A scalar type (section 3.5).
-#[derive(PartialEq, Eq, Drop)]
+#[derive(PartialEq, Eq)]
 pub struct ScalarType {
     pub description: Option<NodeStr>,
     pub name: Name,
     pub directives: DirectiveList,
 }
 
+impl Drop for ScalarType {
+    fn drop(self) {
+        let ScalarType {
+            description: _,
+            name: _,
+            directives: _,
+        } = self;
+    }
+}
+
 /// An object type (section 3.6).
-#[derive(PartialEq, Eq, Drop)]
+#[derive(PartialEq, Eq)]
 pub struct ObjectType {
     pub description: Option<NodeStr>,
     pub name: Name,
@@ -22,8 +35,20 @@ pub struct ObjectType {
     pub fields: IndexMap<Name, Component<FieldDefinition>>,
 }
 
+impl Drop for ObjectType {
+    fn drop(self) {
+        let ObjectType {
+            description: _,
+            name: _,
+            implements_interfaces: _,
+            directives: _,
+            fields: _,
+        } = self;
+    }
+}
+
 /// An interface type (section 3.7).
-#[derive(PartialEq, Eq, Drop)]
+#[derive(PartialEq, Eq)]
 pub struct InterfaceType {
     pub description: Option<NodeStr>,
     pub name: Name,
@@ -32,8 +57,20 @@ pub struct InterfaceType {
     pub fields: IndexMap<Name, Component<FieldDefinition>>,
 }
 
+impl Drop for InterfaceType {
+    fn drop(self) {
+        let InterfaceType {
+            description: _,
+            name: _,
+            implements_interfaces: _,
+            directives: _,
+            fields: _,
+        } = self;
+    }
+}
+
 /// A union type (section 3.8).
-#[derive(PartialEq, Eq, Drop)]
+#[derive(PartialEq, Eq)]
 pub struct UnionType {
     pub description: Option<NodeStr>,
     pub name: Name,
@@ -41,8 +78,19 @@ pub struct UnionType {
     pub members: IndexSet<ComponentName>,
 }
 
+impl Drop for UnionType {
+    fn drop(self) {
+        let UnionType {
+            description: _,
+            name: _,
+            directives: _,
+            members: _,
+        } = self;
+    }
+}
+
 /// An enum type (section 3.9).
-#[derive(PartialEq, Eq, Drop)]
+#[derive(PartialEq, Eq)]
 pub struct EnumType {
     pub description: Option<NodeStr>,
     pub name: Name,
@@ -50,11 +98,33 @@ pub struct EnumType {
     pub values: IndexMap<Name, Component<EnumValueDefinition>>,
 }
 
+impl Drop for EnumType {
+    fn drop(self) {
+        let EnumType {
+            description: _,
+            name: _,
+            directives: _,
+            values: _,
+        } = self;
+    }
+}
+
 /// An input object type (section 3.10).
-#[derive(PartialEq, Eq, Drop)]
+#[derive(PartialEq, Eq)]
 pub struct InputObjectType {
     pub description: Option<NodeStr>,
     pub name: Name,
     pub directives: DirectiveList,
     pub fields: IndexMap<Name, Component<InputValueDefinition>>,
+}
+
+impl Drop for InputObjectType {
+    fn drop(self) {
+        let InputObjectType {
+            description: _,
+            name: _,
+            directives: _,
+            fields: _,
+        } = self;
+    }
 }

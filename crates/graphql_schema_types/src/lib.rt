@@ -15,6 +15,7 @@ pub mod laws;
 mod origins;
 mod roots;
 mod schema_definition;
+mod shared;
 mod type_kind;
 mod type_origins;
 
@@ -23,6 +24,7 @@ pub use kinds::{EnumType, InputObjectType, InterfaceType, ObjectType, ScalarType
 pub use origins::Origins;
 pub use roots::RootOperations;
 pub use schema_definition::SchemaDefinition;
+pub use shared::{node_at, shared_description};
 pub use type_kind::TypeKind;
 
 // The crates beneath, for those above.

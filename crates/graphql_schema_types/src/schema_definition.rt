@@ -12,13 +12,26 @@ use indexmap::IndexSet;
 use std::alloc::{AllocError, Global};
 
 /// The description, directives and roots of a schema (section 3.3). Equality ignores places and origins.
-#[derive(PartialEq, Eq, Drop)]
+#[derive(PartialEq, Eq)]
 pub struct SchemaDefinition {
     pub description: Option<NodeStr>,
     pub directives: DirectiveList,
     pub query: Option<ComponentName>,
     pub mutation: Option<ComponentName>,
     pub subscription: Option<ComponentName>,
+}
+
+/// As for the types of each kind: proved here once, and not again in each crate above.
+impl Drop for SchemaDefinition {
+    fn drop(self) {
+        let SchemaDefinition {
+            description: _,
+            directives: _,
+            query: _,
+            mutation: _,
+            subscription: _,
+        } = self;
+    }
 }
 
 impl SchemaDefinition {
