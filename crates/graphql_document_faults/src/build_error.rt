@@ -5,7 +5,6 @@ use graphql_coords::{FieldArgumentCoordinate, TypeAttributeCoordinate};
 
 /// What breaks a rule of typing documents, of merging, of subscriptions or of `@defer`, with the data that belong to it
 /// (section 5). Fields that end in `location` are places, None where there is none.
-#[derive(Drop)]
 pub enum BuildError {
     /// A definition of the type system in a document (section 5.1.1).
     TypeSystemDefinition,
@@ -79,8 +78,40 @@ pub enum BuildError {
     DeferInSubscriptionMustBeConditional,
 }
 
+impl Drop for BuildError {
+    fn drop(self) {
+        match self {
+            BuildError::TypeSystemDefinition
+            | BuildError::AmbiguousAnonymousOperation
+            | BuildError::OperationNameCollision { name: _ }
+            | BuildError::FragmentNameCollision { name: _ }
+            | BuildError::UndefinedRootOperation { operation_type: _ }
+            | BuildError::UndefinedTypeInNamedFragmentTypeCondition { type_name: _ }
+            | BuildError::UndefinedTypeInInlineFragmentTypeCondition { type_name: _ }
+            | BuildError::SubselectionOnScalarType { type_name: _ }
+            | BuildError::SubselectionOnEnumType { type_name: _ }
+            | BuildError::UndefinedField {
+                type_name: _,
+                field_name: _,
+            }
+            | BuildError::ConflictingFieldName(_)
+            | BuildError::ConflictingFieldArgument(_)
+            | BuildError::ConflictingFieldType(_)
+            | BuildError::SubscriptionUsesMultipleFields { name: _, fields: _ }
+            | BuildError::SubscriptionUsesIntrospection { name: _, field: _ }
+            | BuildError::SubscriptionUsesConditionalSelection { name: _ }
+            | BuildError::DeferLabelMustNotBeVariable
+            | BuildError::DuplicateDeferLabel {
+                label: _,
+                original_location: _,
+            }
+            | BuildError::DeferOnRootMutationOrSubscriptionField { operation_type: _ }
+            | BuildError::DeferInSubscriptionMustBeConditional => {}
+        }
+    }
+}
+
 /// Two fields of one response key that are different fields.
-#[derive(Drop)]
 pub struct ConflictingFieldName {
     /// The response key.
     pub alias: Name,
@@ -90,8 +121,19 @@ pub struct ConflictingFieldName {
     pub conflicting_selection: TypeAttributeCoordinate,
 }
 
+impl Drop for ConflictingFieldName {
+    fn drop(self) {
+        let ConflictingFieldName {
+            alias: _,
+            original_location: _,
+            original_selection: _,
+            conflicting_location: _,
+            conflicting_selection: _,
+        } = self;
+    }
+}
+
 /// Two fields of one response key that give an argument different values, or of which one does not give it.
-#[derive(Drop)]
 pub struct ConflictingFieldArgument {
     /// The response key.
     pub alias: Name,
@@ -103,8 +145,21 @@ pub struct ConflictingFieldArgument {
     pub conflicting_value: Option<Value>,
 }
 
+impl Drop for ConflictingFieldArgument {
+    fn drop(self) {
+        let ConflictingFieldArgument {
+            alias: _,
+            original_location: _,
+            original_coordinate: _,
+            original_value: _,
+            conflicting_location: _,
+            conflicting_coordinate: _,
+            conflicting_value: _,
+        } = self;
+    }
+}
+
 /// Two fields of one response key whose types have different shapes.
-#[derive(Drop)]
 pub struct ConflictingFieldType {
     /// The response key.
     pub alias: Name,
@@ -114,4 +169,18 @@ pub struct ConflictingFieldType {
     pub conflicting_location: Option<SourceSpan>,
     pub conflicting_coordinate: TypeAttributeCoordinate,
     pub conflicting_type: Type,
+}
+
+impl Drop for ConflictingFieldType {
+    fn drop(self) {
+        let ConflictingFieldType {
+            alias: _,
+            original_location: _,
+            original_coordinate: _,
+            original_type: _,
+            conflicting_location: _,
+            conflicting_coordinate: _,
+            conflicting_type: _,
+        } = self;
+    }
 }

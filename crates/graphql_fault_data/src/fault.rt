@@ -7,10 +7,18 @@ use graphql_names::SourceSpan;
 use std::alloc::AllocError;
 
 /// What breaks a rule, and where: None where there is no place.
-#[derive(Drop)]
 pub struct Fault {
     pub location: Option<SourceSpan>,
     pub data: DiagnosticData,
+}
+
+impl Drop for Fault {
+    fn drop(self) {
+        let Fault {
+            location: _,
+            data: _,
+        } = self;
+    }
 }
 
 /// Adds the fault at the end, if there is one. After a refusal the list is as it was.

@@ -6,7 +6,6 @@ use graphql_schema_types::graphql_ast::{Name, OperationType, SourceSpan};
 use std::alloc::AllocError;
 
 /// What breaks a folding rule, with the names that its message tells (section 3).
-#[derive(Drop)]
 pub enum BuildError {
     /// An operation or a fragment in a schema text.
     ExecutableDefinition,
@@ -40,6 +39,50 @@ pub enum BuildError {
     UnionMemberNameCollision { type_name: Name, name: Name },
     /// A second field of that name in an input object.
     InputFieldNameCollision { type_name: Name, name: Name },
+}
+
+impl Drop for BuildError {
+    fn drop(self) {
+        match self {
+            BuildError::ExecutableDefinition
+            | BuildError::SchemaDefinitionCollision
+            | BuildError::DirectiveDefinitionCollision { name: _ }
+            | BuildError::TypeDefinitionCollision { name: _ }
+            | BuildError::BuiltInScalarTypeRedefinition { name: _ }
+            | BuildError::OrphanSchemaExtension
+            | BuildError::OrphanTypeExtension { name: _ }
+            | BuildError::TypeExtensionKindMismatch { name: _ }
+            | BuildError::DuplicateRootOperation { operation_type: _ }
+            | BuildError::DuplicateImplementsInterfaceInObject {
+                type_name: _,
+                name: _,
+            }
+            | BuildError::DuplicateImplementsInterfaceInInterface {
+                type_name: _,
+                name: _,
+            }
+            | BuildError::ObjectFieldNameCollision {
+                type_name: _,
+                name: _,
+            }
+            | BuildError::InterfaceFieldNameCollision {
+                type_name: _,
+                name: _,
+            }
+            | BuildError::EnumValueNameCollision {
+                type_name: _,
+                name: _,
+            }
+            | BuildError::UnionMemberNameCollision {
+                type_name: _,
+                name: _,
+            }
+            | BuildError::InputFieldNameCollision {
+                type_name: _,
+                name: _,
+            } => {}
+        }
+    }
 }
 
 /// The rules that a second component of one name breaks.

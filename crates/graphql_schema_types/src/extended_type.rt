@@ -6,7 +6,7 @@ use crate::kinds::{EnumType, InputObjectType, InterfaceType, ObjectType, ScalarT
 use graphql_ast::Node;
 
 /// A type of any kind, with all that its definition and extensions gave (section 3.4).
-#[derive(PartialEq, Eq, Drop)]
+#[derive(PartialEq, Eq)]
 pub enum ExtendedType {
     Scalar(Node<ScalarType>),
     Object(Node<ObjectType>),
@@ -14,6 +14,19 @@ pub enum ExtendedType {
     Union(Node<UnionType>),
     Enum(Node<EnumType>),
     InputObject(Node<InputObjectType>),
+}
+
+impl Drop for ExtendedType {
+    fn drop(self) {
+        match self {
+            ExtendedType::Scalar(_)
+            | ExtendedType::Object(_)
+            | ExtendedType::Interface(_)
+            | ExtendedType::Union(_)
+            | ExtendedType::Enum(_)
+            | ExtendedType::InputObject(_) => {}
+        }
+    }
 }
 
 impl From<Node<ScalarType>> for ExtendedType {

@@ -13,7 +13,7 @@ use graphql_typed_selections::graphql_ast::{
 use std::alloc::AllocError;
 
 /// An operation (section 2.3), its selection set on the root type of its kind.
-#[derive(PartialEq, Eq, Hash, Drop)]
+#[derive(PartialEq, Eq, Hash)]
 pub struct Operation {
     pub operation_type: OperationType,
     pub name: Option<Name>,
@@ -22,12 +22,34 @@ pub struct Operation {
     pub selection_set: SelectionSet,
 }
 
+impl Drop for Operation {
+    fn drop(self) {
+        let Operation {
+            operation_type: _,
+            name: _,
+            variables: _,
+            directives: _,
+            selection_set: _,
+        } = self;
+    }
+}
+
 /// A fragment (section 2.8), its selection set on the type of its condition.
-#[derive(PartialEq, Eq, Hash, Drop)]
+#[derive(PartialEq, Eq, Hash)]
 pub struct Fragment {
     pub name: Name,
     pub directives: DirectiveList,
     pub selection_set: SelectionSet,
+}
+
+impl Drop for Fragment {
+    fn drop(self) {
+        let Fragment {
+            name: _,
+            directives: _,
+            selection_set: _,
+        } = self;
+    }
 }
 
 impl Operation {

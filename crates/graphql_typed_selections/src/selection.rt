@@ -9,17 +9,26 @@ use graphql_ast::{Argument, DirectiveList, FieldDefinition, Name, NamedType, Nod
 
 /// What a selection set holds (section 2.4).
 #[cycle(selection)]
-#[derive(PartialEq, Eq, Hash, Drop)]
+#[derive(PartialEq, Eq, Hash)]
 pub enum Selection {
     Field(Node<Field>),
     FragmentSpread(Node<FragmentSpread>),
     InlineFragment(Node<InlineFragment>),
 }
 
+impl Drop for Selection {
+    #[cycle(drop_selection)]
+    fn drop(self) {
+        match self {
+            Selection::Field(_) | Selection::FragmentSpread(_) | Selection::InlineFragment(_) => {}
+        }
+    }
+}
+
 /// `alias: name(arguments) @directives { selections }` (section 2.5), with the definition of the field by that name of
 /// the type that it is selected on (section 5.3.1).
 #[cycle(selection)]
-#[derive(PartialEq, Eq, Hash, Drop)]
+#[derive(PartialEq, Eq, Hash)]
 pub struct Field {
     pub definition: Node<FieldDefinition>,
     pub alias: Option<Name>,
@@ -29,28 +38,72 @@ pub struct Field {
     pub selection_set: SelectionSet,
 }
 
+impl Drop for Field {
+    #[cycle(drop_selection)]
+    fn drop(self) {
+        let Field {
+            definition: _,
+            alias: _,
+            name: _,
+            arguments: _,
+            directives: _,
+            selection_set: _,
+        } = self;
+    }
+}
+
 /// `...fragment_name @directives` (section 2.8).
-#[derive(PartialEq, Eq, Hash, Drop)]
+#[derive(PartialEq, Eq, Hash)]
 pub struct FragmentSpread {
     pub fragment_name: Name,
     pub directives: DirectiveList,
 }
 
+impl Drop for FragmentSpread {
+    fn drop(self) {
+        let FragmentSpread {
+            fragment_name: _,
+            directives: _,
+        } = self;
+    }
+}
+
 /// `... on type_condition @directives { selections }` (section 2.8.2).
 #[cycle(selection)]
-#[derive(PartialEq, Eq, Hash, Drop)]
+#[derive(PartialEq, Eq, Hash)]
 pub struct InlineFragment {
     pub type_condition: Option<NamedType>,
     pub directives: DirectiveList,
     pub selection_set: SelectionSet,
 }
 
+impl Drop for InlineFragment {
+    #[cycle(drop_selection)]
+    fn drop(self) {
+        let InlineFragment {
+            type_condition: _,
+            directives: _,
+            selection_set: _,
+        } = self;
+    }
+}
+
 /// Selections on the type of this name, in order (section 2.4).
 #[cycle(selection)]
-#[derive(PartialEq, Eq, Hash, Drop)]
+#[derive(PartialEq, Eq, Hash)]
 pub struct SelectionSet {
     pub ty: NamedType,
     pub selections: Vec<Selection>,
+}
+
+impl Drop for SelectionSet {
+    #[cycle(drop_selection)]
+    fn drop(self) {
+        let SelectionSet {
+            ty: _,
+            selections: _,
+        } = self;
+    }
 }
 
 #[tactic(auto, using(crate::proofs::TypedTrees::typed_tree_rules))]
