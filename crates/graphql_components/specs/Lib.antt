@@ -3,3 +3,4 @@ pub mod Names
 pub mod Given
 pub mod Applied
 pub mod LeftNamed
+pub mod Coordinate

@@ -7,7 +7,7 @@ use Rattle.std.specs.Cmp.{first_so, second_so}
 use Rattle.std.proofs.lemmas.Option.{same_Some}
 use Rattle.std.proofs.lemmas.Slice.Eq.{bytes_eq-Decides}
 use Rattle.std.proofs.lemmas.Bool.{ne_eqb}
-use Rattle.graphql_coords.specs.Coordinate.{Coordinate, OfType, OfAttribute, OfArgument, OfDirective, OfDirectiveArgument, printed, parts, is_sign, has_no_sign, is_signless, HasForm}
+use Rattle.graphql_components.specs.Coordinate.{Coordinate, OfType, OfAttribute, OfArgument, OfDirective, OfDirectiveArgument, printed, parts, is_sign, has_no_sign, is_signless, HasForm}
 use Rattle.graphql_coords.specs.CoordinateView.{any_form}
 use Rattle.graphql_coords.specs.Reading.{cut_at, argument_cut, type_cut, directive_cut, all_cut, read, of_form}
 use Rattle.graphql_coords.specs.ParseErrors.{ParseErrorIsDue, PartsErrorIsDue}

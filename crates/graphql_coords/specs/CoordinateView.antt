@@ -1,6 +1,6 @@
 -- What contracts see of coordinates.
 use Rattle.std.specs.Prelude.{Bool, true, false}
-use Rattle.graphql_coords.specs.Coordinate.{Coordinate, OfType, OfAttribute, OfArgument, OfDirective, OfDirectiveArgument}
+use Rattle.graphql_components.specs.Coordinate.{Coordinate, OfType, OfAttribute, OfArgument, OfDirective, OfDirectiveArgument}
 use Rattle.graphql_coords.specs.declared.coordinate.TypeCoordinate.{TypeCoordinate}
 use Rattle.graphql_coords.specs.declared.coordinate.TypeAttributeCoordinate.{TypeAttributeCoordinate}
 use Rattle.graphql_coords.specs.declared.coordinate.FieldArgumentCoordinate.{FieldArgumentCoordinate}

@@ -2,7 +2,7 @@
 use Rattle.std.specs.Prelude.{◌≡◌, ℕ, Bool, true, false, List}
 use Rattle.std.specs.List.{list_all}
 use Rattle.graphql_names.specs.NameSyntax.{is_name}
-use Rattle.graphql_coords.specs.Coordinate.{Coordinate, HasForm, is_named}
+use Rattle.graphql_components.specs.Coordinate.{Coordinate, HasForm, is_named}
 use Rattle.graphql_coords.specs.declared.parse_error.SchemaCoordinateParseError.{SchemaCoordinateParseError}
 use Rattle.graphql_coords.specs.declared.parse_error.SchemaCoordinateParseError.TheVariants.{InvalidFormat, InvalidName, Memory}
 

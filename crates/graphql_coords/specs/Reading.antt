@@ -1,7 +1,7 @@
 -- How a coordinate is read: private to this crate. A text is cut at the first of each sign in turn.
 use Rattle.std.specs.Prelude.{ℕ, Bool, List, [], ◌∷◌, Option, None, Some, codes, ◌==◌, if◌then◌else◌, bytes_eq}
 use Rattle.std.specs.Option.{option_map, option_and_then}
-use Rattle.graphql_coords.specs.Coordinate.{Coordinate, OfType, OfAttribute, OfArgument, OfDirective, OfDirectiveArgument, is_signless}
+use Rattle.graphql_components.specs.Coordinate.{Coordinate, OfType, OfAttribute, OfArgument, OfDirective, OfDirectiveArgument, is_signless}
 use Rattle.graphql_coords.specs.declared.parts.Parts.{Parts}
 use Rattle.graphql_coords.specs.declared.parts.Parts.TheVariants as rust
 

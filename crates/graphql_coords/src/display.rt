@@ -1,6 +1,6 @@
 //! How coordinates are printed.
 ghost use Rattle.std.specs.Prelude.{Some};
-ghost use Rattle.graphql_coords.specs.Coordinate.{printed};
+ghost use Rattle.graphql_components.specs.Coordinate.{printed};
 ghost use Rattle.graphql_coords.specs.CoordinateView.{type_coordinate, attribute_coordinate, argument_coordinate, directive_coordinate, directive_argument_coordinate, schema_coordinate};
 
 use crate::coordinate::{

@@ -1,7 +1,7 @@
 //! Coordinates read from texts.
 ghost use Rattle.std.specs.Prelude.{◌≡◌, [], ◌∷◌, IfOk, IfErr, OnOk, is_ok};
 ghost use Rattle.graphql_names.specs.NameSyntax.{is_name, IsName};
-ghost use Rattle.graphql_coords.specs.Coordinate.{OfType, OfAttribute, OfArgument, OfDirective, OfDirectiveArgument, printed, parts as texts};
+ghost use Rattle.graphql_components.specs.Coordinate.{OfType, OfAttribute, OfArgument, OfDirective, OfDirectiveArgument, printed, parts as texts};
 ghost use Rattle.graphql_coords.specs.Reading.{parts_view};
 ghost use Rattle.graphql_coords.specs.CoordinateView.{type_coordinate, attribute_coordinate, argument_coordinate, directive_coordinate, directive_argument_coordinate, schema_coordinate, any_form, type_form, attribute_form, argument_form, directive_form, directive_argument_form};
 ghost use Rattle.graphql_coords.specs.ParseErrors.{ParseErrorIsDue, PartsErrorIsDue};

@@ -1,7 +1,7 @@
 //! The parts of a text that is written in the form of a coordinate.
 ghost use Rattle.std.specs.Prelude.{◌≡◌, ◌<◌};
 ghost use Rattle.std.specs.Option.{option_map, option_and_then};
-ghost use Rattle.graphql_coords.specs.Coordinate.{OfType, OfAttribute, OfArgument, OfDirective, OfDirectiveArgument, is_sign, has_no_sign, is_signless};
+ghost use Rattle.graphql_components.specs.Coordinate.{OfType, OfAttribute, OfArgument, OfDirective, OfDirectiveArgument, is_sign, has_no_sign, is_signless};
 ghost use Rattle.graphql_coords.specs.CoordinateView.{type_form, attribute_form, argument_form, directive_form, directive_argument_form};
 ghost use Rattle.graphql_coords.specs.Reading.{parts_view, cut_at, argument_cut, directive_cut, type_cut, all_cut, read, of_form};
 

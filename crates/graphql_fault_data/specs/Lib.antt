@@ -3,3 +3,4 @@ pub mod FaultView
 pub mod Messages
 pub mod FilledTemplate
 pub use Rattle.graphql_rule_definitions.specs as in_rule_definitions
+pub use Rattle.graphql_coords.specs as in_coords

@@ -4,7 +4,7 @@ use graphql_ast::{
     Directive, DirectiveLocation, InputValueDefinition, Name, Node, OperationType, SourceSpan,
     Type, Value,
 };
-use graphql_rule_definitions::graphql_coords::{SchemaCoordinate, TypeAttributeCoordinate};
+use graphql_coords::{SchemaCoordinate, TypeAttributeCoordinate};
 use graphql_typed_selections::FragmentSpread;
 
 /// What breaks a rule of schemas, of uses of directives and arguments, of values, or of documents (sections 3 and 5).

@@ -17,6 +17,6 @@ pub use fault::{Fault, tell};
 
 // The crates beneath, for those above.
 pub use graphql_ast;
+pub use graphql_coords;
 pub use graphql_rule_definitions;
-pub use graphql_rule_definitions::graphql_coords;
 pub use graphql_typed_selections;

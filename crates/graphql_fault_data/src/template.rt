@@ -3,7 +3,7 @@ ghost use Rattle.std.specs.Prelude.{Some};
 ghost use Rattle.graphql_fault_data.specs.FilledTemplate.{filled, gap_text};
 
 use graphql_ast::{DirectiveLocation, Name, Node, Type, Value};
-use graphql_rule_definitions::graphql_coords::{SchemaCoordinate, TypeAttributeCoordinate};
+use graphql_coords::{SchemaCoordinate, TypeAttributeCoordinate};
 use std::fmt;
 
 /// What fills a gap of a text.

@@ -7,7 +7,7 @@ use Rattle.graphql_literals.specs.ValueTree.{ValueTree}
 use Rattle.graphql_directives.specs.DirectiveTree.{DirectiveTree, Directives, InputValueTree}
 use Rattle.graphql_directives.specs.declared.directive_location.DirectiveLocation.{DirectiveLocation}
 use Rattle.graphql_operations.specs.declared.operation.OperationType.{OperationType}
-use Rattle.graphql_coords.specs.Coordinate.{Coordinate}
+use Rattle.graphql_components.specs.Coordinate.{Coordinate}
 
 -- a reference to a type, without places
 abbrev pub PlainType : Type 0

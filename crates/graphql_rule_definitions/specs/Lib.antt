@@ -14,4 +14,4 @@ pub mod Uses
 pub mod Rules
 pub mod Kept
 pub mod Laws
-pub use Rattle.graphql_coords.specs as in_coords
+pub use Rattle.graphql_components.specs as in_components

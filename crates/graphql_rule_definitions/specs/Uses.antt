@@ -8,7 +8,7 @@ use Rattle.graphql_directives.specs.DirectiveTree.{ArgumentTree, Arguments, Dire
 use Rattle.graphql_directives.specs.DirectiveQueries.{is_required_input, given_value}
 use Rattle.graphql_directives.specs.declared.directive_location.DirectiveLocation.{DirectiveLocation}
 use Rattle.graphql_operations.specs.OperationTree.{VariableDefinitionTree}
-use Rattle.graphql_coords.specs.Coordinate.{Coordinate, OfDirective, OfDirectiveArgument}
+use Rattle.graphql_components.specs.Coordinate.{Coordinate, OfDirective, OfDirectiveArgument}
 use Rattle.graphql_schema_types.specs.Addresses.{Address, DirectiveDefinitionAt, ArgumentAt, TypeReferenceAt}
 use Rattle.graphql_rule_definitions.specs.Diagnostics.{UndefinedDirective, UniqueDirective, UnsupportedLocation, UniqueArgument, UndefinedArgument, RequiredArgument, DisallowedVariableUsage}
 use Rattle.graphql_rule_definitions.specs.Words.{Present, AtSomeIndex, Lacks, IsFirst, FirstNamed, Repeats}

@@ -12,7 +12,7 @@ use Rattle.graphql_literals.specs.ValueQueries.{is_null_value, enum_name, intege
 use Rattle.graphql_directives.specs.DirectiveTree.{InputValueTree}
 use Rattle.graphql_directives.specs.DirectiveQueries.{is_required_input}
 use Rattle.graphql_operations.specs.OperationTree.{VariableDefinitionTree}
-use Rattle.graphql_coords.specs.Coordinate.{OfAttribute}
+use Rattle.graphql_components.specs.Coordinate.{OfAttribute}
 use Rattle.graphql_schema_types.specs.Looks.{TypeLooks}
 use Rattle.graphql_schema_types.specs.Addresses.{Address, TypeAt, InputAt, TypeReferenceAt}
 use Rattle.graphql_schema_types.specs.declared.type_kind.TypeKind.TheVariants as kind

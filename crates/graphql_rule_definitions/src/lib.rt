@@ -5,6 +5,3 @@
 #![tactic(auto)]
 
 pub mod laws;
-
-// The crates beneath, for those above.
-pub use graphql_coords;

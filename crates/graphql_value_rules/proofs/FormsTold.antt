@@ -22,7 +22,7 @@ use Rattle.graphql_schema.specs.in_schema_types.Plain.{plain_type}
 use Rattle.graphql_schema.specs.in_schema_types.Looks.{TypeLooks, type_looks}
 use Rattle.graphql_schema.specs.in_schema_types.Addresses.{Address, under, type_at, place_at, TypeAt, InputAt}
 use Rattle.graphql_schema.specs.in_schema_types.declared.type_kind.TypeKind.TheVariants as kind
-use Rattle.graphql_rule_definitions.specs.in_coords.Coordinate.{OfAttribute}
+use Rattle.graphql_components.specs.Coordinate.{OfAttribute}
 use Rattle.graphql_rule_definitions.specs.Diagnostics.{UnsupportedValueType, IntCoercionError, UndefinedEnumValue, UndefinedInputValue, RequiredField}
 use Rattle.graphql_rule_definitions.specs.Words.{Present, Somewhere, AtSomeIndex}
 use Rattle.graphql_rule_definitions.specs.Spots.{entry_list}

@@ -1,7 +1,7 @@
 use Rattle.std.proofs.Common.{refl, sym, ap, ◌∙◌}
 use Rattle.std.specs.Option.{option_map}
 use Rattle.std.proofs.lemmas.Result.{IfOk-weaker, IfErr-weaker}
-use Rattle.graphql_coords.specs.Coordinate.{printed}
+use Rattle.graphql_components.specs.Coordinate.{printed}
 use Rattle.graphql_coords.specs.CoordinateView.{any_form}
 use Rattle.graphql_coords.specs.Reading.{parts_view}
 use Rattle.graphql_coords.proofs.CoordinateReads.{read_sound, unread, parts_error}

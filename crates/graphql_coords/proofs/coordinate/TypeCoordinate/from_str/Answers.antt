@@ -1,7 +1,7 @@
 use Rattle.std.proofs.Common.{ℕ, List, Bor, sym, ap, ◌∙◌}
 use Rattle.std.specs.Option.{option_map}
 use Rattle.std.proofs.lemmas.Result.{IfOk-weaker, IfErr-weaker}
-use Rattle.graphql_coords.specs.Coordinate.{OfType, printed}
+use Rattle.graphql_components.specs.Coordinate.{OfType, printed}
 use Rattle.graphql_coords.specs.CoordinateView.{type_form}
 use Rattle.graphql_coords.proofs.CoordinateReads.{found, missing, parts_error}
 use Rattle.graphql_coords.proofs.coordinate.TypeCoordinate.from_str.Goals as goal
