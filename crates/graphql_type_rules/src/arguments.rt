@@ -1,10 +1,10 @@
 //! Rules on argument definitions and input fields (sections 3.6, 3.10 and 3.13).
-ghost use Rattle.std.specs.Prelude.{◌≡◌, ◌++◌, [], ◌∷◌, map, IfOk, OnOk, option_to_list, flat_map};
+ghost use Rattle.std.specs.Prelude.{◌≡◌, ◌++◌, [], ◌∷◌, map, OnOk, flat_map};
 ghost use Rattle.graphql_names.specs.Placed.{node_tree};
 ghost use Rattle.graphql_directives.specs.DirectiveTree.{input_value_tree};
 ghost use Rattle.graphql_components.specs.Lists.{each_place};
 ghost use Rattle.graphql_schema.specs.SchemaOf.{schema_tree};
-ghost use Rattle.graphql_fault_data.specs.FaultView.{fault_of, faults_of};
+ghost use Rattle.graphql_fault_data.specs.FaultView.{faults_of};
 ghost use Rattle.graphql_type_rules.specs.FaultLists.{unique_input_value, input_value_faults, argument_faults, arguments_faults};
 ghost use Rattle.graphql_type_rules.specs.NamedWords.{named_words};
 ghost use Rattle.graphql_type_rules.specs.Seen.{AreSeen};
@@ -70,17 +70,15 @@ pub(crate) fn check_input_value(
     let content = input.content();
     let ty = content.ty.content();
     let kind = kind_inside(schema, ty);
-    tell(
+    reserved_name(
+        input.is_built_in(),
+        name,
+        content.name.location(),
+        named.describe(),
         faults,
-        reserved_name(
-            input.is_built_in(),
-            name,
-            content.name.location(),
-            named.describe(),
-        )?,
     )?;
-    tell(faults, undefined_type(ty, kind)?)?;
-    tell(faults, input_type(input, kind)?)
+    undefined_type(ty, kind, faults)?;
+    input_type(input, kind, faults)
 }
 
 /// Tells each argument definition of which an earlier one has the name.
@@ -93,7 +91,7 @@ fn check_repeats(
 {
     let mut seen = IndexMap::new(alloc);
     for argument in arguments {
-        tell(faults, unique_input_value(&seen, argument)?)?;
+        unique_input_value(&seen, argument, faults)?;
         see(&mut seen, argument)?;
     }
     Ok(())
@@ -103,22 +101,26 @@ fn check_repeats(
 fn unique_input_value(
     seen: &IndexMap<Name, Option<SourceSpan>>,
     argument: &Node<InputValueDefinition>,
-) -> Result<Option<Fault>, AllocError>
-    ensures { (before : _) → AreSeen seen.now before → IfOk result (λ r. map fault_of (option_to_list r) ≡ unique_input_value before (node_tree input_value_tree argument.now)) }
+    faults: &mut Vec<Fault>,
+) -> Result<(), AllocError>
+    ensures { (before : _) → AreSeen seen.now before → OnOk result (faults_of faults.new ≡ faults_of faults.old ++ unique_input_value before (node_tree input_value_tree argument.now)) }
 {
     let name = &argument.content().name;
     match seen.get(name) {
-        None => Ok(None),
+        None => Ok(()),
         Some(first) => {
             let first = *first;
-            Ok(Some(Fault {
-                location: first,
-                data: DiagnosticData::UniqueInputValue {
-                    name: name.clone()?,
-                    original_definition: first,
-                    redefined_definition: argument.location(),
-                },
-            }))
+            tell(
+                faults,
+                Some(Fault {
+                    location: first,
+                    data: DiagnosticData::UniqueInputValue {
+                        name: name.clone()?,
+                        original_definition: first,
+                        redefined_definition: argument.location(),
+                    },
+                }),
+            )
         }
     }
 }

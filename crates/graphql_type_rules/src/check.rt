@@ -13,7 +13,7 @@ use crate::distinct::names_differ;
 use crate::members::{check_fields, check_input_fields, check_members, check_values};
 use crate::reserved::{Named, reserved_name};
 use crate::roots::check_roots;
-use graphql_fault_data::{Fault, tell};
+use graphql_fault_data::Fault;
 use graphql_schema::graphql_ast::{DirectiveDefinition, Name, Node};
 use graphql_schema::{ExtendedType, Schema};
 use std::alloc::{AllocError, Global};
@@ -65,10 +65,7 @@ fn check_type(
     ensures { OnOk result (faults_of faults.new ≡ faults_of faults.old ++ type_faults (schema_tree schema.now) name.now.text ty.now) }
 {
     let location = ty.name().location();
-    tell(
-        faults,
-        reserved_name(ty.is_built_in(), name, location, ty.describe())?,
-    )?;
+    reserved_name(ty.is_built_in(), name, location, ty.describe(), faults)?;
     check_parts(alloc, schema, name, ty, faults)
 }
 
@@ -125,14 +122,12 @@ fn check_directive(
     ensures { OnOk result (faults_of faults.new ≡ faults_of faults.old ++ directive_faults (schema_tree schema.now) name.now.text (node_tree directive_definition_tree directive.now)) }
 {
     let content = directive.content();
-    tell(
+    reserved_name(
+        directive.is_built_in(),
+        name,
+        content.name.location(),
+        Named::Directive.describe(),
         faults,
-        reserved_name(
-            directive.is_built_in(),
-            name,
-            content.name.location(),
-            Named::Directive.describe(),
-        )?,
     )?;
     check_arguments(alloc, schema, &content.arguments, faults)
 }

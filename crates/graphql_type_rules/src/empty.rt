@@ -1,12 +1,12 @@
 //! A type must have something (sections 3.6 to 3.10).
-ghost use Rattle.std.specs.Prelude.{◌≡◌, map, IfOk, option_to_list};
-ghost use Rattle.graphql_fault_data.specs.FaultView.{fault_of};
+ghost use Rattle.std.specs.Prelude.{◌≡◌, ◌++◌, map, IfOk, OnOk};
+ghost use Rattle.graphql_fault_data.specs.FaultView.{faults_of};
 ghost use Rattle.graphql_rule_definitions.specs.Rules.{extension_places};
 ghost use Rattle.graphql_schema_types.specs.TypeView.{extended_type};
 ghost use Rattle.graphql_components.specs.Given.{place_of};
 ghost use Rattle.graphql_type_rules.specs.FaultLists.{empty_field_set, empty_member_set, empty_value_set, empty_input_value_set};
 
-use graphql_fault_data::{DiagnosticData, Fault};
+use graphql_fault_data::{DiagnosticData, Fault, tell};
 use graphql_schema::graphql_ast::{
     EnumValueDefinition, FieldDefinition, InputValueDefinition, Name, SourceSpan,
 };
@@ -20,22 +20,26 @@ pub(crate) fn empty_field_set(
     name: &Name,
     ty: &ExtendedType,
     fields: &IndexMap<Name, Component<FieldDefinition>>,
-) -> Result<Option<Fault>, AllocError>
-    ensures { IfOk result (λ r. map fault_of (option_to_list r) ≡ empty_field_set name.now.text (extended_type ty.now) fields.now.entries) }
+    faults: &mut Vec<Fault>,
+) -> Result<(), AllocError>
+    ensures { OnOk result (faults_of faults.new ≡ faults_of faults.old ++ empty_field_set name.now.text (extended_type ty.now) fields.now.entries) }
 {
     if !fields.is_empty() {
-        return Ok(None);
+        return Ok(());
     }
     let extensions_locations = extension_places(alloc, ty)?;
     let type_name = name.clone()?;
-    Ok(Some(Fault {
-        location: ty.location(),
-        data: DiagnosticData::EmptyFieldSet {
-            type_name,
-            type_location: ty.location(),
-            extensions_locations,
-        },
-    }))
+    tell(
+        faults,
+        Some(Fault {
+            location: ty.location(),
+            data: DiagnosticData::EmptyFieldSet {
+                type_name,
+                type_location: ty.location(),
+                extensions_locations,
+            },
+        }),
+    )
 }
 
 /// EmptyMemberSet: a union, which has these members, has a member (section 3.8).
@@ -44,22 +48,26 @@ pub(crate) fn empty_member_set(
     name: &Name,
     ty: &ExtendedType,
     members: &IndexSet<ComponentName>,
-) -> Result<Option<Fault>, AllocError>
-    ensures { IfOk result (λ r. map fault_of (option_to_list r) ≡ empty_member_set name.now.text (extended_type ty.now) members.now.keys) }
+    faults: &mut Vec<Fault>,
+) -> Result<(), AllocError>
+    ensures { OnOk result (faults_of faults.new ≡ faults_of faults.old ++ empty_member_set name.now.text (extended_type ty.now) members.now.keys) }
 {
     if !members.is_empty() {
-        return Ok(None);
+        return Ok(());
     }
     let extensions_locations = extension_places(alloc, ty)?;
     let type_name = name.clone()?;
-    Ok(Some(Fault {
-        location: ty.location(),
-        data: DiagnosticData::EmptyMemberSet {
-            type_name,
-            type_location: ty.location(),
-            extensions_locations,
-        },
-    }))
+    tell(
+        faults,
+        Some(Fault {
+            location: ty.location(),
+            data: DiagnosticData::EmptyMemberSet {
+                type_name,
+                type_location: ty.location(),
+                extensions_locations,
+            },
+        }),
+    )
 }
 
 /// EmptyValueSet: an enum, which has these values, has a value (section 3.9).
@@ -68,22 +76,26 @@ pub(crate) fn empty_value_set(
     name: &Name,
     ty: &ExtendedType,
     values: &IndexMap<Name, Component<EnumValueDefinition>>,
-) -> Result<Option<Fault>, AllocError>
-    ensures { IfOk result (λ r. map fault_of (option_to_list r) ≡ empty_value_set name.now.text (extended_type ty.now) values.now.entries) }
+    faults: &mut Vec<Fault>,
+) -> Result<(), AllocError>
+    ensures { OnOk result (faults_of faults.new ≡ faults_of faults.old ++ empty_value_set name.now.text (extended_type ty.now) values.now.entries) }
 {
     if !values.is_empty() {
-        return Ok(None);
+        return Ok(());
     }
     let extensions_locations = extension_places(alloc, ty)?;
     let type_name = name.clone()?;
-    Ok(Some(Fault {
-        location: ty.location(),
-        data: DiagnosticData::EmptyValueSet {
-            type_name,
-            type_location: ty.location(),
-            extensions_locations,
-        },
-    }))
+    tell(
+        faults,
+        Some(Fault {
+            location: ty.location(),
+            data: DiagnosticData::EmptyValueSet {
+                type_name,
+                type_location: ty.location(),
+                extensions_locations,
+            },
+        }),
+    )
 }
 
 /// EmptyInputValueSet: an input object, which has these fields, has a field (section 3.10).
@@ -92,22 +104,26 @@ pub(crate) fn empty_input_value_set(
     name: &Name,
     ty: &ExtendedType,
     fields: &IndexMap<Name, Component<InputValueDefinition>>,
-) -> Result<Option<Fault>, AllocError>
-    ensures { IfOk result (λ r. map fault_of (option_to_list r) ≡ empty_input_value_set name.now.text (extended_type ty.now) fields.now.entries) }
+    faults: &mut Vec<Fault>,
+) -> Result<(), AllocError>
+    ensures { OnOk result (faults_of faults.new ≡ faults_of faults.old ++ empty_input_value_set name.now.text (extended_type ty.now) fields.now.entries) }
 {
     if !fields.is_empty() {
-        return Ok(None);
+        return Ok(());
     }
     let extensions_locations = extension_places(alloc, ty)?;
     let type_name = name.clone()?;
-    Ok(Some(Fault {
-        location: ty.location(),
-        data: DiagnosticData::EmptyInputValueSet {
-            type_name,
-            type_location: ty.location(),
-            extensions_locations,
-        },
-    }))
+    tell(
+        faults,
+        Some(Fault {
+            location: ty.location(),
+            data: DiagnosticData::EmptyInputValueSet {
+                type_name,
+                type_location: ty.location(),
+                extensions_locations,
+            },
+        }),
+    )
 }
 
 /// The places of the extensions of a type, by first appearance.

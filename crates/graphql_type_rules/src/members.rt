@@ -14,7 +14,7 @@ use crate::empty::{empty_field_set, empty_input_value_set, empty_member_set, emp
 use crate::look_ups::{kind_inside, kind_named};
 use crate::reserved::{Named, reserved_name};
 use crate::types_used::{output_type, undefined_name, undefined_type, union_member_object_type};
-use graphql_fault_data::{Fault, tell};
+use graphql_fault_data::Fault;
 use graphql_schema::graphql_ast::{
     EnumValueDefinition, FieldDefinition, InputValueDefinition, Name, Node,
 };
@@ -33,7 +33,7 @@ pub(crate) fn check_fields(
 ) -> Result<(), AllocError>
     ensures { OnOk result (faults_of faults.new ≡ faults_of faults.old ++ fields_faults (schema_tree schema.now) name.now.text (extended_type ty.now) fields.now.entries) }
 {
-    tell(faults, empty_field_set(alloc, name, ty, fields)?)?;
+    empty_field_set(alloc, name, ty, fields, faults)?;
     for (field_name, field) in fields {
         check_field(alloc, schema, field_name, &field.node, faults)?;
     }
@@ -65,17 +65,15 @@ fn check_field_type(
 {
     let content = field.content();
     let kind = kind_inside(schema, &content.ty);
-    tell(
+    reserved_name(
+        field.is_built_in(),
+        name,
+        content.name.location(),
+        Named::Field.describe(),
         faults,
-        reserved_name(
-            field.is_built_in(),
-            name,
-            content.name.location(),
-            Named::Field.describe(),
-        )?,
     )?;
-    tell(faults, undefined_type(&content.ty, kind)?)?;
-    tell(faults, output_type(name, field, kind)?)
+    undefined_type(&content.ty, kind, faults)?;
+    output_type(name, field, kind, faults)
 }
 
 /// Tells the faults of the members of a union.
@@ -89,7 +87,7 @@ pub(crate) fn check_members(
 ) -> Result<(), AllocError>
     ensures { OnOk result (faults_of faults.new ≡ faults_of faults.old ++ members_faults (schema_tree schema.now) name.now.text (extended_type ty.now) (map component_name_tree members.now.keys)) }
 {
-    tell(faults, empty_member_set(alloc, name, ty, members)?)?;
+    empty_member_set(alloc, name, ty, members, faults)?;
     for member in members.as_slice() {
         check_member(schema, &member.name, faults)?;
     }
@@ -101,8 +99,8 @@ fn check_member(schema: &Schema, member: &Name, faults: &mut Vec<Fault>) -> Resu
     ensures { OnOk result (faults_of faults.new ≡ faults_of faults.old ++ member_faults (schema_tree schema.now) (name_tree member.now)) }
 {
     let kind = kind_named(schema, member);
-    tell(faults, undefined_name(member, kind)?)?;
-    tell(faults, union_member_object_type(member, kind)?)
+    undefined_name(member, kind, faults)?;
+    union_member_object_type(member, kind, faults)
 }
 
 /// Tells the faults of the values of an enum.
@@ -115,7 +113,7 @@ pub(crate) fn check_values(
 ) -> Result<(), AllocError>
     ensures { OnOk result (faults_of faults.new ≡ faults_of faults.old ++ values_faults name.now.text (extended_type ty.now) values.now.entries) }
 {
-    tell(faults, empty_value_set(alloc, name, ty, values)?)?;
+    empty_value_set(alloc, name, ty, values, faults)?;
     for (value_name, value) in values {
         check_value(value_name, &value.node, faults)?;
     }
@@ -131,14 +129,12 @@ fn check_value(
     ensures { OnOk result (faults_of faults.new ≡ faults_of faults.old ++ value_faults name.now.text (node_tree enum_value_tree value.now)) }
 {
     let location = value.content().value.location();
-    tell(
+    reserved_name(
+        value.is_built_in(),
+        name,
+        location,
+        Named::EnumValue.describe(),
         faults,
-        reserved_name(
-            value.is_built_in(),
-            name,
-            location,
-            Named::EnumValue.describe(),
-        )?,
     )
 }
 
@@ -153,7 +149,7 @@ pub(crate) fn check_input_fields(
 ) -> Result<(), AllocError>
     ensures { OnOk result (faults_of faults.new ≡ faults_of faults.old ++ inputs_faults (schema_tree schema.now) name.now.text (extended_type ty.now) fields.now.entries) }
 {
-    tell(faults, empty_input_value_set(alloc, name, ty, fields)?)?;
+    empty_input_value_set(alloc, name, ty, fields, faults)?;
     check_each_input_field(schema, fields, faults)
 }
 

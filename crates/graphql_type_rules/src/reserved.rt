@@ -1,11 +1,11 @@
 //! Names that begin with `__` are reserved for introspection (section 2.1.9).
-ghost use Rattle.std.specs.Prelude.{◌≡◌, map, IfOk, option_to_list};
-ghost use Rattle.graphql_fault_data.specs.FaultView.{fault_of};
+ghost use Rattle.std.specs.Prelude.{◌≡◌, ◌++◌, OnOk};
+ghost use Rattle.graphql_fault_data.specs.FaultView.{faults_of};
 ghost use Rattle.graphql_rule_definitions.specs.ReservedNames.{is_reserved};
 ghost use Rattle.graphql_type_rules.specs.FaultLists.{reserved_name};
 ghost use Rattle.graphql_type_rules.specs.NamedWords.{named_words};
 
-use graphql_fault_data::{DiagnosticData, Fault};
+use graphql_fault_data::{DiagnosticData, Fault, tell};
 use graphql_schema::graphql_ast::{Name, SourceSpan};
 use std::alloc::AllocError;
 
@@ -40,20 +40,24 @@ pub(crate) fn reserved_name(
     name: &Name,
     location: Option<SourceSpan>,
     describe: &'static str,
-) -> Result<Option<Fault>, AllocError>
-    ensures { IfOk result (λ r. map fault_of (option_to_list r) ≡ reserved_name built_in name.now.text location describe.now) }
+    faults: &mut Vec<Fault>,
+) -> Result<(), AllocError>
+    ensures { OnOk result (faults_of faults.new ≡ faults_of faults.old ++ reserved_name built_in name.now.text location describe.now) }
 {
     if built_in {
-        return Ok(None);
+        return Ok(());
     }
     if !is_reserved(name.as_str()) {
-        return Ok(None);
+        return Ok(());
     }
     let name = name.clone()?;
-    Ok(Some(Fault {
-        location,
-        data: DiagnosticData::ReservedName { name, describe },
-    }))
+    tell(
+        faults,
+        Some(Fault {
+            location,
+            data: DiagnosticData::ReservedName { name, describe },
+        }),
+    )
 }
 
 /// Whether the name begins with `__`.

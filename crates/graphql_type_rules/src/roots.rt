@@ -21,10 +21,7 @@ pub(crate) fn check_roots(schema: &Schema, faults: &mut Vec<Fault>) -> Result<()
     ensures { OnOk result (faults_of faults.new ≡ faults_of faults.old ++ roots_faults (schema_tree schema.now)) }
 {
     let definition = schema.schema_definition.content();
-    tell(
-        faults,
-        query_root_operation_type(&schema.schema_definition)?,
-    )?;
+    query_root_operation_type(&schema.schema_definition, faults)?;
     check_root(schema, &definition.query, faults)?;
     check_root(schema, &definition.mutation, faults)?;
     check_root(schema, &definition.subscription, faults)?;
@@ -43,8 +40,8 @@ fn check_root(
         None => Ok(()),
         Some(root) => {
             let kind = kind_named(schema, &root.name);
-            tell(faults, undefined_name(&root.name, kind)?)?;
-            tell(faults, root_operation_object_type(&root.name, kind)?)
+            undefined_name(&root.name, kind, faults)?;
+            root_operation_object_type(&root.name, kind, faults)
         }
     }
 }
@@ -72,15 +69,19 @@ fn check_repeats(
 /// QueryRootOperationType: the root of queries is given.
 fn query_root_operation_type(
     definition: &Node<SchemaDefinition>,
-) -> Result<Option<Fault>, AllocError>
-    ensures { IfOk result (λ r. map fault_of (option_to_list r) ≡ query_root_operation_type (schema_roots definition.now)) }
+    faults: &mut Vec<Fault>,
+) -> Result<(), AllocError>
+    ensures { OnOk result (faults_of faults.new ≡ faults_of faults.old ++ query_root_operation_type (schema_roots definition.now)) }
 {
     match &definition.content().query {
-        Some(_) => Ok(None),
-        None => Ok(Some(Fault {
-            location: definition.location(),
-            data: DiagnosticData::QueryRootOperationType,
-        })),
+        Some(_) => Ok(()),
+        None => tell(
+            faults,
+            Some(Fault {
+                location: definition.location(),
+                data: DiagnosticData::QueryRootOperationType,
+            }),
+        ),
     }
 }
 
@@ -88,22 +89,26 @@ fn query_root_operation_type(
 fn root_operation_object_type(
     root: &Name,
     kind: Option<TypeKind>,
-) -> Result<Option<Fault>, AllocError>
-    ensures { IfOk result (λ r. map fault_of (option_to_list r) ≡ root_operation_object_type (name_tree root.now) kind) }
+    faults: &mut Vec<Fault>,
+) -> Result<(), AllocError>
+    ensures { OnOk result (faults_of faults.new ≡ faults_of faults.old ++ root_operation_object_type (name_tree root.now) kind) }
 {
     match kind {
-        None => Ok(None),
+        None => Ok(()),
         Some(kind) => {
             if kind.is(TypeKind::Object) {
-                return Ok(None);
+                return Ok(());
             }
-            Ok(Some(Fault {
-                location: root.location(),
-                data: DiagnosticData::RootOperationObjectType {
-                    name: root.clone()?,
-                    describe_type: kind.describe(),
-                },
-            }))
+            tell(
+                faults,
+                Some(Fault {
+                    location: root.location(),
+                    data: DiagnosticData::RootOperationObjectType {
+                        name: root.clone()?,
+                        describe_type: kind.describe(),
+                    },
+                }),
+            )
         }
     }
 }

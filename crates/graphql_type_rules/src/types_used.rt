@@ -1,15 +1,15 @@
 //! Rules on the types that are named (sections 3.4.2, 3.6, 3.8 and 3.10). Each is given the kind of that type, if it is there.
-ghost use Rattle.std.specs.Prelude.{◌≡◌, map, IfOk, option_to_list};
+ghost use Rattle.std.specs.Prelude.{◌≡◌, ◌++◌, OnOk};
 ghost use Rattle.graphql_names.specs.Placed.{name_tree, node_tree};
 ghost use Rattle.graphql_literals.specs.TypeTree.{type_tree};
 ghost use Rattle.graphql_directives.specs.DirectiveTree.{input_value_tree};
 ghost use Rattle.graphql_type_members.specs.TypeSystemTree.{field_definition_tree};
 ghost use Rattle.graphql_components.specs.Lists.{is_among};
-ghost use Rattle.graphql_fault_data.specs.FaultView.{fault_of};
+ghost use Rattle.graphql_fault_data.specs.FaultView.{faults_of};
 ghost use Rattle.graphql_rule_definitions.specs.TypesUsed.{scalar_names};
 ghost use Rattle.graphql_type_rules.specs.FaultLists.{undefined_name, undefined_type, output_type, input_type, union_member_object_type};
 
-use graphql_fault_data::{DiagnosticData, Fault};
+use graphql_fault_data::{DiagnosticData, Fault, tell};
 use graphql_schema::TypeKind;
 use graphql_schema::graphql_ast::{FieldDefinition, InputValueDefinition, Name, Node, Type};
 use std::alloc::AllocError;
@@ -18,37 +18,40 @@ use std::alloc::AllocError;
 pub(crate) fn undefined_name(
     name: &Name,
     kind: Option<TypeKind>,
-) -> Result<Option<Fault>, AllocError>
-    ensures { IfOk result (λ r. map fault_of (option_to_list r) ≡ undefined_name (name_tree name.now) kind) }
+    faults: &mut Vec<Fault>,
+) -> Result<(), AllocError>
+    ensures { OnOk result (faults_of faults.new ≡ faults_of faults.old ++ undefined_name (name_tree name.now) kind) }
 {
     match kind {
-        Some(_) => Ok(None),
-        None => Ok(Some(Fault {
-            location: name.location(),
-            data: DiagnosticData::UndefinedDefinition {
-                name: name.clone()?,
-            },
-        })),
-    }
-}
-
-/// UndefinedDefinition: the type inside a reference is there, or it has the name of a built-in scalar.
-pub(crate) fn undefined_type(ty: &Type, kind: Option<TypeKind>) -> Result<Option<Fault>, AllocError>
-    ensures { IfOk result (λ r. map fault_of (option_to_list r) ≡ undefined_type (type_tree ty.now) kind) }
-{
-    match kind {
-        Some(_) => Ok(None),
-        None => {
-            let name = ty.inner_named_type();
-            if is_scalar_name(name.as_str()) {
-                return Ok(None);
-            }
-            Ok(Some(Fault {
+        Some(_) => Ok(()),
+        None => tell(
+            faults,
+            Some(Fault {
                 location: name.location(),
                 data: DiagnosticData::UndefinedDefinition {
                     name: name.clone()?,
                 },
-            }))
+            }),
+        ),
+    }
+}
+
+/// UndefinedDefinition: the type inside a reference is there, or it has the name of a built-in scalar.
+pub(crate) fn undefined_type(
+    ty: &Type,
+    kind: Option<TypeKind>,
+    faults: &mut Vec<Fault>,
+) -> Result<(), AllocError>
+    ensures { OnOk result (faults_of faults.new ≡ faults_of faults.old ++ undefined_type (type_tree ty.now) kind) }
+{
+    match kind {
+        Some(_) => Ok(()),
+        None => {
+            let name = ty.inner_named_type();
+            if is_scalar_name(name.as_str()) {
+                return Ok(());
+            }
+            undefined_name(name, None, faults)
         }
     }
 }
@@ -65,23 +68,27 @@ pub(crate) fn output_type(
     name: &Name,
     field: &Node<FieldDefinition>,
     kind: Option<TypeKind>,
-) -> Result<Option<Fault>, AllocError>
-    ensures { IfOk result (λ r. map fault_of (option_to_list r) ≡ output_type name.now.text (node_tree field_definition_tree field.now) kind) }
+    faults: &mut Vec<Fault>,
+) -> Result<(), AllocError>
+    ensures { OnOk result (faults_of faults.new ≡ faults_of faults.old ++ output_type name.now.text (node_tree field_definition_tree field.now) kind) }
 {
     match kind {
-        None => Ok(None),
+        None => Ok(()),
         Some(kind) => {
             if kind.is_output_type() {
-                return Ok(None);
+                return Ok(());
             }
-            Ok(Some(Fault {
-                location: field.location(),
-                data: DiagnosticData::OutputType {
-                    name: name.clone()?,
-                    describe_type: kind.describe(),
-                    type_location: field.content().ty.inner_named_type().location(),
-                },
-            }))
+            tell(
+                faults,
+                Some(Fault {
+                    location: field.location(),
+                    data: DiagnosticData::OutputType {
+                        name: name.clone()?,
+                        describe_type: kind.describe(),
+                        type_location: field.content().ty.inner_named_type().location(),
+                    },
+                }),
+            )
         }
     }
 }
@@ -90,23 +97,27 @@ pub(crate) fn output_type(
 pub(crate) fn input_type(
     input: &Node<InputValueDefinition>,
     kind: Option<TypeKind>,
-) -> Result<Option<Fault>, AllocError>
-    ensures { IfOk result (λ r. map fault_of (option_to_list r) ≡ input_type (node_tree input_value_tree input.now) kind) }
+    faults: &mut Vec<Fault>,
+) -> Result<(), AllocError>
+    ensures { OnOk result (faults_of faults.new ≡ faults_of faults.old ++ input_type (node_tree input_value_tree input.now) kind) }
 {
     match kind {
-        None => Ok(None),
+        None => Ok(()),
         Some(kind) => {
             if kind.is_input_type() {
-                return Ok(None);
+                return Ok(());
             }
-            Ok(Some(Fault {
-                location: input.location(),
-                data: DiagnosticData::InputType {
-                    name: input.content().name.clone()?,
-                    describe_type: kind.describe(),
-                    type_location: input.content().ty.location(),
-                },
-            }))
+            tell(
+                faults,
+                Some(Fault {
+                    location: input.location(),
+                    data: DiagnosticData::InputType {
+                        name: input.content().name.clone()?,
+                        describe_type: kind.describe(),
+                        type_location: input.content().ty.location(),
+                    },
+                }),
+            )
         }
     }
 }
@@ -115,22 +126,26 @@ pub(crate) fn input_type(
 pub(crate) fn union_member_object_type(
     member: &Name,
     kind: Option<TypeKind>,
-) -> Result<Option<Fault>, AllocError>
-    ensures { IfOk result (λ r. map fault_of (option_to_list r) ≡ union_member_object_type (name_tree member.now) kind) }
+    faults: &mut Vec<Fault>,
+) -> Result<(), AllocError>
+    ensures { OnOk result (faults_of faults.new ≡ faults_of faults.old ++ union_member_object_type (name_tree member.now) kind) }
 {
     match kind {
-        None => Ok(None),
+        None => Ok(()),
         Some(kind) => {
             if kind.is(TypeKind::Object) {
-                return Ok(None);
+                return Ok(());
             }
-            Ok(Some(Fault {
-                location: member.location(),
-                data: DiagnosticData::UnionMemberObjectType {
-                    name: member.clone()?,
-                    describe_type: kind.describe(),
-                },
-            }))
+            tell(
+                faults,
+                Some(Fault {
+                    location: member.location(),
+                    data: DiagnosticData::UnionMemberObjectType {
+                        name: member.clone()?,
+                        describe_type: kind.describe(),
+                    },
+                }),
+            )
         }
     }
 }

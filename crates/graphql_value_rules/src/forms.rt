@@ -1,5 +1,5 @@
 //! Rules on the form of one value, what is inside a list or an object aside.
-ghost use Rattle.std.specs.Prelude.{◌≡◌, ◌&&◌, ◌||◌, not, map, IfOk, option_to_list};
+ghost use Rattle.std.specs.Prelude.{◌≡◌, ◌&&◌, ◌||◌, ◌++◌, not, IfOk, OnOk};
 ghost use Rattle.std.specs.Option.{option_map};
 ghost use Rattle.graphql_names.specs.Node.{content};
 ghost use Rattle.graphql_literals.specs.NumberSyntax.{integer_value};
@@ -8,12 +8,12 @@ ghost use Rattle.graphql_literals.specs.TypeQueries.{inner_name};
 ghost use Rattle.graphql_literals.specs.ValueTree.{value_tree};
 ghost use Rattle.graphql_literals.specs.ValueQueries.{integer_text};
 ghost use Rattle.graphql_schema.specs.in_schema_types.TypeView.{extended_type};
-ghost use Rattle.graphql_fault_data.specs.FaultView.{fault_of};
+ghost use Rattle.graphql_fault_data.specs.FaultView.{faults_of};
 ghost use Rattle.graphql_value_rules.specs.Wanting.{variables_of};
 ghost use Rattle.graphql_value_rules.specs.ValueFaults.{fits_32_bits, is_built_in_scalar, is_custom_scalar, is_scalar_so, takes_integers, takes_floats, takes_strings, takes_booleans, variable_fits, fits_form, unsupported_value_type, int_coercion_error, undefined_enum_value};
 
 use crate::find::{find_value, find_variable};
-use graphql_fault_data::{DiagnosticData, Fault};
+use graphql_fault_data::{DiagnosticData, Fault, tell};
 use graphql_literals::{IntValue, Type, Value};
 use graphql_names::{Name, Node, SourceSpan};
 use graphql_operations::VariableDefinition;
@@ -149,11 +149,12 @@ pub(crate) fn unsupported_value_type(
     value: &Value,
     location: Option<SourceSpan>,
     variables: &[Node<VariableDefinition>],
-) -> Result<Option<Fault>, AllocError>
-    ensures { IfOk result (λ r. map fault_of (option_to_list r) ≡ unsupported_value_type (variables_of variables.now) (type_tree ty.now) type_location (extended_type found.now) location (value_tree value.now)) }
+    faults: &mut Vec<Fault>,
+) -> Result<(), AllocError>
+    ensures { OnOk result (faults_of faults.new ≡ faults_of faults.old ++ unsupported_value_type (variables_of variables.now) (type_tree ty.now) type_location (extended_type found.now) location (value_tree value.now)) }
 {
     if fits_form(ty, found, value, variables) {
-        return Ok(None);
+        return Ok(());
     }
     let ty = type_node(alloc, ty, type_location)?;
     let data = DiagnosticData::UnsupportedValueType {
@@ -161,7 +162,7 @@ pub(crate) fn unsupported_value_type(
         ty,
         definition_location: type_location,
     };
-    Ok(Some(Fault { location, data }))
+    tell(faults, Some(Fault { location, data }))
 }
 
 /// The number of an integer, else None.
@@ -189,21 +190,22 @@ pub(crate) fn int_coercion_error(
     found: &ExtendedType,
     value: &Value,
     location: Option<SourceSpan>,
-) -> Result<Option<Fault>, AllocError>
-    ensures { IfOk result (λ r. map fault_of (option_to_list r) ≡ int_coercion_error name.now.text (extended_type found.now) location (value_tree value.now)) }
+    faults: &mut Vec<Fault>,
+) -> Result<(), AllocError>
+    ensures { OnOk result (faults_of faults.new ≡ faults_of faults.old ++ int_coercion_error name.now.text (extended_type found.now) location (value_tree value.now)) }
 {
     if !(is_built_in_scalar(found) && name.as_str() == "Int") {
-        return Ok(None);
+        return Ok(());
     }
     let Some(number) = as_integer(value) else {
-        return Ok(None);
+        return Ok(());
     };
     if fits_32_bits(number) {
-        return Ok(None);
+        return Ok(());
     }
     let digits = String::from_str(alloc, number.as_str())?;
     let data = DiagnosticData::IntCoercionError { value: digits };
-    Ok(Some(Fault { location, data }))
+    tell(faults, Some(Fault { location, data }))
 }
 
 /// UndefinedEnumValue: an enum has the value (section 3.9).
@@ -212,17 +214,18 @@ pub(crate) fn undefined_enum_value(
     found: &ExtendedType,
     value: &Value,
     location: Option<SourceSpan>,
-) -> Result<Option<Fault>, AllocError>
-    ensures { IfOk result (λ r. map fault_of (option_to_list r) ≡ undefined_enum_value name.now.text (extended_type found.now) location (value_tree value.now)) }
+    faults: &mut Vec<Fault>,
+) -> Result<(), AllocError>
+    ensures { OnOk result (faults_of faults.new ≡ faults_of faults.old ++ undefined_enum_value name.now.text (extended_type found.now) location (value_tree value.now)) }
 {
     if !found.is_enum() {
-        return Ok(None);
+        return Ok(());
     }
     let Some(given) = value.as_enum() else {
-        return Ok(None);
+        return Ok(());
     };
     if let Some(_) = find_value(found, given) {
-        return Ok(None);
+        return Ok(());
     }
     let given = given.clone()?;
     let data = DiagnosticData::UndefinedEnumValue {
@@ -230,5 +233,5 @@ pub(crate) fn undefined_enum_value(
         definition: name.clone()?,
         definition_location: found.location(),
     };
-    Ok(Some(Fault { location, data }))
+    tell(faults, Some(Fault { location, data }))
 }

@@ -1,10 +1,10 @@
 //! Keys of objects.
-ghost use Rattle.std.specs.Prelude.{◌≡◌, ◌++◌, [], map, IfOk, OnOk, option_to_list};
+ghost use Rattle.std.specs.Prelude.{◌≡◌, ◌++◌, [], OnOk};
 ghost use Rattle.std.specs.Option.{option_map};
 ghost use Rattle.graphql_names.specs.Node.{content};
 ghost use Rattle.graphql_names.specs.Placed.{name_tree};
 ghost use Rattle.graphql_literals.specs.ValueTree.{value_tree, item_trees, entry_trees};
-ghost use Rattle.graphql_fault_data.specs.FaultView.{fault_of, faults_of};
+ghost use Rattle.graphql_fault_data.specs.FaultView.{faults_of};
 ghost use Rattle.graphql_value_rules.specs.KeyFaults.{first_key, repeated_key, repeated_keys, key_faults, key_faults_items, key_faults_object, key_faults_entries};
 ghost use Rattle.graphql_value_rules.specs.Wanting.{keys_of_entries};
 
@@ -29,11 +29,12 @@ fn first_key<'a>(before: &'a [(Name, Node<Value>)], name: &Name) -> Option<&'a N
 fn unique_input_value(
     before: &[(Name, Node<Value>)],
     key: &Name,
-) -> Result<Option<Fault>, AllocError>
-    ensures { IfOk result (λ r. map fault_of (option_to_list r) ≡ repeated_key (keys_of_entries before.now) (name_tree key.now)) }
+    faults: &mut Vec<Fault>,
+) -> Result<(), AllocError>
+    ensures { OnOk result (faults_of faults.new ≡ faults_of faults.old ++ repeated_key (keys_of_entries before.now) (name_tree key.now)) }
 {
     let Some(first) = first_key(before, key) else {
-        return Ok(None);
+        return Ok(());
     };
     let location = key.location();
     let data = DiagnosticData::UniqueInputValue {
@@ -41,7 +42,7 @@ fn unique_input_value(
         original_definition: first.location(),
         redefined_definition: location,
     };
-    Ok(Some(Fault { location, data }))
+    tell(faults, Some(Fault { location, data }))
 }
 
 /// Adds a fault for each key that stands before among the entries.
@@ -52,8 +53,7 @@ fn tell_repeated_keys(
     ensures { OnOk result (faults_of faults.new ≡ faults_of faults.old ++ repeated_keys [] (entry_trees value_tree entries.now)) }
 {
     for index in 0..entries.len() {
-        let fault = unique_input_value(&entries[..index], &entries[index].0)?;
-        tell(faults, fault)?;
+        unique_input_value(&entries[..index], &entries[index].0, faults)?;
     }
     Ok(())
 }

@@ -1,5 +1,5 @@
 //! Rules on the entries of an object.
-ghost use Rattle.std.specs.Prelude.{◌≡◌, ◌++◌, ◌∷◌, [], map, IfOk, OnOk, option_to_list};
+ghost use Rattle.std.specs.Prelude.{◌≡◌, ◌++◌, ◌∷◌, [], IfOk, OnOk};
 ghost use Rattle.graphql_names.specs.Node.{place};
 ghost use Rattle.graphql_literals.specs.ValueTree.{value_tree, entry_trees};
 ghost use Rattle.graphql_directives.specs.DirectiveTree.{input_value_tree};
@@ -10,7 +10,7 @@ ghost use Rattle.graphql_components.specs.Coordinate.{OfAttribute};
 ghost use Rattle.graphql_fault_data.specs.in_coords.CoordinateView.{attribute_coordinate};
 ghost use Rattle.graphql_rule_definitions.specs.Diagnostics.{UndefinedInputValue};
 ghost use Rattle.graphql_rule_definitions.specs.Faults.{wrong};
-ghost use Rattle.graphql_fault_data.specs.FaultView.{fault_of, faults_of};
+ghost use Rattle.graphql_fault_data.specs.FaultView.{faults_of};
 ghost use Rattle.graphql_value_rules.specs.ValueFaults.{is_missing_entry, undefined_key, undefined_input_value, required_field, required_fields, each_first};
 ghost use Rattle.graphql_value_rules.specs.Wanting.{required_among};
 
@@ -30,16 +30,17 @@ pub(crate) fn undefined_input_value(
     name: &Name,
     found: &ExtendedType,
     value: &Value,
-) -> Result<Option<Fault>, AllocError>
-    ensures { IfOk result (λ r. map fault_of (option_to_list r) ≡ undefined_input_value name.now.text (extended_type found.now) (value_tree value.now)) }
+    faults: &mut Vec<Fault>,
+) -> Result<(), AllocError>
+    ensures { OnOk result (faults_of faults.new ≡ faults_of faults.old ++ undefined_input_value name.now.text (extended_type found.now) (value_tree value.now)) }
 {
     if !found.is_input_object() {
-        return Ok(None);
+        return Ok(());
     }
     let Some(entries) = value.as_object() else {
-        return Ok(None);
+        return Ok(());
     };
-    undefined_key(name, found, entries)
+    undefined_key(name, found, entries, faults)
 }
 
 /// The first key without a field.
@@ -47,15 +48,16 @@ fn undefined_key(
     name: &Name,
     found: &ExtendedType,
     entries: &[(Name, Node<Value>)],
-) -> Result<Option<Fault>, AllocError>
-    ensures { IfOk result (λ r. map fault_of (option_to_list r) ≡ undefined_key name.now.text (extended_type found.now) (entry_trees value_tree entries.now)) }
+    faults: &mut Vec<Fault>,
+) -> Result<(), AllocError>
+    ensures { OnOk result (faults_of faults.new ≡ faults_of faults.old ++ undefined_key name.now.text (extended_type found.now) (entry_trees value_tree entries.now)) }
 {
     for entry in entries {
         if find_input(found, &entry.0).is_none() {
-            return told_key(name, found, entry);
+            return told_key(name, found, entry, faults);
         }
     }
-    Ok(None)
+    Ok(())
 }
 
 /// What is told of a key without a field.
@@ -63,8 +65,9 @@ fn told_key(
     name: &Name,
     found: &ExtendedType,
     entry: &(Name, Node<Value>),
-) -> Result<Option<Fault>, AllocError>
-    ensures { IfOk result (λ r. map fault_of (option_to_list r) ≡ wrong (place entry.now.1) (UndefinedInputValue entry.now.0.text name.now.text (extended_type found.now).place) ∷ []) }
+    faults: &mut Vec<Fault>,
+) -> Result<(), AllocError>
+    ensures { OnOk result (faults_of faults.new ≡ faults_of faults.old ++ wrong (place entry.now.1) (UndefinedInputValue entry.now.0.text name.now.text (extended_type found.now).place) ∷ []) }
 {
     let key = entry.0.clone()?;
     let data = DiagnosticData::UndefinedInputValue {
@@ -72,10 +75,13 @@ fn told_key(
         definition: name.clone()?,
         definition_location: found.location(),
     };
-    Ok(Some(Fault {
-        location: entry.1.location(),
-        data,
-    }))
+    tell(
+        faults,
+        Some(Fault {
+            location: entry.1.location(),
+            data,
+        }),
+    )
 }
 
 /// Whether there is no entry of that name, or it is null.
@@ -96,12 +102,13 @@ fn required_field(
     entries: &[(Name, Node<Value>)],
     field_name: &Name,
     field: &Component<InputValueDefinition>,
-) -> Result<Option<Fault>, AllocError>
-    ensures { IfOk result (λ r. map fault_of (option_to_list r) ≡ required_field name.now.text location (entry_trees value_tree entries.now) field_name.now.text (component_tree input_value_tree field.now)) }
+    faults: &mut Vec<Fault>,
+) -> Result<(), AllocError>
+    ensures { OnOk result (faults_of faults.new ≡ faults_of faults.old ++ required_field name.now.text location (entry_trees value_tree entries.now) field_name.now.text (component_tree input_value_tree field.now)) }
 {
     let definition = field.node.content();
     if !(definition.is_required() && is_missing_entry(entries, field_name)) {
-        return Ok(None);
+        return Ok(());
     }
     let coordinate = attribute_coordinate(name, field_name)?;
     let expected_type = definition.ty.clone()?;
@@ -111,7 +118,7 @@ fn required_field(
         expected_type,
         definition_location: field.node.location(),
     };
-    Ok(Some(Fault { location, data }))
+    tell(faults, Some(Fault { location, data }))
 }
 
 /// The attribute of that name of the type of that name.
@@ -170,8 +177,7 @@ fn tell_each_required(
     ensures { OnOk result (faults_of faults.new ≡ faults_of faults.old ++ required_among name.now.text location (entry_trees value_tree entries.now) fields.now.entries) }
 {
     for (field_name, field) in fields {
-        let fault = required_field(name, location, entries, field_name, field)?;
-        tell(faults, fault)?;
+        required_field(name, location, entries, field_name, field, faults)?;
     }
     Ok(())
 }

@@ -14,7 +14,7 @@ use crate::forms::{
     int_coercion_error, is_custom_scalar, undefined_enum_value, unsupported_value_type,
 };
 use crate::objects::{tell_required_fields, undefined_input_value};
-use graphql_fault_data::{Fault, tell};
+use graphql_fault_data::Fault;
 use graphql_literals::{Type, Value};
 use graphql_names::{Name, Node, SourceSpan};
 use graphql_operations::VariableDefinition;
@@ -58,16 +58,19 @@ fn tell_form(
 {
     let alloc = *faults.allocator();
     let name = ty.inner_named_type();
-    tell(
+    unsupported_value_type(
+        alloc,
+        ty,
+        type_location,
+        found,
+        value,
+        location,
+        variables,
         faults,
-        unsupported_value_type(alloc, ty, type_location, found, value, location, variables)?,
     )?;
-    tell(
-        faults,
-        int_coercion_error(alloc, name, found, value, location)?,
-    )?;
-    tell(faults, undefined_enum_value(name, found, value, location)?)?;
-    tell(faults, undefined_input_value(name, found, value)?)?;
+    int_coercion_error(alloc, name, found, value, location, faults)?;
+    undefined_enum_value(name, found, value, location, faults)?;
+    undefined_input_value(name, found, value, faults)?;
     tell_required_fields(name, found, value, location, faults)
 }
 

@@ -1,10 +1,10 @@
 //! Variables in values.
-ghost use Rattle.std.specs.Prelude.{◌≡◌, ◌++◌, map, IfOk, OnOk, option_to_list};
+ghost use Rattle.std.specs.Prelude.{◌≡◌, ◌++◌, OnOk};
 ghost use Rattle.std.specs.List.{list_any};
 ghost use Rattle.graphql_names.specs.Node.{content, place};
 ghost use Rattle.graphql_names.specs.Placed.{name_tree};
 ghost use Rattle.graphql_literals.specs.ValueTree.{value_tree, item_trees, entry_trees};
-ghost use Rattle.graphql_fault_data.specs.FaultView.{fault_of, faults_of};
+ghost use Rattle.graphql_fault_data.specs.FaultView.{faults_of};
 ghost use Rattle.graphql_value_rules.specs.Wanting.{variables_of};
 ghost use Rattle.graphql_value_rules.specs.VariableFaults.{undefined_variable, variable_faults, variable_faults_items, variable_faults_entries};
 
@@ -20,15 +20,16 @@ fn undefined_variable(
     location: Option<SourceSpan>,
     name: &Name,
     variables: &[Node<VariableDefinition>],
-) -> Result<Option<Fault>, AllocError>
-    ensures { IfOk result (λ r. map fault_of (option_to_list r) ≡ undefined_variable (variables_of variables.now) location (name_tree name.now)) }
+    faults: &mut Vec<Fault>,
+) -> Result<(), AllocError>
+    ensures { OnOk result (faults_of faults.new ≡ faults_of faults.old ++ undefined_variable (variables_of variables.now) location (name_tree name.now)) }
 {
     match find_variable(variables, name) {
-        Some(_) => Ok(None),
+        Some(_) => Ok(()),
         None => {
             let name = name.clone()?;
             let data = DiagnosticData::UndefinedVariable { name };
-            Ok(Some(Fault { location, data }))
+            tell(faults, Some(Fault { location, data }))
         }
     }
 }
@@ -56,7 +57,7 @@ fn tell_variables(
     ensures { OnOk result (faults_of faults.new ≡ faults_of faults.old ++ variable_faults (variables_of variables.now) location (value_tree value.now)) }
 {
     match value {
-        Value::Variable(name) => tell_variable(name, location, variables, faults),
+        Value::Variable(name) => undefined_variable(location, name, variables, faults),
         Value::List(items) => tell_variables_of_items(items, variables, faults),
         Value::Object(entries) => tell_variables_of_entries(entries, variables, faults),
         Value::Null
@@ -66,18 +67,6 @@ fn tell_variables(
         | Value::Int(_)
         | Value::Boolean(_) => Ok(()),
     }
-}
-
-fn tell_variable(
-    name: &Name,
-    location: Option<SourceSpan>,
-    variables: &[Node<VariableDefinition>],
-    faults: &mut Vec<Fault>,
-) -> Result<(), AllocError>
-    ensures { OnOk result (faults_of faults.new ≡ faults_of faults.old ++ undefined_variable (variables_of variables.now) location (name_tree name.now)) }
-{
-    let fault = undefined_variable(location, name, variables)?;
-    tell(faults, fault)
 }
 
 #[cycle(variables)]

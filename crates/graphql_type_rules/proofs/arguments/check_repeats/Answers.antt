@@ -20,8 +20,8 @@ loop-argument-preserved c =
     let seen = c.loop-argument.invariant.seen in
     record {
       told =
-          c.in_ok-tell.ensures.told
-          ∙ (λ i. c.loop-argument.invariant.told i ++ c.in_ok-unique_input_value.ensures before seen i)
+          c.in_ok-unique_input_value.ensures before seen
+          ∙ (λ i. c.loop-argument.invariant.told i ++ unique_input_value before (node_tree input_value_tree x))
           ∙ append_assoc (faults_of c.args.faults.now) (each_place unique_input_value before) (unique_input_value before (node_tree input_value_tree x))
           ∙ ap (λ l. faults_of c.args.faults.now ++ l) (sym (each_place-push unique_input_value before (node_tree input_value_tree x)) ∙ ap (each_place unique_input_value) (sym front));
       seen = subst (AreSeen c.see.new.seen) (sym front) (c.in_ok-see.ensures before seen);

@@ -1,9 +1,11 @@
-use Rattle.std.proofs.Common.{[], ◌∷◌, Some, ap, ◌∙◌}
+use Rattle.std.proofs.Common.{◌++◌, [], ◌∷◌, Some, ap, ◌∙◌}
+use Rattle.std.proofs.lemmas.Result.{on_ok_weaker}
 use Rattle.std.specs.Option.{option_map}
 use Rattle.graphql_names.specs.NameValue.{NameValue}
 use Rattle.graphql_names.specs.Placed.{node_tree}
 use Rattle.graphql_directives.specs.DirectiveTree.{input_value_tree}
 use Rattle.graphql_directives.specs.declared.input_value.InputValueDefinition.{InputValueDefinition}
+use Rattle.graphql_fault_data.specs.FaultView.{faults_of}
 use Rattle.graphql_rule_definitions.specs.Diagnostics.{UniqueInputValue}
 use Rattle.graphql_rule_definitions.specs.Faults.{wrong}
 use Rattle.graphql_rule_definitions.specs.Told.{PlacedFault}
@@ -15,6 +17,8 @@ pub returns-in_ok-clone-in-Some : goal.returns-in_ok-clone-in-Some
 returns-in_ok-clone-in-Some c = λ before are.
     let first = c.in-Some.first.now in
     let named = ap (λ (n : NameValue). n.text) c.in_ok-clone-in-Some.ensures.same ∙ ap (λ (v : InputValueDefinition). v.name.text) c.content.ensures in
+    let fault =
     (λ i. let fault : PlacedFault = wrong first (UniqueInputValue (named i) first (c.location.ensures i)) in fault ∷ [])
     ∙ told_seen before (node_tree input_value_tree c.args.argument.now) (Some first)
-    (c.in-Some.ensures.value ∙ are c.content.result.now.name ∙ ap (λ (v : InputValueDefinition). option_map place (first_named before v.name.text)) c.content.ensures)
+    (c.in-Some.ensures.value ∙ are c.content.result.now.name ∙ ap (λ (v : InputValueDefinition). option_map place (first_named before v.name.text)) c.content.ensures) in
+    on_ok_weaker c.tell.result (λ told. told ∙ ap (λ l. faults_of c.args.faults.now ++ l) fault) c.tell.ensures.told
