@@ -14,7 +14,7 @@ use Rattle.graphql_rule_definitions.specs.Words.{Present}
 use Rattle.graphql_rule_definitions.specs.Faults.{wrong}
 use Rattle.graphql_rule_definitions.specs.Values.{Variables, defined_name}
 use Rattle.graphql_rule_definitions.specs.Uses.{argument_name, IsVariableUsageAllowed}
-use Rattle.graphql_value_rules.specs.Adds.{PlacedFault}
+use Rattle.graphql_rule_definitions.specs.Told.{PlacedFault}
 use Rattle.graphql_use_rules.specs.Steps.{DisallowedUsage, GivenArgumentBreaks, FirstGivenBreaks}
 use Rattle.graphql_use_rules.proofs.Listing.{Lists, lists_same, lists_nothing, lists_where}
 

@@ -6,7 +6,7 @@ use Rattle.graphql_schema.specs.in_schema_types.SchemaTree.{SchemaType, SchemaTr
 use Rattle.graphql_schema.specs.in_schema_types.Addresses.{applied}
 use Rattle.graphql_rule_definitions.specs.Words.{AtSomeIndex}
 use Rattle.graphql_rule_definitions.specs.Rules.{type_location}
-use Rattle.graphql_value_rules.specs.Adds.{PlacedFault}
+use Rattle.graphql_rule_definitions.specs.Told.{PlacedFault}
 use Rattle.graphql_use_rules.specs.SchemaUses.{FieldsUses, ValuesUses, InputsUses, OwnUses, PartsUses, UsesAt, is_built_in_scalar}
 use Rattle.graphql_use_rules.proofs.Listing.{Gains, gains_same, gains_nothing}
 

@@ -20,7 +20,7 @@ use Rattle.graphql_rule_definitions.specs.Faults.{FaultAt, wrong}
 use Rattle.graphql_rule_definitions.specs.Judged.{Judged, judged}
 use Rattle.graphql_rule_definitions.specs.Values.{Variables, defined_name, is_absent_or_null, UniqueInputValueIn, UndefinedVariableIn, TypeBreaks}
 use Rattle.graphql_rule_definitions.specs.Uses.{Taker, argument_name, input_name, directive_name, directive_taker, IsVariableUsageAllowed, UniqueArgumentAt, GivenBreaks, AtArgumentGiven, UndefinedArgumentAt, RequiredArgumentAt, DisallowedVariableUsageAt, ArgumentValueBreaks, TakerBreaks, UndefinedDirectiveAt, UnsupportedLocationAt, UniqueDirectiveAt, UseBreaks, UsesBreak}
-use Rattle.graphql_value_rules.specs.Adds.{PlacedFault}
+use Rattle.graphql_rule_definitions.specs.Told.{PlacedFault}
 use Rattle.graphql_value_rules.specs.Wanting.{wanted}
 use Rattle.graphql_use_rules.specs.Trees.{plain_inputs}
 use Rattle.graphql_use_rules.specs.UseFaults.{undefined_directive, repeated_argument, undefined_argument, required_argument, unsupported_location, found_repeated, repeated_directive}

@@ -9,7 +9,8 @@ use Rattle.graphql_rule_definitions.specs.Spots.{At, spotted_directives}
 use Rattle.graphql_rule_definitions.specs.Judged.{judged}
 use Rattle.graphql_rule_definitions.specs.Uses.{UsesBreak}
 use Rattle.graphql_rule_definitions.specs.Rules.{SchemaUsesBreak}
-use Rattle.graphql_use_rules.specs.SchemaUses.{PlacedFault, Told, HasDistinctNames, SchemaUses}
+use Rattle.graphql_rule_definitions.specs.Told.{PlacedFault, Told}
+use Rattle.graphql_use_rules.specs.SchemaUses.{HasDistinctNames, SchemaUses}
 
 -- at one place
 abbrev pub UsesToldInPlace : Type 0

@@ -17,15 +17,8 @@ use Rattle.graphql_rule_definitions.specs.Words.{AtSomeIndex}
 use Rattle.graphql_rule_definitions.specs.Faults.{FaultAt, SchemaFault}
 use Rattle.graphql_rule_definitions.specs.Judged.{Judged, judged}
 use Rattle.graphql_rule_definitions.specs.Uses.{UsesBreak}
-use Rattle.graphql_rule_definitions.specs.Rules.{type_location, IsToldAs}
-
--- what breaks a rule, at its place in a text
-abbrev pub PlacedFault : Type 0
-PlacedFault = FaultAt Place (List Place)
-
--- a rule on schemas fails, and this tells it
-abbrev pub Told : SchemaTree Place → (Judged → SchemaFault → Type 0) → PlacedFault → Type 0
-Told s Breaks f = (broken : SchemaFault) × (Breaks (judged s) broken × IsToldAs s broken f)
+use Rattle.graphql_rule_definitions.specs.Rules.{type_location}
+use Rattle.graphql_rule_definitions.specs.Told.{PlacedFault, Told}
 
 -- no two things stand under one name
 pub record HasDistinctNames (s : SchemaTree Place) : Type 0 where

@@ -16,7 +16,7 @@ use Rattle.graphql_rule_definitions.specs.Words.{Present}
 use Rattle.graphql_rule_definitions.specs.Judged.{judged}
 use Rattle.graphql_rule_definitions.specs.Values.{Variables, defined_name, UniqueInputValueIn, UndefinedVariableIn, TypeBreaks}
 use Rattle.graphql_rule_definitions.specs.Uses.{argument_name, IsVariableUsageAllowed, UnsupportedLocationAt, TakerBreaks, directive_taker}
-use Rattle.graphql_value_rules.specs.Adds.{PlacedFault}
+use Rattle.graphql_rule_definitions.specs.Told.{PlacedFault}
 use Rattle.graphql_value_rules.specs.Wanting.{wanted}
 use Rattle.graphql_use_rules.specs.Trees.{plain_inputs}
 

@@ -11,7 +11,7 @@ use Rattle.graphql_rule_definitions.specs.Diagnostics.{UniqueArgument, Undefined
 use Rattle.graphql_rule_definitions.specs.Faults.{FaultAt, wrong}
 use Rattle.graphql_rule_definitions.specs.Values.{is_absent_or_null}
 use Rattle.graphql_rule_definitions.specs.Uses.{Taker, argument_name, input_name, directive_name}
-use Rattle.graphql_value_rules.specs.Adds.{PlacedFault}
+use Rattle.graphql_rule_definitions.specs.Told.{PlacedFault}
 
 -- an argument behind these
 abbrev pub repeated_argument : Arguments Place → Placed Place (ArgumentTree Place) → List PlacedFault

@@ -13,7 +13,7 @@ ghost use Rattle.graphql_fault_data.specs.FaultView.{fault_of, faults_of};
 ghost use Rattle.graphql_rule_definitions.specs.Words.{AtSomeIndex};
 ghost use Rattle.graphql_rule_definitions.specs.Judged.{judged};
 ghost use Rattle.graphql_rule_definitions.specs.Uses.{directive_name, UseBreaks, UsesBreak};
-ghost use Rattle.graphql_value_rules.specs.Adds.{Adds};
+ghost use Rattle.graphql_fault_data.specs.Adds.{Adds};
 ghost use Rattle.graphql_value_rules.specs.Wanting.{variables_of};
 ghost use Rattle.graphql_use_rules.specs.Trees.{directives_of, inputs_of, no_schema, tree_of};
 ghost use Rattle.graphql_use_rules.specs.UseFaults.{undefined_directive, unsupported_location, repeated_directive, found_repeated};

@@ -9,7 +9,7 @@ ghost use Rattle.graphql_schema.specs.in_schema_types.Addresses.{Address};
 ghost use Rattle.graphql_fault_data.specs.FaultView.{fault_of, faults_of};
 ghost use Rattle.graphql_rule_definitions.specs.Words.{AtSomeIndex};
 ghost use Rattle.graphql_rule_definitions.specs.Uses.{GivenBreaks};
-ghost use Rattle.graphql_value_rules.specs.Adds.{Adds};
+ghost use Rattle.graphql_fault_data.specs.Adds.{Adds};
 ghost use Rattle.graphql_value_rules.specs.Wanting.{variables_of};
 ghost use Rattle.graphql_use_rules.specs.Trees.{arguments_of};
 ghost use Rattle.graphql_use_rules.specs.UseFaults.{repeated_argument};

@@ -11,9 +11,10 @@ ghost use Rattle.graphql_schema.specs.in_schema_types.TypeView.{name_text, exten
 ghost use Rattle.graphql_schema.specs.in_schema_types.Addresses.{applied};
 ghost use Rattle.graphql_schema.specs.SchemaOf.{schema_tree};
 ghost use Rattle.graphql_rule_definitions.specs.Rules.{type_location, SchemaUsesBreak};
-ghost use Rattle.graphql_value_rules.specs.Adds.{Adds};
+ghost use Rattle.graphql_fault_data.specs.Adds.{Adds};
 ghost use Rattle.graphql_use_rules.specs.Trees.{inputs_of, directives_of};
-ghost use Rattle.graphql_use_rules.specs.SchemaUses.{Told, HasDistinctNames, UsesAt, ArgumentUses, FieldUses, FieldsUses, ValuesUses, InputsUses, OwnUses, PartsUses, TypesUses, DefinitionUses};
+ghost use Rattle.graphql_rule_definitions.specs.Told.{Told};
+ghost use Rattle.graphql_use_rules.specs.SchemaUses.{HasDistinctNames, UsesAt, ArgumentUses, FieldUses, FieldsUses, ValuesUses, InputsUses, OwnUses, PartsUses, TypesUses, DefinitionUses};
 
 use crate::directives::check_uses;
 use graphql_components::{Component, DirectiveList};

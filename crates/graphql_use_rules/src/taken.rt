@@ -14,7 +14,7 @@ ghost use Rattle.graphql_rule_definitions.specs.Words.{AtSomeIndex};
 ghost use Rattle.graphql_rule_definitions.specs.Judged.{judged};
 ghost use Rattle.graphql_rule_definitions.specs.Values.{is_absent_or_null};
 ghost use Rattle.graphql_rule_definitions.specs.Uses.{TakerBreaks};
-ghost use Rattle.graphql_value_rules.specs.Adds.{Adds};
+ghost use Rattle.graphql_fault_data.specs.Adds.{Adds};
 ghost use Rattle.graphql_value_rules.specs.Wanting.{variables_of};
 ghost use Rattle.graphql_use_rules.specs.Trees.{arguments_of, inputs_of, taker_of, StandsIn};
 ghost use Rattle.graphql_use_rules.specs.UseFaults.{undefined_argument, required_argument};

@@ -5,7 +5,7 @@ use Rattle.graphql_schema.specs.in_schema_types.Addresses.{place_at}
 use Rattle.graphql_schema.specs.declared.schema.Schema.{Schema}
 use Rattle.graphql_rule_definitions.specs.Judged.{judged}
 use Rattle.graphql_rule_definitions.specs.Uses.{UsesBreak}
-use Rattle.graphql_value_rules.specs.Adds.{Adds}
+use Rattle.graphql_fault_data.specs.Adds.{Adds}
 use Rattle.graphql_value_rules.specs.Wanting.{variables_of}
 use Rattle.graphql_use_rules.specs.Trees.{directives_of, tree_of}
 use Rattle.graphql_use_rules.proofs.directives.check_directives.Goals as goal

@@ -8,7 +8,7 @@ use Rattle.graphql_schema.specs.in_schema_types.Plain.{plain_directive_definitio
 use Rattle.graphql_fault_data.specs.FaultView.{faults_of}
 use Rattle.graphql_rule_definitions.specs.Judged.{judged}
 use Rattle.graphql_rule_definitions.specs.Uses.{GivenBreaks}
-use Rattle.graphql_value_rules.specs.Adds.{Adds}
+use Rattle.graphql_fault_data.specs.Adds.{Adds}
 use Rattle.graphql_value_rules.specs.Wanting.{variables_of}
 use Rattle.graphql_use_rules.specs.Trees.{arguments_of, no_schema}
 use Rattle.graphql_use_rules.specs.UseFaults.{undefined_directive}

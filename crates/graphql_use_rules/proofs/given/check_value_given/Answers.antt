@@ -5,7 +5,7 @@ use Rattle.graphql_names.specs.Placed.{node_tree}
 use Rattle.graphql_directives.specs.DirectiveTree.{ArgumentTree, argument_tree}
 use Rattle.graphql_directives.specs.declared.directive.Argument.{Argument}
 use Rattle.graphql_names.specs.Node.{place}
-use Rattle.graphql_value_rules.specs.Adds.{Adds}
+use Rattle.graphql_fault_data.specs.Adds.{Adds}
 use Rattle.graphql_fault_data.specs.FaultView.{faults_of}
 use Rattle.graphql_value_rules.specs.Wanting.{variables_of}
 use Rattle.graphql_use_rules.specs.Steps.{ValueGivenBreaks}

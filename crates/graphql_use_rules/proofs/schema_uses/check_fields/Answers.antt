@@ -9,7 +9,7 @@ use Rattle.graphql_components.specs.Given.{component_tree}
 use Rattle.graphql_schema.specs.in_schema_types.TypeView.{name_text}
 use Rattle.graphql_schema.specs.SchemaOf.{schema_tree}
 use Rattle.graphql_fault_data.specs.FaultView.{faults_of}
-use Rattle.graphql_value_rules.specs.Adds.{Adds}
+use Rattle.graphql_fault_data.specs.Adds.{Adds}
 use Rattle.graphql_use_rules.specs.SchemaUses.{FieldUses}
 use Rattle.graphql_use_rules.proofs.Listing.{gains_more}
 use Rattle.graphql_use_rules.proofs.SchemaSteps.{pairs_more}

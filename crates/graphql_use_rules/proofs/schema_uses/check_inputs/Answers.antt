@@ -8,7 +8,7 @@ use Rattle.graphql_components.specs.Given.{component_tree}
 use Rattle.graphql_schema.specs.in_schema_types.TypeView.{name_text}
 use Rattle.graphql_schema.specs.SchemaOf.{schema_tree}
 use Rattle.graphql_fault_data.specs.FaultView.{faults_of}
-use Rattle.graphql_value_rules.specs.Adds.{Adds}
+use Rattle.graphql_fault_data.specs.Adds.{Adds}
 use Rattle.graphql_directives.specs.declared.directive_location.DirectiveLocation.TheVariants as location
 use Rattle.graphql_directives.specs.DirectiveTree.{Directives, input_value_tree}
 use Rattle.graphql_use_rules.specs.Trees.{directives_of}

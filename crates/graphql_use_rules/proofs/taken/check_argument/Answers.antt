@@ -6,7 +6,7 @@ use Rattle.graphql_directives.specs.declared.directive.Argument.{Argument}
 use Rattle.graphql_directives.specs.declared.input_value.InputValueDefinition.{InputValueDefinition}
 use Rattle.graphql_fault_data.specs.FaultView.{fault_of, faults_of}
 use Rattle.graphql_schema.specs.SchemaOf.{schema_tree}
-use Rattle.graphql_value_rules.specs.Adds.{Adds}
+use Rattle.graphql_fault_data.specs.Adds.{Adds}
 use Rattle.graphql_value_rules.specs.Wanting.{variables_of}
 use Rattle.graphql_use_rules.specs.Steps.{Lists, DisallowedUsage, GivenArgumentBreaks}
 use Rattle.graphql_use_rules.proofs.Listing.{gains_both, gains_list}
