@@ -17,6 +17,15 @@ nowhere xs R e h = absurd (true≢false (sym (ap is_some (ap (λ l. slice_get l 
 pub pairs_more : {X Y Z : Type 0} (g : Y → Z) (d : X → Y) (xs : List X) (x : X) → map g (map d (xs ++ x ∷ [])) ≡ map g (map d xs) ++ g (d x) ∷ []
 pairs_more g d xs x = ap (map g) (map-append d xs (x ∷ [])) ∙ map-append g (map d xs) (d x ∷ [])
 
+-- of two tests one fails
+pub first_fails : (a b : Bool) → a ≡ false → (a && b) ≡ false
+first_fails true b e = absurd (true≢false e)
+first_fails false b e = refl
+
+pub second_fails : (a b : Bool) → b ≡ false → (a && b) ≡ false
+second_fails true b e = e
+second_fails false b e = refl
+
 module _ (s : SchemaTree Place) (t : SchemaType Place) where
   pub only_fields : t.values ≡ [] → t.inputs ≡ [] → (f : PlacedFault) → FieldsUses s t.fields f ↔ PartsUses s t f
   only_fields v i f = (λ h. inl h, λ h. elim h [ inl a ↦ a | inr r ↦ elim r [ inl b ↦ nowhere t.values _ v b | inr b ↦ nowhere t.inputs _ i b ] ])

@@ -29,7 +29,9 @@ use Rattle.graphql_rule_definitions.specs.Judged.{Judged, judged, bare, IsBuiltI
 use Rattle.graphql_rule_definitions.specs.Uses.{UsesBreak}
 use Rattle.graphql_rule_definitions.specs.Rules.{type_location, AtDirectives, SchemaUsesBreak, IsToldAs, extension_places_at}
 use Rattle.graphql_rule_definitions.specs.Told.{PlacedFault, Told}
-use Rattle.graphql_use_rules.specs.SchemaUses.{HasDistinctNames, is_built_in_scalar, UsesAt, ArgumentUses, FieldUses, FieldsUses, ValuesUses, InputsUses, OwnUses, TypeUses, DefinitionUses, SchemaUses}
+use Rattle.graphql_rule_definitions.specs.Distinct.{AreAllDistinct}
+use Rattle.graphql_rule_definitions.proofs.Lists.{index_given}
+use Rattle.graphql_use_rules.specs.SchemaUses.{is_built_in_scalar, UsesAt, ArgumentUses, FieldUses, FieldsUses, ValuesUses, InputsUses, OwnUses, TypeUses, DefinitionUses, SchemaUses}
 use Rattle.graphql_use_rules.proofs.Moves.{Moves, moves_either, moves_where}
 use Rattle.graphql_use_rules.proofs.SpottedUses.{uses_told}
 
@@ -137,11 +139,6 @@ module _ {A B : Type 0} (Is : A → B → Type 0) {X Y : Type 0} (u : X → Y) w
         (i, (x.0, (x.1.0, (each i x.0 x.1.0 f).1 (q.0, (subst (λ y. R i y q.0) (sym x.1.1) q.1.0.1.1.1, q.1.1))))),
   )
 
-all_at : {X : Type 0} (P : X → Type 0) (xs : List X) → AllByRecursion P xs → (i : ℕ) (x : X) → slice_get xs i ≡ Some x → P x
-all_at P [] all i x e = no_some x e
-all_at P (y ∷ xs) all zero x e = subst P (same_Some _ _ e) all.0
-all_at P (y ∷ xs) all (suc i) x e = all_at P xs all.1 i x e
-
 -- ---- directives without places
 
 bare_directives : (ds : Directives Place) → bare (map (unplaced_node unplaced_directive) ds) ≡ map (λ d. unplaced_directive d.it) ds
@@ -154,7 +151,7 @@ bare_applied s (d ∷ ds) = ap (λ l. unplaced_directive d.it.it ∷ l) (bare_ap
 
 -- ---- at each place of the schema
 
-module _ (s : SchemaTree Place) (distinct : HasDistinctNames s) where
+module _ (s : SchemaTree Place) (distinct : AreAllDistinct s) where
   abbrev T : (SchemaFault → Type 0) → (PlacedFault → Type 0) → Type 0
   T R S = Moves (IsToldAs s) R S
 
@@ -264,10 +261,7 @@ module _ (s : SchemaTree Place) (distinct : HasDistinctNames s) where
   told_types : T (λ g. Somewhere (judged s).type_named (λ n l. OfType n l g)) (λ f. AtSomeIndex s.types (λ i e. TypeUses s e.1 f))
   told_types =
       told_entries (IsToldAs s) (λ t. type_looks (plain_type t)) s.types distinct.types (judged s).type_named look_type OfType (λ t f. TypeUses s t f)
-      (λ i e at there. told_type e.0 e.1 there
-      (all_at (λ e. IsDistinct bytes_eq (keys_of e.1.fields)) s.types distinct.fields i e at)
-      (all_at (λ e. IsDistinct bytes_eq (keys_of e.1.values)) s.types distinct.values i e at)
-      (all_at (λ e. IsDistinct bytes_eq (keys_of e.1.inputs)) s.types distinct.inputs i e at))
+      (λ i e at there. let parts = distinct.parts e (index_given s.types i e at) in told_type e.0 e.1 there parts.fields parts.values parts.inputs)
 
   -- all definitions of directives
   told_definitions : T (λ g. Somewhere (judged s).directive (λ n d. AtSomeIndex d.arguments (λ i v. By (ArgumentAt (DirectiveDefinitionAt n) i) location.ArgumentDefinition (bare v.it.directives) g))) (DefinitionUses s s.directives)

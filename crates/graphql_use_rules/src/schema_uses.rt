@@ -14,7 +14,8 @@ ghost use Rattle.graphql_rule_definitions.specs.Rules.{type_location, SchemaUses
 ghost use Rattle.graphql_fault_data.specs.Adds.{Adds};
 ghost use Rattle.graphql_use_rules.specs.Trees.{inputs_of, directives_of};
 ghost use Rattle.graphql_rule_definitions.specs.Told.{Told};
-ghost use Rattle.graphql_use_rules.specs.SchemaUses.{HasDistinctNames, UsesAt, ArgumentUses, FieldUses, FieldsUses, ValuesUses, InputsUses, OwnUses, PartsUses, TypesUses, DefinitionUses};
+ghost use Rattle.graphql_rule_definitions.specs.Distinct.{AreAllDistinct};
+ghost use Rattle.graphql_use_rules.specs.SchemaUses.{UsesAt, ArgumentUses, FieldUses, FieldsUses, ValuesUses, InputsUses, OwnUses, PartsUses, TypesUses, DefinitionUses};
 
 use crate::directives::check_uses;
 use graphql_components::{Component, DirectiveList};
@@ -223,7 +224,7 @@ fn check_definitions(
 /// Adds the faults of the directives that are used in the schema: at its definition, at types but built-in scalars, and at
 /// fields, arguments, values and input fields. What is defined twice stands once, under its name.
 pub fn check_schema_directives(schema: &Schema, faults: &mut Vec<Fault>) -> Result<(), AllocError>
-    requires { HasDistinctNames (schema_tree schema.now) }
+    requires { AreAllDistinct (schema_tree schema.now) }
     ensures { OnOk result (Adds faults.old faults.new (Told (schema_tree schema.now) SchemaUsesBreak)) }
 {
     check_applied(

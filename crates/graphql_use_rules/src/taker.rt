@@ -4,11 +4,11 @@ ghost use Rattle.graphql_components.specs.Coordinate.{OfAttribute, OfArgument, O
 ghost use Rattle.graphql_fault_data.specs.in_coords.CoordinateView.{schema_coordinate};
 ghost use Rattle.graphql_use_rules.specs.Trees.{coordinate_of, argument_coordinate_of};
 
+use graphql_directives::{Argument, InputValueDefinition};
 use graphql_fault_data::graphql_coords::{
     DirectiveArgumentCoordinate, DirectiveCoordinate, FieldArgumentCoordinate, SchemaCoordinate,
     TypeAttributeCoordinate,
 };
-use graphql_directives::{Argument, InputValueDefinition};
 use graphql_names::{Name, Node, SourceSpan};
 use std::alloc::AllocError;
 

@@ -18,7 +18,7 @@ ghost use Rattle.graphql_use_rules.specs.Steps.{Lists, FitsWithDefault, Disallow
 
 use graphql_directives::{Argument, InputValueDefinition};
 use graphql_fault_data::{DiagnosticData, Fault};
-use graphql_literals::{Type, Value};
+use graphql_literals::Type;
 use graphql_names::{Name, Node};
 use graphql_operations::VariableDefinition;
 use std::alloc::AllocError;
@@ -120,7 +120,6 @@ fn told_usage(
 }
 
 /// DisallowedVariableUsage: a variable that is given may stand there (section 5.8.5).
-#[tactic(auto, using(graphql_literals::proofs::Trees::value_tree_rules))]
 pub(crate) fn disallowed_variable_usage(
     argument: &Node<Argument>,
     definition: &InputValueDefinition,
@@ -128,7 +127,7 @@ pub(crate) fn disallowed_variable_usage(
 ) -> Result<Option<Fault>, AllocError>
     ensures { IfOk result (λ r. Lists (map fault_of (option_to_list r)) (DisallowedUsage (variables_of variables.now) (input_value_tree definition.now) (node_tree argument_tree argument.now))) }
 {
-    let Value::Variable(name) = argument.content().value.content() else {
+    let Some(name) = argument.content().value.content().as_variable() else {
         return Ok(None);
     };
     let Some(variable) = find_variable(variables, name) else {

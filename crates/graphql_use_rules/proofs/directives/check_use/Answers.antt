@@ -1,4 +1,4 @@
-use Rattle.std.proofs.Common.{[], ◌∷◌, ◌++◌, sym, ap, subst, ◌∙◌}
+use Rattle.std.proofs.Common.{ℕ, List, [], ◌∷◌, ◌++◌, sym, ap, subst, ◌∙◌}
 use Rattle.std.proofs.lemmas.Result.{on_ok_weaker}
 use Rattle.graphql_names.specs.Placed.{Place, node_tree}
 use Rattle.graphql_directives.specs.DirectiveTree.{Arguments, directive_tree, directive_definition_tree}
@@ -25,7 +25,7 @@ returns-in_ok-fault-in-None c =
     let d = node_tree directive_tree c.args.directive.now in
     let a = faults_of c.args.faults.now in
     let b = faults_of c.check_given.new.faults in
-    let defined = λ n. get_under (plain_directive_definition {P = Place}) n s.directives in
+    let defined = λ (n : List ℕ). get_under (plain_directive_definition {P = Place}) n s.directives in
     let taken = ap arguments_of c.deref.ensures.value ∙ ap (λ (x : Directive). arguments_of x.arguments.items) c.content-used.ensures in
     let given = subst (λ (l : Arguments Place). Adds c.args.faults.now c.check_given.new.faults (GivenBreaks (place_at s) (judged s) vs l)) taken (c.in_ok-check_given.ensures (place_at s) (judged s)) in
     let same = ap (λ (x : Directive). directive_definition_at s x.name.text) (sym c.content-used.ensures) in
@@ -42,7 +42,7 @@ returns-in-Some c =
     let d = node_tree directive_tree c.args.directive.now in
     let a = faults_of c.args.faults.now in
     let b = faults_of c.check_given.new.faults in
-    let defined = λ n. get_under (plain_directive_definition {P = Place}) n s.directives in
+    let defined = λ (n : List ℕ). get_under (plain_directive_definition {P = Place}) n s.directives in
     let taken = ap arguments_of c.deref.ensures.value ∙ ap (λ (x : Directive). arguments_of x.arguments.items) c.content-used.ensures in
     let given = subst (λ (l : Arguments Place). Adds c.args.faults.now c.check_given.new.faults (GivenBreaks (place_at s) (judged s) vs l)) taken (c.in_ok-check_given.ensures (place_at s) (judged s)) in
     let same = ap (λ (x : Directive). directive_definition_at s x.name.text) (sym c.content-used.ensures) in

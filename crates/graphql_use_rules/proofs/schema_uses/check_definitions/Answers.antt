@@ -1,11 +1,10 @@
-use Rattle.std.proofs.Common.{map, ap, subst, ◌∙◌}
+use Rattle.std.proofs.Common.{ℕ, List, map, ap, subst, ◌∙◌}
 use Rattle.std.specs.Borrow.{Bor}
 use Rattle.graphql_names.specs.NameValue.{NameValue}
-use Rattle.graphql_names.specs.Placed.{Place, node_tree}
+use Rattle.graphql_names.specs.Placed.{Placed, Place, node_tree}
 use Rattle.graphql_names.specs.declared.node.Node.{Node}
 use Rattle.graphql_directives.specs.declared.directive.DirectiveDefinition.{DirectiveDefinition}
-use Rattle.graphql_directives.specs.DirectiveTree.{InputValues, directive_definition_tree}
-use Rattle.graphql_components.specs.Given.{component_tree}
+use Rattle.graphql_directives.specs.DirectiveTree.{InputValues, DirectiveDefinitionTree, directive_definition_tree}
 use Rattle.graphql_schema.specs.in_schema_types.TypeView.{name_text}
 use Rattle.graphql_schema.specs.SchemaOf.{schema_tree}
 use Rattle.graphql_fault_data.specs.FaultView.{faults_of}
@@ -19,7 +18,7 @@ use Rattle.graphql_use_rules.proofs.schema_uses.check_definitions.Goals as goal
 pub loop-definition-preserved : goal.loop-definition-preserved
 loop-definition-preserved c =
     let s = schema_tree c.args.schema.now in
-    let g = λ (e : NameValue × Node DirectiveDefinition). (name_text e.0, node_tree directive_definition_tree e.1) in
+    let g : NameValue × Node DirectiveDefinition → List ℕ × Placed Place (DirectiveDefinitionTree Place) = λ e. (name_text e.0, node_tree directive_definition_tree e.1) in
     let d : (Bor NameValue × Bor (Node DirectiveDefinition)) → NameValue × Node DirectiveDefinition = λ e. (e.0.now, e.1.now) in
     gains_more (faults_of c.args.faults.now) (faults_of c.loop-definition.faults) (faults_of c.check_arguments.new.faults) (map g (map d c.loop-definition.yielded)) _ _
     (λ k e f. ArgumentUses s e.1.it.arguments f) (pairs_more g d c.loop-definition.yielded _) c.loop-definition.invariant

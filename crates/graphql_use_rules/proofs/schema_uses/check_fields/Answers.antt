@@ -1,11 +1,11 @@
-use Rattle.std.proofs.Common.{map, ap, subst, ◌∙◌}
+use Rattle.std.proofs.Common.{ℕ, List, map, ap, subst, ◌∙◌}
 use Rattle.std.specs.Borrow.{Bor}
 use Rattle.graphql_names.specs.NameValue.{NameValue}
-use Rattle.graphql_names.specs.Placed.{Place, node_tree}
+use Rattle.graphql_names.specs.Placed.{Placed, Place}
 use Rattle.graphql_components.specs.declared.component.Component.{Component}
 use Rattle.graphql_type_members.specs.declared.field_definition.FieldDefinition.{FieldDefinition}
-use Rattle.graphql_type_members.specs.TypeSystemTree.{field_definition_tree}
-use Rattle.graphql_components.specs.Given.{component_tree}
+use Rattle.graphql_type_members.specs.TypeSystemTree.{FieldDefinitionTree, field_definition_tree}
+use Rattle.graphql_components.specs.Given.{Given, component_tree}
 use Rattle.graphql_schema.specs.in_schema_types.TypeView.{name_text}
 use Rattle.graphql_schema.specs.SchemaOf.{schema_tree}
 use Rattle.graphql_fault_data.specs.FaultView.{faults_of}
@@ -18,7 +18,7 @@ use Rattle.graphql_use_rules.proofs.schema_uses.check_fields.Goals as goal
 pub loop-field-preserved : goal.loop-field-preserved
 loop-field-preserved c =
     let s = schema_tree c.args.schema.now in
-    let g = λ (e : NameValue × Component FieldDefinition). (name_text e.0, component_tree field_definition_tree e.1) in
+    let g : NameValue × Component FieldDefinition → List ℕ × Given Place (Placed Place (FieldDefinitionTree Place)) = λ e. (name_text e.0, component_tree field_definition_tree e.1) in
     let d : (Bor NameValue × Bor (Component FieldDefinition)) → NameValue × Component FieldDefinition = λ e. (e.0.now, e.1.now) in
     gains_more (faults_of c.args.faults.now) (faults_of c.loop-field.faults) (faults_of c.check_field.new.faults) (map g (map d c.loop-field.yielded)) _ _
     (λ k e f. FieldUses s e.1.it.it f) (pairs_more g d c.loop-field.yielded _) c.loop-field.invariant

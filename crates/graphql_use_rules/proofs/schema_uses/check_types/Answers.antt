@@ -1,6 +1,8 @@
-use Rattle.std.proofs.Common.{map}
+use Rattle.std.proofs.Common.{ℕ, List, map}
 use Rattle.std.specs.Borrow.{Bor}
 use Rattle.graphql_names.specs.NameValue.{NameValue}
+use Rattle.graphql_names.specs.Placed.{Place}
+use Rattle.graphql_schema.specs.in_schema_types.SchemaTree.{SchemaType}
 use Rattle.graphql_schema.specs.in_schema_types.TypeView.{name_text, extended_type}
 use Rattle.graphql_schema.specs.in_schema_types.declared.extended_type.ExtendedType.{ExtendedType}
 use Rattle.graphql_schema.specs.SchemaOf.{schema_tree}
@@ -13,7 +15,7 @@ use Rattle.graphql_use_rules.proofs.schema_uses.check_types.Goals as goal
 pub loop-ty-preserved : goal.loop-ty-preserved
 loop-ty-preserved c =
     let s = schema_tree c.args.schema.now in
-    let g = λ (e : NameValue × ExtendedType). (name_text e.0, extended_type e.1) in
+    let g : NameValue × ExtendedType → List ℕ × SchemaType Place = λ e. (name_text e.0, extended_type e.1) in
     let d : (Bor NameValue × Bor ExtendedType) → NameValue × ExtendedType = λ e. (e.0.now, e.1.now) in
     let now = faults_of c.loop-ty.faults in
     let after = faults_of c.check_parts.new.faults in

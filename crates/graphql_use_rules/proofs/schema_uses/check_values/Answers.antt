@@ -1,11 +1,11 @@
-use Rattle.std.proofs.Common.{map, ap, subst, ◌∙◌}
+use Rattle.std.proofs.Common.{ℕ, List, map, ap, subst, ◌∙◌}
 use Rattle.std.specs.Borrow.{Bor}
 use Rattle.graphql_names.specs.NameValue.{NameValue}
-use Rattle.graphql_names.specs.Placed.{Place, node_tree}
+use Rattle.graphql_names.specs.Placed.{Placed, Place}
 use Rattle.graphql_components.specs.declared.component.Component.{Component}
 use Rattle.graphql_type_members.specs.declared.enum_value.EnumValueDefinition.{EnumValueDefinition}
-use Rattle.graphql_type_members.specs.TypeSystemTree.{enum_value_tree}
-use Rattle.graphql_components.specs.Given.{component_tree}
+use Rattle.graphql_type_members.specs.TypeSystemTree.{EnumValueTree, enum_value_tree}
+use Rattle.graphql_components.specs.Given.{Given, component_tree}
 use Rattle.graphql_schema.specs.in_schema_types.TypeView.{name_text}
 use Rattle.graphql_schema.specs.SchemaOf.{schema_tree}
 use Rattle.graphql_fault_data.specs.FaultView.{faults_of}
@@ -21,7 +21,7 @@ use Rattle.graphql_use_rules.proofs.schema_uses.check_values.Goals as goal
 pub loop-value-preserved : goal.loop-value-preserved
 loop-value-preserved c =
     let s = schema_tree c.args.schema.now in
-    let g = λ (e : NameValue × Component EnumValueDefinition). (name_text e.0, component_tree enum_value_tree e.1) in
+    let g : NameValue × Component EnumValueDefinition → List ℕ × Given Place (Placed Place (EnumValueTree Place)) = λ e. (name_text e.0, component_tree enum_value_tree e.1) in
     let d : (Bor NameValue × Bor (Component EnumValueDefinition)) → NameValue × Component EnumValueDefinition = λ e. (e.0.now, e.1.now) in
     gains_more (faults_of c.args.faults.now) (faults_of c.loop-value.faults) (faults_of c.check_at.new.faults) (map g (map d c.loop-value.yielded)) _ _
     (λ k e f. UsesAt s location.EnumValue e.1.it.it.directives f) (pairs_more g d c.loop-value.yielded _) c.loop-value.invariant

@@ -1,7 +1,9 @@
 use Rattle.std.proofs.Common.{◌<◌, ◌+◌, take, length, sym, subst, arith}
 use Rattle.std.proofs.lemmas.List.{take_all}
 use Rattle.graphql_names.specs.Placed.{Place, node_tree}
+use Rattle.graphql_names.specs.declared.node.Node.{Node}
 use Rattle.graphql_directives.specs.DirectiveTree.{Arguments, argument_tree}
+use Rattle.graphql_directives.specs.declared.directive.Argument.{Argument}
 use Rattle.graphql_fault_data.specs.FaultView.{faults_of}
 use Rattle.graphql_schema.specs.SchemaOf.{schema_tree}
 use Rattle.graphql_rule_definitions.specs.Words.{AtSomeIndex}
@@ -23,7 +25,8 @@ loop-index-preserved c =
     let h : i < length xs = omega arith in
     gains_more (faults_of c.args.faults.now) (faults_of c.loop-index.faults) (faults_of c.check_if_first.new.faults) (arguments_of (take i xs)) (arguments_of (take (i + 1) xs)) (node_tree argument_tree x)
     (λ j a f. FirstGivenBreaks s vs definitions (take j (arguments_of xs)) a f) (mapped_more (node_tree argument_tree) xs i x h c.index-taker-index.is) c.loop-index.invariant
-    (subst (λ (l : Arguments Place). Adds c.loop-index.faults c.check_if_first.new.faults (FirstGivenBreaks s vs definitions l (node_tree argument_tree x))) (sym (front_of (node_tree argument_tree) xs i)) c.in_ok-check_if_first.ensures)
+    (subst (λ (l : Arguments Place). Adds c.loop-index.faults c.check_if_first.new.faults (FirstGivenBreaks s vs definitions l (node_tree argument_tree x))) (sym (front_of (node_tree argument_tree) xs i))
+    (subst (λ (a : Node Argument). Adds c.loop-index.faults c.check_if_first.new.faults (FirstGivenBreaks s vs definitions (arguments_of (take i xs)) (node_tree argument_tree a))) (sym c.index-taker-index.is) c.in_ok-check_if_first.ensures))
 
 pub returns : goal.returns
 returns c =
