@@ -1,7 +1,7 @@
 -- What rules tell of trees whose places are others is what they tell of the trees, at the other places: piece by piece, for all rules.
 use Rattle.std.proofs.Common.{◌≡◌, ℕ, ◌<◌, ◌⊎◌, ◌↔◌, List, [], ◌∷◌, map, refl, sym, ap, subst, ◌∙◌, inl, inr, Option, None, Some, zero, suc, slice_get}
 use Rattle.std.specs.Option.{option_map}
-use Rattle.graphql_rule_definitions.specs.Words.{Present, Somewhere, AtSomeIndex, Lacks, IsFirst, FirstNamed, Repeats}
+use Rattle.graphql_rule_definitions.specs.Words.{Present, AtSomeIndex, Lacks, IsFirst, FirstNamed, Repeats}
 
 slice_get-map : {X Y : Type 0} (u : X → Y) (xs : List X) (i : ℕ) → slice_get (map u xs) i ≡ option_map u (slice_get xs i)
 slice_get-map u [] i = refl

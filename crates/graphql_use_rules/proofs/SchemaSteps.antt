@@ -1,5 +1,5 @@
 -- The rules on uses at the parts of a schema, one after another.
-use Rattle.std.proofs.Common.{◌≡◌, ℕ, ◌⊎◌, ◌↔◌, Bool, true, false, ◌&&◌, List, [], ◌∷◌, ◌++◌, map, refl, sym, ap, subst, ◌∙◌, inl, inr, Some, slice_get, true≢false, is_some}
+use Rattle.std.proofs.Common.{◌≡◌, ℕ, ◌↔◌, Bool, true, false, ◌&&◌, List, [], ◌∷◌, ◌++◌, map, refl, sym, ap, ◌∙◌, inl, inr, slice_get, true≢false, is_some}
 use Rattle.std.proofs.lemmas.List.{map-append}
 use Rattle.graphql_names.specs.Placed.{Place}
 use Rattle.graphql_schema.specs.in_schema_types.SchemaTree.{SchemaType, SchemaTree}
@@ -8,7 +8,6 @@ use Rattle.graphql_rule_definitions.specs.Words.{AtSomeIndex}
 use Rattle.graphql_rule_definitions.specs.Rules.{type_location}
 use Rattle.graphql_rule_definitions.specs.Told.{PlacedFault}
 use Rattle.graphql_use_rules.specs.SchemaUses.{FieldsUses, ValuesUses, InputsUses, OwnUses, PartsUses, UsesAt, is_built_in_scalar}
-use Rattle.graphql_use_rules.proofs.Listing.{Gains, gains_same, gains_nothing}
 
 nowhere : {X A : Type 0} (xs : List X) (R : ℕ → X → Type 0) → xs ≡ [] → AtSomeIndex xs R → A
 nowhere xs R e h = absurd (true≢false (sym (ap is_some (ap (λ l. slice_get l h.0) (sym e) ∙ h.1.1.0))))

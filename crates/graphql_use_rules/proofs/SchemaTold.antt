@@ -21,13 +21,13 @@ use Rattle.graphql_schema_types.specs.declared.type_kind.TypeKind.{TypeKind}
 use Rattle.graphql_schema_types.specs.declared.type_kind.TypeKind.TheVariants as kind
 use Rattle.graphql_schema_types.specs.Plain.{plain, plain_type, plain_directive_definition}
 use Rattle.graphql_schema_types.specs.Looks.{TypeLooks, type_looks}
-use Rattle.graphql_schema_types.specs.Addresses.{Address, SchemaAt, TypeAt, FieldAt, ValueAt, InputAt, ArgumentAt, DirectiveDefinitionAt, under, type_at, or_nothing, arguments_at, directives_at, applied, place_at, is_marked}
-use Rattle.graphql_rule_definitions.specs.Words.{Present, Somewhere, AtSomeIndex}
+use Rattle.graphql_schema_types.specs.Addresses.{Address, SchemaAt, TypeAt, FieldAt, ValueAt, InputAt, ArgumentAt, DirectiveDefinitionAt, under, type_at, or_nothing, arguments_at, directives_at, applied, is_marked}
+use Rattle.graphql_rule_definitions.specs.Words.{Somewhere, AtSomeIndex}
 use Rattle.graphql_rule_definitions.specs.Spots.{At, spotted_directives}
-use Rattle.graphql_rule_definitions.specs.Faults.{FaultAt, SchemaFault}
-use Rattle.graphql_rule_definitions.specs.Judged.{Judged, judged, bare, IsBuiltInScalar, AtArgument}
+use Rattle.graphql_rule_definitions.specs.Faults.{SchemaFault}
+use Rattle.graphql_rule_definitions.specs.Judged.{judged, bare, IsBuiltInScalar}
 use Rattle.graphql_rule_definitions.specs.Uses.{UsesBreak}
-use Rattle.graphql_rule_definitions.specs.Rules.{type_location, AtDirectives, SchemaUsesBreak, IsToldAs, extension_places_at}
+use Rattle.graphql_rule_definitions.specs.Rules.{type_location, SchemaUsesBreak, IsToldAs, extension_places_at}
 use Rattle.graphql_rule_definitions.specs.Told.{PlacedFault, Told}
 use Rattle.graphql_rule_definitions.specs.Distinct.{AreAllDistinct}
 use Rattle.graphql_rule_definitions.proofs.Lists.{index_given}

@@ -1,7 +1,7 @@
 -- What is told of uses, by the first that is found, is what the rules on uses tell.
-use Rattle.std.proofs.Common.{◌≡◌, ℕ, ◌<◌, ◌⊎◌, ◌↔◌, Bool, true, false, ◌&&◌, List, [], ◌∷◌, map, take, refl, sym, ap, subst, ◌∙◌, inl, inr, Option, None, Some, is_none, is_some, find, bytes_eq, slice_get, Contains, if◌then◌else◌, true≢false}
+use Rattle.std.proofs.Common.{◌≡◌, ℕ, ◌<◌, ◌⊎◌, ◌↔◌, Bool, true, false, ◌&&◌, List, [], ◌∷◌, take, refl, sym, ap, subst, ◌∙◌, inl, inr, Option, None, Some, is_none, is_some, find, slice_get, Contains, if◌then◌else◌, true≢false}
 use Rattle.std.specs.List.{flat_map}
-use Rattle.std.specs.Option.{option_map, option_map_or}
+use Rattle.std.specs.Option.{option_map}
 use Rattle.graphql_names.specs.Placed.{Placed, Place, unplaced_node}
 use Rattle.graphql_literals.specs.TypeTree.{TypeTree, NamedTree, NonNullNamedTree, ListTree, NonNullListTree, unplaced_type}
 use Rattle.graphql_literals.specs.TypeQueries.{has_mark}
@@ -15,19 +15,19 @@ use Rattle.graphql_components.specs.Lists.{each_place}
 use Rattle.graphql_schema.specs.in_schema_types.SchemaTree.{SchemaTree}
 use Rattle.graphql_schema.specs.in_schema_types.Addresses.{Address, ArgumentAt, TypeReferenceAt, DirectiveDefinitionAt, place_at, arguments_at, or_nothing, directive_definition_at}
 use Rattle.graphql_rule_definitions.specs.Diagnostics.{UniqueArgument, UndefinedArgument, RequiredArgument, DisallowedVariableUsage, UniqueDirective, UnsupportedLocation}
-use Rattle.graphql_rule_definitions.specs.Words.{Present, AtSomeIndex, Lacks, IsFirst, FirstNamed, Repeats}
-use Rattle.graphql_rule_definitions.specs.Faults.{FaultAt, wrong}
+use Rattle.graphql_rule_definitions.specs.Words.{Present, AtSomeIndex, Lacks, IsFirst, FirstNamed}
+use Rattle.graphql_rule_definitions.specs.Faults.{wrong}
 use Rattle.graphql_rule_definitions.specs.Judged.{Judged, judged}
-use Rattle.graphql_rule_definitions.specs.Values.{Variables, defined_name, is_absent_or_null, UniqueInputValueIn, UndefinedVariableIn, TypeBreaks}
-use Rattle.graphql_rule_definitions.specs.Uses.{Taker, argument_name, input_name, directive_name, directive_taker, IsVariableUsageAllowed, UniqueArgumentAt, GivenBreaks, AtArgumentGiven, UndefinedArgumentAt, RequiredArgumentAt, DisallowedVariableUsageAt, ArgumentValueBreaks, TakerBreaks, UndefinedDirectiveAt, UnsupportedLocationAt, UniqueDirectiveAt, UseBreaks, UsesBreak}
+use Rattle.graphql_rule_definitions.specs.Values.{Variables, defined_name, is_absent_or_null, TypeBreaks}
+use Rattle.graphql_rule_definitions.specs.Uses.{Taker, argument_name, input_name, directive_name, directive_taker, IsVariableUsageAllowed, UniqueArgumentAt, GivenBreaks, UndefinedArgumentAt, RequiredArgumentAt, DisallowedVariableUsageAt, ArgumentValueBreaks, TakerBreaks, UnsupportedLocationAt, UniqueDirectiveAt, UseBreaks, UsesBreak}
 use Rattle.graphql_rule_definitions.specs.Told.{PlacedFault}
 use Rattle.graphql_value_rules.specs.Wanting.{wanted}
 use Rattle.graphql_use_rules.specs.Trees.{plain_inputs}
 use Rattle.graphql_use_rules.specs.UseFaults.{undefined_directive, repeated_argument, undefined_argument, required_argument, unsupported_location, found_repeated, repeated_directive}
 use Rattle.graphql_use_rules.specs.Steps.{DisallowedUsage, GivenArgumentBreaks, FirstGivenBreaks, DefinedUseBreaks}
 use Rattle.graphql_use_rules.proofs.Moves.{both_ways, same_index_there, each_index, same_lacks, same_first_named}
-use Rattle.graphql_use_rules.proofs.Firsts.{lacks_found, lacks_given, first_is_found, earlier_is_found, found_first, not_found, none_found}
-use Rattle.graphql_use_rules.proofs.Listing.{Lists, lists_same, lists_one, lists_present, lists_absent, lists_when, lists_unless, lists_index, lists_places, lists_nothing, lists_where}
+use Rattle.graphql_use_rules.proofs.Firsts.{lacks_found, lacks_given, first_is_found, earlier_is_found, not_found, none_found}
+use Rattle.graphql_use_rules.proofs.Listing.{Lists, lists_same, lists_one, lists_present, lists_absent, lists_when, lists_unless, lists_index, lists_places, lists_nothing}
 
 swap : {A B : Type 0} → A ↔ B → B ↔ A
 swap h = (h.1, h.0)

@@ -1,5 +1,5 @@
 -- The rules on uses at each place of a schema, entry by entry, and what they tell of it.
-use Rattle.std.specs.Prelude.{◌≡◌, Bool, false, ◌&&◌, List, [], ◌⊎◌}
+use Rattle.std.specs.Prelude.{◌≡◌, Bool, false, ◌&&◌, [], ◌⊎◌}
 use Rattle.graphql_names.specs.Placed.{Placed, Place}
 use Rattle.graphql_names.specs.Places.{is_built_in}
 use Rattle.graphql_directives.specs.DirectiveTree.{Directives, InputValueTree, InputValues, DirectiveDefinitionTree}
@@ -12,11 +12,10 @@ use Rattle.graphql_schema_types.specs.SchemaTree.{SchemaType, SchemaTree, same_k
 use Rattle.graphql_schema_types.specs.Addresses.{place_at, applied}
 use Rattle.graphql_schema_types.specs.declared.type_kind.TypeKind.TheVariants as kind
 use Rattle.graphql_rule_definitions.specs.Words.{AtSomeIndex}
-use Rattle.graphql_rule_definitions.specs.Faults.{FaultAt, SchemaFault}
-use Rattle.graphql_rule_definitions.specs.Judged.{Judged, judged}
+use Rattle.graphql_rule_definitions.specs.Judged.{judged}
 use Rattle.graphql_rule_definitions.specs.Uses.{UsesBreak}
 use Rattle.graphql_rule_definitions.specs.Rules.{type_location}
-use Rattle.graphql_rule_definitions.specs.Told.{PlacedFault, Told}
+use Rattle.graphql_rule_definitions.specs.Told.{PlacedFault}
 
 abbrev pub is_built_in_scalar : SchemaType Place → Bool
 is_built_in_scalar t = same_kind t.kind kind.Scalar && is_built_in t.place

@@ -1,10 +1,10 @@
 -- What parts of the rules tell of what is given against what is defined, by the first that is found (private: it leads to specs/Uses.antt of the rules' definitions).
-use Rattle.std.specs.Prelude.{◌≡◌, ℕ, true, false, is_some, List, Option, None, Some, find, Contains, ◌↔◌, ◌⊎◌, bytes_eq}
+use Rattle.std.specs.Prelude.{◌≡◌, true, false, is_some, List, None, find, Contains, ◌↔◌, ◌⊎◌, bytes_eq}
 use Rattle.graphql_names.specs.Placed.{Placed, Place}
 use Rattle.graphql_literals.specs.TypeTree.{unplaced_type}
 use Rattle.graphql_literals.specs.TypeQueries.{has_mark, nullable_type, AreTypesCompatible}
 use Rattle.graphql_literals.specs.ValueQueries.{variable_name}
-use Rattle.graphql_directives.specs.DirectiveTree.{ArgumentTree, Arguments, DirectiveTree, Directives, InputValueTree, InputValues, DirectiveDefinitionTree, unplaced_input_value}
+use Rattle.graphql_directives.specs.DirectiveTree.{ArgumentTree, Arguments, DirectiveTree, InputValueTree, InputValues, unplaced_input_value}
 use Rattle.graphql_directives.specs.DirectiveQueries.{argument_has_name, input_value_has_name}
 use Rattle.graphql_directives.specs.declared.directive_location.DirectiveLocation.{DirectiveLocation}
 use Rattle.graphql_operations.specs.OperationTree.{VariableDefinitionTree}

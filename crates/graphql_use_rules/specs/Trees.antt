@@ -1,9 +1,9 @@
 -- What is given and defined, and what takes arguments, as rules read it.
 use Rattle.std.specs.Prelude.{◌≡◌, ℕ, List, [], map, Option, None, Some}
 use Rattle.std.specs.Borrow.{Bor}
-use Rattle.graphql_names.specs.Placed.{Placed, Place, node_tree, unplaced_node}
+use Rattle.graphql_names.specs.Placed.{Place, node_tree, unplaced_node}
 use Rattle.graphql_names.specs.declared.node.Node.{Node}
-use Rattle.graphql_directives.specs.DirectiveTree.{ArgumentTree, Arguments, DirectiveTree, Directives, InputValueTree, InputValues, argument_tree, directive_tree, input_value_tree, unplaced_input_value}
+use Rattle.graphql_directives.specs.DirectiveTree.{Arguments, Directives, InputValues, argument_tree, directive_tree, input_value_tree, unplaced_input_value}
 use Rattle.graphql_directives.specs.declared.directive.Argument.{Argument}
 use Rattle.graphql_directives.specs.declared.directive.Directive.{Directive}
 use Rattle.graphql_directives.specs.declared.input_value.InputValueDefinition.{InputValueDefinition}

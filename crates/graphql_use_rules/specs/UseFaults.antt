@@ -1,14 +1,13 @@
 -- What each rule on uses tells, as a list of one fault or none (private: it leads to specs/Uses.antt of the rules' definitions).
-use Rattle.std.specs.Prelude.{◌≡◌, ℕ, Bool, ◌&&◌, not, List, [], ◌∷◌, ◌++◌, Option, None, Some, find, Contains, ◌↔◌, if◌then◌else◌, option_to_list}
-use Rattle.std.specs.List.{list_any}
-use Rattle.std.specs.Option.{option_map, option_map_or}
+use Rattle.std.specs.Prelude.{Bool, ◌&&◌, List, [], ◌∷◌, Option, find, if◌then◌else◌}
+use Rattle.std.specs.Option.{option_map_or}
 use Rattle.graphql_names.specs.Placed.{Placed, Place}
 use Rattle.graphql_literals.specs.TypeTree.{unplaced_type}
 use Rattle.graphql_directives.specs.DirectiveTree.{ArgumentTree, Arguments, DirectiveTree, Directives, InputValueTree, InputValues, DirectiveDefinitionTree}
 use Rattle.graphql_directives.specs.DirectiveQueries.{argument_has_name, input_value_has_name, directive_has_name, given_value, is_required_input}
 use Rattle.graphql_directives.specs.declared.directive_location.DirectiveLocation.{DirectiveLocation}
 use Rattle.graphql_rule_definitions.specs.Diagnostics.{UniqueArgument, UndefinedArgument, RequiredArgument, UndefinedDirective, UniqueDirective, UnsupportedLocation}
-use Rattle.graphql_rule_definitions.specs.Faults.{FaultAt, wrong}
+use Rattle.graphql_rule_definitions.specs.Faults.{wrong}
 use Rattle.graphql_rule_definitions.specs.Values.{is_absent_or_null}
 use Rattle.graphql_rule_definitions.specs.Uses.{Taker, argument_name, input_name, directive_name}
 use Rattle.graphql_rule_definitions.specs.Told.{PlacedFault}

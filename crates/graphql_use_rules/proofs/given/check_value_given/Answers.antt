@@ -1,8 +1,6 @@
-use Rattle.std.proofs.Common.{subst, ◌⊎◌}
+use Rattle.std.proofs.Common.{subst}
 use Rattle.std.proofs.lemmas.Result.{on_ok_weaker}
-use Rattle.graphql_names.specs.Node.{content}
-use Rattle.graphql_names.specs.Placed.{node_tree}
-use Rattle.graphql_directives.specs.DirectiveTree.{ArgumentTree, argument_tree}
+use Rattle.graphql_directives.specs.DirectiveTree.{argument_tree}
 use Rattle.graphql_directives.specs.declared.directive.Argument.{Argument}
 use Rattle.graphql_names.specs.Node.{place}
 use Rattle.graphql_fault_data.specs.Adds.{Adds}

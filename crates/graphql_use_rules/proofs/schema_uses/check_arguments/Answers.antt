@@ -1,6 +1,5 @@
 use Rattle.std.proofs.Common.{◌<◌, ◌+◌, take, length, ap, subst, ◌∙◌, arith}
 use Rattle.std.proofs.lemmas.List.{take_all}
-use Rattle.graphql_names.specs.Node.{content}
 use Rattle.graphql_names.specs.Placed.{Place, node_tree}
 use Rattle.graphql_directives.specs.DirectiveTree.{Directives, input_value_tree}
 use Rattle.graphql_directives.specs.declared.directive_location.DirectiveLocation.TheVariants as location

@@ -1,10 +1,9 @@
 use Rattle.std.specs.List.{flat_map}
-use Rattle.std.proofs.Common.{◌⊎◌, inl, inr}
 use Rattle.std.proofs.lemmas.Result.{on_ok_weaker}
 use Rattle.graphql_fault_data.specs.FaultView.{faults_of}
 use Rattle.graphql_schema.specs.SchemaOf.{schema_tree}
 use Rattle.graphql_value_rules.specs.Wanting.{variables_of}
-use Rattle.graphql_use_rules.specs.Trees.{arguments_of, inputs_of, taker_of}
+use Rattle.graphql_use_rules.specs.Trees.{inputs_of, taker_of}
 use Rattle.graphql_use_rules.specs.UseFaults.{undefined_argument, required_argument}
 use Rattle.graphql_use_rules.proofs.Listing.{gains_both, gains_list, gains_same}
 use Rattle.graphql_use_rules.proofs.Uses.{lists_undefined_arguments, lists_required_arguments, given_arguments}

@@ -1,4 +1,4 @@
-use Rattle.std.proofs.Common.{◌≡◌, ◌⊎◌, true, false, inl, inr, refl, sym, ◌∙◌, subst, true≢false}
+use Rattle.std.proofs.Common.{inl, inr, refl, sym, ◌∙◌, subst, true≢false}
 use Rattle.graphql_names.specs.Node.{content}
 use Rattle.graphql_literals.specs.TypeTree.{type_tree}
 use Rattle.graphql_literals.specs.TypeQueries.{AreTypesCompatible}
