@@ -10,13 +10,16 @@ ghost use Rattle.graphql_directives.specs.DirectiveQueries.{input_value_has_name
 ghost use Rattle.graphql_schema.specs.in_schema_types.Addresses.{place_at};
 ghost use Rattle.graphql_schema.specs.SchemaOf.{schema_tree};
 ghost use Rattle.graphql_fault_data.specs.FaultView.{fault_of, faults_of};
+ghost use Rattle.graphql_fault_data.specs.DiagnosticView.{plain_type};
+ghost use Rattle.graphql_rule_definitions.specs.Diagnostics.{UndefinedArgument, RequiredArgument};
+ghost use Rattle.graphql_rule_definitions.specs.Faults.{wrong};
 ghost use Rattle.graphql_rule_definitions.specs.Words.{AtSomeIndex};
 ghost use Rattle.graphql_rule_definitions.specs.Judged.{judged};
 ghost use Rattle.graphql_rule_definitions.specs.Values.{is_absent_or_null};
 ghost use Rattle.graphql_rule_definitions.specs.Uses.{TakerBreaks};
 ghost use Rattle.graphql_fault_data.specs.Adds.{Adds};
 ghost use Rattle.graphql_value_rules.specs.Wanting.{variables_of};
-ghost use Rattle.graphql_use_rules.specs.Trees.{arguments_of, inputs_of, taker_of, StandsIn};
+ghost use Rattle.graphql_use_rules.specs.Trees.{arguments_of, inputs_of, taker_of, coordinate_of, argument_coordinate_of, StandsIn};
 ghost use Rattle.graphql_use_rules.specs.UseFaults.{undefined_argument, required_argument};
 ghost use Rattle.graphql_use_rules.specs.Steps.{GivenArgumentBreaks, FirstGivenBreaks};
 
@@ -56,17 +59,22 @@ fn undefined_argument(
     let name = &argument.content().name;
     match find_definition(taker.definitions, name) {
         Some(_) => Ok(None),
-        None => {
-            let coordinate = taker.name.coordinate()?;
-            let data = DiagnosticData::UndefinedArgument {
-                name: name.clone()?,
-                coordinate,
-                definition_location: taker.definition_location,
-            };
-            let location = argument.location();
-            Ok(Some(Fault { location, data }))
-        }
+        None => Ok(Some(told_undefined(taker, argument)?)),
     }
+}
+
+/// What is told of an argument that is not defined.
+fn told_undefined(taker: &Taker<'_>, argument: &Node<Argument>) -> Result<Fault, AllocError>
+    ensures { IfOk result (λ r. fault_of r ≡ wrong (place argument.now) (UndefinedArgument (content argument.now).name.text (coordinate_of taker.now.name) taker.now.definition_location)) }
+{
+    let name = argument.content().name.clone()?;
+    let data = DiagnosticData::UndefinedArgument {
+        name,
+        coordinate: taker.name.coordinate()?,
+        definition_location: taker.definition_location,
+    };
+    let location = argument.location();
+    Ok(Fault { location, data })
 }
 
 /// Adds a fault for each argument that is given and not defined.
@@ -100,16 +108,27 @@ fn required_argument(
     if !(definition.content().is_required() && is_not_given(taker.given, name)) {
         return Ok(None);
     }
-    let coordinate = taker.name.argument_coordinate(name)?;
-    let expected_type = definition.content().ty.clone()?;
+    Ok(Some(told_required(taker, definition)?))
+}
+
+/// What is told of a required argument that is not given.
+fn told_required(
+    taker: &Taker<'_>,
+    definition: &Node<InputValueDefinition>,
+) -> Result<Fault, AllocError>
+    ensures { IfOk result (λ r. fault_of r ≡ wrong taker.now.location (RequiredArgument (content definition.now).name.text (argument_coordinate_of taker.now.name (content definition.now).name.text) (plain_type (content (content definition.now).ty)) (place definition.now))) }
+{
+    let defined = definition.content();
+    let expected_type = defined.ty.clone()?;
+    let name = defined.name.clone()?;
     let data = DiagnosticData::RequiredArgument {
-        name: name.clone()?,
-        coordinate,
+        name,
+        coordinate: taker.name.argument_coordinate(&defined.name)?,
         expected_type,
         definition_location: definition.location(),
     };
     let location = taker.location;
-    Ok(Some(Fault { location, data }))
+    Ok(Fault { location, data })
 }
 
 /// Adds a fault for each required argument that is not given.
