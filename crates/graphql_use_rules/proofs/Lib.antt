@@ -6,6 +6,7 @@ pub mod SchemaTold
 pub mod Firsts
 pub mod Listing
 pub mod Types
+pub mod ReadPlaces
 pub mod Known
 pub mod Uses
 pub mod SchemaSteps

@@ -22,10 +22,12 @@ use Rattle.graphql_rule_definitions.specs.Values.{Variables, defined_name, is_ab
 use Rattle.graphql_rule_definitions.specs.Uses.{Taker, argument_name, input_name, directive_name, directive_taker, IsVariableUsageAllowed, UniqueArgumentAt, GivenBreaks, UndefinedArgumentAt, RequiredArgumentAt, DisallowedVariableUsageAt, ArgumentValueBreaks, TakerBreaks, UnsupportedLocationAt, UniqueDirectiveAt, UseBreaks, UsesBreak}
 use Rattle.graphql_rule_definitions.specs.Told.{PlacedFault}
 use Rattle.graphql_value_rules.specs.Wanting.{wanted}
-use Rattle.graphql_use_rules.specs.Trees.{plain_inputs}
+use Rattle.graphql_use_rules.specs.Trees.{inputs_of, plain_inputs, holder_of, AreAlike, TellsPlaces}
+use Rattle.graphql_use_rules.specs.declared.taker.Taker.{Taker as Rust}
 use Rattle.graphql_use_rules.specs.UseFaults.{undefined_directive, repeated_argument, undefined_argument, required_argument, unsupported_location, found_repeated, repeated_directive}
 use Rattle.graphql_use_rules.specs.Steps.{DisallowedUsage, GivenArgumentBreaks, FirstGivenBreaks, DefinedUseBreaks}
 use Rattle.graphql_use_rules.proofs.Moves.{both_ways, same_index_there, each_index, same_lacks, same_first_named}
+use Rattle.graphql_use_rules.proofs.ReadPlaces.{same_type_breaks}
 use Rattle.graphql_use_rules.proofs.Firsts.{lacks_found, lacks_given, first_is_found, earlier_is_found, not_found, none_found}
 use Rattle.graphql_use_rules.proofs.Listing.{Lists, lists_same, lists_one, lists_present, lists_absent, lists_when, lists_unless, lists_index, lists_places, lists_nothing}
 
@@ -65,17 +67,12 @@ both_true : (a b : Bool) → ((a && b) ≡ true) ↔ ((a ≡ true) × (b ≡ tru
 both_true true b = (λ h. (refl, h), λ h. h.1)
 both_true false b = (λ h. absurd (true≢false (sym h)), λ h. h.0)
 
-module _ (s : SchemaTree Place) (variables : Variables Place) (taker : Taker Place) (definitions : InputValues Place) (stands : arguments_at s taker.holder ≡ definitions) where
+module _ (at : Address → Place) (s : SchemaTree Place) (variables : Variables Place) (taker : Taker Place) (definitions : InputValues Place) (alike : AreAlike at (place_at s))
+    (places : (i : ℕ) (v : Placed Place (InputValueTree Place)) → slice_get definitions i ≡ Some v → (at (ArgumentAt taker.holder i) ≡ v.place) × (at (TypeReferenceAt (ArgumentAt taker.holder i)) ≡ v.it.ty.place)) where
   abbrev T : Taker Place
   T = record taker { definitions = plain_inputs definitions }
 
-  argument_place : (i : ℕ) (v : Placed Place (InputValueTree Place)) → slice_get definitions i ≡ Some v → place_at s (ArgumentAt taker.holder i) ≡ v.place
-  argument_place i v e = ap (λ o. or_nothing (option_map (λ x. x.place) o)) (ap (λ l. slice_get l i) stands ∙ e)
-
-  type_place : (i : ℕ) (v : Placed Place (InputValueTree Place)) → slice_get definitions i ≡ Some v → place_at s (TypeReferenceAt (ArgumentAt taker.holder i)) ≡ v.it.ty.place
-  type_place i v e = ap (λ o. or_nothing (option_map (λ (x : Placed Place (InputValueTree Place)). x.it.ty.place) o)) (ap (λ l. slice_get l i) stands ∙ e)
-
-  pub lists_undefined_arguments : Lists (flat_map (undefined_argument T definitions) T.given) (UndefinedArgumentAt (place_at s) (judged s) variables T)
+  pub lists_undefined_arguments : Lists (flat_map (undefined_argument T definitions) T.given) (UndefinedArgumentAt at (judged s) variables T)
   lists_undefined_arguments =
       lists_index T.given (undefined_argument T definitions)
       (λ j a f. Lacks input_name T.definitions (argument_name a) × (f ≡ wrong a.place (UndefinedArgument (argument_name a) T.coordinate T.definition_location)))
@@ -86,12 +83,12 @@ module _ (s : SchemaTree Place) (variables : Variables Place) (taker : Taker Pla
   abbrev told_required : Place → InputValueTree (Unit {0}) → List ℕ → PlacedFault
   told_required place v n = wrong T.place (RequiredArgument n (T.argument_coordinate n) v.ty.it place)
 
-  pub lists_required_arguments : Lists (flat_map (required_argument T) definitions) (RequiredArgumentAt (place_at s) (judged s) variables T)
+  pub lists_required_arguments : Lists (flat_map (required_argument T) definitions) (RequiredArgumentAt at (judged s) variables T)
   lists_required_arguments =
       lists_same (flat_map (required_argument T) definitions)
       (λ f. same_index_there (unplaced_node unplaced_input_value) definitions
       (λ i v. ((is_required_input v.it && is_absent_or_null (given_value (input_name v) T.given)) ≡ true) × (f ≡ told_required v.place (unplaced_input_value v.it) (input_name v)))
-      (λ i v. (is_required_input v.it ≡ true) × ((is_absent_or_null (given_value (input_name v) T.given) ≡ true) × (f ≡ told_required (place_at s (ArgumentAt T.holder i)) v.it (input_name v))))
+      (λ i v. (is_required_input v.it ≡ true) × ((is_absent_or_null (given_value (input_name v) T.given) ≡ true) × (f ≡ told_required (at (ArgumentAt T.holder i)) v.it (input_name v))))
       (λ i v there. required_so f i v there))
       (lists_index definitions (required_argument T)
       (λ i v f. ((is_required_input v.it && is_absent_or_null (given_value (input_name v) T.given)) ≡ true) × (f ≡ told_required v.place (unplaced_input_value v.it) (input_name v)))
@@ -99,12 +96,12 @@ module _ (s : SchemaTree Place) (variables : Variables Place) (taker : Taker Pla
     where
       required_so : (f : PlacedFault) (i : ℕ) (v : Placed Place (InputValueTree Place)) → slice_get definitions i ≡ Some v
           → (((is_required_input v.it && is_absent_or_null (given_value (input_name v) T.given)) ≡ true) × (f ≡ told_required v.place (unplaced_input_value v.it) (input_name v)))
-          ↔ ((is_required_input (unplaced_input_value v.it) ≡ true) × ((is_absent_or_null (given_value (input_name v) T.given) ≡ true) × (f ≡ told_required (place_at s (ArgumentAt T.holder i)) (unplaced_input_value v.it) (input_name v))))
+          ↔ ((is_required_input (unplaced_input_value v.it) ≡ true) × ((is_absent_or_null (given_value (input_name v) T.given) ≡ true) × (f ≡ told_required (at (ArgumentAt T.holder i)) (unplaced_input_value v.it) (input_name v))))
       required_so f i v there =
-          let at = argument_place i v there in
+          let e = (places i v there).0 in
           let same = same_required v.it in (
-            λ h. let r = (both_true _ _).0 h.0 in (same ∙ r.0, (r.1, h.1 ∙ ap (λ p. told_required p (unplaced_input_value v.it) (input_name v)) (sym at))),
-            λ q. ((both_true _ _).1 (sym same ∙ q.0, q.1.0), q.1.1 ∙ ap (λ p. told_required p (unplaced_input_value v.it) (input_name v)) at),
+            λ h. let r = (both_true _ _).0 h.0 in (same ∙ r.0, (r.1, h.1 ∙ ap (λ p. told_required p (unplaced_input_value v.it) (input_name v)) (sym e))),
+            λ q. ((both_true _ _).1 (sym same ∙ q.0, q.1.0), q.1.1 ∙ ap (λ p. told_required p (unplaced_input_value v.it) (input_name v)) e),
           )
 
   -- what is said of the definition and the argument
@@ -113,7 +110,7 @@ module _ (s : SchemaTree Place) (variables : Variables Place) (taker : Taker Pla
       (IsVariableUsageAllowed x.it v → ⊥) × (f ≡ wrong a.place (DisallowedVariableUsage n.it (unplaced_type x.it.ty.it) x.place (argument_name a) v.ty.it a.place))))
 
   abbrev Against : Address → InputValueTree (Unit {0}) → Placed Place (ArgumentTree Place) → PlacedFault → Type 0
-  Against defined v a f = TypeBreaks (place_at s) (judged s) variables (record { it = v.ty.it; place = place_at s (TypeReferenceAt defined) }) a.it.value.place a.it.value.it f
+  Against defined v a f = TypeBreaks at (judged s) variables (record { it = v.ty.it; place = at (TypeReferenceAt defined) }) a.it.value.place a.it.value.it f
 
   same_usage : (v : InputValueTree Place) (a : Placed Place (ArgumentTree Place)) (f : PlacedFault) → Usage (unplaced_input_value v) a f ↔ DisallowedUsage variables v a f
   same_usage v a f =
@@ -126,15 +123,16 @@ module _ (s : SchemaTree Place) (variables : Variables Place) (taker : Taker Pla
   same_argument : (a : Placed Place (ArgumentTree Place)) (f : PlacedFault) (i : ℕ) (v : Placed Place (InputValueTree Place)) → slice_get definitions i ≡ Some v
       → (Usage (unplaced_input_value v.it) a f ⊎ Against (ArgumentAt T.holder i) (unplaced_input_value v.it) a f) ↔ GivenArgumentBreaks s variables v.it a f
   same_argument a f i v there =
-      let at = type_place i v there in
+      let e = (places i v there).1 in
+      let same = same_type_breaks at (place_at s) alike (judged s) variables (wanted v.it.ty.it v.it.ty.place) a.it.value.place a.it.value.it f in
       let usage = same_usage v.it a f in (
         λ h. elim h [
           | inl u ↦ inl (usage.0 u)
-          | inr t ↦ inr (subst (λ p. TypeBreaks (place_at s) (judged s) variables (wanted v.it.ty.it p) a.it.value.place a.it.value.it f) at t)
+          | inr t ↦ inr (subst (λ X. X) same (subst (λ p. TypeBreaks at (judged s) variables (wanted v.it.ty.it p) a.it.value.place a.it.value.it f) e t))
         ],
         λ q. elim q [
           | inl u ↦ inl (usage.1 u)
-          | inr t ↦ inr (subst (λ p. TypeBreaks (place_at s) (judged s) variables (wanted v.it.ty.it p) a.it.value.place a.it.value.it f) (sym at) t)
+          | inr t ↦ inr (subst (λ p. TypeBreaks at (judged s) variables (wanted v.it.ty.it p) a.it.value.place a.it.value.it f) (sym e) (subst (λ X. X) (sym same) t))
         ],
       )
 
@@ -153,7 +151,7 @@ module _ (s : SchemaTree Place) (variables : Variables Place) (taker : Taker Pla
       (same_first_named (unplaced_node unplaced_input_value) input_name definitions (argument_name a) (λ i v. Either (ArgumentAt T.holder i) v.it a f)))
 
   pub given_arguments : (f : PlacedFault) → AtSomeIndex T.given (λ j a. FirstGivenBreaks s variables definitions (take j T.given) a f)
-      ↔ (DisallowedVariableUsageAt (place_at s) (judged s) variables T f ⊎ ArgumentValueBreaks (place_at s) (judged s) variables T f)
+      ↔ (DisallowedVariableUsageAt at (judged s) variables T f ⊎ ArgumentValueBreaks at (judged s) variables T f)
   given_arguments f =
       chain
       (each_index T.given (λ j a. FirstGivenBreaks s variables definitions (take j T.given) a f)
@@ -161,14 +159,24 @@ module _ (s : SchemaTree Place) (variables : Variables Place) (taker : Taker Pla
       (split, joined)
     where
       split : AtSomeIndex T.given (λ j a. IsFirst argument_name T.given (argument_name a) j × FirstNamed input_name T.definitions (argument_name a) (λ i v. Either (ArgumentAt T.holder i) v.it a f))
-          → DisallowedVariableUsageAt (place_at s) (judged s) variables T f ⊎ ArgumentValueBreaks (place_at s) (judged s) variables T f
+          → DisallowedVariableUsageAt at (judged s) variables T f ⊎ ArgumentValueBreaks at (judged s) variables T f
       split (j, (a, (there, (first, (i, (v, (here, (name, (first', inl u))))))))) = inl (j, (a, (there, (first, (i, (v, (here, (name, (first', u)))))))))
       split (j, (a, (there, (first, (i, (v, (here, (name, (first', inr t))))))))) = inr (j, (a, (there, (first, (i, (v, (here, (name, (first', t)))))))))
 
-      joined : DisallowedVariableUsageAt (place_at s) (judged s) variables T f ⊎ ArgumentValueBreaks (place_at s) (judged s) variables T f
+      joined : DisallowedVariableUsageAt at (judged s) variables T f ⊎ ArgumentValueBreaks at (judged s) variables T f
           → AtSomeIndex T.given (λ j a. IsFirst argument_name T.given (argument_name a) j × FirstNamed input_name T.definitions (argument_name a) (λ i v. Either (ArgumentAt T.holder i) v.it a f))
       joined (inl (j, (a, (there, (first, (i, (v, (here, (name, (first', u)))))))))) = (j, (a, (there, (first, (i, (v, (here, (name, (first', inl u)))))))))
       joined (inr (j, (a, (there, (first, (i, (v, (here, (name, (first', t)))))))))) = (j, (a, (there, (first, (i, (v, (here, (name, (first', inr t)))))))))
+
+-- the places of a schema are those of the definitions that stand in it
+pub stands_in : (s : SchemaTree Place) (t : Rust) → arguments_at s (holder_of t.name) ≡ inputs_of t.definitions.now → TellsPlaces (place_at s) s t
+stands_in s t stands = record {
+  schema = record { types = λ n. refl; inputs = λ n m. refl; references = λ n m. refl };
+  arguments = λ i v e. let there = ap (λ l. slice_get l i) stands ∙ e in (
+    ap (λ o. or_nothing (option_map (λ x. x.place) o)) there,
+    ap (λ o. or_nothing (option_map (λ (x : Placed Place (InputValueTree Place)). x.it.ty.place) o)) there,
+  );
+}
 
 -- ---- directives
 

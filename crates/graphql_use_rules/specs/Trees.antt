@@ -1,15 +1,15 @@
 -- What is given and defined, and what takes arguments, as rules read it.
-use Rattle.std.specs.Prelude.{◌≡◌, ℕ, List, [], map, Option, None, Some}
+use Rattle.std.specs.Prelude.{◌≡◌, ℕ, List, [], map, Option, None, Some, slice_get}
 use Rattle.std.specs.Borrow.{Bor}
-use Rattle.graphql_names.specs.Placed.{Place, node_tree, unplaced_node}
+use Rattle.graphql_names.specs.Placed.{Placed, Place, node_tree, unplaced_node}
 use Rattle.graphql_names.specs.declared.node.Node.{Node}
-use Rattle.graphql_directives.specs.DirectiveTree.{Arguments, Directives, InputValues, argument_tree, directive_tree, input_value_tree, unplaced_input_value}
+use Rattle.graphql_directives.specs.DirectiveTree.{Arguments, Directives, InputValueTree, InputValues, argument_tree, directive_tree, input_value_tree, unplaced_input_value}
 use Rattle.graphql_directives.specs.declared.directive.Argument.{Argument}
 use Rattle.graphql_directives.specs.declared.directive.Directive.{Directive}
 use Rattle.graphql_directives.specs.declared.input_value.InputValueDefinition.{InputValueDefinition}
 use Rattle.graphql_components.specs.Coordinate.{Coordinate, OfAttribute, OfArgument, OfDirective, OfDirectiveArgument}
 use Rattle.graphql_schema.specs.in_schema_types.SchemaTree.{SchemaTree}
-use Rattle.graphql_schema.specs.in_schema_types.Addresses.{Address, FieldAt, DirectiveDefinitionAt, arguments_at}
+use Rattle.graphql_schema.specs.in_schema_types.Addresses.{Address, TypeAt, FieldAt, InputAt, ArgumentAt, TypeReferenceAt, DirectiveDefinitionAt, place_at}
 use Rattle.graphql_schema.specs.SchemaOf.{schema_tree}
 use Rattle.graphql_schema.specs.declared.schema.Schema.{Schema}
 use Rattle.graphql_rule_definitions.specs.Uses.{Taker}
@@ -54,9 +54,17 @@ taker_of t = record {
   argument_coordinate = argument_coordinate_of t.name;
 }
 
--- its definitions are those that stand in the schema
-abbrev pub StandsIn : SchemaTree Place → Rust → Type 0
-StandsIn s t = arguments_at s (holder_of t.name) ≡ inputs_of t.definitions.now
+-- both tell the same places of types, of input fields and of their references to types
+pub record AreAlike (at other : Address → Place) : Type 0 where
+  pub types : (n : List ℕ) → at (TypeAt n) ≡ other (TypeAt n)
+  pub inputs : (n m : List ℕ) → at (InputAt n m) ≡ other (InputAt n m)
+  pub references : (n m : List ℕ) → at (TypeReferenceAt (InputAt n m)) ≡ other (TypeReferenceAt (InputAt n m))
+
+-- the places of a schema, where the definitions of what takes arguments have their own: a meta-field's stand in no schema
+pub record TellsPlaces (at : Address → Place) (s : SchemaTree Place) (t : Rust) : Type 0 where
+  pub schema : AreAlike at (place_at s)
+  pub arguments : (i : ℕ) (v : Placed Place (InputValueTree Place)) → slice_get (inputs_of t.definitions.now) i ≡ Some v
+      → (at (ArgumentAt (holder_of t.name) i) ≡ v.place) × (at (TypeReferenceAt (ArgumentAt (holder_of t.name) i)) ≡ v.it.ty.place)
 
 -- a schema that has nothing
 abbrev pub no_schema : SchemaTree Place

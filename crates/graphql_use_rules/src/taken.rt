@@ -3,11 +3,11 @@ ghost use Rattle.std.specs.Prelude.{◌≡◌, ◌++◌, ◌⊎◌, ◌↔◌, m
 ghost use Rattle.std.specs.List.{flat_map};
 ghost use Rattle.std.specs.Option.{option_map};
 ghost use Rattle.graphql_names.specs.Node.{content, place};
-ghost use Rattle.graphql_names.specs.Placed.{node_tree};
+ghost use Rattle.graphql_names.specs.Placed.{Place, node_tree};
 ghost use Rattle.graphql_literals.specs.ValueTree.{value_tree};
 ghost use Rattle.graphql_directives.specs.DirectiveTree.{argument_tree, input_value_tree};
 ghost use Rattle.graphql_directives.specs.DirectiveQueries.{input_value_has_name, given_value};
-ghost use Rattle.graphql_schema.specs.in_schema_types.Addresses.{place_at};
+ghost use Rattle.graphql_schema.specs.in_schema_types.Addresses.{Address};
 ghost use Rattle.graphql_schema.specs.SchemaOf.{schema_tree};
 ghost use Rattle.graphql_fault_data.specs.FaultView.{fault_of, faults_of};
 ghost use Rattle.graphql_fault_data.specs.DiagnosticView.{plain_type};
@@ -19,7 +19,7 @@ ghost use Rattle.graphql_rule_definitions.specs.Values.{is_absent_or_null};
 ghost use Rattle.graphql_rule_definitions.specs.Uses.{TakerBreaks};
 ghost use Rattle.graphql_fault_data.specs.Adds.{Adds};
 ghost use Rattle.graphql_value_rules.specs.Wanting.{variables_of};
-ghost use Rattle.graphql_use_rules.specs.Trees.{arguments_of, inputs_of, taker_of, coordinate_of, argument_coordinate_of, StandsIn};
+ghost use Rattle.graphql_use_rules.specs.Trees.{arguments_of, inputs_of, taker_of, coordinate_of, argument_coordinate_of, TellsPlaces};
 ghost use Rattle.graphql_use_rules.specs.UseFaults.{undefined_argument, required_argument};
 ghost use Rattle.graphql_use_rules.specs.Steps.{GivenArgumentBreaks, FirstGivenBreaks};
 
@@ -209,8 +209,7 @@ pub fn check_taken(
     variables: &[Node<VariableDefinition>],
     faults: &mut Vec<Fault>,
 ) -> Result<(), AllocError>
-    requires { StandsIn (schema_tree schema.now) taker.now }
-    ensures { OnOk result (Adds faults.old faults.new (TakerBreaks (place_at (schema_tree schema.now)) (judged (schema_tree schema.now)) (variables_of variables.now) (taker_of taker.now))) }
+    ensures { OnOk result ((at : Address → Place) → TellsPlaces at (schema_tree schema.now) taker.now → Adds faults.old faults.new (TakerBreaks at (judged (schema_tree schema.now)) (variables_of variables.now) (taker_of taker.now))) }
 {
     tell_undefined_arguments(taker, faults)?;
     tell_required_arguments(taker, faults)?;

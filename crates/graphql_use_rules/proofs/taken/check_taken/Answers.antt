@@ -20,10 +20,10 @@ returns c =
     let d = faults_of c.tell_required_arguments.new.faults in
     let e = faults_of c.check_arguments.new.faults in
     on_ok_weaker c.check_arguments.result
-    (λ h.
+    (λ h at places.
     gains_both a b e
-    (gains_list a b (flat_map (undefined_argument t ds) t.given) c.in_ok-tell_undefined_arguments.ensures (lists_undefined_arguments s vs t ds c.requires))
+    (gains_list a b (flat_map (undefined_argument t ds) t.given) c.in_ok-tell_undefined_arguments.ensures (lists_undefined_arguments at s vs t ds places.schema places.arguments))
     (gains_both b d e
-    (gains_list b d (flat_map (required_argument t) ds) c.in_ok-tell_required_arguments.ensures (lists_required_arguments s vs t ds c.requires))
-    (gains_same d e (given_arguments s vs t ds c.requires) h)))
+    (gains_list b d (flat_map (required_argument t) ds) c.in_ok-tell_required_arguments.ensures (lists_required_arguments at s vs t ds places.schema places.arguments))
+    (gains_same d e (given_arguments at s vs t ds places.schema places.arguments) h)))
     c.check_arguments.ensures
