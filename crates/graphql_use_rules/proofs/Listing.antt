@@ -1,28 +1,13 @@
 -- Lists of faults and the rules by which they are told, piece by piece; and what is added to a list.
-use Rattle.std.proofs.Common.{◌≡◌, ℕ, ◌+◌, ◌<◌, ◌⊎◌, ◌↔◌, Bool, true, false, List, [], ◌∷◌, ◌++◌, get_or, map, take, length, refl, sym, ap, subst, ◌∙◌, inl, inr, Option, None, Some, Contains, zero, suc, arith, slice_get, append_assoc, if◌then◌else◌, true≢false, is_some}
+use Rattle.std.proofs.Common.{◌≡◌, ℕ, ◌+◌, ◌<◌, ◌⊎◌, ◌↔◌, Bool, true, false, List, [], ◌∷◌, ◌++◌, get_or, map, take, length, refl, sym, ap, subst, ◌∙◌, inl, inr, Option, None, Some, Contains, zero, suc, slice_get, append_assoc, if◌then◌else◌, true≢false, is_some}
 use Rattle.std.specs.List.{flat_map}
 use Rattle.std.specs.Option.{option_map_or}
 use Rattle.std.proofs.lemmas.List.{append-nil, map-append, take_more}
 use Rattle.std.proofs.lemmas.List.Elements.{Contains-append_left, Contains-append_right, Contains-append_cases}
 use Rattle.graphql_components.specs.Lists.{each_place_after, each_place}
 use Rattle.graphql_components.proofs.Places.{each_place-push}
+use Rattle.graphql_rule_definitions.proofs.Lists.{not_in_nil, only, is_only}
 use Rattle.graphql_rule_definitions.specs.Words.{Present, AtSomeIndex}
-
-not_in_nil : {X R : Type 0} (y : X) → Contains [] y → R
-not_in_nil y h = absurd (omega (arith, h.1))
-
-Contains-cons : {X : Type 0} (x : X) (xs : List X) (y : X) → Contains (x ∷ xs) y → (x ≡ y) ⊎ Contains xs y
-Contains-cons {X} x xs y (k, h, e) = by k h e
-  where
-    by : (k : ℕ) → k < length (x ∷ xs) → get_or (x ∷ xs) k y ≡ y → (x ≡ y) ⊎ Contains xs y
-    by zero h e = inl e
-    by (suc k) h e = inr (k, omega arith, e)
-
-only : {X : Type 0} (x y : X) → Contains (x ∷ []) y → y ≡ x
-only x y h = elim (Contains-cons x [] y h) [ inl e ↦ sym e | inr r ↦ not_in_nil y r ]
-
-is_only : {X : Type 0} (x y : X) → y ≡ x → Contains (x ∷ []) y
-is_only x y e = (0, omega arith, sym e)
 
 -- x stands at an index, or behind the others
 module _ {X : Type 0} where

@@ -7,7 +7,6 @@ use Rattle.graphql_directives.specs.DirectiveTree.{DirectiveDefinitionTree, dire
 use Rattle.graphql_directives.specs.declared.directive.Directive.{Directive}
 use Rattle.graphql_directives.specs.declared.directive.DirectiveDefinition.{DirectiveDefinition}
 use Rattle.graphql_schema.specs.in_schema_types.Addresses.{DirectiveDefinitionAt, arguments_at, place_at}
-use Rattle.graphql_schema.specs.in_schema_types.Plain.{plain_directive_definition}
 use Rattle.graphql_schema.specs.SchemaOf.{schema_tree}
 use Rattle.graphql_fault_data.specs.FaultView.{faults_of}
 use Rattle.graphql_rule_definitions.specs.Judged.{judged}
@@ -17,7 +16,7 @@ use Rattle.graphql_value_rules.specs.Wanting.{variables_of}
 use Rattle.graphql_use_rules.specs.Trees.{arguments_of, inputs_of}
 use Rattle.graphql_use_rules.specs.UseFaults.{unsupported_location}
 use Rattle.graphql_use_rules.proofs.Listing.{gains_both, gains_list}
-use Rattle.graphql_use_rules.proofs.SchemaTold.{get_under}
+use Rattle.graphql_fault_data.proofs.Judgings.{directive_look}
 use Rattle.graphql_use_rules.proofs.Uses.{same_taker, stands_in, lists_unsupported_location}
 use Rattle.graphql_use_rules.proofs.directives.check_defined_use.Goals as goal
 
@@ -38,6 +37,6 @@ returns c =
     on_ok_weaker c.check_taken.result
     (λ h. gains_both a b (faults_of c.check_taken.new.faults)
     (gains_list a b (unsupported_location u.0 e c.args.location d) (c.in_ok-tell.ensures.told ∙ ap (λ l. a ++ l) u.1.1)
-    (lists_unsupported_location s vs (λ n. get_under (plain_directive_definition {P = Place}) n s.directives) c.args.location d e c.requires u.0 u.1.0))
+    (lists_unsupported_location s vs (directive_look s) c.args.location d e c.requires u.0 u.1.0))
     (subst (λ (t : Taker Place). Adds c.tell.new.faults c.check_taken.new.faults (TakerBreaks (place_at s) (judged s) vs t)) taker (h (place_at s) (stands_in s _ stands))))
     c.check_taken.ensures

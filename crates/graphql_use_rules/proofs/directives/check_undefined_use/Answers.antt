@@ -4,7 +4,6 @@ use Rattle.graphql_names.specs.Placed.{Place, node_tree}
 use Rattle.graphql_directives.specs.DirectiveTree.{Arguments, directive_tree}
 use Rattle.graphql_directives.specs.declared.directive.Directive.{Directive}
 use Rattle.graphql_schema.specs.in_schema_types.Addresses.{place_at}
-use Rattle.graphql_schema.specs.in_schema_types.Plain.{plain_directive_definition}
 use Rattle.graphql_fault_data.specs.FaultView.{faults_of}
 use Rattle.graphql_rule_definitions.specs.Judged.{judged}
 use Rattle.graphql_rule_definitions.specs.Uses.{GivenBreaks}
@@ -13,7 +12,7 @@ use Rattle.graphql_value_rules.specs.Wanting.{variables_of}
 use Rattle.graphql_use_rules.specs.Trees.{arguments_of, no_schema}
 use Rattle.graphql_use_rules.specs.UseFaults.{undefined_directive}
 use Rattle.graphql_use_rules.proofs.Listing.{gains_same, gains_both, gains_list, lists_one}
-use Rattle.graphql_use_rules.proofs.SchemaTold.{get_under}
+use Rattle.graphql_fault_data.proofs.Judgings.{directive_look}
 use Rattle.graphql_use_rules.proofs.Uses.{use_undefined}
 use Rattle.graphql_use_rules.proofs.directives.check_undefined_use.Goals as goal
 
@@ -27,6 +26,6 @@ returns c =
     let taken = ap arguments_of c.deref.ensures.value ∙ ap (λ (x : Directive). arguments_of x.arguments.items) c.content.ensures in
     let given = subst (λ (l : Arguments Place). Adds c.args.faults.now c.check_given.new.faults (GivenBreaks (place_at no_schema) (judged no_schema) vs l)) taken (c.in_ok-check_given.ensures (place_at no_schema) (judged no_schema)) in
     on_ok_weaker c.tell.result
-    (λ h location. gains_same a e (use_undefined no_schema vs (λ n. get_under (plain_directive_definition {P = Place}) n []) location d refl)
+    (λ h location. gains_same a e (use_undefined no_schema vs (directive_look no_schema) location d refl)
     (gains_both a b e given (gains_list b e (undefined_directive d ∷ []) (h ∙ ap (λ x. b ++ x ∷ []) c.in_ok-fault.ensures) (lists_one (undefined_directive d)))))
     c.tell.ensures.told

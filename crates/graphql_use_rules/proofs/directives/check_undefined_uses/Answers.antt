@@ -1,9 +1,8 @@
-use Rattle.std.proofs.Common.{◌<◌, ◌+◌, [], take, length, refl, subst, arith}
+use Rattle.std.proofs.Common.{◌<◌, ◌+◌, take, length, refl, subst, arith}
 use Rattle.std.proofs.lemmas.List.{take_all}
-use Rattle.graphql_names.specs.Placed.{Place, node_tree}
+use Rattle.graphql_names.specs.Placed.{node_tree}
 use Rattle.graphql_directives.specs.DirectiveTree.{directive_tree}
 use Rattle.graphql_schema.specs.in_schema_types.Addresses.{place_at}
-use Rattle.graphql_schema.specs.in_schema_types.Plain.{plain_directive_definition}
 use Rattle.graphql_fault_data.specs.FaultView.{faults_of}
 use Rattle.graphql_rule_definitions.specs.Words.{AtSomeIndex}
 use Rattle.graphql_rule_definitions.specs.Judged.{judged}
@@ -12,7 +11,7 @@ use Rattle.graphql_fault_data.specs.Adds.{Adds}
 use Rattle.graphql_value_rules.specs.Wanting.{variables_of}
 use Rattle.graphql_use_rules.specs.Trees.{directives_of, no_schema}
 use Rattle.graphql_use_rules.proofs.Listing.{gains_more, gains_same, mapped_more}
-use Rattle.graphql_use_rules.proofs.SchemaTold.{get_under}
+use Rattle.graphql_fault_data.proofs.Judgings.{directive_look}
 use Rattle.graphql_use_rules.proofs.Uses.{uses_undefined}
 use Rattle.graphql_use_rules.proofs.directives.check_undefined_uses.Goals as goal
 
@@ -30,6 +29,6 @@ pub returns : goal.returns
 returns c = λ location.
     let vs = variables_of c.args.variables.now in
     let ds = c.args.directives.now in
-    gains_same (faults_of c.args.faults.now) (faults_of c.loop-directive.faults) (uses_undefined no_schema vs (λ n. get_under (plain_directive_definition {P = Place}) n []) (λ n. refl) location (directives_of ds))
+    gains_same (faults_of c.args.faults.now) (faults_of c.loop-directive.faults) (uses_undefined no_schema vs (directive_look no_schema) (λ n. refl) location (directives_of ds))
     (subst (λ l. Adds c.args.faults.now c.loop-directive.faults (λ f. AtSomeIndex (directives_of l) (λ i d. UseBreaks (place_at no_schema) (judged no_schema) vs location d f)))
     (take_all c.loop-directive.directive-index ds c.loop-directive-test.false) (c.loop-directive.invariant location))

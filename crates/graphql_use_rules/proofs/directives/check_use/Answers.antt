@@ -1,10 +1,9 @@
-use Rattle.std.proofs.Common.{ℕ, List, [], ◌∷◌, ◌++◌, sym, ap, subst, ◌∙◌}
+use Rattle.std.proofs.Common.{[], ◌∷◌, ◌++◌, sym, ap, subst, ◌∙◌}
 use Rattle.std.proofs.lemmas.Result.{on_ok_weaker}
 use Rattle.graphql_names.specs.Placed.{Place, node_tree}
 use Rattle.graphql_directives.specs.DirectiveTree.{Arguments, directive_tree, directive_definition_tree}
 use Rattle.graphql_directives.specs.declared.directive.Directive.{Directive}
 use Rattle.graphql_schema.specs.in_schema_types.Addresses.{place_at, directive_definition_at}
-use Rattle.graphql_schema.specs.in_schema_types.Plain.{plain_directive_definition}
 use Rattle.graphql_schema.specs.SchemaOf.{schema_tree}
 use Rattle.graphql_fault_data.specs.FaultView.{faults_of}
 use Rattle.graphql_rule_definitions.specs.Judged.{judged}
@@ -14,7 +13,7 @@ use Rattle.graphql_value_rules.specs.Wanting.{variables_of}
 use Rattle.graphql_use_rules.specs.Trees.{arguments_of}
 use Rattle.graphql_use_rules.specs.UseFaults.{undefined_directive}
 use Rattle.graphql_use_rules.proofs.Listing.{gains_same, gains_both, gains_list, lists_one}
-use Rattle.graphql_use_rules.proofs.SchemaTold.{get_under}
+use Rattle.graphql_fault_data.proofs.Judgings.{directive_look}
 use Rattle.graphql_use_rules.proofs.Uses.{use_undefined, use_found}
 use Rattle.graphql_use_rules.proofs.directives.check_use.Goals as goal
 
@@ -25,7 +24,7 @@ returns-in_ok-fault-in-None c =
     let d = node_tree directive_tree c.args.directive.now in
     let a = faults_of c.args.faults.now in
     let b = faults_of c.check_given.new.faults in
-    let defined = λ (n : List ℕ). get_under (plain_directive_definition {P = Place}) n s.directives in
+    let defined = directive_look s in
     let taken = ap arguments_of c.deref.ensures.value ∙ ap (λ (x : Directive). arguments_of x.arguments.items) c.content-used.ensures in
     let given = subst (λ (l : Arguments Place). Adds c.args.faults.now c.check_given.new.faults (GivenBreaks (place_at s) (judged s) vs l)) taken (c.in_ok-check_given.ensures (place_at s) (judged s)) in
     let same = ap (λ (x : Directive). directive_definition_at s x.name.text) (sym c.content-used.ensures) in
@@ -42,7 +41,7 @@ returns-in-Some c =
     let d = node_tree directive_tree c.args.directive.now in
     let a = faults_of c.args.faults.now in
     let b = faults_of c.check_given.new.faults in
-    let defined = λ (n : List ℕ). get_under (plain_directive_definition {P = Place}) n s.directives in
+    let defined = directive_look s in
     let taken = ap arguments_of c.deref.ensures.value ∙ ap (λ (x : Directive). arguments_of x.arguments.items) c.content-used.ensures in
     let given = subst (λ (l : Arguments Place). Adds c.args.faults.now c.check_given.new.faults (GivenBreaks (place_at s) (judged s) vs l)) taken (c.in_ok-check_given.ensures (place_at s) (judged s)) in
     let same = ap (λ (x : Directive). directive_definition_at s x.name.text) (sym c.content-used.ensures) in

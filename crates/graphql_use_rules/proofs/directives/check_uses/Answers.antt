@@ -1,7 +1,6 @@
 use Rattle.std.proofs.lemmas.Result.{on_ok_weaker}
 use Rattle.graphql_components.specs.Lists.{each_place}
 use Rattle.graphql_schema.specs.in_schema_types.Addresses.{directive_definition_at}
-use Rattle.graphql_schema.specs.in_schema_types.Plain.{plain_directive_definition}
 use Rattle.graphql_fault_data.specs.FaultView.{faults_of}
 use Rattle.graphql_schema.specs.SchemaOf.{schema_tree}
 use Rattle.graphql_rule_definitions.specs.Uses.{directive_name}
@@ -10,7 +9,7 @@ use Rattle.graphql_use_rules.specs.Trees.{directives_of}
 use Rattle.graphql_use_rules.specs.UseFaults.{repeated_directive}
 use Rattle.graphql_use_rules.proofs.Listing.{gains_both, gains_list}
 use Rattle.graphql_use_rules.proofs.Uses.{lists_repeated_directives}
-use Rattle.graphql_use_rules.proofs.SchemaTold.{get_under}
+use Rattle.graphql_fault_data.proofs.Judgings.{directive_look}
 use Rattle.graphql_use_rules.proofs.directives.check_uses.Goals as goal
 
 pub returns : goal.returns
@@ -24,6 +23,6 @@ returns c =
     on_ok_weaker c.check_each_use.result
     (λ h. gains_both a b d
     (gains_list a b (each_place (λ before d'. repeated_directive (directive_definition_at s (directive_name d')) before d') ds) c.in_ok-tell_repeated_directives.ensures
-    (lists_repeated_directives s vs (λ n. get_under plain_directive_definition n s.directives) ds))
+    (lists_repeated_directives s vs (directive_look s) ds))
     h)
     c.check_each_use.ensures
