@@ -1,24 +1,19 @@
 -- What rules on the use of directives and arguments tell of them at other places.
-use Rattle.std.proofs.Common.{◌≡◌, ℕ, ◌<◌, ◌⊎◌, ◌↔◌, Bool, true, false, List, [], ◌∷◌, map, refl, sym, ap, subst, ◌∙◌, Option, None, Some, is_some, true≢false, find, Contains}
+use Rattle.std.proofs.Common.{◌≡◌, ℕ, List, [], map, refl, sym, ap, ◌∙◌, Option, None, Some, is_some, true≢false, find}
 use Rattle.std.specs.Option.{option_map}
 use Rattle.graphql_names.specs.Placed.{Placed}
-use Rattle.graphql_literals.specs.TypeTree.{unplaced_type}
-use Rattle.graphql_literals.specs.ValueTree.{ValueTree}
-use Rattle.graphql_literals.specs.ValueQueries.{variable_name}
-use Rattle.graphql_directives.specs.DirectiveTree.{ArgumentTree, Arguments, DirectiveTree, Directives, InputValueTree, InputValues}
-use Rattle.graphql_directives.specs.DirectiveQueries.{is_required_input, given_value, argument_has_name}
+use Rattle.graphql_directives.specs.DirectiveTree.{ArgumentTree, Arguments, DirectiveTree, Directives, InputValueTree}
+use Rattle.graphql_directives.specs.DirectiveQueries.{given_value, argument_has_name}
 use Rattle.graphql_directives.specs.declared.directive_location.DirectiveLocation.{DirectiveLocation}
-use Rattle.graphql_operations.specs.OperationTree.{VariableDefinitionTree}
 use Rattle.graphql_schema_types.specs.Addresses.{Address, DirectiveDefinitionAt, ArgumentAt, TypeReferenceAt}
-use Rattle.graphql_rule_definitions.specs.Diagnostics.{Diagnostic, UniqueArgument, UndefinedArgument, RequiredArgument, DisallowedVariableUsage, UniqueDirective}
-use Rattle.graphql_rule_definitions.specs.Words.{Present, AtSomeIndex, Lacks, IsFirst, FirstNamed, Repeats}
-use Rattle.graphql_rule_definitions.specs.Faults.{FaultAt, wrong}
+use Rattle.graphql_rule_definitions.specs.Diagnostics.{Diagnostic}
+use Rattle.graphql_rule_definitions.specs.Faults.{FaultAt}
 use Rattle.graphql_rule_definitions.specs.Judged.{Judged}
-use Rattle.graphql_rule_definitions.specs.Values.{defined_name, is_absent_or_null, UniqueInputValueIn, UndefinedVariableIn, TypeBreaks}
-use Rattle.graphql_rule_definitions.specs.Uses.{Taker, argument_name, input_name, directive_name, directive_taker, IsVariableUsageAllowed, UniqueArgumentAt, GivenBreaks, AtArgumentGiven, UndefinedArgumentAt, RequiredArgumentAt, DisallowedVariableUsageAt, ArgumentValueBreaks, TakerBreaks, UndefinedDirectiveAt, UnsupportedLocationAt, UniqueDirectiveAt, UseBreaks, UsesBreak}
-use Rattle.graphql_use_rules.specs.Moved.{untold_text, moved_value, moved_placed, moved_argument, moved_directive, moved_taker}
-use Rattle.graphql_use_rules.proofs.Moves.{Moves, moves_no, moves_either, moves_where, moves_same, moves_present, moves_index, moves_first, moves_repeats, moves_same_index, moves_same_first, moves_nothing, same_first}
-use Rattle.graphql_use_rules.proofs.MovedValues.{Carries, moved_fault, IsMoved, Moved, moves_wrong, variable_moved, absent_moved, find_moved, unique_input_value_moved, undefined_variable_moved, type_breaks_moved}
+use Rattle.graphql_rule_definitions.specs.Values.{is_absent_or_null, TypeBreaks}
+use Rattle.graphql_rule_definitions.specs.Uses.{Taker, argument_name, input_name, directive_name, directive_taker, UniqueArgumentAt, GivenBreaks, AtArgumentGiven, UndefinedArgumentAt, RequiredArgumentAt, DisallowedVariableUsageAt, ArgumentValueBreaks, TakerBreaks, UniqueDirectiveAt, UseBreaks, UsesBreak}
+use Rattle.graphql_use_rules.specs.Moved.{moved_placed, moved_argument, moved_directive, moved_taker}
+use Rattle.graphql_use_rules.proofs.Moves.{Moves, moves_either, moves_where, moves_same, moves_index, moves_repeats, moves_same_index, moves_same_first, moves_nothing, same_first}
+use Rattle.graphql_use_rules.proofs.MovedValues.{Carries, IsMoved, moves_wrong, absent_moved, find_moved, unique_input_value_moved, undefined_variable_moved, type_breaks_moved}
 
 module _ {P Q : Type 0} (p : P → Q) (none : Q) where
   value_moved : (o : Option (Placed P (ArgumentTree P))) → option_map (λ a. a.it.value) (option_map (moved_argument p none) o) ≡ option_map (moved_placed p none) (option_map (λ a. a.it.value) o)

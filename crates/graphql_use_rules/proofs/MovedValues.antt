@@ -1,28 +1,25 @@
 -- What rules on values tell of a value at other places.
-use Rattle.std.proofs.Common.{◌≡◌, ℕ, ◌<◌, ◌⊎◌, ◌↔◌, Bool, true, false, cond, List, [], ◌∷◌, map, refl, sym, ap, subst, ◌∙◌, Option, None, Some, slice_get, codes, Contains, FitsSigned, bytes_eq, find}
+use Rattle.std.proofs.Common.{◌≡◌, ℕ, ◌<◌, ◌↔◌, Bool, true, false, cond, List, [], ◌∷◌, map, refl, sym, ap, subst, ◌∙◌, Option, None, Some, FitsSigned, bytes_eq, find}
 use Rattle.std.proofs.Common.{w32}
-use Rattle.std.specs.Option.{option_map, option_map_or}
+use Rattle.std.specs.Option.{option_map}
 use Rattle.graphql_names.specs.Placed.{Placed, Text, unplaced_text}
-use Rattle.graphql_literals.specs.TypeQueries.{has_mark, is_list_type}
 use Rattle.graphql_literals.specs.NumberSyntax.{integer_value}
 use Rattle.graphql_literals.specs.ValueTree.{ValueTree, ItemTrees, EntryTrees, NullTree, EnumTree, VariableTree, StringTree, FloatTree, IntTree, BooleanTree, ListTree, ObjectTree, no_items, item_then, no_entries, entry_then, unplaced_value, unplaced_items, unplaced_entries}
 use Rattle.graphql_literals.specs.ValueQueries.{is_null_value, enum_name, variable_name, integer_text, object_entries}
-use Rattle.graphql_directives.specs.DirectiveTree.{InputValueTree}
 use Rattle.graphql_directives.specs.DirectiveQueries.{is_required_input}
 use Rattle.graphql_operations.specs.OperationTree.{VariableDefinitionTree}
 use Rattle.graphql_components.specs.Coordinate.{Coordinate, OfAttribute}
 use Rattle.graphql_directives.specs.declared.directive_location.DirectiveLocation.{DirectiveLocation}
 use Rattle.graphql_schema_types.specs.Looks.{TypeLooks}
 use Rattle.graphql_schema_types.specs.Addresses.{Address, TypeAt, InputAt, TypeReferenceAt}
-use Rattle.graphql_schema_types.specs.declared.type_kind.TypeKind.TheVariants as kind
 use Rattle.graphql_rule_definitions.specs.Diagnostics.{Diagnostic, PlainType, UnsupportedValueType, IntCoercionError, UndefinedVariable, UndefinedEnumValue, UndefinedInputValue, RequiredField, UniqueInputValue, UniqueArgument, UndefinedArgument, RequiredArgument, UndefinedDirective, UnsupportedLocation, UniqueDirective}
 use Rattle.graphql_rule_definitions.specs.Words.{Present, Somewhere, AtSomeIndex, Lacks, Repeats}
 use Rattle.graphql_rule_definitions.specs.Spots.{entry_list}
 use Rattle.graphql_rule_definitions.specs.Faults.{FaultAt, wrong}
-use Rattle.graphql_rule_definitions.specs.Judged.{Judged, IsBuiltInScalar}
+use Rattle.graphql_rule_definitions.specs.Judged.{Judged}
 use Rattle.graphql_rule_definitions.specs.Values.{Wanted, wanted_name, wanted_item, defined_name, entry_named, is_absent_or_null, FitsForm, UniqueInputValueIn, UniqueInputValueInItems, UniqueInputValueInEntries, UndefinedVariableIn, UndefinedVariableInItems, UndefinedVariableInEntries, UnsupportedValueTypeAt, IntCoercionErrorAt, UndefinedEnumValueAt, UndefinedInputValueAt, RequiredFieldAt, FormBreaks, TypeBreaks, TypeBreaksItems, TypeBreaksEntries}
-use Rattle.graphql_use_rules.specs.Moved.{moved_text, untold_text, moved_value, moved_items, moved_entries, moved_placed, moved_entry, moved_wanted}
-use Rattle.graphql_use_rules.proofs.Moves.{Moves, moves_no, moves_fault, moves_either, moves_where, moves_same, moves_present, moves_index, moves_repeats, moves_some, neither, both_ways, same_present, same_index}
+use Rattle.graphql_use_rules.specs.Moved.{untold_text, moved_value, moved_items, moved_entries, moved_placed, moved_entry, moved_wanted}
+use Rattle.graphql_use_rules.proofs.Moves.{Moves, moves_no, moves_fault, moves_either, moves_where, moves_same, moves_present, moves_index, moves_repeats, moves_some, neither, same_index}
 
 -- m takes the data of a fault to other places as p says
 pub record Carries {P E Q F : Type 0} (p : P → Q) (m : Diagnostic P E → Diagnostic Q F) : Type 0 where

@@ -1,12 +1,8 @@
 -- What rules tell of trees whose places are others is what they tell of the trees, at the other places: piece by piece, for all rules.
-use Rattle.std.proofs.Common.{◌≡◌, ℕ, ◌<◌, ◌⊎◌, ◌↔◌, List, [], ◌∷◌, map, refl, sym, ap, subst, ◌∙◌, inl, inr, Option, None, Some, zero, suc, slice_get}
+use Rattle.std.proofs.Common.{◌≡◌, ℕ, ◌<◌, ◌⊎◌, ◌↔◌, List, map, refl, sym, ap, subst, ◌∙◌, inl, inr, Option, None, Some, slice_get}
 use Rattle.std.specs.Option.{option_map}
-use Rattle.graphql_rule_definitions.specs.Words.{Present, Somewhere, AtSomeIndex, Lacks, IsFirst, FirstNamed, Repeats}
-
-slice_get-map : {X Y : Type 0} (u : X → Y) (xs : List X) (i : ℕ) → slice_get (map u xs) i ≡ option_map u (slice_get xs i)
-slice_get-map u [] i = refl
-slice_get-map u (x ∷ xs) zero = refl
-slice_get-map u (x ∷ xs) (suc i) = slice_get-map u xs i
+use Rattle.graphql_rule_definitions.proofs.Lists.{slice_get-map}
+use Rattle.graphql_rule_definitions.specs.Words.{Present, AtSomeIndex, Lacks, IsFirst, FirstNamed, Repeats}
 
 -- ---- facts that hold in the same cases
 

@@ -1,19 +1,15 @@
 -- What the rules on uses tell of a schema entry by entry is what they tell of it by addresses.
-use Rattle.std.proofs.Common.{◌≡◌, ℕ, ◌⊎◌, ◌↔◌, Bool, true, false, ◌&&◌, cond, if◌then◌else◌, List, [], ◌∷◌, map, refl, sym, ap, subst, ◌∙◌, inl, inr, Option, None, Some, is_some, zero, suc, slice_get, bytes_eq, true≢false, option_map}
-use Rattle.std.specs.List.{find, IsDistinct, AllByRecursion}
+use Rattle.std.proofs.Common.{◌≡◌, ℕ, ◌⊎◌, ◌↔◌, Bool, true, false, ◌&&◌, List, [], ◌∷◌, map, refl, sym, ap, subst, ◌∙◌, inl, inr, Option, Some, slice_get, bytes_eq, true≢false, option_map}
+use Rattle.std.specs.List.{IsDistinct}
 use Rattle.std.specs.Map.{keys_of}
-use Rattle.std.specs.Cmp.Lexicographic.{nat_list_cmp_total, texts_ties}
-use Rattle.std.specs.FinMap as fin
 use Rattle.std.specs.Option.{option_map_or}
-use Rattle.std.proofs.lemmas.Option.{same_Some}
-use Rattle.std.proofs.lemmas.Slice.Eq.{bytes_eq-Decides}
 use Rattle.graphql_names.specs.Placed.{Placed, Place, unplaced_node}
 use Rattle.graphql_names.specs.Places.{is_built_in}
 use Rattle.graphql_directives.specs.DirectiveTree.{DirectiveTree, Directives, InputValueTree, InputValues, DirectiveDefinitionTree, unplaced_directive, unplaced_input_value}
 use Rattle.graphql_directives.specs.declared.directive_location.DirectiveLocation.{DirectiveLocation}
 use Rattle.graphql_directives.specs.declared.directive_location.DirectiveLocation.TheVariants as location
 use Rattle.graphql_type_members.specs.TypeSystemTree.{FieldDefinitionTree, EnumValueTree, unplaced_field_definition, unplaced_enum_value}
-use Rattle.graphql_components.specs.Names.{Entries, by_bytes, named}
+use Rattle.graphql_components.specs.Names.{Entries}
 use Rattle.graphql_components.specs.Given.{Given, plain_given}
 use Rattle.graphql_components.specs.Applied.{Applied}
 use Rattle.graphql_schema_types.specs.SchemaTree.{SchemaType, SchemaTree, same_kind}
@@ -21,89 +17,23 @@ use Rattle.graphql_schema_types.specs.declared.type_kind.TypeKind.{TypeKind}
 use Rattle.graphql_schema_types.specs.declared.type_kind.TypeKind.TheVariants as kind
 use Rattle.graphql_schema_types.specs.Plain.{plain, plain_type, plain_directive_definition}
 use Rattle.graphql_schema_types.specs.Looks.{TypeLooks, type_looks}
-use Rattle.graphql_schema_types.specs.Addresses.{Address, SchemaAt, TypeAt, FieldAt, ValueAt, InputAt, ArgumentAt, DirectiveDefinitionAt, under, type_at, or_nothing, arguments_at, directives_at, applied, place_at, is_marked}
-use Rattle.graphql_rule_definitions.specs.Words.{Present, Somewhere, AtSomeIndex}
+use Rattle.graphql_schema_types.specs.Addresses.{Address, SchemaAt, TypeAt, FieldAt, ValueAt, InputAt, ArgumentAt, DirectiveDefinitionAt, under, type_at, or_nothing, arguments_at, directives_at, applied, is_marked}
+use Rattle.graphql_rule_definitions.specs.Words.{Somewhere, AtSomeIndex}
 use Rattle.graphql_rule_definitions.specs.Spots.{At, spotted_directives}
-use Rattle.graphql_rule_definitions.specs.Faults.{FaultAt, SchemaFault}
-use Rattle.graphql_rule_definitions.specs.Judged.{Judged, judged, bare, IsBuiltInScalar, AtArgument}
+use Rattle.graphql_rule_definitions.specs.Faults.{SchemaFault}
+use Rattle.graphql_rule_definitions.specs.Judged.{judged, bare, IsBuiltInScalar}
 use Rattle.graphql_rule_definitions.specs.Uses.{UsesBreak}
-use Rattle.graphql_rule_definitions.specs.Rules.{type_location, AtDirectives, SchemaUsesBreak, IsToldAs, extension_places_at}
-use Rattle.graphql_use_rules.specs.SchemaUses.{PlacedFault, Told, HasDistinctNames, is_built_in_scalar, UsesAt, ArgumentUses, FieldUses, FieldsUses, ValuesUses, InputsUses, OwnUses, TypeUses, DefinitionUses, SchemaUses}
+use Rattle.graphql_rule_definitions.specs.Rules.{type_location, SchemaUsesBreak, IsToldAs, extension_places_at}
+use Rattle.graphql_rule_definitions.specs.Told.{PlacedFault, Told}
+use Rattle.graphql_rule_definitions.specs.Distinct.{AreAllDistinct}
+use Rattle.graphql_rule_definitions.proofs.Lists.{index_found, index_given, mapped_some, slice_get-map}
+use Rattle.graphql_rule_definitions.proofs.Lookups.{under_found, under_given}
+use Rattle.graphql_fault_data.proofs.Judgings.{type_look, directive_look, field_look, value_look, input_look}
+use Rattle.graphql_use_rules.specs.SchemaUses.{is_built_in_scalar, UsesAt, ArgumentUses, FieldUses, FieldsUses, ValuesUses, InputsUses, OwnUses, TypeUses, DefinitionUses, SchemaUses}
 use Rattle.graphql_use_rules.proofs.Moves.{Moves, moves_either, moves_where}
 use Rattle.graphql_use_rules.proofs.SpottedUses.{uses_told}
 
-no_some : {X A : Type 0} (x : X) → None ≡ Some x → A
-no_some x e = absurd (true≢false (sym (ap is_some e)))
-
--- ---- look-ups by name
-
-itself : (n : List ℕ) → bytes_eq n n ≡ true
-itself n = (bytes_eq-Decides n n).1 refl
-
-module _ {V : Type 0} where
-  abbrev first_of : List ℕ → Entries V → Option (List ℕ × V)
-  first_of n es = find (λ e. bytes_eq n e.0) es
-
-  -- each entry is what stands under its name
-  under_index : (es : Entries V) → IsDistinct bytes_eq (keys_of es) → (i : ℕ) (e : List ℕ × V) → slice_get es i ≡ Some e → under e.0 es ≡ Some e.1
-  unfolding IsDistinct
-  under_index [] distinct i e there = no_some e there
-  under_index (x ∷ es) distinct zero e there =
-      let same : x ≡ e = same_Some _ _ there in
-      ap (λ (b : Bool). option_map (λ (p : List ℕ × V). p.1) (if b then Some x else first_of e.0 es)) (ap (λ (p : List ℕ × V). bytes_eq e.0 p.0) same ∙ itself e.0) ∙ ap (λ (p : List ℕ × V). Some p.1) same
-  under_index (x ∷ es) distinct (suc i) e there = by (bytes_eq e.0 x.0) refl (under_index es distinct.1 i e there)
-    where
-      other : (xs : Entries V) (i : ℕ) → AllByRecursion (λ m. bytes_eq x.0 m ≡ false) (keys_of xs) → slice_get xs i ≡ Some e → bytes_eq x.0 e.0 ≡ false
-      other [] i h f = no_some e f
-      other (y ∷ xs) zero h f = ap (λ (p : List ℕ × V). bytes_eq x.0 p.0) (sym (same_Some _ _ f)) ∙ h.0
-      other (y ∷ xs) (suc i) h f = other xs i h.1 f
-
-      by : (b : Bool) → bytes_eq e.0 x.0 ≡ b → under e.0 es ≡ Some e.1 → option_map (λ (p : List ℕ × V). p.1) (if b then Some x else first_of e.0 es) ≡ Some e.1
-      by true t rest = absurd (true≢false (sym ((bytes_eq-Decides x.0 e.0).1 (sym ((bytes_eq-Decides e.0 x.0).0 t))) ∙ other es i distinct.0 there))
-      by false t rest = rest
-
-  -- what stands under a name is an entry
-  under_from : (n : List ℕ) (es : Entries V) (x : V) → under n es ≡ Some x → (i : ℕ) × ((e : List ℕ × V) × ((slice_get es i ≡ Some e) × ((e.0 ≡ n) × (e.1 ≡ x))))
-  under_from n [] x h = no_some x h
-  under_from n (y ∷ es) x h = by (bytes_eq n y.0) refl (under_from n es x) h
-    where
-      by : (b : Bool) → bytes_eq n y.0 ≡ b → (under n es ≡ Some x → (i : ℕ) × ((e : List ℕ × V) × ((slice_get es i ≡ Some e) × ((e.0 ≡ n) × (e.1 ≡ x)))))
-          → option_map (λ (p : List ℕ × V). p.1) (if b then Some y else first_of n es) ≡ Some x → (i : ℕ) × ((e : List ℕ × V) × ((slice_get (y ∷ es) i ≡ Some e) × ((e.0 ≡ n) × (e.1 ≡ x))))
-      by true t rest f = (0, (y, (refl, (sym ((bytes_eq-Decides n y.0).0 t), same_Some _ _ f))))
-      by false t rest f = let r = rest f in (suc r.0, r.1)
-
-module _ {A B : Type 0} (f : A → B) (n : List ℕ) where
-  abbrev mapped : Entries A → Entries B
-  mapped es = map (λ e. (e.0, f e.1)) es
-
-  found : (es : Entries A) → fin.find by_bytes n (mapped es) ≡ option_map f (under n es)
-  found [] = refl
-  found (e ∷ es) = by (bytes_eq n e.0) refl (found es)
-    where
-      by : (b : Bool) → bytes_eq n e.0 ≡ b → fin.find by_bytes n (mapped es) ≡ option_map f (under n es) → fin.find by_bytes n (mapped (e ∷ es)) ≡ option_map f (under n (e ∷ es))
-      by true t rest =
-          ap (λ b. cond b (Some (f e.1)) (fin.find by_bytes n (mapped es))) (sym (texts_ties n e.0) ∙ t)
-          ∙ sym (ap (λ b. option_map f (option_map (λ (x : List ℕ × A). x.1) (if b then Some e else find (λ (x : List ℕ × A). bytes_eq n x.0) es))) t)
-      by false t rest =
-          ap (λ b. cond b (Some (f e.1)) (fin.find by_bytes n (mapped es))) (sym (texts_ties n e.0) ∙ t)
-          ∙ rest
-          ∙ sym (ap (λ b. option_map f (option_map (λ (x : List ℕ × A). x.1) (if b then Some e else find (λ (x : List ℕ × A). bytes_eq n x.0) es))) t)
-
-  -- what stands first under a name is what the finite map has under it
-  pub get_under : (es : Entries A) → fin.get (named f es) n ≡ option_map f (under n es)
-  get_under es = fin.get-from_entries nat_list_cmp_total (mapped es) n ∙ found es
-
 -- ---- of entries and lists, where the rule says u of what stands there
-
-module _ {X Y : Type 0} (u : X → Y) where
-  mapped_some : (o : Option X) (y : Y) → option_map u o ≡ Some y → (x : X) × ((o ≡ Some x) × (u x ≡ y))
-  mapped_some None y e = no_some y e
-  mapped_some (Some x) y e = (x, (refl, same_Some _ _ e))
-
-  slice_get-map : (xs : List X) (i : ℕ) → slice_get (map u xs) i ≡ option_map u (slice_get xs i)
-  slice_get-map [] i = refl
-  slice_get-map (x ∷ xs) zero = refl
-  slice_get-map (x ∷ xs) (suc i) = slice_get-map xs i
 
 module _ {A B : Type 0} (Is : A → B → Type 0) {X Y : Type 0} (u : X → Y) where
   told_entries : (es : Entries X) → IsDistinct bytes_eq (keys_of es) → (look : List ℕ → Option Y) → ((n : List ℕ) → look n ≡ option_map u (under n es)) → (R : List ℕ → Y → A → Type 0) (S : X → B → Type 0)
@@ -111,18 +41,14 @@ module _ {A B : Type 0} (Is : A → B → Type 0) {X Y : Type 0} (u : X → Y) w
   told_entries es distinct look same R S each f = (
     λ h.
         let e = h.1.0 in
-        let there = under_index es distinct h.0 e h.1.1.0 in
+        let there = under_found es distinct e (index_given es h.0 e h.1.1.0) in
         let r = (each h.0 e h.1.1.0 there f).0 h.1.1.1 in
         (r.0, ((e.0, (u e.1, (same e.0 ∙ ap (option_map u) there, r.1.0))), r.1.1)),
     λ q.
         let n = q.1.0.0 in
         let x = mapped_some u (under n es) q.1.0.1.0 (sym (same n) ∙ q.1.0.1.1.0) in
-        let from = under_from n es x.0 x.1.0 in
-        let e = from.1.0 in
-        let there = under_index es distinct from.0 e from.1.1.0 in
-        let is : u e.1 ≡ q.1.0.1.0 = ap u from.1.1.1.1 ∙ x.1.1 in
-        let held : R e.0 (u e.1) q.0 = subst (λ y. R e.0 y q.0) (sym is) (subst (λ m. R m q.1.0.1.0 q.0) (sym from.1.1.1.0) q.1.0.1.1.1) in
-        (from.0, (e, (from.1.1.0, (each from.0 e from.1.1.0 there f).1 (q.0, (held, q.1.1))))),
+        let at = index_found es (n, x.0) (under_given n es x.0 x.1.0) in
+        (at.0, ((n, x.0), (at.1, (each at.0 (n, x.0) at.1 x.1.0 f).1 (q.0, (subst (λ y. R n y q.0) x.1.1 q.1.0.1.1.1, q.1.1))))),
   )
 
   told_index : (xs : List X) (R : ℕ → Y → A → Type 0) (S : X → B → Type 0) → ((i : ℕ) (x : X) → slice_get xs i ≡ Some x → Moves Is (R i (u x)) (S x)) → Moves Is (λ g. AtSomeIndex (map u xs) (λ i y. R i y g)) (λ f. AtSomeIndex xs (λ i x. S x f))
@@ -133,13 +59,8 @@ module _ {A B : Type 0} (Is : A → B → Type 0) {X Y : Type 0} (u : X → Y) w
     λ q.
         let i = q.1.0.0 in
         let x = mapped_some u (slice_get xs i) q.1.0.1.0 (sym (slice_get-map u xs i) ∙ q.1.0.1.1.0) in
-        (i, (x.0, (x.1.0, (each i x.0 x.1.0 f).1 (q.0, (subst (λ y. R i y q.0) (sym x.1.1) q.1.0.1.1.1, q.1.1))))),
+        (i, (x.0, (x.1.0, (each i x.0 x.1.0 f).1 (q.0, (subst (λ y. R i y q.0) x.1.1 q.1.0.1.1.1, q.1.1))))),
   )
-
-all_at : {X : Type 0} (P : X → Type 0) (xs : List X) → AllByRecursion P xs → (i : ℕ) (x : X) → slice_get xs i ≡ Some x → P x
-all_at P [] all i x e = no_some x e
-all_at P (y ∷ xs) all zero x e = subst P (same_Some _ _ e) all.0
-all_at P (y ∷ xs) all (suc i) x e = all_at P xs all.1 i x e
 
 -- ---- directives without places
 
@@ -153,7 +74,7 @@ bare_applied s (d ∷ ds) = ap (λ l. unplaced_directive d.it.it ∷ l) (bare_ap
 
 -- ---- at each place of the schema
 
-module _ (s : SchemaTree Place) (distinct : HasDistinctNames s) where
+module _ (s : SchemaTree Place) (distinct : AreAllDistinct s) where
   abbrev T : (SchemaFault → Type 0) → (PlacedFault → Type 0) → Type 0
   T R S = Moves (IsToldAs s) R S
 
@@ -216,7 +137,7 @@ module _ (s : SchemaTree Place) (distinct : HasDistinctNames s) where
     told_fields : T (λ g. Somewhere L.field (λ m f. By (FieldAt n m) location.FieldDefinition (bare f.directives) g
         ⊎ AtSomeIndex f.arguments (λ i v. By (ArgumentAt (FieldAt n m) i) location.ArgumentDefinition (bare v.it.directives) g))) (FieldsUses s t.fields)
     told_fields =
-        told_entries (IsToldAs s) (plain_given unplaced_field_definition) t.fields fields L.field (λ m. get_under (plain_given unplaced_field_definition) m t.fields)
+        told_entries (IsToldAs s) (plain_given unplaced_field_definition) t.fields fields L.field (field_look t)
         (λ m f g. By (FieldAt n m) location.FieldDefinition (bare f.directives) g ⊎ AtSomeIndex f.arguments (λ i v. By (ArgumentAt (FieldAt n m) i) location.ArgumentDefinition (bare v.it.directives) g))
         (λ x f. FieldUses s x.it.it f)
         (λ i e at there.
@@ -227,13 +148,13 @@ module _ (s : SchemaTree Place) (distinct : HasDistinctNames s) where
 
     told_values : T (λ g. Somewhere L.value (λ m v. By (ValueAt n m) location.EnumValue (bare v.directives) g)) (ValuesUses s t.values)
     told_values =
-        told_entries (IsToldAs s) (plain_given unplaced_enum_value) t.values values L.value (λ m. get_under (plain_given unplaced_enum_value) m t.values)
+        told_entries (IsToldAs s) (plain_given unplaced_enum_value) t.values values L.value (value_look t)
         (λ m v g. By (ValueAt n m) location.EnumValue (bare v.directives) g) (λ x f. UsesAt s location.EnumValue x.it.it.directives f)
         (λ i e at there. told_at (ValueAt n e.0) location.EnumValue e.1.it.it.directives _ (ap (λ o. option_map_or (λ (x : Placed Place (EnumValueTree Place)). x.it.directives) o []) (in_type_found (λ t'. t'.values) e.0 e.1 there)) (bare_directives e.1.it.it.directives))
 
     told_inputs : T (λ g. Somewhere L.input (λ m v. By (InputAt n m) location.InputFieldDefinition (bare v.directives) g)) (InputsUses s t.inputs)
     told_inputs =
-        told_entries (IsToldAs s) (plain_given unplaced_input_value) t.inputs inputs L.input (λ m. get_under (plain_given unplaced_input_value) m t.inputs)
+        told_entries (IsToldAs s) (plain_given unplaced_input_value) t.inputs inputs L.input (input_look t)
         (λ m v g. By (InputAt n m) location.InputFieldDefinition (bare v.directives) g) (λ x f. UsesAt s location.InputFieldDefinition x.it.it.directives f)
         (λ i e at there. told_at (InputAt n e.0) location.InputFieldDefinition e.1.it.it.directives _ (ap (λ o. option_map_or (λ (x : Placed Place (InputValueTree Place)). x.it.directives) o []) (in_type_found (λ t'. t'.inputs) e.0 e.1 there)) (bare_directives e.1.it.it.directives))
 
@@ -253,25 +174,15 @@ module _ (s : SchemaTree Place) (distinct : HasDistinctNames s) where
       ⊎ (Somewhere l.field (λ m f. By (FieldAt n m) location.FieldDefinition (bare f.directives) g ⊎ AtSomeIndex f.arguments (λ i v. By (ArgumentAt (FieldAt n m) i) location.ArgumentDefinition (bare v.it.directives) g))
       ⊎ (Somewhere l.value (λ m v. By (ValueAt n m) location.EnumValue (bare v.directives) g) ⊎ Somewhere l.input (λ m v. By (InputAt n m) location.InputFieldDefinition (bare v.directives) g)))
 
-  look_type : (n : List ℕ) → (judged s).type_named n ≡ option_map (λ t. type_looks (plain_type t)) (under n s.types)
-  look_type n = ap (option_map type_looks) (get_under plain_type n s.types) ∙ twice (under n s.types)
-    where
-      twice : (o : Option (SchemaType Place)) → option_map type_looks (option_map plain_type o) ≡ option_map (λ t. type_looks (plain_type t)) o
-      twice None = refl
-      twice (Some t) = refl
-
   told_types : T (λ g. Somewhere (judged s).type_named (λ n l. OfType n l g)) (λ f. AtSomeIndex s.types (λ i e. TypeUses s e.1 f))
   told_types =
-      told_entries (IsToldAs s) (λ t. type_looks (plain_type t)) s.types distinct.types (judged s).type_named look_type OfType (λ t f. TypeUses s t f)
-      (λ i e at there. told_type e.0 e.1 there
-      (all_at (λ e. IsDistinct bytes_eq (keys_of e.1.fields)) s.types distinct.fields i e at)
-      (all_at (λ e. IsDistinct bytes_eq (keys_of e.1.values)) s.types distinct.values i e at)
-      (all_at (λ e. IsDistinct bytes_eq (keys_of e.1.inputs)) s.types distinct.inputs i e at))
+      told_entries (IsToldAs s) (λ t. type_looks (plain_type t)) s.types distinct.types (judged s).type_named (type_look s) OfType (λ t f. TypeUses s t f)
+      (λ i e at there. let parts = distinct.parts e (index_given s.types i e at) in told_type e.0 e.1 there parts.fields parts.values parts.inputs)
 
   -- all definitions of directives
   told_definitions : T (λ g. Somewhere (judged s).directive (λ n d. AtSomeIndex d.arguments (λ i v. By (ArgumentAt (DirectiveDefinitionAt n) i) location.ArgumentDefinition (bare v.it.directives) g))) (DefinitionUses s s.directives)
   told_definitions =
-      told_entries (IsToldAs s) plain_directive_definition s.directives distinct.directives (judged s).directive (λ n. get_under plain_directive_definition n s.directives)
+      told_entries (IsToldAs s) plain_directive_definition s.directives distinct.directives (judged s).directive (directive_look s)
       (λ n d g. AtSomeIndex d.arguments (λ i v. By (ArgumentAt (DirectiveDefinitionAt n) i) location.ArgumentDefinition (bare v.it.directives) g)) (λ d f. ArgumentUses s d.it.arguments f)
       (λ i e at there. told_arguments (DirectiveDefinitionAt e.0) e.1.it.arguments (ap (λ o. option_map_or (λ (x : Placed Place (DirectiveDefinitionTree Place)). x.it.arguments) o []) there))
 

@@ -1,18 +1,18 @@
 -- What rules tell of directives by their addresses in a schema is what they tell of them where they stand.
-use Rattle.std.proofs.Common.{◌≡◌, ℕ, ◌+◌, ◌⊎◌, ◌↔◌, List, [], ◌∷◌, map, refl, sym, ap, subst, ◌∙◌, Option, None, Some, zero, suc, slice_get, option_map, option_and_then, arith}
+use Rattle.std.proofs.Common.{◌≡◌, ℕ, ◌+◌, ◌↔◌, List, [], ◌∷◌, map, refl, sym, ap, subst, ◌∙◌, Option, None, Some, zero, suc, slice_get, option_map, option_and_then, arith}
 use Rattle.graphql_names.specs.Placed.{Placed, Place, Text, unplaced_node}
 use Rattle.graphql_literals.specs.ValueTree.{ValueTree, ItemTrees, EntryTrees, NullTree, EnumTree, VariableTree, StringTree, FloatTree, IntTree, BooleanTree, ListTree, ObjectTree, no_items, item_then, no_entries, entry_then, unplaced_value, unplaced_items, unplaced_entries}
 use Rattle.graphql_literals.specs.ValueQueries.{list_items, object_entries}
 use Rattle.graphql_directives.specs.DirectiveTree.{ArgumentTree, DirectiveTree, Directives, unplaced_argument, unplaced_directive}
 use Rattle.graphql_directives.specs.declared.directive_location.DirectiveLocation.{DirectiveLocation}
 use Rattle.graphql_schema_types.specs.SchemaTree.{SchemaTree}
-use Rattle.graphql_schema_types.specs.Addresses.{Address, SchemaAt, DirectiveAt, GivenAt, GivenValueAt, NameAt, place_at, directives_at, given_at, or_nothing}
+use Rattle.graphql_schema_types.specs.Addresses.{Address, SchemaAt, DirectiveAt, GivenAt, GivenValueAt, place_at, directives_at, given_at, or_nothing}
 use Rattle.graphql_rule_definitions.specs.Diagnostics.{Diagnostic, map_places}
 use Rattle.graphql_rule_definitions.specs.Spots.{Spot, At, HeadAt, ItemAt, KeyAt, EntryAt, each_from, spotted_value, spotted_items, spotted_entries, spotted_argument, spotted_directive, spotted_directives, item_of, entry_list, written_at, spot_place, StandsAt}
 use Rattle.graphql_rule_definitions.specs.Faults.{FaultAt, SchemaFault, wrong}
 use Rattle.graphql_rule_definitions.specs.Judged.{Judged}
 use Rattle.graphql_rule_definitions.specs.Uses.{UsesBreak}
-use Rattle.graphql_use_rules.specs.Moved.{moved_value, moved_items, moved_entries, moved_placed, moved_argument, moved_directive}
+use Rattle.graphql_use_rules.specs.Moved.{moved_value, moved_items, moved_entries, moved_argument, moved_directive}
 use Rattle.graphql_use_rules.proofs.MovedValues.{Carries, moved_fault}
 use Rattle.graphql_use_rules.proofs.MovedUses.{uses_moved}
 

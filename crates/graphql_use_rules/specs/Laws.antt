@@ -9,7 +9,9 @@ use Rattle.graphql_rule_definitions.specs.Spots.{At, spotted_directives}
 use Rattle.graphql_rule_definitions.specs.Judged.{judged}
 use Rattle.graphql_rule_definitions.specs.Uses.{UsesBreak}
 use Rattle.graphql_rule_definitions.specs.Rules.{SchemaUsesBreak}
-use Rattle.graphql_use_rules.specs.SchemaUses.{PlacedFault, Told, HasDistinctNames, SchemaUses}
+use Rattle.graphql_rule_definitions.specs.Told.{PlacedFault, Told}
+use Rattle.graphql_rule_definitions.specs.Distinct.{AreAllDistinct}
+use Rattle.graphql_use_rules.specs.SchemaUses.{SchemaUses}
 
 -- at one place
 abbrev pub UsesToldInPlace : Type 0
@@ -18,4 +20,4 @@ UsesToldInPlace = (s : SchemaTree Place) (holder : Address) (location : Directiv
 
 -- at all places, entry by entry
 abbrev pub SchemaUsesTold : Type 0
-SchemaUsesTold = (s : SchemaTree Place) → HasDistinctNames s → (f : PlacedFault) → SchemaUses s f ↔ Told s SchemaUsesBreak f
+SchemaUsesTold = (s : SchemaTree Place) → AreAllDistinct s → (f : PlacedFault) → SchemaUses s f ↔ Told s SchemaUsesBreak f

@@ -1,8 +1,8 @@
 -- Trees at other places (private: it leads to what is told of a schema).
-use Rattle.std.specs.Prelude.{ℕ, List, map}
+use Rattle.std.specs.Prelude.{map}
 use Rattle.graphql_names.specs.Placed.{Placed, Text}
 use Rattle.graphql_literals.specs.ValueTree.{ValueTree, ItemTrees, EntryTrees, NullTree, EnumTree, VariableTree, StringTree, FloatTree, IntTree, BooleanTree, ListTree, ObjectTree, no_items, item_then, no_entries, entry_then}
-use Rattle.graphql_directives.specs.DirectiveTree.{ArgumentTree, Arguments, DirectiveTree, Directives}
+use Rattle.graphql_directives.specs.DirectiveTree.{ArgumentTree, DirectiveTree}
 use Rattle.graphql_rule_definitions.specs.Values.{Wanted}
 use Rattle.graphql_rule_definitions.specs.Uses.{Taker}
 

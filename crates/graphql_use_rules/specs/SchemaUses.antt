@@ -1,7 +1,5 @@
 -- The rules on uses at each place of a schema, entry by entry, and what they tell of it.
-use Rattle.std.specs.Prelude.{◌≡◌, ℕ, Bool, false, ◌&&◌, List, [], ◌⊎◌, bytes_eq}
-use Rattle.std.specs.List.{IsDistinct, AllByRecursion}
-use Rattle.std.specs.Map.{keys_of}
+use Rattle.std.specs.Prelude.{◌≡◌, Bool, false, ◌&&◌, [], ◌⊎◌}
 use Rattle.graphql_names.specs.Placed.{Placed, Place}
 use Rattle.graphql_names.specs.Places.{is_built_in}
 use Rattle.graphql_directives.specs.DirectiveTree.{Directives, InputValueTree, InputValues, DirectiveDefinitionTree}
@@ -14,26 +12,10 @@ use Rattle.graphql_schema_types.specs.SchemaTree.{SchemaType, SchemaTree, same_k
 use Rattle.graphql_schema_types.specs.Addresses.{place_at, applied}
 use Rattle.graphql_schema_types.specs.declared.type_kind.TypeKind.TheVariants as kind
 use Rattle.graphql_rule_definitions.specs.Words.{AtSomeIndex}
-use Rattle.graphql_rule_definitions.specs.Faults.{FaultAt, SchemaFault}
-use Rattle.graphql_rule_definitions.specs.Judged.{Judged, judged}
+use Rattle.graphql_rule_definitions.specs.Judged.{judged}
 use Rattle.graphql_rule_definitions.specs.Uses.{UsesBreak}
-use Rattle.graphql_rule_definitions.specs.Rules.{type_location, IsToldAs}
-
--- what breaks a rule, at its place in a text
-abbrev pub PlacedFault : Type 0
-PlacedFault = FaultAt Place (List Place)
-
--- a rule on schemas fails, and this tells it
-abbrev pub Told : SchemaTree Place → (Judged → SchemaFault → Type 0) → PlacedFault → Type 0
-Told s Breaks f = (broken : SchemaFault) × (Breaks (judged s) broken × IsToldAs s broken f)
-
--- no two things stand under one name
-pub record HasDistinctNames (s : SchemaTree Place) : Type 0 where
-  pub directives : IsDistinct bytes_eq (keys_of s.directives)
-  pub types : IsDistinct bytes_eq (keys_of s.types)
-  pub fields : AllByRecursion (λ e. IsDistinct bytes_eq (keys_of e.1.fields)) s.types
-  pub values : AllByRecursion (λ e. IsDistinct bytes_eq (keys_of e.1.values)) s.types
-  pub inputs : AllByRecursion (λ e. IsDistinct bytes_eq (keys_of e.1.inputs)) s.types
+use Rattle.graphql_rule_definitions.specs.Rules.{type_location}
+use Rattle.graphql_rule_definitions.specs.Told.{PlacedFault}
 
 abbrev pub is_built_in_scalar : SchemaType Place → Bool
 is_built_in_scalar t = same_kind t.kind kind.Scalar && is_built_in t.place

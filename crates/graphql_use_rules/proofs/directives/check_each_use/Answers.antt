@@ -1,0 +1,31 @@
+use Rattle.std.proofs.Common.{◌<◌, ◌+◌, take, length, subst, arith}
+use Rattle.std.proofs.lemmas.List.{take_all}
+use Rattle.graphql_names.specs.Placed.{node_tree}
+use Rattle.graphql_directives.specs.DirectiveTree.{directive_tree}
+use Rattle.graphql_schema.specs.in_schema_types.Addresses.{place_at}
+use Rattle.graphql_fault_data.specs.FaultView.{faults_of}
+use Rattle.graphql_schema.specs.SchemaOf.{schema_tree}
+use Rattle.graphql_rule_definitions.specs.Judged.{judged}
+use Rattle.graphql_rule_definitions.specs.Uses.{UseBreaks}
+use Rattle.graphql_rule_definitions.specs.Words.{AtSomeIndex}
+use Rattle.graphql_fault_data.specs.Adds.{Adds}
+use Rattle.graphql_value_rules.specs.Wanting.{variables_of}
+use Rattle.graphql_use_rules.specs.Trees.{directives_of}
+use Rattle.graphql_use_rules.proofs.Listing.{gains_more, mapped_more}
+use Rattle.graphql_use_rules.proofs.directives.check_each_use.Goals as goal
+
+pub loop-directive-preserved : goal.loop-directive-preserved
+loop-directive-preserved c =
+    let s = schema_tree c.args.schema.now in
+    let xs = c.args.directives.now in
+    let i = c.loop-directive.directive-index in
+    let x = c.directive-item.result in
+    let h : i < length xs = omega arith in
+    gains_more (faults_of c.args.faults.now) (faults_of c.loop-directive.faults) (faults_of c.check_use.new.faults) (directives_of (take i xs)) (directives_of (take (i + 1) xs)) (node_tree directive_tree x)
+    (λ k d f. UseBreaks (place_at s) (judged s) (variables_of c.args.variables.now) c.args.location d f) (mapped_more (node_tree directive_tree) xs i x h c.directive-item.is) c.loop-directive.invariant c.in_ok-check_use.ensures
+
+pub returns : goal.returns
+returns c =
+    let s = schema_tree c.args.schema.now in
+    subst (λ l. Adds c.args.faults.now c.loop-directive.faults (λ f. AtSomeIndex (directives_of l) (λ i d. UseBreaks (place_at s) (judged s) (variables_of c.args.variables.now) c.args.location d f)))
+    (take_all c.loop-directive.directive-index c.args.directives.now c.loop-directive-test.false) c.loop-directive.invariant

@@ -1,0 +1,13 @@
+use Rattle.std.proofs.Common.{take}
+use Rattle.graphql_schema.specs.in_schema_types.Addresses.{place_at}
+use Rattle.graphql_schema.specs.SchemaOf.{schema_tree}
+use Rattle.graphql_rule_definitions.specs.Words.{AtSomeIndex}
+use Rattle.graphql_rule_definitions.specs.Judged.{judged}
+use Rattle.graphql_rule_definitions.specs.Uses.{UseBreaks}
+use Rattle.graphql_fault_data.specs.Adds.{Adds}
+use Rattle.graphql_value_rules.specs.Wanting.{variables_of}
+use Rattle.graphql_use_rules.specs.Trees.{directives_of}
+use Rattle.graphql_use_rules.proofs.directives.check_each_use.Given as goal
+
+abbrev pub invariant-loop-directive : goal.invariant-loop-directive
+invariant-loop-directive l = Adds l.fn.faults l.faults (λ f. AtSomeIndex (directives_of (take l.directive-index l.directives)) (λ i d. UseBreaks (place_at (schema_tree l.schema)) (judged (schema_tree l.schema)) (variables_of l.variables) l.location d f))

@@ -1,0 +1,51 @@
+use Rattle.std.proofs.Common.{[], ◌∷◌, ◌++◌, sym, ap, subst, ◌∙◌}
+use Rattle.std.proofs.lemmas.Result.{on_ok_weaker}
+use Rattle.graphql_names.specs.Placed.{Place, node_tree}
+use Rattle.graphql_directives.specs.DirectiveTree.{Arguments, directive_tree, directive_definition_tree}
+use Rattle.graphql_directives.specs.declared.directive.Directive.{Directive}
+use Rattle.graphql_schema.specs.in_schema_types.Addresses.{place_at, directive_definition_at}
+use Rattle.graphql_schema.specs.SchemaOf.{schema_tree}
+use Rattle.graphql_fault_data.specs.FaultView.{faults_of}
+use Rattle.graphql_rule_definitions.specs.Judged.{judged}
+use Rattle.graphql_rule_definitions.specs.Uses.{GivenBreaks}
+use Rattle.graphql_fault_data.specs.Adds.{Adds}
+use Rattle.graphql_value_rules.specs.Wanting.{variables_of}
+use Rattle.graphql_use_rules.specs.Trees.{arguments_of}
+use Rattle.graphql_use_rules.specs.UseFaults.{undefined_directive}
+use Rattle.graphql_use_rules.proofs.Listing.{gains_same, gains_both, gains_list, lists_one}
+use Rattle.graphql_fault_data.proofs.Judgings.{directive_look}
+use Rattle.graphql_use_rules.proofs.Uses.{use_undefined, use_found}
+use Rattle.graphql_use_rules.proofs.directives.check_use.Goals as goal
+
+pub returns-in_ok-fault-in-None : goal.returns-in_ok-fault-in-None
+returns-in_ok-fault-in-None c =
+    let s = schema_tree c.args.schema.now in
+    let vs = variables_of c.args.variables.now in
+    let d = node_tree directive_tree c.args.directive.now in
+    let a = faults_of c.args.faults.now in
+    let b = faults_of c.check_given.new.faults in
+    let defined = directive_look s in
+    let taken = ap arguments_of c.deref.ensures.value ∙ ap (λ (x : Directive). arguments_of x.arguments.items) c.content-used.ensures in
+    let given = subst (λ (l : Arguments Place). Adds c.args.faults.now c.check_given.new.faults (GivenBreaks (place_at s) (judged s) vs l)) taken (c.in_ok-check_given.ensures (place_at s) (judged s)) in
+    let same = ap (λ (x : Directive). directive_definition_at s x.name.text) (sym c.content-used.ensures) in
+    let e = faults_of c.tell.new.faults in
+    on_ok_weaker c.tell.result
+    (λ h. gains_same a e (use_undefined s vs defined c.args.location d (same ∙ sym c.in-None.ensures))
+    (gains_both a b e given (gains_list b e (undefined_directive d ∷ []) (h ∙ ap (λ x. b ++ x ∷ []) c.in_ok-fault-in-None.ensures) (lists_one (undefined_directive d)))))
+    c.tell.ensures.told
+
+pub returns-in-Some : goal.returns-in-Some
+returns-in-Some c =
+    let s = schema_tree c.args.schema.now in
+    let vs = variables_of c.args.variables.now in
+    let d = node_tree directive_tree c.args.directive.now in
+    let a = faults_of c.args.faults.now in
+    let b = faults_of c.check_given.new.faults in
+    let defined = directive_look s in
+    let taken = ap arguments_of c.deref.ensures.value ∙ ap (λ (x : Directive). arguments_of x.arguments.items) c.content-used.ensures in
+    let given = subst (λ (l : Arguments Place). Adds c.args.faults.now c.check_given.new.faults (GivenBreaks (place_at s) (judged s) vs l)) taken (c.in_ok-check_given.ensures (place_at s) (judged s)) in
+    let same = ap (λ (x : Directive). directive_definition_at s x.name.text) (sym c.content-used.ensures) in
+    let e = faults_of c.check_defined_use.new.faults in
+    on_ok_weaker c.check_defined_use.result
+    (λ h. gains_same a e (use_found s vs defined c.args.location d (node_tree directive_definition_tree c.in-Some.definition.now) (same ∙ sym c.in-Some.ensures)) (gains_both a b e given h))
+    c.check_defined_use.ensures

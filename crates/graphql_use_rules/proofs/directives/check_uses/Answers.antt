@@ -1,0 +1,28 @@
+use Rattle.std.proofs.lemmas.Result.{on_ok_weaker}
+use Rattle.graphql_components.specs.Lists.{each_place}
+use Rattle.graphql_schema.specs.in_schema_types.Addresses.{directive_definition_at}
+use Rattle.graphql_fault_data.specs.FaultView.{faults_of}
+use Rattle.graphql_schema.specs.SchemaOf.{schema_tree}
+use Rattle.graphql_rule_definitions.specs.Uses.{directive_name}
+use Rattle.graphql_value_rules.specs.Wanting.{variables_of}
+use Rattle.graphql_use_rules.specs.Trees.{directives_of}
+use Rattle.graphql_use_rules.specs.UseFaults.{repeated_directive}
+use Rattle.graphql_use_rules.proofs.Listing.{gains_both, gains_list}
+use Rattle.graphql_use_rules.proofs.Uses.{lists_repeated_directives}
+use Rattle.graphql_fault_data.proofs.Judgings.{directive_look}
+use Rattle.graphql_use_rules.proofs.directives.check_uses.Goals as goal
+
+pub returns : goal.returns
+returns c =
+    let s = schema_tree c.args.schema.now in
+    let vs = variables_of c.args.variables.now in
+    let ds = directives_of c.args.directives.now in
+    let a = faults_of c.args.faults.now in
+    let b = faults_of c.tell_repeated_directives.new.faults in
+    let d = faults_of c.check_each_use.new.faults in
+    on_ok_weaker c.check_each_use.result
+    (λ h. gains_both a b d
+    (gains_list a b (each_place (λ before d'. repeated_directive (directive_definition_at s (directive_name d')) before d') ds) c.in_ok-tell_repeated_directives.ensures
+    (lists_repeated_directives s vs (directive_look s) ds))
+    h)
+    c.check_each_use.ensures

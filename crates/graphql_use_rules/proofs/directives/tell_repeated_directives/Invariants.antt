@@ -1,0 +1,12 @@
+use Rattle.std.proofs.Common.{◌≡◌, ◌++◌, take}
+use Rattle.graphql_components.specs.Lists.{each_place}
+use Rattle.graphql_schema.specs.in_schema_types.Addresses.{directive_definition_at}
+use Rattle.graphql_schema.specs.SchemaOf.{schema_tree}
+use Rattle.graphql_fault_data.specs.FaultView.{faults_of}
+use Rattle.graphql_rule_definitions.specs.Uses.{directive_name}
+use Rattle.graphql_use_rules.specs.Trees.{directives_of}
+use Rattle.graphql_use_rules.specs.UseFaults.{repeated_directive}
+use Rattle.graphql_use_rules.proofs.directives.tell_repeated_directives.Given as goal
+
+abbrev pub invariant-loop-index : goal.invariant-loop-index
+invariant-loop-index l = faults_of l.faults ≡ faults_of l.fn.faults ++ each_place (λ before d. repeated_directive (directive_definition_at (schema_tree l.schema) (directive_name d)) before d) (directives_of (take l.index l.directives))

@@ -1,0 +1,9 @@
+use Rattle.std.proofs.Common.{◌≡◌, ◌++◌, take}
+use Rattle.graphql_components.specs.Lists.{each_place}
+use Rattle.graphql_fault_data.specs.FaultView.{faults_of}
+use Rattle.graphql_use_rules.specs.Trees.{arguments_of}
+use Rattle.graphql_use_rules.specs.UseFaults.{repeated_argument}
+use Rattle.graphql_use_rules.proofs.given.tell_repeated_arguments.Given as goal
+
+abbrev pub invariant-loop-index : goal.invariant-loop-index
+invariant-loop-index l = faults_of l.faults ≡ faults_of l.fn.faults ++ each_place repeated_argument (arguments_of (take l.index l.given))

@@ -1,0 +1,21 @@
+use Rattle.std.proofs.Common.{ap, subst}
+use Rattle.std.proofs.lemmas.Result.{on_ok_weaker}
+use Rattle.graphql_names.specs.Placed.{Place}
+use Rattle.graphql_directives.specs.DirectiveTree.{Directives, InputValues}
+use Rattle.graphql_directives.specs.declared.directive_location.DirectiveLocation.TheVariants as location
+use Rattle.graphql_schema.specs.SchemaOf.{schema_tree}
+use Rattle.graphql_fault_data.specs.FaultView.{faults_of}
+use Rattle.graphql_fault_data.specs.Adds.{Adds}
+use Rattle.graphql_use_rules.specs.Trees.{directives_of, inputs_of}
+use Rattle.graphql_use_rules.specs.SchemaUses.{UsesAt, ArgumentUses}
+use Rattle.graphql_use_rules.proofs.Listing.{gains_both}
+use Rattle.graphql_use_rules.proofs.schema_uses.check_field.Goals as goal
+
+pub returns : goal.returns
+returns c =
+    let s = schema_tree c.args.schema.now in
+    on_ok_weaker c.check_arguments.result
+    (λ h. gains_both (faults_of c.args.faults.now) (faults_of c.check_at.new.faults) (faults_of c.check_arguments.new.faults)
+    (subst (λ (l : Directives Place). Adds c.args.faults.now c.check_at.new.faults (UsesAt s location.FieldDefinition l)) (ap directives_of c.deref.ensures.value) c.in_ok-check_at.ensures)
+    (subst (λ (l : InputValues Place). Adds c.check_at.new.faults c.check_arguments.new.faults (ArgumentUses s l)) (ap inputs_of c.deref-2.ensures.value) h))
+    c.check_arguments.ensures

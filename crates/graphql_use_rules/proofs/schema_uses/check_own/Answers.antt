@@ -1,0 +1,35 @@
+use Rattle.std.proofs.Common.{◌≡◌, false, sym, ap, subst, ◌∙◌}
+use Rattle.std.proofs.lemmas.Result.{on_ok_weaker}
+use Rattle.graphql_names.specs.Placed.{Place}
+use Rattle.graphql_names.specs.Places.{is_built_in}
+use Rattle.graphql_directives.specs.declared.directive_location.DirectiveLocation.{DirectiveLocation}
+use Rattle.graphql_components.specs.Applied.{Applied, applied_tree}
+use Rattle.graphql_schema.specs.in_schema_types.SchemaTree.{same_kind}
+use Rattle.graphql_schema.specs.in_schema_types.TypeView.{extended_type}
+use Rattle.graphql_schema.specs.in_schema_types.Addresses.{applied}
+use Rattle.graphql_schema.specs.in_schema_types.declared.type_kind.TypeKind.TheVariants as kind
+use Rattle.graphql_schema.specs.SchemaOf.{schema_tree}
+use Rattle.graphql_fault_data.specs.FaultView.{faults_of}
+use Rattle.graphql_fault_data.specs.Adds.{Adds}
+use Rattle.graphql_rule_definitions.specs.Rules.{type_location}
+use Rattle.graphql_use_rules.specs.SchemaUses.{UsesAt, is_built_in_scalar}
+use Rattle.graphql_use_rules.proofs.Listing.{gains_same}
+use Rattle.graphql_use_rules.proofs.SchemaSteps.{own_judged, first_fails, second_fails}
+use Rattle.graphql_use_rules.proofs.schema_uses.check_own.Goals as goal
+use Rattle.graphql_use_rules.proofs.schema_uses.check_own.Goals.{else-is_scalar-via-then-is_scalar+else-is_built_in, else-is_scalar-via-else-is_scalar}
+
+pub returns : goal.returns
+returns c =
+    let s = schema_tree c.args.schema.now in
+    let t = extended_type c.args.ty.now in
+    let a = same_kind t.kind kind.Scalar in
+    let b = is_built_in t.place in
+    let judged : is_built_in_scalar t ≡ false = elim c.else-is_scalar.branch [
+      | else-is_scalar-via-then-is_scalar+else-is_built_in w ↦ second_fails a b (sym w.is_built_in.ensures ∙ w.if-is_built_in.false)
+      | else-is_scalar-via-else-is_scalar w ↦ first_fails a b (sym c.is_scalar.ensures ∙ w.if-is_scalar.false)
+    ] in
+    on_ok_weaker c.check_applied.result
+    (λ h. gains_same (faults_of c.args.faults.now) (faults_of c.check_applied.new.faults) (own_judged s t judged)
+    (subst (λ (ds : Applied Place). Adds c.args.faults.now c.check_applied.new.faults (UsesAt s (type_location t.kind) (applied s ds))) c.directives.ensures
+    (subst (λ (l : DirectiveLocation). Adds c.args.faults.now c.check_applied.new.faults (UsesAt s l (applied s (applied_tree c.directives.result.now)))) (c.type_location.ensures ∙ ap type_location c.kind.ensures) h)))
+    c.check_applied.ensures

@@ -1,0 +1,64 @@
+use Rattle.std.proofs.Common.{refl, sym, subst, OnOk}
+use Rattle.std.proofs.lemmas.Result.{on_ok_weaker}
+use Rattle.graphql_names.specs.Node.{content, place}
+use Rattle.graphql_directives.specs.DirectiveTree.{input_value_tree}
+use Rattle.graphql_type_members.specs.TypeSystemTree.{field_definition_tree, enum_value_tree}
+use Rattle.graphql_components.specs.Names.{entries_of}
+use Rattle.graphql_components.specs.Given.{component_tree}
+use Rattle.graphql_schema.specs.in_schema_types.TypeView.{name_text, extended_type, object_type, interface_type, enum_type, input_object_type}
+use Rattle.graphql_schema.specs.in_schema_types.declared.extended_type.ExtendedType.{ExtendedType}
+use Rattle.graphql_schema.specs.in_schema_types.declared.kinds.ObjectType.{ObjectType}
+use Rattle.graphql_schema.specs.in_schema_types.declared.kinds.InterfaceType.{InterfaceType}
+use Rattle.graphql_schema.specs.in_schema_types.declared.kinds.EnumType.{EnumType}
+use Rattle.graphql_schema.specs.in_schema_types.declared.kinds.InputObjectType.{InputObjectType}
+use Rattle.graphql_schema.specs.SchemaOf.{schema_tree}
+use Rattle.graphql_fault_data.specs.FaultView.{faults_of}
+use Rattle.graphql_fault_data.specs.Adds.{Adds}
+use Rattle.graphql_use_rules.specs.SchemaUses.{FieldsUses, ValuesUses, InputsUses, PartsUses}
+use Rattle.graphql_use_rules.proofs.Listing.{gains_same}
+use Rattle.graphql_use_rules.proofs.SchemaSteps.{only_fields, only_values, only_inputs}
+use Rattle.graphql_use_rules.proofs.schema_uses.check_parts.Goals as goal
+
+pub returns-in-Object : goal.returns-in-Object
+returns-in-Object c =
+    let s = schema_tree c.args.schema.now in
+    let own = c.in-Object.own in
+    let t = object_type (place own) (content own) in
+    subst (λ (x : ExtendedType). OnOk c.check_fields.result (Adds c.args.faults.now c.check_fields.new.faults (PartsUses s (extended_type x)))) (sym c.in-Object.is)
+    (on_ok_weaker c.check_fields.result
+    (λ h. gains_same (faults_of c.args.faults.now) (faults_of c.check_fields.new.faults) (only_fields s t refl refl)
+    (subst (λ (x : ObjectType). Adds c.args.faults.now c.check_fields.new.faults (FieldsUses s (entries_of name_text (component_tree field_definition_tree) x.fields))) c.content.ensures h))
+    c.check_fields.ensures)
+
+pub returns-in-Interface : goal.returns-in-Interface
+returns-in-Interface c =
+    let s = schema_tree c.args.schema.now in
+    let own = c.in-Interface.own in
+    let t = interface_type (place own) (content own) in
+    subst (λ (x : ExtendedType). OnOk c.check_fields-in-Interface.result (Adds c.args.faults.now c.check_fields-in-Interface.new.faults (PartsUses s (extended_type x)))) (sym c.in-Interface.is)
+    (on_ok_weaker c.check_fields-in-Interface.result
+    (λ h. gains_same (faults_of c.args.faults.now) (faults_of c.check_fields-in-Interface.new.faults) (only_fields s t refl refl)
+    (subst (λ (x : InterfaceType). Adds c.args.faults.now c.check_fields-in-Interface.new.faults (FieldsUses s (entries_of name_text (component_tree field_definition_tree) x.fields))) c.content-in-Interface.ensures h))
+    c.check_fields-in-Interface.ensures)
+
+pub returns-in-Enum : goal.returns-in-Enum
+returns-in-Enum c =
+    let s = schema_tree c.args.schema.now in
+    let own = c.in-Enum.own in
+    let t = enum_type (place own) (content own) in
+    subst (λ (x : ExtendedType). OnOk c.check_values.result (Adds c.args.faults.now c.check_values.new.faults (PartsUses s (extended_type x)))) (sym c.in-Enum.is)
+    (on_ok_weaker c.check_values.result
+    (λ h. gains_same (faults_of c.args.faults.now) (faults_of c.check_values.new.faults) (only_values s t refl refl)
+    (subst (λ (x : EnumType). Adds c.args.faults.now c.check_values.new.faults (ValuesUses s (entries_of name_text (component_tree enum_value_tree) x.values))) c.content-in-Enum.ensures h))
+    c.check_values.ensures)
+
+pub returns-in-InputObject : goal.returns-in-InputObject
+returns-in-InputObject c =
+    let s = schema_tree c.args.schema.now in
+    let own = c.in-InputObject.own in
+    let t = input_object_type (place own) (content own) in
+    subst (λ (x : ExtendedType). OnOk c.check_inputs.result (Adds c.args.faults.now c.check_inputs.new.faults (PartsUses s (extended_type x)))) (sym c.in-InputObject.is)
+    (on_ok_weaker c.check_inputs.result
+    (λ h. gains_same (faults_of c.args.faults.now) (faults_of c.check_inputs.new.faults) (only_inputs s t refl refl)
+    (subst (λ (x : InputObjectType). Adds c.args.faults.now c.check_inputs.new.faults (InputsUses s (entries_of name_text (component_tree input_value_tree) x.fields))) c.content-in-InputObject.ensures h))
+    c.check_inputs.ensures)

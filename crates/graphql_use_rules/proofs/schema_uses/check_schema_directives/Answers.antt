@@ -1,0 +1,27 @@
+use Rattle.std.proofs.Common.{subst}
+use Rattle.std.proofs.lemmas.Result.{on_ok_weaker}
+use Rattle.graphql_directives.specs.declared.directive_location.DirectiveLocation.TheVariants as location
+use Rattle.graphql_components.specs.Applied.{applied_tree}
+use Rattle.graphql_schema.specs.in_schema_types.Addresses.{applied}
+use Rattle.graphql_schema.specs.in_schema_types.declared.schema_definition.SchemaDefinition.{SchemaDefinition}
+use Rattle.graphql_schema.specs.SchemaOf.{schema_tree}
+use Rattle.graphql_fault_data.specs.FaultView.{faults_of}
+use Rattle.graphql_fault_data.specs.Adds.{Adds}
+use Rattle.graphql_use_rules.specs.SchemaUses.{UsesAt}
+use Rattle.graphql_use_rules.proofs.Listing.{gains_both, gains_same}
+use Rattle.graphql_use_rules.proofs.SchemaTold.{schema_uses_told}
+use Rattle.graphql_use_rules.proofs.schema_uses.check_schema_directives.Goals as goal
+
+pub returns : goal.returns
+returns c =
+    let s = schema_tree c.args.schema.now in
+    let a = faults_of c.args.faults.now in
+    let b = faults_of c.check_applied.new.faults in
+    let d = faults_of c.check_types.new.faults in
+    let e = faults_of c.check_definitions.new.faults in
+    on_ok_weaker c.check_definitions.result
+    (λ h. gains_same a e (schema_uses_told s c.requires)
+    (gains_both a b e
+    (subst (λ (x : SchemaDefinition). Adds c.args.faults.now c.check_applied.new.faults (UsesAt s location.Schema (applied s (applied_tree x.directives)))) c.content.ensures c.in_ok-check_applied.ensures)
+    (gains_both b d e c.in_ok-check_types.ensures h)))
+    c.check_definitions.ensures

@@ -1,0 +1,217 @@
+//! Arguments that are given against those that are defined.
+ghost use Rattle.std.specs.Prelude.{◌≡◌, ◌++◌, ◌⊎◌, ◌↔◌, map, find, is_none, IfOk, IsTrue, OnOk, option_to_list, slice_get, take, ◌<◌, length, Some};
+ghost use Rattle.std.specs.List.{flat_map};
+ghost use Rattle.std.specs.Option.{option_map};
+ghost use Rattle.graphql_names.specs.Node.{content, place};
+ghost use Rattle.graphql_names.specs.Placed.{Place, node_tree};
+ghost use Rattle.graphql_literals.specs.ValueTree.{value_tree};
+ghost use Rattle.graphql_directives.specs.DirectiveTree.{argument_tree, input_value_tree};
+ghost use Rattle.graphql_directives.specs.DirectiveQueries.{input_value_has_name, given_value};
+ghost use Rattle.graphql_schema.specs.in_schema_types.Addresses.{Address};
+ghost use Rattle.graphql_schema.specs.SchemaOf.{schema_tree};
+ghost use Rattle.graphql_fault_data.specs.FaultView.{fault_of, faults_of};
+ghost use Rattle.graphql_fault_data.specs.DiagnosticView.{plain_type};
+ghost use Rattle.graphql_rule_definitions.specs.Diagnostics.{UndefinedArgument, RequiredArgument};
+ghost use Rattle.graphql_rule_definitions.specs.Faults.{wrong};
+ghost use Rattle.graphql_rule_definitions.specs.Words.{AtSomeIndex};
+ghost use Rattle.graphql_rule_definitions.specs.Judged.{judged};
+ghost use Rattle.graphql_rule_definitions.specs.Values.{is_absent_or_null};
+ghost use Rattle.graphql_rule_definitions.specs.Uses.{TakerBreaks};
+ghost use Rattle.graphql_fault_data.specs.Adds.{Adds};
+ghost use Rattle.graphql_value_rules.specs.Wanting.{variables_of};
+ghost use Rattle.graphql_use_rules.specs.Trees.{arguments_of, inputs_of, taker_of, coordinate_of, argument_coordinate_of, TellsPlaces};
+ghost use Rattle.graphql_use_rules.specs.UseFaults.{undefined_argument, required_argument};
+ghost use Rattle.graphql_use_rules.specs.Steps.{GivenArgumentBreaks, FirstGivenBreaks};
+
+use crate::given::find_argument;
+use crate::taker::Taker;
+use crate::usage::disallowed_variable_usage;
+use graphql_directives::{Argument, InputValueDefinition};
+use graphql_fault_data::{DiagnosticData, Fault, tell};
+use graphql_names::{Name, Node};
+use graphql_operations::VariableDefinition;
+use graphql_schema::Schema;
+use graphql_value_rules::type_breaks;
+use std::alloc::AllocError;
+
+/// The first of these definitions that has that name.
+fn find_definition<'a>(
+    definitions: &'a [Node<InputValueDefinition>],
+    name: &Name,
+) -> Option<&'a Node<InputValueDefinition>>
+    ensures { option_map (λ v. node_tree input_value_tree v.now) result ≡ find (input_value_has_name name.now.text) (inputs_of definitions.now) }
+{
+    for definition in definitions {
+        if definition.content().name.as_str() == name.as_str() {
+            return Some(definition);
+        }
+    }
+    None
+}
+
+/// UndefinedArgument: each argument that is given is defined (section 5.4.1).
+fn undefined_argument(
+    taker: &Taker<'_>,
+    argument: &Node<Argument>,
+) -> Result<Option<Fault>, AllocError>
+    ensures { IfOk result (λ r. map fault_of (option_to_list r) ≡ undefined_argument (taker_of taker.now) (inputs_of taker.now.definitions.now) (node_tree argument_tree argument.now)) }
+{
+    let name = &argument.content().name;
+    match find_definition(taker.definitions, name) {
+        Some(_) => Ok(None),
+        None => Ok(Some(told_undefined(taker, argument)?)),
+    }
+}
+
+/// What is told of an argument that is not defined.
+fn told_undefined(taker: &Taker<'_>, argument: &Node<Argument>) -> Result<Fault, AllocError>
+    ensures { IfOk result (λ r. fault_of r ≡ wrong (place argument.now) (UndefinedArgument (content argument.now).name.text (coordinate_of taker.now.name) taker.now.definition_location)) }
+{
+    let name = argument.content().name.clone()?;
+    let data = DiagnosticData::UndefinedArgument {
+        name,
+        coordinate: taker.name.coordinate()?,
+        definition_location: taker.definition_location,
+    };
+    let location = argument.location();
+    Ok(Fault { location, data })
+}
+
+/// Adds a fault for each argument that is given and not defined.
+fn tell_undefined_arguments(taker: &Taker<'_>, faults: &mut Vec<Fault>) -> Result<(), AllocError>
+    ensures { OnOk result (faults_of faults.new ≡ faults_of faults.old ++ flat_map (undefined_argument (taker_of taker.now) (inputs_of taker.now.definitions.now)) (arguments_of taker.now.given.now)) }
+{
+    for argument in taker.given {
+        tell(faults, undefined_argument(taker, argument)?)?;
+    }
+    Ok(())
+}
+
+/// Whether no argument of that name is given, or it is null.
+fn is_not_given(given: &[Node<Argument>], name: &Name) -> bool
+    ensures { result ≡ is_absent_or_null (given_value name.now.text (arguments_of given.now)) }
+{
+    match find_argument(given, name) {
+        None => true,
+        Some(argument) => argument.content().value.content().is_null(),
+    }
+}
+
+/// RequiredArgument: each required argument is given, and not as null (section 5.4.2.1).
+fn required_argument(
+    taker: &Taker<'_>,
+    definition: &Node<InputValueDefinition>,
+) -> Result<Option<Fault>, AllocError>
+    ensures { IfOk result (λ r. map fault_of (option_to_list r) ≡ required_argument (taker_of taker.now) (node_tree input_value_tree definition.now)) }
+{
+    let name = &definition.content().name;
+    if !(definition.content().is_required() && is_not_given(taker.given, name)) {
+        return Ok(None);
+    }
+    Ok(Some(told_required(taker, definition)?))
+}
+
+/// What is told of a required argument that is not given.
+fn told_required(
+    taker: &Taker<'_>,
+    definition: &Node<InputValueDefinition>,
+) -> Result<Fault, AllocError>
+    ensures { IfOk result (λ r. fault_of r ≡ wrong taker.now.location (RequiredArgument (content definition.now).name.text (argument_coordinate_of taker.now.name (content definition.now).name.text) (plain_type (content (content definition.now).ty)) (place definition.now))) }
+{
+    let defined = definition.content();
+    let expected_type = defined.ty.clone()?;
+    let name = defined.name.clone()?;
+    let data = DiagnosticData::RequiredArgument {
+        name,
+        coordinate: taker.name.argument_coordinate(&defined.name)?,
+        expected_type,
+        definition_location: definition.location(),
+    };
+    let location = taker.location;
+    Ok(Fault { location, data })
+}
+
+/// Adds a fault for each required argument that is not given.
+fn tell_required_arguments(taker: &Taker<'_>, faults: &mut Vec<Fault>) -> Result<(), AllocError>
+    ensures { OnOk result (faults_of faults.new ≡ faults_of faults.old ++ flat_map (required_argument (taker_of taker.now)) (inputs_of taker.now.definitions.now)) }
+{
+    for definition in taker.definitions {
+        tell(faults, required_argument(taker, definition)?)?;
+    }
+    Ok(())
+}
+
+/// Adds the faults of what is given for an argument by its definition: DisallowedVariableUsage, and the rules on values.
+fn check_argument(
+    schema: &Schema,
+    argument: &Node<Argument>,
+    definition: &Node<InputValueDefinition>,
+    variables: &[Node<VariableDefinition>],
+    faults: &mut Vec<Fault>,
+) -> Result<(), AllocError>
+    ensures { OnOk result (Adds faults.old faults.new (GivenArgumentBreaks (schema_tree schema.now) (variables_of variables.now) (input_value_tree (content definition.now)) (node_tree argument_tree argument.now))) }
+{
+    let defined = definition.content();
+    let fault = disallowed_variable_usage(argument, defined, variables)?;
+    tell(faults, fault)?;
+    let value = &argument.content().value;
+    type_breaks(schema, &defined.ty, value, variables, faults)
+}
+
+/// Adds the same for an argument, if it is the first of its name and defined. `before` are those that are given before it.
+fn check_if_first(
+    schema: &Schema,
+    taker: &Taker<'_>,
+    before: &[Node<Argument>],
+    argument: &Node<Argument>,
+    variables: &[Node<VariableDefinition>],
+    faults: &mut Vec<Fault>,
+) -> Result<(), AllocError>
+    ensures { OnOk result (Adds faults.old faults.new (FirstGivenBreaks (schema_tree schema.now) (variables_of variables.now) (inputs_of taker.now.definitions.now) (arguments_of before.now) (node_tree argument_tree argument.now))) }
+{
+    let name = &argument.content().name;
+    if find_argument(before, name).is_some() {
+        return Ok(());
+    }
+    match find_definition(taker.definitions, name) {
+        None => Ok(()),
+        Some(definition) => check_argument(schema, argument, definition, variables, faults),
+    }
+}
+
+/// Adds the same for the first argument of each name.
+fn check_arguments(
+    schema: &Schema,
+    taker: &Taker<'_>,
+    variables: &[Node<VariableDefinition>],
+    faults: &mut Vec<Fault>,
+) -> Result<(), AllocError>
+    ensures { OnOk result (Adds faults.old faults.new (λ f. AtSomeIndex (arguments_of taker.now.given.now) (λ j a. FirstGivenBreaks (schema_tree schema.now) (variables_of variables.now) (inputs_of taker.now.definitions.now) (take j (arguments_of taker.now.given.now)) a f))) }
+{
+    for index in 0..taker.given.len() {
+        check_if_first(
+            schema,
+            taker,
+            &taker.given[..index],
+            &taker.given[index],
+            variables,
+            faults,
+        )?;
+    }
+    Ok(())
+}
+
+/// Adds the faults of what is given by what is defined: UndefinedArgument, RequiredArgument, DisallowedVariableUsage, and the
+/// rules on values of what is given for an argument against its type.
+pub fn check_taken(
+    schema: &Schema,
+    taker: &Taker<'_>,
+    variables: &[Node<VariableDefinition>],
+    faults: &mut Vec<Fault>,
+) -> Result<(), AllocError>
+    ensures { OnOk result ((at : Address → Place) → TellsPlaces at (schema_tree schema.now) taker.now → Adds faults.old faults.new (TakerBreaks at (judged (schema_tree schema.now)) (variables_of variables.now) (taker_of taker.now))) }
+{
+    tell_undefined_arguments(taker, faults)?;
+    tell_required_arguments(taker, faults)?;
+    check_arguments(schema, taker, variables, faults)
+}
