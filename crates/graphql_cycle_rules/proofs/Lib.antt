@@ -1,0 +1,9 @@
+pub mod Ways
+pub mod Searching
+pub mod Transport
+pub mod Telling
+pub mod Entries
+pub mod Numbering
+pub mod InputGraphs
+pub mod InputBridge
+pub mod InputsTold

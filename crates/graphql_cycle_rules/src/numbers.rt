@@ -1,0 +1,40 @@
+//! Types by number, which is their place in the schema's order.
+ghost use Rattle.std.specs.Prelude.{◌≡◌, length};
+ghost use Rattle.graphql_schema.specs.SchemaOf.{schema_tree};
+ghost use Rattle.graphql_cycle_rules.specs.Numbers.{number_of, is_input_object_at, input_object_number};
+
+use graphql_schema::Schema;
+use graphql_schema::graphql_ast::Name;
+
+/// The number of the type of that name, if it is there.
+pub(crate) fn type_number(schema: &Schema, name: &Name) -> Option<usize>
+    ensures { result ≡ number_of name.now.text (schema_tree schema.now).types }
+{
+    schema.types.get_index_of(name)
+}
+
+/// Whether the type of that number is an input object.
+fn is_input_object(schema: &Schema, number: usize) -> bool
+    ensures { result ≡ is_input_object_at (schema_tree schema.now).types number }
+{
+    match schema.types.get_index(number) {
+        None => false,
+        Some((_, ty)) => ty.is_input_object(),
+    }
+}
+
+/// The number of the input object of that name, if there is one.
+pub(crate) fn input_object_number(schema: &Schema, name: &Name) -> Option<usize>
+    ensures { result ≡ input_object_number (schema_tree schema.now).types name.now.text }
+{
+    match type_number(schema, name) {
+        None => None,
+        Some(number) => {
+            if is_input_object(schema, number) {
+                Some(number)
+            } else {
+                None
+            }
+        }
+    }
+}
