@@ -25,7 +25,8 @@ use Rattle.graphql_cycle_rules.specs.Numbers.{Field}
 use Rattle.graphql_cycle_rules.specs.InputGraph.{IsInputGraph}
 use Rattle.graphql_cycle_rules.specs.FaultLists.{input_fields_at, input_trace, recursive_input_object_definition, deeply_nested_input_object, TellsInput, TellsDeepInput}
 use Rattle.graphql_cycle_rules.specs.Telling.{IsOfRoot, TellsRoots}
-use Rattle.graphql_cycle_rules.specs.Told.{PlacedFault, Told, CyclesFail, IsInputCycle, IsAnswered, SaysInputCycle, InputsTold}
+use Rattle.graphql_rule_definitions.specs.Told.{PlacedFault, Told}
+use Rattle.graphql_cycle_rules.specs.Told.{CyclesFail, IsInputCycle, IsAnswered, SaysInputCycle, InputsTold}
 use Rattle.graphql_cycle_rules.proofs.Ways.{Contains-single, Contains-first, not_in_nil}
 use Rattle.graphql_cycle_rules.proofs.Entries.{number_given, under_at}
 use Rattle.graphql_cycle_rules.proofs.Transport.{Goes, AreNamed, Leads-named-on, IsWay-named, HasNoRepeat-named, count-named, Leads-numbered, Leads-same, IsWay-same, count_by-none}

@@ -8,7 +8,7 @@ use Rattle.graphql_rule_definitions.specs.Diagnostics.{RecursiveInputObjectDefin
 use Rattle.graphql_rule_definitions.specs.Faults.{wrong}
 use Rattle.graphql_cycle_rules.specs.Labels.{Labelled, labels}
 use Rattle.graphql_cycle_rules.specs.Numbers.{Field, at_number, input_references}
-use Rattle.graphql_cycle_rules.specs.Told.{PlacedFault}
+use Rattle.graphql_rule_definitions.specs.Told.{PlacedFault}
 
 module _ (s : SchemaTree Place) where
   abbrev pub input_fields_at : ℕ → Labelled Field

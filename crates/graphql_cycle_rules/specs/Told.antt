@@ -7,14 +7,8 @@ use Rattle.graphql_rule_definitions.specs.Diagnostics.{RecursiveInputObjectDefin
 use Rattle.graphql_rule_definitions.specs.Faults.{FaultAt, SchemaFault}
 use Rattle.graphql_rule_definitions.specs.Judged.{Judged, judged}
 use Rattle.graphql_rule_definitions.specs.Cycles.{Leads, Referring, RefersToInput, PassesReferenceBound}
-use Rattle.graphql_rule_definitions.specs.Rules.{CyclesBreak, IsToldAs}
-
-abbrev pub PlacedFault : Type 0
-PlacedFault = FaultAt Place (List Place)
-
--- one of these rules fails of the schema, and this tells it
-abbrev pub Told : SchemaTree Place → (Judged → SchemaFault → Type 0) → PlacedFault → Type 0
-Told s Fails fault = (broken : SchemaFault) × (Fails (judged s) broken × IsToldAs s broken fault)
+use Rattle.graphql_rule_definitions.specs.Rules.{CyclesBreak}
+use Rattle.graphql_rule_definitions.specs.Told.{PlacedFault, Told}
 
 -- a definition leads back to itself, or the bound on references is passed
 abbrev pub CyclesFail : Judged → SchemaFault → Type 0
