@@ -15,25 +15,11 @@ use Rattle.std.proofs.lemmas.Slice.Eq.{bytes_eq-Decides}
 use Rattle.graphql_components.specs.Names.{Entries}
 use Rattle.graphql_schema_types.specs.Addresses.{under}
 use Rattle.graphql_cycle_rules.specs.Numbers.{number_of, at_number, each_value}
-use Rattle.graphql_cycle_rules.proofs.Ways.{Contains-cons, Contains-first, not_in_nil}
-
-pub itself : (n : List ℕ) → bytes_eq n n ≡ true
-itself n = (bytes_eq-Decides n n).1 refl
+use Rattle.graphql_rule_definitions.proofs.Lists.{Contains-cons, Contains-first, not_in_nil}
+use Rattle.graphql_rule_definitions.proofs.Lookups.{itself}
 
 pub same_bytes : (n m : List ℕ) → bytes_eq n m ≡ true → n ≡ m
 same_bytes n m h = (bytes_eq-Decides n m).0 h
-
-pub index_given : {X : Type 0} (xs : List X) (i : ℕ) (x : X) → slice_get xs i ≡ Some x → Contains xs x
-index_given [] i x e = cc
-index_given (z ∷ xs) zero x e = Contains-first z xs x (same_Some z x e)
-index_given (z ∷ xs) (suc i) x e = Contains-append_right (z ∷ []) xs x (index_given xs i x e)
-
-pub index_found : {X : Type 0} (xs : List X) (x : X) → Contains xs x → (i : ℕ) × (slice_get xs i ≡ Some x)
-index_found [] x h = not_in_nil x h
-index_found (z ∷ xs) x h = elim (Contains-cons z xs x h) [
-  | inl e ↦ (0, ap (λ y. Some y) e)
-  | inr r ↦ let p : (i : ℕ) × (slice_get xs i ≡ Some x) = index_found xs x r in (suc p.0, p.1)
-]
 
 module _ {V : Type 0} where
   -- ---- the number of a name

@@ -16,18 +16,19 @@ use Rattle.graphql_schema_types.specs.Looks.{TypeLooks, type_looks}
 use Rattle.graphql_schema_types.specs.Addresses.{under, or_nothing, place_of, place_at, input_at, InputAt}
 use Rattle.graphql_schema_types.specs.declared.type_kind.TypeKind.{TypeKind}
 use Rattle.graphql_schema_types.specs.declared.type_kind.TypeKind.TheVariants as kind
-use Rattle.graphql_schema.proofs.FieldLooks.{get_under}
 use Rattle.graphql_rule_definitions.specs.Diagnostics.{map_place}
 use Rattle.graphql_rule_definitions.specs.Spots.{Spot, At, spot_place}
 use Rattle.graphql_rule_definitions.specs.Words.{Present, Somewhere}
 use Rattle.graphql_rule_definitions.specs.Judged.{judged}
 use Rattle.graphql_rule_definitions.specs.Cycles.{Referring, RefersToInput}
-use Rattle.graphql_rule_definitions.specs.Kept.{AreDistinct}
+use Rattle.graphql_rule_definitions.specs.Distinct.{AreAllDistinct}
 use Rattle.graphql_cycle_rules.specs.Numbers.{number_of, at_number, each_value, is_input_object_at, input_if, input_object_number, required_input, Field, referred, field_references, input_references}
 use Rattle.graphql_cycle_rules.specs.Labels.{Labelled, targets}
-use Rattle.graphql_cycle_rules.proofs.Ways.{Contains-single, Contains-last, not_in_nil}
+use Rattle.graphql_rule_definitions.proofs.Lists.{only, index_given, mapped_some, not_in_nil}
+use Rattle.graphql_fault_data.proofs.Judgings.{type_seen, type_look, input_look}
+use Rattle.graphql_cycle_rules.proofs.Ways.{Contains-last}
 use Rattle.graphql_cycle_rules.proofs.Transport.{IsSoundView, target_there}
-use Rattle.graphql_cycle_rules.proofs.Entries.{number_given, number_there, under_at, under_given, each_found, each_given, index_given, one_number}
+use Rattle.graphql_cycle_rules.proofs.Entries.{number_given, number_there, under_at, under_given, each_found, each_given, one_number}
 
 pub is_input : (k : TypeKind) → same_kind k kind.InputObject ≡ true → k ≡ kind.InputObject
 is_input kind.Scalar h = absurd (true≢false (sym h))
@@ -36,29 +37,6 @@ is_input kind.Interface h = absurd (true≢false (sym h))
 is_input kind.Union h = absurd (true≢false (sym h))
 is_input kind.Enum h = absurd (true≢false (sym h))
 is_input kind.InputObject h = refl
-
-pub all_here : {X : Type 0} (P : X → Type 0) (xs : List X) (i : ℕ) (x : X) → AllByRecursion P xs → slice_get xs i ≡ Some x → P x
-all_here P [] i x all h = cc
-all_here P (y ∷ xs) zero x all h = subst P (same_Some y x h) all.0
-all_here P (y ∷ xs) (suc i) x all h = all_here P xs i x all.1 h
-
-map_twice : {X Y Z : Type 0} (f : X → Y) (g : Y → Z) (o : Option X) → option_map g (option_map f o) ≡ option_map (λ x. g (f x)) o
-map_twice f g None = refl
-map_twice f g (Some x) = refl
-
-pub mapped_some : {X Y : Type 0} (f : X → Y) (o : Option X) (y : Y) → option_map f o ≡ Some y → (x : X) × ((o ≡ Some x) × (y ≡ f x))
-mapped_some f None y e = cc
-mapped_some f (Some x) y e = (x, (refl, sym (same_Some (f x) y e)))
-
--- a type without places, by name
-abbrev pub type_seen : SchemaType Place → TypeLooks
-type_seen t = type_looks (plain_type t)
-
-pub type_look : (s : SchemaTree Place) (n : List ℕ) → (judged s).type_named n ≡ option_map type_seen (under n s.types)
-type_look s n = ap (option_map type_looks) (get_under plain_type n s.types) ∙ map_twice plain_type type_looks (under n s.types)
-
-pub input_look : (t : SchemaType Place) (m : List ℕ) → (type_seen t).input m ≡ option_map (plain_given unplaced_input_value) (under m t.inputs)
-input_look t m = get_under (plain_given unplaced_input_value) m t.inputs
 
 -- the name of a reference that is none to a list
 abbrev outer_name : TypeTree (Unit {0}) → List ℕ
@@ -73,7 +51,7 @@ input_place s n m t g there has =
     ap place_of (ap (λ o. or_nothing (option_map (λ (x : SchemaType Place). option_map (λ (y : Given Place (Placed Place (InputValueTree Place))). y.it) (under m x.inputs)) o)) there
     ∙ ap (option_map (λ (y : Given Place (Placed Place (InputValueTree Place))). y.it)) has)
 
-module _ (s : SchemaTree Place) (distinct : AreDistinct s) where
+module _ (s : SchemaTree Place) (distinct : AreAllDistinct s) where
   abbrev pub Refs : ℕ → Labelled Field
   Refs i = at_number (input_references s.types) s.types i
 
@@ -122,7 +100,7 @@ module _ (s : SchemaTree Place) (distinct : AreDistinct s) where
       chosen : (g : Given Place Field) (o : Option ℕ) → required_input s.types g.it.it.ty.it ≡ o → Contains (referred s.types o g.it) (j, l) → (g.it ≡ l) × (required_input s.types l.it.ty.it ≡ Some j)
       chosen g None e d = not_in_nil (j, l) d
       chosen g (Some r) e d =
-          let same : (j, l) ≡ (r, g.it) = Contains-single (r, g.it) (j, l) d in
+          let same : (j, l) ≡ (r, g.it) = only (r, g.it) (j, l) d in
           let it : g.it ≡ l = sym (ap (λ x. x.1) same) in
           (it, ap (λ v. required_input s.types v.it.ty.it) (sym it) ∙ e ∙ ap (λ x. Some x.0) (sym same))
 
@@ -139,7 +117,7 @@ module _ (s : SchemaTree Place) (distinct : AreDistinct s) where
       let f : (t.kind ≡ kind.InputObject) × ((k : ℕ) × ((m : List ℕ) × ((g : Given Place Field) × ((slice_get t.inputs k ≡ Some (m, g)) × ((g.it ≡ l) × (required_input s.types l.it.ty.it ≡ Some j)))))) = field_given t j l c in
       let m = f.1.1.0 in
       let g = f.1.1.1.0 in
-      let has : under m t.inputs ≡ Some g = under_at t.inputs (all_here (λ (e : List ℕ × SchemaType Place). IsDistinct bytes_eq (keys_of e.1.fields) × IsDistinct bytes_eq (keys_of e.1.inputs)) s.types i (n, t) distinct.parts h).1 f.1.0 m g f.1.1.1.1.0 in
+      let has : under m t.inputs ≡ Some g = under_at t.inputs (distinct.parts (n, t) (index_given s.types i (n, t) h)).inputs f.1.0 m g f.1.1.1.1.0 in
       let r : (name : Text Place) × ((l.it.ty.it ≡ NonNullNamedTree name) × ((u : SchemaType Place) × ((slice_get s.types j ≡ Some (name.it, u)) × (u.kind ≡ kind.InputObject)))) = required_given l.it.ty.it j f.1.1.1.1.1.1 in
       let it : g.it ≡ l = f.1.1.1.1.1.0 in (
         r.0.it,

@@ -5,11 +5,7 @@ use Rattle.std.specs.Global.{Global}
 use Rattle.std.specs.Option.{option_map_or}
 use Rattle.std.proofs.lemmas.Bool.{cases_lt}
 use Rattle.std.proofs.lemmas.Option.{slice_get_past}
-use Rattle.graphql_names.specs.Placed.{Place}
-use Rattle.graphql_schema_types.specs.SchemaTree.{SchemaType, SchemaTree}
-use Rattle.graphql_cycle_rules.specs.Labels.{targets}
-use Rattle.graphql_cycle_rules.specs.Numbers.{input_references}
-use Rattle.graphql_cycle_rules.specs.FaultLists.{input_fields_at}
+use Rattle.graphql_cycle_rules.specs.Numbers.{at_number}
 use Rattle.graphql_cycle_rules.specs.InputGraph.{listed}
 
 listed_kept : (vs : List (Vec ℕ Global)) (v : Vec ℕ Global) (i : ℕ) → i < length vs → listed (vs ++ v ∷ []) i ≡ listed vs i
@@ -29,11 +25,13 @@ listed_more of vs v n long before this i h = elim (cases_lt i n) [
       ap (listed (vs ++ v ∷ [])) at ∙ listed_last vs v ∙ this ∙ ap of (sym long ∙ sym at)
 ]
 
--- where no type is, nothing is referred to
-pub listed_all : (s : SchemaTree Place) (vs : List (Vec ℕ Global)) (n : ℕ) → length vs ≡ n → length s.types ≡ n → ((i : ℕ) → i < n → listed vs i ≡ targets (input_fields_at s i)) → (i : ℕ) → listed vs i ≡ targets (input_fields_at s i)
-listed_all s vs n long many before i = elim (cases_lt i n) [
+-- what there is at each number, and nothing at others
+pub listed_all : (of : ℕ → List ℕ) (vs : List (Vec ℕ Global)) (n : ℕ) → length vs ≡ n → ((i : ℕ) → n ≤ i → of i ≡ []) → ((i : ℕ) → i < n → listed vs i ≡ of i) → (i : ℕ) → listed vs i ≡ of i
+listed_all of vs n long none before i = elim (cases_lt i n) [
   | inl low ↦ before i low
-  | inr high ↦
-      ap (λ o. option_map_or (λ v. v.items) o []) (slice_get_past vs i (omega (arith, long, high)))
-      ∙ sym (ap (λ o. targets (option_map_or (λ (e : List ℕ × SchemaType Place). input_references s.types e.1) o [])) (slice_get_past s.types i (omega (arith, many, high))))
+  | inr high ↦ ap (λ o. option_map_or (λ v. v.items) o []) (slice_get_past vs i (omega (arith, long, high))) ∙ sym (none i (omega (arith, high)))
 ]
+
+-- nothing stands at numbers beyond the last
+pub past_the_last : {K V Y : Type 0} (f : V → List Y) (es : List (K × V)) (i : ℕ) → length es ≤ i → at_number f es i ≡ []
+past_the_last {K} {V} f es i h = ap (λ o. option_map_or (λ (e : K × V). f e.1) o []) (slice_get_past es i h)

@@ -15,7 +15,7 @@ use Rattle.graphql_rule_definitions.specs.Faults.{FaultAt, wrong}
 use Rattle.graphql_rule_definitions.specs.Spots.{At}
 use Rattle.graphql_rule_definitions.specs.Judged.{judged}
 use Rattle.graphql_rule_definitions.specs.Cycles.{Leads, IsWay, HasNoRepeat, Referring, RefersToInput, reference_bound}
-use Rattle.graphql_rule_definitions.specs.Kept.{AreDistinct}
+use Rattle.graphql_rule_definitions.specs.Distinct.{AreAllDistinct}
 use Rattle.graphql_cycle_rules.specs.declared.graph.Graph.{Graph}
 use Rattle.graphql_cycle_rules.specs.Graph.{references, RefersTo, LeadsTo, is_directive, is_type, IsWayBack, IsDeep}
 use Rattle.graphql_cycle_rules.specs.declared.marks.Mark.{Mark}
@@ -26,8 +26,8 @@ use Rattle.graphql_cycle_rules.specs.InputGraph.{IsInputGraph}
 use Rattle.graphql_cycle_rules.specs.FaultLists.{input_fields_at, input_trace, recursive_input_object_definition, deeply_nested_input_object, TellsInput, TellsDeepInput}
 use Rattle.graphql_cycle_rules.specs.Telling.{IsOfRoot, TellsRoots}
 use Rattle.graphql_rule_definitions.specs.Told.{PlacedFault, Told}
-use Rattle.graphql_cycle_rules.specs.Told.{CyclesFail, IsInputCycle, IsAnswered, SaysInputCycle, InputsTold}
-use Rattle.graphql_cycle_rules.proofs.Ways.{Contains-single, Contains-first, not_in_nil}
+use Rattle.graphql_cycle_rules.specs.Told.{CyclesFail, IsInputCycle, AnswersInput, InputsTold}
+use Rattle.graphql_rule_definitions.proofs.Lists.{only, Contains-first, not_in_nil}
 use Rattle.graphql_cycle_rules.proofs.Entries.{number_given, under_at}
 use Rattle.graphql_cycle_rules.proofs.Transport.{Goes, AreNamed, Leads-named-on, IsWay-named, HasNoRepeat-named, count-named, Leads-numbered, Leads-same, IsWay-same, count_by-none}
 use Rattle.graphql_cycle_rules.proofs.InputBridge.{Refs, name_at, number_at, tells, says, input_sound, input_full, input_defined, input_one}
@@ -40,7 +40,7 @@ map-reverse f (x ∷ xs) = ap (map f) (reverse-append (x ∷ []) xs) ∙ map-app
 pub ready_after : (g : Graph) (root : ℕ) (marks : List Mark) → IsSound g root marks → IsReady g (root + 1) marks
 ready_after g root marks sound = record { settled = sound.settled; earlier = λ n r e. omega (arith, sound.earlier n r e) }
 
-module _ (s : SchemaTree Place) (distinct : AreDistinct s) (g : Graph) (graph : IsInputGraph s g) where
+module _ (s : SchemaTree Place) (distinct : AreAllDistinct s) (g : Graph) (graph : IsInputGraph s g) where
   abbrev Walks : ℕ → ℕ → ℕ → Type 0
   Walks = Goes (Refs s distinct) (name_at s distinct) (number_at s distinct) (RefersToInput (judged s)) (tells s distinct) (says s distinct)
 
@@ -62,7 +62,7 @@ module _ (s : SchemaTree Place) (distinct : AreDistinct s) (g : Graph) (graph : 
       by : (o : Option (List ℕ × SchemaType Place)) → slice_get s.types root ≡ o → Contains (option_map_or (λ e. f e ∷ []) o []) x
           → (n : List ℕ) × ((t : SchemaType Place) × ((slice_get s.types root ≡ Some (n, t)) × (x ≡ f (n, t))))
       by None e d = not_in_nil x d
-      by (Some e) q d = (e.0, (e.1, (q, Contains-single (f e) x d)))
+      by (Some e) q d = (e.0, (e.1, (q, only (f e) x d)))
 
   recursive_right : (root : ℕ) (path : List ℕ) (f : PlacedFault) → IsWayBack g root path → Contains (recursive_input_object_definition s root path) f → Told s CyclesFail f
   recursive_right root path f way c =
@@ -132,7 +132,7 @@ module _ (s : SchemaTree Place) (distinct : AreDistinct s) (g : Graph) (graph : 
   first_fault : (h : List ℕ × SchemaType Place → PlacedFault) (root : ℕ) (e : List ℕ × SchemaType Place) → slice_get s.types root ≡ Some e → Contains (option_map_or (λ x. h x ∷ []) (slice_get s.types root) []) (h e)
   first_fault h root e there = subst (λ o. Contains (option_map_or (λ x. h x ∷ []) o []) (h e)) (sym there) (Contains-first (h e) [] (h e) refl)
 
-  said : (n : List ℕ) (t : SchemaType Place) (root : ℕ) (l added : List PlacedFault) → slice_get s.types root ≡ Some (n, t) → IsOfRoot (TellsInput s) (TellsDeepInput s) g root l → ((f : PlacedFault) → Contains l f → Contains added f) → IsAnswered SaysInputCycle added n
+  said : (n : List ℕ) (t : SchemaType Place) (root : ℕ) (l added : List PlacedFault) → slice_get s.types root ≡ Some (n, t) → IsOfRoot (TellsInput s) (TellsDeepInput s) g root l → ((f : PlacedFault) → Contains l f → Contains added f) → (f : PlacedFault) × (Contains added f × AnswersInput n f)
   said n t root l added there (inl r) sub =
       let trace = map (says s distinct) (reverse (labels (Refs s distinct) root r.0)) in (
         wrong t.place (RecursiveInputObjectDefinition n trace),
@@ -147,7 +147,7 @@ module _ (s : SchemaTree Place) (distinct : AreDistinct s) (g : Graph) (graph : 
     (
       sub (wrong t.place (DeeplyNestedType n (codes "input object"))) (subst (λ k. Contains k (wrong t.place (DeeplyNestedType n (codes "input object")))) (sym r.1)
           (first_fault (λ (x : List ℕ × SchemaType Place). wrong x.1.place (DeeplyNestedType x.0 (codes "input object"))) root (n, t) there)),
-      inr (n, codes "input object", refl),
+      inr refl,
     ),
   )
 

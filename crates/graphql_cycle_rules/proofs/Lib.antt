@@ -7,3 +7,7 @@ pub mod Numbering
 pub mod InputGraphs
 pub mod InputBridge
 pub mod InputsTold
+pub mod UseFacts
+pub mod UseBridge
+pub mod DirectivesTold
+pub mod BothTold

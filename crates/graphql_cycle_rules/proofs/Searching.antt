@@ -19,7 +19,8 @@ use Rattle.graphql_rule_definitions.specs.Cycles.{Leads, IsWay, HasNoRepeat}
 use Rattle.graphql_cycle_rules.specs.Graph.{references, RefersTo, LeadsTo, is_directive, is_type, IsWayBack, IsDeep}
 use Rattle.graphql_cycle_rules.specs.Marks.{mark_at, passes, is_passed, settles, is_settled, are_settled, directive_less, type_less, room_after, first_room}
 use Rattle.graphql_cycle_rules.specs.Search.{nodes, IsOff, IsSound, IsReady, IsTrail, IsPassed, WentAlong, IsFinished, Grows}
-use Rattle.graphql_cycle_rules.proofs.Ways.{Leads-append, Leads-push, Contains-single, Contains-last, Contains-push_cases, HasNoRepeat-push, HasNoRepeat-single, not_in_nil}
+use Rattle.graphql_rule_definitions.proofs.Lists.{only, not_in_nil}
+use Rattle.graphql_cycle_rules.proofs.Ways.{Leads-append, Leads-push, Contains-last, Contains-push_cases, HasNoRepeat-push, HasNoRepeat-single}
 
 -- ---- marks
 
@@ -371,7 +372,7 @@ module _ (g : Graph) where
     IsTrail-root path empty = subst (λ p. IsTrail g root root (first_room (is_directive g root)) p (set marks root (Seen root))) (sym empty) (record {
       leads = refl;
       apart = HasNoRepeat-single root;
-      seen = λ n c. ap (mark_at (set marks root (Seen root))) (Contains-single root n c) ∙ root_seen;
+      seen = λ n c. ap (mark_at (set marks root (Seen root))) (only root n c) ∙ root_seen;
       directives = dirs (is_directive g root);
       types = typs (is_directive g root);
     })

@@ -8,7 +8,7 @@ use Rattle.std.proofs.lemmas.List.Elements.{Contains-append_right}
 use Rattle.std.proofs.lemmas.List.Sums.{sum_by-append}
 use Rattle.graphql_rule_definitions.specs.Cycles.{Leads, IsWay, HasNoRepeat}
 use Rattle.graphql_cycle_rules.specs.Labels.{Labelled, targets, label, labels}
-use Rattle.graphql_cycle_rules.proofs.Ways.{Contains-cons, Contains-first, not_in_nil}
+use Rattle.graphql_rule_definitions.proofs.Lists.{Contains-cons, Contains-first, not_in_nil}
 
 -- ---- the first label
 

@@ -7,6 +7,7 @@ use Rattle.std.proofs.lemmas.List.Elements.{Contains-append_cases, Contains-appe
 use Rattle.std.proofs.lemmas.Option.{slice_get_within, slice_get-get_or, get_or_from_slice_get}
 use Rattle.std.proofs.Math.Seq.{get_or-append_seam}
 use Rattle.graphql_rule_definitions.specs.Cycles.{Leads, HasNoRepeat}
+use Rattle.graphql_rule_definitions.proofs.Lists.{only}
 
 module _ {X R : Type 0} (Refers : X → R → X → Type 0) where
   pub Leads-append : (x : X) (bys : List R) (y : X) (more : List R) (z : X) → Leads Refers x bys y → Leads Refers y more z → Leads Refers x (bys ++ more) z
@@ -16,27 +17,11 @@ module _ {X R : Type 0} (Refers : X → R → X → Type 0) where
   pub Leads-push : (x : X) (bys : List R) (y : X) (by : R) (z : X) → Leads Refers x bys y → Refers y by z → Leads Refers x (bys ++ by ∷ []) z
   Leads-push x bys y by z l r = Leads-append x bys y (by ∷ []) z l (z, (r, refl))
 
-pub not_in_nil : {X R : Type 0} (y : X) → Contains [] y → R
-not_in_nil y h = absurd (omega (arith, h.1))
-
-pub Contains-cons : {X : Type 0} (x : X) (xs : List X) (y : X) → Contains (x ∷ xs) y → (x ≡ y) ⊎ Contains xs y
-Contains-cons x xs y (k, h, e) = by k h e
-  where
-    by : (k : ℕ) → k < length (x ∷ xs) → get_or (x ∷ xs) k y ≡ y → (x ≡ y) ⊎ Contains xs y
-    by zero h e = inl e
-    by (suc k) h e = inr (k, omega arith, e)
-
-pub Contains-first : {X : Type 0} (x : X) (xs : List X) (y : X) → x ≡ y → Contains (x ∷ xs) y
-Contains-first x xs y e = (0, omega arith, e)
-
-pub Contains-single : {X : Type 0} (x y : X) → Contains (x ∷ []) y → y ≡ x
-Contains-single x y (k, h, e) = let z : k ≡ 0 = omega arith in sym e ∙ ap (λ i. get_or (x ∷ []) i y) z
-
 pub Contains-last : {X : Type 0} (xs : List X) (x : X) → Contains (xs ++ x ∷ []) x
 Contains-last xs x = Contains-append_right xs (x ∷ []) x (0, omega arith, refl)
 
 pub Contains-push_cases : {X : Type 0} (xs : List X) (x y : X) → Contains (xs ++ x ∷ []) y → Contains xs y ⊎ (y ≡ x)
-Contains-push_cases xs x y h = elim (Contains-append_cases xs (x ∷ []) y h) [ inl c ↦ inl c | inr c ↦ inr (Contains-single x y c) ]
+Contains-push_cases xs x y h = elim (Contains-append_cases xs (x ∷ []) y h) [ inl c ↦ inl c | inr c ↦ inr (only x y c) ]
 
 pub Contains-from_get : {X : Type 0} (xs : List X) (i : ℕ) (x : X) → slice_get xs i ≡ Some x → Contains xs x
 Contains-from_get xs i x h = (i, slice_get_within xs i x h, get_or_from_slice_get xs i x x h)

@@ -8,3 +8,7 @@ pub mod ReferenceViews
 pub mod Told
 pub mod FaultLists
 pub mod InputGraph
+pub mod UseNumbers
+pub mod UseViews
+pub mod UseGraph
+pub mod DirectiveFaults

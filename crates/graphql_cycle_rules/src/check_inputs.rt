@@ -1,12 +1,12 @@
 //! Tells which input objects lead back to themselves.
-ghost use Rattle.std.specs.Prelude.{◌<◌, OnOk, IfOk};
+ghost use Rattle.std.specs.Prelude.{◌<◌, map, OnOk, IfOk, option_to_list};
 ghost use Rattle.graphql_schema.specs.SchemaOf.{schema_tree};
-ghost use Rattle.graphql_rule_definitions.specs.Kept.{AreDistinct};
-ghost use Rattle.graphql_fault_data.specs.FaultView.{faults_of};
+ghost use Rattle.graphql_rule_definitions.specs.Distinct.{AreAllDistinct};
+ghost use Rattle.graphql_fault_data.specs.FaultView.{fault_of, faults_of};
 ghost use Rattle.graphql_cycle_rules.specs.Search.{IsSound, IsReady};
 ghost use Rattle.graphql_cycle_rules.specs.InputGraph.{IsInputGraph};
 ghost use Rattle.graphql_cycle_rules.specs.FaultLists.{TellsInput, TellsDeepInput};
-ghost use Rattle.graphql_cycle_rules.specs.Telling.{TellsRoot, TellsRoots};
+ghost use Rattle.graphql_cycle_rules.specs.Telling.{TellsFound, TellsRoot, TellsRoots};
 ghost use Rattle.graphql_cycle_rules.specs.Told.{InputsTold};
 
 use crate::graph::Graph;
@@ -35,7 +35,24 @@ fn input_graph(alloc: Global, schema: &Schema) -> Result<Graph, AllocError>
     })
 }
 
-/// Tells the faults of one input object.
+/// The fault of an input object from which the search found this.
+fn input_object_fault(
+    alloc: Global,
+    schema: &Schema,
+    root: usize,
+    path: &[usize],
+    found: Found,
+) -> Result<Option<Fault>, AllocError>
+    ensures { IfOk result (λ r. TellsFound (TellsInput (schema_tree schema.now)) (TellsDeepInput (schema_tree schema.now)) root path.now found (map fault_of (option_to_list r))) }
+{
+    match found {
+        Found::Nothing => Ok(None),
+        Found::WayBack => recursive_input_object_definition(alloc, schema, root, path),
+        Found::Deep => deeply_nested_input_object(schema, root),
+    }
+}
+
+/// Tells the fault of one input object, if it has one.
 fn check_input_object(
     alloc: Global,
     schema: &Schema,
@@ -50,36 +67,12 @@ fn check_input_object(
     ensures sound { OnOk result (IsSound graph.now root marks.new) }
     ensures tells { OnOk result (TellsRoot (TellsInput (schema_tree schema.now)) (TellsDeepInput (schema_tree schema.now)) graph.now root (faults_of faults.old) (faults_of faults.new)) }
 {
-    match way_back(graph, root, path, marks)? {
-        Found::Nothing => Ok(()),
-        Found::WayBack => {
-            let fault = recursive_input_object_definition(alloc, schema, root, path)?;
-            tell(faults, fault)?;
-            Ok(())
-        }
-        Found::Deep => {
-            let fault = deeply_nested_input_object(schema, root)?;
-            tell(faults, fault)?;
-            Ok(())
-        }
-    }
+    let found = way_back(graph, root, path, marks)?;
+    let fault = input_object_fault(alloc, schema, root, path, found)?;
+    tell(faults, fault)
 }
 
-/// Tells the faults of each input object.
-fn check_input_objects(
-    alloc: Global,
-    schema: &Schema,
-    graph: &Graph,
-    faults: &mut Vec<Fault>,
-) -> Result<(), AllocError>
-    ensures { OnOk result (TellsRoots (TellsInput (schema_tree schema.now)) (TellsDeepInput (schema_tree schema.now)) graph.now graph.now.roots (faults_of faults.old) (faults_of faults.new)) }
-{
-    let mut path = Vec::new(alloc);
-    let mut marks = new_marks(alloc, graph)?;
-    check_each_input_object(alloc, schema, graph, &mut path, &mut marks, faults)
-}
-
-/// Tells them one after the other, where nothing is known of any.
+/// Tells the faults of each input object, where nothing is known of any.
 fn check_each_input_object(
     alloc: Global,
     schema: &Schema,
@@ -97,16 +90,18 @@ fn check_each_input_object(
     Ok(())
 }
 
-/// Tells each input object that leads back to itself by fields of type `Name!`, or that such ways are too long. It
-/// fails only where memory is refused; then some may be told.
-pub fn check_input_cycles(
+/// Tells each input object that leads back to itself by fields of type `Name!` (section 3.10), or that such ways are
+/// too long.
+pub(crate) fn check_input_cycles(
     alloc: Global,
     schema: &Schema,
     faults: &mut Vec<Fault>,
 ) -> Result<(), AllocError>
-    requires { AreDistinct (schema_tree schema.now) }
+    requires { AreAllDistinct (schema_tree schema.now) }
     ensures { OnOk result (InputsTold (schema_tree schema.now) (faults_of faults.old) (faults_of faults.new)) }
 {
     let graph = input_graph(alloc, schema)?;
-    check_input_objects(alloc, schema, &graph, faults)
+    let mut path = Vec::new(alloc);
+    let mut marks = new_marks(alloc, &graph)?;
+    check_each_input_object(alloc, schema, &graph, &mut path, &mut marks, faults)
 }

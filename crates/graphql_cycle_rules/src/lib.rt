@@ -1,20 +1,29 @@
 //! The rules against definitions that lead back to themselves, and the bound on references (sections 3.10 and 3.13).
 //!
-//! Nodes are numbers. `search.rt` looks for a way from each root back to it, in a graph of directives and types;
-//! `specs/Graph.antt` says what it finds. Input objects are told by `check_inputs.rt`; of directives nothing is told yet.
+//! For the layer above: `check_cycles` tells each input object and each directive definition that leads back to itself,
+//! or that the bound is passed; `graphql_rule_definitions` (`specs/Cycles.antt`) says what that means.
 //!
-//! Begin with `check_inputs.rt` and `search.rt`.
+//! Nodes are numbers. `search.rt` looks for a way from each root back to it, in a graph of directives and types;
+//! `specs/Graph.antt` says what it finds. Input objects are roots in `check_inputs.rt`, directives in
+//! `check_directives.rt`.
+//!
+//! Begin with `check.rt` and `search.rt`.
 #![tactic(auto)]
 
+mod check;
+mod check_directives;
 mod check_inputs;
+mod directive_faults;
+mod distinct;
 mod graph;
 mod input_faults;
 mod inputs;
 mod marks;
 mod numbers;
 mod search;
+mod uses;
 
-pub use check_inputs::check_input_cycles;
+pub use check::check_cycles;
 
 // The crates beneath, for those above.
 pub use graphql_fault_data;

@@ -6,6 +6,6 @@ use Rattle.graphql_cycle_rules.proofs.check_inputs.check_input_cycles.Goals as g
 
 pub returns : goal.returns
 returns c =
-    on_ok_weaker c.check_input_objects.result
-    (inputs_told (schema_tree c.args.schema.now) c.requires c.in_ok-graph.graph c.in_ok-graph.ensures (faults_of c.args.faults.now) (faults_of c.check_input_objects.new.faults))
-    c.check_input_objects.ensures
+    on_ok_weaker c.check_each_input_object.result
+    (inputs_told (schema_tree c.args.schema.now) c.requires c.in_ok-graph.graph c.in_ok-graph.ensures (faults_of c.args.faults.now) (faults_of c.check_each_input_object.new.faults))
+    c.check_each_input_object.ensures

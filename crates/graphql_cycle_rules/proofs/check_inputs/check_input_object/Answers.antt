@@ -1,33 +1,20 @@
-use Rattle.std.proofs.Common.{◌≡◌, refl, inl, inr, ◌∙◌, ap, ◌++◌}
+use Rattle.std.proofs.Common.{map, subst, option_to_list}
+use Rattle.std.proofs.lemmas.Result.{on_ok_weaker}
 use Rattle.graphql_schema.specs.SchemaOf.{schema_tree}
-use Rattle.graphql_fault_data.specs.FaultView.{faults_of}
-use Rattle.graphql_cycle_rules.specs.FaultLists.{recursive_input_object_definition, deeply_nested_input_object}
+use Rattle.graphql_fault_data.specs.FaultView.{fault_of, faults_of}
+use Rattle.graphql_cycle_rules.specs.FaultLists.{TellsInput, TellsDeepInput}
+use Rattle.graphql_cycle_rules.specs.Telling.{TellsFound}
+use Rattle.graphql_cycle_rules.proofs.Telling.{root_sound, TellsRoot-found}
 use Rattle.graphql_cycle_rules.proofs.check_inputs.check_input_object.Goals as goal
 
-pub returns-in-Nothing : goal.returns-in-Nothing
-returns-in-Nothing c =
-    let found = rw c.in-Nothing.is at c.in_ok-way_back.ensures in
-    record { sound = found.0; tells = inl (refl, found.1) }
-
-pub returns-in_ok-tell-in-WayBack-clause-tells : goal.returns-in_ok-tell-in-WayBack-clause-tells
-returns-in_ok-tell-in-WayBack-clause-tells c =
-    let found = rw c.in-WayBack.is at c.in_ok-way_back.ensures in
+pub returns : goal.returns
+returns c =
     let s = schema_tree c.args.schema.now in
-    inr (
-      recursive_input_object_definition s c.args.root c.way_back.new.path.items,
-      (
-        inl (c.way_back.new.path.items, (found.1, refl)),
-        c.in_ok-tell-in-WayBack.ensures.told ∙ ap (λ l. faults_of c.args.faults.now ++ l) (c.in_ok-fault-in-WayBack.ensures ∙ ap (recursive_input_object_definition s c.args.root) c.deref.ensures.value),
-      ),
-    )
-
-pub returns-in_ok-tell-in-Deep-clause-tells : goal.returns-in_ok-tell-in-Deep-clause-tells
-returns-in_ok-tell-in-Deep-clause-tells c =
-    let found = rw c.in-Deep.is at c.in_ok-way_back.ensures in
-    inr (
-      deeply_nested_input_object (schema_tree c.args.schema.now) c.args.root,
-      (
-        inr (found.1, refl),
-        c.in_ok-tell-in-Deep.ensures.told ∙ ap (λ l. faults_of c.args.faults.now ++ l) c.in_ok-fault-in-Deep.ensures,
-      ),
-    )
+    let found = c.in_ok-found.ensures in
+    let told = subst (λ p. TellsFound (TellsInput s) (TellsDeepInput s) c.args.root p c.in_ok-found.found (map fault_of (option_to_list c.in_ok-fault.fault))) c.deref.ensures.value c.in_ok-fault.ensures in
+    record {
+      sound = on_ok_weaker c.tell.result (λ _. root_sound c.args.graph.now c.args.root c.way_back.new.path.items c.way_back.new.marks c.in_ok-found.found found) c.tell.ensures.told;
+      tells = on_ok_weaker c.tell.result
+          (TellsRoot-found (TellsInput s) (TellsDeepInput s) c.args.graph.now c.args.root c.way_back.new.path.items c.way_back.new.marks c.in_ok-found.found (map fault_of (option_to_list c.in_ok-fault.fault)) (faults_of c.args.faults.now) (faults_of c.tell.new.faults) found told)
+          c.tell.ensures.told;
+    }

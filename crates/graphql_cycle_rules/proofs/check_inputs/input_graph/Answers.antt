@@ -3,10 +3,11 @@ use Rattle.std.proofs.lemmas.List.{length_push, length-map}
 use Rattle.graphql_schema_types.specs.TypeView.{name_text, extended_type}
 use Rattle.graphql_schema.specs.SchemaOf.{schema_tree}
 use Rattle.graphql_cycle_rules.specs.Labels.{targets}
+use Rattle.graphql_cycle_rules.specs.Numbers.{input_references}
 use Rattle.graphql_cycle_rules.specs.ReferenceViews.{input_reference_view}
 use Rattle.graphql_cycle_rules.specs.FaultLists.{input_fields_at}
 use Rattle.graphql_cycle_rules.specs.InputGraph.{listed}
-use Rattle.graphql_cycle_rules.proofs.InputGraphs.{listed_more, listed_all}
+use Rattle.graphql_cycle_rules.proofs.InputGraphs.{listed_more, listed_all, past_the_last}
 use Rattle.graphql_cycle_rules.proofs.check_inputs.input_graph.Goals as goal
 
 pub loop-number-preserved : goal.loop-number-preserved
@@ -30,5 +31,6 @@ returns c =
     record {
       no_directives = refl;
       all_roots = all;
-      refers = λ k. listed_all s c.loop-number.references.items c.loop-number.number i.long (sym all ∙ last) i.refers k;
+      refers = λ k. listed_all (λ j. targets (input_fields_at s j)) c.loop-number.references.items c.loop-number.number i.long
+          (λ j h. ap targets (past_the_last (input_references s.types) s.types j (omega (arith, all, last, h)))) i.refers k;
     }
