@@ -108,7 +108,7 @@ module _ (s : SchemaTree Place) where
         let v : (v : V) × (Contains xs v × Contains (refs v) (j, l)) = found_in refs (j, l) xs c in
         let i : (i : ℕ) × (slice_get xs i ≡ Some v.0) = index_found xs v.0 v.1.0 in
         such_as (P i.0 (f v.0)) (λ by y. AtSomeIndex (map f xs) (λ i x. P i x by y)) j l
-            (λ by y p. (i.0, (f v.0, (slice_get-map f xs i.0 ∙ ap (option_map f) i.1, p)))) (part i.0 v.0 i.1 j l v.1.1)
+        (λ by y p. (i.0, (f v.0, (slice_get-map f xs i.0 ∙ ap (option_map f) i.1, p)))) (part i.0 v.0 i.1 j l v.1.1)
 
     full_listed : ((i : ℕ) (v : V) → slice_get xs i ≡ Some v → IsFullPart (P i (f v)) (refs v)) → IsFullPart (λ by y. AtSomeIndex (map f xs) (λ i x. P i x by y)) (flat_map refs xs)
     full_listed part by y j (i, (x, (at, p))) h =
@@ -122,7 +122,7 @@ module _ (s : SchemaTree Place) where
         let e : (e : List ℕ × V) × (Contains es e × Contains (refs e.1) (j, l)) = found_in (λ (e : List ℕ × V). refs e.1) (j, l) es c in
         let has : under e.0.0 es ≡ Some e.0.1 = under_found es unique e.0 e.1.0 in
         such_as (P e.0.0 (f e.0.1)) (λ by y. Somewhere look (λ m x. P m x by y)) j l
-            (λ by y p. (e.0.0, (f e.0.1, (looks e.0.0 ∙ ap (option_map f) has, p)))) (part e.0.0 e.0.1 has j l e.1.1)
+        (λ by y p. (e.0.0, (f e.0.1, (looks e.0.0 ∙ ap (option_map f) has, p)))) (part e.0.0 e.0.1 has j l e.1.1)
 
     full_under : ((m : List ℕ) (v : V) → under m es ≡ Some v → IsFullPart (P m (f v)) (refs v)) → IsFullPart (λ by y. Somewhere look (λ m x. P m x by y)) (each_value refs es)
     full_under part by y j (m, (x, (at, p))) h =
@@ -311,7 +311,7 @@ module _ (s : SchemaTree Place) where
         (
         sound_both (ByValues (type_seen t)) (ByFields (type_seen t)) (each_value value_uses t.values) (each_value field_uses t.inputs)
         (sound_under t.values (plain_given unplaced_enum_value) (type_seen t).value (value_look t) value_uses ByValue parts.values
-            (λ m g at. sound_uses (ValueAt n m) g.it.it.directives (value_here m g at) (bare (unplaced_directives g.it.it.directives)) (bare_same g.it.it.directives)))
+        (λ m g at. sound_uses (ValueAt n m) g.it.it.directives (value_here m g at) (bare (unplaced_directives g.it.it.directives)) (bare_same g.it.it.directives)))
         (sound_under t.inputs (plain_given unplaced_input_value) (type_seen t).input (input_look t) field_uses ByField parts.inputs (λ m g at. sound_input (InputAt n m) g.it.it (field_here m g at)))
         )
         )
@@ -325,7 +325,7 @@ module _ (s : SchemaTree Place) where
         (
         full_both (ByValues (type_seen t)) (ByFields (type_seen t)) (each_value value_uses t.values) (each_value field_uses t.inputs)
         (full_under t.values (plain_given unplaced_enum_value) (type_seen t).value (value_look t) value_uses ByValue
-            (λ m g at. full_uses (ValueAt n m) g.it.it.directives (value_here m g at) (bare (unplaced_directives g.it.it.directives)) (bare_same g.it.it.directives)))
+        (λ m g at. full_uses (ValueAt n m) g.it.it.directives (value_here m g at) (bare (unplaced_directives g.it.it.directives)) (bare_same g.it.it.directives)))
         (full_under t.inputs (plain_given unplaced_input_value) (type_seen t).input (input_look t) field_uses ByField (λ m g at. full_input (InputAt n m) g.it.it (field_here m g at)))
         )
         )
@@ -396,7 +396,7 @@ module _ (s : SchemaTree Place) where
       | inr t ↦
           subst (λ (z : Thing). IsSuch (Refers (judged s) z) j l) (sym t.1.1.1)
           (type_sound t.0.0 t.0.1 (type_under t.0.0 t.0.1 (i - length s.directives) t.1.1.0) (distinct.parts t.0 (index_given s.types (i - length s.directives) t.0 t.1.1.0)) j l
-              (subst (λ (rs : Labelled Use). Contains rs (j, l)) (uses_of_type t.0.0 t.0.1 i (i - length s.directives) t.1.0 t.1.1.0) c))
+          (subst (λ (rs : Labelled Use). Contains rs (j, l)) (uses_of_type t.0.0 t.0.1 i (i - length s.directives) t.1.0 t.1.1.0) c))
     ]
 
     pub use_full : (i j : ℕ) (x y : Thing) (by : By) → number_in x ≡ Some i → Refers (judged s) x by y → number_in y ≡ Some j → Contains (targets (uses_at s i)) j

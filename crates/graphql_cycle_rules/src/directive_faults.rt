@@ -19,10 +19,7 @@ use std::alloc::{AllocError, Global};
 fn head(definition: &Node<DirectiveDefinition>) -> Option<SourceSpan>
     ensures { Recomposes (node_tree directive_definition_tree definition.now).place (node_tree directive_definition_tree definition.now).it.name.place result }
 {
-    recompose(
-        definition.location(),
-        definition.content().name.location(),
-    )
+    recompose(definition.location(), definition.content().name.location())
 }
 
 /// Adds the directive by which something refers to another, if it does by one.
