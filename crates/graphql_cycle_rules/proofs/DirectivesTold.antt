@@ -1,11 +1,11 @@
 -- What is told of directives is what the rules say of them.
-use Rattle.std.proofs.Common.{◌≡◌, ℕ, ◌<◌, ◌⊎◌, not, List, [], ◌∷◌, ◌++◌, map, reverse, length, slice_get, codes, Option, None, Some, refl, sym, ap, subst, ◌∙◌, inl, inr, arith}
+use Rattle.std.proofs.Common.{◌≡◌, ℕ, ◌<◌, ◌⊎◌, not, List, [], ◌∷◌, map, reverse, slice_get, codes, Option, None, Some, refl, sym, ap, subst, ◌∙◌, inl, inr, arith}
 use Rattle.std.specs.Prelude.{Contains, count_by, filter_map, nat_lt}
-use Rattle.std.specs.Option.{option_map, option_map_or}
+use Rattle.std.specs.Option.{option_map}
 use Rattle.std.proofs.lemmas.Option.{same_Some, slice_get_within}
 use Rattle.graphql_names.specs.Placed.{Placed, Place}
 use Rattle.graphql_names.specs.Places.{Recomposes}
-use Rattle.graphql_directives.specs.DirectiveTree.{DirectiveTree, DirectiveDefinitionTree}
+use Rattle.graphql_directives.specs.DirectiveTree.{DirectiveDefinitionTree}
 use Rattle.graphql_schema_types.specs.SchemaTree.{SchemaTree}
 use Rattle.graphql_schema_types.specs.Addresses.{under, or_nothing, place_of}
 use Rattle.graphql_rule_definitions.specs.Diagnostics.{Diagnostic, RecursiveDirectiveDefinition, DeeplyNestedType, map_place}
@@ -18,13 +18,13 @@ use Rattle.graphql_rule_definitions.specs.Distinct.{AreAllDistinct}
 use Rattle.graphql_rule_definitions.specs.Told.{PlacedFault, Told}
 use Rattle.graphql_rule_definitions.proofs.Lists.{only, Contains-first, not_in_nil}
 use Rattle.graphql_cycle_rules.specs.declared.graph.Graph.{Graph}
-use Rattle.graphql_cycle_rules.specs.Graph.{references, RefersTo, LeadsTo, is_directive, is_type, IsWayBack, IsDeep}
-use Rattle.graphql_cycle_rules.specs.Labels.{targets, labels}
-use Rattle.graphql_cycle_rules.specs.UseNumbers.{Use, uses_at}
+use Rattle.graphql_cycle_rules.specs.Graph.{RefersTo, is_directive, is_type, IsWayBack, IsDeep}
+use Rattle.graphql_cycle_rules.specs.Labels.{labels}
+use Rattle.graphql_cycle_rules.specs.UseNumbers.{uses_at}
 use Rattle.graphql_cycle_rules.specs.UseGraph.{IsUseGraph}
 use Rattle.graphql_cycle_rules.specs.DirectiveFaults.{directives_of, plain_use, AtHead, use_trace, recursive_directive, deep_directive, TellsDirective, TellsDeepDirective}
 use Rattle.graphql_cycle_rules.specs.Telling.{IsOfRoot, TellsRoots}
-use Rattle.graphql_cycle_rules.specs.Told.{CyclesFail, IsDirectiveCycle, AnswersDirective, DirectivesTold}
+use Rattle.graphql_cycle_rules.specs.Told.{CyclesFail, AnswersDirective, DirectivesTold}
 use Rattle.graphql_cycle_rules.proofs.Entries.{number_given}
 use Rattle.graphql_cycle_rules.proofs.Transport.{Goes, AreNamed, Leads-named-on, IsWay-named, HasNoRepeat-named, count-named, Leads-numbered, Leads-same, IsWay-same}
 use Rattle.graphql_cycle_rules.proofs.InputsTold.{map-reverse}

@@ -1,6 +1,6 @@
 -- Entries by number and by name.
-use Rattle.std.proofs.Common.{◌≡◌, ℕ, ◌<◌, ◌≤◌, ◌==◌, ◌⊎◌, Bool, true, false, cond, if◌then◌else◌, List, [], ◌∷◌, ◌++◌, map, get_or, length, slice_get, Option, None, Some, refl, sym, ap, subst, ◌∙◌, inl, inr, zero, suc, true≢false, arith}
-use Rattle.std.specs.Prelude.{Contains, find, position, bytes_eq}
+use Rattle.std.proofs.Common.{◌≡◌, ℕ, ◌<◌, Bool, true, false, cond, if◌then◌else◌, List, [], ◌∷◌, get_or, length, slice_get, Option, None, Some, refl, sym, ap, subst, ◌∙◌, inl, inr, zero, suc, true≢false, arith}
+use Rattle.std.specs.Prelude.{Contains, find, bytes_eq}
 use Rattle.std.specs.List.{IsDistinct, AllByRecursion, position_or_len}
 use Rattle.std.specs.Map.{keys_of}
 use Rattle.std.specs.Option.{option_map}
@@ -10,11 +10,10 @@ use Rattle.std.proofs.lemmas.List.Elements.{Contains-append_left, Contains-appen
 use Rattle.std.proofs.lemmas.List.Quantifiers.{position-Some}
 use Rattle.std.proofs.lemmas.List.Sums.{fails_before_first}
 use Rattle.std.proofs.lemmas.Map.Keys.{IsDistinct-head, IsDistinct-tail}
-use Rattle.std.proofs.lemmas.Map.Entries.{length-keys_of}
 use Rattle.std.proofs.lemmas.Slice.Eq.{bytes_eq-Decides}
 use Rattle.graphql_components.specs.Names.{Entries}
 use Rattle.graphql_schema_types.specs.Addresses.{under}
-use Rattle.graphql_cycle_rules.specs.Numbers.{number_of, at_number, each_value}
+use Rattle.graphql_cycle_rules.specs.Numbers.{number_of, each_value}
 use Rattle.graphql_rule_definitions.proofs.Lists.{Contains-cons, Contains-first, not_in_nil}
 use Rattle.graphql_rule_definitions.proofs.Lookups.{itself}
 

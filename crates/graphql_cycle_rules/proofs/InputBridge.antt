@@ -1,24 +1,19 @@
 -- What input objects refer to by number is what the rules read.
-use Rattle.std.proofs.Common.{◌≡◌, ℕ, ◌<◌, ◌==◌, ◌⊎◌, Bool, true, false, cond, if◌then◌else◌, List, [], ◌∷◌, ◌++◌, map, slice_get, Option, None, Some, refl, sym, ap, subst, ◌∙◌, inl, inr, zero, suc, true≢false}
-use Rattle.std.specs.Prelude.{Contains, bytes_eq}
-use Rattle.std.specs.List.{AllByRecursion, IsDistinct}
-use Rattle.std.specs.Map.{keys_of}
+use Rattle.std.proofs.Common.{◌≡◌, ℕ, Bool, true, false, if◌then◌else◌, List, [], slice_get, Option, None, Some, refl, sym, ap, subst, ◌∙◌, true≢false}
+use Rattle.std.specs.Prelude.{Contains}
 use Rattle.std.specs.Option.{option_map, option_map_or}
 use Rattle.std.proofs.lemmas.Option.{same_Some}
 use Rattle.graphql_names.specs.Placed.{Placed, Place, Text, unplaced_text}
 use Rattle.graphql_literals.specs.TypeTree.{TypeTree, NamedTree, NonNullNamedTree, ListTree, NonNullListTree, unplaced_type}
 use Rattle.graphql_directives.specs.DirectiveTree.{InputValueTree, unplaced_input_value}
-use Rattle.graphql_components.specs.Names.{Entries}
 use Rattle.graphql_components.specs.Given.{Given, plain_given}
 use Rattle.graphql_schema_types.specs.SchemaTree.{SchemaType, SchemaTree, same_kind}
-use Rattle.graphql_schema_types.specs.Plain.{plain_type}
-use Rattle.graphql_schema_types.specs.Looks.{TypeLooks, type_looks}
-use Rattle.graphql_schema_types.specs.Addresses.{under, or_nothing, place_of, place_at, input_at, InputAt}
+use Rattle.graphql_schema_types.specs.Looks.{TypeLooks}
+use Rattle.graphql_schema_types.specs.Addresses.{under, or_nothing, place_of, place_at, InputAt}
 use Rattle.graphql_schema_types.specs.declared.type_kind.TypeKind.{TypeKind}
 use Rattle.graphql_schema_types.specs.declared.type_kind.TypeKind.TheVariants as kind
 use Rattle.graphql_rule_definitions.specs.Diagnostics.{map_place}
-use Rattle.graphql_rule_definitions.specs.Spots.{Spot, At, spot_place}
-use Rattle.graphql_rule_definitions.specs.Words.{Present, Somewhere}
+use Rattle.graphql_rule_definitions.specs.Spots.{At, spot_place}
 use Rattle.graphql_rule_definitions.specs.Judged.{judged}
 use Rattle.graphql_rule_definitions.specs.Cycles.{Referring, RefersToInput}
 use Rattle.graphql_rule_definitions.specs.Distinct.{AreAllDistinct}

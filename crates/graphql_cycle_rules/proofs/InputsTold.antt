@@ -1,35 +1,34 @@
 -- What is told of input objects is what the rules say of them.
-use Rattle.std.proofs.Common.{◌≡◌, ℕ, ◌<◌, ◌≤◌, ◌+◌, ◌⊎◌, Bool, true, false, List, [], ◌∷◌, ◌++◌, map, reverse, length, slice_get, codes, Option, None, Some, refl, sym, ap, subst, ◌∙◌, inl, inr, arith}
-use Rattle.std.specs.Prelude.{Contains, count_by, nat_lt}
+use Rattle.std.proofs.Common.{◌≡◌, ℕ, ◌<◌, ◌+◌, false, List, [], ◌∷◌, ◌++◌, map, reverse, length, slice_get, codes, Option, None, Some, refl, sym, ap, subst, ◌∙◌, inl, inr, arith}
+use Rattle.std.specs.Prelude.{Contains, nat_lt}
 use Rattle.std.specs.Option.{option_map, option_map_or}
 use Rattle.std.proofs.lemmas.Bool.{le-ltb}
 use Rattle.std.proofs.lemmas.List.{map-append, reverse-append}
 use Rattle.std.proofs.lemmas.List.Sums.{count_by-le-length}
 use Rattle.std.proofs.lemmas.Option.{same_Some, slice_get_within}
-use Rattle.graphql_names.specs.Placed.{Placed, Place}
+use Rattle.graphql_names.specs.Placed.{Place}
 use Rattle.graphql_directives.specs.DirectiveTree.{InputValueTree}
 use Rattle.graphql_schema_types.specs.SchemaTree.{SchemaType, SchemaTree}
 use Rattle.graphql_schema_types.specs.Addresses.{TypeAt, or_nothing, place_at}
 use Rattle.graphql_rule_definitions.specs.Diagnostics.{RecursiveInputObjectDefinition, DeeplyNestedType}
-use Rattle.graphql_rule_definitions.specs.Faults.{FaultAt, wrong}
+use Rattle.graphql_rule_definitions.specs.Faults.{wrong}
 use Rattle.graphql_rule_definitions.specs.Spots.{At}
 use Rattle.graphql_rule_definitions.specs.Judged.{judged}
 use Rattle.graphql_rule_definitions.specs.Cycles.{Leads, IsWay, HasNoRepeat, Referring, RefersToInput, reference_bound}
 use Rattle.graphql_rule_definitions.specs.Distinct.{AreAllDistinct}
 use Rattle.graphql_cycle_rules.specs.declared.graph.Graph.{Graph}
-use Rattle.graphql_cycle_rules.specs.Graph.{references, RefersTo, LeadsTo, is_directive, is_type, IsWayBack, IsDeep}
+use Rattle.graphql_cycle_rules.specs.Graph.{RefersTo, is_directive, is_type, IsWayBack, IsDeep}
 use Rattle.graphql_cycle_rules.specs.declared.marks.Mark.{Mark}
 use Rattle.graphql_cycle_rules.specs.Search.{IsSound, IsReady}
-use Rattle.graphql_cycle_rules.specs.Labels.{targets, labels}
-use Rattle.graphql_cycle_rules.specs.Numbers.{Field}
+use Rattle.graphql_cycle_rules.specs.Labels.{labels}
 use Rattle.graphql_cycle_rules.specs.InputGraph.{IsInputGraph}
-use Rattle.graphql_cycle_rules.specs.FaultLists.{input_fields_at, input_trace, recursive_input_object_definition, deeply_nested_input_object, TellsInput, TellsDeepInput}
+use Rattle.graphql_cycle_rules.specs.FaultLists.{recursive_input_object_definition, deeply_nested_input_object, TellsInput, TellsDeepInput}
 use Rattle.graphql_cycle_rules.specs.Telling.{IsOfRoot, TellsRoots}
 use Rattle.graphql_rule_definitions.specs.Told.{PlacedFault, Told}
 use Rattle.graphql_cycle_rules.specs.Told.{CyclesFail, IsInputCycle, AnswersInput, InputsTold}
 use Rattle.graphql_rule_definitions.proofs.Lists.{only, Contains-first, not_in_nil}
 use Rattle.graphql_cycle_rules.proofs.Entries.{number_given, under_at}
-use Rattle.graphql_cycle_rules.proofs.Transport.{Goes, AreNamed, Leads-named-on, IsWay-named, HasNoRepeat-named, count-named, Leads-numbered, Leads-same, IsWay-same, count_by-none}
+use Rattle.graphql_cycle_rules.proofs.Transport.{Goes, AreNamed, Leads-named-on, IsWay-named, HasNoRepeat-named, Leads-numbered, Leads-same, IsWay-same, count_by-none}
 use Rattle.graphql_cycle_rules.proofs.InputBridge.{Refs, name_at, number_at, tells, says, input_sound, input_full, input_defined, input_one}
 
 pub map-reverse : {X Y : Type 0} (f : X → Y) (xs : List X) → map f (reverse xs) ≡ reverse (map f xs)

@@ -1,5 +1,5 @@
 -- Lemmas on the search for a way back.
-use Rattle.std.proofs.Common.{◌≡◌, ℕ, ◌<◌, ◌≤◌, ◌+◌, ◌-◌, ◌==◌, ◌⊎◌, Bool, true, false, not, cond, if◌then◌else◌, List, [], ◌∷◌, ◌++◌, map, length, get_or, set, take, Option, None, Some, refl, sym, ap, subst, ◌∙◌, inl, inr, true≢false, arith}
+use Rattle.std.proofs.Common.{◌≡◌, ℕ, ◌<◌, ◌≤◌, ◌+◌, ◌-◌, ◌==◌, ◌⊎◌, Bool, true, false, not, cond, if◌then◌else◌, List, [], ◌∷◌, ◌++◌, length, get_or, set, take, Option, None, Some, refl, sym, ap, subst, ◌∙◌, inl, inr, true≢false, arith}
 use Rattle.std.specs.Prelude.{Contains, count_by, Vec}
 use Rattle.std.specs.Global.{Global}
 use Rattle.std.specs.List.{list_all}
@@ -15,12 +15,12 @@ use Rattle.graphql_cycle_rules.specs.declared.graph.Graph.{Graph}
 use Rattle.graphql_cycle_rules.specs.declared.marks.Mark.{Mark}
 use Rattle.graphql_cycle_rules.specs.declared.marks.Mark.TheVariants.{New, Seen, Settled}
 use Rattle.graphql_cycle_rules.specs.declared.marks.Room.{Room}
-use Rattle.graphql_rule_definitions.specs.Cycles.{Leads, IsWay, HasNoRepeat}
+use Rattle.graphql_rule_definitions.specs.Cycles.{IsWay, HasNoRepeat}
 use Rattle.graphql_cycle_rules.specs.Graph.{references, RefersTo, LeadsTo, is_directive, is_type, IsWayBack, IsDeep}
 use Rattle.graphql_cycle_rules.specs.Marks.{mark_at, passes, is_passed, settles, is_settled, are_settled, directive_less, type_less, room_after, first_room}
 use Rattle.graphql_cycle_rules.specs.Search.{nodes, IsOff, IsSound, IsReady, IsTrail, IsPassed, WentAlong, IsFinished, Grows}
 use Rattle.graphql_rule_definitions.proofs.Lists.{only, not_in_nil}
-use Rattle.graphql_cycle_rules.proofs.Ways.{Leads-append, Leads-push, Contains-last, Contains-push_cases, HasNoRepeat-push, HasNoRepeat-single}
+use Rattle.graphql_cycle_rules.proofs.Ways.{Leads-append, Leads-push, Contains-push_cases, HasNoRepeat-push, HasNoRepeat-single}
 
 -- ---- marks
 

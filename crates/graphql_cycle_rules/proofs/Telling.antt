@@ -1,11 +1,11 @@
 -- What is told of the roots of a graph, one after the other.
-use Rattle.std.proofs.Common.{◌≡◌, ℕ, ◌<◌, ◌≤◌, ◌+◌, ◌⊎◌, List, [], ◌∷◌, ◌++◌, refl, sym, ap, subst, ◌∙◌, inl, inr, arith, append_assoc}
+use Rattle.std.proofs.Common.{◌≡◌, ℕ, ◌+◌, List, [], ◌++◌, sym, ap, subst, ◌∙◌, inl, inr, arith, append_assoc}
 use Rattle.std.specs.Prelude.{Contains}
 use Rattle.std.proofs.lemmas.Bool.{cases_lt}
 use Rattle.std.proofs.lemmas.List.{append-nil}
 use Rattle.std.proofs.lemmas.List.Elements.{Contains-append_cases, Contains-append_left, Contains-append_right}
 use Rattle.graphql_cycle_rules.specs.declared.graph.Graph.{Graph}
-use Rattle.graphql_cycle_rules.specs.Graph.{IsWayBack, IsDeep}
+use Rattle.graphql_cycle_rules.specs.Graph.{IsWayBack}
 use Rattle.graphql_cycle_rules.specs.declared.marks.Mark.{Mark}
 use Rattle.graphql_cycle_rules.specs.declared.search.Found.{Found}
 use Rattle.graphql_cycle_rules.specs.declared.search.Found.TheVariants.{Nothing, WayBack, Deep}

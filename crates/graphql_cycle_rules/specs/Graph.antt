@@ -1,5 +1,5 @@
 -- Graphs whose nodes are numbers: what each refers to, and ways along the references.
-use Rattle.std.specs.Prelude.{◌≡◌, ℕ, ◌<◌, Bool, not, List, [], ◌∷◌, map, Contains, slice_get, nat_lt, count_by, ◌⊎◌}
+use Rattle.std.specs.Prelude.{◌≡◌, ℕ, ◌<◌, Bool, not, List, [], ◌∷◌, Contains, slice_get, nat_lt, count_by, ◌⊎◌}
 use Rattle.std.specs.Option.{option_map_or}
 use Rattle.graphql_cycle_rules.specs.declared.graph.Graph.{Graph}
 use Rattle.graphql_rule_definitions.specs.Cycles.{Leads, IsWay, HasNoRepeat}

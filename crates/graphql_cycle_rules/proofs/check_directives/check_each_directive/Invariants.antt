@@ -1,4 +1,3 @@
-use Rattle.std.proofs.Common.{◌≡◌}
 use Rattle.graphql_schema.specs.SchemaOf.{schema_tree}
 use Rattle.graphql_fault_data.specs.FaultView.{faults_of}
 use Rattle.graphql_cycle_rules.specs.DirectiveFaults.{TellsDirective, TellsDeepDirective}

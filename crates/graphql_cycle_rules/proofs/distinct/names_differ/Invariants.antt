@@ -1,4 +1,4 @@
-use Rattle.std.proofs.Common.{ℕ, map, Contains}
+use Rattle.std.proofs.Common.{map, Contains}
 use Rattle.graphql_names.specs.NameValue.{NameValue}
 use Rattle.graphql_schema_types.specs.TypeView.{extended_type}
 use Rattle.graphql_schema_types.specs.declared.extended_type.ExtendedType.{ExtendedType}

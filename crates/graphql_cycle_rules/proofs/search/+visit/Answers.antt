@@ -1,4 +1,4 @@
-use Rattle.std.proofs.Common.{◌≡◌, refl, length, get_or, set, take, ◌+◌, ◌<◌, sym, ap, subst, ◌∙◌, arith}
+use Rattle.std.proofs.Common.{◌≡◌, refl, length, get_or, set, take, ◌<◌, sym, subst, ◌∙◌, arith}
 use Rattle.std.proofs.lemmas.List.{take_all, take_more}
 use Rattle.graphql_cycle_rules.specs.declared.marks.Mark.TheVariants.{Seen}
 use Rattle.graphql_cycle_rules.specs.Graph.{IsWayBack}

@@ -1,7 +1,7 @@
-use Rattle.std.proofs.Common.{◌≡◌, set, sym, ap, subst, ◌∙◌, arith}
+use Rattle.std.proofs.Common.{set, sym, subst, ◌∙◌}
 use Rattle.graphql_cycle_rules.specs.declared.marks.Mark.TheVariants.{Seen}
 use Rattle.graphql_cycle_rules.specs.Search.{IsTrail}
-use Rattle.graphql_cycle_rules.proofs.Searching.{root_within, IsSound-root, IsTrail-root, no_way_back, IsSound-settled, settled_root}
+use Rattle.graphql_cycle_rules.proofs.Searching.{IsSound-root, IsTrail-root, no_way_back, IsSound-settled, settled_root}
 use Rattle.graphql_cycle_rules.proofs.search.way_back.Goals as goal
 
 pub returns-then-is_settled : goal.returns-then-is_settled

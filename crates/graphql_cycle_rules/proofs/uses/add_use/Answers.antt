@@ -1,4 +1,4 @@
-use Rattle.std.proofs.Common.{◌≡◌, ◌++◌, [], ◌∷◌, map, Option, Some, sym, ap, ◌∙◌}
+use Rattle.std.proofs.Common.{◌++◌, [], ◌∷◌, map, Some, sym, ap, ◌∙◌}
 use Rattle.std.proofs.lemmas.List.{append-nil, map-append}
 use Rattle.graphql_names.specs.Placed.{node_tree}
 use Rattle.graphql_directives.specs.DirectiveTree.{directive_tree, directive_definition_tree}
