@@ -13,7 +13,7 @@ use crate::directive_faults::{deeply_nested_directive, recursive_directive_defin
 use crate::graph::Graph;
 use crate::marks::Mark;
 use crate::search::{Found, new_marks, way_back};
-use crate::uses::{use_references, use_targets};
+use crate::uses::use_targets;
 use graphql_fault_data::{Fault, tell};
 use graphql_schema::Schema;
 use std::alloc::{AllocError, Global};
@@ -27,8 +27,7 @@ fn use_graph(alloc: Global, schema: &Schema) -> Result<Graph, AllocError>
     let nodes = roots + schema.types.len();
     let mut references = Vec::new(alloc);
     for node in 0..nodes {
-        let of_node = use_references(alloc, schema, node)?;
-        references.push(use_targets(alloc, &of_node)?)?;
+        references.push(use_targets(alloc, schema, node)?)?;
     }
     Ok(Graph {
         references,

@@ -11,7 +11,7 @@ ghost use Rattle.graphql_cycle_rules.specs.Told.{InputsTold};
 
 use crate::graph::Graph;
 use crate::input_faults::{deeply_nested_input_object, recursive_input_object_definition};
-use crate::inputs::{input_references, input_targets};
+use crate::inputs::input_targets;
 use crate::marks::Mark;
 use crate::search::{Found, new_marks, way_back};
 use graphql_fault_data::{Fault, tell};
@@ -25,8 +25,7 @@ fn input_graph(alloc: Global, schema: &Schema) -> Result<Graph, AllocError>
     let roots = schema.types.len();
     let mut references = Vec::new(alloc);
     for number in 0..roots {
-        let of_type = input_references(alloc, schema, number)?;
-        references.push(input_targets(alloc, &of_type)?)?;
+        references.push(input_targets(alloc, schema, number)?)?;
     }
     Ok(Graph {
         references,

@@ -98,11 +98,8 @@ pub(crate) fn input_references(
     }
 }
 
-/// To what they refer.
-pub(crate) fn input_targets(
-    alloc: Global,
-    references: &[InputReference],
-) -> Result<Vec<usize>, AllocError>
+/// To what these refer.
+fn targets_of(alloc: Global, references: &[InputReference]) -> Result<Vec<usize>, AllocError>
     ensures { IfOk result (λ r. r.items ≡ targets (map input_reference_view references.now)) }
 {
     let mut targets = Vec::new(alloc);
@@ -110,6 +107,18 @@ pub(crate) fn input_targets(
         targets.push(reference.to)?;
     }
     Ok(targets)
+}
+
+/// To what the input object of that number refers.
+pub(crate) fn input_targets(
+    alloc: Global,
+    schema: &Schema,
+    number: usize,
+) -> Result<Vec<usize>, AllocError>
+    ensures { IfOk result (λ r. r.items ≡ targets (at_number (input_references (schema_tree schema.now).types) (schema_tree schema.now).types number)) }
+{
+    let references = input_references(alloc, schema, number)?;
+    targets_of(alloc, &references)
 }
 
 /// The first by which they refer to that number, if they do.

@@ -224,11 +224,8 @@ pub(crate) fn use_references(
     Ok(references)
 }
 
-/// To what they refer.
-pub(crate) fn use_targets(
-    alloc: Global,
-    references: &[UseReference],
-) -> Result<Vec<usize>, AllocError>
+/// To what these refer.
+fn targets_of(alloc: Global, references: &[UseReference]) -> Result<Vec<usize>, AllocError>
     ensures { IfOk result (λ r. r.items ≡ targets (map use_view references.now)) }
 {
     let mut targets = Vec::new(alloc);
@@ -236,6 +233,18 @@ pub(crate) fn use_targets(
         targets.push(reference.to)?;
     }
     Ok(targets)
+}
+
+/// To what the directive or type of that node refers.
+pub(crate) fn use_targets(
+    alloc: Global,
+    schema: &Schema,
+    node: usize,
+) -> Result<Vec<usize>, AllocError>
+    ensures { IfOk result (λ r. r.items ≡ targets (uses_at (schema_tree schema.now) node)) }
+{
+    let references = use_references(alloc, schema, node)?;
+    targets_of(alloc, &references)
 }
 
 /// The directive by which they first refer to that node, if it is by one.

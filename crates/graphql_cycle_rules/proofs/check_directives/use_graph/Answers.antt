@@ -6,7 +6,6 @@ use Rattle.graphql_schema_types.specs.TypeView.{name_text, extended_type}
 use Rattle.graphql_schema.specs.SchemaOf.{schema_tree}
 use Rattle.graphql_cycle_rules.specs.Labels.{targets}
 use Rattle.graphql_cycle_rules.specs.UseNumbers.{uses_at}
-use Rattle.graphql_cycle_rules.specs.UseViews.{use_view}
 use Rattle.graphql_cycle_rules.specs.InputGraph.{listed}
 use Rattle.graphql_cycle_rules.proofs.InputGraphs.{listed_more, listed_all}
 use Rattle.graphql_cycle_rules.proofs.UseFacts.{nothing_past}
@@ -16,12 +15,11 @@ pub loop-node-preserved : goal.loop-node-preserved
 loop-node-preserved c =
     let i = c.loop-node.invariant in
     let s = schema_tree c.args.schema.now in
-    let these = c.in_ok-use_targets.ensures ∙ ap (λ l. targets (map use_view l)) c.deref.ensures.value ∙ ap targets c.in_ok-of_node.ensures in
     record {
       long = ap length c.in_ok-push.ensures.items ∙ length_push c.loop-node.references.items c.in_ok-use_targets.field-0 ∙ ap (λ n. n + 1) i.long;
       refers = λ k h.
           ap (λ l. listed l k) c.in_ok-push.ensures.items
-          ∙ listed_more (λ j. targets (uses_at s j)) c.loop-node.references.items c.in_ok-use_targets.field-0 c.loop-node.node i.long i.refers these k h;
+          ∙ listed_more (λ j. targets (uses_at s j)) c.loop-node.references.items c.in_ok-use_targets.field-0 c.loop-node.node i.long i.refers c.in_ok-use_targets.ensures k h;
     }
 
 pub returns : goal.returns

@@ -4,7 +4,6 @@ use Rattle.graphql_schema_types.specs.TypeView.{name_text, extended_type}
 use Rattle.graphql_schema.specs.SchemaOf.{schema_tree}
 use Rattle.graphql_cycle_rules.specs.Labels.{targets}
 use Rattle.graphql_cycle_rules.specs.Numbers.{input_references}
-use Rattle.graphql_cycle_rules.specs.ReferenceViews.{input_reference_view}
 use Rattle.graphql_cycle_rules.specs.FaultLists.{input_fields_at}
 use Rattle.graphql_cycle_rules.specs.InputGraph.{listed}
 use Rattle.graphql_cycle_rules.proofs.InputGraphs.{listed_more, listed_all, past_the_last}
@@ -14,12 +13,11 @@ pub loop-number-preserved : goal.loop-number-preserved
 loop-number-preserved c =
     let i = c.loop-number.invariant in
     let s = schema_tree c.args.schema.now in
-    let these = c.in_ok-input_targets.ensures ∙ ap (λ l. targets (map input_reference_view l)) c.deref.ensures.value ∙ ap targets c.in_ok-of_type.ensures in
     record {
       long = ap length c.in_ok-push.ensures.items ∙ length_push c.loop-number.references.items c.in_ok-input_targets.field-0 ∙ ap (λ n. n + 1) i.long;
       refers = λ k h.
           ap (λ l. listed l k) c.in_ok-push.ensures.items
-          ∙ listed_more (λ j. targets (input_fields_at s j)) c.loop-number.references.items c.in_ok-input_targets.field-0 c.loop-number.number i.long i.refers these k h;
+          ∙ listed_more (λ j. targets (input_fields_at s j)) c.loop-number.references.items c.in_ok-input_targets.field-0 c.loop-number.number i.long i.refers c.in_ok-input_targets.ensures k h;
     }
 
 pub returns : goal.returns
