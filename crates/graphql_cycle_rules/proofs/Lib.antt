@@ -1,0 +1,13 @@
+pub mod Ways
+pub mod Searching
+pub mod Transport
+pub mod Telling
+pub mod Entries
+pub mod Numbering
+pub mod InputGraphs
+pub mod InputBridge
+pub mod InputsTold
+pub mod UseFacts
+pub mod UseBridge
+pub mod DirectivesTold
+pub mod BothTold

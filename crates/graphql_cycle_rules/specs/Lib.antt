@@ -1,0 +1,14 @@
+pub mod Graph
+pub mod Labels
+pub mod Marks
+pub mod Search
+pub mod Telling
+pub mod Numbers
+pub mod ReferenceViews
+pub mod Told
+pub mod FaultLists
+pub mod InputGraph
+pub mod UseNumbers
+pub mod UseViews
+pub mod UseGraph
+pub mod DirectiveFaults

@@ -1,0 +1,137 @@
+//! What input objects refer to (section 3.10).
+ghost use Rattle.std.specs.Prelude.{◌≡◌, ◌++◌, map, IfOk, OnOk};
+ghost use Rattle.std.specs.Option.{option_map, option_copied};
+ghost use Rattle.graphql_names.specs.Placed.{node_tree};
+ghost use Rattle.graphql_literals.specs.TypeTree.{type_tree};
+ghost use Rattle.graphql_directives.specs.DirectiveTree.{input_value_tree};
+ghost use Rattle.graphql_schema_types.specs.TypeView.{extended_type};
+ghost use Rattle.graphql_schema.specs.SchemaOf.{schema_tree};
+ghost use Rattle.graphql_cycle_rules.specs.Labels.{label, targets};
+ghost use Rattle.graphql_cycle_rules.specs.Numbers.{required_input, field_references, input_references, each_value, at_number};
+ghost use Rattle.graphql_cycle_rules.specs.ReferenceViews.{field_tree, input_reference_view};
+
+use crate::numbers::input_object_number;
+use graphql_schema::graphql_ast::{InputValueDefinition, Name, Node, Type};
+use graphql_schema::{Component, ExtendedType, Schema};
+use indexmap::IndexMap;
+use std::alloc::{AllocError, Global};
+
+/// A field by which an input object refers to another, and the number of that one.
+#[derive(Drop)]
+pub(crate) struct InputReference {
+    pub(crate) to: usize,
+    pub(crate) by: Node<InputValueDefinition>,
+}
+
+/// The number of the input object of which a field of this type has to hold one.
+fn required_input(schema: &Schema, ty: &Type) -> Option<usize>
+    ensures { result ≡ required_input (schema_tree schema.now).types (type_tree ty.now) }
+{
+    match ty {
+        Type::NonNullNamed(name) => input_object_number(schema, name),
+        Type::Named(_) => None,
+        Type::List(_) => None,
+        Type::NonNullList(_) => None,
+    }
+}
+
+/// Adds the reference of a field, if it is one.
+fn add_field(
+    schema: &Schema,
+    field: &Node<InputValueDefinition>,
+    references: &mut Vec<InputReference>,
+) -> Result<(), AllocError>
+    ensures { OnOk result (map input_reference_view references.new.items ≡ map input_reference_view references.old.items ++ field_references (schema_tree schema.now).types (node_tree input_value_tree field.now)) }
+{
+    match required_input(schema, field.content().ty.content()) {
+        None => Ok(()),
+        Some(to) => {
+            let by = field.clone()?;
+            references.push(InputReference { to, by })?;
+            Ok(())
+        }
+    }
+}
+
+/// The references of fields.
+fn references_of_fields(
+    alloc: Global,
+    schema: &Schema,
+    fields: &IndexMap<Name, Component<InputValueDefinition>>,
+) -> Result<Vec<InputReference>, AllocError>
+    ensures { IfOk result (λ r. map input_reference_view r.items ≡ each_value (λ c. field_references (schema_tree schema.now).types (field_tree c)) fields.now.entries) }
+{
+    let mut references = Vec::new(alloc);
+    for (_, field) in fields {
+        add_field(schema, &field.node, &mut references)?;
+    }
+    Ok(references)
+}
+
+/// The references of a type.
+fn references_of_type(
+    alloc: Global,
+    schema: &Schema,
+    ty: &ExtendedType,
+) -> Result<Vec<InputReference>, AllocError>
+    ensures { IfOk result (λ r. map input_reference_view r.items ≡ input_references (schema_tree schema.now).types (extended_type ty.now)) }
+{
+    match ty {
+        ExtendedType::InputObject(own) => {
+            references_of_fields(alloc, schema, &own.content().fields)
+        }
+        _ => Ok(Vec::new(alloc)),
+    }
+}
+
+/// The references of the input object of that number.
+pub(crate) fn input_references(
+    alloc: Global,
+    schema: &Schema,
+    number: usize,
+) -> Result<Vec<InputReference>, AllocError>
+    ensures { IfOk result (λ r. map input_reference_view r.items ≡ at_number (input_references (schema_tree schema.now).types) (schema_tree schema.now).types number) }
+{
+    match schema.types.get_index(number) {
+        None => Ok(Vec::new(alloc)),
+        Some((_, ty)) => references_of_type(alloc, schema, ty),
+    }
+}
+
+/// To what these refer.
+fn targets_of(alloc: Global, references: &[InputReference]) -> Result<Vec<usize>, AllocError>
+    ensures { IfOk result (λ r. r.items ≡ targets (map input_reference_view references.now)) }
+{
+    let mut targets = Vec::new(alloc);
+    for reference in references {
+        targets.push(reference.to)?;
+    }
+    Ok(targets)
+}
+
+/// To what the input object of that number refers.
+pub(crate) fn input_targets(
+    alloc: Global,
+    schema: &Schema,
+    number: usize,
+) -> Result<Vec<usize>, AllocError>
+    ensures { IfOk result (λ r. r.items ≡ targets (at_number (input_references (schema_tree schema.now).types) (schema_tree schema.now).types number)) }
+{
+    let references = input_references(alloc, schema, number)?;
+    targets_of(alloc, &references)
+}
+
+/// The first by which they refer to that number, if they do.
+pub(crate) fn first_field(
+    references: &[InputReference],
+    to: usize,
+) -> Option<&Node<InputValueDefinition>>
+    ensures { option_map (node_tree input_value_tree) (option_copied result) ≡ label (map input_reference_view references.now) to }
+{
+    for reference in references {
+        if reference.to == to {
+            return Some(&reference.by);
+        }
+    }
+    None
+}

@@ -1,0 +1,30 @@
+//! The rules against definitions that lead back to themselves, and the bound on references (sections 3.10 and 3.13).
+//!
+//! For the layer above: `check_cycles` tells each input object and each directive definition that leads back to itself,
+//! or that the bound is passed; `graphql_rule_definitions` (`specs/Cycles.antt`) says what that means.
+//!
+//! Nodes are numbers. `search.rt` looks for a way from each root back to it, in a graph of directives and types;
+//! `specs/Graph.antt` says what it finds. Input objects are roots in `check_inputs.rt`, directives in
+//! `check_directives.rt`.
+//!
+//! Begin with `check.rt` and `search.rt`.
+#![tactic(auto)]
+
+mod check;
+mod check_directives;
+mod check_inputs;
+mod directive_faults;
+mod distinct;
+mod graph;
+mod input_faults;
+mod inputs;
+mod marks;
+mod numbers;
+mod search;
+mod uses;
+
+pub use check::check_cycles;
+
+// The crates beneath, for those above.
+pub use graphql_fault_data;
+pub use graphql_schema;
