@@ -24,7 +24,3 @@ mod search;
 mod uses;
 
 pub use check::check_cycles;
-
-// The crates beneath, for those above.
-pub use graphql_fault_data;
-pub use graphql_schema;

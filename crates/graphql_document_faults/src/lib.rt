@@ -12,6 +12,3 @@ mod build_error_text;
 pub use build_error::{
     BuildError, ConflictingFieldArgument, ConflictingFieldName, ConflictingFieldType,
 };
-
-// The crates beneath, for those above.
-pub use graphql_coords;

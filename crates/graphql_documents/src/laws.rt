@@ -7,8 +7,8 @@ ghost use Rattle.graphql_typing.specs.OutDoc.{out_doc, written_document};
 ghost use Rattle.graphql_typing.specs.FaultView.{faults_of};
 ghost use Rattle.graphql_typing.specs.BuilderView.{builder_value};
 
+use graphql_ast::{Document, SourceSpan};
 use graphql_document_faults::BuildError;
-use graphql_typed_selections::graphql_ast::{Document, SourceSpan};
 use graphql_typing::{BuilderRefusal, ExecutableDocumentBuilder};
 use std::alloc::Global;
 

@@ -39,7 +39,3 @@ pub use graphql_walks::{AllFields, RootFields};
 pub use new_field_error::NewFieldError;
 pub use operation::OperationExt;
 pub use selection_set::SelectionSetExt;
-
-// The crates beneath, for those above.
-pub use graphql_typing;
-pub use graphql_walks;

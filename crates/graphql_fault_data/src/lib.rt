@@ -14,9 +14,7 @@ mod template;
 
 pub use diagnostic_data::DiagnosticData;
 pub use fault::{Fault, tell};
-
-// The crates beneath, for those above.
-pub use graphql_ast;
-pub use graphql_coords;
-pub use graphql_rule_definitions;
-pub use graphql_typed_selections;
+pub use graphql_coords::{
+    DirectiveArgumentCoordinate, DirectiveCoordinate, FieldArgumentCoordinate, SchemaCoordinate,
+    TypeAttributeCoordinate,
+};

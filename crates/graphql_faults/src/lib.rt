@@ -20,12 +20,3 @@ pub use graphql_document_faults::{
 };
 pub use graphql_fault_data::{DiagnosticData, Fault, tell};
 pub use name_or_anon::NameOrAnon;
-
-// The crates beneath, for those above.
-pub use graphql_document_faults;
-pub use graphql_fault_data;
-pub use graphql_fault_data::{
-    graphql_ast, graphql_coords, graphql_rule_definitions, graphql_typed_selections,
-};
-pub use graphql_folding;
-pub use graphql_read;

@@ -8,6 +8,3 @@ mod kept;
 mod references;
 
 pub use kept::kept_types;
-
-// The crates beneath, for those above.
-pub use graphql_rule_definitions;

@@ -18,7 +18,3 @@ mod roots;
 mod types_used;
 
 pub use check::check_types;
-
-// The crates beneath, for those above.
-pub use graphql_fault_data;
-pub use graphql_schema;

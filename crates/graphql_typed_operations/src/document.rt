@@ -4,8 +4,8 @@ ghost use Rattle.graphql_typed_operations.specs.TypedDocument.{typed_document_tr
 
 use crate::operation::Fragment;
 use crate::operation_map::OperationMap;
+use graphql_ast::{FileId, Name, Node, SourceFile};
 use graphql_typed_selections::SelectionSet;
-use graphql_typed_selections::graphql_ast::{FileId, Name, Node, SourceFile};
 use indexmap::IndexMap;
 use std::alloc::Global;
 

@@ -17,6 +17,3 @@ mod to_ast;
 pub use document::{ExecutableDocument, FieldSet, FragmentMap};
 pub use operation::{Fragment, Operation};
 pub use operation_map::{OperationMap, Operations};
-
-// The crates beneath, for those above.
-pub use graphql_typed_selections;

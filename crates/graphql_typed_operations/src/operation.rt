@@ -5,11 +5,9 @@ ghost use Rattle.graphql_operations.specs.declared.operation.OperationType.TheVa
 ghost use Rattle.graphql_typed_selections.specs.TypedTree.{set_type};
 ghost use Rattle.graphql_typed_operations.specs.TypedDocument.{typed_operation_tree, typed_fragment_tree};
 
+use graphql_ast::{DirectiveList, Name, NamedType, Node, OperationType, VariableDefinition};
 use graphql_names::{copies_of_four, copies_of_three};
 use graphql_typed_selections::SelectionSet;
-use graphql_typed_selections::graphql_ast::{
-    DirectiveList, Name, NamedType, Node, OperationType, VariableDefinition,
-};
 use std::alloc::AllocError;
 
 /// An operation (section 2.3), its selection set on the root type of its kind.

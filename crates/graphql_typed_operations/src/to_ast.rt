@@ -10,10 +10,8 @@ ghost use Rattle.graphql_typed_operations.specs.ToAst.{operation_with, fragment_
 use crate::document::ExecutableDocument;
 use crate::operation::{Fragment, Operation};
 use crate::selections_to_ast::set_to_ast;
+use graphql_ast::{Definition, Document, FragmentDefinition, Node, OperationDefinition, Selection};
 use graphql_names::copies_of_three;
-use graphql_typed_selections::graphql_ast::{
-    Definition, Document, FragmentDefinition, Node, OperationDefinition, Selection,
-};
 use std::alloc::{AllocError, Global};
 
 impl ExecutableDocument {

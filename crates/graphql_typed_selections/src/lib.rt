@@ -17,6 +17,3 @@ mod selection_set;
 
 pub use fields::Fields;
 pub use selection::{Field, FragmentSpread, InlineFragment, Selection, SelectionSet};
-
-// The crates beneath, for those above.
-pub use graphql_ast;

@@ -23,7 +23,3 @@ pub use builder::ExecutableDocumentBuilder;
 pub use field_set::field_set_from_ast;
 pub use graphql_document_faults::BuildError;
 pub use refusal::BuilderRefusal;
-
-// The crates beneath, for those above.
-pub use graphql_document_faults;
-pub use graphql_typed_operations;

@@ -20,6 +20,3 @@ pub use given::check_given;
 pub use schema_uses::check_schema_directives;
 pub use taken::check_taken;
 pub use taker::{Taker, TakerName};
-
-// The crates beneath, for those above.
-pub use graphql_value_rules;

@@ -5,7 +5,7 @@ ghost use Rattle.graphql_fault_data.specs.in_coords.CoordinateView.{schema_coord
 ghost use Rattle.graphql_use_rules.specs.Trees.{coordinate_of, argument_coordinate_of};
 
 use graphql_directives::{Argument, InputValueDefinition};
-use graphql_fault_data::graphql_coords::{
+use graphql_fault_data::{
     DirectiveArgumentCoordinate, DirectiveCoordinate, FieldArgumentCoordinate, SchemaCoordinate,
     TypeAttributeCoordinate,
 };

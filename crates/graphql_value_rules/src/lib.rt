@@ -16,7 +16,3 @@ mod types;
 mod variables;
 
 pub use checks::{check_value, type_breaks, undefined_variables, unique_input_values};
-
-// The crates beneath, for those above.
-pub use graphql_fault_data;
-pub use graphql_fault_data::graphql_rule_definitions;

@@ -6,9 +6,9 @@ ghost use Rattle.graphql_walks.specs.WalkView.{fragments_tree};
 ghost use Rattle.graphql_walks.specs.Lending.{LendsNext, items_to_lend, all_fields_is_over, all_fields_left, root_fields_is_over, root_fields_left};
 
 use crate::lending::Lending;
+use graphql_ast::Node;
 use graphql_typed_operations::FragmentMap;
-use graphql_typed_operations::graphql_typed_selections::graphql_ast::Node;
-use graphql_typed_operations::graphql_typed_selections::{Field, SelectionSet};
+use graphql_typed_selections::{Field, SelectionSet};
 use std::alloc::{AllocError, Global};
 
 /// Lends each field of a selection set at every depth, and each of every fragment that the set reaches, once: the set's,

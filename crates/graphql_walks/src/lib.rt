@@ -12,6 +12,3 @@ mod lending;
 mod walk;
 
 pub use fields::{AllFields, RootFields};
-
-// The crates beneath, for those above.
-pub use graphql_typed_operations;
