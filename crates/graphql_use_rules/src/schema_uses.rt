@@ -222,7 +222,7 @@ fn check_definitions(
 }
 
 /// Adds the faults of the directives that are used in the schema: at its definition, at types but built-in scalars, and at
-/// fields, arguments, values and input fields. What is defined twice stands once, under its name.
+/// fields, arguments, values and input fields. In it no two things of one kind have one name, as in every map.
 pub fn check_schema_directives(schema: &Schema, faults: &mut Vec<Fault>) -> Result<(), AllocError>
     requires { AreAllDistinct (schema_tree schema.now) }
     ensures { OnOk result (Adds faults.old faults.new (Told (schema_tree schema.now) SchemaUsesBreak)) }

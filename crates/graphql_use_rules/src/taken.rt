@@ -202,7 +202,8 @@ fn check_arguments(
 }
 
 /// Adds the faults of what is given by what is defined: UndefinedArgument, RequiredArgument, DisallowedVariableUsage, and the
-/// rules on values of what is given for an argument against its type.
+/// rules on values of what is given for an argument against its type. What is defined has its place in the schema, or the one
+/// in its definition, as a meta-field's arguments do.
 pub fn check_taken(
     schema: &Schema,
     taker: &Taker<'_>,
