@@ -10,11 +10,10 @@ ghost use Rattle.graphql_typed_selections.specs.TypedTree.{typed_selection_tree,
 ghost use Rattle.graphql_typed_selections.specs.TypedParts.{typed_head, typed_field_node, typed_spread_node, typed_inline_node};
 ghost use Rattle.graphql_typed_operations.specs.ToAst.{ast_selection, ast_set};
 
+use graphql_ast as ast;
 use graphql_ast::Node;
 use graphql_names::{copies_of_four, copies_of_two};
-use graphql_typed_selections::{
-    Field, FragmentSpread, InlineFragment, Selection, SelectionSet, graphql_ast as ast,
-};
+use graphql_typed_selections::{Field, FragmentSpread, InlineFragment, Selection, SelectionSet};
 use std::alloc::{AllocError, Global};
 
 /// The selections of a set, which share what they hold.
