@@ -1,0 +1,4 @@
+pub mod Told
+pub mod Distinct
+pub mod InterfaceFaults
+pub mod Firsts
