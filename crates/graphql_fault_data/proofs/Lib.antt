@@ -1,1 +1,2 @@
 pub mod GapTexts
+pub mod Judgings

@@ -1,5 +1,6 @@
 pub mod DiagnosticView
 pub mod FaultView
+pub mod Adds
 pub mod Messages
 pub mod FilledTemplate
 pub use Rattle.graphql_rule_definitions.specs as in_rule_definitions

@@ -21,6 +21,17 @@ impl Drop for Fault {
     }
 }
 
+impl Fault {
+    /// Where it is, and what is wrong.
+    pub fn into_parts(self) -> (Option<SourceSpan>, DiagnosticData)
+        ensures location { result.0 ≡ self.location }
+        ensures data { result.1 ≡ self.data }
+    {
+        let Fault { location, data } = self;
+        (location, data)
+    }
+}
+
 /// Adds the fault at the end, if there is one. After a refusal the list is as it was.
 pub fn tell(faults: &mut Vec<Fault>, fault: Option<Fault>) -> Result<(), AllocError>
     ensures told { OnOk result (faults_of faults.new ≡ faults_of faults.old ++ map fault_of (option_to_list fault)) }

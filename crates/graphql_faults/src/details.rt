@@ -10,7 +10,6 @@ use graphql_read::SyntaxFaultKind;
 use std::fmt;
 
 /// What is wrong with a text, with a schema or with a document.
-#[derive(Drop)]
 pub enum Details {
     /// The text is none of the grammar (appendix B).
     Syntax(SyntaxFaultKind),
@@ -26,6 +25,20 @@ pub enum Details {
     Data(DiagnosticData),
     /// Selections or fields are nested too deeply.
     RecursionLimitError,
+}
+
+impl Drop for Details {
+    fn drop(self) {
+        match self {
+            Details::Syntax(_)
+            | Details::Nesting
+            | Details::Spent
+            | Details::SchemaBuild(_)
+            | Details::DocumentBuild(_)
+            | Details::Data(_)
+            | Details::RecursionLimitError => {}
+        }
+    }
 }
 
 impl fmt::Display for Details {

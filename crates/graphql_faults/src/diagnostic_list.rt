@@ -12,9 +12,14 @@ use std::alloc::{AllocError, Global};
 use std::slice;
 
 /// What is wrong, each with its place where it has one, in the order in which it was told.
-#[derive(Drop)]
 pub struct DiagnosticList {
     diagnostics: Vec<(Option<SourceSpan>, Details)>,
+}
+
+impl Drop for DiagnosticList {
+    fn drop(self) {
+        let DiagnosticList { diagnostics: _ } = self;
+    }
 }
 
 impl DiagnosticList {
@@ -51,7 +56,8 @@ impl DiagnosticList {
         ensures added { OnOk result (diagnostics_of self.new ≡ diagnostics_of self.old ++ of_rule (fault_of fault) ∷ []) }
         ensures kept { OnErr result (diagnostics_of self.new ≡ diagnostics_of self.old) }
     {
-        self.push(fault.location, Details::Data(fault.data))
+        let (location, data) = fault.into_parts();
+        self.push(location, Details::Data(data))
     }
 
     /// Moves what breaks rules to the end, in order. After a refusal the list begins as before.

@@ -12,6 +12,8 @@ pub mod Cycles
 pub mod Values
 pub mod Uses
 pub mod Rules
+pub mod Told
+pub mod Distinct
 pub mod Kept
 pub mod Laws
 pub use Rattle.graphql_components.specs as in_components

@@ -14,7 +14,7 @@ use Rattle.graphql_rule_definitions.specs.Judged.{Judged, AtType, AtField, AtVal
 use Rattle.graphql_rule_definitions.specs.Roots.{root_of, QueryRootOperationTypeAt, DuplicateRootOperationTypeAt}
 use Rattle.graphql_rule_definitions.specs.ReservedNames.{IsReservedAt, ReservedNameAt}
 use Rattle.graphql_rule_definitions.specs.TypesUsed.{named_in, IsUndefinedAt, UndefinedFieldTypeAt, UndefinedInputTypeAt, UndefinedMemberAt, OutputTypeAt, InputTypeAt, UnionMemberObjectTypeAt, UniqueArgumentDefinitionAt}
-use Rattle.graphql_type_rules.specs.Told.{TypesBreak}
+use Rattle.graphql_type_rules.specs.TypesBreak.{TypesBreak}
 
 module _ (s : Judged) (fault : SchemaFault) where
   -- ---- one rule at one place

@@ -1,11 +1,7 @@
-pub mod Lists
-pub mod Lookups
-pub mod Tells
-pub mod Judgings
+pub mod KindsNamed
 pub mod ByPlace
 pub mod Says
 pub mod RootFaults
 pub mod Whole
 pub mod ExtensionPlaces
 pub mod SeenFacts
-pub mod DistinctFacts

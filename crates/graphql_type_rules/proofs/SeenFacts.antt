@@ -12,7 +12,7 @@ use Rattle.graphql_components.specs.Names.{same_text}
 use Rattle.graphql_schema_types.specs.TypeView.{name_text}
 use Rattle.graphql_rule_definitions.specs.Diagnostics.{UniqueInputValue}
 use Rattle.graphql_rule_definitions.specs.Faults.{wrong}
-use Rattle.graphql_type_rules.specs.Told.{PlacedFault}
+use Rattle.graphql_rule_definitions.specs.Told.{PlacedFault}
 use Rattle.graphql_type_rules.specs.FaultLists.{first_named, unique_input_value}
 use Rattle.graphql_type_rules.specs.Seen.{AreSeen}
 

@@ -27,13 +27,14 @@ use Rattle.graphql_rule_definitions.specs.Diagnostics.{Diagnostic, EmptyFieldSet
 use Rattle.graphql_rule_definitions.specs.Faults.{wrong}
 use Rattle.graphql_rule_definitions.specs.Judged.{judged}
 use Rattle.graphql_rule_definitions.specs.Rules.{extension_places}
-use Rattle.graphql_type_rules.specs.Told.{PlacedFault, Told, TypesBreak}
-use Rattle.graphql_type_rules.specs.Distinct.{AreAllDistinct}
+use Rattle.graphql_rule_definitions.specs.Told.{PlacedFault, Told}
+use Rattle.graphql_type_rules.specs.TypesBreak.{TypesBreak}
+use Rattle.graphql_rule_definitions.specs.Distinct.{AreAllDistinct}
 use Rattle.graphql_type_rules.specs.FaultLists.{if_none, reserved_name, value_faults, field_faults, input_faults, parts_faults, types_faults, directive_faults, directives_faults, roots_faults, all_faults}
-use Rattle.graphql_type_rules.proofs.Lookups.{under_given}
-use Rattle.graphql_type_rules.proofs.Judgings.{type_seen, type_look, directive_look}
+use Rattle.graphql_rule_definitions.proofs.Lookups.{under_given}
+use Rattle.graphql_fault_data.proofs.Judgings.{type_seen, type_look, directive_look}
 use Rattle.graphql_type_rules.proofs.ByPlace.{TypeBreaks, DirectiveBreaks, PlacesBreak, to_places, from_places}
-use Rattle.graphql_type_rules.proofs.Tells.{Tells, tells_same, tells_list, tells_both, tells_entries}
+use Rattle.graphql_rule_definitions.proofs.Tells.{Tells, tells_same, tells_list, tells_both, tells_entries}
 use Rattle.graphql_type_rules.proofs.Says.{Is, all_parts, says_type, says_directive}
 use Rattle.graphql_type_rules.proofs.RootFaults.{says_roots}
 

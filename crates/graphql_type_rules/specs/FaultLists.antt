@@ -31,7 +31,7 @@ use Rattle.graphql_rule_definitions.specs.Faults.{wrong}
 use Rattle.graphql_rule_definitions.specs.ReservedNames.{is_reserved}
 use Rattle.graphql_rule_definitions.specs.Rules.{extension_places}
 use Rattle.graphql_rule_definitions.specs.TypesUsed.{scalar_names}
-use Rattle.graphql_type_rules.specs.Told.{PlacedFault}
+use Rattle.graphql_rule_definitions.specs.Told.{PlacedFault}
 
 -- y where there are none
 abbrev pub if_none : {X Y : Type 0} → List X → Y → List Y

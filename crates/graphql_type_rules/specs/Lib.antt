@@ -1,5 +1,4 @@
-pub mod Told
-pub mod Distinct
+pub mod TypesBreak
 pub mod FaultLists
 pub mod Seen
 pub mod NamedWords

@@ -3,7 +3,7 @@ ghost use Rattle.std.specs.List.{IsDistinct};
 ghost use Rattle.std.specs.Map.{keys_of};
 ghost use Rattle.graphql_components.specs.Names.{same_text};
 ghost use Rattle.graphql_schema_types.specs.TypeView.{name_text, extended_type};
-ghost use Rattle.graphql_type_rules.specs.Distinct.{ArePartsDistinct, AreEachDistinct};
+ghost use Rattle.graphql_rule_definitions.specs.Distinct.{ArePartsDistinct, AreEachDistinct};
 
 use graphql_schema::{ExtendedType, Schema};
 

@@ -29,7 +29,7 @@ use Rattle.graphql_rule_definitions.specs.Spots.{entry_list}
 use Rattle.graphql_rule_definitions.specs.Faults.{wrong}
 use Rattle.graphql_rule_definitions.specs.Judged.{Judged, judged, IsBuiltInScalar, IsCustomScalar}
 use Rattle.graphql_rule_definitions.specs.Values.{Wanted, Variables, defined_name, wanted_name, entry_named, is_absent_or_null, IsScalarAmong, FitsForm, UnsupportedValueTypeAt, IntCoercionErrorAt, UndefinedEnumValueAt, UndefinedInputValueAt, RequiredFieldAt, FormBreaks}
-use Rattle.graphql_value_rules.specs.Adds.{PlacedFault}
+use Rattle.graphql_rule_definitions.specs.Told.{PlacedFault}
 use Rattle.graphql_value_rules.specs.Wanting.{wanted}
 use Rattle.graphql_value_rules.specs.ValueFaults.{is_key, fits_32_bits, is_built_in_scalar, is_custom_scalar, is_scalar_so, takes_integers, takes_floats, takes_strings, takes_booleans, given_entry, is_missing_entry, each_first, variable_fits, fits_form, unsupported_value_type, int_coercion_error, undefined_enum_value, undefined_key, undefined_input_value, required_field, required_fields, form_faults}
 use Rattle.graphql_value_rules.proofs.Tells.{no_true, no_some, not_in_nil, Tells, tells_same, tells_both, tells_nothing, tells_one, tells_one_as, tells_when, tells_unless, tells_present, tells_mapped, first_told, tells_first}

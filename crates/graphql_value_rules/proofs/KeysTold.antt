@@ -11,7 +11,7 @@ use Rattle.graphql_rule_definitions.specs.Words.{Present, AtSomeIndex, IsFirst, 
 use Rattle.graphql_rule_definitions.specs.Spots.{entry_list}
 use Rattle.graphql_rule_definitions.specs.Faults.{wrong}
 use Rattle.graphql_rule_definitions.specs.Values.{UniqueInputValueIn, UniqueInputValueInItems, UniqueInputValueInEntries}
-use Rattle.graphql_value_rules.specs.Adds.{PlacedFault}
+use Rattle.graphql_rule_definitions.specs.Told.{PlacedFault}
 use Rattle.graphql_value_rules.specs.KeyFaults.{first_key, repeated_key, repeated_keys, key_faults, key_faults_items, key_faults_entries}
 use Rattle.graphql_value_rules.proofs.Tells.{no_true, no_some, Tells, tells_same, tells_both, tells_nothing, tells_one, tells_present}
 

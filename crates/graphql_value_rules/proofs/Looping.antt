@@ -14,7 +14,7 @@ use Rattle.graphql_components.specs.Names.{same_text}
 use Rattle.graphql_schema.specs.in_schema_types.SchemaTree.{SchemaTree}
 use Rattle.graphql_schema.specs.in_schema_types.TypeView.{name_text}
 use Rattle.graphql_rule_definitions.specs.Values.{Variables}
-use Rattle.graphql_value_rules.specs.Adds.{PlacedFault}
+use Rattle.graphql_rule_definitions.specs.Told.{PlacedFault}
 use Rattle.graphql_value_rules.specs.ValueFaults.{is_key, each_first, item_faults, type_faults}
 
 -- ---- entries of a map: where names differ each is the first of its name

@@ -18,7 +18,7 @@ use Rattle.graphql_schema.specs.in_schema_types.declared.type_kind.TypeKind.TheV
 use Rattle.graphql_rule_definitions.specs.Words.{Present}
 use Rattle.graphql_rule_definitions.specs.Judged.{judged}
 use Rattle.graphql_rule_definitions.specs.Values.{Wanted, Variables, wanted_name, wanted_item, FitsForm, FormBreaks, TypeBreaks, TypeBreaksItems, TypeBreaksEntries}
-use Rattle.graphql_value_rules.specs.Adds.{PlacedFault}
+use Rattle.graphql_rule_definitions.specs.Told.{PlacedFault}
 use Rattle.graphql_value_rules.specs.Wanting.{wanted}
 use Rattle.graphql_value_rules.specs.ValueFaults.{is_key, fits_form, form_faults, faults_with, inner_faults, item_faults, entry_faults, type_faults}
 use Rattle.graphql_value_rules.proofs.Tells.{no_true, not_in_nil, Tells, tells_same, tells_both, tells_nothing, tells_one, tells_when, tells_unless}

@@ -10,7 +10,7 @@ use Rattle.graphql_rule_definitions.specs.Diagnostics.{UndefinedVariable}
 use Rattle.graphql_rule_definitions.specs.Words.{AtSomeIndex}
 use Rattle.graphql_rule_definitions.specs.Faults.{wrong}
 use Rattle.graphql_rule_definitions.specs.Values.{Variables, defined_name, UndefinedVariableIn, UndefinedVariableInItems, UndefinedVariableInEntries}
-use Rattle.graphql_value_rules.specs.Adds.{PlacedFault}
+use Rattle.graphql_rule_definitions.specs.Told.{PlacedFault}
 use Rattle.graphql_value_rules.specs.VariableFaults.{undefined_variable, variable_faults, variable_faults_items, variable_faults_entries}
 use Rattle.graphql_value_rules.proofs.Tells.{no_true, no_some, not_in_nil, only, is_only, Tells, tells_both, tells_nothing}
 

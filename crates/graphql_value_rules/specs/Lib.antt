@@ -1,4 +1,3 @@
-pub mod Adds
 pub mod Wanting
 pub mod ValueFaults
 pub mod VariableFaults

@@ -21,7 +21,7 @@ use Rattle.graphql_components.specs.Coordinate.{OfAttribute}
 use Rattle.graphql_rule_definitions.specs.Diagnostics.{UnsupportedValueType, IntCoercionError, UndefinedEnumValue, UndefinedInputValue, RequiredField}
 use Rattle.graphql_rule_definitions.specs.Faults.{wrong}
 use Rattle.graphql_rule_definitions.specs.Values.{Variables, defined_name}
-use Rattle.graphql_value_rules.specs.Adds.{PlacedFault}
+use Rattle.graphql_rule_definitions.specs.Told.{PlacedFault}
 
 -- the name is among these
 abbrev pub is_key : List ℕ → List (List ℕ) → Bool

@@ -6,7 +6,7 @@ use Rattle.graphql_literals.specs.ValueTree.{ValueTree, ItemTrees, EntryTrees, N
 use Rattle.graphql_rule_definitions.specs.Diagnostics.{UndefinedVariable}
 use Rattle.graphql_rule_definitions.specs.Faults.{wrong}
 use Rattle.graphql_rule_definitions.specs.Values.{Variables, defined_name}
-use Rattle.graphql_value_rules.specs.Adds.{PlacedFault}
+use Rattle.graphql_rule_definitions.specs.Told.{PlacedFault}
 
 module _ (variables : Variables Place) where
   abbrev pub undefined_variable : Place → Text Place → List PlacedFault

@@ -16,7 +16,7 @@ use Rattle.graphql_directives.specs.declared.input_value.InputValueDefinition.{I
 use Rattle.graphql_components.specs.Given.{component_tree}
 use Rattle.graphql_components.specs.declared.component.Component.{Component}
 use Rattle.graphql_rule_definitions.specs.Values.{Wanted, Variables}
-use Rattle.graphql_value_rules.specs.Adds.{PlacedFault}
+use Rattle.graphql_rule_definitions.specs.Told.{PlacedFault}
 use Rattle.graphql_value_rules.specs.ValueFaults.{required_field}
 
 -- a type with the place of the reference to it

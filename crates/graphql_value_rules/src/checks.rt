@@ -6,7 +6,7 @@ ghost use Rattle.graphql_schema.specs.SchemaOf.{schema_tree};
 ghost use Rattle.graphql_schema.specs.in_schema_types.Addresses.{place_at};
 ghost use Rattle.graphql_rule_definitions.specs.Judged.{judged};
 ghost use Rattle.graphql_rule_definitions.specs.Values.{TypeBreaks, UndefinedVariableIn, UniqueInputValueIn, ValueBreaks};
-ghost use Rattle.graphql_value_rules.specs.Adds.{Adds};
+ghost use Rattle.graphql_fault_data.specs.Adds.{Adds};
 ghost use Rattle.graphql_value_rules.specs.Wanting.{wanted_type, variables_of};
 
 use crate::keys::tell_key_faults;

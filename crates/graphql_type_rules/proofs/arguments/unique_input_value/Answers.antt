@@ -6,7 +6,7 @@ use Rattle.graphql_directives.specs.DirectiveTree.{input_value_tree}
 use Rattle.graphql_directives.specs.declared.input_value.InputValueDefinition.{InputValueDefinition}
 use Rattle.graphql_rule_definitions.specs.Diagnostics.{UniqueInputValue}
 use Rattle.graphql_rule_definitions.specs.Faults.{wrong}
-use Rattle.graphql_type_rules.specs.Told.{PlacedFault}
+use Rattle.graphql_rule_definitions.specs.Told.{PlacedFault}
 use Rattle.graphql_type_rules.specs.FaultLists.{first_named}
 use Rattle.graphql_type_rules.proofs.SeenFacts.{told_seen, place}
 use Rattle.graphql_type_rules.proofs.arguments.unique_input_value.Goals as goal

@@ -1,8 +1,8 @@
 use Rattle.graphql_names.specs.NameValue.{NameValue}
 use Rattle.graphql_schema_types.specs.TypeView.{extended_type}
 use Rattle.graphql_schema_types.specs.declared.extended_type.ExtendedType.{ExtendedType}
-use Rattle.graphql_type_rules.specs.Distinct.{ArePartsDistinct}
-use Rattle.graphql_type_rules.proofs.DistinctFacts.{each_push}
+use Rattle.graphql_rule_definitions.specs.Distinct.{ArePartsDistinct}
+use Rattle.graphql_rule_definitions.proofs.DistinctFacts.{each_push}
 use Rattle.graphql_type_rules.proofs.distinct.names_differ.Goals as goal
 
 pub loop-ty-preserved : goal.loop-ty-preserved

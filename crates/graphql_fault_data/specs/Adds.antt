@@ -1,14 +1,9 @@
 -- What a check adds to a list of faults.
-use Rattle.std.specs.Prelude.{List, Vec, Contains, ◌↔◌, ◌⊎◌}
+use Rattle.std.specs.Prelude.{Vec, Contains, ◌↔◌, ◌⊎◌}
 use Rattle.std.specs.declared.alloc.Global.{Global}
-use Rattle.graphql_names.specs.Placed.{Place}
-use Rattle.graphql_rule_definitions.specs.Faults.{FaultAt}
+use Rattle.graphql_rule_definitions.specs.Told.{PlacedFault}
 use Rattle.graphql_fault_data.specs.FaultView.{faults_of}
 use Rattle.graphql_fault_data.specs.declared.fault.Fault.{Fault}
-
--- what breaks a rule, at its place in a text
-abbrev pub PlacedFault : Type 0
-PlacedFault = FaultAt Place (List Place)
 
 -- the faults that were there, and those by which the rules break; no others
 abbrev pub Adds : Vec Fault Global → Vec Fault Global → (PlacedFault → Type 0) → Type 0

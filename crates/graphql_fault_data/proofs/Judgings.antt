@@ -19,12 +19,11 @@ use Rattle.graphql_schema_types.specs.Plain.{plain_type, plain_directive_definit
 use Rattle.graphql_schema_types.specs.Looks.{TypeLooks, type_looks}
 use Rattle.graphql_schema_types.specs.Addresses.{under, or_nothing, place_of, inner_name_place, type_at, field_at, value_at, input_at, listed, arguments_at, directive_definition_at, FieldAt, DirectiveDefinitionAt}
 use Rattle.graphql_schema_types.specs.declared.type_kind.TypeKind.{TypeKind}
-use Rattle.graphql_schema.proofs.FieldLooks.{get_under}
+use Rattle.graphql_coords.proofs.in_schema.FieldLooks.{get_under}
 use Rattle.graphql_rule_definitions.specs.Judged.{judged}
 use Rattle.graphql_rule_definitions.specs.TypesUsed.{named_in}
 use Rattle.graphql_rule_definitions.specs.Words.{Present}
-use Rattle.graphql_type_rules.specs.FaultLists.{kind_named}
-use Rattle.graphql_type_rules.proofs.Lists.{mapped_some, mapped_none}
+use Rattle.graphql_rule_definitions.proofs.Lists.{mapped_some, mapped_none}
 
 map_twice : {X Y Z : Type 0} (f : X → Y) (g : Y → Z) (o : Option X) → option_map g (option_map f o) ≡ option_map (λ x. g (f x)) o
 map_twice f g None = refl
@@ -72,22 +71,6 @@ inner_place (NamedTree n) = refl
 inner_place (NonNullNamedTree n) = refl
 inner_place (ListTree t) = inner_place t
 inner_place (NonNullListTree t) = inner_place t
-
--- the kinds of types by name
-module _ (s : SchemaTree Place) (n : List ℕ) where
-  pub missing_kind : ((judged s).type_named n ≡ None) ↔ (kind_named s n ≡ None)
-  missing_kind = (
-    λ e. ap (option_map (λ (t : SchemaType Place). t.kind)) (mapped_none type_seen (under n s.types) (sym (type_look s n) ∙ e)),
-    λ e. type_look s n ∙ ap (option_map type_seen) (mapped_none (λ (t : SchemaType Place). t.kind) (under n s.types) e),
-  )
-
-  pub present_kind : (K : TypeKind → Type 0) → Present (kind_named s n) K ↔ Present ((judged s).type_named n) (λ t. K t.kind)
-  present_kind K = (
-    λ p. let (x, (there, is)) = mapped_some (λ (t : SchemaType Place). t.kind) (under n s.types) p.0 p.1.0 in
-        (type_seen x, (type_look s n ∙ ap (option_map type_seen) there, subst K is p.1.1)),
-    λ p. let (x, (there, is)) = mapped_some type_seen (under n s.types) p.0 (sym (type_look s n) ∙ p.1.0) in
-        (x.kind, (ap (option_map (λ (t : SchemaType Place). t.kind)) there, subst (λ (t : TypeLooks). K t.kind) is p.1.1)),
-  )
 
 -- what stands under names, once it is found
 module _ (s : SchemaTree Place) (n : List ℕ) (t : SchemaType Place) (there : under n s.types ≡ Some t) where

@@ -24,8 +24,8 @@ use Rattle.graphql_schema_types.specs.declared.kinds.InterfaceType.{InterfaceTyp
 use Rattle.graphql_schema_types.specs.declared.kinds.UnionType.{UnionType}
 use Rattle.graphql_schema_types.specs.declared.kinds.EnumType.{EnumType}
 use Rattle.graphql_schema_types.specs.declared.kinds.InputObjectType.{InputObjectType}
-use Rattle.graphql_type_rules.specs.Distinct.{ArePartsDistinct, AreAllDistinct}
-use Rattle.graphql_type_rules.proofs.Lists.{not_in_nil, only, Contains-cons, Contains-first}
+use Rattle.graphql_rule_definitions.specs.Distinct.{ArePartsDistinct, AreAllDistinct}
+use Rattle.graphql_rule_definitions.proofs.Lists.{not_in_nil, only, Contains-cons, Contains-first}
 
 -- things that differ have different names, where the name is what is compared
 module _ {X : Type 0} (eq : X → X → Bool) (name : X → List ℕ) (compares : (a b : X) → eq a b ≡ bytes_eq (name a) (name b)) where

@@ -1,10 +1,10 @@
 -- A rule on schemas fails, and this tells it.
-use Rattle.std.specs.Prelude.{List, ◌⊎◌}
+use Rattle.std.specs.Prelude.{List}
 use Rattle.graphql_names.specs.Placed.{Place}
 use Rattle.graphql_schema_types.specs.SchemaTree.{SchemaTree}
 use Rattle.graphql_rule_definitions.specs.Faults.{FaultAt, SchemaFault}
 use Rattle.graphql_rule_definitions.specs.Judged.{Judged, judged}
-use Rattle.graphql_rule_definitions.specs.Rules.{ReferencesBreak, EmptyBreaks, IsToldAs}
+use Rattle.graphql_rule_definitions.specs.Rules.{IsToldAs}
 
 -- a fault with its place and the places of its data
 abbrev pub PlacedFault : Type 0
@@ -13,7 +13,3 @@ PlacedFault = FaultAt Place (List Place)
 -- one of these rules fails of the schema, and this tells it
 abbrev pub Told : SchemaTree Place → (Judged → SchemaFault → Type 0) → PlacedFault → Type 0
 Told s Fails fault = (broken : SchemaFault) × (Fails (judged s) broken × IsToldAs s broken fault)
-
--- a rule on roots, names, the types that are named, or what a type must have fails so
-abbrev pub TypesBreak : Judged → SchemaFault → Type 0
-TypesBreak s fault = ReferencesBreak s fault ⊎ EmptyBreaks s fault

@@ -10,7 +10,7 @@ use Rattle.std.proofs.lemmas.Map.Keys.{IsDistinct-head, IsDistinct-tail}
 use Rattle.graphql_components.specs.Lists.{is_among}
 use Rattle.graphql_components.specs.Names.{Entries}
 use Rattle.graphql_schema_types.specs.Addresses.{under}
-use Rattle.graphql_type_rules.proofs.Lists.{not_in_nil, Contains-cons, Contains-first}
+use Rattle.graphql_rule_definitions.proofs.Lists.{not_in_nil, Contains-cons, Contains-first}
 
 pub itself : (n : List ℕ) → bytes_eq n n ≡ true
 itself n = (bytes_eq-Decides n n).1 refl

@@ -12,8 +12,8 @@ use Rattle.graphql_components.specs.Lists.{is_among, each_place_after, each_plac
 use Rattle.graphql_components.specs.Names.{Entries}
 use Rattle.graphql_schema_types.specs.Addresses.{under}
 use Rattle.graphql_rule_definitions.specs.Words.{Present, Somewhere, Among, AtSomeIndex, IsFirst, FirstNamed, Repeats}
-use Rattle.graphql_type_rules.proofs.Lists.{found_in, given_in, not_in_nil, only, is_only, index_found, index_given, slice_get-map, mapped_some}
-use Rattle.graphql_type_rules.proofs.Lookups.{under_found, under_given, find_of, first_found, none_found, among_found, among_given}
+use Rattle.graphql_rule_definitions.proofs.Lists.{found_in, given_in, not_in_nil, only, is_only, index_found, index_given, slice_get-map, mapped_some}
+use Rattle.graphql_rule_definitions.proofs.Lookups.{under_found, under_given, find_of, first_found, none_found, among_found, among_given}
 
 same_index : (a b : ℕ) → (a < b → ⊥) → (b < a → ⊥) → a ≡ b
 same_index zero zero h k = refl
