@@ -22,11 +22,11 @@ use Rattle.graphql_rule_definitions.specs.Faults.{SchemaFault, wrong, told}
 use Rattle.graphql_rule_definitions.specs.Judged.{judged}
 use Rattle.graphql_rule_definitions.specs.Rules.{IsToldAs, extension_places_at}
 use Rattle.graphql_rule_definitions.specs.Words.{Present, Among, Somewhere}
-use Rattle.graphql_interface_rules.specs.Told.{PlacedFault}
+use Rattle.graphql_rule_definitions.specs.Told.{PlacedFault}
 use Rattle.graphql_interface_rules.specs.InterfaceFaults.{Field, interface_named, recursive_interface_definition, undefined_interface, transitive_implemented_interfaces, missing_interface_field, over_faults, fields_faults, interface_faults}
-use Rattle.graphql_interface_rules.proofs.Judgings.{type_seen, type_look, interface_look, listed_there}
+use Rattle.graphql_fault_data.proofs.Judgings.{type_seen, type_look, interface_look, listed_there}
 use Rattle.graphql_interface_rules.proofs.ByPlace.{ImplementsItself, IsNoInterface, LacksInterface, OverBreaks, InterfaceBreaks}
-use Rattle.graphql_interface_rules.proofs.Tells.{Tells, Says, tells_same, tells_both, tells_nothing, tells_one, tells_no, tells_unless, tells_names}
+use Rattle.graphql_rule_definitions.proofs.Tells.{Tells, Says, tells_same, tells_both, tells_nothing, tells_one, tells_no, tells_unless, tells_names}
 
 is_interface : (k : TypeKind) → (same_kind k kind.Interface ≡ true) ↔ (k ≡ kind.Interface)
 is_interface kind.Scalar = (λ e. absurd (true≢false (sym e)), λ p. cc)

@@ -18,7 +18,7 @@ use Rattle.graphql_rule_definitions.specs.Diagnostics.{UndefinedDefinition, Recu
 use Rattle.graphql_rule_definitions.specs.Faults.{wrong}
 use Rattle.graphql_rule_definitions.specs.Judged.{judged}
 use Rattle.graphql_rule_definitions.specs.Interfaces.{is_valid_type}
-use Rattle.graphql_interface_rules.specs.Told.{PlacedFault}
+use Rattle.graphql_rule_definitions.specs.Told.{PlacedFault}
 
 abbrev pub Field : Type 0
 Field = Placed Place (FieldDefinitionTree Place)

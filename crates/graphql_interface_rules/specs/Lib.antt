@@ -1,4 +1,2 @@
-pub mod Told
-pub mod Distinct
 pub mod InterfaceFaults
 pub mod Firsts

@@ -5,7 +5,7 @@ ghost use Rattle.graphql_schema_types.specs.TypeView.{extended_type};
 ghost use Rattle.graphql_schema.specs.SchemaOf.{schema_tree};
 ghost use Rattle.graphql_fault_data.specs.FaultView.{faults_of};
 ghost use Rattle.graphql_rule_definitions.specs.Rules.{InterfacesBreak};
-ghost use Rattle.graphql_interface_rules.specs.Told.{Told};
+ghost use Rattle.graphql_rule_definitions.specs.Told.{Told};
 ghost use Rattle.graphql_interface_rules.specs.InterfaceFaults.{type_faults, interface_faults, all_faults};
 
 use crate::fields::check_fields;
