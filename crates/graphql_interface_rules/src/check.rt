@@ -13,6 +13,7 @@ use crate::interfaces::{
     check_transitive, recursive_interface_definition, undefined_interface,
 };
 use crate::look_ups::{interface_named, interfaces_of};
+use graphql_distinct_names::names_differ;
 use graphql_fault_data::{Fault, tell};
 use graphql_schema::graphql_ast::Name;
 use graphql_schema::{ComponentName, ExtendedType, Schema};
@@ -26,7 +27,7 @@ pub fn check_interfaces(
 ) -> Result<(), AllocError>
     ensures { OnOk result ((f : _) → Contains (faults_of faults.new) f ↔ (Contains (faults_of faults.old) f ⊎ Told (schema_tree schema.now) InterfacesBreak f)) }
 {
-    let _ = names_differ(schema);
+    names_differ(schema);
     check_each_type(alloc, schema, faults)
 }
 
