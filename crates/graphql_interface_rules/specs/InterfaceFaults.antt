@@ -1,15 +1,20 @@
 -- The faults that each rule on interfaces tells of one place, and those of all of them, in order. The public contract cites the
 -- rules alone.
-use Rattle.std.specs.Prelude.{ℕ, Bool, false, List, [], ◌∷◌, ◌++◌, map, if◌then◌else◌, find, bytes_eq, is_some, flat_map, Option}
+use Rattle.std.specs.Prelude.{ℕ, Bool, false, List, [], ◌∷◌, ◌++◌, map, if◌then◌else◌, find, bytes_eq, flat_map, Option}
 use Rattle.std.specs.Option.{option_map, option_map_or}
-use Rattle.graphql_names.specs.Placed.{Placed, Place, Text}
+use Rattle.graphql_names.specs.NameValue.{NameValue}
+use Rattle.graphql_names.specs.Placed.{Placed, Place, Text, node_tree}
 use Rattle.graphql_literals.specs.TypeTree.{TypeTree, NamedTree, NonNullNamedTree, ListTree, NonNullListTree, unplaced_type}
 use Rattle.graphql_directives.specs.DirectiveTree.{InputValueTree, InputValues}
 use Rattle.graphql_directives.specs.DirectiveQueries.{is_required_input}
-use Rattle.graphql_type_members.specs.TypeSystemTree.{FieldDefinitionTree}
+use Rattle.graphql_type_members.specs.TypeSystemTree.{FieldDefinitionTree, field_definition_tree}
+use Rattle.graphql_type_members.specs.declared.field_definition.FieldDefinition.{FieldDefinition}
 use Rattle.graphql_components.specs.Lists.{is_among}
 use Rattle.graphql_components.specs.Names.{Entries}
 use Rattle.graphql_components.specs.Given.{Given, given_name}
+use Rattle.graphql_components.specs.declared.component.Component.{Component}
+use Rattle.graphql_schema_types.specs.TypeView.{name_text, extended_type}
+use Rattle.graphql_schema_types.specs.declared.extended_type.ExtendedType.{ExtendedType}
 use Rattle.graphql_schema_types.specs.SchemaTree.{SchemaType, SchemaTree, same_kind}
 use Rattle.graphql_schema_types.specs.Addresses.{under}
 use Rattle.graphql_schema_types.specs.declared.type_kind.TypeKind.TheVariants as kind
@@ -25,10 +30,6 @@ Field = Placed Place (FieldDefinitionTree Place)
 
 abbrev pub Input : Type 0
 Input = Placed Place (InputValueTree Place)
-
--- the interface of that name, if it is there and is one
-abbrev pub interface_named : SchemaTree Place → List ℕ → Option (SchemaType Place)
-interface_named s n = type_of_kind s kind.Interface n
 
 -- the field of a type that stands under the name
 abbrev pub own_field : SchemaType Place → List ℕ → Option Field
@@ -117,11 +118,19 @@ module _ (s : SchemaTree Place) where
   abbrev pub over_faults : List ℕ → SchemaType Place → Text Place → SchemaType Place → List PlacedFault
   over_faults n t i over = flat_map (λ g. transitive_implemented_interfaces n t i g.it) over.interfaces ++ fields_faults n t i over.fields
 
+  -- a name that the type lists
+  abbrev pub listed_faults : List ℕ → SchemaType Place → Text Place → List PlacedFault
+  listed_faults n t i = option_map_or (λ over. over_faults n t i over) (type_of_kind s kind.Interface i.it) (undefined_interface i)
+
   abbrev pub interface_faults : List ℕ → SchemaType Place → Given Place (Text Place) → List PlacedFault
-  interface_faults n t g = recursive_interface_definition n t g.it ++ option_map_or (λ over. over_faults n t g.it over) (interface_named s g.it.it) (undefined_interface g.it)
+  interface_faults n t g = recursive_interface_definition n t g.it ++ listed_faults n t g.it
 
   abbrev pub type_faults : List ℕ → SchemaType Place → List PlacedFault
   type_faults n t = flat_map (interface_faults n t) t.interfaces
 
-  abbrev pub all_faults : List PlacedFault
-  all_faults = flat_map (λ e. type_faults e.0 e.1) s.types
+  -- of the entries of a map: fields of the interface, and all types
+  abbrev pub each_field_faults : List ℕ → SchemaType Place → Text Place → List (NameValue × Component FieldDefinition) → List PlacedFault
+  each_field_faults n t i es = flat_map (λ (e : NameValue × Component FieldDefinition). field_faults n t i (name_text e.0) (node_tree field_definition_tree e.1.node)) es
+
+  abbrev pub types_faults : List (NameValue × ExtendedType) → List PlacedFault
+  types_faults es = flat_map (λ (e : NameValue × ExtendedType). type_faults (name_text e.0) (extended_type e.1)) es

@@ -2,15 +2,14 @@
 ghost use Rattle.std.specs.Prelude.{◌≡◌, ◌++◌, map, IfOk, OnOk, option_to_list};
 ghost use Rattle.graphql_names.specs.Placed.{name_tree, node_tree};
 ghost use Rattle.graphql_type_members.specs.TypeSystemTree.{field_definition_tree};
-ghost use Rattle.graphql_components.specs.Names.{entries_of};
-ghost use Rattle.graphql_components.specs.Given.{component_tree};
-ghost use Rattle.graphql_schema_types.specs.TypeView.{name_text, extended_type};
+ghost use Rattle.graphql_schema_types.specs.TypeView.{extended_type};
 ghost use Rattle.graphql_schema.specs.SchemaOf.{schema_tree};
 ghost use Rattle.graphql_fault_data.specs.FaultView.{fault_of, faults_of};
-ghost use Rattle.graphql_interface_rules.specs.InterfaceFaults.{missing_interface_field, invalid_implementation_field_type, field_faults, fields_faults, implementation_faults};
+ghost use Rattle.graphql_interface_rules.specs.InterfaceFaults.{missing_interface_field, invalid_implementation_field_type, field_faults, each_field_faults, implementation_faults};
 
 use crate::arguments::check_arguments;
-use crate::look_ups::{fields_of, own_field};
+use crate::copies::{copy_names, copy_types};
+use crate::look_ups::own_field;
 use crate::valid_types::is_valid_implementation_field_type;
 use graphql_fault_data::{DiagnosticData, Fault, tell};
 use graphql_schema::graphql_ast::{FieldDefinition, Name, Node};
@@ -18,26 +17,8 @@ use graphql_schema::{Component, ExtendedType, Schema};
 use indexmap::IndexMap;
 use std::alloc::{AllocError, Global};
 
-/// Tells the faults of a type over the fields of an interface that it lists.
-pub(crate) fn check_fields(
-    alloc: Global,
-    schema: &Schema,
-    name: &Name,
-    ty: &ExtendedType,
-    interface: &Name,
-    over: &ExtendedType,
-    faults: &mut Vec<Fault>,
-) -> Result<(), AllocError>
-    ensures { OnOk result (faults_of faults.new ≡ faults_of faults.old ++ fields_faults (schema_tree schema.now) name.now.text (extended_type ty.now) (name_tree interface.now) (extended_type over.now).fields) }
-{
-    match fields_of(over) {
-        None => Ok(()),
-        Some(fields) => check_each_field(alloc, schema, name, ty, interface, fields, faults),
-    }
-}
-
 /// Tells the faults of a type over each of these fields of an interface.
-fn check_each_field(
+pub(crate) fn check_each_field(
     alloc: Global,
     schema: &Schema,
     name: &Name,
@@ -46,7 +27,7 @@ fn check_each_field(
     fields: &IndexMap<Name, Component<FieldDefinition>>,
     faults: &mut Vec<Fault>,
 ) -> Result<(), AllocError>
-    ensures { OnOk result (faults_of faults.new ≡ faults_of faults.old ++ fields_faults (schema_tree schema.now) name.now.text (extended_type ty.now) (name_tree interface.now) (entries_of name_text (component_tree field_definition_tree) fields.now)) }
+    ensures { OnOk result (faults_of faults.new ≡ faults_of faults.old ++ each_field_faults (schema_tree schema.now) name.now.text (extended_type ty.now) (name_tree interface.now) fields.now.entries) }
 {
     for (field_name, wanted) in fields {
         check_field(
@@ -75,7 +56,14 @@ fn check_field(
             missing_interface_field(name, ty, interface, field_name, wanted)?,
         ),
         Some(field) => check_implementation(
-            alloc, schema, name, interface, field_name, wanted, field, faults,
+            alloc,
+            schema,
+            name,
+            interface,
+            field_name,
+            wanted,
+            &field.node,
+            faults,
         ),
     }
 }
@@ -110,13 +98,15 @@ fn missing_interface_field(
 ) -> Result<Option<Fault>, AllocError>
     ensures { IfOk result (λ r. map fault_of (option_to_list r) ≡ missing_interface_field name.now.text (extended_type ty.now) (name_tree interface.now) field_name.now.text (node_tree field_definition_tree wanted.now)) }
 {
+    let implements_location = interface.location();
+    let (name, interface, field) = copy_names(name, interface, field_name)?;
     Ok(Some(Fault {
         location: ty.location(),
         data: DiagnosticData::MissingInterfaceField {
-            name: name.clone()?,
-            implements_location: interface.location(),
-            interface: interface.clone()?,
-            field: field_name.clone()?,
+            name,
+            implements_location,
+            interface,
+            field,
             field_location: wanted.location(),
         },
     }))
@@ -138,14 +128,16 @@ fn invalid_implementation_field_type(
     if is_valid_implementation_field_type(schema, interface_type, actual_type) {
         return Ok(None);
     }
+    let (name, interface, field_name) = copy_names(name, interface, field_name)?;
+    let (interface_type, actual_type) = copy_types(interface_type, actual_type)?;
     Ok(Some(Fault {
         location: field.location(),
         data: DiagnosticData::InvalidImplementationFieldType {
-            name: name.clone()?,
-            interface: interface.clone()?,
-            field: field_name.clone()?,
-            interface_type: interface_type.clone()?,
-            actual_type: actual_type.clone()?,
+            name,
+            interface,
+            field: field_name,
+            interface_type,
+            actual_type,
             field_location: field.location(),
             interface_field_location: wanted.location(),
         },

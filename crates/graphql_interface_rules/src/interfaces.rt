@@ -1,11 +1,12 @@
 //! Rules on the interfaces that a type lists (sections 3.6 and 3.7).
 ghost use Rattle.std.specs.Prelude.{◌≡◌, ◌++◌, map, IfOk, OnOk, flat_map, option_to_list};
 ghost use Rattle.graphql_names.specs.Placed.{name_tree};
+ghost use Rattle.graphql_components.specs.Given.{component_name_tree};
 ghost use Rattle.graphql_schema_types.specs.TypeView.{extended_type};
 ghost use Rattle.graphql_fault_data.specs.FaultView.{fault_of, faults_of};
 ghost use Rattle.graphql_interface_rules.specs.InterfaceFaults.{undefined_interface, recursive_interface_definition, transitive_implemented_interfaces};
 
-use crate::look_ups::{implements, interfaces_of};
+use crate::look_ups::implements;
 use graphql_fault_data::{DiagnosticData, Fault, tell};
 use graphql_schema::graphql_ast::Name;
 use graphql_schema::{ComponentName, ExtendedType};
@@ -45,17 +46,17 @@ pub(crate) fn recursive_interface_definition(
     Ok(None)
 }
 
-/// Tells what an interface lists and a type that lists it does not.
+/// Tells each of these interfaces, which an interface lists, that a type that lists it does not.
 pub(crate) fn check_transitive(
     name: &Name,
     ty: &ExtendedType,
     interface: &Name,
-    over: &ExtendedType,
+    listed: &[ComponentName],
     faults: &mut Vec<Fault>,
 ) -> Result<(), AllocError>
-    ensures { OnOk result (faults_of faults.new ≡ faults_of faults.old ++ flat_map (λ g. transitive_implemented_interfaces name.now.text (extended_type ty.now) (name_tree interface.now) g.it) (extended_type over.now).interfaces) }
+    ensures { OnOk result (faults_of faults.new ≡ faults_of faults.old ++ flat_map (λ g. transitive_implemented_interfaces name.now.text (extended_type ty.now) (name_tree interface.now) g.it) (map component_name_tree listed.now)) }
 {
-    for missing in interfaces_of(over) {
+    for missing in listed {
         tell(
             faults,
             transitive_implemented_interfaces(name, ty, interface, missing)?,

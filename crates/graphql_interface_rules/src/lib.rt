@@ -9,6 +9,7 @@
 
 mod arguments;
 mod check;
+mod copies;
 mod fields;
 mod interfaces;
 mod look_ups;

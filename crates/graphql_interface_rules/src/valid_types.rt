@@ -10,6 +10,7 @@ use graphql_schema::graphql_ast::{Name, Type};
 
 /// Whether a field of type `implementing` serves where an interface has one of type `interface_type`: the same name or
 /// that of a subtype, inside the same lists, and non-null wherever the interface's is.
+#[tactic(auto, using(graphql_literals::proofs::Trees::type_tree_rules))]
 pub fn is_valid_implementation_field_type(
     schema: &Schema,
     interface_type: &Type,
