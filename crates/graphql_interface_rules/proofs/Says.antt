@@ -144,14 +144,11 @@ module _ (s : SchemaTree Place) where
     says_extra : (j : ℕ) (v : Input) → slice_get field.it.arguments j ≡ Some v
         → Tells Is (own_argument_faults n i m wanted field wanted.it.arguments v) (λ y. HasExtraArgument (judged s) y n i m (unplaced_field_definition wanted.it) (unplaced_field_definition field.it) j (unplaced_node unplaced_input_value v))
     says_extra j v there =
-        tells_same Is (own_argument_faults n i m wanted field wanted.it.arguments v) (λ y. (Lacks (λ (w : Placed (Unit {0}) (InputValueTree (Unit {0}))). w.it.name.it) ws v.it.name.it × Required y) ⊎ FirstNamed (λ (w : Placed (Unit {0}) (InputValueTree (Unit {0}))). w.it.name.it) ws v.it.name.it (λ k w. Never)) _
-        (λ y. (λ h. elim h [ inl r ↦ r | inr p ↦ absurd p.1.1.1.1 ], inl))
-        (tells_first Is (unplaced_node unplaced_input_value) (λ w. w.it.name.it) v.it.name.it wanted.it.arguments (λ w. []) (extra_required_argument n i m wanted field v) (λ k w y. Never) Required required
-        (λ k w at named. tells_nothing Is (λ y. Never) (λ y h. h)))
+        tells_same Is (own_argument_faults n i m wanted field wanted.it.arguments v) (λ y. (Lacks (λ (w : Placed (Unit {0}) (InputValueTree (Unit {0}))). w.it.name.it) ws v.it.name.it × Required y) ⊎ FirstNamed (λ (w : Placed (Unit {0}) (InputValueTree (Unit {0}))). w.it.name.it) ws v.it.name.it (λ k w. ⊥)) _
+        (λ y. (λ h. elim h [ inl r ↦ r | inr p ↦ absurd p.1.1.1.1.1 ], inl))
+        (tells_first Is (unplaced_node unplaced_input_value) (λ w. w.it.name.it) v.it.name.it wanted.it.arguments (λ w. []) (extra_required_argument n i m wanted field v) (λ k w y. ⊥) Required required
+        (λ k w at named. tells_nothing Is (λ y. ⊥) (λ y h. h)))
       where
-        abbrev Never : Type 0
-        Never = ⊥
-
         ws : List (Placed (Unit {0}) (InputValueTree (Unit {0})))
         ws = map (unplaced_node unplaced_input_value) wanted.it.arguments
 

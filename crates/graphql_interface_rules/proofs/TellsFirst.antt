@@ -3,6 +3,7 @@ use Rattle.std.proofs.Common.{◌≡◌, ℕ, ◌<◌, ◌⊎◌, ◌↔◌, Boo
 use Rattle.std.specs.List.{find}
 use Rattle.std.specs.Option.{option_map, option_map_or}
 use Rattle.std.specs.Str.{bytes_eq}
+use Rattle.std.proofs.lemmas.List.{take_all}
 use Rattle.std.proofs.lemmas.Option.{same_Some}
 use Rattle.std.proofs.lemmas.Slice.Eq.{bytes_eq-Decides}
 use Rattle.graphql_rule_definitions.specs.Words.{Lacks, IsFirst, FirstNamed}
@@ -16,13 +17,9 @@ same_index zero (suc b) h k = absurd (h (omega arith))
 same_index (suc a) zero h k = absurd (k (omega arith))
 same_index (suc a) (suc b) h k = ap suc (same_index a b (λ l. h (omega (arith, l))) (λ l. k (omega (arith, l))))
 
-take_all : {X : Type 0} (xs : List X) → take (length xs) xs ≡ xs
-take_all [] = refl
-take_all (x ∷ xs) = ap (λ l. x ∷ l) (take_all xs)
-
 module _ {X : Type 0} (test : X → Bool) where
   first_at : (xs : List X) (w : X) → find test xs ≡ Some w → (i : ℕ) × ((slice_get xs i ≡ Some w) × ((test w ≡ true) × ((k : ℕ) (y : X) → k < i → slice_get xs k ≡ Some y → test y ≡ false)))
-  first_at xs w e = let r = first_found test xs (length xs) w (ap (find test) (take_all xs) ∙ e) in (r.0, r.1.1)
+  first_at xs w e = let r = first_found test xs (length xs) w (ap (find test) (take_all (length xs) xs (omega arith)) ∙ e) in (r.0, r.1.1)
 
   none_at : (xs : List X) → find test xs ≡ None → (i : ℕ) (x : X) → slice_get xs i ≡ Some x → test x ≡ false
   none_at [] e i x at = cc

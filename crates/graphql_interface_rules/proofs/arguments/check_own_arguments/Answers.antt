@@ -1,6 +1,6 @@
-use Rattle.std.proofs.Common.{rules, ◌≡◌, ◌<◌, [], ◌∷◌, ◌++◌, map, take, length, sym, ap, ◌∙◌, arith}
+use Rattle.std.proofs.Common.{◌≡◌, ◌<◌, ◌≤◌, [], ◌∷◌, ◌++◌, map, take, length, sym, ap, ◌∙◌, arith}
 use Rattle.std.specs.List.{flat_map}
-use Rattle.std.proofs.lemmas.List.{map_more, flat_map_more}
+use Rattle.std.proofs.lemmas.List.{map_more, flat_map_more, take_all}
 use Rattle.graphql_names.specs.Node.{content}
 use Rattle.graphql_names.specs.Placed.{node_tree}
 use Rattle.graphql_directives.specs.DirectiveTree.{input_value_tree}
@@ -32,6 +32,7 @@ returns c = λ vs are.
     let F = node_tree field_definition_tree c.args.field.now in
     let told = own_argument_faults c.args.name.now.text c.args.interface.now.text c.args.field_name.now.text W F vs in
     let xs = c.deref-argument-items.result.now in
-    let whole : take c.loop-argument.argument-index xs ≡ xs = search rules in
+    let past : length xs ≤ c.loop-argument.argument-index = omega arith in
+    let whole = take_all c.loop-argument.argument-index xs past in
     let items : xs ≡ (content c.args.field.now).arguments.items = c.deref-argument-items.ensures.value ∙ ap (λ (d : FieldDefinition). d.arguments.items) c.content.ensures in
     c.loop-argument.invariant vs are ∙ ap (λ l. faults_of c.args.faults.now ++ flat_map told (map (node_tree input_value_tree) l)) (whole ∙ items)

@@ -20,9 +20,9 @@ returns c =
     let i = name_tree c.args.interface.now in
     let over = content c.args.over.now in
     let old = faults_of c.args.faults.now in
-    let keys : c.as_slice.result.now ≡ over.implements_interfaces.keys = c.as_slice.ensures.keys ∙ ap (λ (x : InterfaceType). x.implements_interfaces.keys) c.content.ensures in
+    let keys : c.as_slice-listed.result.now ≡ over.implements_interfaces.keys = c.as_slice-listed.ensures.keys ∙ ap (λ (x : InterfaceType). x.implements_interfaces.keys) c.content-over.ensures in
     let listed = c.in_ok-check_transitive.ensures ∙ ap (λ ks. old ++ flat_map (λ g. transitive_implemented_interfaces n t i g.it) (map component_name_tree ks)) keys in
-    let fields = ap (λ (x : InterfaceType). each_field_faults s n t i x.fields.entries) c.content.ensures ∙ fields_same s n t i over.fields.entries in
+    let fields = ap (λ (x : InterfaceType). each_field_faults s n t i x.fields.entries) c.content-over.ensures ∙ fields_same s n t i over.fields.entries in
     IfOk-equal c.check_each_field.result _ _ _ c.check_each_field.ensures
     ((λ j. listed j ++ fields j)
     ∙ append_assoc old (flat_map (λ g. transitive_implemented_interfaces n t i g.it) (map component_name_tree over.implements_interfaces.keys)) (fields_faults s n t i (interface_type (place c.args.over.now) over).fields))
