@@ -1,5 +1,5 @@
 -- The rules on interfaces, place by place: what a walk over a schema tells at each.
-use Rattle.std.proofs.Common.{◌≡◌, ◌≢◌, ℕ, ◌⊎◌, inl, inr, true, false, List, Option, None, Some, refl, subst}
+use Rattle.std.proofs.Common.{◌≡◌, ◌≢◌, ℕ, ◌⊎◌, inl, inr, true, false, List, None, refl, subst}
 use Rattle.graphql_names.specs.Placed.{Placed}
 use Rattle.graphql_directives.specs.DirectiveTree.{InputValueTree}
 use Rattle.graphql_directives.specs.DirectiveQueries.{is_required_input}

@@ -1,5 +1,5 @@
 -- The lists of faults tell the rules on interfaces, one lemma for each rule and place.
-use Rattle.std.proofs.Common.{◌≡◌, ◌≢◌, ℕ, ◌⊎◌, ◌↔◌, ◌&&◌, Bool, true, false, List, [], ◌∷◌, ◌++◌, map, refl, sym, ap, subst, ◌∙◌, inl, inr, is_none, Option, None, Some, slice_get, if◌then◌else◌, true≢false}
+use Rattle.std.proofs.Common.{◌≡◌, ◌≢◌, ℕ, ◌⊎◌, ◌↔◌, ◌&&◌, Bool, true, false, List, [], ◌∷◌, map, refl, sym, ap, subst, ◌∙◌, inl, inr, is_none, Option, None, Some, slice_get, if◌then◌else◌, true≢false}
 use Rattle.std.specs.Prelude.{option_and_then}
 use Rattle.std.specs.List.{flat_map, find}
 use Rattle.std.specs.Option.{option_map, option_map_or}
@@ -9,10 +9,10 @@ use Rattle.std.proofs.lemmas.Slice.Eq.{bytes_eq-Decides}
 use Rattle.graphql_names.specs.Placed.{Placed, Place, Text, unplaced_node}
 use Rattle.graphql_literals.specs.TypeTree.{TypeTree, NamedTree, NonNullNamedTree, ListTree, NonNullListTree, unplaced_type}
 use Rattle.graphql_literals.specs.TypeQueries.{has_mark}
-use Rattle.graphql_literals.specs.ValueTree.{ValueTree, unplaced_value}
-use Rattle.graphql_directives.specs.DirectiveTree.{InputValueTree, InputValues, unplaced_input_value}
+use Rattle.graphql_literals.specs.ValueTree.{unplaced_value}
+use Rattle.graphql_directives.specs.DirectiveTree.{InputValueTree, unplaced_input_value}
 use Rattle.graphql_directives.specs.DirectiveQueries.{is_required_input}
-use Rattle.graphql_type_members.specs.TypeSystemTree.{FieldDefinitionTree, unplaced_field_definition}
+use Rattle.graphql_type_members.specs.TypeSystemTree.{unplaced_field_definition}
 use Rattle.graphql_components.specs.Lists.{is_among}
 use Rattle.graphql_components.specs.Given.{Given, given_name, plain_given}
 use Rattle.graphql_schema_types.specs.SchemaTree.{SchemaType, SchemaTree, same_kind}
@@ -34,7 +34,7 @@ use Rattle.graphql_fault_data.proofs.Judgings.{type_seen, type_look, interface_l
 use Rattle.graphql_interface_rules.specs.InterfaceFaults.{Field, Input, plain, same_type, recursive_interface_definition, undefined_interface, transitive_implemented_interfaces, missing_interface_field, invalid_implementation_field_type, missing_interface_field_argument, extra_required_argument, invalid_implementation_field_argument_type, wanted_argument_faults, own_argument_faults, arguments_faults, implementation_faults, field_faults, fields_faults, over_faults, interface_faults, type_faults}
 use Rattle.graphql_interface_rules.proofs.SameTypes.{same_type-Decides}
 use Rattle.graphql_interface_rules.proofs.TellsFirst.{tells_first}
-use Rattle.graphql_interface_rules.proofs.ByPlace.{HasOtherType, LacksArgument, HasOtherArgument, HasExtraArgument, ImplementationBreaks, ImplementsItself, IsNoInterface, LacksInterface, LacksField, FieldBreaks, OverBreaks, InterfaceBreaks}
+use Rattle.graphql_interface_rules.proofs.ByPlace.{HasOtherType, LacksArgument, HasOtherArgument, HasExtraArgument, ImplementationBreaks, ImplementsItself, IsNoInterface, LacksInterface, FieldBreaks, OverBreaks, InterfaceBreaks}
 
 is_interface : (k : TypeKind) → (same_kind k kind.Interface ≡ true) ↔ (k ≡ kind.Interface)
 is_interface kind.Scalar = (λ e. absurd (true≢false (sym e)), λ p. cc)

@@ -1,5 +1,5 @@
 -- What is told of the first of a name, or where nothing has it.
-use Rattle.std.proofs.Common.{◌≡◌, ℕ, ◌<◌, ◌⊎◌, ◌↔◌, Bool, true, false, List, [], ◌∷◌, map, refl, sym, ap, subst, ◌∙◌, inl, inr, Option, None, Some, slice_get, take, length, zero, suc, arith, if◌then◌else◌, true≢false}
+use Rattle.std.proofs.Common.{◌≡◌, ℕ, ◌<◌, ◌⊎◌, Bool, true, false, List, [], ◌∷◌, map, refl, sym, ap, subst, ◌∙◌, inl, inr, Option, None, Some, slice_get, length, zero, suc, arith, if◌then◌else◌, true≢false}
 use Rattle.std.specs.List.{find}
 use Rattle.std.specs.Option.{option_map, option_map_or}
 use Rattle.std.specs.Str.{bytes_eq}
@@ -58,8 +58,8 @@ module _ {A B : Type 0} (Is : A → B → Type 0) {X Y : Type 0} (u : X → Y) (
       by : (o : Option X) → find (λ x. bytes_eq n (name (u x))) xs ≡ o → Tells Is (option_map_or tells o none) Either
       by None e =
           let lacks : Lacks name (map u xs) n = λ h. (
-            let p = passing h.0 h.1.0 h.1.1.0 h.1.1.1 in
-            true≢false (sym p.1.1 ∙ none_at (λ x. bytes_eq n (name (u x))) xs e h.0 p.0 p.1.0)
+          let p = passing h.0 h.1.0 h.1.1.0 h.1.1.1 in
+          true≢false (sym p.1.1 ∙ none_at (λ x. bytes_eq n (name (u x))) xs e h.0 p.0 p.1.0)
           ) in
           tells_same Is none Q Either (λ g. (λ q. inl (lacks, q), λ h. elim h [ inl r ↦ r.1 | inr p ↦ absurd (lacks (p.0, (p.1.0, (p.1.1.0, p.1.1.1.0)))) ])) missing
       by (Some w) e =
@@ -67,8 +67,8 @@ module _ {A B : Type 0} (Is : A → B → Type 0) {X Y : Type 0} (u : X → Y) (
           let here : slice_get (map u xs) i ≡ Some (u w) = seen_at i w at in
           let has : name (u w) ≡ n = sym ((bytes_eq-Decides n (name (u w))).0 passes) in
           let first : IsFirst name (map u xs) n i = λ h. (
-            let p = passing h.0 h.1.0 h.1.1.0 h.1.1.1.1 in
-            true≢false (sym p.1.1 ∙ earlier h.0 p.0 h.1.1.1.0 p.1.0)
+          let p = passing h.0 h.1.0 h.1.1.0 h.1.1.1.1 in
+          true≢false (sym p.1.1 ∙ earlier h.0 p.0 h.1.1.1.0 p.1.0)
           ) in
           tells_same Is (tells w) (R i (u w)) Either (λ g. (
             λ r. inr (i, (u w, (here, (has, (first, r))))),

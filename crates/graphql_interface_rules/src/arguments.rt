@@ -75,10 +75,7 @@ fn check_own(
 }
 
 /// The first argument definition of each name.
-fn firsts(
-    alloc: Global,
-    arguments: &[Node<InputValueDefinition>],
-) -> Result<Firsts, AllocError>
+fn firsts(alloc: Global, arguments: &[Node<InputValueDefinition>]) -> Result<Firsts, AllocError>
     ensures { IfOk result (λ m. AreFirsts m (map (node_tree input_value_tree) arguments.now)) }
 {
     let mut firsts = IndexMap::new(alloc);
@@ -89,10 +86,7 @@ fn firsts(
 }
 
 /// Notes an argument definition, if it is the first of its name.
-fn note_first(
-    firsts: &mut Firsts,
-    argument: &Node<InputValueDefinition>,
-) -> Result<(), AllocError>
+fn note_first(firsts: &mut Firsts, argument: &Node<InputValueDefinition>) -> Result<(), AllocError>
     ensures { (before : _) → AreFirsts firsts.old before → OnOk result (AreFirsts firsts.new (before ++ node_tree input_value_tree argument.now ∷ [])) }
 {
     if first_like(firsts, argument).is_some() {
@@ -167,14 +161,7 @@ fn check_own_arguments(
     for argument in &field.content().arguments {
         tell(
             faults,
-            own_argument_fault(
-                name,
-                interface,
-                field_name,
-                wanted,
-                of_interface,
-                argument,
-            )?,
+            own_argument_fault(name, interface, field_name, wanted, of_interface, argument)?,
         )?;
     }
     Ok(())

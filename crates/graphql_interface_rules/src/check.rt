@@ -12,9 +12,7 @@ ghost use Rattle.graphql_rule_definitions.specs.Told.{Told};
 ghost use Rattle.graphql_interface_rules.specs.InterfaceFaults.{type_faults, interface_faults, listed_faults, over_faults, types_faults};
 
 use crate::fields::check_each_field;
-use crate::interfaces::{
-    check_transitive, recursive_interface_definition, undefined_interface,
-};
+use crate::interfaces::{check_transitive, recursive_interface_definition, undefined_interface};
 use crate::look_ups::interfaces_of;
 use graphql_distinct_names::names_differ;
 use graphql_fault_data::{Fault, tell};

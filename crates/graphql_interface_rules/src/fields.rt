@@ -31,7 +31,14 @@ pub(crate) fn check_each_field(
 {
     for (field_name, wanted) in fields {
         check_field(
-            alloc, schema, name, ty, interface, field_name, &wanted.node, faults,
+            alloc,
+            schema,
+            name,
+            ty,
+            interface,
+            field_name,
+            &wanted.node,
+            faults,
         )?;
     }
     Ok(())
