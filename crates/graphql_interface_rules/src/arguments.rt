@@ -9,7 +9,7 @@ ghost use Rattle.graphql_fault_data.specs.FaultView.{fault_of, faults_of};
 ghost use Rattle.graphql_interface_rules.specs.InterfaceFaults.{first_named, same_type, missing_interface_field_argument, invalid_implementation_field_argument_type, extra_required_argument, wanted_argument_faults, own_argument_faults, arguments_faults};
 ghost use Rattle.graphql_interface_rules.specs.Firsts.{AreFirsts};
 
-use crate::copies::copy_names;
+use crate::copies::{copy_arguments, copy_names};
 use graphql_fault_data::{DiagnosticData, Fault, tell};
 use graphql_schema::graphql_ast::{FieldDefinition, InputValueDefinition, Name, Node, Type};
 use indexmap::IndexMap;
@@ -225,15 +225,19 @@ fn invalid_implementation_field_argument_type(
         return Ok(None);
     }
     let (name, interface, field) = copy_names(name, interface, field_name)?;
+    let (argument, interface_type, actual_type) = copy_arguments(
+        wanted.content(),
+        given.content(),
+    )?;
     Ok(Some(Fault {
         location: given.location(),
         data: DiagnosticData::InvalidImplementationFieldArgumentType {
             name,
             interface,
             field,
-            argument: wanted.content().name.clone()?,
-            interface_type: wanted.content().ty.clone()?,
-            actual_type: given.content().ty.clone()?,
+            argument,
+            interface_type,
+            actual_type,
             argument_location: given.location(),
             interface_argument_location: wanted.location(),
         },
