@@ -1,0 +1,11 @@
+use Rattle.graphql_names.specs.NameValue.{NameValue}
+use Rattle.graphql_schema_types.specs.TypeView.{extended_type}
+use Rattle.graphql_schema_types.specs.declared.extended_type.ExtendedType.{ExtendedType}
+use Rattle.graphql_rule_definitions.specs.Distinct.{ArePartsDistinct}
+use Rattle.graphql_rule_definitions.proofs.DistinctFacts.{each_push}
+use Rattle.graphql_distinct_names.proofs.names.each_differ.Goals as goal
+
+pub loop-ty-preserved : goal.loop-ty-preserved
+loop-ty-preserved c =
+    each_push (λ x. (x.0.now, x.1.now)) (λ (e : NameValue × ExtendedType). ArePartsDistinct (extended_type e.1)) c.loop-ty.yielded (c.in-Some.field-0-0, c.in-Some.ty)
+    c.loop-ty.invariant c.parts_differ.ensures

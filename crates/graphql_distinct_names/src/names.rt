@@ -1,0 +1,50 @@
+//! Things of one kind stand under different names, as in every map and set.
+ghost use Rattle.graphql_schema_types.specs.TypeView.{extended_type};
+ghost use Rattle.graphql_schema.specs.SchemaOf.{schema_tree};
+ghost use Rattle.graphql_rule_definitions.specs.Distinct.{ArePartsDistinct, AreEachDistinct, AreAllDistinct};
+
+use graphql_schema::{ExtendedType, Schema};
+
+/// No two types, directive definitions, or parts of a type of one kind have one name. It says nothing else.
+pub fn names_differ(schema: &Schema)
+    ensures { AreAllDistinct (schema_tree schema.now) }
+{
+    let _ = schema.types.len();
+    let _ = schema.directive_definitions.len();
+    each_differ(schema);
+}
+
+/// No two parts of a type of one kind have one name, whichever type it is.
+fn each_differ(schema: &Schema)
+    ensures { AreEachDistinct schema.now.types.entries }
+{
+    for (_, ty) in &schema.types {
+        parts_differ(ty);
+    }
+}
+
+/// No two parts of a type of one kind have one name.
+fn parts_differ(ty: &ExtendedType)
+    ensures { ArePartsDistinct (extended_type ty.now) }
+{
+    match ty {
+        ExtendedType::Scalar(_) => {}
+        ExtendedType::Object(own) => {
+            let _ = own.content().implements_interfaces.len();
+            let _ = own.content().fields.len();
+        }
+        ExtendedType::Interface(own) => {
+            let _ = own.content().implements_interfaces.len();
+            let _ = own.content().fields.len();
+        }
+        ExtendedType::Union(own) => {
+            let _ = own.content().members.len();
+        }
+        ExtendedType::Enum(own) => {
+            let _ = own.content().values.len();
+        }
+        ExtendedType::InputObject(own) => {
+            let _ = own.content().fields.len();
+        }
+    }
+}

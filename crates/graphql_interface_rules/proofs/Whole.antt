@@ -1,0 +1,50 @@
+-- All that is told of a schema tells the rules on interfaces.
+use Rattle.std.proofs.Common.{◌≡◌, ℕ, ◌⊎◌, ◌↔◌, List, ◌++◌, map, sym, ap, subst, ◌∙◌, inl, inr, Contains}
+use Rattle.std.specs.List.{flat_map}
+use Rattle.std.proofs.lemmas.List.Folds.{flat_map-map}
+use Rattle.std.proofs.lemmas.List.Elements.{Contains-append_left, Contains-append_right, Contains-append_cases}
+use Rattle.graphql_names.specs.NameValue.{NameValue}
+use Rattle.graphql_names.specs.Placed.{Place, Text}
+use Rattle.graphql_type_members.specs.TypeSystemTree.{field_definition_tree}
+use Rattle.graphql_type_members.specs.declared.field_definition.FieldDefinition.{FieldDefinition}
+use Rattle.graphql_components.specs.Given.{Given, component_tree}
+use Rattle.graphql_components.specs.declared.component.Component.{Component}
+use Rattle.graphql_schema_types.specs.SchemaTree.{SchemaType, SchemaTree}
+use Rattle.graphql_schema_types.specs.TypeView.{name_text, extended_type}
+use Rattle.graphql_schema_types.specs.declared.extended_type.ExtendedType.{ExtendedType}
+use Rattle.graphql_rule_definitions.specs.Judged.{judged}
+use Rattle.graphql_rule_definitions.specs.Rules.{InterfacesBreak}
+use Rattle.graphql_rule_definitions.specs.Told.{PlacedFault, Told}
+use Rattle.graphql_rule_definitions.specs.Distinct.{AreAllDistinct}
+use Rattle.graphql_rule_definitions.specs.Words.{Among}
+use Rattle.graphql_rule_definitions.proofs.Lookups.{under_given}
+use Rattle.graphql_rule_definitions.proofs.Tells.{Tells, tells_same, tells_list, tells_entries}
+use Rattle.graphql_fault_data.proofs.Judgings.{type_seen, type_look}
+use Rattle.graphql_interface_rules.specs.InterfaceFaults.{Field, field_faults, fields_faults, each_field_faults, type_faults, types_faults}
+use Rattle.graphql_interface_rules.proofs.ByPlace.{InterfaceBreaks, PlacesBreak, to_places, from_places}
+use Rattle.graphql_interface_rules.proofs.Says.{Is, says_interfaces}
+
+module _ (s : SchemaTree Place) where
+  -- the entries of a map
+  pub fields_same : (n : List ℕ) (t : SchemaType Place) (i : Text Place) (es : List (NameValue × Component FieldDefinition))
+      → each_field_faults s n t i es ≡ fields_faults s n t i (map (λ e. (name_text e.0, component_tree field_definition_tree e.1)) es)
+  fields_same n t i es = sym (flat_map-map (λ (e : List ℕ × Given Place Field). field_faults s n t i e.0 e.1.it) (λ (e : NameValue × Component FieldDefinition). (name_text e.0, component_tree field_definition_tree e.1)) es)
+
+  types_same : (es : List (NameValue × ExtendedType)) → types_faults s es ≡ flat_map (λ (e : List ℕ × SchemaType Place). type_faults s e.0 e.1) (map (λ e. (name_text e.0, extended_type e.1)) es)
+  types_same es = sym (flat_map-map (λ (e : List ℕ × SchemaType Place). type_faults s e.0 e.1) (λ (e : NameValue × ExtendedType). (name_text e.0, extended_type e.1)) es)
+
+  says_all : AreAllDistinct s → (types : List (NameValue × ExtendedType)) → s.types ≡ map (λ e. (name_text e.0, extended_type e.1)) types → Tells (Is s) (types_faults s types) (λ g. InterfacesBreak (judged s) g)
+  says_all distinct types are =
+      tells_list (Is s) (flat_map (λ (e : List ℕ × SchemaType Place). type_faults s e.0 e.1) s.types) (types_faults s types) (λ g. InterfacesBreak (judged s) g)
+      (ap (flat_map (λ (e : List ℕ × SchemaType Place). type_faults s e.0 e.1)) are ∙ sym (types_same types))
+      (tells_same (Is s) _ (λ g. PlacesBreak (judged s) g) (λ g. InterfacesBreak (judged s) g) (λ g. (from_places (judged s) g, to_places (judged s) g))
+      (tells_entries (Is s) type_seen s.types distinct.types (judged s).type_named (type_look s) (type_faults s) (λ n t g. Among t.implements (λ i. InterfaceBreaks (judged s) g n t i)) (λ n t there.
+      says_interfaces s n t there (distinct.parts (n, t) (under_given n s.types t there)) (λ m over is_there. distinct.parts (m, over) (under_given m s.types over is_there)))))
+
+-- what is told behind other faults
+pub told_behind : (s : SchemaTree Place) → AreAllDistinct s → (types : List (NameValue × ExtendedType)) → s.types ≡ map (λ e. (name_text e.0, extended_type e.1)) types
+    → (old new : List PlacedFault) → new ≡ old ++ types_faults s types → (f : PlacedFault) → Contains new f ↔ (Contains old f ⊎ Told s InterfacesBreak f)
+told_behind s distinct types are old new is f = (
+  λ h. elim (Contains-append_cases old _ f (subst (λ l. Contains l f) is h)) [ inl e ↦ inl e | inr r ↦ inr ((says_all s distinct types are f).0 r) ],
+  λ h. subst (λ l. Contains l f) (sym is) (elim h [ inl e ↦ Contains-append_left old _ f e | inr r ↦ Contains-append_right old _ f ((says_all s distinct types are f).1 r) ]),
+)

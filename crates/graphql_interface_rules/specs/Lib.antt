@@ -1,0 +1,2 @@
+pub mod InterfaceFaults
+pub mod Firsts
