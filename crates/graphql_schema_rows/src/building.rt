@@ -77,13 +77,11 @@ fn add_text(
 /// The schema of the row's texts, whatever its faults are.
 pub(crate) fn built(alloc: Global, case: Case<'_>) -> Result<Schema, Problem> {
     let mut builder = builder_of(alloc, case)?;
-    match add_texts(alloc, case, &mut builder)? {
-        None => schema_of(case, builder),
-        Some(_) => Err(case.row.head.problem("the texts are refused")),
-    }
+    add_texts(alloc, case, &mut builder)?;
+    schema_of(case, builder)
 }
 
-/// The schema that the builder builds.
+/// The schema that the builder builds, which builds none where it has refused a text.
 fn schema_of(case: Case<'_>, builder: SchemaBuilder) -> Result<Schema, Problem> {
     match builder.build() {
         Ok(built) => Ok(built.0),

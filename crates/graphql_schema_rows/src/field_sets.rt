@@ -27,11 +27,34 @@ fn by_type(
     tally: &mut Tally,
 ) -> Result<(), Problem> {
     let type_name = type_name_of(alloc, case)?;
+    by_inputs(alloc, case, schema, &type_name, tally)
+}
+
+/// Judges each input of the row under the type of that name.
+fn by_inputs(
+    alloc: Global,
+    case: Case<'_>,
+    schema: &Schema,
+    type_name: &Name,
+    tally: &mut Tally,
+) -> Result<(), Problem> {
     for input in &texts(alloc, case.row, "input")? {
-        let answer = answer_by(alloc, case, schema, &type_name, input.as_slice())?;
-        compare(alloc, case, way_of(input.as_slice()), &answer, tally)?;
+        by_input(alloc, case, schema, type_name, input.as_slice(), tally)?;
     }
     Ok(())
+}
+
+/// Judges an input under the type of that name.
+fn by_input(
+    alloc: Global,
+    case: Case<'_>,
+    schema: &Schema,
+    type_name: &Name,
+    input: &[u8],
+    tally: &mut Tally,
+) -> Result<(), Problem> {
+    let answer = answer_by(alloc, case, schema, type_name, input)?;
+    compare(alloc, case, way_of(input), &answer, tally)
 }
 
 /// The name of the row's type.

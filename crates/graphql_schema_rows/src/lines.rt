@@ -86,7 +86,7 @@ pub(crate) fn push_between(
 }
 
 /// Adds what is shown, behind this.
-fn push_shown<T: Display>(
+pub(crate) fn push_shown<T: Display>(
     alloc: Global,
     front: &str,
     shown: &T,

@@ -31,12 +31,21 @@ pub fn by_schema(
 fn answer_by(alloc: Global, case: Case<'_>, call: &str) -> Result<Answer, Problem> {
     let mut builder = builder_of(alloc, case)?;
     let refusal = add_texts(alloc, case, &mut builder)?;
-    let answer = match refusal {
+    Ok(builder_answer(alloc, call, refusal, builder)?)
+}
+
+/// The refusal, if there is one, or what the call answers of the builder.
+fn builder_answer(
+    alloc: Global,
+    call: &str,
+    refusal: Option<&'static str>,
+    builder: SchemaBuilder,
+) -> Result<Answer, AllocError> {
+    match refusal {
         Some(refusal) => answer_of(alloc, refusal, ""),
         None if call == "orphans" => orphans_answer(alloc, &builder),
         None => build_answer(alloc, builder),
-    };
-    Ok(answer?)
+    }
 }
 
 /// The names that have an extension and no definition, a line each.

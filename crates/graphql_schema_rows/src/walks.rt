@@ -1,9 +1,11 @@
 //! What a document holds, by call: all that is kept, what is written of it, or the fields that a walk lends.
 
-use crate::lines::{push_between, push_field, push_fragment, push_operation};
+use crate::lines::{push_between, push_field, push_fragment, push_operation, push_shown};
 use crate::outline::push_set;
-use graphql_documents::{ExecutableDocument, Operation, OperationExt, SelectionSet};
-use graphql_read_rows::graphql_read::graphql_ast::Tree;
+use graphql_documents::{
+    AllFields, ExecutableDocument, Field, Operation, OperationExt, RootFields, SelectionSet,
+};
+use graphql_read_rows::graphql_read::graphql_ast::{Node, Tree};
 use std::alloc::{AllocError, Global};
 
 /// Adds what the call tells of the document.
@@ -81,7 +83,7 @@ fn push_written(
     lines: &mut String,
 ) -> Result<(), AllocError> {
     let written = document.to_ast(alloc)?;
-    lines.push_str(&written.serialize().no_indent().to_string(alloc)?)?;
+    push_shown(alloc, "", &written.serialize().no_indent(), lines)?;
     lines.push('\n')
 }
 
@@ -128,9 +130,17 @@ fn push_all_fields(
     lines: &mut String,
 ) -> Result<(), AllocError> {
     let mut walk = operation.all_fields(alloc, document);
-    for field in &mut walk {
-        lines.push_str("  ")?;
-        push_field(alloc, field?.content(), lines)?;
+    push_each_field(alloc, &mut walk, lines)
+}
+
+/// Adds each field that the walk lends, and the end.
+fn push_each_field(
+    alloc: Global,
+    walk: &mut AllFields<'_>,
+    lines: &mut String,
+) -> Result<(), AllocError> {
+    for field in &mut *walk {
+        push_lent(alloc, field?, lines)?;
     }
     push_end(walk.next().is_none() && walk.next().is_none(), lines)
 }
@@ -143,11 +153,25 @@ fn push_root_fields(
     lines: &mut String,
 ) -> Result<(), AllocError> {
     let mut walk = operation.root_fields(alloc, document);
-    for field in &mut walk {
-        lines.push_str("  ")?;
-        push_field(alloc, field?.content(), lines)?;
+    push_each_root(alloc, &mut walk, lines)
+}
+
+/// Adds each root field that the walk lends, and the end.
+fn push_each_root(
+    alloc: Global,
+    walk: &mut RootFields<'_>,
+    lines: &mut String,
+) -> Result<(), AllocError> {
+    for field in &mut *walk {
+        push_lent(alloc, field?, lines)?;
     }
     push_end(walk.next().is_none() && walk.next().is_none(), lines)
+}
+
+/// Adds a field that a walk lends.
+fn push_lent(alloc: Global, field: &Node<Field>, lines: &mut String) -> Result<(), AllocError> {
+    lines.push_str("  ")?;
+    push_field(alloc, field.content(), lines)
 }
 
 /// Adds the end of a walk: whether it lends nothing more, asked twice again.
