@@ -4,7 +4,8 @@ use crate::hold::hold;
 use crate::typed::{built, typed};
 use graphql_documents::graphql_typing::graphql_typed_operations::graphql_typed_selections::graphql_ast::FileId;
 use graphql_documents::{
-    ExecutableDocument, Field, FieldExt, FragmentSpreadExt, Selection, SelectionSet, SelectionSetExt,
+    ExecutableDocument, Field, FieldExt, FragmentSpreadExt, Selection, SelectionSet,
+    SelectionSetExt,
 };
 use graphql_read::parse_document;
 use graphql_schema::{Schema, SchemaBuilder};
@@ -101,7 +102,11 @@ fn looks_up_what_is_there(rt: HostRuntime) -> Result<(), Fail> {
     let Some(schema) = schema_of(rt.alloc(), text) else {
         return Err("no schema")?;
     };
-    match kept(rt.alloc(), &schema, "{ a f x: f ...F __typename } fragment F on T { b }") {
+    match kept(
+        rt.alloc(),
+        &schema,
+        "{ a f x: f ...F __typename } fragment F on T { b }",
+    ) {
         Some(document) => Ok(look_up_each(&rt, rt.alloc(), &schema, &document, true)?),
         None => Err("no document")?,
     }
