@@ -31,11 +31,21 @@ impl Field<'_> {
 pub fn fields_of<'a>(alloc: Global, text: &'a str) -> Result<Vec<Field<'a>>, Problem> {
     let mut fields = Vec::new(alloc);
     for (index, content) in text.lines().enumerate() {
-        if !content.is_empty() && !content.starts_with('#') {
-            fields.push(field_of(index.saturating_add(1), content)?)?;
-        }
+        push_field(&mut fields, index.saturating_add(1), content)?;
     }
     Ok(fields)
+}
+
+/// Adds the field in a line, if there is one.
+fn push_field<'a>(
+    fields: &mut Vec<Field<'a>>,
+    line: usize,
+    content: &'a str,
+) -> Result<(), Problem> {
+    if content.is_empty() || content.starts_with('#') {
+        return Ok(());
+    }
+    Ok(fields.push(field_of(line, content)?)?)
 }
 
 /// The field in a line.

@@ -1,12 +1,12 @@
 //! Answers of `check_texts`, and of the checker call by call.
 
-use crate::case::Answer;
 use graphql_checked::{
-    CheckError, CheckedDocument, CheckedSchema, Checker, Details, DiagnosticList, Layout, Limits,
-    Refusal, Verdict, check_texts,
+    CheckError, CheckedDocument, CheckedSchema, Checker, DiagnosticList, Layout, Limits, Refusal,
+    Verdict, check_texts,
 };
-use graphql_names::{FileId, SourceSpan};
-use graphql_row_files::Problem;
+use graphql_row_files::graphql_names::FileId;
+use graphql_row_files::{Answer, answer_of};
+use graphql_schema_rows::push_faults;
 use std::alloc::{AllocError, Global};
 
 /// The answer of `check_texts`.
@@ -83,22 +83,8 @@ fn refusal_answer(alloc: Global, refusal: &Refusal) -> Result<Answer, AllocError
 /// The answer that tells these faults.
 fn refused(alloc: Global, list: &DiagnosticList) -> Result<Answer, AllocError> {
     let mut text = String::from_str(alloc, "refused\n")?;
-    for (place, details) in list.as_slice() {
-        text.push_str(&line(alloc, *place, details)?)?;
-    }
+    push_faults(alloc, list.as_slice(), &mut text)?;
     answer_of(alloc, "1", text.as_str())
-}
-
-/// The line of a fault.
-fn line(alloc: Global, place: Option<SourceSpan>, details: &Details) -> Result<String, AllocError> {
-    match place {
-        None => format!(in alloc; "-: {details}\n"),
-        Some(span) => {
-            let number = span.file_id.0;
-            let offset = span.offset;
-            format!(in alloc; "{number}:{offset}: {details}\n")
-        }
-    }
 }
 
 /// The answer that a text is not judged yet.
@@ -106,12 +92,4 @@ fn not_yet(alloc: Global, file: FileId, offset: usize) -> Result<Answer, AllocEr
     let number = file.0;
     let status = format!(in alloc; "5 not yet {number}:{offset}")?;
     answer_of(alloc, status.as_str(), "")
-}
-
-/// The answer of this status and output.
-pub(crate) fn answer_of(alloc: Global, status: &str, out: &str) -> Result<Answer, AllocError> {
-    Ok(Answer {
-        status: String::from_str(alloc, status)?,
-        out: Vec::from_slice(alloc, out.as_bytes())?,
-    })
 }

@@ -1,29 +1,28 @@
 //! Answers of `run` over readers and a writer that hand on few bytes a call, and that end.
 
 ghost use Rattle.std.specs.Prelude.{◌≡◌, false, All, IfOk};
-ghost use Rattle.graphql_names.specs.Device.{device_failed};
+ghost use Rattle.graphql_row_files.specs.in_names.Device.{device_failed};
 
 use crate::by_texts::Texts;
-use crate::case::{Answer, Case, Tally, Way};
-use crate::plan::{Plan, device, reader};
-use crate::plans::{compare_cut, plans};
 use graphql_checked::{Layout, Limits, Outcome, RunFault, exit_status, run};
-use graphql_names::{Cut, Device};
-use graphql_row_files::{Problem, says};
+use graphql_row_files::graphql_names::{Cut, Device};
+use graphql_row_files::{
+    Answer, Case, Plan, Problem, Tally, Way, compare_cut, device, plans_of, reader, says,
+};
 use std::alloc::{AllocError, Global};
 
 /// Judges the row by `run`, by each of its plans.
 pub(crate) fn by_run(
-    rt: &HostRuntime,
+    alloc: Global,
     case: Case<'_>,
     given: Texts<'_>,
     tally: &mut Tally,
 ) -> Result<(), Problem> {
     let is_each = says(case.row, "read", "each")?;
-    for plan in &plans(rt.alloc(), case)? {
-        run_answer(rt, case, given, *plan, tally)?;
+    for plan in &plans_of(alloc, case)? {
+        run_answer(alloc, case, given, *plan, tally)?;
         if is_each && plan.write == case.out.len() {
-            readers_end(rt, case, given, *plan, tally)?;
+            readers_end(alloc, case, given, *plan, tally)?;
         }
     }
     Ok(())
@@ -31,7 +30,7 @@ pub(crate) fn by_run(
 
 /// The reader of each text ends after each number of bytes, and at its end: nothing is out.
 fn readers_end(
-    rt: &HostRuntime,
+    alloc: Global,
     case: Case<'_>,
     given: Texts<'_>,
     plan: Plan,
@@ -49,7 +48,7 @@ fn readers_end(
                 write: 0,
                 ..plan
             };
-            reader_ends(rt, case, given, plan, tally)?;
+            reader_ends(alloc, case, given, plan, tally)?;
         }
     }
     Ok(())
@@ -57,25 +56,25 @@ fn readers_end(
 
 /// The reader of the plan's text ends.
 fn reader_ends(
-    rt: &HostRuntime,
+    alloc: Global,
     case: Case<'_>,
     given: Texts<'_>,
     plan: Plan,
     tally: &mut Tally,
 ) -> Result<(), Problem> {
     let text = plan.text;
-    let status = format!(in rt.alloc(); "3 file {text} cannot be read")?;
+    let status = format!(in alloc; "3 file {text} cannot be read")?;
     let wanted = Case {
         status: status.as_str(),
         out: &[],
         ..case
     };
-    run_answer(rt, wanted, given, plan, tally)
+    run_answer(alloc, wanted, given, plan, tally)
 }
 
 /// The answer by this plan.
 fn run_answer(
-    rt: &HostRuntime,
+    alloc: Global,
     case: Case<'_>,
     given: Texts<'_>,
     plan: Plan,
@@ -87,8 +86,8 @@ fn run_answer(
         nesting: given.nesting,
         plan,
     };
-    let answer = run_by(rt.alloc(), given, plan)?;
-    compare_cut(rt, case, way, &answer, tally)
+    let answer = run_by(alloc, given, plan)?;
+    compare_cut(alloc, case, way, &answer, tally)
 }
 
 /// What `run` answers by the plan.

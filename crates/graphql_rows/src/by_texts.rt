@@ -2,9 +2,8 @@
 
 use crate::by_calls::{by_calls, by_check_texts};
 use crate::by_run::by_run;
-use crate::case::{Answer, Case, Tally, Way, compare};
-use crate::plan::whole;
-use graphql_row_files::{Problem, numbers, texts};
+use graphql_row_files::{Answer, Case, Problem, Tally, Way, compare, numbers, texts, whole};
+use graphql_schema_rows::graphql_read_rows::text_of;
 use std::alloc::Global;
 
 /// Texts under a limit.
@@ -17,54 +16,54 @@ pub(crate) struct Texts<'a> {
 
 /// Judges the row: each of its documents over its schema texts, under each of its limits.
 pub(crate) fn by_texts(
-    rt: &HostRuntime,
+    alloc: Global,
     case: Case<'_>,
     call: &str,
     tally: &mut Tally,
 ) -> Result<(), Problem> {
-    let schemas = texts(rt.alloc(), case.row, "schema")?;
-    for nesting in numbers(rt.alloc(), case.row, "nesting", 500)? {
+    let schemas = texts(alloc, case.row, "schema")?;
+    for nesting in numbers(alloc, case.row, "nesting", 500)? {
         let given = Texts {
             schemas: schemas.as_slice(),
             document: &[],
             nesting,
         };
-        by_documents(rt, case, call, given, tally)?;
+        by_documents(alloc, case, call, given, tally)?;
     }
     Ok(())
 }
 
 /// Judges each document of the row in the place of the one that is given.
 fn by_documents(
-    rt: &HostRuntime,
+    alloc: Global,
     case: Case<'_>,
     call: &str,
     given: Texts<'_>,
     tally: &mut Tally,
 ) -> Result<(), Problem> {
-    for document in &texts(rt.alloc(), case.row, "document")? {
+    for document in &texts(alloc, case.row, "document")? {
         let document = document.as_slice();
-        by_call(rt, case, call, Texts { document, ..given }, tally)?;
+        by_call(alloc, case, call, Texts { document, ..given }, tally)?;
     }
     Ok(())
 }
 
 /// The answer of each call that the row is for.
 fn by_call(
-    rt: &HostRuntime,
+    alloc: Global,
     case: Case<'_>,
     call: &str,
     given: Texts<'_>,
     tally: &mut Tally,
 ) -> Result<(), Problem> {
     match call {
-        "run" => by_run(rt, case, given, tally),
+        "run" => by_run(alloc, case, given, tally),
         "all" => {
-            by_run(rt, case, given, tally)?;
-            judge_call(rt, case, "calls", given, tally)?;
-            judge_call(rt, case, "check_texts", given, tally)
+            by_run(alloc, case, given, tally)?;
+            judge_call(alloc, case, "calls", given, tally)?;
+            judge_call(alloc, case, "check_texts", given, tally)
         }
-        _ => judge_call(rt, case, call, given, tally),
+        _ => judge_call(alloc, case, call, given, tally),
     }
 }
 
@@ -91,31 +90,23 @@ fn schemas_of<'a>(
     Ok(schemas)
 }
 
-/// The text, which must be UTF-8.
-fn text_of<'a>(case: Case<'_>, bytes: &'a [u8]) -> Result<&'a str, Problem> {
-    match str::from_utf8(bytes) {
-        Ok(text) => Ok(text),
-        Err(_) => Err(case.row.head.problem("a text of this call is not UTF-8")),
-    }
-}
-
 /// The answer of `check_texts`, or the one call by call. `check_texts` writes no texts: of those accepted the row's
 /// first line is wanted.
 fn judge_call(
-    rt: &HostRuntime,
+    alloc: Global,
     case: Case<'_>,
     call: &str,
     given: Texts<'_>,
     tally: &mut Tally,
 ) -> Result<(), Problem> {
-    let answer = answer_by(rt.alloc(), case, call, given)?;
+    let answer = answer_by(alloc, case, call, given)?;
     let out = if call == "calls" {
         case.out
     } else {
         first_line(case.out)
     };
     let wanted = Case { out, ..case };
-    compare(rt, wanted, way_of(call, given), &answer, tally)
+    compare(alloc, wanted, way_of(call, given), &answer, tally)
 }
 
 /// What `check_texts` answers, or the calls.

@@ -10,13 +10,17 @@ fn names_of(call: &str) -> Option<&'static [&'static str]> {
         "run" => Some(&[
             "nesting", "schema", "document", "step", "read", "write", "behind",
         ]),
-        "print" => Some(&["tree", "layout", "prefix", "level", "step", "write"]),
-        "writable" => Some(&["tree"]),
+        "print" => Some(&["tree", "input", "layout", "level", "step", "write"]),
+        "writable" => Some(&["tree", "input"]),
         "parse_document" | "parse_type" | "parse_selections" => Some(&["nesting", "input"]),
         "next_token" => Some(&["input"]),
         "layouts" => Some(&["input", "flat"]),
         "schema" | "orphans" => Some(&["schema", "first", "adopt", "ignore"]),
         "coordinate" => Some(&["schema", "form", "input"]),
+        "document" | "written" | "fields" | "all_fields" | "root_fields" | "introspection" => {
+            Some(&["schema", "standalone", "document"])
+        }
+        "field_set" => Some(&["schema", "type", "input"]),
         _ => None,
     }
 }

@@ -3,59 +3,36 @@
 #![tactic(auto)]
 
 mod by_calls;
-mod by_coordinate;
-mod by_layouts;
-mod by_print;
-mod by_read;
 mod by_run;
-mod by_schema;
 mod by_texts;
 mod calls;
-mod case;
-mod plan;
-mod plans;
-mod trees;
 
-use crate::by_coordinate::by_coordinate;
-use crate::by_layouts::by_layouts;
-use crate::by_print::{by_print, by_writable};
-use crate::by_read::by_read;
-use crate::by_schema::by_schema;
 use crate::by_texts::by_texts;
 use crate::calls::call_of;
-use crate::case::{Case, Tally};
-use graphql_row_files::{Problem, Row, fields_of, output, rows_of};
+use graphql_row_files::{Case, Field, Problem, Row, Tally, fields_of, output, rows_of};
+use graphql_schema_rows::graphql_read_rows::{by_layouts, by_print, by_read, by_writable};
+use graphql_schema_rows::{by_coordinate, by_document, by_field_set, by_schema};
+use std::alloc::Global;
 use std::fs;
 use std::process::ExitCode;
 
 /// Judges the row.
-fn judge_row(rt: &HostRuntime, file: &str, row: Row<'_>, tally: &mut Tally) -> Result<(), Problem> {
+fn judge_row(alloc: Global, file: &str, row: Row<'_>, tally: &mut Tally) -> Result<(), Problem> {
     let status = row.needed("status")?.value;
-    let out = output(rt.alloc(), row)?;
+    let out = output(alloc, row)?;
     let case = Case {
         file,
         row,
         status,
         out: out.as_slice(),
     };
-    judge_case(rt, case, tally)
+    judge_case(alloc, case, tally)
 }
 
 /// Judges what the row wants, which must be some answer.
-fn judge_case(rt: &HostRuntime, case: Case<'_>, tally: &mut Tally) -> Result<(), Problem> {
+fn judge_case(alloc: Global, case: Case<'_>, tally: &mut Tally) -> Result<(), Problem> {
     let answers = tally.answers;
-    tally.is_told = false;
-    match call_of(case.row)? {
-        "print" => by_print(rt, case, tally)?,
-        "writable" => by_writable(rt, case, tally)?,
-        "layouts" => by_layouts(rt, case, tally)?,
-        "coordinate" => by_coordinate(rt, case, tally)?,
-        call @ ("schema" | "orphans") => by_schema(rt, case, call, tally)?,
-        call @ ("parse_document" | "parse_type" | "parse_selections" | "next_token") => {
-            by_read(rt, case, call, tally)?;
-        }
-        call => by_texts(rt, case, call, tally)?,
-    }
+    by_call(alloc, case, call_of(case.row)?, tally)?;
     if tally.answers == answers {
         return Err(case.row.head.problem("the row asks for no answer"));
     }
@@ -63,13 +40,52 @@ fn judge_case(rt: &HostRuntime, case: Case<'_>, tally: &mut Tally) -> Result<(),
     Ok(())
 }
 
+/// Judges the row by its call.
+fn by_call(alloc: Global, case: Case<'_>, call: &str, tally: &mut Tally) -> Result<(), Problem> {
+    match call {
+        "print" => by_print(alloc, case, tally),
+        "writable" => by_writable(alloc, case, tally),
+        "layouts" => by_layouts(alloc, case, tally),
+        "coordinate" => by_coordinate(alloc, case, tally),
+        "schema" | "orphans" => by_schema(alloc, case, call, tally),
+        "document" | "written" | "fields" | "all_fields" | "root_fields" | "introspection" => {
+            by_document(alloc, case, call, tally)
+        }
+        "field_set" => by_field_set(alloc, case, tally),
+        "parse_document" | "parse_type" | "parse_selections" | "next_token" => {
+            by_read(alloc, case, call, tally)
+        }
+        _ => by_texts(alloc, case, call, tally),
+    }
+}
+
+/// Judges the row, and tells what is to be told of it.
+fn tell_row(rt: &HostRuntime, file: &str, row: Row<'_>, tally: &mut Tally) -> Result<(), Problem> {
+    let judged = judge_row(rt.alloc(), file, row, tally);
+    let told = tally.told.as_str();
+    print!(rt; "{told}")?;
+    tally.told.clear();
+    judged
+}
+
 /// Judges the rows of a file.
 fn judge_file(rt: &HostRuntime, file: &str, text: &str, tally: &mut Tally) -> Result<(), Problem> {
     let fields = fields_of(rt.alloc(), text)?;
-    for row in &rows_of(rt.alloc(), &fields)? {
-        judge_row(rt, file, *row, tally)?;
-    }
+    judge_rows(rt, file, &fields, tally)?;
     tally.files = tally.files.saturating_add(1);
+    Ok(())
+}
+
+/// Judges the rows that the fields make.
+fn judge_rows(
+    rt: &HostRuntime,
+    file: &str,
+    fields: &[Field<'_>],
+    tally: &mut Tally,
+) -> Result<(), Problem> {
+    for row in &rows_of(rt.alloc(), fields)? {
+        tell_row(rt, file, *row, tally)?;
+    }
     Ok(())
 }
 
@@ -97,23 +113,20 @@ fn judge_files(rt: &HostRuntime, tally: &mut Tally) -> Result<(), Problem> {
 
 /// Judges the files and prints the counts. True where there are rows, and each is as it must be.
 fn judge(rt: &HostRuntime) -> Result<bool, Problem> {
-    let mut tally = Tally {
-        files: 0,
-        rows: 0,
-        answers: 0,
-        differences: 0,
-        is_told: false,
-    };
+    let mut tally = Tally::new(rt.alloc());
     judge_files(rt, &mut tally)?;
-    let Tally {
-        files,
-        rows,
-        answers,
-        differences,
-        ..
-    } = tally;
+    tell_counts(rt, &tally)?;
+    Ok(tally.rows > 0 && tally.differences == 0)
+}
+
+/// Prints the counts.
+fn tell_counts(rt: &HostRuntime, tally: &Tally) -> Result<(), Problem> {
+    let files = tally.files;
+    let rows = tally.rows;
+    let answers = tally.answers;
+    let differences = tally.differences;
     println!(rt; "{files} files, {rows} rows, {answers} answers, {differences} differences")?;
-    Ok(rows > 0 && differences == 0)
+    Ok(())
 }
 
 fn main(rt: HostRuntime) -> ExitCode {

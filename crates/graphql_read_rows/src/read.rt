@@ -1,61 +1,55 @@
 //! Rows of texts that are read by themselves.
 
-use crate::by_calls::answer_of;
-use crate::case::{Answer, Case, Tally, Way, compare};
-use crate::plan::whole;
-use graphql_checked::graphql_ast::{FileId, Selection, Tree};
-use graphql_checked::graphql_read::{
+use crate::given::text_of;
+use crate::shown::shown_answer;
+use graphql_read::graphql_ast::{FileId, Selection, Tree};
+use graphql_read::{
     NextToken, ReadFault, SyntaxFaultKind, Token, next_token, parse_document, parse_selections,
     parse_type,
 };
-use graphql_row_files::{Problem, numbers, texts};
+use graphql_row_files::{
+    Answer, Case, Problem, Tally, Way, answer_of, compare, numbers, texts, whole,
+};
 use std::alloc::{AllocError, Global};
 
 /// Judges the row: each of its inputs, under each of its limits.
-pub(crate) fn by_read(
-    rt: &HostRuntime,
+pub fn by_read(
+    alloc: Global,
     case: Case<'_>,
     call: &str,
     tally: &mut Tally,
 ) -> Result<(), Problem> {
-    for nesting in numbers(rt.alloc(), case.row, "nesting", 500)? {
-        by_inputs(rt, case, call, nesting, tally)?;
+    for nesting in numbers(alloc, case.row, "nesting", 500)? {
+        by_inputs(alloc, case, call, nesting, tally)?;
     }
     Ok(())
 }
 
 /// Judges each input of the row.
 fn by_inputs(
-    rt: &HostRuntime,
+    alloc: Global,
     case: Case<'_>,
     call: &str,
     nesting: usize,
     tally: &mut Tally,
 ) -> Result<(), Problem> {
-    for input in &texts(rt.alloc(), case.row, "input")? {
+    for input in &texts(alloc, case.row, "input")? {
         let way = Way {
             call,
             document: input.as_slice(),
             nesting,
             plan: whole(),
         };
-        by_input(rt, case, way, tally)?;
+        by_input(alloc, case, way, tally)?;
     }
     Ok(())
 }
 
 /// Judges the answer to an input, which must be UTF-8.
-fn by_input(
-    rt: &HostRuntime,
-    case: Case<'_>,
-    way: Way<'_>,
-    tally: &mut Tally,
-) -> Result<(), Problem> {
-    let Ok(text) = str::from_utf8(way.document) else {
-        return Err(case.row.head.problem("an input is not UTF-8"));
-    };
-    let answer = answer_by(rt.alloc(), way.call, text, way.nesting)?;
-    compare(rt, as_it_stands(case, way.document), way, &answer, tally)
+fn by_input(alloc: Global, case: Case<'_>, way: Way<'_>, tally: &mut Tally) -> Result<(), Problem> {
+    let text = text_of(case, way.document)?;
+    let answer = answer_by(alloc, way.call, text, way.nesting)?;
+    compare(alloc, as_it_stands(case, way.document), way, &answer, tally)
 }
 
 /// What the row wants, where the output may be the input as it stands.
@@ -84,10 +78,7 @@ fn answer_by(alloc: Global, call: &str, text: &str, nesting: usize) -> Result<An
 /// What a document that is read prints on one line.
 fn document_answer(alloc: Global, text: &str, nesting: usize) -> Result<Answer, AllocError> {
     match parse_document(alloc, text, FileId(1), nesting) {
-        Ok(document) => {
-            let printed = document.serialize().no_indent().to_string(alloc)?;
-            answer_of(alloc, "0", &printed)
-        }
+        Ok(document) => shown_answer(alloc, "0", &document.serialize().no_indent()),
         Err(fault) => fault_answer(alloc, fault),
     }
 }
@@ -95,7 +86,7 @@ fn document_answer(alloc: Global, text: &str, nesting: usize) -> Result<Answer, 
 /// What a type that is read prints.
 fn type_answer(alloc: Global, text: &str, nesting: usize) -> Result<Answer, AllocError> {
     match parse_type(alloc, text, FileId(1), nesting) {
-        Ok(ty) => answer_of(alloc, "0", &ty.to_string(alloc)?),
+        Ok(ty) => shown_answer(alloc, "0", &ty),
         Err(fault) => fault_answer(alloc, fault),
     }
 }
@@ -112,11 +103,20 @@ fn selections_answer(alloc: Global, text: &str, nesting: usize) -> Result<Answer
 fn printed_selections(alloc: Global, selections: &[Selection]) -> Result<Answer, AllocError> {
     let mut lines = String::new(alloc);
     for selection in selections {
-        let printed = selection.serialize().no_indent().to_string(alloc)?;
-        lines.push_str(&printed)?;
-        lines.push('\n')?;
+        push_selection(alloc, &mut lines, selection)?;
     }
     answer_of(alloc, "0", &lines)
+}
+
+/// Adds the selection and a line feed.
+fn push_selection(
+    alloc: Global,
+    lines: &mut String,
+    selection: &Selection,
+) -> Result<(), AllocError> {
+    let printed = selection.serialize().no_indent().to_string(alloc)?;
+    lines.push_str(&printed)?;
+    lines.push('\n')
 }
 
 /// A fault and its place.
@@ -142,21 +142,35 @@ fn kind_words(kind: SyntaxFaultKind) -> &'static str {
 /// Each token of the text on a line of its own, up to the end or to where none starts.
 fn tokens_answer(alloc: Global, text: &str) -> Result<Answer, AllocError> {
     let mut lines = String::new(alloc);
+    let end = push_tokens(alloc, &mut lines, text)?;
+    end_answer(alloc, end, &lines)
+}
+
+/// The answer of these lines and what stands behind them: nothing, or at this offset no token.
+fn end_answer(alloc: Global, end: Option<usize>, lines: &str) -> Result<Answer, AllocError> {
+    match end {
+        None => answer_of(alloc, "0", lines),
+        Some(offset) => {
+            let status = format!(in alloc; "1 no token {offset}")?;
+            answer_of(alloc, &status, lines)
+        }
+    }
+}
+
+/// Adds each token, up to the end or to the offset at which none starts.
+fn push_tokens(alloc: Global, lines: &mut String, text: &str) -> Result<Option<usize>, AllocError> {
     let mut at = 0;
     for _ in 0..=text.len() {
         match token_at(text, at) {
             NextToken::Token(token) => {
-                push_token(alloc, &mut lines, token)?;
+                push_token(alloc, lines, token)?;
                 at = token.offset.saturating_add(token.text.len());
             }
-            NextToken::End => return answer_of(alloc, "0", &lines),
-            NextToken::NoToken(offset) => {
-                let status = format!(in alloc; "1 no token {offset}")?;
-                return answer_of(alloc, &status, &lines);
-            }
+            NextToken::End => return Ok(None),
+            NextToken::NoToken(offset) => return Ok(Some(offset)),
         }
     }
-    answer_of(alloc, "tokens without end", &lines)
+    Ok(Some(at))
 }
 
 /// The next token from this offset on.

@@ -1,12 +1,12 @@
 //! Printed trees, and whether trees are writable.
 
-use crate::by_calls::answer_of;
-use crate::case::{Answer, Case, Tally, Way, compare};
-use crate::plan::{Plan, device, whole};
-use crate::plans::{compare_cut, plans};
+use crate::shown::shown_answer;
 use crate::trees::by_name;
-use graphql_checked::graphql_ast::{Cause, Serialize, Tree, WriteFault};
-use graphql_row_files::{Problem, number};
+use graphql_read::graphql_ast::{Cause, Serialize, Tree, WriteFault};
+use graphql_row_files::{
+    Answer, Case, Plan, Problem, Tally, Way, answer_of, compare, compare_cut, device, number,
+    plans_of, whole,
+};
 use std::alloc::{AllocError, Global};
 
 /// How a tree is laid out.
@@ -55,44 +55,39 @@ pub(crate) fn laid_out<'a, T: Tree>(tree: &'a T, form: (Form, usize)) -> Seriali
 }
 
 /// A tree that rows name.
-pub(crate) trait Named: Tree + Drop {
+pub(crate) trait Named: Tree {
     /// Its `is_writable`.
     fn writable(&self) -> bool;
 }
 
 /// Judges what the row asks of this tree: what is printed of it under the layout, or whether it is writable.
 pub(crate) fn by_tree<T: Named>(
-    rt: &HostRuntime,
+    alloc: Global,
     case: Case<'_>,
-    tree: Result<T, AllocError>,
+    tree: &T,
     form: Option<(Form, usize)>,
     tally: &mut Tally,
 ) -> Result<(), Problem> {
-    let tree = tree?;
     match form {
-        Some(form) => prints(rt, case, &tree, form, tally),
-        None => tells_writable(rt, case, tree.writable(), tally),
+        Some(form) => prints(alloc, case, tree, form, tally),
+        None => tells_writable(alloc, case, tree.writable(), tally),
     }
 }
 
 /// Judges the row: what is printed of its tree, by `Display`, and by `write_to` by each of its plans.
-pub(crate) fn by_print(rt: &HostRuntime, case: Case<'_>, tally: &mut Tally) -> Result<(), Problem> {
+pub fn by_print(alloc: Global, case: Case<'_>, tally: &mut Tally) -> Result<(), Problem> {
     let form = form_of(case)?;
-    by_name(rt, case, Some(form), tally)
+    by_name(alloc, case, Some(form), tally)
 }
 
 /// Judges the row: whether its tree is writable.
-pub(crate) fn by_writable(
-    rt: &HostRuntime,
-    case: Case<'_>,
-    tally: &mut Tally,
-) -> Result<(), Problem> {
-    by_name(rt, case, None, tally)
+pub fn by_writable(alloc: Global, case: Case<'_>, tally: &mut Tally) -> Result<(), Problem> {
+    by_name(alloc, case, None, tally)
 }
 
 /// The answer whether a tree is writable.
 fn tells_writable(
-    rt: &HostRuntime,
+    alloc: Global,
     case: Case<'_>,
     is_writable: bool,
     tally: &mut Tally,
@@ -102,28 +97,28 @@ fn tells_writable(
     } else {
         "1 not writable"
     };
-    let answer = answer_of(rt.alloc(), status, "")?;
-    compare(rt, case, way_of("is_writable", whole()), &answer, tally)
+    let answer = answer_of(alloc, status, "")?;
+    compare(alloc, case, way_of("is_writable", whole()), &answer, tally)
 }
 
 /// Judges what is printed of the tree.
 fn prints<T: Tree>(
-    rt: &HostRuntime,
+    alloc: Global,
     case: Case<'_>,
     tree: &T,
     form: (Form, usize),
     tally: &mut Tally,
 ) -> Result<(), Problem> {
-    displays(rt, case, tree, form, tally)?;
-    for plan in &plans(rt.alloc(), case)? {
-        write_answer(rt, case, tree, form, *plan, tally)?;
+    displays(alloc, case, tree, form, tally)?;
+    for plan in &plans_of(alloc, case)? {
+        write_answer(alloc, case, tree, form, *plan, tally)?;
     }
     Ok(())
 }
 
 /// The text by `Display`, where it comes to its end.
 fn displays<T: Tree>(
-    rt: &HostRuntime,
+    alloc: Global,
     case: Case<'_>,
     tree: &T,
     form: (Form, usize),
@@ -132,10 +127,9 @@ fn displays<T: Tree>(
     if case.status != "0" {
         return Ok(());
     }
-    let text = laid_out(tree, form).to_string(rt.alloc())?;
-    let answer = answer_of(rt.alloc(), "0", &text)?;
+    let answer = shown_answer(alloc, "0", &laid_out(tree, form))?;
     compare(
-        rt,
+        alloc,
         case,
         way_of("print by Display", whole()),
         &answer,
@@ -155,17 +149,23 @@ fn way_of(call: &str, plan: Plan) -> Way<'_> {
 
 /// The answer by this plan.
 fn write_answer<T: Tree>(
-    rt: &HostRuntime,
+    alloc: Global,
     case: Case<'_>,
     tree: &T,
     form: (Form, usize),
     plan: Plan,
     tally: &mut Tally,
 ) -> Result<(), Problem> {
-    let mut out = Vec::new(rt.alloc());
-    let status = written(rt.alloc(), tree, form, plan, &mut out)?;
+    let mut out = Vec::new(alloc);
+    let status = written(alloc, tree, form, plan, &mut out)?;
     let answer = Answer { status, out };
-    compare_cut(rt, case, way_of("print by write_to", plan), &answer, tally)
+    compare_cut(
+        alloc,
+        case,
+        way_of("print by write_to", plan),
+        &answer,
+        tally,
+    )
 }
 
 /// The status of `write_to` by the plan, with its output behind `out`.

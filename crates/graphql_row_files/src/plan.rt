@@ -8,19 +8,21 @@ use std::io::ErrorKind;
 
 /// How many bytes devices hand on, and how they end.
 #[derive(Clone, Copy)]
-pub(crate) struct Plan {
+pub struct Plan {
     /// The most bytes a call.
-    pub(crate) step: usize,
-    /// The number of the text whose reader ends after `read` bytes; each reader behind it fails at its first call.
-    pub(crate) text: usize,
-    pub(crate) read: usize,
+    pub step: usize,
+    /// The number of the text whose reader ends after `read` bytes. Each reader behind it fails at its first call.
+    pub text: usize,
+    /// After so many bytes the reader of `text` ends.
+    pub read: usize,
     /// After so many bytes the writer ends.
-    pub(crate) write: usize,
-    pub(crate) ending: Ending,
+    pub write: usize,
+    /// How the device that ends does it.
+    pub ending: Ending,
 }
 
 /// The plan by which no device ends.
-pub(crate) fn whole() -> Plan {
+pub fn whole() -> Plan {
     Plan {
         step: usize::MAX,
         text: usize::MAX,
@@ -31,7 +33,7 @@ pub(crate) fn whole() -> Plan {
 }
 
 /// How devices end. An interruption is a failure as any other.
-pub(crate) fn endings() -> [Ending; 3] {
+pub fn endings() -> [Ending; 3] {
     [
         Ending::Fails(ErrorKind::Interrupted),
         Ending::Fails(ErrorKind::Other),
@@ -40,14 +42,14 @@ pub(crate) fn endings() -> [Ending; 3] {
 }
 
 /// A device over `inner` that ends after `total` bytes.
-pub(crate) fn device<D>(inner: D, plan: Plan, total: usize) -> Device<Cut<D>>
+pub fn device<D>(inner: D, plan: Plan, total: usize) -> Device<Cut<D>>
     ensures { device_failed result ≡ false }
 {
     Device::new(Cut::new(inner, plan.step.max(1), total, plan.ending))
 }
 
 /// The reader of the text of this number.
-pub(crate) fn reader<'a>(bytes: &'a [u8], plan: Plan, number: usize) -> Device<Cut<&'a [u8]>>
+pub fn reader<'a>(bytes: &'a [u8], plan: Plan, number: usize) -> Device<Cut<&'a [u8]>>
     ensures { device_failed result ≡ false }
 {
     if number < plan.text {

@@ -1,0 +1,27 @@
+//! Documents that are built of texts.
+
+use graphql_documents::graphql_typing::graphql_typed_operations::graphql_typed_selections::graphql_ast::{
+    Document, FileId,
+};
+use graphql_documents::{ExecutableDocument, ExecutableDocumentExt};
+use graphql_read::parse_document;
+use graphql_schema::Schema;
+use std::alloc::Global;
+
+/// What is kept of the document of this text, without a schema.
+pub(crate) fn typed(alloc: Global, text: &str) -> Option<ExecutableDocument> {
+    let document = parse_document(alloc, text, FileId(1), 3).ok()?;
+    built(alloc, None, &document)
+}
+
+/// What is kept of the document under the schema, or without one.
+pub(crate) fn built(
+    alloc: Global,
+    schema: Option<&Schema>,
+    document: &Document,
+) -> Option<ExecutableDocument> {
+    let mut builder = ExecutableDocument::builder(alloc, schema);
+    builder.add_ast_document(document).ok()?;
+    let (typed, _faults) = builder.build().ok()?;
+    Some(typed)
+}

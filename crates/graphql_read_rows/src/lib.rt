@@ -1,0 +1,21 @@
+//! Rows of texts that are read, and of trees that are printed.
+//!
+//! For the layer above: each function judges a row of one call, and counts its answers. Begin with `read.rt`.
+#![tactic(auto)]
+
+mod given;
+mod layouts;
+mod print;
+mod read;
+mod shown;
+mod trees;
+
+pub use given::{document_of, text_of};
+pub use layouts::by_layouts;
+pub use print::{by_print, by_writable};
+pub use read::by_read;
+pub use shown::{shown_answer, writable_answer};
+
+// The crates beneath, for those above.
+pub use graphql_read;
+pub use graphql_row_files;

@@ -1,0 +1,1 @@
+pub use Rattle.graphql_names.specs as in_names
