@@ -6,6 +6,3 @@
 mod names;
 
 pub use names::names_differ;
-
-// The crates beneath, for those above.
-pub use graphql_schema;

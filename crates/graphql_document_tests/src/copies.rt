@@ -2,8 +2,8 @@
 
 use crate::hold::{hold, is_copied};
 use crate::typed::typed;
-use graphql_documents::graphql_typing::graphql_typed_operations::laws;
 use graphql_documents::{ExecutableDocument, Fragment, Operation, Selection, SelectionSet};
+use graphql_typed_operations::laws;
 use std::alloc::{AllocError, Global};
 use std::process::Abort;
 use std::test::Fail;

@@ -2,7 +2,7 @@
 
 use crate::hold::hold;
 use crate::typed::{built, typed};
-use graphql_documents::graphql_typing::graphql_typed_operations::graphql_typed_selections::graphql_ast::FileId;
+use graphql_ast::FileId;
 use graphql_documents::{
     ExecutableDocument, Field, FieldExt, FragmentSpreadExt, Selection, SelectionSet,
     SelectionSetExt,

@@ -1,8 +1,6 @@
 //! Documents that are built of texts.
 
-use graphql_documents::graphql_typing::graphql_typed_operations::graphql_typed_selections::graphql_ast::{
-    Document, FileId,
-};
+use graphql_ast::{Document, FileId};
 use graphql_documents::{ExecutableDocument, ExecutableDocumentExt};
 use graphql_read::parse_document;
 use graphql_schema::Schema;

@@ -12,10 +12,9 @@ ghost use Rattle.graphql_typing.specs.FullList.{TellsSet};
 ghost use Rattle.graphql_typing.specs.FaultView.{faults_of};
 
 use graphql_ast::{Name, Selection, SourceSpan};
-use graphql_document_faults::BuildError;
 use graphql_schema::Schema;
 use graphql_typed_operations::FieldSet;
-use graphql_typing::field_set_from_ast;
+use graphql_typing::{BuildError, field_set_from_ast};
 use std::alloc::{AllocError, Global};
 
 /// Calls that make a selection set by itself.

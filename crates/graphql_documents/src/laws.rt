@@ -8,8 +8,7 @@ ghost use Rattle.graphql_typing.specs.FaultView.{faults_of};
 ghost use Rattle.graphql_typing.specs.BuilderView.{builder_value};
 
 use graphql_ast::{Document, SourceSpan};
-use graphql_document_faults::BuildError;
-use graphql_typing::{BuilderRefusal, ExecutableDocumentBuilder};
+use graphql_typing::{BuildError, BuilderRefusal, ExecutableDocumentBuilder};
 use std::alloc::Global;
 
 /// What is written of all that was added, and each way in which a rule of typing is broken in it. What is written is what

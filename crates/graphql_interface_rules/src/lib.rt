@@ -17,7 +17,3 @@ mod valid_types;
 
 pub use check::check_interfaces;
 pub use valid_types::is_valid_implementation_field_type;
-
-// The crates beneath, for those above.
-pub use graphql_fault_data;
-pub use graphql_schema;

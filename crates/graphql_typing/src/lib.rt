@@ -21,5 +21,7 @@ mod sources;
 
 pub use builder::ExecutableDocumentBuilder;
 pub use field_set::field_set_from_ast;
-pub use graphql_document_faults::BuildError;
+pub use graphql_document_faults::{
+    BuildError, ConflictingFieldArgument, ConflictingFieldName, ConflictingFieldType,
+};
 pub use refusal::BuilderRefusal;
