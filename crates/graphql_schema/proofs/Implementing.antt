@@ -1,5 +1,5 @@
 -- Implementers that are noted one after another.
-use Rattle.std.proofs.Common.{◌≡◌, ℕ, zero, suc, ◌+◌, take, add-one, Bool, true, false, ◌||◌, List, [], ◌∷◌, ◌++◌, map, Option, None, Some, refl, sym, ap, ◌∙◌, cond, if◌then◌else◌}
+use Rattle.std.proofs.Common.{◌≡◌, ℕ, zero, suc, ◌+◌, take, add-one, Bool, true, false, ◌||◌, List, [], ◌∷◌, ◌++◌, map, Option, Some, refl, sym, ap, ◌∙◌, cond, if◌then◌else◌}
 use Rattle.std.specs.Prelude.{unwrap_or, slice_get}
 use Rattle.std.specs.List.{list_any, flat_map}
 use Rattle.std.specs.Option.{option_map}
@@ -33,11 +33,6 @@ added n ks = by (list_any (same_text name_text n) ks) refl
 -- a look-up by a name of the same text
 same_get : {X S : Type 0} (m : IndexMap NameValue X S) (k i : NameValue) → k.text ≡ i.text → get (same_text name_text) m i ≡ get (same_text name_text) m k
 same_get m k i e = ap (λ t. lookup (λ (x : NameValue). bytes_eq t x.text) m.entries) (sym e)
-
--- what an entry has, or else nobody
-pub or_nobody : (o : Option Implementers) (none : Implementers) → implementers_tree none ≡ nobody → implementers_tree (unwrap_or o none) ≡ unwrap_or (option_map implementers_tree o) nobody
-or_nobody None none is = is
-or_nobody (Some t) none is = refl
 
 -- a write under a name
 pub noted : {S : Type 0} (m n : IndexMap NameValue Implementers S) (k : NameValue) (x : Naming) (o : Option Implementers) (new : Implementers)

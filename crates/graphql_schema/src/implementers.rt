@@ -180,8 +180,12 @@ fn note_name(
 ) -> Result<(), AllocError>
     ensures { OnOk result ((i : NameValue) → implementers_at noted.new i ≡ and_naming i.text (implementers_at noted.old i) (naming is_object name.now.text (component_name_tree interface.now))) }
 {
+    if let Some(implementers) = noted.get_mut(&interface.name) {
+        return implementers.add(is_object, name);
+    }
+    let mut implementers = Implementers::new(alloc);
+    implementers.add(is_object, name)?;
     let interface = interface.name.clone()?;
-    let entry = noted.entry(interface)?;
-    let implementers = entry.or_insert(Implementers::new(alloc));
-    implementers.add(is_object, name)
+    noted.insert(interface, implementers)?;
+    Ok(())
 }
