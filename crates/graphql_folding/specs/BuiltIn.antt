@@ -168,6 +168,6 @@ directive_location_enum = enum (codes "__DirectiveLocation") (
 abbrev pub introspection_types : List (DefinitionTree Place)
 introspection_types = schema_object ∷ type_object ∷ type_kind_enum ∷ field_object ∷ input_value_object ∷ enum_value_object ∷ directive_object ∷ directive_location_enum ∷ []
 
--- ---- all of it
-pub built_in_definitions : List (DefinitionTree Place)
+-- ---- all of it, in the order in which a schema has them
+unfoldable pub built_in_definitions : List (DefinitionTree Place)
 built_in_definitions = built_in_directives ++ (built_in_scalars ++ introspection_types)

@@ -57,19 +57,32 @@ pub(crate) fn add_names(
 }
 
 /// All that a type is given, in order, repeated components too.
-#[derive(Drop)]
-pub struct Collected {
-    pub directives: Vec<Component<Directive>>,
-    pub interfaces: Vec<ComponentName>,
-    pub fields: Vec<Component<FieldDefinition>>,
-    pub members: Vec<ComponentName>,
-    pub values: Vec<Component<EnumValueDefinition>>,
-    pub inputs: Vec<Component<InputValueDefinition>>,
+pub(crate) struct Collected {
+    pub(crate) directives: Vec<Component<Directive>>,
+    pub(crate) interfaces: Vec<ComponentName>,
+    pub(crate) fields: Vec<Component<FieldDefinition>>,
+    pub(crate) members: Vec<ComponentName>,
+    pub(crate) values: Vec<Component<EnumValueDefinition>>,
+    pub(crate) inputs: Vec<Component<InputValueDefinition>>,
+}
+
+/// Lets each class go, here and not wherever what is collected goes.
+impl Drop for Collected {
+    fn drop(self) {
+        let Collected {
+            directives: _,
+            interfaces: _,
+            fields: _,
+            members: _,
+            values: _,
+            inputs: _,
+        } = self;
+    }
 }
 
 impl Collected {
     /// Nothing.
-    pub fn new(alloc: Global) -> Collected
+    pub(crate) fn new(alloc: Global) -> Collected
         ensures { collected result ≡ collected_from [] }
     {
         Collected {
@@ -83,7 +96,11 @@ impl Collected {
     }
 
     /// Adds these parts, from that origin.
-    pub fn add(&mut self, origin: ComponentOrigin, parts: &Parts<'_>) -> Result<(), AllocError>
+    pub(crate) fn add(
+        &mut self,
+        origin: ComponentOrigin,
+        parts: &Parts<'_>,
+    ) -> Result<(), AllocError>
         ensures { OnOk result (collected self.new ≡ collected_and (collected self.old) (record { extension = origin_tree origin; it = parts_view parts.now })) }
     {
         add_components(&mut self.directives, origin, &parts.directives.0)?;

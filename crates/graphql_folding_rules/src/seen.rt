@@ -14,10 +14,16 @@ use indexmap::IndexMap;
 use std::alloc::{AllocError, Global};
 
 /// The kind of the first type of each name, and whether there is a schema definition.
-#[derive(Drop)]
 pub(crate) struct Seen {
     pub(crate) kinds: IndexMap<Name, TypeKind>,
     pub(crate) schema: bool,
+}
+
+/// Lets the names go, here and not wherever what is seen goes.
+impl Drop for Seen {
+    fn drop(self) {
+        let Seen { kinds: _, schema: _ } = self;
+    }
 }
 
 impl Seen {

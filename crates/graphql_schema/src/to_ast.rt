@@ -7,6 +7,7 @@ ghost use Rattle.graphql_schema.specs.SchemaOf.{schema_tree};
 use crate::schema::Schema;
 use graphql_schema_building::graphql_ast::Document;
 use graphql_schema_writing::written_definitions;
+use indexmap::IndexMap;
 use std::alloc::{AllocError, Global};
 
 impl Schema {
@@ -24,8 +25,8 @@ impl Schema {
             &self.types,
         )?;
         Ok(Document {
+            sources: IndexMap::new(alloc),
             definitions,
-            ..Document::new(alloc)
         })
     }
 }

@@ -13,7 +13,6 @@ use std::alloc::Global;
 /// for a definition.
 ///
 /// Contracts see it by `builder_view` alone.
-#[derive(Drop)]
 pub struct Building {
     pub(crate) alloc: Global,
     pub(crate) settings: Settings,
@@ -22,6 +21,20 @@ pub struct Building {
     pub(crate) sources: IndexMap<FileId, SourceFile>,
     pub(crate) failed: bool,
     ghost kept: { IsKept texts orphans failed },
+}
+
+/// Lets go what it keeps, here and not wherever a builder goes.
+impl Drop for Building {
+    fn drop(self) {
+        let Building {
+            alloc: _,
+            settings: _,
+            texts: _,
+            orphans: _,
+            sources: _,
+            failed: _,
+        } = self;
+    }
 }
 
 /// What is built: the fold of the definitions, and the sources that they came from.

@@ -34,10 +34,19 @@ fn add_given<T: Drop>(
 }
 
 /// All that the schema definition is given, in order, repeated roots too.
-#[derive(Drop)]
 pub(crate) struct SchemaComponents {
     pub(crate) directives: Vec<Component<Directive>>,
     pub(crate) roots: Vec<Component<(OperationType, NamedType)>>,
+}
+
+/// Lets both classes go, here and not wherever what is given goes.
+impl Drop for SchemaComponents {
+    fn drop(self) {
+        let SchemaComponents {
+            directives: _,
+            roots: _,
+        } = self;
+    }
 }
 
 impl SchemaComponents {

@@ -13,6 +13,7 @@ mod implicit;
 mod roots;
 mod schema;
 
+pub use defined::{first_schema, is_object, schema_extension};
 pub use directives::fold_directives;
 pub use schema::fold_schema;
 

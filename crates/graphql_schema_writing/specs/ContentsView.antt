@@ -64,3 +64,12 @@ pub record HoldsNothing (f : FiledType) : Type 0 where
   pub members : f.members.entries ≡ []
   pub values : f.values.entries ≡ []
   pub inputs : f.inputs.entries ≡ []
+
+-- nothing is given yet
+pub record GivesNothing (p : Parts) : Type 0 where
+  pub directives : p.directives.0.items ≡ []
+  pub interfaces : p.interfaces.items ≡ []
+  pub fields : p.fields.items ≡ []
+  pub members : p.members.items ≡ []
+  pub values : p.values.items ≡ []
+  pub inputs : p.inputs.items ≡ []
