@@ -1,8 +1,8 @@
 -- What is kept of all components of a type, and what is told of them (private: it leads to `specs/Fold.antt` and `specs/BuildErrors.antt`).
 use Rattle.std.specs.Prelude.{◌≡◌, ℕ, List, [], ◌++◌, map}
-use Rattle.graphql_values.specs.Placed.{Placed, Place, Text}
-use Rattle.graphql_values.specs.DirectiveTree.{DirectiveTree, InputValueTree, directive_tree, input_value_tree}
-use Rattle.graphql_schema_types.specs.in_ast.TypeSystemTree.{FieldDefinitionTree, EnumValueTree, field_definition_tree, enum_value_tree}
+use Rattle.graphql_names.specs.Placed.{Placed, Place, Text}
+use Rattle.graphql_directives.specs.DirectiveTree.{DirectiveTree, InputValueTree, directive_tree, input_value_tree}
+use Rattle.graphql_type_members.specs.TypeSystemTree.{FieldDefinitionTree, EnumValueTree, field_definition_tree, enum_value_tree}
 use Rattle.graphql_components.specs.Lists.{firsts, repeats}
 use Rattle.graphql_components.specs.Names.{Entries, entries_of}
 use Rattle.graphql_components.specs.Given.{Given, component_tree, component_name_tree, given_name}

@@ -1,6 +1,6 @@
 //! All that a type is given, repeated components too.
 ghost use Rattle.std.specs.Prelude.{◌≡◌, ◌++◌, [], map, IfOk, OnOk};
-ghost use Rattle.graphql_values.specs.Placed.{name_tree, node_tree};
+ghost use Rattle.graphql_names.specs.Placed.{name_tree, node_tree};
 ghost use Rattle.graphql_components.specs.Given.{origin_tree, component_tree, component_name_tree};
 ghost use Rattle.graphql_folding.specs.Components.{all_given};
 ghost use Rattle.graphql_folding.specs.PartsView.{itself, given_contents, parts_view};
@@ -8,9 +8,9 @@ ghost use Rattle.graphql_folding.specs.Collected.{collected, collected_from, col
 
 use crate::parts::Parts;
 use graphql_components::{Component, ComponentName, ComponentOrigin};
-use graphql_schema_types::graphql_ast::{
-    Directive, EnumValueDefinition, FieldDefinition, InputValueDefinition, Name, Node,
-};
+use graphql_directives::{Directive, InputValueDefinition};
+use graphql_names::{Name, Node};
+use graphql_type_members::{EnumValueDefinition, FieldDefinition};
 use std::alloc::{AllocError, Global};
 
 /// The node, shared, from that origin.

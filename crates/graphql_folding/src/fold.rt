@@ -16,8 +16,8 @@ use crate::kept_classes::Kept;
 use crate::listed::Listed;
 use crate::make::make_type;
 use crate::parts::Defined;
+use graphql_names::SourceSpan;
 use graphql_schema_types::ExtendedType;
-use graphql_schema_types::graphql_ast::SourceSpan;
 use std::alloc::{AllocError, Global};
 
 /// Folds a type: its definition and then each of these that extends it, in order. Tells each component that is not

@@ -14,9 +14,9 @@ ghost use Rattle.graphql_folding.specs.Keeping.{content_key, component_fault, na
 
 use crate::build_error::{BuildError, Repeat, note_repeat};
 use graphql_components::{Component, ComponentName};
-use graphql_schema_types::graphql_ast::{
-    EnumValueDefinition, FieldDefinition, InputValueDefinition, Name, SourceSpan,
-};
+use graphql_directives::InputValueDefinition;
+use graphql_names::{Name, SourceSpan};
+use graphql_type_members::{EnumValueDefinition, FieldDefinition};
 use indexmap::{IndexMap, IndexSet};
 use std::alloc::AllocError;
 

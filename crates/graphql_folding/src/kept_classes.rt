@@ -8,10 +8,10 @@ use crate::build_error::{BuildError, Repeat};
 use crate::collected::Collected;
 use crate::keep::{keep_components, keep_names};
 use graphql_components::{Component, ComponentName};
+use graphql_directives::{Directive, InputValueDefinition};
+use graphql_names::{Name, SourceSpan};
 use graphql_schema_types::TypeKind;
-use graphql_schema_types::graphql_ast::{
-    Directive, EnumValueDefinition, FieldDefinition, InputValueDefinition, Name, SourceSpan,
-};
+use graphql_type_members::{EnumValueDefinition, FieldDefinition};
 use indexmap::{IndexMap, IndexSet};
 use std::alloc::{AllocError, Global};
 use std::mem;

@@ -21,7 +21,3 @@ pub use build_error::{BuildError, Repeat};
 pub use fold::fold_type;
 pub use listed::Listed;
 pub use parts::{Defined, Parts, extension_parts, type_definition};
-
-// The crates beneath, for those above.
-pub use graphql_schema_types;
-pub use graphql_schema_types::graphql_ast;

@@ -4,7 +4,7 @@ ghost use Rattle.std.specs.Option.{option_map};
 ghost use Rattle.graphql_components.specs.Given.{extension_tree, origin_tree};
 
 use graphql_components::{ComponentOrigin, ExtensionId};
-use graphql_schema_types::graphql_ast::Definition;
+use graphql_definitions::Definition;
 
 /// A definition of the list, and its number if it is an extension.
 pub struct Listed {

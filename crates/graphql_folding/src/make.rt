@@ -1,7 +1,7 @@
 //! A type of any kind, made of what it keeps.
 ghost use Rattle.std.specs.Prelude.{◌≡◌, IfOk};
 ghost use Rattle.std.specs.Option.{option_map};
-ghost use Rattle.graphql_values.specs.Placed.{Place, name_tree, text_tree};
+ghost use Rattle.graphql_names.specs.Placed.{Place, name_tree, text_tree};
 ghost use Rattle.graphql_schema_types.specs.TypeView.{extended_type, scalar_type, object_type, interface_type, union_type, enum_type, input_object_type};
 ghost use Rattle.graphql_schema_types.specs.declared.type_kind.TypeKind.TheVariants as kind;
 ghost use Rattle.graphql_folding.specs.Kept.{kept};
@@ -10,7 +10,7 @@ ghost use Rattle.graphql_folding.specs.Made.{defined_view, made, headed, IsOfKin
 use crate::kept_classes::Kept;
 use crate::parts::Defined;
 use graphql_components::DirectiveList;
-use graphql_schema_types::graphql_ast::{Name, NodeStr};
+use graphql_names::{Name, NodeStr};
 use graphql_schema_types::{
     EnumType, ExtendedType, InputObjectType, InterfaceType, ObjectType, ScalarType, TypeKind,
     UnionType, node_at, shared_description,

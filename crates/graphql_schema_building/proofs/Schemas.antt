@@ -2,7 +2,7 @@
 use Rattle.std.proofs.Common.{◌≡◌, [], ◌∷◌, map, Option, None, Some, refl, is_some, option_copied, codes}
 use Rattle.std.specs.Borrow.{Bor}
 use Rattle.std.specs.Option.{option_map}
-use Rattle.graphql_type_folding.specs.in_folding.Listed.{type_name, types_in}
+use Rattle.graphql_schema_folding.specs.in_folding.Listed.{type_name, types_in}
 use Rattle.graphql_built_in.specs.Table.{built_in_definitions}
 
 pub is_there : {X Y : Type 0} (f : X → Y) (o : Option (Bor X)) → is_some o ≡ is_some (option_map f (option_copied o))

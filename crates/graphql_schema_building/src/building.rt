@@ -1,10 +1,10 @@
 //! What is asked of a schema builder's state.
 ghost use Rattle.std.specs.Prelude.{◌≡◌, ◌↔◌, ◌++◌, [], true, false, IfOk, IfErr, OnOk, Contains};
-ghost use Rattle.graphql_type_folding.specs.in_ast.DefinitionTree.{document_tree};
-ghost use Rattle.graphql_type_folding.specs.in_ast.Sources.{sources_of};
+ghost use Rattle.graphql_definitions.specs.DefinitionTree.{document_tree};
+ghost use Rattle.graphql_definitions.specs.Sources.{sources_of};
 ghost use Rattle.graphql_built_in.specs.Table.{built_in_definitions};
-ghost use Rattle.graphql_type_folding.specs.in_folding.BuildErrors.{FoldingRules};
-ghost use Rattle.graphql_type_folding.specs.in_folding.FaultView.{faults_of};
+ghost use Rattle.graphql_schema_folding.specs.in_folding.BuildErrors.{FoldingRules};
+ghost use Rattle.graphql_schema_folding.specs.in_folding.FaultView.{faults_of};
 ghost use Rattle.graphql_schema_building.specs.Building.{plain_settings, folded, FailsIn, counted, lent_names, IsAddRefusal, IsBuildRefusal};
 ghost use Rattle.graphql_schema_building.specs.BuiltView.{built_view, folded_view};
 ghost use Rattle.graphql_schema_building.specs.BuildingView.{builder_view};
@@ -24,8 +24,9 @@ use crate::state::{Building, Built};
 use crate::texts::Texts;
 use crate::waiting::OrphanExtensionTypes;
 use graphql_components::Extensions;
-use graphql_type_folding::graphql_ast::{Document, FileId, SourceFile, SourceSpan};
-use graphql_type_folding::graphql_folding::BuildError;
+use graphql_definitions::{Document, SourceFile};
+use graphql_folding::BuildError;
+use graphql_names::{FileId, SourceSpan};
 use indexmap::IndexMap;
 use std::alloc::Global;
 use std::mem;

@@ -4,8 +4,10 @@ ghost use Rattle.graphql_schema_building.specs.KeptView.{IsKept};
 use crate::orphans::Orphans;
 use crate::settle::Settings;
 use crate::texts::Texts;
-use graphql_type_folding::graphql_ast::{DirectiveDefinition, FileId, Name, Node, SourceFile};
-use graphql_type_folding::graphql_schema_types::{ExtendedType, SchemaDefinition};
+use graphql_definitions::SourceFile;
+use graphql_directives::DirectiveDefinition;
+use graphql_names::{FileId, Name, Node};
+use graphql_schema_types::{ExtendedType, SchemaDefinition};
 use indexmap::IndexMap;
 use std::alloc::Global;
 

@@ -4,9 +4,9 @@ use Rattle.std.specs.Borrow.{Bor}
 use Rattle.std.specs.Option.{option_map}
 use Rattle.graphql_names.specs.NodeStrValue.{NodeStrValue}
 use Rattle.graphql_names.specs.declared.node.Node.{Node}
-use Rattle.graphql_values.specs.Placed.{Place, name_tree, node_tree, text_tree}
-use Rattle.graphql_values.specs.DirectiveTree.{directive_tree, input_value_tree}
-use Rattle.graphql_schema_types.specs.in_ast.TypeSystemTree.{field_definition_tree, enum_value_tree}
+use Rattle.graphql_names.specs.Placed.{Place, name_tree, node_tree, text_tree}
+use Rattle.graphql_directives.specs.DirectiveTree.{directive_tree, input_value_tree}
+use Rattle.graphql_type_members.specs.TypeSystemTree.{field_definition_tree, enum_value_tree}
 use Rattle.graphql_components.specs.Given.{ExtensionTree, origin_tree, component_tree, component_name_tree}
 use Rattle.graphql_components.specs.declared.component.Component.{Component}
 use Rattle.graphql_schema_types.specs.Out.{same_giver, given_by}

@@ -7,10 +7,9 @@ ghost use Rattle.graphql_schema_writing.specs.ContentsView.{GivesNothing, HoldsN
 use crate::contents::Contents;
 use crate::filing::{file_components, file_names, take_names, take_nodes};
 use graphql_components::ComponentOrigin;
-use graphql_schema_types::graphql_ast::{
-    Directive, DirectiveList, EnumValueDefinition, FieldDefinition, InputValueDefinition, Name,
-    Node,
-};
+use graphql_directives::{Directive, DirectiveList, InputValueDefinition};
+use graphql_names::{Name, Node};
+use graphql_type_members::{EnumValueDefinition, FieldDefinition};
 use indexmap::IndexMap;
 use std::alloc::{AllocError, Global};
 

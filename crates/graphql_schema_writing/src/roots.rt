@@ -1,15 +1,17 @@
 //! The roots that each giver gave to the schema.
 ghost use Rattle.std.specs.Prelude.{◌≡◌, ◌++◌, [], map, None, Some, OnOk};
 ghost use Rattle.std.specs.Option.{option_map};
-ghost use Rattle.graphql_values.specs.Placed.{node_tree};
-ghost use Rattle.graphql_schema_types.specs.in_ast.DefinitionTree.{root_tree};
+ghost use Rattle.graphql_names.specs.Placed.{node_tree};
+ghost use Rattle.graphql_definitions.specs.DefinitionTree.{root_tree};
 ghost use Rattle.graphql_components.specs.Given.{origin_tree, component_name_tree};
 ghost use Rattle.graphql_schema_types.specs.TypeView.{schema_roots};
 ghost use Rattle.graphql_schema_types.specs.Out.{same_giver, root_given_by, schema_parts_given_by};
 
 use graphql_components::{ComponentName, ComponentOrigin};
+use graphql_literals::NamedType;
+use graphql_names::Node;
+use graphql_operations::OperationType;
 use graphql_schema_types::SchemaDefinition;
-use graphql_schema_types::graphql_ast::{NamedType, Node, OperationType};
 use std::alloc::{AllocError, Global};
 
 /// Adds the roots that this giver gave, in the order query, mutation, subscription.

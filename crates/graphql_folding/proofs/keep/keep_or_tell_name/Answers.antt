@@ -4,7 +4,7 @@ use Rattle.std.proofs.lemmas.List.{map-append}
 use Rattle.std.specs.List.{list_any}
 use Rattle.std.specs.Str.{bytes_eq}
 use Rattle.graphql_names.specs.NameValue.{NameValue}
-use Rattle.graphql_values.specs.Placed.{name_tree}
+use Rattle.graphql_names.specs.Placed.{name_tree}
 use Rattle.graphql_components.specs.Given.{component_name_tree, given_name, origin_tree}
 use Rattle.graphql_folding.specs.FaultView.{faults_of, repeat_breach}
 use Rattle.graphql_folding.specs.Keeping.{name_fault}

@@ -1,5 +1,5 @@
 use Rattle.std.proofs.Common.{is_some, ap, ◌∙◌}
-use Rattle.graphql_type_folding.specs.in_schema_folding.RootsView.{schema_giver}
+use Rattle.graphql_schema_folding.specs.RootsView.{schema_giver}
 use Rattle.graphql_schema_building.proofs.Schemas.{is_there}
 use Rattle.graphql_schema_building.proofs.defined.has_schema_definition.Goals as goal
 

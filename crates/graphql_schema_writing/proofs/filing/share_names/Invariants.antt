@@ -1,5 +1,5 @@
 use Rattle.std.proofs.Common.{◌≡◌, map, take}
-use Rattle.graphql_values.specs.Placed.{name_tree}
+use Rattle.graphql_names.specs.Placed.{name_tree}
 use Rattle.graphql_schema_writing.specs.Filed.{lent_name}
 use Rattle.graphql_schema_writing.proofs.filing.share_names.Given as goal
 

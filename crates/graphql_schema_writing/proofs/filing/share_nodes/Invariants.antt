@@ -1,5 +1,5 @@
 use Rattle.std.proofs.Common.{◌≡◌, map, take}
-use Rattle.graphql_values.specs.Placed.{node_tree}
+use Rattle.graphql_names.specs.Placed.{node_tree}
 use Rattle.graphql_schema_writing.specs.Filed.{itself, lent_node}
 use Rattle.graphql_schema_writing.proofs.filing.share_nodes.Given as goal
 

@@ -1,4 +1,4 @@
-use Rattle.graphql_values.specs.DirectiveTree.{directive_tree}
+use Rattle.graphql_directives.specs.DirectiveTree.{directive_tree}
 use Rattle.graphql_components.specs.Given.{origin_tree}
 use Rattle.graphql_schema_writing.specs.Filed.{filed_under}
 use Rattle.graphql_schema_writing.proofs.Growing.{shared_grown}

@@ -1,7 +1,7 @@
 use Rattle.std.proofs.Common.{map, ap, ◌∙◌}
 use Rattle.graphql_built_in.specs.Table.{built_in_definitions}
-use Rattle.graphql_type_folding.specs.in_folding.FaultView.{faults_of}
-use Rattle.graphql_type_folding.specs.in_folding.ListedView.{listed_view}
+use Rattle.graphql_schema_folding.specs.in_folding.FaultView.{faults_of}
+use Rattle.graphql_schema_folding.specs.in_folding.ListedView.{listed_view}
 use Rattle.graphql_schema_building.specs.Building.{counted}
 use Rattle.graphql_schema_building.specs.BuildingView.{builder_view}
 use Rattle.graphql_schema_building.specs.KeptView.{first_number}
