@@ -1,1 +1,0 @@
-pub use Rattle.graphql_definitions.proofs as in_definitions

@@ -10,4 +10,3 @@ pub use Rattle.graphql_definitions.specs.Queries
 pub use Rattle.graphql_definitions.specs.Sources
 pub use Rattle.graphql_definitions.specs.DocumentLayout
 pub use Rattle.graphql_definitions.specs.Writable
-pub use Rattle.graphql_definitions.specs as in_definitions

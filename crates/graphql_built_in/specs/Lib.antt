@@ -2,5 +2,4 @@ pub mod Table
 pub mod MetaFields
 pub mod Rows
 pub mod Marks
-pub use Rattle.graphql_folding.specs.in_ast as in_ast
 pub use Rattle.graphql_folding.specs as in_folding

@@ -3,12 +3,12 @@ use Rattle.std.specs.Prelude.{ℕ, Bool, false, List, ◌&&◌, map, Option, Non
 use Rattle.std.specs.List.{list_all}
 use Rattle.std.specs.Str.{bytes_eq}
 use Rattle.graphql_names.specs.NameSyntax.{is_name}
-use Rattle.graphql_values.specs.Placed.{Placed, Place}
-use Rattle.graphql_values.specs.TypeTree.{TypeTree}
-use Rattle.graphql_values.specs.ValueTree.{ValueTree, StringTree, BooleanTree}
-use Rattle.graphql_values.specs.DirectiveTree.{InputValueTree}
-use Rattle.graphql_folding.specs.in_ast.TypeSystemTree.{FieldDefinitionTree}
-use Rattle.graphql_folding.specs.in_ast.DefinitionTree.{DefinitionTree}
+use Rattle.graphql_names.specs.Placed.{Placed, Place}
+use Rattle.graphql_literals.specs.TypeTree.{TypeTree}
+use Rattle.graphql_literals.specs.ValueTree.{ValueTree, StringTree, BooleanTree}
+use Rattle.graphql_directives.specs.DirectiveTree.{InputValueTree}
+use Rattle.graphql_type_members.specs.TypeSystemTree.{FieldDefinitionTree}
+use Rattle.graphql_definitions.specs.DefinitionTree.{DefinitionTree}
 use Rattle.graphql_folding.specs.BuiltIn.{a, one, some, all, argument, field_with, directive, scalar, object, enum}
 use Rattle.graphql_built_in.specs.declared.table.Row.{Row}
 use Rattle.graphql_built_in.specs.declared.table.Row.TheVariants as row

@@ -2,9 +2,9 @@
 ghost use Rattle.std.specs.Prelude.{◌≡◌, ◌++◌, ◌∷◌, [], map, IfOk, OnOk, IsTrue};
 ghost use Rattle.std.specs.List.{list_all, list_any};
 ghost use Rattle.graphql_names.specs.NameSyntax.{IsName, is_name};
-ghost use Rattle.graphql_values.specs.Placed.{node_tree};
-ghost use Rattle.graphql_values.specs.DirectiveTree.{input_value_tree};
-ghost use Rattle.graphql_folding.specs.in_ast.DefinitionTree.{definition_tree};
+ghost use Rattle.graphql_names.specs.Placed.{node_tree};
+ghost use Rattle.graphql_directives.specs.DirectiveTree.{input_value_tree};
+ghost use Rattle.graphql_definitions.specs.DefinitionTree.{definition_tree};
 ghost use Rattle.graphql_folding.specs.BuiltIn.{directive, scalar, object, enum};
 ghost use Rattle.graphql_folding.specs.BuildErrors.{is_built_in_scalar};
 ghost use Rattle.graphql_built_in.specs.Table.{built_in_definitions};
@@ -13,10 +13,13 @@ ghost use Rattle.graphql_built_in.specs.Rows.{row_argument, row_field, row_defin
 use crate::members::{fields_of, values_of};
 use crate::parts::{arguments_of, node_here};
 use crate::table::{ArgumentRow, FieldRow, ROWS, Row};
-use graphql_folding::graphql_ast::{
-    Definition, DirectiveDefinition, DirectiveList, DirectiveLocation, EnumTypeDefinition,
-    InputValueDefinition, Name, Node, ObjectTypeDefinition, ScalarTypeDefinition,
+use graphql_composite_types::ObjectTypeDefinition;
+use graphql_definitions::Definition;
+use graphql_directives::{
+    DirectiveDefinition, DirectiveList, DirectiveLocation, InputValueDefinition,
 };
+use graphql_input_types::{EnumTypeDefinition, ScalarTypeDefinition};
+use graphql_names::{Name, Node};
 use std::alloc::{AllocError, Global};
 
 /// A directive of these parts.

@@ -4,17 +4,17 @@ ghost use Rattle.std.specs.List.{list_all};
 ghost use Rattle.std.specs.Option.{option_map};
 ghost use Rattle.graphql_names.specs.NameSyntax.{IsName};
 ghost use Rattle.graphql_names.specs.Node.{content, place};
-ghost use Rattle.graphql_values.specs.Placed.{name_tree, node_tree};
-ghost use Rattle.graphql_values.specs.TypeTree.{type_tree};
-ghost use Rattle.graphql_values.specs.ValueTree.{value_tree};
-ghost use Rattle.graphql_values.specs.DirectiveTree.{input_value_tree};
+ghost use Rattle.graphql_names.specs.Placed.{name_tree, node_tree};
+ghost use Rattle.graphql_literals.specs.TypeTree.{type_tree};
+ghost use Rattle.graphql_literals.specs.ValueTree.{value_tree};
+ghost use Rattle.graphql_directives.specs.DirectiveTree.{input_value_tree};
 ghost use Rattle.graphql_folding.specs.BuiltIn.{built_in, here, one};
 ghost use Rattle.graphql_built_in.specs.Rows.{row_type, row_default, row_argument, has_type_name, has_argument_names};
 
 use crate::table::{ArgumentRow, DefaultRow, TypeRow};
-use graphql_folding::graphql_ast::{
-    DirectiveList, FileId, InputValueDefinition, Name, Node, SourceSpan, Type, Value,
-};
+use graphql_directives::{DirectiveList, InputValueDefinition};
+use graphql_literals::{Type, Value};
+use graphql_names::{FileId, Name, Node, SourceSpan};
 use std::alloc::{AllocError, AllocFailed, Global};
 
 /// The place of what is built in.

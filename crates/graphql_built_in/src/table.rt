@@ -3,7 +3,7 @@
 //! Past October 2021 are two locations of `@deprecated`, `includeDeprecated` on `args` and `inputFields`, and the last
 //! two fields of `__InputValue`.
 
-use graphql_folding::graphql_ast::DirectiveLocation;
+use graphql_directives::DirectiveLocation;
 
 /// A definition of the table.
 #[derive(Clone, Copy)]

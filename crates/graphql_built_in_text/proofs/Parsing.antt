@@ -1,7 +1,7 @@
 -- The text's tokens, read by the reference parser.
 use Rattle.std.proofs.Common.{◌≡◌, List, [], ◌++◌, Bool, true, false, Ok, Err, refl}
-use Rattle.graphql_built_in.specs.in_ast.DefinitionTree.{DefinitionTree, unplaced_document}
-use Rattle.graphql_values.specs.Placed.{Place}
+use Rattle.graphql_definitions.specs.DefinitionTree.{DefinitionTree, unplaced_document}
+use Rattle.graphql_names.specs.Placed.{Place}
 use Rattle.graphql_names.specs.declared.span.FileId.{FileId}
 use Rattle.graphql_lexer.specs.Input.{Token, Input}
 use Rattle.graphql_lexer.specs.Terminals.{words}

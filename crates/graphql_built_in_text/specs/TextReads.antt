@@ -1,8 +1,8 @@
 -- That the text is read as what is built in.
 use Rattle.std.specs.Prelude.{◌≡◌, ◌≤◌, List}
 use Rattle.graphql_names.specs.declared.span.FileId.{FileId}
-use Rattle.graphql_values.specs.Placed.{Place}
-use Rattle.graphql_built_in.specs.in_ast.DefinitionTree.{DefinitionTree, unplaced_document}
+use Rattle.graphql_names.specs.Placed.{Place}
+use Rattle.graphql_definitions.specs.DefinitionTree.{DefinitionTree, unplaced_document}
 use Rattle.graphql_lexer.specs.Input.{Token}
 use Rattle.graphql_lexer.specs.Lex.{Lex}
 use Rattle.graphql_parse_values.specs.in_grammar.Grammar.{Derives}

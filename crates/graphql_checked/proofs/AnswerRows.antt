@@ -1,8 +1,8 @@
 -- Lines of faults, and texts as they are written.
 use Rattle.std.proofs.Common.{◌≡◌, ℕ, List, [], ◌∷◌, codes, None, refl}
 use Rattle.std.specs.Fmt.{digits}
-use Rattle.graphql_values.specs.Placed.{Place}
-use Rattle.graphql_values.specs.Joined.{joined}
+use Rattle.graphql_names.specs.Placed.{Place}
+use Rattle.graphql_printing.specs.Joined.{joined}
 use Rattle.graphql_thin.specs.in_grammar.Places.{place_in}
 use Rattle.graphql_thin.specs.in_read.declared.fault.SyntaxFaultKind.TheVariants.{NoToken, Unexpected, End}
 use Rattle.graphql_thin.specs.Fold.{built_in, definition_list}

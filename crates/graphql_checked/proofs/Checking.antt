@@ -2,8 +2,8 @@
 use Rattle.std.proofs.Common.{inr, ◌≡◌, ◌≢◌, ℕ, List, [], Option, refl, sym, ap, ◌∙◌, subst}
 use Rattle.std.specs.Prelude.{Contains, ◌↔◌}
 use Rattle.graphql_names.specs.declared.span.FileId.{FileId}
-use Rattle.graphql_values.specs.Placed.{Place}
-use Rattle.graphql_thin.specs.in_ast.DefinitionTree.{DefinitionTree}
+use Rattle.graphql_names.specs.Placed.{Place}
+use Rattle.graphql_definitions.specs.DefinitionTree.{DefinitionTree}
 use Rattle.graphql_thin.specs.Fold.{definition_list}
 use Rattle.graphql_thin.specs.Faults.{Fault, DocumentFails}
 use Rattle.graphql_checked.specs.Judge.{document_number}

@@ -1,7 +1,7 @@
 -- A text is not both read and refused.
 use Rattle.std.proofs.Common.{inl, inr, ◌≡◌, ◌≢◌, ℕ, ◌+◌, List, [], ◌∷◌, refl, sym, ap, ◌∙◌, subst}
-use Rattle.graphql_values.specs.Placed.{Place}
-use Rattle.graphql_thin.specs.in_ast.DefinitionTree.{DefinitionTree}
+use Rattle.graphql_names.specs.Placed.{Place}
+use Rattle.graphql_definitions.specs.DefinitionTree.{DefinitionTree}
 use Rattle.graphql_thin.specs.ReadText.{IsRead}
 use Rattle.graphql_thin.specs.Thin.{ReadsDocument}
 use Rattle.graphql_thin.specs.Fold.{definition_list}

@@ -3,7 +3,7 @@ use Rattle.std.proofs.Common.{inl, inr, ◌≡◌, ◌≢◌, ℕ, ◌+◌, ◌<
 use Rattle.std.specs.Prelude.{Contains, ◌↔◌}
 use Rattle.std.proofs.Math.Nat.{lt_irrefl}
 use Rattle.graphql_names.specs.declared.span.FileId.{FileId}
-use Rattle.graphql_thin.specs.in_ast.DefinitionTree.{document_tree}
+use Rattle.graphql_definitions.specs.DefinitionTree.{document_tree}
 use Rattle.graphql_thin.specs.Fold.{built_in_definitions, definition_list}
 use Rattle.graphql_thin.specs.Faults.{Fault, FoldingFails, SchemaFails}
 use Rattle.graphql_thin.specs.FaultView.{faults_of}

@@ -4,8 +4,8 @@ use Rattle.std.specs.Prelude.{Contains, ◌↔◌, flat_map}
 use Rattle.std.specs.Fmt.{digits}
 use Rattle.std.proofs.Math.Nat.{lt_irrefl}
 use Rattle.graphql_names.specs.declared.span.SourceSpan.{SourceSpan}
-use Rattle.graphql_values.specs.Placed.{Place}
-use Rattle.graphql_values.specs.Joined.{joined}
+use Rattle.graphql_names.specs.Placed.{Place}
+use Rattle.graphql_printing.specs.Joined.{joined}
 use Rattle.graphql_thin.specs.in_grammar.Faults as read
 use Rattle.graphql_thin.specs.in_grammar.Places.{place_in}
 use Rattle.graphql_thin.specs.in_read.declared.fault.SyntaxFaultKind.{SyntaxFaultKind}

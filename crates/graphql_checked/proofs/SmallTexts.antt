@@ -1,12 +1,12 @@
 -- Small texts, evaluated: their trees, that they pass no bound, and the faults that are due of those that are not read.
 use Rattle.std.proofs.Common.{◌≡◌, ℕ, ◌+◌, ◌<◌, ◌≤◌, ◌^◌, List, [], ◌∷◌, length, codes, None, Err, refl, subst, arith, lit<, lit≤}
 use Rattle.std.proofs.Math.Nat.{lt_irrefl}
-use Rattle.graphql_values.specs.Placed.{Placed, Place, Text}
-use Rattle.graphql_values.specs.TypeTree.{NamedTree, NonNullNamedTree}
-use Rattle.graphql_values.specs.SelectionTree.{SelectionTree, SelectionTrees, FieldTree, selection_then, no_selections}
+use Rattle.graphql_names.specs.Placed.{Placed, Place, Text}
+use Rattle.graphql_literals.specs.TypeTree.{NamedTree, NonNullNamedTree}
+use Rattle.graphql_operations.specs.SelectionTree.{SelectionTree, SelectionTrees, FieldTree, selection_then, no_selections}
 use Rattle.graphql_operations.specs.declared.operation.OperationType.TheVariants.{Query}
-use Rattle.graphql_thin.specs.in_ast.TypeSystemTree.{FieldDefinitionTree}
-use Rattle.graphql_thin.specs.in_ast.DefinitionTree.{DefinitionTree, Operation, ObjectType}
+use Rattle.graphql_type_members.specs.TypeSystemTree.{FieldDefinitionTree}
+use Rattle.graphql_definitions.specs.DefinitionTree.{DefinitionTree, Operation, ObjectType}
 use Rattle.graphql_lexer.specs.Bytes.{run_len}
 use Rattle.graphql_lexer.specs.Tokens.{ignored_at, token_at}
 use Rattle.graphql_lexer.specs.Terminals.{words}

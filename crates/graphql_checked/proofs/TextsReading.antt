@@ -1,8 +1,8 @@
 -- What is kept of reading, where all texts are thin and where one is not.
 use Rattle.std.proofs.Common.{◌≡◌, ◌+◌, ◌++◌, ◌∷◌, ℕ, true, false, is_some, List, [], Option, None, Some, refl, sym, subst}
-use Rattle.graphql_values.specs.Placed.{Place}
+use Rattle.graphql_names.specs.Placed.{Place}
 use Rattle.graphql_names.specs.declared.span.FileId.{FileId}
-use Rattle.graphql_thin.specs.in_ast.DefinitionTree.{DefinitionTree, document_tree}
+use Rattle.graphql_definitions.specs.DefinitionTree.{DefinitionTree, document_tree}
 use Rattle.graphql_thin.specs.ReadText.{ReadsText, PassesNesting}
 use Rattle.graphql_thin.specs.Thin.{schema_outside}
 use Rattle.graphql_thin.specs.Faults.{Fault}

@@ -5,9 +5,9 @@ use Rattle.std.specs.List.{All, flat_map, filter, list_all}
 use Rattle.std.proofs.lemmas.Bool.{and_parts, false_from_ne_true}
 use Rattle.std.proofs.lemmas.List.Elements.{All-nil, All-cons, All-head, All-tail, All-append}
 use Rattle.graphql_names.specs.Places.{is_built_in}
-use Rattle.graphql_values.specs.Placed.{Place}
-use Rattle.graphql_thin.specs.in_ast.DefinitionTree as tree
-use Rattle.graphql_thin.specs.in_ast.DefinitionTree.{DefinitionTree}
+use Rattle.graphql_names.specs.Placed.{Place}
+use Rattle.graphql_definitions.specs.DefinitionTree as tree
+use Rattle.graphql_definitions.specs.DefinitionTree.{DefinitionTree}
 use Rattle.graphql_thin.specs.Lists.{firsts}
 use Rattle.graphql_thin.specs.in_read.EachPlace.{all_in_text, all_in_any, all_in_fields, all_in_definition, all_in_document}
 use Rattle.graphql_thin.specs.in_read.Sound.{is_own}

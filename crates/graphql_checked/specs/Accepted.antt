@@ -1,8 +1,8 @@
 -- Private. What a checked schema and a checked document keep of the texts that they were made of.
 use Rattle.std.specs.Prelude.{◌≡◌, ℕ, List, [], ◌∷◌, Option}
 use Rattle.std.specs.List.{flat_map}
-use Rattle.graphql_values.specs.Placed.{Place}
-use Rattle.graphql_thin.specs.in_ast.DefinitionTree.{DefinitionTree}
+use Rattle.graphql_names.specs.Placed.{Place}
+use Rattle.graphql_definitions.specs.DefinitionTree.{DefinitionTree}
 use Rattle.graphql_names.specs.declared.span.FileId.{FileId}
 use Rattle.graphql_thin.specs.Thin.{ReadsDocument}
 use Rattle.graphql_thin.specs.Fold.{definition_list}

@@ -1,8 +1,8 @@
 -- Private. How a checker keeps the schema texts that it was given: what reading them gave.
 use Rattle.std.specs.Prelude.{◌≡◌, ℕ, ◌+◌, ◌^◌, ◌≤◌, ◌⊎◌, List, [], ◌∷◌, ◌++◌, length, Option, None, Some}
 use Rattle.std.specs.List.{flat_map}
-use Rattle.graphql_values.specs.Placed.{Place}
-use Rattle.graphql_thin.specs.in_ast.DefinitionTree.{DefinitionTree}
+use Rattle.graphql_names.specs.Placed.{Place}
+use Rattle.graphql_definitions.specs.DefinitionTree.{DefinitionTree}
 use Rattle.graphql_names.specs.declared.span.FileId.{FileId}
 use Rattle.graphql_thin.specs.ReadText.{PassesNumbers}
 use Rattle.graphql_thin.specs.Faults.{Fault}

@@ -2,8 +2,8 @@
 use Rattle.std.specs.Prelude.{◌≡◌, ◌≢◌, ℕ, ◌+◌, List, [], ◌∷◌, ◌++◌, flat_map, Contains, codes, None, Some, if◌then◌else◌, ◌⊎◌}
 use Rattle.std.specs.Fmt.{decimal}
 use Rattle.graphql_names.specs.Places.{is_built_in}
-use Rattle.graphql_values.specs.Placed.{Place}
-use Rattle.graphql_thin.specs.in_ast.DefinitionTree.{DefinitionTree}
+use Rattle.graphql_names.specs.Placed.{Place}
+use Rattle.graphql_definitions.specs.DefinitionTree.{DefinitionTree}
 use Rattle.graphql_thin.specs.Thin.{ReadsDocument}
 use Rattle.graphql_thin.specs.Fold.{definition_list}
 use Rattle.graphql_checked.specs.Out.{Out, OutDoc}

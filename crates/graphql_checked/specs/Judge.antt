@@ -1,7 +1,7 @@
 -- The verdict, and what an answer says of the texts.
 use Rattle.std.specs.Prelude.{◌≡◌, ℕ, ◌+◌, List, [], ◌∷◌, length, ◌⊎◌}
-use Rattle.graphql_values.specs.Placed.{Place}
-use Rattle.graphql_thin.specs.in_ast.DefinitionTree.{DefinitionTree}
+use Rattle.graphql_names.specs.Placed.{Place}
+use Rattle.graphql_definitions.specs.DefinitionTree.{DefinitionTree}
 use Rattle.graphql_thin.specs.ReadText.{IsRead}
 use Rattle.graphql_thin.specs.Thin.{ReadsSchema, ReadsDocument, SchemaLeavesAt, DocumentLeavesAt}
 use Rattle.graphql_thin.specs.Unread.{UnreadFault}

@@ -1,8 +1,8 @@
 -- The texts of written definitions under the layouts.
 use Rattle.std.specs.Prelude.{ℕ, List, None}
-use Rattle.graphql_values.specs.Placed.{Place}
-use Rattle.graphql_thin.specs.in_ast.DefinitionTree.{DefinitionTree}
-use Rattle.graphql_thin.specs.in_ast.DocumentLayout.{document_text}
+use Rattle.graphql_names.specs.Placed.{Place}
+use Rattle.graphql_definitions.specs.DefinitionTree.{DefinitionTree}
+use Rattle.graphql_definitions.specs.DocumentLayout.{document_text}
 use Rattle.graphql_checked.specs.declared.layout.Layout.{Layout}
 use Rattle.graphql_checked.specs.declared.layout.Layout.TheVariants.{OneLine}
 

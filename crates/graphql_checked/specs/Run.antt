@@ -4,8 +4,8 @@ use Rattle.std.specs.List.{AllZip}
 use Rattle.std.specs.Io.KnownBytes.{Appends}
 use Rattle.graphql_names.specs.declared.device.Device.{Device}
 use Rattle.graphql_names.specs.Device.{device_inner, device_failed}
-use Rattle.graphql_values.specs.Placed.{Place}
-use Rattle.graphql_thin.specs.in_ast.DefinitionTree.{DefinitionTree}
+use Rattle.graphql_names.specs.Placed.{Place}
+use Rattle.graphql_definitions.specs.DefinitionTree.{DefinitionTree}
 use Rattle.graphql_checked.specs.Judge.{NotYetSchema, NotYetDocument}
 use Rattle.graphql_checked.specs.Refusals.{AreSchemasAccepted, IsAccepted}
 use Rattle.graphql_checked.specs.Answer.{AcceptedBytes, RefusedBytes, Answer}

@@ -1,6 +1,6 @@
 -- Private. What a contract sees of the schema texts that a checker was given.
 use Rattle.std.specs.Prelude.{◌≡◌, ℕ, ◌+◌, ◌<◌, ◌^◌, List, map, string_bytes}
-use Rattle.graphql_thin.specs.in_ast.DefinitionTree.{document_tree}
+use Rattle.graphql_definitions.specs.DefinitionTree.{document_tree}
 use Rattle.graphql_names.specs.declared.span.FileId.{FileId}
 use Rattle.graphql_thin.specs.FaultView.{faults_of}
 use Rattle.graphql_checked.specs.Added.{AreAdded}

@@ -7,7 +7,7 @@ ghost use Rattle.graphql_checked.specs.Refusals.{IsAccepted};
 
 use crate::checked_schema::CheckedSchema;
 use crate::layout::{Layout, written};
-use graphql_thin::graphql_ast::Document;
+use graphql_definitions::Document;
 use std::alloc::AllocError;
 use std::marker::Model;
 
@@ -21,7 +21,7 @@ pub struct CheckedDocument<'s> {
 
 impl<'s> Model for CheckedDocument<'s> {
     ghost use Rattle.std.specs.Prelude.{string_bytes};
-    ghost use Rattle.graphql_thin.specs.in_ast.DefinitionTree.{document_tree};
+    ghost use Rattle.graphql_definitions.specs.DefinitionTree.{document_tree};
     ghost use Rattle.graphql_checked.specs.CheckerValue.{CheckedDocumentValue};
     ghost use Rattle.graphql_checked.specs.Accepted.{IsAcceptedDocument};
 

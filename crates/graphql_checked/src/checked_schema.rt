@@ -1,7 +1,7 @@
 //! Schemas of which every rule holds.
 
 ghost use Rattle.std.specs.Prelude.{◌≡◌, Some, OnOk, IfOk, IfErr, string_bytes};
-ghost use Rattle.graphql_thin.specs.in_ast.DefinitionTree.{document_tree};
+ghost use Rattle.graphql_definitions.specs.DefinitionTree.{document_tree};
 ghost use Rattle.graphql_checked.specs.Added.{IsDocumentNumber};
 ghost use Rattle.graphql_checked.specs.Accepted.{IsReadBehind, IsUnreadBehind, TellsOnly};
 ghost use Rattle.graphql_checked.specs.Answer.{WritesSchema};
@@ -13,7 +13,8 @@ ghost use Rattle.graphql_checked.specs.declared.refusal.Refusal.TheVariants.{Mem
 use crate::checked_document::CheckedDocument;
 use crate::layout::{Layout, written};
 use crate::refusal::Refusal;
-use graphql_thin::graphql_ast::{Document, FileId, SourceSpan};
+use graphql_definitions::Document;
+use graphql_names::{FileId, SourceSpan};
 use graphql_thin::{
     Details, DiagnosticList, Schema, Unread, check_document, document_outside, read,
 };
@@ -35,7 +36,7 @@ pub struct CheckedSchema {
 
 impl Model for CheckedSchema {
     ghost use Rattle.std.specs.Prelude.{map, string_bytes};
-    ghost use Rattle.graphql_thin.specs.in_ast.DefinitionTree.{document_tree};
+    ghost use Rattle.graphql_definitions.specs.DefinitionTree.{document_tree};
     ghost use Rattle.graphql_checked.specs.CheckerValue.{CheckedSchemaValue};
     ghost use Rattle.graphql_checked.specs.Accepted.{IsAcceptedSchema};
 

@@ -1,10 +1,11 @@
 //! The texts of accepted definitions.
 
 ghost use Rattle.std.specs.Prelude.{◌≡◌, IfOk, string_bytes};
-ghost use Rattle.graphql_thin.specs.in_ast.DefinitionTree.{document_tree};
+ghost use Rattle.graphql_definitions.specs.DefinitionTree.{document_tree};
 ghost use Rattle.graphql_checked.specs.Layouts.{layout_text};
 
-use graphql_thin::graphql_ast::{Document, Tree};
+use graphql_definitions::Document;
+use graphql_printing::Tree;
 use std::alloc::{AllocError, Global};
 
 /// How a text is laid out.

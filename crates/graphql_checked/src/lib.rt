@@ -34,6 +34,3 @@ pub use run_fault::{Outcome, RunFault};
 pub use run_texts::run;
 pub use status::exit_status;
 pub use verdict::{CheckError, Verdict, check_texts};
-
-// The crates beneath, for those above.
-pub use graphql_thin::{graphql_ast, graphql_read};

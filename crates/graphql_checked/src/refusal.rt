@@ -1,7 +1,7 @@
 //! Why texts are not accepted.
 
+use graphql_names::FileId;
 use graphql_thin::DiagnosticList;
-use graphql_thin::graphql_ast::FileId;
 use std::alloc::AllocError;
 
 /// Why texts are not accepted.

@@ -1,6 +1,6 @@
 //! How a run ends.
 
-use graphql_thin::graphql_ast::FileId;
+use graphql_names::FileId;
 use std::alloc::{AllocError, AllocFailed};
 use thiserror::Error;
 

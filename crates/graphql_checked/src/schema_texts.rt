@@ -1,7 +1,7 @@
 //! The schema texts that a checker was given, and what reading them gave.
 
 ghost use Rattle.std.specs.Prelude.{◌≡◌, ◌++◌, ◌∷◌, [], ℕ, List, OnOk, OnErr, IfOk, IfErr};
-ghost use Rattle.graphql_thin.specs.in_ast.DefinitionTree.{document_tree};
+ghost use Rattle.graphql_definitions.specs.DefinitionTree.{document_tree};
 ghost use Rattle.graphql_thin.specs.ReadText.{ReadsText, PassesNesting};
 ghost use Rattle.graphql_thin.specs.FaultView.{faults_of};
 ghost use Rattle.graphql_checked.specs.Added.{IsToldBehind, IsNextNumber, IsDocumentNumber};
@@ -10,8 +10,8 @@ ghost use Rattle.graphql_checked.specs.TextsView.{texts_of, IsReadingOf, IsBefor
 
 use crate::checked_schema::CheckedSchema;
 use crate::refusal::Refusal;
-use graphql_names::{Files, Spent};
-use graphql_thin::graphql_ast::{Document, FileId};
+use graphql_definitions::Document;
+use graphql_names::{FileId, Files, Spent};
 use graphql_thin::{Details, DiagnosticList, Unread, build, read, schema_outside};
 use std::alloc::{AllocError, Global};
 

@@ -10,8 +10,8 @@ ghost use Rattle.graphql_checked.specs.declared.verdict.CheckError.TheVariants.{
 use crate::checked_schema::CheckedSchema;
 use crate::checker::{Checker, Limits};
 use crate::refusal::Refusal;
+use graphql_names::FileId;
 use graphql_thin::DiagnosticList;
-use graphql_thin::graphql_ast::FileId;
 use std::alloc::Global;
 use std::convert::AsStr;
 

@@ -1,8 +1,8 @@
 -- What contracts see of the answers to look-ups.
 use Rattle.std.specs.Prelude.{Result, Ok, Err}
-use Rattle.graphql_values.specs.Placed.{Place, node_tree}
-use Rattle.graphql_values.specs.DirectiveTree.{input_value_tree, directive_definition_tree}
-use Rattle.graphql_schema.specs.in_ast.TypeSystemTree.{field_definition_tree, enum_value_tree}
+use Rattle.graphql_names.specs.Placed.{Place, node_tree}
+use Rattle.graphql_directives.specs.DirectiveTree.{input_value_tree, directive_definition_tree}
+use Rattle.graphql_type_members.specs.TypeSystemTree.{field_definition_tree, enum_value_tree}
 use Rattle.graphql_components.specs.Given.{component_tree}
 use Rattle.graphql_schema.specs.in_schema_types.SchemaTree.{SchemaTree}
 use Rattle.graphql_schema.specs.in_schema_types.TypeView.{extended_type}

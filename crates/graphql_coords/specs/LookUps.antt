@@ -1,10 +1,10 @@
 -- What a coordinate names in a schema, or why it names nothing.
 use Rattle.std.specs.Prelude.{ℕ, ◌||◌, List, Result, Ok, Err, ok_or, find, if◌then◌else◌}
-use Rattle.graphql_values.specs.Placed.{Placed, Place}
-use Rattle.graphql_values.specs.DirectiveTree.{InputValueTree, DirectiveDefinitionTree}
+use Rattle.graphql_names.specs.Placed.{Placed, Place}
+use Rattle.graphql_directives.specs.DirectiveTree.{InputValueTree, DirectiveDefinitionTree}
 use Rattle.graphql_directives.specs.DirectiveQueries.{input_value_has_name}
-use Rattle.graphql_schema.specs.in_ast.TypeSystemTree.{FieldDefinitionTree, EnumValueTree}
-use Rattle.graphql_schema.specs.in_ast.ArgumentQueries.{argument_named}
+use Rattle.graphql_type_members.specs.TypeSystemTree.{FieldDefinitionTree, EnumValueTree}
+use Rattle.graphql_type_members.specs.ArgumentQueries.{argument_named}
 use Rattle.graphql_components.specs.Given.{Given}
 use Rattle.graphql_schema.specs.in_schema_types.SchemaTree.{SchemaType, SchemaTree, same_kind}
 use Rattle.graphql_schema.specs.in_schema_types.Addresses.{under, type_at}

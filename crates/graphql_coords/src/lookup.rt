@@ -1,8 +1,8 @@
 //! What coordinates name in a schema.
 ghost use Rattle.std.specs.Prelude.{◌≡◌};
-ghost use Rattle.graphql_values.specs.Placed.{node_tree};
-ghost use Rattle.graphql_values.specs.DirectiveTree.{input_value_tree, directive_definition_tree};
-ghost use Rattle.graphql_schema.specs.in_ast.TypeSystemTree.{field_definition_tree, enum_value_tree};
+ghost use Rattle.graphql_names.specs.Placed.{node_tree};
+ghost use Rattle.graphql_directives.specs.DirectiveTree.{input_value_tree, directive_definition_tree};
+ghost use Rattle.graphql_type_members.specs.TypeSystemTree.{field_definition_tree, enum_value_tree};
 ghost use Rattle.graphql_components.specs.Given.{component_tree};
 ghost use Rattle.graphql_schema.specs.in_schema_types.TypeView.{extended_type};
 ghost use Rattle.graphql_schema.specs.SchemaOf.{schema_tree};
@@ -19,10 +19,10 @@ use crate::find::{
     input_field_in,
 };
 use crate::lookup_answers::{SchemaCoordinateLookup, SchemaLookupError, TypeAttributeLookup};
-use graphql_schema::graphql_ast::{
-    DirectiveDefinition, EnumValueDefinition, FieldDefinition, InputValueDefinition, Node,
-};
+use graphql_directives::{DirectiveDefinition, InputValueDefinition};
+use graphql_names::Node;
 use graphql_schema::{Component, ExtendedType, Schema};
+use graphql_type_members::{EnumValueDefinition, FieldDefinition};
 
 impl TypeCoordinate {
     /// The type.

@@ -4,10 +4,10 @@ ghost use Rattle.graphql_coords.specs.LookUps.{NamedAttribute};
 ghost use Rattle.graphql_coords.specs.LookUpView.{attribute_of, named_of};
 
 use graphql_components::Component;
-use graphql_schema::graphql_ast::{
-    DirectiveDefinition, EnumValueDefinition, FieldDefinition, InputValueDefinition, Name, Node,
-};
-use graphql_schema::graphql_schema_types::ExtendedType;
+use graphql_directives::{DirectiveDefinition, InputValueDefinition};
+use graphql_names::{Name, Node};
+use graphql_schema_types::ExtendedType;
+use graphql_type_members::{EnumValueDefinition, FieldDefinition};
 
 /// Why a coordinate names nothing in a schema: the name that was not found or does not fit, or the type.
 #[derive(Clone, Copy)]

@@ -10,9 +10,10 @@ ghost use Rattle.graphql_cycle_rules.specs.UseNumbers.{uses_at};
 ghost use Rattle.graphql_cycle_rules.specs.DirectiveFaults.{use_trace, TellsDirective, TellsDeepDirective};
 
 use crate::uses::{first_use, use_references};
+use graphql_directives::{Directive, DirectiveDefinition};
 use graphql_fault_data::{DiagnosticData, Fault};
+use graphql_names::{Node, SourceSpan, recompose};
 use graphql_schema::Schema;
-use graphql_schema::graphql_ast::{Directive, DirectiveDefinition, Node, SourceSpan, recompose};
 use std::alloc::{AllocError, Global};
 
 /// From the first token of a directive's definition to its name.

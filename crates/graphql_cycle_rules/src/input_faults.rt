@@ -8,9 +8,10 @@ ghost use Rattle.graphql_cycle_rules.specs.Labels.{label};
 ghost use Rattle.graphql_cycle_rules.specs.FaultLists.{input_fields_at, input_trace, recursive_input_object_definition, deeply_nested_input_object};
 
 use crate::inputs::{first_field, input_references};
+use graphql_directives::InputValueDefinition;
 use graphql_fault_data::{DiagnosticData, Fault};
+use graphql_names::Node;
 use graphql_schema::Schema;
-use graphql_schema::graphql_ast::{InputValueDefinition, Node};
 use std::alloc::{AllocError, Global};
 
 /// Adds the field by which an input object refers to another, if it does.

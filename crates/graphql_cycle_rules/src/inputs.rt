@@ -11,7 +11,9 @@ ghost use Rattle.graphql_cycle_rules.specs.Numbers.{required_input, field_refere
 ghost use Rattle.graphql_cycle_rules.specs.ReferenceViews.{field_tree, input_reference_view};
 
 use crate::numbers::input_object_number;
-use graphql_schema::graphql_ast::{InputValueDefinition, Name, Node, Type};
+use graphql_directives::InputValueDefinition;
+use graphql_literals::Type;
+use graphql_names::{Name, Node};
 use graphql_schema::{Component, ExtendedType, Schema};
 use indexmap::IndexMap;
 use std::alloc::{AllocError, Global};

@@ -14,10 +14,11 @@ ghost use Rattle.graphql_cycle_rules.specs.UseNumbers.{use_references, uses_refe
 ghost use Rattle.graphql_cycle_rules.specs.UseViews.{use_view, value_uses, field_uses};
 
 use crate::numbers::type_node;
-use graphql_schema::graphql_ast::{
-    Directive, DirectiveList, EnumValueDefinition, InputValueDefinition, Name, Node, Type,
-};
+use graphql_directives::{Directive, DirectiveList, InputValueDefinition};
+use graphql_literals::Type;
+use graphql_names::{Name, Node};
 use graphql_schema::{Component, ExtendedType, Schema};
+use graphql_type_members::EnumValueDefinition;
 use indexmap::IndexMap;
 use std::alloc::{AllocError, Global};
 

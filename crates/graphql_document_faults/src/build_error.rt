@@ -1,7 +1,9 @@
 //! What breaks a rule of typing, of merging, of subscriptions or of `@defer`.
 
-use graphql_ast::{Name, OperationType, SourceSpan, Type, Value};
 use graphql_coords::{FieldArgumentCoordinate, TypeAttributeCoordinate};
+use graphql_literals::{Type, Value};
+use graphql_names::{Name, SourceSpan};
+use graphql_operations::OperationType;
 
 /// What breaks a rule of typing documents, of merging, of subscriptions or of `@defer`, with the data that belong to it
 /// (section 5). Fields that end in `location` are places, None where there is none.

@@ -5,7 +5,8 @@ ghost use Rattle.graphql_document_faults.specs.DocumentWords.{worded};
 ghost use Rattle.graphql_document_faults.specs.DocumentMessages.{document_message};
 
 use crate::build_error::BuildError;
-use graphql_ast::{Name, OperationType};
+use graphql_names::Name;
+use graphql_operations::OperationType;
 use std::fmt;
 
 /// A text with some gaps, and what fills them.

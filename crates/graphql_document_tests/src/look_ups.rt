@@ -2,11 +2,11 @@
 
 use crate::hold::hold;
 use crate::typed::{built, typed};
-use graphql_ast::FileId;
 use graphql_documents::{
     ExecutableDocument, Field, FieldExt, FragmentSpreadExt, Selection, SelectionSet,
     SelectionSetExt,
 };
+use graphql_names::FileId;
 use graphql_read::parse_document;
 use graphql_schema::{Schema, SchemaBuilder};
 use std::alloc::{AllocError, Global};

@@ -1,7 +1,8 @@
 //! Documents that are built of texts.
 
-use graphql_ast::{Document, FileId};
+use graphql_definitions::Document;
 use graphql_documents::{ExecutableDocument, ExecutableDocumentExt};
+use graphql_names::FileId;
 use graphql_read::parse_document;
 use graphql_schema::Schema;
 use std::alloc::Global;

@@ -11,7 +11,8 @@ ghost use Rattle.graphql_typing.specs.TypingFaults.{SetFails};
 ghost use Rattle.graphql_typing.specs.FullList.{TellsSet};
 ghost use Rattle.graphql_typing.specs.FaultView.{faults_of};
 
-use graphql_ast::{Name, Selection, SourceSpan};
+use graphql_names::{Name, SourceSpan};
+use graphql_operations::Selection;
 use graphql_schema::Schema;
 use graphql_typed_operations::FieldSet;
 use graphql_typing::{BuildError, field_set_from_ast};

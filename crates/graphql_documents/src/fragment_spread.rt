@@ -5,7 +5,7 @@ ghost use Rattle.graphql_names.specs.Placed.{node_tree};
 ghost use Rattle.graphql_schema_types.specs.Addresses.{under};
 ghost use Rattle.graphql_typed_operations.specs.TypedDocument.{typed_fragment_tree, typed_document_tree};
 
-use graphql_ast::Node;
+use graphql_names::Node;
 use graphql_typed_operations::{ExecutableDocument, Fragment};
 use graphql_typed_selections::FragmentSpread;
 

@@ -1,13 +1,14 @@
 //! What follows of building and writing together.
 ghost use Rattle.std.specs.Prelude.{◌≡◌, ◌↔◌, [], IfOk, Contains};
-ghost use Rattle.graphql_schema_types.specs.in_ast.DefinitionTree.{document_tree};
+ghost use Rattle.graphql_definitions.specs.DefinitionTree.{document_tree};
 ghost use Rattle.graphql_typing.specs.KeptDocument.{kept_document};
 ghost use Rattle.graphql_typing.specs.TypingFaults.{TypingFails};
 ghost use Rattle.graphql_typing.specs.OutDoc.{out_doc, written_document};
 ghost use Rattle.graphql_typing.specs.FaultView.{faults_of};
 ghost use Rattle.graphql_typing.specs.BuilderView.{builder_value};
 
-use graphql_ast::{Document, SourceSpan};
+use graphql_definitions::Document;
+use graphql_names::SourceSpan;
 use graphql_typing::{BuildError, BuilderRefusal, ExecutableDocumentBuilder};
 use std::alloc::Global;
 

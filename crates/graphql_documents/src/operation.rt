@@ -6,7 +6,7 @@ ghost use Rattle.graphql_walks.specs.Lending.{all_fields_is_over, all_fields_lef
 ghost use Rattle.graphql_documents.specs.Introspection.{is_meta_name, are_meta_fields, SaysIntrospection};
 
 use crate::walks;
-use graphql_ast::Name;
+use graphql_names::Name;
 use graphql_typed_operations::{ExecutableDocument, Operation};
 use graphql_walks::{AllFields, RootFields};
 use std::alloc::{AllocError, Global};

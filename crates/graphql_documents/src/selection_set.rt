@@ -13,7 +13,7 @@ ghost use Rattle.graphql_documents.specs.NewFields.{bare_field, IsNewFieldError}
 
 use crate::new_field_error::NewFieldError;
 use crate::walks;
-use graphql_ast::Name;
+use graphql_names::Name;
 use graphql_schema::Schema;
 use graphql_typed_operations::ExecutableDocument;
 use graphql_typed_selections::{Field, SelectionSet};

@@ -1,10 +1,10 @@
 //! What breaks a rule, with the data that its message tells and the places that belong to it.
 
-use graphql_ast::{
-    Directive, DirectiveLocation, InputValueDefinition, Name, Node, OperationType, SourceSpan,
-    Type, Value,
-};
 use graphql_coords::{SchemaCoordinate, TypeAttributeCoordinate};
+use graphql_directives::{Directive, DirectiveLocation, InputValueDefinition};
+use graphql_literals::{Type, Value};
+use graphql_names::{Name, Node, SourceSpan};
+use graphql_operations::OperationType;
 use graphql_typed_selections::FragmentSpread;
 
 /// What breaks a rule of schemas, of uses of directives and arguments, of values, or of documents (sections 3 and 5).

@@ -2,8 +2,10 @@
 ghost use Rattle.std.specs.Prelude.{Some};
 ghost use Rattle.graphql_fault_data.specs.FilledTemplate.{filled, gap_text};
 
-use graphql_ast::{DirectiveLocation, Name, Node, Type, Value};
 use graphql_coords::{SchemaCoordinate, TypeAttributeCoordinate};
+use graphql_directives::DirectiveLocation;
+use graphql_literals::{Type, Value};
+use graphql_names::{Name, Node};
 use std::fmt;
 
 /// What fills a gap of a text.

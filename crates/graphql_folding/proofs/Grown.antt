@@ -3,7 +3,7 @@ use Rattle.std.proofs.Common.{◌≡◌, ℕ, Bool, true, false, List, [], ◌�
 use Rattle.std.proofs.lemmas.List.{map-append}
 use Rattle.indexmap.specs.IndexMap.{IndexMap}
 use Rattle.graphql_names.specs.NameValue.{NameValue}
-use Rattle.graphql_values.specs.Placed.{Placed, Place}
+use Rattle.graphql_names.specs.Placed.{Placed, Place}
 use Rattle.graphql_components.specs.Lists.{each_place_after, firsts, repeats, has_name, is_among}
 use Rattle.graphql_components.specs.Names.{entries_of}
 use Rattle.graphql_components.specs.Given.{Given, component_tree}

@@ -64,23 +64,20 @@ module _ {X : Type 0} (key : X → List ℕ) (note : X → Fault) where
       ∙ append_assoc start (map note (repeats key xs)) (told_behind key note xs x)
       ∙ ap (λ l. start ++ l) (sym (ap (map note) (each_place-push (λ before y. if has_name key (key y) before then y ∷ [] else []) xs x) ∙ map-append note (repeats key xs) (if has_name key (key x) xs then x ∷ [] else [])))
 
-  module _ {V : Type 0} (view : V → X) (vs : List V) (v : V) where
-    front : map view (vs ++ v ∷ []) ≡ map view vs ++ view v ∷ []
-    front = map-append view vs (v ∷ [])
+  module _ (xs : List X) (x : X) (xs' : List X) (front : xs' ≡ xs ++ x ∷ []) where
+    pub kept_on : (kept kept' : Entries X) (faults faults' : List Fault) → kept ≡ keyed_firsts key xs → KeepsOn key note x kept faults kept' faults' → kept' ≡ keyed_firsts key xs'
+    kept_on kept kept' faults faults' is step = (step xs is).0 ∙ ap (keyed_firsts key) (sym front)
 
-    pub kept_on : (kept kept' : Entries X) (faults faults' : List Fault) → kept ≡ keyed_firsts key (map view vs) → KeepsOn key note (view v) kept faults kept' faults' → kept' ≡ keyed_firsts key (map view (vs ++ v ∷ []))
-    kept_on kept kept' faults faults' is step = (step (map view vs) is).0 ∙ ap (keyed_firsts key) (sym front)
+    pub told_on : (kept kept' : Entries X) (start faults faults' : List Fault) → kept ≡ keyed_firsts key xs → faults ≡ start ++ map note (repeats key xs) → KeepsOn key note x kept faults kept' faults'
+        → faults' ≡ start ++ map note (repeats key xs')
+    told_on kept kept' start faults faults' is was step = told_more xs x start faults faults' was (step xs is).1 ∙ ap (λ l. start ++ map note (repeats key l)) (sym front)
 
-    pub told_on : (kept kept' : Entries X) (start faults faults' : List Fault) → kept ≡ keyed_firsts key (map view vs) → faults ≡ start ++ map note (repeats key (map view vs)) → KeepsOn key note (view v) kept faults kept' faults'
-        → faults' ≡ start ++ map note (repeats key (map view (vs ++ v ∷ [])))
-    told_on kept kept' start faults faults' is was step = told_more (map view vs) (view v) start faults faults' was (step (map view vs) is).1 ∙ ap (λ l. start ++ map note (repeats key l)) (sym front)
+    pub names_on : (kept kept' : List X) (faults faults' : List Fault) → kept ≡ firsts key xs → KeepsNames key note x kept faults kept' faults' → kept' ≡ firsts key xs'
+    names_on kept kept' faults faults' is step = (step xs is).0 ∙ ap (firsts key) (sym front)
 
-    pub names_on : (kept kept' : List X) (faults faults' : List Fault) → kept ≡ firsts key (map view vs) → KeepsNames key note (view v) kept faults kept' faults' → kept' ≡ firsts key (map view (vs ++ v ∷ []))
-    names_on kept kept' faults faults' is step = (step (map view vs) is).0 ∙ ap (firsts key) (sym front)
-
-    pub names_told_on : (kept kept' : List X) (start faults faults' : List Fault) → kept ≡ firsts key (map view vs) → faults ≡ start ++ map note (repeats key (map view vs)) → KeepsNames key note (view v) kept faults kept' faults'
-        → faults' ≡ start ++ map note (repeats key (map view (vs ++ v ∷ [])))
-    names_told_on kept kept' start faults faults' is was step = told_more (map view vs) (view v) start faults faults' was (step (map view vs) is).1 ∙ ap (λ l. start ++ map note (repeats key l)) (sym front)
+    pub names_told_on : (kept kept' : List X) (start faults faults' : List Fault) → kept ≡ firsts key xs → faults ≡ start ++ map note (repeats key xs) → KeepsNames key note x kept faults kept' faults'
+        → faults' ≡ start ++ map note (repeats key xs')
+    names_told_on kept kept' start faults faults' is was step = told_more xs x start faults faults' was (step xs is).1 ∙ ap (λ l. start ++ map note (repeats key l)) (sym front)
 
 -- five lists behind a first one
 pub behind : {F : Type 0} (a b c d e f p q r s t : List F) → b ≡ a ++ p → c ≡ b ++ q → d ≡ c ++ r → e ≡ d ++ s → f ≡ e ++ t → f ≡ a ++ (p ++ (q ++ (r ++ (s ++ t))))

@@ -7,9 +7,9 @@ use Rattle.std.specs.Str.{bytes_eq}
 use Rattle.std.proofs.lemmas.List.{append-nil}
 use Rattle.std.proofs.lemmas.Grind.{flat_map-append}
 use Rattle.std.proofs.lemmas.Option.{same_Some}
-use Rattle.graphql_values.specs.Placed.{Place}
-use Rattle.graphql_schema_types.specs.in_ast.DefinitionTree as tree
-use Rattle.graphql_schema_types.specs.in_ast.DefinitionTree.{DefinitionTree}
+use Rattle.graphql_names.specs.Placed.{Place}
+use Rattle.graphql_definitions.specs.DefinitionTree as tree
+use Rattle.graphql_definitions.specs.DefinitionTree.{DefinitionTree}
 use Rattle.graphql_components.specs.Lists.{firsts}
 use Rattle.graphql_components.specs.Given.{ExtensionTree, given_name}
 use Rattle.graphql_schema_types.specs.SchemaTree.{same_kind}

@@ -2,8 +2,8 @@
 use Rattle.std.specs.Prelude.{ℕ, Bool, false, not, ◌&&◌, List, [], ◌∷◌, ◌++◌, map, None, if◌then◌else◌, is_none, is_some, option_to_list}
 use Rattle.std.specs.List.{flat_map, filter, list_any}
 use Rattle.std.specs.Option.{option_map_or}
-use Rattle.graphql_values.specs.Placed.{Place}
-use Rattle.graphql_schema_types.specs.in_ast.DefinitionTree.{DefinitionTree, Schema}
+use Rattle.graphql_names.specs.Placed.{Place}
+use Rattle.graphql_definitions.specs.DefinitionTree.{DefinitionTree, Schema}
 use Rattle.graphql_components.specs.Lists.{firsts}
 use Rattle.graphql_schema_types.specs.TypeParts.{TypeParts, type_here, type_extension_here, bare, definition_by}
 use Rattle.graphql_folding.specs.Listed.{Definitions, type_name, type_named}

@@ -1,11 +1,11 @@
 -- The folding rules, each by what breaks it: a fault with its place and its data (GraphQL, October 2021, section 3).
 use Rattle.std.specs.Prelude.{◌≡◌, ℕ, Bool, true, false, List, ◌++◌, None, Some, is_some, Contains}
 use Rattle.std.specs.Option.{option_map_or}
-use Rattle.graphql_values.specs.Placed.{Placed, Place}
+use Rattle.graphql_names.specs.Placed.{Placed, Place}
 use Rattle.graphql_operations.specs.declared.operation.OperationType.{OperationType}
-use Rattle.graphql_values.specs.DirectiveTree.{DirectiveDefinitionTree}
-use Rattle.graphql_schema_types.specs.in_ast.DefinitionTree.{DefinitionTree}
-use Rattle.graphql_schema_types.specs.in_ast.Queries.{is_executable, definition_place}
+use Rattle.graphql_directives.specs.DirectiveTree.{DirectiveDefinitionTree}
+use Rattle.graphql_definitions.specs.DefinitionTree.{DefinitionTree}
+use Rattle.graphql_definitions.specs.Queries.{is_executable, definition_place}
 use Rattle.graphql_components.specs.Lists.{AtSomePlace, IsRepeated, firsts, has_name}
 use Rattle.graphql_components.specs.Given.{Given, given_name}
 use Rattle.graphql_schema_types.specs.SchemaTree.{same_kind}

@@ -3,14 +3,14 @@
 use Rattle.std.specs.Prelude.{ℕ, false, List, [], ◌∷◌, ◌++◌, map, codes, Option, None, Some}
 use Rattle.std.specs.Option.{option_map}
 use Rattle.std.proofs.Common.{lit<}
-use Rattle.graphql_values.specs.Placed.{Placed, Place, Text}
-use Rattle.graphql_values.specs.TypeTree.{TypeTree, NamedTree, NonNullNamedTree, ListTree, NonNullListTree}
-use Rattle.graphql_values.specs.ValueTree.{ValueTree, StringTree, BooleanTree}
-use Rattle.graphql_values.specs.DirectiveTree.{InputValueTree}
+use Rattle.graphql_names.specs.Placed.{Placed, Place, Text}
+use Rattle.graphql_literals.specs.TypeTree.{TypeTree, NamedTree, NonNullNamedTree, ListTree, NonNullListTree}
+use Rattle.graphql_literals.specs.ValueTree.{ValueTree, StringTree, BooleanTree}
+use Rattle.graphql_directives.specs.DirectiveTree.{InputValueTree}
 use Rattle.graphql_directives.specs.declared.directive_location.DirectiveLocation.{DirectiveLocation}
 use Rattle.graphql_directives.specs.declared.directive_location.DirectiveLocation.TheVariants as at
-use Rattle.graphql_schema_types.specs.in_ast.TypeSystemTree.{FieldDefinitionTree, EnumValueTree}
-use Rattle.graphql_schema_types.specs.in_ast.DefinitionTree.{DefinitionTree, DirectiveDefinition, ScalarType, ObjectType, EnumType}
+use Rattle.graphql_type_members.specs.TypeSystemTree.{FieldDefinitionTree, EnumValueTree}
+use Rattle.graphql_definitions.specs.DefinitionTree.{DefinitionTree, DirectiveDefinition, ScalarType, ObjectType, EnumType}
 
 -- the place of what is built in: file 0, offset 0, length 0
 abbrev pub built_in : Place
@@ -168,6 +168,6 @@ directive_location_enum = enum (codes "__DirectiveLocation") (
 abbrev pub introspection_types : List (DefinitionTree Place)
 introspection_types = schema_object ∷ type_object ∷ type_kind_enum ∷ field_object ∷ input_value_object ∷ enum_value_object ∷ directive_object ∷ directive_location_enum ∷ []
 
--- ---- all of it
-pub built_in_definitions : List (DefinitionTree Place)
+-- ---- all of it, in the order in which a schema has them
+unfoldable pub built_in_definitions : List (DefinitionTree Place)
 built_in_definitions = built_in_directives ++ (built_in_scalars ++ introspection_types)

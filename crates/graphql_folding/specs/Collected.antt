@@ -1,9 +1,9 @@
 -- All components of a type, class by class, repeated ones too (private: it leads to `specs/Fold.antt`).
 use Rattle.std.specs.Prelude.{◌≡◌, List, ◌++◌, map}
 use Rattle.std.specs.List.{flat_map}
-use Rattle.graphql_values.specs.Placed.{Placed, Place, Text}
-use Rattle.graphql_values.specs.DirectiveTree.{DirectiveTree, InputValueTree, directive_tree, input_value_tree}
-use Rattle.graphql_schema_types.specs.in_ast.TypeSystemTree.{FieldDefinitionTree, EnumValueTree, field_definition_tree, enum_value_tree}
+use Rattle.graphql_names.specs.Placed.{Placed, Place, Text}
+use Rattle.graphql_directives.specs.DirectiveTree.{DirectiveTree, InputValueTree, directive_tree, input_value_tree}
+use Rattle.graphql_type_members.specs.TypeSystemTree.{FieldDefinitionTree, EnumValueTree, field_definition_tree, enum_value_tree}
 use Rattle.graphql_components.specs.Given.{Given, component_tree, component_name_tree}
 use Rattle.graphql_schema_types.specs.TypeParts.{TypeParts}
 use Rattle.graphql_folding.specs.Components.{all_given}

@@ -3,9 +3,9 @@ use Rattle.std.specs.Prelude.{ℕ, Bool, ◌&&◌, List, [], ◌∷◌, map, Opt
 use Rattle.std.specs.List.{flat_map}
 use Rattle.std.specs.Option.{option_map_or}
 use Rattle.std.specs.Str.{bytes_eq}
-use Rattle.graphql_values.specs.Placed.{Placed, Place}
-use Rattle.graphql_values.specs.DirectiveTree.{InputValueTree}
-use Rattle.graphql_schema_types.specs.in_ast.TypeSystemTree.{FieldDefinitionTree, EnumValueTree}
+use Rattle.graphql_names.specs.Placed.{Placed, Place}
+use Rattle.graphql_directives.specs.DirectiveTree.{InputValueTree}
+use Rattle.graphql_type_members.specs.TypeSystemTree.{FieldDefinitionTree, EnumValueTree}
 use Rattle.graphql_components.specs.Given.{Given, ExtensionTree}
 use Rattle.graphql_components.specs.Lists.{firsts}
 use Rattle.graphql_schema_types.specs.SchemaTree.{same_kind}

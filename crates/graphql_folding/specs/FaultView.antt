@@ -1,7 +1,7 @@
 -- What contracts see of the faults of folding.
 use Rattle.std.specs.Prelude.{ℕ, List, map, Vec}
 use Rattle.std.specs.declared.alloc.Global.{Global}
-use Rattle.graphql_values.specs.Placed.{Place}
+use Rattle.graphql_names.specs.Placed.{Place}
 use Rattle.graphql_folding.specs.BuildErrors as breach
 use Rattle.graphql_folding.specs.BuildErrors.{Breach, Fault}
 use Rattle.graphql_folding.specs.declared.build_error.BuildError.{BuildError}

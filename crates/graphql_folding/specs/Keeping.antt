@@ -1,7 +1,7 @@
 -- What keeping the first component of each name does (private: it leads to `specs/Fold.antt` and `specs/BuildErrors.antt`).
 use Rattle.std.specs.Prelude.{◌≡◌, ℕ, List, [], ◌∷◌, ◌++◌, map, if◌then◌else◌}
 use Rattle.graphql_names.specs.NameValue.{NameValue}
-use Rattle.graphql_values.specs.Placed.{Placed, Place, Text}
+use Rattle.graphql_names.specs.Placed.{Placed, Place, Text}
 use Rattle.graphql_components.specs.Lists.{firsts, has_name}
 use Rattle.graphql_components.specs.Names.{Entries}
 use Rattle.graphql_components.specs.Given.{Given, given_name}

@@ -1,8 +1,8 @@
 -- What is kept of all components of a type, and what is told of them (private: it leads to `specs/Fold.antt` and `specs/BuildErrors.antt`).
-use Rattle.std.specs.Prelude.{ℕ, List, ◌++◌, map}
-use Rattle.graphql_values.specs.Placed.{Placed, Place, Text}
-use Rattle.graphql_values.specs.DirectiveTree.{DirectiveTree, InputValueTree, directive_tree, input_value_tree}
-use Rattle.graphql_schema_types.specs.in_ast.TypeSystemTree.{FieldDefinitionTree, EnumValueTree, field_definition_tree, enum_value_tree}
+use Rattle.std.specs.Prelude.{◌≡◌, ℕ, List, [], ◌++◌, map}
+use Rattle.graphql_names.specs.Placed.{Placed, Place, Text}
+use Rattle.graphql_directives.specs.DirectiveTree.{DirectiveTree, InputValueTree, directive_tree, input_value_tree}
+use Rattle.graphql_type_members.specs.TypeSystemTree.{FieldDefinitionTree, EnumValueTree, field_definition_tree, enum_value_tree}
 use Rattle.graphql_components.specs.Lists.{firsts, repeats}
 use Rattle.graphql_components.specs.Names.{Entries, entries_of}
 use Rattle.graphql_components.specs.Given.{Given, component_tree, component_name_tree, given_name}
@@ -34,6 +34,10 @@ kept k = record {
   values = entries_of name_text (component_tree enum_value_tree) k.values;
   inputs = entries_of name_text (component_tree input_value_tree) k.inputs;
 }
+
+-- nothing is kept of any class that has names
+abbrev pub KeepsNothing : Kept → Type 0
+KeepsNothing k = (k.interfaces.keys ≡ []) × (k.fields.entries ≡ []) × (k.members.keys ≡ []) × (k.values.entries ≡ []) × (k.inputs.entries ≡ [])
 
 -- the first of each name, and all applied directives
 abbrev pub kept_from : AllComponents → KeptComponents

@@ -14,6 +14,4 @@ pub mod Collected
 pub mod ListedView
 pub mod Kept
 pub mod Made
-pub use Rattle.graphql_schema_types.specs.in_ast as in_ast
-pub use Rattle.graphql_schema_types.specs.in_definitions as in_definitions
 pub use Rattle.graphql_schema_types.specs as in_schema_types

@@ -2,10 +2,10 @@
 use Rattle.std.specs.Prelude.{ℕ, ◌+◌, List, [], ◌∷◌, length, Option, None, Some, if◌then◌else◌, option_to_list}
 use Rattle.std.specs.List.{flat_map, filter, find}
 use Rattle.std.specs.Str.{bytes_eq}
-use Rattle.graphql_values.specs.Placed.{Placed, Place}
-use Rattle.graphql_values.specs.DirectiveTree.{DirectiveDefinitionTree}
-use Rattle.graphql_schema_types.specs.in_ast.DefinitionTree.{DefinitionTree, DirectiveDefinition}
-use Rattle.graphql_schema_types.specs.in_ast.Queries.{is_extension, definition_place}
+use Rattle.graphql_names.specs.Placed.{Placed, Place}
+use Rattle.graphql_directives.specs.DirectiveTree.{DirectiveDefinitionTree}
+use Rattle.graphql_definitions.specs.DefinitionTree.{DefinitionTree, DirectiveDefinition}
+use Rattle.graphql_definitions.specs.Queries.{is_extension, definition_place}
 use Rattle.graphql_components.specs.Lists.{each_place}
 use Rattle.graphql_components.specs.Given.{ExtensionTree}
 use Rattle.graphql_schema_types.specs.TypeParts.{TypeDefinition, type_here}

@@ -1,6 +1,6 @@
 -- What contracts see of a definition of the list.
 use Rattle.std.specs.Option.{option_map}
-use Rattle.graphql_schema_types.specs.in_ast.DefinitionTree.{definition_tree}
+use Rattle.graphql_definitions.specs.DefinitionTree.{definition_tree}
 use Rattle.graphql_components.specs.Given.{extension_tree}
 use Rattle.graphql_folding.specs.Listed.{Listed}
 use Rattle.graphql_folding.specs.declared.listed.Listed.{Listed as Rust}

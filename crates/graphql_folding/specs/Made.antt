@@ -1,8 +1,8 @@
 -- A type made of its definition and of what it keeps (private: it leads to `specs/Fold.antt`).
 use Rattle.std.specs.Prelude.{◌≡◌, [], Option, Some}
 use Rattle.std.specs.Option.{option_map}
-use Rattle.graphql_values.specs.Placed.{Place, Text, name_tree, text_tree}
-use Rattle.graphql_schema_types.specs.in_ast.DefinitionTree.{DefinitionTree}
+use Rattle.graphql_names.specs.Placed.{Place, Text, name_tree, text_tree}
+use Rattle.graphql_definitions.specs.DefinitionTree.{DefinitionTree}
 use Rattle.graphql_schema_types.specs.SchemaTree.{SchemaType}
 use Rattle.graphql_schema_types.specs.TypeParts.{TypeDefinition, type_here}
 use Rattle.graphql_schema_types.specs.declared.type_kind.TypeKind.{TypeKind}

@@ -1,8 +1,8 @@
 -- What contracts see of the parts of a type, of what is collected and of what is kept.
 use Rattle.std.specs.Prelude.{List, map}
-use Rattle.graphql_values.specs.Placed.{Placed, Place, name_tree, node_tree}
-use Rattle.graphql_values.specs.DirectiveTree.{directives_tree, input_value_tree}
-use Rattle.graphql_schema_types.specs.in_ast.TypeSystemTree.{field_definition_tree, enum_value_tree}
+use Rattle.graphql_names.specs.Placed.{Placed, Place, name_tree, node_tree}
+use Rattle.graphql_directives.specs.DirectiveTree.{directives_tree, input_value_tree}
+use Rattle.graphql_type_members.specs.TypeSystemTree.{field_definition_tree, enum_value_tree}
 use Rattle.graphql_components.specs.Given.{Given, component_tree}
 use Rattle.graphql_components.specs.declared.component.Component.{Component}
 use Rattle.graphql_schema_types.specs.TypeParts.{TypeParts}

@@ -2,7 +2,8 @@
 ghost use Rattle.std.specs.Prelude.{◌≡◌, ◌++◌, [], ◌∷◌, OnOk};
 ghost use Rattle.graphql_folding.specs.FaultView.{faults_of, breach_of, repeat_breach};
 
-use graphql_schema_types::graphql_ast::{Name, OperationType, SourceSpan};
+use graphql_names::{Name, SourceSpan};
+use graphql_operations::OperationType;
 use std::alloc::AllocError;
 
 /// What breaks a folding rule, with the names that its message tells (section 3).

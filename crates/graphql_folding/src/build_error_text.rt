@@ -5,7 +5,7 @@ ghost use Rattle.graphql_folding.specs.FilledTemplate.{filled};
 ghost use Rattle.graphql_folding.specs.Messages.{message, has_twice};
 
 use crate::build_error::BuildError;
-use graphql_schema_types::graphql_ast::Name;
+use graphql_names::Name;
 use std::fmt;
 
 /// A text with two gaps and what fills them.

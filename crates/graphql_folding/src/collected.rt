@@ -1,6 +1,6 @@
 //! All that a type is given, repeated components too.
 ghost use Rattle.std.specs.Prelude.{◌≡◌, ◌++◌, [], map, IfOk, OnOk};
-ghost use Rattle.graphql_values.specs.Placed.{name_tree, node_tree};
+ghost use Rattle.graphql_names.specs.Placed.{name_tree, node_tree};
 ghost use Rattle.graphql_components.specs.Given.{origin_tree, component_tree, component_name_tree};
 ghost use Rattle.graphql_folding.specs.Components.{all_given};
 ghost use Rattle.graphql_folding.specs.PartsView.{itself, given_contents, parts_view};
@@ -8,9 +8,9 @@ ghost use Rattle.graphql_folding.specs.Collected.{collected, collected_from, col
 
 use crate::parts::Parts;
 use graphql_components::{Component, ComponentName, ComponentOrigin};
-use graphql_schema_types::graphql_ast::{
-    Directive, EnumValueDefinition, FieldDefinition, InputValueDefinition, Name, Node,
-};
+use graphql_directives::{Directive, InputValueDefinition};
+use graphql_names::{Name, Node};
+use graphql_type_members::{EnumValueDefinition, FieldDefinition};
 use std::alloc::{AllocError, Global};
 
 /// The node, shared, from that origin.
@@ -57,19 +57,32 @@ pub(crate) fn add_names(
 }
 
 /// All that a type is given, in order, repeated components too.
-#[derive(Drop)]
-pub struct Collected {
-    pub directives: Vec<Component<Directive>>,
-    pub interfaces: Vec<ComponentName>,
-    pub fields: Vec<Component<FieldDefinition>>,
-    pub members: Vec<ComponentName>,
-    pub values: Vec<Component<EnumValueDefinition>>,
-    pub inputs: Vec<Component<InputValueDefinition>>,
+pub(crate) struct Collected {
+    pub(crate) directives: Vec<Component<Directive>>,
+    pub(crate) interfaces: Vec<ComponentName>,
+    pub(crate) fields: Vec<Component<FieldDefinition>>,
+    pub(crate) members: Vec<ComponentName>,
+    pub(crate) values: Vec<Component<EnumValueDefinition>>,
+    pub(crate) inputs: Vec<Component<InputValueDefinition>>,
+}
+
+/// Lets each class go, here and not wherever what is collected goes.
+impl Drop for Collected {
+    fn drop(self) {
+        let Collected {
+            directives: _,
+            interfaces: _,
+            fields: _,
+            members: _,
+            values: _,
+            inputs: _,
+        } = self;
+    }
 }
 
 impl Collected {
     /// Nothing.
-    pub fn new(alloc: Global) -> Collected
+    pub(crate) fn new(alloc: Global) -> Collected
         ensures { collected result ≡ collected_from [] }
     {
         Collected {
@@ -83,7 +96,11 @@ impl Collected {
     }
 
     /// Adds these parts, from that origin.
-    pub fn add(&mut self, origin: ComponentOrigin, parts: &Parts<'_>) -> Result<(), AllocError>
+    pub(crate) fn add(
+        &mut self,
+        origin: ComponentOrigin,
+        parts: &Parts<'_>,
+    ) -> Result<(), AllocError>
         ensures { OnOk result (collected self.new ≡ collected_and (collected self.old) (record { extension = origin_tree origin; it = parts_view parts.now })) }
     {
         add_components(&mut self.directives, origin, &parts.directives.0)?;

@@ -10,13 +10,14 @@ ghost use Rattle.graphql_folding.specs.Kept.{component_faults};
 ghost use Rattle.graphql_folding.specs.Made.{defined_view, IsDefinition};
 
 use crate::build_error::BuildError;
+use crate::collected::Collected;
 use crate::gather::collect_type;
-use crate::kept_classes::keep_all;
+use crate::kept_classes::Kept;
 use crate::listed::Listed;
 use crate::make::make_type;
 use crate::parts::Defined;
+use graphql_names::SourceSpan;
 use graphql_schema_types::ExtendedType;
-use graphql_schema_types::graphql_ast::SourceSpan;
 use std::alloc::{AllocError, Global};
 
 /// Folds a type: its definition and then each of these that extends it, in order. Tells each component that is not
@@ -31,7 +32,9 @@ pub fn fold_type(
     ensures folded { IfOk result (λ t. extended_type t ≡ folded_type (map listed_view list.now) (defined_view defined.now)) }
     ensures faults { OnOk result (faults_of faults.new ≡ faults_of faults.old ++ component_faults defined.now.parts.kind defined.now.parts.name.now.text (collected_from (parts_of (map listed_view list.now) (defined_view defined.now)))) }
 {
-    let all = collect_type(alloc, &defined.parts, list)?;
-    let kept = keep_all(alloc, defined.parts.kind, defined.parts.name, all, faults)?;
-    make_type(alloc, defined, kept)
+    let mut all = Collected::new(alloc);
+    collect_type(&defined.parts, list, &mut all)?;
+    let mut kept = Kept::new(alloc);
+    kept.keep_all(defined.parts.kind, defined.parts.name, &mut all, faults)?;
+    make_type(alloc, defined, &mut kept)
 }

@@ -1,5 +1,5 @@
 //! What the definition of a type and its extensions give.
-ghost use Rattle.std.specs.Prelude.{◌≡◌, ◌&&◌, ◌++◌, ◌∷◌, map, None, IfOk, OnOk};
+ghost use Rattle.std.specs.Prelude.{◌≡◌, ◌&&◌, ◌++◌, [], ◌∷◌, map, None, OnOk};
 ghost use Rattle.std.specs.List.{flat_map};
 ghost use Rattle.graphql_folding.specs.Components.{go_together, extension_here};
 ghost use Rattle.graphql_folding.specs.PartsView.{parts_view};
@@ -10,29 +10,30 @@ use crate::collected::Collected;
 use crate::listed::Listed;
 use crate::parts::{Parts, extension_parts};
 use graphql_components::ComponentOrigin;
-use std::alloc::{AllocError, Global};
+use std::alloc::AllocError;
 
-/// All components of a type: those of its definition, and then those of each of these that extends it, in order.
-pub fn collect_type(
-    alloc: Global,
+/// Collects all components of a type, where nothing was: those of its definition, and then those of each of these that
+/// extends it, in order.
+pub(crate) fn collect_type(
     defined: &Parts<'_>,
     list: &[Listed],
-) -> Result<Collected, AllocError>
-    ensures { IfOk result (λ all. collected all ≡ collected_from (record { extension = None; it = parts_view defined.now } ∷ flat_map (extension_here (parts_view defined.now)) (map listed_view list.now))) }
+    all: &mut Collected,
+) -> Result<(), AllocError>
+    requires { collected all.old ≡ collected_from [] }
+    ensures { OnOk result (collected all.new ≡ collected_from (record { extension = None; it = parts_view defined.now } ∷ flat_map (extension_here (parts_view defined.now)) (map listed_view list.now))) }
 {
-    let mut all = Collected::new(alloc);
     all.add(ComponentOrigin::Definition, defined)?;
     for listed in list {
-        collect_extension(&mut all, defined, listed)?;
+        collect_extension(defined, listed, all)?;
     }
-    Ok(all)
+    Ok(())
 }
 
 /// Adds what is given here, if it is an extension of that type and of its kind.
 fn collect_extension(
-    all: &mut Collected,
     defined: &Parts<'_>,
     listed: &Listed,
+    all: &mut Collected,
 ) -> Result<(), AllocError>
     ensures { OnOk result (Collects (collected all.old) (extension_here (parts_view defined.now) (listed_view listed.now)) (collected all.new)) }
 {

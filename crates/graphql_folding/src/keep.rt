@@ -14,11 +14,11 @@ ghost use Rattle.graphql_folding.specs.Keeping.{content_key, component_fault, na
 
 use crate::build_error::{BuildError, Repeat, note_repeat};
 use graphql_components::{Component, ComponentName};
-use graphql_schema_types::graphql_ast::{
-    EnumValueDefinition, FieldDefinition, InputValueDefinition, Name, SourceSpan,
-};
+use graphql_directives::InputValueDefinition;
+use graphql_names::{Name, SourceSpan};
+use graphql_type_members::{EnumValueDefinition, FieldDefinition};
 use indexmap::{IndexMap, IndexSet};
-use std::alloc::{AllocError, Global};
+use std::alloc::AllocError;
 
 /// Something that a type has under its name.
 pub trait Keyed {
@@ -54,84 +54,86 @@ impl Keyed for InputValueDefinition {
     }
 }
 
-/// Keeps the first component of each name, and tells the others.
-pub fn keep_components<T: Keyed + Drop>(
-    alloc: Global,
+/// Keeps the first component of each name, shared, and tells the others.
+pub(crate) fn keep_components<T: Keyed + Drop>(
     type_name: &Name,
     repeat: Repeat,
-    all: Vec<Component<T>>,
+    all: &[Component<T>],
+    kept: &mut IndexMap<Name, Component<T>>,
     faults: &mut Vec<(Option<SourceSpan>, BuildError)>,
-) -> Result<IndexMap<Name, Component<T>>, AllocError>
-    ensures kept { IfOk result (λ m. entries_of name_text (component_tree itself) m ≡ keyed_firsts (content_key T.key_of) (given_contents all.items)) }
-    ensures faults { OnOk result (faults_of faults.new ≡ faults_of faults.old ++ map (component_fault T.key_of repeat type_name.now.text) (repeats (content_key T.key_of) (given_contents all.items))) }
+) -> Result<(), AllocError>
+    requires { kept.old.entries ≡ [] }
+    ensures kept { OnOk result (entries_of name_text (component_tree itself) kept.new ≡ keyed_firsts (content_key T.key_of) (given_contents all.now)) }
+    ensures faults { OnOk result (faults_of faults.new ≡ faults_of faults.old ++ map (component_fault T.key_of repeat type_name.now.text) (repeats (content_key T.key_of) (given_contents all.now))) }
 {
-    let mut kept = IndexMap::new(alloc);
     for component in all {
-        keep_or_tell(type_name, repeat, component, &mut kept, faults)?;
+        keep_or_tell(type_name, repeat, component, kept, faults)?;
     }
-    Ok(kept)
+    Ok(())
 }
 
 /// Keeps a component behind those before it, or tells that an earlier one has its name.
 fn keep_or_tell<T: Keyed + Drop>(
     type_name: &Name,
     repeat: Repeat,
-    component: Component<T>,
+    component: &Component<T>,
     kept: &mut IndexMap<Name, Component<T>>,
     faults: &mut Vec<(Option<SourceSpan>, BuildError)>,
 ) -> Result<(), AllocError>
-    ensures { OnOk result (KeepsOn (content_key T.key_of) (component_fault T.key_of repeat type_name.now.text) (component_tree itself component) (entries_of name_text (component_tree itself) kept.old) (faults_of faults.old) (entries_of name_text (component_tree itself) kept.new) (faults_of faults.new)) }
+    ensures { OnOk result (KeepsOn (content_key T.key_of) (component_fault T.key_of repeat type_name.now.text) (component_tree itself component.now) (entries_of name_text (component_tree itself) kept.old) (faults_of faults.old) (entries_of name_text (component_tree itself) kept.new) (faults_of faults.new)) }
 {
     let name = component.node.content().key();
     if kept.contains_key(name) {
         note_repeat(faults, repeat, type_name, name, component.node.location())
     } else {
-        keep_component(kept, component)
+        keep_component(kept, name, component)
     }
 }
 
 /// Keeps a component that no other has the name of.
 fn keep_component<T: Keyed + Drop>(
     kept: &mut IndexMap<Name, Component<T>>,
-    component: Component<T>,
+    name: &Name,
+    component: &Component<T>,
 ) -> Result<(), AllocError>
-    requires { get (same_text name_text) kept.old (T.key_of (content component.node)) ≡ None }
-    ensures { OnOk result (entries_of name_text (component_tree itself) kept.new ≡ entries_of name_text (component_tree itself) kept.old ++ ((T.key_of (content component.node)).text, component_tree itself component) ∷ []) }
+    requires { get (same_text name_text) kept.old name.now ≡ None }
+    ensures { OnOk result (entries_of name_text (component_tree itself) kept.new ≡ entries_of name_text (component_tree itself) kept.old ++ (name.now.text, component_tree itself component.now) ∷ []) }
 {
-    let name = component.node.content().key().clone()?;
+    let component = component.clone()?;
+    let name = name.clone()?;
     kept.insert(name, component)?;
     Ok(())
 }
 
-/// Keeps the first component of each name, and tells the others.
-pub fn keep_names(
-    alloc: Global,
+/// Keeps the first component of each name, shared, and tells the others.
+pub(crate) fn keep_names(
     type_name: &Name,
     repeat: Repeat,
-    all: Vec<ComponentName>,
+    all: &[ComponentName],
+    kept: &mut IndexSet<ComponentName>,
     faults: &mut Vec<(Option<SourceSpan>, BuildError)>,
-) -> Result<IndexSet<ComponentName>, AllocError>
-    ensures kept { IfOk result (λ s. map component_name_tree s.keys ≡ firsts given_name (map component_name_tree all.items)) }
-    ensures faults { OnOk result (faults_of faults.new ≡ faults_of faults.old ++ map (name_fault repeat type_name.now.text) (repeats given_name (map component_name_tree all.items))) }
+) -> Result<(), AllocError>
+    requires { kept.old.keys ≡ [] }
+    ensures kept { OnOk result (map component_name_tree kept.new.keys ≡ firsts given_name (map component_name_tree all.now)) }
+    ensures faults { OnOk result (faults_of faults.new ≡ faults_of faults.old ++ map (name_fault repeat type_name.now.text) (repeats given_name (map component_name_tree all.now))) }
 {
-    let mut kept = IndexSet::new(alloc);
     for component in all {
-        keep_or_tell_name(type_name, repeat, component, &mut kept, faults)?;
+        keep_or_tell_name(type_name, repeat, component, kept, faults)?;
     }
-    Ok(kept)
+    Ok(())
 }
 
 /// Keeps a name behind those before it, or tells that it is among them.
 fn keep_or_tell_name(
     type_name: &Name,
     repeat: Repeat,
-    component: ComponentName,
+    component: &ComponentName,
     kept: &mut IndexSet<ComponentName>,
     faults: &mut Vec<(Option<SourceSpan>, BuildError)>,
 ) -> Result<(), AllocError>
-    ensures { OnOk result (KeepsNames given_name (name_fault repeat type_name.now.text) (component_name_tree component) (map component_name_tree kept.old.keys) (faults_of faults.old) (map component_name_tree kept.new.keys) (faults_of faults.new)) }
+    ensures { OnOk result (KeepsNames given_name (name_fault repeat type_name.now.text) (component_name_tree component.now) (map component_name_tree kept.old.keys) (faults_of faults.old) (map component_name_tree kept.new.keys) (faults_of faults.new)) }
 {
-    if kept.contains(&component) {
+    if kept.contains(component) {
         note_repeat(
             faults,
             repeat,
@@ -140,7 +142,7 @@ fn keep_or_tell_name(
             component.name.location(),
         )
     } else {
-        kept.insert(component)?;
+        kept.insert(component.clone()?)?;
         Ok(())
     }
 }

@@ -18,15 +18,6 @@ mod make;
 mod parts;
 
 pub use build_error::{BuildError, Repeat};
-pub use collected::Collected;
 pub use fold::fold_type;
-pub use gather::collect_type;
-pub use keep::{Keyed, keep_components, keep_names};
-pub use kept_classes::{Kept, keep_all};
 pub use listed::Listed;
-pub use make::make_type;
 pub use parts::{Defined, Parts, extension_parts, type_definition};
-
-// The crates beneath, for those above.
-pub use graphql_schema_types;
-pub use graphql_schema_types::graphql_ast;

@@ -4,13 +4,22 @@ ghost use Rattle.std.specs.Option.{option_map};
 ghost use Rattle.graphql_components.specs.Given.{extension_tree, origin_tree};
 
 use graphql_components::{ComponentOrigin, ExtensionId};
-use graphql_schema_types::graphql_ast::Definition;
+use graphql_definitions::Definition;
 
 /// A definition of the list, and its number if it is an extension.
-#[derive(Drop)]
 pub struct Listed {
     pub definition: Definition,
     pub extension: Option<ExtensionId>,
+}
+
+/// Lets the definition go: proved here once, and not again in each crate above.
+impl Drop for Listed {
+    fn drop(self) {
+        let Listed {
+            definition: _,
+            extension: _,
+        } = self;
+    }
 }
 
 impl Listed {

@@ -1,8 +1,7 @@
 //! A type of any kind, made of what it keeps.
 ghost use Rattle.std.specs.Prelude.{◌≡◌, IfOk};
 ghost use Rattle.std.specs.Option.{option_map};
-ghost use Rattle.graphql_names.specs.Node.{content, place};
-ghost use Rattle.graphql_values.specs.Placed.{Place, name_tree, text_tree};
+ghost use Rattle.graphql_names.specs.Placed.{Place, name_tree, text_tree};
 ghost use Rattle.graphql_schema_types.specs.TypeView.{extended_type, scalar_type, object_type, interface_type, union_type, enum_type, input_object_type};
 ghost use Rattle.graphql_schema_types.specs.declared.type_kind.TypeKind.TheVariants as kind;
 ghost use Rattle.graphql_folding.specs.Kept.{kept};
@@ -11,12 +10,14 @@ ghost use Rattle.graphql_folding.specs.Made.{defined_view, made, headed, IsOfKin
 use crate::kept_classes::Kept;
 use crate::parts::Defined;
 use graphql_components::DirectiveList;
-use graphql_schema_types::graphql_ast::{Name, Node, NodeStr, SourceSpan};
+use graphql_names::{Name, NodeStr};
 use graphql_schema_types::{
     EnumType, ExtendedType, InputObjectType, InterfaceType, ObjectType, ScalarType, TypeKind,
-    UnionType,
+    UnionType, node_at, shared_description,
 };
+use indexmap::{IndexMap, IndexSet};
 use std::alloc::{AllocError, Global};
+use std::mem;
 
 /// The description and the name of a type.
 #[derive(Drop)]
@@ -25,46 +26,46 @@ struct Head {
     name: Name,
 }
 
-/// The type with that definition and these components.
-pub fn make_type(
+/// The type with that definition and these components, which are taken.
+pub(crate) fn make_type(
     alloc: Global,
     defined: &Defined<'_>,
-    components: Kept,
+    components: &mut Kept,
 ) -> Result<ExtendedType, AllocError>
-    requires { IsOfKind defined.now.parts.kind (kept components) }
-    ensures { IfOk result (λ t. extended_type t ≡ made (defined_view defined.now) (kept components)) }
+    requires { IsOfKind defined.now.parts.kind (kept components.old) }
+    ensures { IfOk result (λ t. extended_type t ≡ made (defined_view defined.now) (kept components.old)) }
 {
     let head = copied_head(defined)?;
     match defined.parts.kind {
         TypeKind::Scalar => Ok(ExtendedType::Scalar(node_at(
             alloc,
             defined.location,
-            scalar_of(head, components),
+            scalar_of(alloc, head, components),
         )?)),
         TypeKind::Object => Ok(ExtendedType::Object(node_at(
             alloc,
             defined.location,
-            object_of(head, components),
+            object_of(alloc, head, components),
         )?)),
         TypeKind::Interface => Ok(ExtendedType::Interface(node_at(
             alloc,
             defined.location,
-            interface_of(head, components),
+            interface_of(alloc, head, components),
         )?)),
         TypeKind::Union => Ok(ExtendedType::Union(node_at(
             alloc,
             defined.location,
-            union_of(head, components),
+            union_of(alloc, head, components),
         )?)),
         TypeKind::Enum => Ok(ExtendedType::Enum(node_at(
             alloc,
             defined.location,
-            enum_of(head, components),
+            enum_of(alloc, head, components),
         )?)),
         TypeKind::InputObject => Ok(ExtendedType::InputObject(node_at(
             alloc,
             defined.location,
-            input_object_of(head, components),
+            input_object_of(alloc, head, components),
         )?)),
     }
 }
@@ -80,105 +81,80 @@ fn copied_head(defined: &Defined<'_>) -> Result<Head, AllocError>
 }
 
 /// The content of a scalar type.
-fn scalar_of(head: Head, components: Kept) -> ScalarType
-    requires { IsOfKind kind.Scalar (kept components) }
-    ensures { (place : Place) → scalar_type place result ≡ headed kind.Scalar place head (kept components) }
+fn scalar_of(alloc: Global, head: Head, components: &mut Kept) -> ScalarType
+    requires { IsOfKind kind.Scalar (kept components.old) }
+    ensures { (place : Place) → scalar_type place result ≡ headed kind.Scalar place head (kept components.old) }
 {
     ScalarType {
         description: head.description,
         name: head.name,
-        directives: DirectiveList(components.directives),
+        directives: DirectiveList(mem::replace(&mut components.directives, Vec::new(alloc))),
     }
 }
 
 /// The content of an object type.
-fn object_of(head: Head, components: Kept) -> ObjectType
-    requires { IsOfKind kind.Object (kept components) }
-    ensures { (place : Place) → object_type place result ≡ headed kind.Object place head (kept components) }
+fn object_of(alloc: Global, head: Head, components: &mut Kept) -> ObjectType
+    requires { IsOfKind kind.Object (kept components.old) }
+    ensures { (place : Place) → object_type place result ≡ headed kind.Object place head (kept components.old) }
 {
     ObjectType {
         description: head.description,
         name: head.name,
-        directives: DirectiveList(components.directives),
-        implements_interfaces: components.interfaces,
-        fields: components.fields,
+        directives: DirectiveList(mem::replace(&mut components.directives, Vec::new(alloc))),
+        implements_interfaces: mem::replace(&mut components.interfaces, IndexSet::new(alloc)),
+        fields: mem::replace(&mut components.fields, IndexMap::new(alloc)),
     }
 }
 
 /// The content of an interface type.
-fn interface_of(head: Head, components: Kept) -> InterfaceType
-    requires { IsOfKind kind.Interface (kept components) }
-    ensures { (place : Place) → interface_type place result ≡ headed kind.Interface place head (kept components) }
+fn interface_of(alloc: Global, head: Head, components: &mut Kept) -> InterfaceType
+    requires { IsOfKind kind.Interface (kept components.old) }
+    ensures { (place : Place) → interface_type place result ≡ headed kind.Interface place head (kept components.old) }
 {
     InterfaceType {
         description: head.description,
         name: head.name,
-        directives: DirectiveList(components.directives),
-        implements_interfaces: components.interfaces,
-        fields: components.fields,
+        directives: DirectiveList(mem::replace(&mut components.directives, Vec::new(alloc))),
+        implements_interfaces: mem::replace(&mut components.interfaces, IndexSet::new(alloc)),
+        fields: mem::replace(&mut components.fields, IndexMap::new(alloc)),
     }
 }
 
 /// The content of a union type.
-fn union_of(head: Head, components: Kept) -> UnionType
-    requires { IsOfKind kind.Union (kept components) }
-    ensures { (place : Place) → union_type place result ≡ headed kind.Union place head (kept components) }
+fn union_of(alloc: Global, head: Head, components: &mut Kept) -> UnionType
+    requires { IsOfKind kind.Union (kept components.old) }
+    ensures { (place : Place) → union_type place result ≡ headed kind.Union place head (kept components.old) }
 {
     UnionType {
         description: head.description,
         name: head.name,
-        directives: DirectiveList(components.directives),
-        members: components.members,
+        directives: DirectiveList(mem::replace(&mut components.directives, Vec::new(alloc))),
+        members: mem::replace(&mut components.members, IndexSet::new(alloc)),
     }
 }
 
 /// The content of an enum type.
-fn enum_of(head: Head, components: Kept) -> EnumType
-    requires { IsOfKind kind.Enum (kept components) }
-    ensures { (place : Place) → enum_type place result ≡ headed kind.Enum place head (kept components) }
+fn enum_of(alloc: Global, head: Head, components: &mut Kept) -> EnumType
+    requires { IsOfKind kind.Enum (kept components.old) }
+    ensures { (place : Place) → enum_type place result ≡ headed kind.Enum place head (kept components.old) }
 {
     EnumType {
         description: head.description,
         name: head.name,
-        directives: DirectiveList(components.directives),
-        values: components.values,
+        directives: DirectiveList(mem::replace(&mut components.directives, Vec::new(alloc))),
+        values: mem::replace(&mut components.values, IndexMap::new(alloc)),
     }
 }
 
 /// The content of an input object type.
-fn input_object_of(head: Head, components: Kept) -> InputObjectType
-    requires { IsOfKind kind.InputObject (kept components) }
-    ensures { (place : Place) → input_object_type place result ≡ headed kind.InputObject place head (kept components) }
+fn input_object_of(alloc: Global, head: Head, components: &mut Kept) -> InputObjectType
+    requires { IsOfKind kind.InputObject (kept components.old) }
+    ensures { (place : Place) → input_object_type place result ≡ headed kind.InputObject place head (kept components.old) }
 {
     InputObjectType {
         description: head.description,
         name: head.name,
-        directives: DirectiveList(components.directives),
-        fields: components.inputs,
-    }
-}
-
-/// The same description, with its place. No text is copied.
-fn shared_description(description: Option<&NodeStr>) -> Result<Option<NodeStr>, AllocError>
-    ensures { IfOk result (λ copy. option_map text_tree copy ≡ option_map (λ d. text_tree d.now) description.entry) }
-{
-    match description {
-        None => Ok(None),
-        Some(text) => Ok(Some(text.clone()?)),
-    }
-}
-
-/// A node of the value with that place.
-fn node_at<T: Drop>(
-    alloc: Global,
-    location: Option<SourceSpan>,
-    value: T,
-) -> Result<Node<T>, AllocError>
-    ensures content { IfOk result (λ n. content n ≡ value) }
-    ensures place { IfOk result (λ n. place n ≡ location) }
-{
-    match location {
-        None => Ok(Node::new(alloc, value)?),
-        Some(location) => Ok(Node::new_parsed(alloc, value, location)?),
+        directives: DirectiveList(mem::replace(&mut components.directives, Vec::new(alloc))),
+        fields: mem::replace(&mut components.inputs, IndexMap::new(alloc)),
     }
 }

@@ -1,7 +1,7 @@
 -- A parser reads what a rule derives, where the rest goes on as it may.
 use Rattle.std.proofs.Common.{◌≡◌, ◌<◌, Bool, true, false, cond, List, [], ◌∷◌, Option, Some, None, Ok, Err, refl, sym, ap, subst, ◌∙◌, inl, inr, ◌⊎◌}
 use Rattle.graphql_lexer.specs.declared.terminal.Terminal.{Terminal}
-use Rattle.graphql_values.specs.Placed.{Placed}
+use Rattle.graphql_names.specs.Placed.{Placed}
 use Rattle.graphql_grammar.specs.declared.stop.Stop.TheVariants.{Unexpected}
 use Rattle.graphql_lexer.specs.Input.{Token, Input, next, past}
 use Rattle.graphql_grammar.specs.Meaning.{Meaning, place_between}

@@ -1,6 +1,6 @@
 -- A parser leaves how the text ends as it is.
 use Rattle.std.proofs.Common.{◌≡◌, ℕ, zero, suc, Bool, true, false, cond, List, [], ◌∷◌, length, Some, None, Ok, Err, refl, ◌∙◌}
-use Rattle.graphql_values.specs.Placed.{Placed}
+use Rattle.graphql_names.specs.Placed.{Placed}
 use Rattle.graphql_lexer.specs.declared.terminal.Terminal.{Terminal}
 use Rattle.graphql_lexer.specs.Input.{Token, Input, Ending, next, past}
 use Rattle.graphql_grammar.specs.declared.stop.Stop.TheVariants.{Unexpected}

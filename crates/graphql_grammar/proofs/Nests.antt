@@ -4,7 +4,7 @@ use Rattle.graphql_lexer.specs.declared.terminal.Terminal.{Terminal}
 use Rattle.graphql_grammar.specs.declared.stop.Stop.{Stop}
 use Rattle.graphql_grammar.specs.declared.stop.Stop.TheVariants.{Unexpected, Nesting, Memory}
 use Rattle.graphql_lexer.specs.Input.{Token, Input, next, past}
-use Rattle.graphql_values.specs.Placed.{Placed}
+use Rattle.graphql_names.specs.Placed.{Placed}
 use Rattle.graphql_grammar.specs.Meaning.{Meaning, place_between}
 use Rattle.graphql_grammar.specs.Kinds.{next_is}
 use Rattle.graphql_grammar.specs.Depth.{is_opening, is_closing, count, depth}

@@ -1,8 +1,8 @@
 -- Selections, operations and fragments are read exactly, steadily, and within the limit.
 use Rattle.std.proofs.Common.{◌≡◌, ℕ, zero, suc, ◌≤◌, Bool, true, false, cond, Option, Some, None, Ok, refl, sym, ap, subst, ◌∙◌, inl, inr, arith}
-use Rattle.graphql_values.specs.Placed.{Text}
-use Rattle.graphql_values.specs.DirectiveTree.{Arguments, Directives}
-use Rattle.graphql_values.specs.SelectionTree.{SelectionTree, SelectionTrees}
+use Rattle.graphql_names.specs.Placed.{Text}
+use Rattle.graphql_directives.specs.DirectiveTree.{Arguments, Directives}
+use Rattle.graphql_operations.specs.SelectionTree.{SelectionTree, SelectionTrees}
 use Rattle.graphql_operations.specs.declared.operation.OperationType.TheVariants.{Query, Mutation, Subscription}
 use Rattle.graphql_lexer.specs.Input.{Input, next}
 use Rattle.graphql_grammar.specs.Meaning.{Meaning, name_of, place_between}

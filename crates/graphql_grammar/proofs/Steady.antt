@@ -1,7 +1,7 @@
 -- A parser looks at no token behind the first that it does not take, and a higher limit changes nothing but a `Nesting`.
 use Rattle.std.proofs.Common.{◌≡◌, ℕ, ◌+◌, ◌<◌, ◌≤◌, Bool, true, false, cond, List, [], ◌∷◌, length, Some, None, Ok, Err, refl, sym, ap, ◌∙◌, arith, inl, inr, ◌⊎◌}
 use Rattle.graphql_lexer.specs.declared.terminal.Terminal.{Terminal}
-use Rattle.graphql_values.specs.Placed.{Placed}
+use Rattle.graphql_names.specs.Placed.{Placed}
 use Rattle.graphql_grammar.specs.declared.stop.Stop.{Stop}
 use Rattle.graphql_grammar.specs.declared.stop.Stop.TheVariants.{Unexpected, Nesting, Memory}
 use Rattle.graphql_lexer.specs.Input.{Token, Input, next, next_of, past}

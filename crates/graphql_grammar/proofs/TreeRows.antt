@@ -1,13 +1,13 @@
 -- Rows with whole trees, where a place is where something begins and where it ends.
 use Rattle.std.proofs.Common.{◌≡◌, ℕ, List, [], ◌∷◌, Ok, refl, Some, None, true}
 use Rattle.std.specs.Prelude.{codes}
-use Rattle.graphql_values.specs.Placed.{Placed, Text}
-use Rattle.graphql_values.specs.ValueTree.{IntTree, ListTree, item_then, no_items, VariableTree}
-use Rattle.graphql_values.specs.TypeTree.{NonNullNamedTree}
-use Rattle.graphql_values.specs.SelectionTree.{FieldTree, selection_then, no_selections}
+use Rattle.graphql_names.specs.Placed.{Placed, Text}
+use Rattle.graphql_literals.specs.ValueTree.{IntTree, ListTree, item_then, no_items, VariableTree}
+use Rattle.graphql_literals.specs.TypeTree.{NonNullNamedTree}
+use Rattle.graphql_operations.specs.SelectionTree.{FieldTree, selection_then, no_selections}
 use Rattle.graphql_operations.specs.declared.operation.OperationType.TheVariants.{Query}
 use Rattle.graphql_directives.specs.declared.directive_location.DirectiveLocation.TheVariants as location
-use Rattle.graphql_ast.specs.DefinitionTree.{DefinitionTree, Operation, ScalarType, DirectiveDefinition, ExtendUnion, ObjectType}
+use Rattle.graphql_definitions.specs.DefinitionTree.{DefinitionTree, Operation, ScalarType, DirectiveDefinition, ExtendUnion, ObjectType}
 use Rattle.graphql_lexer.specs.declared.terminal.Terminal.{Terminal}
 use Rattle.graphql_lexer.specs.declared.terminal.Terminal.TheVariants as k
 use Rattle.graphql_lexer.specs.Input.{Token}

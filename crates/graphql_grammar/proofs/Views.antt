@@ -4,9 +4,9 @@ use Rattle.std.specs.Prelude.{map}
 use Rattle.graphql_names.specs.Node.{content, place}
 use Rattle.graphql_names.specs.declared.name.Name.{Name}
 use Rattle.graphql_names.specs.declared.node.Node.{Node}
-use Rattle.graphql_values.specs.Placed.{Placed, Place, Text, name_tree, node_tree}
-use Rattle.graphql_values.specs.ValueTree.{ValueTree, item_then, entry_then, item_trees, entry_trees, value_tree}
-use Rattle.graphql_values.specs.SelectionTree.{selection_then, selection_trees, selection_tree}
+use Rattle.graphql_names.specs.Placed.{Placed, Place, Text, name_tree, node_tree}
+use Rattle.graphql_literals.specs.ValueTree.{ValueTree, item_then, entry_then, item_trees, entry_trees, value_tree}
+use Rattle.graphql_operations.specs.SelectionTree.{selection_then, selection_trees, selection_tree}
 use Rattle.graphql_literals.specs.declared.value.Value.{Value}
 use Rattle.graphql_operations.specs.declared.selection.Selection.{Selection}
 use Rattle.graphql_grammar.specs.ValueGrammar.{items_of, entries_of}

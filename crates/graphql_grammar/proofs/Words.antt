@@ -1,6 +1,6 @@
 -- An enum value and a fragment's name are read as a name, where one is next.
 use Rattle.std.proofs.Common.{◌≡◌, Bool, true, List, [], ◌∷◌, Ok, refl, ap}
-use Rattle.graphql_values.specs.Placed.{Text}
+use Rattle.graphql_names.specs.Placed.{Text}
 use Rattle.graphql_lexer.specs.declared.terminal.Terminal.{Terminal}
 use Rattle.graphql_lexer.specs.Input.{Token, Input, next, next_of}
 use Rattle.graphql_grammar.specs.Meaning.{Meaning, name_of}

@@ -17,5 +17,3 @@ pub mod OperationReading
 pub mod TypeSystemReading
 pub mod DocumentReading
 pub mod Stops
-pub use Rattle.graphql_ast.specs as in_ast
-pub use Rattle.graphql_ast.specs.in_definitions as in_definitions

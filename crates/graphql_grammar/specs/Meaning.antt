@@ -1,6 +1,6 @@
 -- What trees keep of tokens: where they stand, and for which text a string stands.
 use Rattle.std.specs.Prelude.{ℕ, List, [], ◌∷◌}
-use Rattle.graphql_values.specs.Placed.{Text}
+use Rattle.graphql_names.specs.Placed.{Text}
 use Rattle.graphql_lexer.specs.Input.{Token, Input, Ended, end_of}
 
 -- the place from where something begins to where it ends, both counted in bytes, and the text for which a

@@ -1,11 +1,11 @@
 -- The grammar of selections, operations and fragments (GraphQL, October 2021, appendix B): a rule for each symbol.
 use Rattle.std.specs.Prelude.{ℕ, zero, suc, List, [], ◌∷◌, Option, None, unwrap_or}
-use Rattle.graphql_values.specs.Placed.{Placed, Text}
-use Rattle.graphql_values.specs.ValueTree.{ValueTree}
-use Rattle.graphql_values.specs.TypeTree.{TypeTree}
-use Rattle.graphql_values.specs.DirectiveTree.{Arguments, Directives}
-use Rattle.graphql_values.specs.SelectionTree.{SelectionTree, SelectionTrees, FieldTree, SpreadTree, InlineTree, no_selections, selection_then}
-use Rattle.graphql_values.specs.OperationTree.{VariableDefinitionTree, OperationTree, FragmentTree}
+use Rattle.graphql_names.specs.Placed.{Placed, Text}
+use Rattle.graphql_literals.specs.ValueTree.{ValueTree}
+use Rattle.graphql_literals.specs.TypeTree.{TypeTree}
+use Rattle.graphql_directives.specs.DirectiveTree.{Arguments, Directives}
+use Rattle.graphql_operations.specs.SelectionTree.{SelectionTree, SelectionTrees, FieldTree, SpreadTree, InlineTree, no_selections, selection_then}
+use Rattle.graphql_operations.specs.OperationTree.{VariableDefinitionTree, OperationTree, FragmentTree}
 use Rattle.graphql_operations.specs.declared.operation.OperationType.{OperationType}
 use Rattle.graphql_operations.specs.declared.operation.OperationType.TheVariants.{Query, Mutation, Subscription}
 use Rattle.graphql_grammar.specs.Meaning.{Meaning, name_of}

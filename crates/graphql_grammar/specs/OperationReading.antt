@@ -1,10 +1,10 @@
 -- Private layer: how selections, operations and fragments are read. No public clause cites it.
 use Rattle.std.specs.Prelude.{ℕ, zero, suc, List, Option, Some, None, ◌⊎◌}
 use Rattle.std.proofs.Common.{inl, inr}
-use Rattle.graphql_values.specs.Placed.{Placed, Text}
-use Rattle.graphql_values.specs.DirectiveTree.{Directives}
-use Rattle.graphql_values.specs.SelectionTree.{SelectionTree, SelectionTrees}
-use Rattle.graphql_values.specs.OperationTree.{VariableDefinitionTree, OperationTree, FragmentTree}
+use Rattle.graphql_names.specs.Placed.{Placed, Text}
+use Rattle.graphql_directives.specs.DirectiveTree.{Directives}
+use Rattle.graphql_operations.specs.SelectionTree.{SelectionTree, SelectionTrees}
+use Rattle.graphql_operations.specs.OperationTree.{VariableDefinitionTree, OperationTree, FragmentTree}
 use Rattle.graphql_operations.specs.declared.operation.OperationType.{OperationType}
 use Rattle.graphql_operations.specs.declared.operation.OperationType.TheVariants.{Query, Mutation, Subscription}
 use Rattle.graphql_grammar.specs.Meaning.{Meaning, name_of}

@@ -1,6 +1,6 @@
 -- Private layer: how tokens are read, for each way to put rules together. No public clause cites it.
 use Rattle.std.specs.Prelude.{◌≡◌, ◌≢◌, ℕ, zero, suc, Bool, true, false, if◌then◌else◌, List, [], ◌∷◌, length, Option, Some, None, Result, Ok, Err}
-use Rattle.graphql_values.specs.Placed.{Placed}
+use Rattle.graphql_names.specs.Placed.{Placed}
 use Rattle.graphql_lexer.specs.declared.terminal.Terminal.{Terminal}
 use Rattle.graphql_lexer.specs.Input.{Token, Input, next, past}
 use Rattle.graphql_grammar.specs.declared.stop.Stop.{Stop}

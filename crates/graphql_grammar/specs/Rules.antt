@@ -1,6 +1,6 @@
 -- Rules of a grammar. A rule relates what is ahead before it, the tree that it reads, and what is ahead after it.
 use Rattle.std.specs.Prelude.{◌≡◌, Bool, true, false, List, [], ◌∷◌, Option, Some, None, ◌⊎◌, if◌then◌else◌}
-use Rattle.graphql_values.specs.Placed.{Placed}
+use Rattle.graphql_names.specs.Placed.{Placed}
 use Rattle.graphql_lexer.specs.declared.terminal.Terminal.{Terminal}
 use Rattle.graphql_lexer.specs.Input.{Token, Input, next, past}
 use Rattle.graphql_grammar.specs.Meaning.{Meaning, place_between}

@@ -11,6 +11,3 @@ pub mod one_tree;
 mod stop;
 
 pub use stop::Stop;
-
-// The crates beneath, for those above.
-pub use graphql_ast;

@@ -10,8 +10,11 @@ ghost use Rattle.graphql_interface_rules.specs.InterfaceFaults.{first_named, sam
 ghost use Rattle.graphql_interface_rules.specs.Firsts.{AreFirsts};
 
 use crate::copies::{copy_arguments, copy_names};
+use graphql_directives::InputValueDefinition;
 use graphql_fault_data::{DiagnosticData, Fault, tell};
-use graphql_schema::graphql_ast::{FieldDefinition, InputValueDefinition, Name, Node, Type};
+use graphql_literals::Type;
+use graphql_names::{Name, Node};
+use graphql_type_members::FieldDefinition;
 use indexmap::IndexMap;
 use std::alloc::{AllocError, Global};
 

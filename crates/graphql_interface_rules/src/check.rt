@@ -16,7 +16,7 @@ use crate::interfaces::{check_transitive, recursive_interface_definition, undefi
 use crate::look_ups::interfaces_of;
 use graphql_distinct_names::names_differ;
 use graphql_fault_data::{Fault, tell};
-use graphql_schema::graphql_ast::{Name, Node};
+use graphql_names::{Name, Node};
 use graphql_schema::{ComponentName, ExtendedType, InterfaceType, Schema};
 use std::alloc::{AllocError, Global};
 

@@ -3,7 +3,9 @@ ghost use Rattle.std.specs.Prelude.{◌≡◌, IfOk};
 ghost use Rattle.graphql_names.specs.Placed.{node_tree};
 ghost use Rattle.graphql_literals.specs.TypeTree.{type_tree};
 
-use graphql_schema::graphql_ast::{InputValueDefinition, Name, Node, Type};
+use graphql_directives::InputValueDefinition;
+use graphql_literals::Type;
+use graphql_names::{Name, Node};
 use std::alloc::AllocError;
 
 /// Copies of the names of a type, an interface and a field.

@@ -12,8 +12,9 @@ use crate::copies::{copy_names, copy_types};
 use crate::look_ups::own_field;
 use crate::valid_types::is_valid_implementation_field_type;
 use graphql_fault_data::{DiagnosticData, Fault, tell};
-use graphql_schema::graphql_ast::{FieldDefinition, Name, Node};
+use graphql_names::{Name, Node};
 use graphql_schema::{Component, ExtendedType, Schema};
+use graphql_type_members::FieldDefinition;
 use indexmap::IndexMap;
 use std::alloc::{AllocError, Global};
 

@@ -8,7 +8,7 @@ ghost use Rattle.graphql_interface_rules.specs.InterfaceFaults.{undefined_interf
 
 use crate::look_ups::implements;
 use graphql_fault_data::{DiagnosticData, Fault, tell};
-use graphql_schema::graphql_ast::Name;
+use graphql_names::Name;
 use graphql_schema::{ComponentName, ExtendedType};
 use std::alloc::AllocError;
 

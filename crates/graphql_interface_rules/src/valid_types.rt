@@ -6,8 +6,9 @@ ghost use Rattle.graphql_schema.specs.SchemaOf.{schema_tree};
 ghost use Rattle.graphql_rule_definitions.specs.Judged.{judged};
 ghost use Rattle.graphql_rule_definitions.specs.Interfaces.{is_subtype, is_valid_type};
 
+use graphql_literals::Type;
+use graphql_names::Name;
 use graphql_schema::Schema;
-use graphql_schema::graphql_ast::{Name, Type};
 
 /// Whether a field of type `implementing` serves where an interface has one of type `interface_type`: the same name or
 /// that of a subtype, inside the same lists, and non-null wherever the interface's is.

@@ -1,9 +1,9 @@
 -- Private layer: the parts of definitions within the type system. No public clause cites it.
 use Rattle.std.specs.Prelude.{ℕ, Bool, List, ◌++◌, Option}
-use Rattle.graphql_values.specs.Placed.{Placed, Text}
-use Rattle.graphql_values.specs.ValueTree.{ValueTree}
-use Rattle.graphql_values.specs.TypeTree.{TypeTree}
-use Rattle.graphql_values.specs.DirectiveTree.{Directives, InputValues}
+use Rattle.graphql_names.specs.Placed.{Placed, Text}
+use Rattle.graphql_literals.specs.ValueTree.{ValueTree}
+use Rattle.graphql_literals.specs.TypeTree.{TypeTree}
+use Rattle.graphql_directives.specs.DirectiveTree.{Directives, InputValues}
 use Rattle.graphql_directives.specs.declared.directive_location.DirectiveLocation.{DirectiveLocation}
 use Rattle.graphql_lexer.specs.declared.terminal.Terminal.{Terminal}
 use Rattle.graphql_grammar.specs.Meaning.{Meaning}

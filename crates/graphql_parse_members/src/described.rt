@@ -2,7 +2,7 @@
 ghost use Rattle.std.specs.Prelude.{◌≡◌};
 ghost use Rattle.std.specs.Option.{option_map};
 ghost use Rattle.graphql_lexer.specs.Input as input;
-ghost use Rattle.graphql_values.specs.Placed.{name_tree, text_tree};
+ghost use Rattle.graphql_names.specs.Placed.{name_tree, text_tree};
 ghost use Rattle.graphql_grammar.specs.Begins as begins;
 ghost use Rattle.graphql_grammar.specs.Kinds as kinds;
 ghost use Rattle.graphql_grammar.specs.Reading.{Reads};

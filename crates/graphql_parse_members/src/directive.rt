@@ -1,8 +1,8 @@
 //! Definitions of directives (section 3.13).
 ghost use Rattle.std.specs.Prelude.{◌≡◌, map};
 ghost use Rattle.std.specs.Option.{option_map};
-ghost use Rattle.graphql_values.specs.Placed.{node_tree};
-ghost use Rattle.graphql_values.specs.DirectiveTree.{directive_definition_tree, input_value_tree};
+ghost use Rattle.graphql_names.specs.Placed.{node_tree};
+ghost use Rattle.graphql_directives.specs.DirectiveTree.{directive_definition_tree, input_value_tree};
 ghost use Rattle.graphql_grammar.specs.Kinds as kinds;
 ghost use Rattle.graphql_grammar.specs.Reading as read;
 ghost use Rattle.graphql_grammar.specs.Reading.{Reads};
@@ -12,11 +12,11 @@ ghost use Rattle.graphql_parse_members.specs.MemberSteps as steps;
 
 use crate::input_value_list::{input_values_or_none, optional_arguments_definition};
 use crate::location_list::directive_locations;
+use graphql_directives::{DirectiveDefinition, DirectiveLocation, InputValueDefinition};
 use graphql_grammar::Stop;
 use graphql_lexer::{Source, Terminal};
 use graphql_names::{FileId, Node};
 use graphql_parse_values::{expect, name, next_is};
-use graphql_values::{DirectiveDefinition, DirectiveLocation, InputValueDefinition};
 use std::alloc::Global;
 
 /// `"directive" "@"`

@@ -1,8 +1,8 @@
 //! Values of enums (section 3.9).
 ghost use Rattle.std.specs.Prelude.{◌≡◌, [], map, unwrap_or};
 ghost use Rattle.std.specs.Option.{option_map};
-ghost use Rattle.graphql_values.specs.Placed.{node_tree};
-ghost use Rattle.graphql_parse_values.specs.in_ast.TypeSystemTree.{enum_value_tree};
+ghost use Rattle.graphql_names.specs.Placed.{node_tree};
+ghost use Rattle.graphql_type_members.specs.TypeSystemTree.{enum_value_tree};
 ghost use Rattle.graphql_grammar.specs.Begins as begins;
 ghost use Rattle.graphql_grammar.specs.Kinds as kinds;
 ghost use Rattle.graphql_grammar.specs.Reading as read;
@@ -14,11 +14,11 @@ use crate::described::begins_described_name;
 use graphql_grammar::Stop;
 use graphql_lexer::{Source, Terminal};
 use graphql_names::{FileId, Node};
-use graphql_parse_values::graphql_ast::EnumValueDefinition;
 use graphql_parse_values::{
     begin, directives_or_none, enum_value, expect, next_is, open, optional_description,
     optional_directives, since,
 };
+use graphql_type_members::EnumValueDefinition;
 use std::alloc::Global;
 
 /// EnumValueDefinition: `Description? EnumValue Directives?`, without variables in its values.

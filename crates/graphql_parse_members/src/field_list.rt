@@ -1,10 +1,10 @@
 //! Fields of objects and interfaces (section 3.6).
 ghost use Rattle.std.specs.Prelude.{◌≡◌, [], map, unwrap_or};
 ghost use Rattle.std.specs.Option.{option_map};
-ghost use Rattle.graphql_values.specs.Placed.{node_tree};
-ghost use Rattle.graphql_values.specs.DirectiveTree.{directives_tree, input_value_tree};
-ghost use Rattle.graphql_values.specs.TypeTree.{type_tree};
-ghost use Rattle.graphql_parse_values.specs.in_ast.TypeSystemTree.{field_definition_tree};
+ghost use Rattle.graphql_names.specs.Placed.{node_tree};
+ghost use Rattle.graphql_directives.specs.DirectiveTree.{directives_tree, input_value_tree};
+ghost use Rattle.graphql_literals.specs.TypeTree.{type_tree};
+ghost use Rattle.graphql_type_members.specs.TypeSystemTree.{field_definition_tree};
 ghost use Rattle.graphql_grammar.specs.Begins as begins;
 ghost use Rattle.graphql_grammar.specs.Kinds as kinds;
 ghost use Rattle.graphql_grammar.specs.Reading as read;
@@ -15,14 +15,15 @@ ghost use Rattle.graphql_parse_members.specs.MemberSteps as steps;
 
 use crate::described::{begins_described_name, described_name};
 use crate::input_value_list::{input_values_or_none, optional_arguments_definition};
+use graphql_directives::{DirectiveList, InputValueDefinition};
 use graphql_grammar::Stop;
 use graphql_lexer::{Source, Terminal};
+use graphql_literals::Type;
 use graphql_names::{FileId, Node};
-use graphql_parse_values::graphql_ast::FieldDefinition;
 use graphql_parse_values::{
     begin, directives_or_none, expect, next_is, open, optional_directives, since, ty,
 };
-use graphql_values::{DirectiveList, InputValueDefinition, Type};
+use graphql_type_members::FieldDefinition;
 use std::alloc::Global;
 
 /// What stands behind the arguments of a field: `":" Type Directives?`, without variables in its values.

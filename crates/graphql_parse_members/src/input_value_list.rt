@@ -1,10 +1,10 @@
 //! Definitions of arguments and of fields of input objects (sections 3.6.1 and 3.10).
 ghost use Rattle.std.specs.Prelude.{◌≡◌, [], map, unwrap_or};
 ghost use Rattle.std.specs.Option.{option_map};
-ghost use Rattle.graphql_values.specs.Placed.{node_tree};
-ghost use Rattle.graphql_values.specs.DirectiveTree.{directives_tree, input_value_tree};
-ghost use Rattle.graphql_values.specs.TypeTree.{type_tree};
-ghost use Rattle.graphql_values.specs.ValueTree.{value_tree};
+ghost use Rattle.graphql_names.specs.Placed.{node_tree};
+ghost use Rattle.graphql_directives.specs.DirectiveTree.{directives_tree, input_value_tree};
+ghost use Rattle.graphql_literals.specs.TypeTree.{type_tree};
+ghost use Rattle.graphql_literals.specs.ValueTree.{value_tree};
 ghost use Rattle.graphql_grammar.specs.Begins as begins;
 ghost use Rattle.graphql_grammar.specs.Kinds as kinds;
 ghost use Rattle.graphql_grammar.specs.Reading as read;
@@ -14,14 +14,15 @@ ghost use Rattle.graphql_parse_values.specs.Meanings.{in_file};
 ghost use Rattle.graphql_parse_members.specs.MemberSteps as steps;
 
 use crate::described::{begins_described_name, described_name};
+use graphql_directives::{DirectiveList, InputValueDefinition};
 use graphql_grammar::Stop;
 use graphql_lexer::{Source, Terminal};
+use graphql_literals::{Type, Value};
 use graphql_names::{FileId, Node};
 use graphql_parse_values::{
     begin, directives_or_none, expect, next_is, open, optional_default, optional_directives,
     placed_type, since,
 };
-use graphql_values::{DirectiveList, InputValueDefinition, Type, Value};
 use std::alloc::Global;
 
 /// What stands behind the name of an input value: `":" Type DefaultValue? Directives?`, without variables in its values.

@@ -29,7 +29,3 @@ pub use name_list::{
     optional_union_member_types, union_member_types,
 };
 pub use root_list::{optional_roots, roots, roots_or_none};
-
-// The crates beneath, for those above.
-pub use graphql_parse_values;
-pub use graphql_parse_values::graphql_ast;

@@ -7,10 +7,10 @@ ghost use Rattle.graphql_grammar.specs.Reading.{Reads};
 ghost use Rattle.graphql_grammar.specs.TypeSystemReading as reading;
 ghost use Rattle.graphql_parse_members.specs.MemberSteps as steps;
 
+use graphql_directives::DirectiveLocation;
 use graphql_grammar::Stop;
 use graphql_lexer::{Source, Terminal};
 use graphql_parse_values::{expect, next_is};
-use graphql_values::DirectiveLocation;
 use std::alloc::Global;
 
 /// All places but the last of the nineteen.

@@ -1,7 +1,7 @@
 //! Names with marks between them: interfaces of a type (section 3.6) and members of a union (section 3.8).
 ghost use Rattle.std.specs.Prelude.{◌≡◌, [], map, unwrap_or};
 ghost use Rattle.std.specs.Option.{option_map};
-ghost use Rattle.graphql_values.specs.Placed.{name_tree};
+ghost use Rattle.graphql_names.specs.Placed.{name_tree};
 ghost use Rattle.graphql_grammar.specs.Kinds as kinds;
 ghost use Rattle.graphql_grammar.specs.Reading as read;
 ghost use Rattle.graphql_grammar.specs.Reading.{Reads};

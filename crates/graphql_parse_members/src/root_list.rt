@@ -2,8 +2,8 @@
 ghost use Rattle.std.specs.Prelude.{◌≡◌, [], map, unwrap_or};
 ghost use Rattle.std.specs.Option.{option_map};
 ghost use Rattle.graphql_lexer.specs.Input as input;
-ghost use Rattle.graphql_values.specs.Placed.{node_tree};
-ghost use Rattle.graphql_parse_values.specs.in_ast.InputTypeTree.{root_tree};
+ghost use Rattle.graphql_names.specs.Placed.{node_tree};
+ghost use Rattle.graphql_input_types.specs.InputTypeTree.{root_tree};
 ghost use Rattle.graphql_grammar.specs.Kinds as kinds;
 ghost use Rattle.graphql_grammar.specs.OperationReading as operations;
 ghost use Rattle.graphql_grammar.specs.Reading as read;
@@ -13,9 +13,10 @@ ghost use Rattle.graphql_parse_values.specs.Meanings.{in_file};
 
 use graphql_grammar::Stop;
 use graphql_lexer::{Source, Terminal};
+use graphql_literals::NamedType;
 use graphql_names::{FileId, Node};
+use graphql_operations::OperationType;
 use graphql_parse_values::{begin, expect, name, next_is, open, since};
-use graphql_values::{NamedType, OperationType};
 use std::alloc::Global;
 
 /// Whether the next token is `query`, `mutation` or `subscription`.

@@ -3,9 +3,9 @@ use Rattle.std.proofs.Common.{◌≡◌, ◌⊎◌, ℕ, Bool, true, false, cond
 use Rattle.std.specs.Prelude.{[], unwrap_or}
 use Rattle.graphql_names.specs.Node.{content, place}
 use Rattle.graphql_names.specs.declared.node.Node.{Node}
-use Rattle.graphql_values.specs.Placed.{Placed, Place, Text, name_tree}
-use Rattle.graphql_values.specs.DirectiveTree.{Arguments, Directives, directives_tree}
-use Rattle.graphql_values.specs.SelectionTree.{FieldHead, SelectionTree, SelectionTrees, FieldTree, SpreadTree, InlineTree, no_selections, AtPlace, field_step, inline_step, selection_step, selection_tree}
+use Rattle.graphql_names.specs.Placed.{Placed, Place, Text, name_tree}
+use Rattle.graphql_directives.specs.DirectiveTree.{Arguments, Directives, directives_tree}
+use Rattle.graphql_operations.specs.SelectionTree.{FieldHead, SelectionTree, SelectionTrees, FieldTree, SpreadTree, InlineTree, no_selections, AtPlace, field_step, inline_step, selection_step, selection_tree}
 use Rattle.graphql_operations.specs.declared.selection.Selection.{Selection}
 use Rattle.graphql_operations.specs.declared.selection.Field.{Field}
 use Rattle.graphql_operations.specs.declared.selection.FragmentSpread.{FragmentSpread}

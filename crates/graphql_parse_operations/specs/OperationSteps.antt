@@ -1,11 +1,11 @@
 -- Private layer: the parts of operations, fragments and definitions of variables. No public clause cites it.
 use Rattle.std.specs.Prelude.{ℕ, List, Option}
-use Rattle.graphql_values.specs.Placed.{Placed, Text}
-use Rattle.graphql_values.specs.ValueTree.{ValueTree}
-use Rattle.graphql_values.specs.TypeTree.{TypeTree}
-use Rattle.graphql_values.specs.DirectiveTree.{Directives}
-use Rattle.graphql_values.specs.SelectionTree.{SelectionTrees}
-use Rattle.graphql_values.specs.OperationTree.{VariableDefinitionTree, OperationTree}
+use Rattle.graphql_names.specs.Placed.{Placed, Text}
+use Rattle.graphql_literals.specs.ValueTree.{ValueTree}
+use Rattle.graphql_literals.specs.TypeTree.{TypeTree}
+use Rattle.graphql_directives.specs.DirectiveTree.{Directives}
+use Rattle.graphql_operations.specs.SelectionTree.{SelectionTrees}
+use Rattle.graphql_operations.specs.OperationTree.{VariableDefinitionTree, OperationTree}
 use Rattle.graphql_grammar.specs.Meaning.{Meaning}
 use Rattle.graphql_grammar.specs.Kinds.{is_name, is_at, is_equals, is_open_paren}
 use Rattle.graphql_grammar.specs.OperationGrammar.{short_of, operation_of}

@@ -2,10 +2,10 @@
 use Rattle.std.specs.Prelude.{ℕ, [], Option, Ok, unwrap_or}
 use Rattle.std.specs.Option.{option_map}
 use Rattle.graphql_names.specs.declared.name.Name.{Name}
-use Rattle.graphql_values.specs.Placed.{Place, Text, name_tree}
-use Rattle.graphql_values.specs.DirectiveTree.{Arguments, Directives, directives_tree}
-use Rattle.graphql_values.specs.SelectionTree.{FieldHead, SelectionTree, SelectionTrees, SpreadTree, InlineTree, no_selections, selection_trees, selection_tree}
-use Rattle.graphql_values.specs.SelectionParts.{field_head}
+use Rattle.graphql_names.specs.Placed.{Place, Text, name_tree}
+use Rattle.graphql_directives.specs.DirectiveTree.{Arguments, Directives, directives_tree}
+use Rattle.graphql_operations.specs.SelectionTree.{FieldHead, SelectionTree, SelectionTrees, SpreadTree, InlineTree, no_selections, selection_trees, selection_tree}
+use Rattle.graphql_operations.specs.SelectionParts.{field_head}
 use Rattle.graphql_operations.specs.declared.selection.Field.{Field}
 use Rattle.graphql_operations.specs.declared.selection.FragmentSpread.{FragmentSpread}
 use Rattle.graphql_operations.specs.declared.selection.InlineFragment.{InlineFragment}

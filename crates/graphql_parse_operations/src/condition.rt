@@ -1,7 +1,7 @@
 //! Operation types, names of fragments and type conditions (sections 2.3 and 2.8).
 ghost use Rattle.std.specs.Prelude.{◌≡◌};
 ghost use Rattle.graphql_lexer.specs.Input as input;
-ghost use Rattle.graphql_values.specs.Placed.{name_tree};
+ghost use Rattle.graphql_names.specs.Placed.{name_tree};
 ghost use Rattle.graphql_grammar.specs.Kinds as kinds;
 ghost use Rattle.graphql_grammar.specs.OperationReading as reading;
 ghost use Rattle.graphql_grammar.specs.Reading.{Reads};
@@ -10,8 +10,8 @@ ghost use Rattle.graphql_parse_values.specs.Meanings.{in_file};
 use graphql_grammar::Stop;
 use graphql_lexer::{Source, Terminal};
 use graphql_names::{FileId, Name};
+use graphql_operations::OperationType;
 use graphql_parse_values::{expect, name, next_is, next_is_name};
-use graphql_values::OperationType;
 use std::alloc::Global;
 
 /// OperationType: `query`, `mutation` or `subscription`.

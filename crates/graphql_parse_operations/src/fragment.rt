@@ -1,9 +1,9 @@
 //! Fragments (section 2.8).
 ghost use Rattle.std.specs.Option.{option_map};
-ghost use Rattle.graphql_values.specs.Placed.{name_tree, node_tree};
-ghost use Rattle.graphql_values.specs.DirectiveTree.{directives_tree};
-ghost use Rattle.graphql_values.specs.SelectionTree.{selection_tree, selection_trees};
-ghost use Rattle.graphql_values.specs.OperationTree.{fragment_tree};
+ghost use Rattle.graphql_names.specs.Placed.{name_tree, node_tree};
+ghost use Rattle.graphql_directives.specs.DirectiveTree.{directives_tree};
+ghost use Rattle.graphql_operations.specs.SelectionTree.{selection_tree, selection_trees};
+ghost use Rattle.graphql_operations.specs.OperationTree.{fragment_tree};
 ghost use Rattle.graphql_grammar.specs.OperationReading as reading;
 ghost use Rattle.graphql_grammar.specs.Reading as read;
 ghost use Rattle.graphql_grammar.specs.Reading.{Reads};
@@ -12,11 +12,12 @@ ghost use Rattle.graphql_parse_operations.specs.OperationSteps as steps;
 
 use crate::condition::{fragment_name, type_condition};
 use crate::selection_list::directives_and_set;
+use graphql_directives::DirectiveList;
 use graphql_grammar::Stop;
 use graphql_lexer::{Source, Terminal};
 use graphql_names::{FileId, Name, Node};
+use graphql_operations::{FragmentDefinition, Selection};
 use graphql_parse_values::{begin, directives_or_none, expect, since};
-use graphql_values::{DirectiveList, FragmentDefinition, Selection};
 use std::alloc::Global;
 
 /// `TypeCondition Directives? SelectionSet`

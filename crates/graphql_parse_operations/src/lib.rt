@@ -13,7 +13,3 @@ pub use fragment::{fragment_definition, placed_fragment};
 pub use operation::{operation_definition, placed_operation};
 pub use selection_list::{selection_set, selections};
 pub use variable_list::variable_definitions;
-
-// The crates beneath, for those above.
-pub use graphql_parse_values;
-pub use graphql_parse_values::graphql_ast;

@@ -1,10 +1,10 @@
 //! Operations (section 2.3).
 ghost use Rattle.std.specs.Prelude.{◌≡◌, [], map, unwrap_or};
 ghost use Rattle.std.specs.Option.{option_map};
-ghost use Rattle.graphql_values.specs.Placed.{name_tree, node_tree};
-ghost use Rattle.graphql_values.specs.DirectiveTree.{directives_tree};
-ghost use Rattle.graphql_values.specs.SelectionTree.{selection_tree, selection_trees};
-ghost use Rattle.graphql_values.specs.OperationTree.{variable_definition_tree, operation_tree};
+ghost use Rattle.graphql_names.specs.Placed.{name_tree, node_tree};
+ghost use Rattle.graphql_directives.specs.DirectiveTree.{directives_tree};
+ghost use Rattle.graphql_operations.specs.SelectionTree.{selection_tree, selection_trees};
+ghost use Rattle.graphql_operations.specs.OperationTree.{variable_definition_tree, operation_tree};
 ghost use Rattle.graphql_grammar.specs.Kinds as kinds;
 ghost use Rattle.graphql_grammar.specs.OperationReading as reading;
 ghost use Rattle.graphql_grammar.specs.Reading as read;
@@ -16,13 +16,12 @@ ghost use Rattle.graphql_parse_operations.specs.OperationSteps as steps;
 use crate::condition::operation_type;
 use crate::selection_list::{directives_and_set, selection_set};
 use crate::variable_list::variable_definitions;
+use graphql_directives::DirectiveList;
 use graphql_grammar::Stop;
 use graphql_lexer::{Source, Terminal};
 use graphql_names::{FileId, Name, Node};
+use graphql_operations::{OperationDefinition, OperationType, Selection, VariableDefinition};
 use graphql_parse_values::{begin, directives_or_none, name, next_is, next_is_name, since};
-use graphql_values::{
-    DirectiveList, OperationDefinition, OperationType, Selection, VariableDefinition,
-};
 use std::alloc::Global;
 
 /// Name, or nothing.

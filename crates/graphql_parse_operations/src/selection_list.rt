@@ -1,9 +1,9 @@
 //! Selections (sections 2.4, 2.5 and 2.8).
 ghost use Rattle.std.specs.Prelude.{◌≡◌, map};
 ghost use Rattle.std.specs.Option.{option_map};
-ghost use Rattle.graphql_values.specs.Placed.{node_tree};
-ghost use Rattle.graphql_values.specs.DirectiveTree.{argument_tree, directives_tree};
-ghost use Rattle.graphql_values.specs.SelectionTree.{selection_tree, selection_trees};
+ghost use Rattle.graphql_names.specs.Placed.{node_tree};
+ghost use Rattle.graphql_directives.specs.DirectiveTree.{argument_tree, directives_tree};
+ghost use Rattle.graphql_operations.specs.SelectionTree.{selection_tree, selection_trees};
 ghost use Rattle.graphql_grammar.specs.Begins as begins;
 ghost use Rattle.graphql_grammar.specs.Kinds as kinds;
 ghost use Rattle.graphql_grammar.specs.OperationReading as reading;
@@ -16,14 +16,15 @@ use crate::condition::next_is_fragment_name;
 use crate::selection_parts::{
     alias_and_name, begins_selection, optional_condition, placed_spread, selections_or_none,
 };
+use graphql_directives::{Argument, DirectiveList};
 use graphql_grammar::Stop;
 use graphql_lexer::{Source, Terminal};
 use graphql_names::{FileId, Node};
+use graphql_operations::{Field, InlineFragment, Selection};
 use graphql_parse_values::{
     arguments_or_none, begin, directives_or_none, expect, next_is, next_is_name, open,
     optional_arguments, optional_directives, since,
 };
-use graphql_values::{Argument, DirectiveList, Field, InlineFragment, Selection};
 use std::alloc::Global;
 
 /// SelectionSet, or nothing.

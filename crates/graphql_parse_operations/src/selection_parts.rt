@@ -2,8 +2,8 @@
 ghost use Rattle.std.specs.Prelude.{◌≡◌, unwrap_or};
 ghost use Rattle.std.specs.Option.{option_map};
 ghost use Rattle.graphql_lexer.specs.Input as input;
-ghost use Rattle.graphql_values.specs.Placed.{name_tree};
-ghost use Rattle.graphql_values.specs.SelectionTree.{selection_tree, selection_trees, no_selections};
+ghost use Rattle.graphql_names.specs.Placed.{name_tree};
+ghost use Rattle.graphql_operations.specs.SelectionTree.{selection_tree, selection_trees, no_selections};
 ghost use Rattle.graphql_grammar.specs.Begins as begins;
 ghost use Rattle.graphql_grammar.specs.Kinds as kinds;
 ghost use Rattle.graphql_grammar.specs.OperationReading as reading;
@@ -16,10 +16,10 @@ use crate::condition::{fragment_name, type_condition};
 use graphql_grammar::Stop;
 use graphql_lexer::{Source, Terminal};
 use graphql_names::{FileId, Name, Node};
+use graphql_operations::{FragmentSpread, Selection};
 use graphql_parse_values::{
     directives_or_none, expect, name, next_is, next_is_name, optional_directives, since,
 };
-use graphql_values::{FragmentSpread, Selection};
 use std::alloc::Global;
 
 /// Whether a selection may begin with the next token.

@@ -1,11 +1,11 @@
 //! Definitions of variables (section 2.10).
 ghost use Rattle.std.specs.Prelude.{◌≡◌, map};
 ghost use Rattle.std.specs.Option.{option_map};
-ghost use Rattle.graphql_values.specs.Placed.{node_tree};
-ghost use Rattle.graphql_values.specs.TypeTree.{type_tree};
-ghost use Rattle.graphql_values.specs.ValueTree.{value_tree};
-ghost use Rattle.graphql_values.specs.DirectiveTree.{directives_tree};
-ghost use Rattle.graphql_values.specs.OperationTree.{variable_definition_tree};
+ghost use Rattle.graphql_names.specs.Placed.{node_tree};
+ghost use Rattle.graphql_literals.specs.TypeTree.{type_tree};
+ghost use Rattle.graphql_literals.specs.ValueTree.{value_tree};
+ghost use Rattle.graphql_directives.specs.DirectiveTree.{directives_tree};
+ghost use Rattle.graphql_operations.specs.OperationTree.{variable_definition_tree};
 ghost use Rattle.graphql_grammar.specs.Kinds as kinds;
 ghost use Rattle.graphql_grammar.specs.OperationReading as reading;
 ghost use Rattle.graphql_grammar.specs.Reading as read;
@@ -13,14 +13,16 @@ ghost use Rattle.graphql_grammar.specs.Reading.{Reads};
 ghost use Rattle.graphql_parse_values.specs.Meanings.{in_file};
 ghost use Rattle.graphql_parse_operations.specs.OperationSteps as steps;
 
+use graphql_directives::DirectiveList;
 use graphql_grammar::Stop;
 use graphql_lexer::{Source, Terminal};
+use graphql_literals::{Type, Value};
 use graphql_names::{FileId, Node};
+use graphql_operations::VariableDefinition;
 use graphql_parse_values::{
     begin, directives_or_none, expect, next_is, open, optional_default, optional_directives,
     placed_type, since, variable,
 };
-use graphql_values::{DirectiveList, Type, Value, VariableDefinition};
 use std::alloc::Global;
 
 /// `Type DefaultValue? Directives?`, without variables in its values.

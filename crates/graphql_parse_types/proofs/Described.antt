@@ -1,8 +1,8 @@
 -- A definition is read as what its description is followed by.
 use Rattle.std.proofs.Common.{◌≡◌, ◌⊎◌, ℕ, Bool, true, false, cond, Option, Ok, Err, inl, inr, refl, ap, ◌∙◌}
-use Rattle.graphql_values.specs.DirectiveTree.{DirectiveDefinitionTree}
-use Rattle.graphql_values.specs.Placed.{Placed, Text}
-use Rattle.graphql_parse_members.specs.in_ast.DefinitionTree.{DefinitionTree}
+use Rattle.graphql_directives.specs.DirectiveTree.{DirectiveDefinitionTree}
+use Rattle.graphql_names.specs.Placed.{Placed, Text}
+use Rattle.graphql_definitions.specs.DefinitionTree.{DefinitionTree}
 use Rattle.graphql_lexer.specs.Input.{Input, next}
 use Rattle.graphql_grammar.specs.Meaning.{Meaning, begin_of, place_between}
 use Rattle.graphql_grammar.specs.Kinds.{next_is, is_string, is_directive}

@@ -1,6 +1,6 @@
 -- Which kind is read, by the next token.
 use Rattle.std.proofs.Common.{◌≡◌, ◌⊎◌, ℕ, Bool, true, false, Err, inl, inr, refl}
-use Rattle.graphql_values.specs.DirectiveTree.{DirectiveDefinitionTree}
+use Rattle.graphql_directives.specs.DirectiveTree.{DirectiveDefinitionTree}
 use Rattle.graphql_lexer.specs.Input.{Input, next}
 use Rattle.graphql_grammar.specs.declared.stop.Stop.TheVariants.{Unexpected}
 use Rattle.graphql_grammar.specs.Meaning.{Meaning}

@@ -1,8 +1,8 @@
 -- Private layer: how what stands behind a description or behind `extend` is read. No public clause cites it.
 use Rattle.std.specs.Prelude.{ℕ, List, Option, Ok}
-use Rattle.graphql_values.specs.DirectiveTree.{Directives, InputValues}
-use Rattle.graphql_values.specs.Placed.{Text}
-use Rattle.graphql_parse_members.specs.in_ast.DefinitionTree.{DefinitionTree, DirectiveDefinition}
+use Rattle.graphql_directives.specs.DirectiveTree.{Directives, InputValues}
+use Rattle.graphql_names.specs.Placed.{Text}
+use Rattle.graphql_definitions.specs.DefinitionTree.{DefinitionTree, DirectiveDefinition}
 use Rattle.graphql_grammar.specs.Meaning.{Meaning}
 use Rattle.graphql_grammar.specs.Kinds.{is_at, is_equals, is_implements, is_open_brace, is_schema}
 use Rattle.graphql_grammar.specs.Grammar.{definition_of}

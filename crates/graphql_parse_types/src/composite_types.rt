@@ -1,29 +1,27 @@
 //! Objects, interfaces and unions (sections 3.6 to 3.8).
 ghost use Rattle.std.specs.Prelude.{◌≡◌, map};
 ghost use Rattle.std.specs.Option.{option_map};
-ghost use Rattle.graphql_values.specs.DirectiveTree.{directives_tree};
-ghost use Rattle.graphql_values.specs.Placed.{name_tree, node_tree};
-ghost use Rattle.graphql_parse_members.specs.in_ast.TypeSystemTree.{field_definition_tree};
+ghost use Rattle.graphql_directives.specs.DirectiveTree.{directives_tree};
+ghost use Rattle.graphql_names.specs.Placed.{name_tree, node_tree};
+ghost use Rattle.graphql_type_members.specs.TypeSystemTree.{field_definition_tree};
 ghost use Rattle.graphql_grammar.specs.Reading.{Reads};
 ghost use Rattle.graphql_parse_types.specs.KindSteps as steps;
 ghost use Rattle.graphql_parse_types.specs.KindTrees.{kind_tree};
 ghost use Rattle.graphql_parse_members.specs.in_parse_values.Meanings.{in_file};
 
 use crate::kind::Kind;
+use graphql_composite_types::{InterfaceTypeExtension, ObjectTypeExtension, UnionTypeExtension};
+use graphql_directives::DirectiveList;
 use graphql_grammar::Stop;
 use graphql_lexer::{Source, Terminal};
+use graphql_literals::NamedType;
 use graphql_names::{FileId, Node};
-use graphql_parse_members::graphql_ast::{
-    FieldDefinition, InterfaceTypeExtension, ObjectTypeExtension, UnionTypeExtension,
-};
-use graphql_parse_members::graphql_parse_values::{
-    directives_or_none, expect, name, optional_directives,
-};
 use graphql_parse_members::{
     fields_or_none, names_or_none, optional_fields_definition, optional_implements_interfaces,
     optional_union_member_types,
 };
-use graphql_values::{DirectiveList, NamedType};
+use graphql_parse_values::{directives_or_none, expect, name, optional_directives};
+use graphql_type_members::FieldDefinition;
 use std::alloc::Global;
 
 /// What stands behind the name of an object or an interface: `ImplementsInterfaces? Directives? FieldsDefinition?`.

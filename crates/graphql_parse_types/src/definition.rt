@@ -3,8 +3,8 @@ ghost use Rattle.std.specs.Prelude.{◌≡◌, Some, IfOk};
 ghost use Rattle.std.specs.Option.{option_map};
 ghost use Rattle.graphql_names.specs.Node.{content, place as place_of};
 ghost use Rattle.graphql_names.specs.declared.node.Node.{Node};
-ghost use Rattle.graphql_values.specs.Placed.{text_tree};
-ghost use Rattle.graphql_parse_members.specs.in_ast.DefinitionTree.{definition_tree};
+ghost use Rattle.graphql_names.specs.Placed.{text_tree};
+ghost use Rattle.graphql_definitions.specs.DefinitionTree.{definition_tree};
 ghost use Rattle.graphql_grammar.specs.DocumentReading as reading;
 ghost use Rattle.graphql_grammar.specs.Grammar as grammar;
 ghost use Rattle.graphql_grammar.specs.Reading.{Reads};
@@ -15,12 +15,12 @@ ghost use Rattle.graphql_parse_members.specs.in_parse_values.Meanings.{in_file};
 use crate::kind::Kind;
 use crate::schema::schema_definition;
 use crate::types::type_definition;
+use graphql_definitions::Definition;
 use graphql_grammar::Stop;
 use graphql_lexer::{Source, Terminal};
 use graphql_names::{FileId, Node, NodeStr, SourceSpan};
 use graphql_parse_members::directive_definition;
-use graphql_parse_members::graphql_ast::Definition;
-use graphql_parse_members::graphql_parse_values::{begin, next_is, optional_description, since};
+use graphql_parse_values::{begin, next_is, optional_description, since};
 use std::alloc::{AllocError, Global};
 
 /// A definition of this value, at a place.

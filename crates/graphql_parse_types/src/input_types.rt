@@ -1,29 +1,26 @@
 //! Types that input can have: scalars, enums and input objects (sections 3.5, 3.9 and 3.10).
 ghost use Rattle.std.specs.Prelude.{◌≡◌, map};
 ghost use Rattle.std.specs.Option.{option_map};
-ghost use Rattle.graphql_values.specs.DirectiveTree.{directives_tree, input_value_tree};
-ghost use Rattle.graphql_values.specs.Placed.{node_tree};
-ghost use Rattle.graphql_parse_members.specs.in_ast.TypeSystemTree.{enum_value_tree};
+ghost use Rattle.graphql_directives.specs.DirectiveTree.{directives_tree, input_value_tree};
+ghost use Rattle.graphql_names.specs.Placed.{node_tree};
+ghost use Rattle.graphql_type_members.specs.TypeSystemTree.{enum_value_tree};
 ghost use Rattle.graphql_grammar.specs.Reading.{Reads};
 ghost use Rattle.graphql_parse_types.specs.KindSteps as steps;
 ghost use Rattle.graphql_parse_types.specs.KindTrees.{kind_tree};
 ghost use Rattle.graphql_parse_members.specs.in_parse_values.Meanings.{in_file};
 
 use crate::kind::Kind;
+use graphql_directives::{DirectiveList, InputValueDefinition};
 use graphql_grammar::Stop;
+use graphql_input_types::{EnumTypeExtension, InputObjectTypeExtension, ScalarTypeExtension};
 use graphql_lexer::{Source, Terminal};
 use graphql_names::{FileId, Node};
-use graphql_parse_members::graphql_ast::{
-    EnumTypeExtension, EnumValueDefinition, InputObjectTypeExtension, ScalarTypeExtension,
-};
-use graphql_parse_members::graphql_parse_values::{
-    directives_or_none, expect, name, optional_directives,
-};
 use graphql_parse_members::{
     enum_values_or_none, input_values_or_none, optional_enum_values_definition,
     optional_input_fields_definition,
 };
-use graphql_values::{DirectiveList, InputValueDefinition};
+use graphql_parse_values::{directives_or_none, expect, name, optional_directives};
+use graphql_type_members::EnumValueDefinition;
 use std::alloc::Global;
 
 /// ScalarTypeDefinition (section 3.5): `"scalar" Name Directives?`.

@@ -1,13 +1,13 @@
 //! What definitions and extensions of one kind share.
 ghost use Rattle.std.specs.Prelude.{◌≡◌};
-ghost use Rattle.graphql_parse_members.specs.in_ast.DefinitionTree.{schema_extension_parts, scalar_extension_parts, object_extension_parts, interface_extension_parts, union_extension_parts, enum_extension_parts, input_object_extension_parts};
+ghost use Rattle.graphql_definitions.specs.DefinitionTree.{schema_extension_parts, scalar_extension_parts, object_extension_parts, interface_extension_parts, union_extension_parts, enum_extension_parts, input_object_extension_parts};
 ghost use Rattle.graphql_grammar.specs.Grammar as grammar;
 ghost use Rattle.graphql_grammar.specs.TypeSystemGrammar.{SchemaKind, ScalarKind, ObjectKind, InterfaceKind, UnionKind, EnumKind, InputObjectKind};
 ghost use Rattle.graphql_parse_types.specs.KindTrees.{kind_tree};
 
-use graphql_parse_members::graphql_ast::{
-    EnumTypeExtension, InputObjectTypeExtension, InterfaceTypeExtension, ObjectTypeExtension,
-    ScalarTypeExtension, SchemaExtension, UnionTypeExtension,
+use graphql_composite_types::{InterfaceTypeExtension, ObjectTypeExtension, UnionTypeExtension};
+use graphql_input_types::{
+    EnumTypeExtension, InputObjectTypeExtension, ScalarTypeExtension, SchemaExtension,
 };
 
 /// What a definition of the schema or of a type says behind its description, and an extension behind `extend`.

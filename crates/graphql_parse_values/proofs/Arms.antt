@@ -1,6 +1,6 @@
 -- Which form of value is read, by the next token.
 use Rattle.std.proofs.Common.{◌≡◌, ℕ, zero, suc, ◌-◌, ◌<◌, ◌⊎◌, Bool, true, false, cond, Option, Some, None, Ok, Err, inl, inr, refl, sym, ap, ◌∙◌, arith}
-use Rattle.graphql_values.specs.ValueTree.{ValueTree, BooleanTree}
+use Rattle.graphql_literals.specs.ValueTree.{ValueTree, BooleanTree}
 use Rattle.graphql_lexer.specs.declared.terminal.Terminal.{Terminal}
 use Rattle.graphql_lexer.specs.Cursor.{skipped}
 use Rattle.graphql_lexer.specs.Input.{Input, next}

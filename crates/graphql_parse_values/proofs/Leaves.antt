@@ -3,9 +3,9 @@ use Rattle.std.proofs.Common.{◌≡◌, Bool, ap, ◌∙◌}
 use Rattle.std.specs.Prelude.{String}
 use Rattle.std.specs.String.{string_bytes}
 use Rattle.std.specs.declared.alloc.Global.{Global}
-use Rattle.graphql_values.specs.NumberValue.{IntText, FloatText}
-use Rattle.graphql_values.specs.Placed.{Place}
-use Rattle.graphql_values.specs.ValueTree.{ValueTree, StringTree, FloatTree, IntTree, BooleanTree, value_tree, value_tree_step}
+use Rattle.graphql_literals.specs.NumberValue.{IntText, FloatText}
+use Rattle.graphql_names.specs.Placed.{Place}
+use Rattle.graphql_literals.specs.ValueTree.{ValueTree, StringTree, FloatTree, IntTree, BooleanTree, value_tree, value_tree_step}
 use Rattle.graphql_literals.specs.declared.value.Value.{Value}
 use Rattle.graphql_literals.specs.declared.value.Value.TheVariants.{String as String', Float as Float', Int as Int', Boolean as Boolean'}
 use Rattle.graphql_literals.specs.declared.value.Value.TheViews.{outs-String, outs-Float, outs-Int, outs-Boolean}

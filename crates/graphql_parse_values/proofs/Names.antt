@@ -2,7 +2,7 @@
 use Rattle.std.proofs.Common.{◌≡◌, ℕ, ◌+◌, ◌-◌, true, List, [], ◌∷◌, length, Option, Some, None, Ok, refl, sym, ap, ◌∙◌, arith}
 use Rattle.graphql_names.specs.NameSyntax.{IsName}
 use Rattle.graphql_names.specs.declared.span.FileId.{FileId}
-use Rattle.graphql_values.specs.Placed.{Place, Text}
+use Rattle.graphql_names.specs.Placed.{Place, Text}
 use Rattle.graphql_lexer.specs.Cursor.{skipped, skipped_in, text_of}
 use Rattle.graphql_lexer.specs.Forms.{is_word, FormOf}
 use Rattle.graphql_lexer.specs.Input.{Token, Input, next, next_of, end_of}

@@ -3,7 +3,7 @@ use Rattle.std.proofs.Common.{◌≡◌, ◌⊎◌, ℕ, suc, ◌<◌, Bool, tru
 use Rattle.std.proofs.lemmas.List.{append-nil}
 use Rattle.std.proofs.Math.Bool.{or-true}
 use Rattle.std.specs.Char.{is_ascii_digit}
-use Rattle.graphql_values.specs.NumberSyntax.{is_digits, is_nothing, has_leading_zero, is_natural, without_minus, without_sign, is_fraction, is_exponent, followed_by, is_float_tail, is_int_value, is_float_value, IsIntValue, IsFloatValue}
+use Rattle.graphql_literals.specs.NumberSyntax.{is_digits, is_nothing, has_leading_zero, is_natural, without_minus, without_sign, is_fraction, is_exponent, followed_by, is_float_tail, is_int_value, is_float_value, IsIntValue, IsFloatValue}
 use Rattle.graphql_lexer.specs.Bytes.{begins_by}
 use Rattle.graphql_lexer.specs.Numbers.{is_zero, is_exponent_mark, is_sign}
 use Rattle.graphql_lexer.specs.declared.token.TokenKind.TheVariants as k

@@ -3,9 +3,9 @@ use Rattle.std.proofs.Common.{◌≡◌, ℕ, Bool, true, false, cond, List, [],
 use denote.Enum.Bare.{same_true}
 use Rattle.graphql_lexer.specs.contracts.terminal.Terminal.{the_type}
 use Rattle.graphql_names.specs.declared.span.FileId.{FileId}
-use Rattle.graphql_values.specs.Placed.{Place, Text}
-use Rattle.graphql_values.specs.ValueTree.{ValueTree, IntTree, FloatTree, StringTree}
-use Rattle.graphql_values.specs.NumberSyntax.{IsIntValue, IsFloatValue}
+use Rattle.graphql_names.specs.Placed.{Place, Text}
+use Rattle.graphql_literals.specs.ValueTree.{ValueTree, IntTree, FloatTree, StringTree}
+use Rattle.graphql_literals.specs.NumberSyntax.{IsIntValue, IsFloatValue}
 use Rattle.graphql_lexer.specs.Blocks.{quotes, block_value}
 use Rattle.graphql_lexer.specs.Strings.{string_value}
 use Rattle.graphql_lexer.specs.Cursor.{skipped, text_of as first_text}

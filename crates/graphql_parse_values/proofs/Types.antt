@@ -1,8 +1,8 @@
 -- A type is read part by part.
 use Rattle.std.proofs.Common.{◌≡◌, ℕ, zero, suc, ◌-◌, Bool, true, false, cond, Ok, Err, refl, sym, ap, ◌∙◌, arith}
-use Rattle.graphql_values.specs.TypeTree.{TypeTree, NamedTree, NonNullNamedTree, NonNullListTree}
-use Rattle.graphql_values.specs.TypeTree as types
-use Rattle.graphql_values.specs.TypeQueries.{non_null_type}
+use Rattle.graphql_literals.specs.TypeTree.{TypeTree, NamedTree, NonNullNamedTree, NonNullListTree}
+use Rattle.graphql_literals.specs.TypeTree as types
+use Rattle.graphql_literals.specs.TypeQueries.{non_null_type}
 use Rattle.graphql_lexer.specs.Cursor.{skipped}
 use Rattle.graphql_lexer.specs.Input.{Input, next}
 use Rattle.graphql_grammar.specs.declared.stop.Stop.{Stop}

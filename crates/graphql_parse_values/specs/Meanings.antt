@@ -3,8 +3,8 @@ use Rattle.std.specs.Prelude.{List, ℕ, Bool}
 use Rattle.graphql_names.specs.declared.span.FileId.{FileId}
 use Rattle.graphql_names.specs.declared.name.Name.{Name}
 use Rattle.graphql_names.specs.declared.node.Node.{Node}
-use Rattle.graphql_values.specs.Placed.{Placed, Place, Text, name_tree, node_tree}
-use Rattle.graphql_values.specs.ValueTree.{ValueTree, EnumTree, VariableTree, value_tree}
+use Rattle.graphql_names.specs.Placed.{Placed, Place, Text, name_tree, node_tree}
+use Rattle.graphql_literals.specs.ValueTree.{ValueTree, EnumTree, VariableTree, value_tree}
 use Rattle.graphql_literals.specs.declared.value.Value.{Value}
 use Rattle.graphql_lexer.specs.Blocks.{block_value}
 use Rattle.graphql_lexer.specs.Strings.{string_value}

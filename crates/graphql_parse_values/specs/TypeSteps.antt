@@ -1,7 +1,7 @@
 -- Private layer: the parts of a type. No public clause cites it.
 use Rattle.std.specs.Prelude.{ℕ, ◌-◌}
-use Rattle.graphql_values.specs.TypeTree.{TypeTree, NamedTree}
-use Rattle.graphql_values.specs.TypeTree as types
+use Rattle.graphql_literals.specs.TypeTree.{TypeTree, NamedTree}
+use Rattle.graphql_literals.specs.TypeTree as types
 use Rattle.graphql_grammar.specs.Meaning.{Meaning}
 use Rattle.graphql_grammar.specs.Kinds.{is_name, is_open_bracket, is_close_bracket}
 use Rattle.graphql_grammar.specs.Reading.{Parser, mark, when, opening, ◌⊙◌, ◌<&>◌}

@@ -1,7 +1,7 @@
 //! Arguments (section 2.6).
 ghost use Rattle.std.specs.Prelude.{◌≡◌, map};
-ghost use Rattle.graphql_values.specs.Placed.{node_tree};
-ghost use Rattle.graphql_values.specs.DirectiveTree.{argument_tree};
+ghost use Rattle.graphql_names.specs.Placed.{node_tree};
+ghost use Rattle.graphql_directives.specs.DirectiveTree.{argument_tree};
 ghost use Rattle.graphql_grammar.specs.Kinds as kinds;
 ghost use Rattle.graphql_grammar.specs.Reading as read;
 ghost use Rattle.graphql_grammar.specs.Reading.{Reads};
@@ -11,10 +11,10 @@ ghost use Rattle.graphql_parse_values.specs.Meanings.{in_file};
 use crate::name_token::name;
 use crate::steps::{begin, expect, next_is_name, open, since};
 use crate::value_reader::placed_value;
+use graphql_directives::Argument;
 use graphql_grammar::Stop;
 use graphql_lexer::{Source, Terminal};
 use graphql_names::{FileId, Node};
-use graphql_values::Argument;
 use std::alloc::Global;
 
 /// Argument: `Name ":" Value`.

@@ -1,7 +1,7 @@
 //! Directives (section 2.12).
 ghost use Rattle.std.specs.Prelude.{◌≡◌};
-ghost use Rattle.graphql_values.specs.Placed.{node_tree};
-ghost use Rattle.graphql_values.specs.DirectiveTree.{directive_tree, directives_tree};
+ghost use Rattle.graphql_names.specs.Placed.{node_tree};
+ghost use Rattle.graphql_directives.specs.DirectiveTree.{directive_tree, directives_tree};
 ghost use Rattle.graphql_grammar.specs.Reading as read;
 ghost use Rattle.graphql_grammar.specs.Reading.{Reads};
 ghost use Rattle.graphql_grammar.specs.ValueReading as reading;
@@ -10,10 +10,10 @@ ghost use Rattle.graphql_parse_values.specs.Meanings.{in_file};
 use crate::argument_list::arguments;
 use crate::name_token::name;
 use crate::steps::{begin, expect, next_is, since};
+use graphql_directives::{Directive, DirectiveList};
 use graphql_grammar::Stop;
 use graphql_lexer::{Source, Terminal};
 use graphql_names::{FileId, Node};
-use graphql_values::{Directive, DirectiveList};
 use std::alloc::Global;
 
 /// Directive: `"@" Name Arguments?`.

@@ -24,7 +24,3 @@ pub use string_token::{description, next_is_string};
 pub use type_reader::{placed_type, ty};
 pub use value_reader::{default_value, placed_value};
 pub use value_token::{enum_value, variable};
-
-// The crates beneath, for those above.
-pub use graphql_grammar;
-pub use graphql_grammar::graphql_ast;

@@ -1,6 +1,6 @@
 //! Names (section 2.1.9).
 ghost use Rattle.std.specs.Prelude.{◌≡◌};
-ghost use Rattle.graphql_values.specs.Placed.{name_tree};
+ghost use Rattle.graphql_names.specs.Placed.{name_tree};
 ghost use Rattle.graphql_grammar.specs.Reading.{Reads};
 ghost use Rattle.graphql_grammar.specs.ValueReading as reading;
 ghost use Rattle.graphql_parse_values.specs.Meanings.{in_file};

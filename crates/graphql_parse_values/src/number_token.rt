@@ -1,6 +1,6 @@
 //! Numbers (sections 2.9.1 and 2.9.2).
 ghost use Rattle.std.specs.Prelude.{◌≡◌};
-ghost use Rattle.graphql_values.specs.ValueTree.{value_tree};
+ghost use Rattle.graphql_literals.specs.ValueTree.{value_tree};
 ghost use Rattle.graphql_grammar.specs.Reading.{Reads};
 ghost use Rattle.graphql_grammar.specs.ValueReading as reading;
 ghost use Rattle.graphql_parse_values.specs.Meanings.{in_file};
@@ -8,8 +8,8 @@ ghost use Rattle.graphql_parse_values.specs.Meanings.{in_file};
 use crate::steps::next_is;
 use graphql_grammar::Stop;
 use graphql_lexer::{Source, Terminal};
+use graphql_literals::{FloatValue, IntValue, Value};
 use graphql_names::FileId;
-use graphql_values::{FloatValue, IntValue, Value};
 use std::alloc::Global;
 
 /// IntValue.

@@ -1,9 +1,9 @@
 //! Parts that may be left out.
 ghost use Rattle.std.specs.Prelude.{◌≡◌, [], map, unwrap_or};
 ghost use Rattle.std.specs.Option.{option_map};
-ghost use Rattle.graphql_values.specs.Placed.{node_tree, text_tree};
-ghost use Rattle.graphql_values.specs.DirectiveTree.{argument_tree, directives_tree};
-ghost use Rattle.graphql_values.specs.ValueTree.{value_tree};
+ghost use Rattle.graphql_names.specs.Placed.{node_tree, text_tree};
+ghost use Rattle.graphql_directives.specs.DirectiveTree.{argument_tree, directives_tree};
+ghost use Rattle.graphql_literals.specs.ValueTree.{value_tree};
 ghost use Rattle.graphql_grammar.specs.Kinds as kinds;
 ghost use Rattle.graphql_grammar.specs.Reading as read;
 ghost use Rattle.graphql_grammar.specs.Reading.{Reads};
@@ -16,10 +16,11 @@ use crate::directive_list::directives;
 use crate::steps::next_is;
 use crate::string_token::{description, next_is_string};
 use crate::value_reader::default_value;
+use graphql_directives::{Argument, DirectiveList};
 use graphql_grammar::Stop;
 use graphql_lexer::{Source, Terminal};
+use graphql_literals::Value;
 use graphql_names::{FileId, Node, NodeStr};
-use graphql_values::{Argument, DirectiveList, Value};
 use std::alloc::Global;
 
 /// Description, or nothing.

@@ -2,8 +2,8 @@
 ghost use Rattle.std.specs.Prelude.{◌≡◌};
 ghost use Rattle.std.specs.String.{string_bytes};
 ghost use Rattle.graphql_lexer.specs.Input as input;
-ghost use Rattle.graphql_values.specs.Placed.{text_tree};
-ghost use Rattle.graphql_values.specs.ValueTree.{value_tree};
+ghost use Rattle.graphql_names.specs.Placed.{text_tree};
+ghost use Rattle.graphql_literals.specs.ValueTree.{value_tree};
 ghost use Rattle.graphql_grammar.specs.Kinds as kinds;
 ghost use Rattle.graphql_grammar.specs.Reading.{Reads};
 ghost use Rattle.graphql_grammar.specs.TypeSystemReading as types;
@@ -13,8 +13,8 @@ ghost use Rattle.graphql_parse_values.specs.Meanings.{in_file, string_meant};
 use crate::steps::{begin, next_is, since};
 use graphql_grammar::Stop;
 use graphql_lexer::{Source, Terminal};
+use graphql_literals::Value;
 use graphql_names::{FileId, NodeStr};
-use graphql_values::Value;
 use std::alloc::Global;
 
 /// Whether the next token is a string.

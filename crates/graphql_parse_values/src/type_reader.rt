@@ -1,7 +1,7 @@
 //! References to types (section 2.11).
 ghost use Rattle.std.specs.Prelude.{◌≡◌};
-ghost use Rattle.graphql_values.specs.Placed.{node_tree};
-ghost use Rattle.graphql_values.specs.TypeTree.{type_tree};
+ghost use Rattle.graphql_names.specs.Placed.{node_tree};
+ghost use Rattle.graphql_literals.specs.TypeTree.{type_tree};
 ghost use Rattle.graphql_grammar.specs.Reading as read;
 ghost use Rattle.graphql_grammar.specs.Reading.{Reads};
 ghost use Rattle.graphql_grammar.specs.ValueReading as reading;
@@ -12,8 +12,8 @@ use crate::name_token::name;
 use crate::steps::{begin, expect, next_is, next_is_name, open, since};
 use graphql_grammar::Stop;
 use graphql_lexer::{Source, Terminal};
+use graphql_literals::Type;
 use graphql_names::{FileId, Node};
-use graphql_values::Type;
 use std::alloc::Global;
 
 /// A type in brackets: `"[" Type "]"`.

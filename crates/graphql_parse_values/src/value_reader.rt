@@ -1,8 +1,8 @@
 //! Values (section 2.9).
 ghost use Rattle.std.specs.Prelude.{◌≡◌, map};
 ghost use Rattle.graphql_lexer.specs.Input as input;
-ghost use Rattle.graphql_values.specs.Placed.{node_tree};
-ghost use Rattle.graphql_values.specs.ValueTree.{value_tree};
+ghost use Rattle.graphql_names.specs.Placed.{node_tree};
+ghost use Rattle.graphql_literals.specs.ValueTree.{value_tree};
 ghost use Rattle.graphql_grammar.specs.Begins as begins;
 ghost use Rattle.graphql_grammar.specs.Kinds as kinds;
 ghost use Rattle.graphql_grammar.specs.Reading as read;
@@ -15,8 +15,8 @@ use crate::steps::{begin, expect, is_name, next_is, next_is_name, since};
 use crate::value_token::plain_value;
 use graphql_grammar::Stop;
 use graphql_lexer::{Source, Terminal};
+use graphql_literals::Value;
 use graphql_names::{FileId, Name, Node};
-use graphql_values::Value;
 use std::alloc::Global;
 
 /// Whether a value may begin with the next token.

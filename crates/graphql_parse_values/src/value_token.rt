@@ -1,8 +1,8 @@
 //! Values of one token, and variables (section 2.9).
 ghost use Rattle.std.specs.Prelude.{◌≡◌};
 ghost use Rattle.graphql_lexer.specs.Input as input;
-ghost use Rattle.graphql_values.specs.Placed.{name_tree};
-ghost use Rattle.graphql_values.specs.ValueTree.{value_tree};
+ghost use Rattle.graphql_names.specs.Placed.{name_tree};
+ghost use Rattle.graphql_literals.specs.ValueTree.{value_tree};
 ghost use Rattle.graphql_grammar.specs.Kinds as kinds;
 ghost use Rattle.graphql_grammar.specs.Reading as read;
 ghost use Rattle.graphql_grammar.specs.Reading.{Reads};
@@ -15,8 +15,8 @@ use crate::steps::{expect, is_name, next_is};
 use crate::string_token::{next_is_string, string_value};
 use graphql_grammar::Stop;
 use graphql_lexer::{Source, Terminal};
+use graphql_literals::Value;
 use graphql_names::{FileId, Name};
-use graphql_values::Value;
 use std::alloc::Global;
 
 /// Variable: `"$" Name`, its name.

@@ -5,9 +5,9 @@ use Rattle.graphql_printing.specs.Joined.{joined, further_text}
 use Rattle.graphql_printing.specs.LineLayout.{Prefix}
 use Rattle.graphql_directives.specs.DirectivePlaces.{location_keyword}
 use Rattle.graphql_directives.specs.InputLayout.{argument_definitions_text, repeatable_text, locations_text}
-use Rattle.graphql_values.specs.Placed.{unplaced_node}
+use Rattle.graphql_names.specs.Placed.{unplaced_node}
 use Rattle.graphql_values.specs.Writable.{input_values_writable}
-use Rattle.graphql_values.specs.DirectiveTree.{InputValues, DirectiveDefinitionTree, unplaced_input_value, unplaced_directive_definition}
+use Rattle.graphql_directives.specs.DirectiveTree.{InputValues, DirectiveDefinitionTree, unplaced_input_value, unplaced_directive_definition}
 use Rattle.graphql_directives.specs.declared.directive_location.DirectiveLocation.{DirectiveLocation}
 use Rattle.graphql_directives.specs.declared.directive_location.DirectiveLocation.TheVariants as location
 use Rattle.graphql_lexer.specs.declared.token.TokenKind.TheVariants as t

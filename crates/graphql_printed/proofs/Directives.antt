@@ -5,10 +5,10 @@ use Rattle.graphql_printing.specs.Joined.{joined}
 use Rattle.graphql_printing.specs.LineLayout.{texts_of}
 use Rattle.graphql_literals.specs.ValueLayout.{value_text, default_text}
 use Rattle.graphql_directives.specs.DirectiveLayout.{argument_text, arguments_text, directive_text, directives_text}
-use Rattle.graphql_values.specs.Placed.{Placed, unplaced_node}
+use Rattle.graphql_names.specs.Placed.{Placed, unplaced_node}
 use Rattle.graphql_values.specs.Writable.{default_writable, argument_writable, arguments_writable, directive_writable, directives_writable}
-use Rattle.graphql_values.specs.ValueTree.{ValueTree, unplaced_value}
-use Rattle.graphql_values.specs.DirectiveTree.{ArgumentTree, Arguments, DirectiveTree, Directives, unplaced_argument, unplaced_arguments, unplaced_directive, unplaced_directives}
+use Rattle.graphql_literals.specs.ValueTree.{ValueTree, unplaced_value}
+use Rattle.graphql_directives.specs.DirectiveTree.{ArgumentTree, Arguments, DirectiveTree, Directives, unplaced_argument, unplaced_arguments, unplaced_directive, unplaced_directives}
 use Rattle.graphql_parse_values.specs.in_grammar.Meaning.{Meaning}
 use Rattle.graphql_parse_values.specs.in_grammar.Rules.{optional}
 use Rattle.graphql_parse_values.specs.in_grammar.ValueGrammar.{Const, constant, argument_of, directive_of, value, default_value, argument, arguments, directive, directives}

@@ -9,10 +9,10 @@ use Rattle.graphql_operations.specs.OperationLayout.{begins_output}
 use Rattle.graphql_operations.specs.OperationQueries.{operation_keyword}
 use Rattle.graphql_operations.specs.declared.operation.OperationType.{OperationType}
 use Rattle.graphql_operations.specs.declared.operation.OperationType.TheVariants.{Query, Mutation, Subscription}
-use Rattle.graphql_values.specs.Placed.{Text}
-use Rattle.graphql_parse_values.specs.in_ast.DefinitionTree.{DefinitionTree, Operation, Fragment, DirectiveDefinition, Schema, ScalarType, ObjectType, InterfaceType, UnionType, EnumType, InputObjectType, ExtendSchema, ExtendScalar, ExtendObject, ExtendInterface, ExtendUnion, ExtendEnum, ExtendInputObject, unplaced_definition, unplaced_document}
-use Rattle.graphql_parse_values.specs.in_ast.DocumentLayout.{definition_text, between_text, next_definition_text, end_text, document_text}
-use Rattle.graphql_parse_values.specs.in_ast.Writable.{definition_writable}
+use Rattle.graphql_names.specs.Placed.{Text}
+use Rattle.graphql_definitions.specs.DefinitionTree.{DefinitionTree, Operation, Fragment, DirectiveDefinition, Schema, ScalarType, ObjectType, InterfaceType, UnionType, EnumType, InputObjectType, ExtendSchema, ExtendScalar, ExtendObject, ExtendInterface, ExtendUnion, ExtendEnum, ExtendInputObject, unplaced_definition, unplaced_document}
+use Rattle.graphql_definitions.specs.DocumentLayout.{definition_text, between_text, next_definition_text, end_text, document_text}
+use Rattle.graphql_definitions.specs.Writable.{definition_writable}
 use Rattle.graphql_lexer.specs.Tokens.{is_ignored_byte}
 use Rattle.graphql_parse_values.specs.in_grammar.Meaning.{Meaning}
 use Rattle.graphql_parse_values.specs.in_grammar.Rules.{many}

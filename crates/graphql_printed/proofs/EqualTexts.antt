@@ -6,15 +6,15 @@ use Rattle.graphql_printing.specs.LineLayout.{Prefix}
 use Rattle.graphql_literals.specs.ValueLayout.{type_text, value_text}
 use Rattle.graphql_operations.specs.OperationLayout.{operation_text, fragment_text}
 use Rattle.graphql_lexer.specs.Lex.{Lex}
-use Rattle.graphql_values.specs.Placed.{Place}
+use Rattle.graphql_names.specs.Placed.{Place}
 use Rattle.graphql_values.specs.Writable.{value_writable, has_selection, selections_writable, operation_writable, fragment_writable}
-use Rattle.graphql_values.specs.TypeTree.{TypeTree, unplaced_type}
-use Rattle.graphql_values.specs.ValueTree.{ValueTree, unplaced_value}
-use Rattle.graphql_values.specs.SelectionTree.{SelectionTrees, unplaced_selections}
-use Rattle.graphql_values.specs.OperationTree.{OperationTree, FragmentTree, unplaced_operation, unplaced_fragment}
-use Rattle.graphql_parse_values.specs.in_ast.DefinitionTree.{DefinitionTree, unplaced_document}
-use Rattle.graphql_parse_values.specs.in_ast.DocumentLayout.{document_text}
-use Rattle.graphql_parse_values.specs.in_ast.Writable.{definition_writable}
+use Rattle.graphql_literals.specs.TypeTree.{TypeTree, unplaced_type}
+use Rattle.graphql_literals.specs.ValueTree.{ValueTree, unplaced_value}
+use Rattle.graphql_operations.specs.SelectionTree.{SelectionTrees, unplaced_selections}
+use Rattle.graphql_operations.specs.OperationTree.{OperationTree, FragmentTree, unplaced_operation, unplaced_fragment}
+use Rattle.graphql_definitions.specs.DefinitionTree.{DefinitionTree, unplaced_document}
+use Rattle.graphql_definitions.specs.DocumentLayout.{document_text}
+use Rattle.graphql_definitions.specs.Writable.{definition_writable}
 use Rattle.graphql_parse_values.specs.in_grammar.Faults.{Symbol}
 use Rattle.graphql_parse_values.specs.in_grammar.Meaning.{Meaning}
 use Rattle.graphql_parse_values.specs.in_grammar.Places.{meaning_in}

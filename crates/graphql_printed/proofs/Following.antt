@@ -4,7 +4,7 @@ use Rattle.std.specs.List.{prefix_len}
 use Rattle.std.proofs.lemmas.Bool.{and_parts, or_cases}
 use Rattle.graphql_names.specs.NameSyntax.{is_name_start, is_name_continue}
 use Rattle.graphql_printing.specs.LineLayout.{Prefix, Leveled, set_text, texts_of}
-use Rattle.graphql_values.specs.Placed.{Placed, unplaced_node}
+use Rattle.graphql_names.specs.Placed.{Placed, unplaced_node}
 use Rattle.graphql_lexer.specs.declared.terminal.Terminal.{Terminal}
 use Rattle.graphql_lexer.specs.declared.token.TokenKind.{TokenKind}
 use Rattle.graphql_lexer.specs.declared.token.TokenKind.TheVariants as t

@@ -7,11 +7,11 @@ use Rattle.graphql_printing.specs.StringLayout.{description_string, description_
 use Rattle.graphql_literals.specs.ValueLayout.{default_text}
 use Rattle.graphql_directives.specs.DirectiveLayout.{directives_text}
 use Rattle.graphql_directives.specs.InputLayout.{input_value_text, stand_on_lines, arguments_in_line, arguments_on_lines, argument_definitions_text}
-use Rattle.graphql_values.specs.Placed.{Placed, Text, unplaced_text, unplaced_node}
+use Rattle.graphql_names.specs.Placed.{Placed, Text, unplaced_text, unplaced_node}
 use Rattle.graphql_values.specs.Writable.{input_value_writable, input_values_writable}
-use Rattle.graphql_values.specs.TypeTree.{TypeTree}
-use Rattle.graphql_values.specs.ValueTree.{ValueTree}
-use Rattle.graphql_values.specs.DirectiveTree.{Directives, InputValueTree, InputValues, unplaced_input_value}
+use Rattle.graphql_literals.specs.TypeTree.{TypeTree}
+use Rattle.graphql_literals.specs.ValueTree.{ValueTree}
+use Rattle.graphql_directives.specs.DirectiveTree.{Directives, InputValueTree, InputValues, unplaced_input_value}
 use Rattle.graphql_parse_values.specs.in_grammar.Meaning.{Meaning, text_of}
 use Rattle.graphql_parse_values.specs.in_grammar.Kinds.{is_string}
 use Rattle.graphql_parse_values.specs.in_grammar.Rules.{Rule, ◌·◌, optional}

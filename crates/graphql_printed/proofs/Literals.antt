@@ -7,9 +7,9 @@ use Rattle.graphql_names.specs.NameSyntax as names
 use Rattle.graphql_printing.specs.StringLayout.{quoted_text}
 use Rattle.graphql_literals.specs.NumberSyntax.{is_int_value, is_float_value}
 use Rattle.graphql_literals.specs.ValueLayout.{boolean_text}
-use Rattle.graphql_values.specs.Placed.{Text}
+use Rattle.graphql_names.specs.Placed.{Text}
 use Rattle.graphql_values.specs.Writable.{is_text, can_be_enum}
-use Rattle.graphql_values.specs.ValueTree.{ValueTree, NullTree, EnumTree, VariableTree, StringTree, FloatTree, IntTree, BooleanTree, unplaced_value}
+use Rattle.graphql_literals.specs.ValueTree.{ValueTree, NullTree, EnumTree, VariableTree, StringTree, FloatTree, IntTree, BooleanTree, unplaced_value}
 use Rattle.graphql_lexer.specs.declared.token.TokenKind.TheVariants as t
 use Rattle.graphql_lexer.specs.Input.{Token}
 use Rattle.graphql_lexer.specs.Terminals.{words, terminal_of}

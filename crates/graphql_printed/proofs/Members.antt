@@ -2,7 +2,7 @@
 use Rattle.std.proofs.Common.{◌≡◌, ℕ, ◌+◌, true, List, [], ◌∷◌, ◌++◌, map, refl, sym, ap, subst, append_assoc}
 use Rattle.graphql_printing.specs.Joined.{joined}
 use Rattle.graphql_printing.specs.LineLayout.{Prefix, Leveled, break_text, members_text, texts_of}
-use Rattle.graphql_values.specs.Placed.{Placed, unplaced_node}
+use Rattle.graphql_names.specs.Placed.{Placed, unplaced_node}
 use Rattle.graphql_parse_values.specs.in_grammar.Meaning.{Meaning}
 use Rattle.graphql_parse_values.specs.in_grammar.Kinds.{is_open_paren, is_close_paren}
 use Rattle.graphql_parse_values.specs.in_grammar.Rules as rule

@@ -5,7 +5,7 @@ use Rattle.std.proofs.lemmas.Bool.{and_parts}
 use Rattle.graphql_names.specs.NameSyntax as names
 use Rattle.graphql_printing.specs.Joined.{joined, further_text}
 use Rattle.graphql_type_members.specs.TypeSystemLayout.{name_text, names_text}
-use Rattle.graphql_values.specs.Placed.{Text, unplaced_text}
+use Rattle.graphql_names.specs.Placed.{Text, unplaced_text}
 use Rattle.graphql_lexer.specs.declared.terminal.Terminal.{Terminal}
 use Rattle.graphql_lexer.specs.Terminals.{words}
 use Rattle.graphql_parse_values.specs.in_grammar.Meaning.{Meaning}

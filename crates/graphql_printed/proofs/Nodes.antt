@@ -4,7 +4,7 @@ use Rattle.std.specs.List.{list_all}
 use Rattle.std.proofs.lemmas.Bool.{and_parts}
 use Rattle.graphql_printing.specs.Joined.{joined, further_text}
 use Rattle.graphql_printing.specs.LineLayout.{parenthesized_text, texts_of}
-use Rattle.graphql_values.specs.Placed.{Placed, unplaced_node}
+use Rattle.graphql_names.specs.Placed.{Placed, unplaced_node}
 use Rattle.graphql_lexer.specs.Tokens.{is_ignored_byte}
 use Rattle.graphql_parse_values.specs.in_grammar.Meaning.{Meaning}
 use Rattle.graphql_parse_values.specs.in_grammar.Kinds.{is_open_paren, is_close_paren}

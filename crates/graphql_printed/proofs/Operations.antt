@@ -10,13 +10,13 @@ use Rattle.graphql_operations.specs.OperationQueries.{operation_keyword}
 use Rattle.graphql_operations.specs.OperationLayout.{selection_texts, is_query, variable_text, variables_text, is_none, is_empty, is_bare_query, operation_name_text, full_operation_text, operation_text, fragment_text}
 use Rattle.graphql_operations.specs.declared.operation.OperationType.{OperationType}
 use Rattle.graphql_operations.specs.declared.operation.OperationType.TheVariants.{Query, Mutation, Subscription}
-use Rattle.graphql_values.specs.Placed.{Placed, Text, unplaced_text, unplaced_node}
+use Rattle.graphql_names.specs.Placed.{Placed, Text, unplaced_text, unplaced_node}
 use Rattle.graphql_values.specs.Writable.{directives_writable, has_selection, selections_writable, variable_writable, variables_writable, operation_writable, fragment_writable}
-use Rattle.graphql_values.specs.TypeTree.{TypeTree}
-use Rattle.graphql_values.specs.ValueTree.{ValueTree}
-use Rattle.graphql_values.specs.DirectiveTree.{Directives, unplaced_directives}
-use Rattle.graphql_values.specs.SelectionTree.{SelectionTrees}
-use Rattle.graphql_values.specs.OperationTree.{VariableDefinitionTree, OperationTree, FragmentTree, unplaced_variable_definition, unplaced_operation, unplaced_fragment}
+use Rattle.graphql_literals.specs.TypeTree.{TypeTree}
+use Rattle.graphql_literals.specs.ValueTree.{ValueTree}
+use Rattle.graphql_directives.specs.DirectiveTree.{Directives, unplaced_directives}
+use Rattle.graphql_operations.specs.SelectionTree.{SelectionTrees}
+use Rattle.graphql_operations.specs.OperationTree.{VariableDefinitionTree, OperationTree, FragmentTree, unplaced_variable_definition, unplaced_operation, unplaced_fragment}
 use Rattle.graphql_lexer.specs.Terminals.{words}
 use Rattle.graphql_parse_values.specs.in_grammar.Meaning.{Meaning}
 use Rattle.graphql_parse_values.specs.in_grammar.Kinds as kind

@@ -7,10 +7,10 @@ use Rattle.graphql_printing.specs.LineLayout.{Prefix, set_text, texts_of}
 use Rattle.graphql_directives.specs.DirectiveLayout.{directives_text}
 use Rattle.graphql_type_members.specs.TypeSystemLayout.{root_text}
 use Rattle.graphql_type_members.specs.PartsWritable.{has_some}
-use Rattle.graphql_values.specs.Placed.{Placed, unplaced_node}
+use Rattle.graphql_names.specs.Placed.{Placed, unplaced_node}
 use Rattle.graphql_values.specs.Writable.{directives_writable}
-use Rattle.graphql_values.specs.DirectiveTree.{Directives}
-use Rattle.graphql_parse_values.specs.in_ast.TypeSystemTree.{RootOperationTree, SchemaParts, unplaced_root, unplaced_schema}
+use Rattle.graphql_directives.specs.DirectiveTree.{Directives}
+use Rattle.graphql_type_members.specs.TypeSystemTree.{RootOperationTree, SchemaParts, unplaced_root, unplaced_schema}
 use Rattle.graphql_lexer.specs.Terminals.{words}
 use Rattle.graphql_parse_values.specs.in_grammar.Meaning.{Meaning}
 use Rattle.graphql_parse_values.specs.in_grammar.Kinds.{is_schema, is_open_brace}

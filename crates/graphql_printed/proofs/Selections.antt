@@ -6,10 +6,10 @@ use Rattle.graphql_printing.specs.Joined.{joined}
 use Rattle.graphql_printing.specs.LineLayout.{Prefix, start_text, members_text, braced_text, set_text, texts_of}
 use Rattle.graphql_directives.specs.DirectiveLayout.{argument_text, arguments_text, directives_text}
 use Rattle.graphql_operations.specs.OperationLayout.{alias_text, condition_text, spread_text, selection_text, selection_texts}
-use Rattle.graphql_values.specs.Placed.{Text, unplaced_text}
+use Rattle.graphql_names.specs.Placed.{Text, unplaced_text}
 use Rattle.graphql_values.specs.Writable.{directives_writable, can_be_fragment, head_writable, has_selection, selection_writable, selections_writable}
-use Rattle.graphql_values.specs.DirectiveTree.{Arguments, Directives}
-use Rattle.graphql_values.specs.SelectionTree.{FieldHead, SelectionTree, FieldTree, SpreadTree, InlineTree, SelectionTrees, no_selections, selection_then, unplaced_selection, unplaced_selections}
+use Rattle.graphql_directives.specs.DirectiveTree.{Arguments, Directives}
+use Rattle.graphql_operations.specs.SelectionTree.{FieldHead, SelectionTree, FieldTree, SpreadTree, InlineTree, SelectionTrees, no_selections, selection_then, unplaced_selection, unplaced_selections}
 use Rattle.graphql_lexer.specs.declared.token.TokenKind.TheVariants as t
 use Rattle.graphql_lexer.specs.Terminals.{words, terminal_of}
 use Rattle.graphql_parse_values.specs.in_grammar.Meaning.{Meaning}

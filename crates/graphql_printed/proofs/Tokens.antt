@@ -5,7 +5,7 @@ use Rattle.std.specs.Str.{bytes_eq}
 use Rattle.std.proofs.lemmas.Bool.{and_parts}
 use Rattle.graphql_names.specs.NameSyntax as names
 use Rattle.graphql_names.specs.NameSyntax.{is_name_start, is_name_continue}
-use Rattle.graphql_values.specs.Placed.{Text}
+use Rattle.graphql_names.specs.Placed.{Text}
 use Rattle.graphql_lexer.specs.declared.terminal.Terminal.{Terminal}
 use Rattle.graphql_lexer.specs.declared.terminal.Terminal.TheVariants as k
 use Rattle.graphql_lexer.specs.declared.token.TokenKind.{TokenKind}

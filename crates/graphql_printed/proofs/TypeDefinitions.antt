@@ -8,10 +8,10 @@ use Rattle.graphql_directives.specs.DirectiveLayout.{directives_text}
 use Rattle.graphql_directives.specs.InputLayout.{input_value_text}
 use Rattle.graphql_type_members.specs.TypeSystemLayout.{names_text, head_text, field_definition_text, enum_value_text}
 use Rattle.graphql_type_members.specs.PartsWritable.{field_definition_writable, field_definitions_writable, enum_value_writable, enum_values_writable, fields_writable, enum_writable, input_object_writable}
-use Rattle.graphql_values.specs.Placed.{Placed, Text, unplaced_node}
+use Rattle.graphql_names.specs.Placed.{Placed, Text, unplaced_node}
 use Rattle.graphql_values.specs.Writable.{directives_writable, input_values_writable}
-use Rattle.graphql_values.specs.DirectiveTree.{Directives, InputValues, unplaced_input_value}
-use Rattle.graphql_parse_values.specs.in_ast.TypeSystemTree.{FieldDefinitionTree, EnumValueTree, ScalarParts, FieldsParts, UnionParts, EnumParts, InputObjectParts, unplaced_input_object, unplaced_field_definition, unplaced_enum_value, unplaced_scalar, unplaced_fields, unplaced_union, unplaced_enum}
+use Rattle.graphql_directives.specs.DirectiveTree.{Directives, InputValues, unplaced_input_value}
+use Rattle.graphql_type_members.specs.TypeSystemTree.{FieldDefinitionTree, EnumValueTree, ScalarParts, FieldsParts, UnionParts, EnumParts, InputObjectParts, unplaced_input_object, unplaced_field_definition, unplaced_enum_value, unplaced_scalar, unplaced_fields, unplaced_union, unplaced_enum}
 use Rattle.graphql_lexer.specs.declared.terminal.Terminal.{Terminal}
 use Rattle.graphql_lexer.specs.Terminals.{words}
 use Rattle.graphql_parse_values.specs.in_grammar.Meaning.{Meaning}

@@ -9,10 +9,10 @@ use Rattle.graphql_directives.specs.InputLayout.{argument_definitions_text}
 use Rattle.graphql_operations.specs.declared.operation.OperationType.{OperationType}
 use Rattle.graphql_type_members.specs.TypeSystemLayout.{field_definition_text, enum_value_text, root_text}
 use Rattle.graphql_type_members.specs.PartsWritable.{field_definition_writable, enum_value_writable}
-use Rattle.graphql_values.specs.Placed.{Placed, Text}
-use Rattle.graphql_values.specs.TypeTree.{TypeTree}
-use Rattle.graphql_values.specs.DirectiveTree.{Directives, InputValues}
-use Rattle.graphql_parse_values.specs.in_ast.TypeSystemTree.{FieldDefinitionTree, EnumValueTree, RootOperationTree, unplaced_field_definition, unplaced_enum_value, unplaced_root}
+use Rattle.graphql_names.specs.Placed.{Placed, Text}
+use Rattle.graphql_literals.specs.TypeTree.{TypeTree}
+use Rattle.graphql_directives.specs.DirectiveTree.{Directives, InputValues}
+use Rattle.graphql_type_members.specs.TypeSystemTree.{FieldDefinitionTree, EnumValueTree, RootOperationTree, unplaced_field_definition, unplaced_enum_value, unplaced_root}
 use Rattle.graphql_parse_values.specs.in_grammar.Meaning.{Meaning}
 use Rattle.graphql_parse_values.specs.in_grammar.Kinds.{is_enum_value}
 use Rattle.graphql_parse_values.specs.in_grammar.ValueGrammar.{constant}

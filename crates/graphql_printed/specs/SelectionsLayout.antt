@@ -3,7 +3,7 @@ use Rattle.std.specs.Prelude.{ℕ, List, [], ◌∷◌}
 use Rattle.graphql_printing.specs.Joined.{joined}
 use Rattle.graphql_printing.specs.LineLayout.{Prefix, start_text, members_text}
 use Rattle.graphql_operations.specs.OperationLayout.{selection_text, selection_texts}
-use Rattle.graphql_values.specs.SelectionTree.{SelectionTrees, no_selections, selection_then}
+use Rattle.graphql_operations.specs.SelectionTree.{SelectionTrees, no_selections, selection_then}
 
 -- each on a line at the level, or a space between each two where all stands on one line
 abbrev pub selections_text : {P : Type 0} → Prefix → SelectionTrees P → ℕ → List ℕ

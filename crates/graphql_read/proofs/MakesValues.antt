@@ -3,10 +3,10 @@ use Rattle.std.proofs.Common.{◌≡◌, ◌∙◌, ℕ, zero, suc, Bool, true, 
 use Rattle.std.specs.List.{list_all}
 use Rattle.std.specs.Cmp.Lexicographic.{bytes_decides}
 use Rattle.std.proofs.lemmas.Bool.{and_from, and_parts}
-use Rattle.graphql_values.specs.Placed.{Placed, Text}
-use Rattle.graphql_values.specs.ValueTree.{ValueTree, NullTree, EnumTree, VariableTree, StringTree, FloatTree, IntTree, BooleanTree, ListTree, ObjectTree}
-use Rattle.graphql_values.specs.TypeTree.{TypeTree, NamedTree, NonNullNamedTree, NonNullListTree}
-use Rattle.graphql_values.specs.TypeTree as types
+use Rattle.graphql_names.specs.Placed.{Placed, Text}
+use Rattle.graphql_literals.specs.ValueTree.{ValueTree, NullTree, EnumTree, VariableTree, StringTree, FloatTree, IntTree, BooleanTree, ListTree, ObjectTree}
+use Rattle.graphql_literals.specs.TypeTree.{TypeTree, NamedTree, NonNullNamedTree, NonNullListTree}
+use Rattle.graphql_literals.specs.TypeTree as types
 use Rattle.graphql_values.specs.Writable.{is_text, type_writable, can_be_enum, can_be_fragment, value_writable, items_writable, entries_writable, arguments_writable, directive_writable, directives_writable}
 use Rattle.graphql_lexer.specs.declared.terminal.Terminal.{Terminal}
 use Rattle.graphql_lexer.specs.declared.token.TokenKind.{TokenKind}

@@ -1,10 +1,10 @@
 -- What is read is sound.
 use Rattle.std.proofs.Common.{ℕ, List, []}
 use Rattle.graphql_names.specs.declared.span.FileId.{FileId}
-use Rattle.graphql_values.specs.Placed.{Place}
-use Rattle.graphql_values.specs.TypeTree.{TypeTree}
-use Rattle.graphql_values.specs.SelectionTree.{SelectionTrees}
-use Rattle.graphql_parse_operations.specs.in_ast.DefinitionTree.{DefinitionTree}
+use Rattle.graphql_names.specs.Placed.{Place}
+use Rattle.graphql_literals.specs.TypeTree.{TypeTree}
+use Rattle.graphql_operations.specs.SelectionTree.{SelectionTrees}
+use Rattle.graphql_definitions.specs.DefinitionTree.{DefinitionTree}
 use Rattle.graphql_grammar.specs.Grammar.{Derives, DerivesType, DerivesSelections}
 use Rattle.graphql_parse_operations.specs.in_parse_values.Meanings.{in_file, string_of}
 use Rattle.graphql_read.specs.Reads.{Reads}

@@ -1,11 +1,11 @@
 -- Each place in a document is one that the meaning gives. In another file than that of the built-in definitions none is
 -- built in.
 use Rattle.std.proofs.Common.{◌≡◌, ◌≢◌, ℕ, ◌+◌, ◌-◌, ◌^◌, Bool, true, false, true≢false, ◌&&◌, not, ltb, ne_eqb, List, Option, refl, sym, ap, inl, inr, ◌⊎◌}
-use Rattle.graphql_values.specs.Placed.{Place, Text}
-use Rattle.graphql_values.specs.TypeTree.{TypeTree}
-use Rattle.graphql_values.specs.SelectionTree.{SelectionTrees}
-use Rattle.graphql_values.specs.DirectiveTree.{DirectiveDefinitionTree}
-use Rattle.graphql_parse_operations.specs.in_ast.DefinitionTree.{DefinitionTree, Operation, Fragment}
+use Rattle.graphql_names.specs.Placed.{Place, Text}
+use Rattle.graphql_literals.specs.TypeTree.{TypeTree}
+use Rattle.graphql_operations.specs.SelectionTree.{SelectionTrees}
+use Rattle.graphql_directives.specs.DirectiveTree.{DirectiveDefinitionTree}
+use Rattle.graphql_definitions.specs.DefinitionTree.{DefinitionTree, Operation, Fragment}
 use Rattle.graphql_lexer.specs.Input.{Token}
 use Rattle.graphql_grammar.specs.Meaning.{Meaning, start}
 use Rattle.graphql_grammar.specs.Kinds.{is_extend}

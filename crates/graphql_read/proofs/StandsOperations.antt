@@ -2,7 +2,7 @@
 use Rattle.std.proofs.Common.{◌≡◌, ℕ, zero, suc, Bool, true, false, ◌&&◌, List, [], ◌∷◌, unwrap_or, refl}
 use Rattle.std.specs.List.{list_all}
 use Rattle.std.proofs.lemmas.Bool.{and_from, and_parts}
-use Rattle.graphql_values.specs.SelectionTree.{SelectionTree, SelectionTrees, no_selections}
+use Rattle.graphql_operations.specs.SelectionTree.{SelectionTree, SelectionTrees, no_selections}
 use Rattle.graphql_lexer.specs.Input.{end_of}
 use Rattle.graphql_grammar.specs.Meaning.{Meaning, name_of}
 use Rattle.graphql_grammar.specs.Kinds.{is_fragment_name, is_colon, is_spread, is_on, is_fragment, is_open_brace, is_close_brace, is_open_paren, is_close_paren}

@@ -3,6 +3,5 @@ pub mod Sound
 pub mod Reads
 pub mod ReadFaults
 pub mod Calls
-pub use Rattle.graphql_parse_operations.specs.in_ast as in_ast
 pub use Rattle.graphql_grammar.specs as in_grammar
 pub use Rattle.graphql_parse_operations.specs.in_parse_values as in_parse_values

@@ -2,12 +2,12 @@
 use Rattle.std.specs.Prelude.{◌≡◌, ◌≢◌, ℕ, Bool, true, not, List}
 use Rattle.std.specs.List.{list_all}
 use Rattle.graphql_names.specs.Places.{is_built_in}
-use Rattle.graphql_values.specs.Placed.{Place}
-use Rattle.graphql_values.specs.TypeTree.{TypeTree}
-use Rattle.graphql_values.specs.SelectionTree.{SelectionTrees}
+use Rattle.graphql_names.specs.Placed.{Place}
+use Rattle.graphql_literals.specs.TypeTree.{TypeTree}
+use Rattle.graphql_operations.specs.SelectionTree.{SelectionTrees}
 use Rattle.graphql_values.specs.Writable.{type_writable, has_selection, selections_writable}
-use Rattle.graphql_parse_operations.specs.in_ast.DefinitionTree.{DefinitionTree, Schema}
-use Rattle.graphql_parse_operations.specs.in_ast.Writable.{has_some, document_writable}
+use Rattle.graphql_definitions.specs.DefinitionTree.{DefinitionTree, Schema}
+use Rattle.graphql_definitions.specs.Writable.{has_some, document_writable}
 use Rattle.graphql_read.specs.EachPlace.{all_in_type, all_in_selections, all_in_document}
 
 -- a schema definition names a root (section 3.3)

@@ -24,6 +24,3 @@ pub use fault::{ReadFault, SyntaxFault, SyntaxFaultKind};
 pub use graphql_lexer::{NextToken, Token, TokenKind, next_token};
 pub use selections_call::parse_selections;
 pub use type_call::parse_type;
-
-// The crates beneath, for those above.
-pub use graphql_parse_operations::graphql_ast;

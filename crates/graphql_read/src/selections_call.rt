@@ -1,7 +1,7 @@
 //! Selections, from texts (section 2.4).
 ghost use Rattle.std.specs.Prelude.{IfOk, IfErr};
-ghost use Rattle.graphql_values.specs.Placed.{Place};
-ghost use Rattle.graphql_values.specs.SelectionTree.{SelectionTrees};
+ghost use Rattle.graphql_names.specs.Placed.{Place};
+ghost use Rattle.graphql_operations.specs.SelectionTree.{SelectionTrees};
 ghost use Rattle.graphql_grammar.specs.OperationReading as operations;
 ghost use Rattle.graphql_grammar.specs.Reading as read;
 ghost use Rattle.graphql_grammar.specs.Grammar.{DerivesSelections};
@@ -16,8 +16,8 @@ use crate::finish::{end_of_text, fault};
 use graphql_grammar::Stop;
 use graphql_lexer::Source;
 use graphql_names::FileId;
+use graphql_operations::Selection;
 use graphql_parse_operations::selections;
-use graphql_values::Selection;
 use std::alloc::Global;
 
 /// `Selection+`, and nothing behind it.

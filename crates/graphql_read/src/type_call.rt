@@ -1,7 +1,7 @@
 //! References to types, from texts (section 2.11).
 ghost use Rattle.std.specs.Prelude.{IfOk, IfErr};
-ghost use Rattle.graphql_values.specs.Placed.{Place};
-ghost use Rattle.graphql_values.specs.TypeTree.{TypeTree, type_tree};
+ghost use Rattle.graphql_names.specs.Placed.{Place};
+ghost use Rattle.graphql_literals.specs.TypeTree.{TypeTree, type_tree};
 ghost use Rattle.graphql_grammar.specs.ValueReading as values;
 ghost use Rattle.graphql_grammar.specs.Reading as read;
 ghost use Rattle.graphql_grammar.specs.Grammar.{DerivesType};
@@ -15,9 +15,9 @@ use crate::fault::ReadFault;
 use crate::finish::{end_of_text, fault};
 use graphql_grammar::Stop;
 use graphql_lexer::Source;
+use graphql_literals::Type;
 use graphql_names::FileId;
-use graphql_parse_operations::graphql_parse_values::ty;
-use graphql_values::Type;
+use graphql_parse_values::ty;
 use std::alloc::Global;
 
 /// Type, and nothing behind it.

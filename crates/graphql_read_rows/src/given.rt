@@ -1,6 +1,7 @@
 //! Texts that a row gives to be read.
 
-use graphql_read::graphql_ast::{Document, FileId};
+use graphql_definitions::Document;
+use graphql_names::FileId;
 use graphql_read::parse_document;
 use graphql_row_files::{Case, Problem};
 use std::alloc::Global;

@@ -2,7 +2,8 @@
 
 use crate::given::text_of;
 use crate::print::{Form, form_named, laid_out};
-use graphql_read::graphql_ast::{Document, FileId};
+use graphql_definitions::Document;
+use graphql_names::FileId;
 use graphql_read::parse_document;
 use graphql_row_files::{Answer, Case, Problem, Tally, Way, answer_of, compare, texts, whole};
 use std::alloc::{AllocError, Global};

@@ -15,7 +15,3 @@ pub use layouts::by_layouts;
 pub use print::{by_print, by_writable};
 pub use read::by_read;
 pub use shown::{shown_answer, writable_answer};
-
-// The crates beneath, for those above.
-pub use graphql_read;
-pub use graphql_row_files;

@@ -2,7 +2,7 @@
 
 use crate::shown::shown_answer;
 use crate::trees::by_name;
-use graphql_read::graphql_ast::{Cause, Serialize, Tree, WriteFault};
+use graphql_printing::{Cause, Serialize, Tree, WriteFault};
 use graphql_row_files::{
     Answer, Case, Plan, Problem, Tally, Way, answer_of, compare, compare_cut, device, number,
     plans_of, whole,

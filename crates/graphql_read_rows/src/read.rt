@@ -2,7 +2,9 @@
 
 use crate::given::text_of;
 use crate::shown::shown_answer;
-use graphql_read::graphql_ast::{FileId, Selection, Tree};
+use graphql_names::FileId;
+use graphql_operations::Selection;
+use graphql_printing::Tree;
 use graphql_read::{
     NextToken, ReadFault, SyntaxFaultKind, Token, next_token, parse_document, parse_selections,
     parse_type,

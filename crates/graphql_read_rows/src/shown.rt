@@ -1,6 +1,7 @@
 //! Answers that show what was read or built.
 
-use graphql_read::graphql_ast::{Document, Tree};
+use graphql_definitions::Document;
+use graphql_printing::Tree;
 use graphql_row_files::{Answer, answer_of};
 use std::alloc::{AllocError, Global};
 use std::fmt::Display;

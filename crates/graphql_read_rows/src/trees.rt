@@ -2,10 +2,11 @@
 
 use crate::given::{document_of, text_of};
 use crate::print::{Form, Named, by_tree};
-use graphql_read::graphql_ast::{
-    Definition, Directive, DirectiveDefinition, DirectiveList, Document, FileId,
-    FragmentDefinition, Name, Node, OperationDefinition, Type,
-};
+use graphql_definitions::{Definition, Document};
+use graphql_directives::{Directive, DirectiveDefinition, DirectiveList};
+use graphql_literals::Type;
+use graphql_names::{FileId, Name, Node};
+use graphql_operations::{FragmentDefinition, OperationDefinition};
 use graphql_read::parse_type;
 use graphql_row_files::{Case, Field, Problem, Tally, bytes_of};
 use std::alloc::{AllocError, Global};

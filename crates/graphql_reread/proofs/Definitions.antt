@@ -12,9 +12,9 @@ use Rattle.graphql_operations.specs.declared.operation.OperationType.{OperationT
 use Rattle.graphql_type_members.specs.TypeSystemTree.{field_definition_tree, enum_value_tree}
 use Rattle.graphql_type_members.specs.declared.field_definition.FieldDefinition.{FieldDefinition}
 use Rattle.graphql_type_members.specs.declared.enum_value.EnumValueDefinition.{EnumValueDefinition}
-use Rattle.graphql_ast.specs.DefinitionTree.{definition_tree, root_tree}
-use Rattle.graphql_ast.specs.in_definitions.declared.definition.Definition.{Definition}
-use Rattle.graphql_ast.specs.in_definitions.declared.definition.Definition.TheVariants as rust
+use Rattle.graphql_definitions.specs.DefinitionTree.{definition_tree, root_tree}
+use Rattle.graphql_definitions.specs.declared.definition.Definition.{Definition}
+use Rattle.graphql_definitions.specs.declared.definition.Definition.TheVariants as rust
 use Rattle.graphql_printed.specs.WellFormed.{input_value_well_formed, field_definition_well_formed, enum_value_well_formed, root_well_formed, names_well_formed}
 use Rattle.graphql_printed.specs.Definitions.{definition_well_formed}
 use Rattle.graphql_reread.proofs.WellFormed.{both, list_formed, type_formed, directives_formed, input_value_formed, directive_definition_formed, operation_formed, fragment_formed}

@@ -11,10 +11,10 @@ use Rattle.graphql_literals.specs.TypeTree.{type_tree, unplaced_type}
 use Rattle.graphql_literals.specs.declared.ty.«Type».{«Type»}
 use Rattle.graphql_lexer.specs.Input.{Token, Ended, NoTokenAt}
 use Rattle.graphql_lexer.proofs.Lexed.{lex_unique}
-use Rattle.graphql_ast.specs.DefinitionTree.{definition_tree, unplaced_document}
-use Rattle.graphql_ast.specs.DocumentLayout.{document_text}
-use Rattle.graphql_ast.specs.Writable.{has_some, definition_writable, document_writable}
-use Rattle.graphql_ast.specs.in_definitions.declared.definition.Definition.{Definition}
+use Rattle.graphql_definitions.specs.DefinitionTree.{definition_tree, unplaced_document}
+use Rattle.graphql_definitions.specs.DocumentLayout.{document_text}
+use Rattle.graphql_definitions.specs.Writable.{has_some, definition_writable, document_writable}
+use Rattle.graphql_definitions.specs.declared.definition.Definition.{Definition}
 use Rattle.graphql_grammar.specs.Faults as faults
 use Rattle.graphql_grammar.specs.Faults.{Symbol, IsTooDeep}
 use Rattle.graphql_grammar.specs.Grammar.{Derives, DerivesType}

@@ -5,10 +5,10 @@ use Rattle.graphql_printing.specs.Serialized.{serialized}
 use Rattle.graphql_printing.specs.declared.serialize.Serialize.{Serialize}
 use Rattle.graphql_lexer.specs.Input.{Token}
 use Rattle.graphql_lexer.specs.Lex.{Lex}
-use Rattle.graphql_ast.specs.DefinitionTree.{document_tree}
-use Rattle.graphql_ast.specs.DocumentLayout.{document_text}
-use Rattle.graphql_ast.specs.Writable.{document_writable}
-use Rattle.graphql_ast.specs.in_definitions.declared.document.Document.{Document}
+use Rattle.graphql_definitions.specs.DefinitionTree.{document_tree}
+use Rattle.graphql_definitions.specs.DocumentLayout.{document_text}
+use Rattle.graphql_definitions.specs.Writable.{document_writable}
+use Rattle.graphql_definitions.specs.declared.document.Document.{Document}
 use Rattle.graphql_grammar.specs.Depth.{depth}
 use Rattle.graphql_grammar.specs.Faults.{IsTooDeep}
 use Rattle.graphql_read.specs.declared.fault.ReadFault.{ReadFault}

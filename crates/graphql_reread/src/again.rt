@@ -3,11 +3,14 @@ ghost use Rattle.std.specs.Prelude.{◌≡◌, IfOk, IfErr, None, string_bytes};
 ghost use Rattle.graphql_printing.specs.LineLayout.{standing};
 ghost use Rattle.graphql_literals.specs.ValueLayout.{type_text};
 ghost use Rattle.graphql_literals.specs.TypeTree.{type_tree, unplaced_type};
-ghost use Rattle.graphql_ast.specs.DefinitionTree.{document_tree, unplaced_document};
+ghost use Rattle.graphql_definitions.specs.DefinitionTree.{document_tree, unplaced_document};
 ghost use Rattle.graphql_read.specs.declared.fault.ReadFault.TheVariants.{Memory};
 ghost use Rattle.graphql_reread.specs.ReadsAgain.{IsSameUnlessLimit, NestsWithin, laid_out, CanBeReread};
 
-use graphql_ast::{Document, FileId, Serialize, Tree, Type};
+use graphql_definitions::Document;
+use graphql_literals::Type;
+use graphql_names::FileId;
+use graphql_printing::{Serialize, Tree};
 use graphql_read::{ReadFault, parse_document, parse_type};
 use std::alloc::{AllocError, Global};
 

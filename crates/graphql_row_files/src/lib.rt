@@ -20,6 +20,3 @@ pub use plans::{compare_cut, plans_of};
 pub use problem::Problem;
 pub use row_file::{Field, Row, fields_of, rows_of};
 pub use settings::{number, numbers, output, says, texts};
-
-// The crates beneath, for those above.
-pub use graphql_names;

@@ -4,7 +4,7 @@ use graphql_checked::{
     CheckError, CheckedDocument, CheckedSchema, Checker, DiagnosticList, Layout, Limits, Refusal,
     Verdict, check_texts,
 };
-use graphql_row_files::graphql_names::FileId;
+use graphql_names::FileId;
 use graphql_row_files::{Answer, answer_of};
 use graphql_schema_rows::push_faults;
 use std::alloc::{AllocError, Global};

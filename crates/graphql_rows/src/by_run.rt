@@ -1,11 +1,11 @@
 //! Answers of `run` over readers and a writer that hand on few bytes a call, and that end.
 
 ghost use Rattle.std.specs.Prelude.{◌≡◌, false, All, IfOk};
-ghost use Rattle.graphql_row_files.specs.in_names.Device.{device_failed};
+ghost use Rattle.graphql_names.specs.Device.{device_failed};
 
 use crate::by_texts::Texts;
 use graphql_checked::{Layout, Limits, Outcome, RunFault, exit_status, run};
-use graphql_row_files::graphql_names::{Cut, Device};
+use graphql_names::{Cut, Device};
 use graphql_row_files::{
     Answer, Case, Plan, Problem, Tally, Way, compare_cut, device, plans_of, reader, says,
 };

@@ -6,8 +6,8 @@ use Rattle.std.specs.Option.{option_map, option_map_or, option_or}
 use Rattle.std.specs.Str.{bytes_eq}
 use Rattle.std.specs.Cmp.Lexicographic.{nat_list_cmp_total, texts_ties}
 use Rattle.std.specs.FinMap as fin
-use Rattle.graphql_values.specs.Placed.{Placed, Place, Text}
-use Rattle.graphql_schema_building.specs.in_ast.TypeSystemTree.{FieldDefinitionTree, unplaced_field_definition}
+use Rattle.graphql_names.specs.Placed.{Placed, Place, Text}
+use Rattle.graphql_type_members.specs.TypeSystemTree.{FieldDefinitionTree, unplaced_field_definition}
 use Rattle.graphql_schema_building.specs.in_built_in.MetaFields.{meta_field_of}
 use Rattle.graphql_schema_building.specs.in_schema_types.SchemaTree.{SchemaType, SchemaTree}
 use Rattle.graphql_schema_building.specs.in_schema_types.Addresses.{under}

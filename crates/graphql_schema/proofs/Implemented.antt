@@ -9,7 +9,7 @@ use Rattle.std.proofs.lemmas.List.Elements.{filter-append}
 use Rattle.std.proofs.lemmas.List.Folds.{list_any-append}
 use Rattle.std.proofs.lemmas.Slice.Eq.{bytes_eq-Decides}
 use Rattle.graphql_names.specs.NameValue.{NameValue}
-use Rattle.graphql_values.specs.Placed.{Place, Text}
+use Rattle.graphql_names.specs.Placed.{Place, Text}
 use Rattle.graphql_components.specs.Lists.{is_among, firsts, has_name}
 use Rattle.graphql_components.specs.Given.{Given, given_name}
 use Rattle.graphql_components.proofs.Firsts.{has_name-firsts, firsts-push_new, firsts-push_seen}

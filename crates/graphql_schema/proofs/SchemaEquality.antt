@@ -2,8 +2,8 @@
 use Rattle.std.proofs.Common.{◌≡◌, ap}
 use Rattle.std.specs.Bool.{Decides}
 use Rattle.graphql_names.specs.Node.{content}
-use Rattle.graphql_values.specs.Placed.{node_tree}
-use Rattle.graphql_values.specs.DirectiveTree.{directive_definition_tree}
+use Rattle.graphql_names.specs.Placed.{node_tree}
+use Rattle.graphql_directives.specs.DirectiveTree.{directive_definition_tree}
 use Rattle.graphql_values.proofs.Decided.{through, pair_decides}
 use Rattle.graphql_values.proofs.DirectiveEquality.{directive_definition_eq-Decides}
 use Rattle.graphql_components.proofs.NamedEquality.{maps_decide}

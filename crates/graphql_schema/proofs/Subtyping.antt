@@ -9,7 +9,7 @@ use Rattle.std.proofs.lemmas.List.Folds.{list_any-append}
 use Rattle.std.proofs.lemmas.Map.Keys.{IsDistinct-head, IsDistinct-tail}
 use Rattle.std.proofs.lemmas.Slice.Eq.{bytes_eq-Decides}
 use Rattle.graphql_names.specs.NameValue.{NameValue}
-use Rattle.graphql_values.specs.Placed.{Place, Text}
+use Rattle.graphql_names.specs.Placed.{Place, Text}
 use Rattle.graphql_components.specs.Lists.{is_among}
 use Rattle.graphql_components.specs.Names.{Entries, same_text}
 use Rattle.graphql_components.specs.Given.{Given, given_name}

@@ -2,8 +2,8 @@
 use Rattle.std.specs.Prelude.{◌≡◌, ℕ, Bool, false, ◌&&◌, List, Option, option_and_then}
 use Rattle.std.specs.Option.{option_map, option_map_or, option_or}
 use Rattle.std.specs.Str.{bytes_eq}
-use Rattle.graphql_values.specs.Placed.{Place}
-use Rattle.graphql_schema_building.specs.in_ast.TypeSystemTree.{FieldDefinitionTree, unplaced_field_definition}
+use Rattle.graphql_names.specs.Placed.{Place}
+use Rattle.graphql_type_members.specs.TypeSystemTree.{FieldDefinitionTree, unplaced_field_definition}
 use Rattle.graphql_schema_building.specs.in_built_in.MetaFields.{meta_field_of}
 use Rattle.graphql_schema_building.specs.in_schema_types.SchemaTree.{SchemaTree}
 use Rattle.graphql_schema_building.specs.in_schema_types.Plain.{plain}

@@ -1,7 +1,7 @@
 -- Which types implement each interface (GraphQL, October 2021, section 3.7).
 use Rattle.std.specs.Prelude.{ℕ, List, ◌&&◌, map, filter, Option, None, Some, if◌then◌else◌}
 use Rattle.std.specs.List.{list_any}
-use Rattle.graphql_values.specs.Placed.{Place}
+use Rattle.graphql_names.specs.Placed.{Place}
 use Rattle.graphql_components.specs.Lists.{firsts}
 use Rattle.graphql_schema_building.specs.in_schema_types.SchemaTree.{SchemaTree, same_kind}
 use Rattle.graphql_schema_building.specs.in_schema_types.declared.type_kind.TypeKind.{TypeKind}

@@ -28,11 +28,10 @@ pub use Rattle.graphql_schema_building.specs.in_folding.Messages
 pub use Rattle.graphql_schema_building.specs.in_folding.Adoption
 pub use Rattle.graphql_schema_building.specs.in_built_in.Table
 pub use Rattle.graphql_schema_building.specs.in_built_in.MetaFields
-pub use Rattle.graphql_schema_building.specs.in_type_folding.OwnNames
+pub use Rattle.graphql_schema_building.specs.in_schema_folding.OwnNames
 pub use Rattle.graphql_schema_building.specs.BuilderValue
 pub use Rattle.graphql_schema_building.specs.Building
 pub use Rattle.graphql_schema_building.specs.Numbers
 pub use Rattle.graphql_schema_building.specs.SourcesView
 pub use Rattle.graphql_schema_building.specs.Waiting
-pub use Rattle.graphql_schema_building.specs.in_ast as in_ast
 pub use Rattle.graphql_schema_building.specs.in_schema_types as in_schema_types

@@ -2,10 +2,10 @@
 use Rattle.std.specs.Prelude.{◌≡◌, ℕ, Bool, false, ◌&&◌, ◌||◌, List, map, Option, None, Some, option_and_then, if◌then◌else◌}
 use Rattle.std.specs.Option.{option_map, option_map_or, option_or}
 use Rattle.std.specs.Str.{bytes_eq}
-use Rattle.graphql_values.specs.Placed.{Placed, Place}
+use Rattle.graphql_names.specs.Placed.{Placed, Place}
 use Rattle.graphql_literals.specs.TypeTree.{TypeTree}
 use Rattle.graphql_literals.specs.TypeQueries.{inner_name}
-use Rattle.graphql_schema_building.specs.in_ast.TypeSystemTree.{FieldDefinitionTree}
+use Rattle.graphql_type_members.specs.TypeSystemTree.{FieldDefinitionTree}
 use Rattle.graphql_components.specs.Lists.{is_among}
 use Rattle.graphql_components.specs.Given.{Given, given_name}
 use Rattle.graphql_schema_building.specs.in_schema_types.SchemaTree.{SchemaType, SchemaTree, same_kind}

@@ -1,6 +1,6 @@
 -- A meta-field as a component of a type: the definition gives it, and no extension.
 use Rattle.std.specs.Prelude.{None}
-use Rattle.graphql_values.specs.Placed.{Place}
+use Rattle.graphql_names.specs.Placed.{Place}
 use Rattle.graphql_components.specs.Given.{Given}
 
 abbrev pub by_definition : {A : Type 0} → A → Given Place A

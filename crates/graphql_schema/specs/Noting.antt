@@ -2,7 +2,7 @@
 use Rattle.std.specs.Prelude.{ℕ, Bool, List, [], ◌∷◌, ◌++◌, map, Option, None, Some, unwrap_or, fold, if◌then◌else◌}
 use Rattle.std.specs.List.{flat_map}
 use Rattle.std.specs.Str.{bytes_eq}
-use Rattle.graphql_values.specs.Placed.{Place, Text}
+use Rattle.graphql_names.specs.Placed.{Place, Text}
 use Rattle.graphql_components.specs.Lists.{is_among}
 use Rattle.graphql_components.specs.Given.{Given, given_name}
 use Rattle.graphql_schema_building.specs.in_schema_types.SchemaTree.{SchemaType, SchemaTree, same_kind}

@@ -1,5 +1,5 @@
 -- What contracts see of a schema.
-use Rattle.graphql_values.specs.Placed.{Place}
+use Rattle.graphql_names.specs.Placed.{Place}
 use Rattle.graphql_schema_building.specs.in_schema_types.SchemaTree.{SchemaTree}
 use Rattle.graphql_schema_building.specs.in_schema_types.SchemaView.{schema_view}
 use Rattle.graphql_schema.specs.declared.schema.Schema.{Schema}

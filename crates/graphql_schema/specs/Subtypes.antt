@@ -1,7 +1,7 @@
 -- The subtypes of an interface are its implementers (GraphQL, October 2021, section 3.7).
 use Rattle.std.specs.Prelude.{◌≡◌, ℕ, Bool, true, false, ◌||◌, List, Option, is_some}
 use Rattle.std.specs.Option.{option_map_or}
-use Rattle.graphql_values.specs.Placed.{Place}
+use Rattle.graphql_names.specs.Placed.{Place}
 use Rattle.graphql_components.specs.Lists.{is_among}
 use Rattle.graphql_schema_building.specs.in_schema_types.SchemaTree.{SchemaTree}
 use Rattle.graphql_schema_building.specs.in_schema_types.declared.type_kind.TypeKind.TheVariants.{Interface}

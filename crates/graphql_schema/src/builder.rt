@@ -1,7 +1,7 @@
 //! The builder of schemas.
 ghost use Rattle.std.specs.Prelude.{◌≡◌, ◌↔◌, ◌++◌, [], true, false, IfOk, IfErr, OnOk, Contains};
-ghost use Rattle.graphql_schema_building.specs.in_ast.DefinitionTree.{document_tree};
-ghost use Rattle.graphql_schema_building.specs.in_ast.Sources.{sources_of};
+ghost use Rattle.graphql_definitions.specs.DefinitionTree.{document_tree};
+ghost use Rattle.graphql_definitions.specs.Sources.{sources_of};
 ghost use Rattle.graphql_schema_building.specs.in_built_in.Table.{built_in_definitions};
 ghost use Rattle.graphql_schema_building.specs.in_folding.BuildErrors.{FoldingRules};
 ghost use Rattle.graphql_schema_building.specs.in_folding.FaultView.{faults_of};
@@ -11,15 +11,16 @@ ghost use Rattle.graphql_schema_building.specs.BuiltView.{built_view};
 ghost use Rattle.graphql_schema_building.specs.Numbers.{HaveNumbers};
 ghost use Rattle.graphql_schema_building.specs.SourcesView.{sources_view, with_sources};
 ghost use Rattle.graphql_schema_building.specs.Waiting.{left_names};
-ghost use Rattle.graphql_schema_building.specs.in_type_folding.OwnNames.{UnderOwnNames};
+ghost use Rattle.graphql_schema_building.specs.in_schema_folding.OwnNames.{UnderOwnNames};
 ghost use Rattle.graphql_schema.specs.BuilderOf.{builder_value};
 ghost use Rattle.graphql_schema.specs.SchemaOf.{schema_tree};
 
 use crate::meta_fields::MetaFields;
 use crate::schema::Schema;
 use graphql_components::Extensions;
-use graphql_schema_building::graphql_ast::{Document, SourceSpan};
-use graphql_schema_building::graphql_folding::BuildError;
+use graphql_definitions::Document;
+use graphql_folding::BuildError;
+use graphql_names::SourceSpan;
 use graphql_schema_building::{BuilderRefusal, Building, Built, OrphanExtensionTypes};
 use std::alloc::{AllocError, Global};
 

@@ -1,7 +1,7 @@
 //! Fields of types by name.
 ghost use Rattle.std.specs.Prelude.{◌≡◌, Some, IfOk, IfErr};
 ghost use Rattle.std.specs.Option.{option_map};
-ghost use Rattle.graphql_schema_building.specs.in_ast.TypeSystemTree.{field_definition_tree};
+ghost use Rattle.graphql_type_members.specs.TypeSystemTree.{field_definition_tree};
 ghost use Rattle.graphql_components.specs.Given.{component_tree};
 ghost use Rattle.graphql_schema_building.specs.in_schema_types.Addresses.{under};
 ghost use Rattle.graphql_schema_building.specs.in_schema_types.TypeView.{extended_type};
@@ -10,8 +10,10 @@ ghost use Rattle.graphql_schema.specs.LookUps.{is_composite_kind, is_query_root,
 
 use crate::schema::Schema;
 use graphql_components::Component;
-use graphql_schema_building::graphql_ast::{FieldDefinition, Name, OperationType};
-use graphql_schema_building::graphql_schema_types::ExtendedType;
+use graphql_names::Name;
+use graphql_operations::OperationType;
+use graphql_schema_types::ExtendedType;
+use graphql_type_members::FieldDefinition;
 
 /// Why a type has no field of a name.
 #[derive(Clone, Copy)]

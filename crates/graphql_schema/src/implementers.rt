@@ -12,8 +12,8 @@ ghost use Rattle.graphql_schema.specs.ImplementersView.{implementers_tree, imple
 
 use crate::schema::Schema;
 use graphql_components::ComponentName;
-use graphql_schema_building::graphql_ast::Name;
-use graphql_schema_building::graphql_schema_types::ExtendedType;
+use graphql_names::Name;
+use graphql_schema_types::ExtendedType;
 use indexmap::{IndexMap, IndexSet};
 use std::alloc::{AllocError, Global};
 

@@ -27,14 +27,11 @@ pub use graphql_components::{
     Component, ComponentName, ComponentOrigin, DirectiveList, ExtensionId, Extensions,
     NamedComponents,
 };
-pub use graphql_schema_building::graphql_folding::BuildError;
-pub use graphql_schema_building::graphql_schema_types::{
+pub use graphql_folding::BuildError;
+pub use graphql_schema_building::{BuilderRefusal, OrphanExtensionTypes};
+pub use graphql_schema_types::{
     EnumType, ExtendedType, InputObjectType, InterfaceType, ObjectType, Origins, RootOperations,
     ScalarType, SchemaDefinition, TypeKind, UnionType,
 };
-pub use graphql_schema_building::{BuilderRefusal, OrphanExtensionTypes};
 pub use implementers::{Implementers, ImplementersNames};
 pub use schema::Schema;
-
-// The crates beneath, for those above.
-pub use graphql_schema_building::{graphql_ast, graphql_schema_types};

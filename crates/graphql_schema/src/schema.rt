@@ -1,16 +1,17 @@
 //! Whole schemas.
 ghost use Rattle.std.specs.Prelude.{◌≡◌};
 ghost use Rattle.std.specs.Option.{option_map};
-ghost use Rattle.graphql_values.specs.Placed.{name_tree};
+ghost use Rattle.graphql_names.specs.Placed.{name_tree};
 ghost use Rattle.graphql_schema_building.specs.in_schema_types.Addresses.{root_at};
 ghost use Rattle.graphql_schema.specs.SchemaOf.{schema_tree};
 
 use crate::meta_fields::MetaFields;
 use graphql_components::ComponentName;
-use graphql_schema_building::graphql_ast::{
-    DirectiveDefinition, FileId, Name, Node, OperationType, SourceFile,
-};
-use graphql_schema_building::graphql_schema_types::{ExtendedType, SchemaDefinition};
+use graphql_definitions::SourceFile;
+use graphql_directives::DirectiveDefinition;
+use graphql_names::{FileId, Name, Node};
+use graphql_operations::OperationType;
+use graphql_schema_types::{ExtendedType, SchemaDefinition};
 use indexmap::IndexMap;
 
 /// A schema (section 3): its schema definition, and its directive definitions and types under their names, in order;

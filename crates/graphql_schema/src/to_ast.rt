@@ -1,12 +1,13 @@
 //! Schemas as documents.
 ghost use Rattle.std.specs.Prelude.{◌≡◌, [], IfOk};
-ghost use Rattle.graphql_schema_building.specs.in_ast.DefinitionTree.{document_tree};
+ghost use Rattle.graphql_definitions.specs.DefinitionTree.{document_tree};
 ghost use Rattle.graphql_schema_building.specs.in_schema_types.Out.{written};
 ghost use Rattle.graphql_schema.specs.SchemaOf.{schema_tree};
 
 use crate::schema::Schema;
-use graphql_schema_building::graphql_ast::Document;
+use graphql_definitions::Document;
 use graphql_schema_writing::written_definitions;
+use indexmap::IndexMap;
 use std::alloc::{AllocError, Global};
 
 impl Schema {
@@ -24,8 +25,8 @@ impl Schema {
             &self.types,
         )?;
         Ok(Document {
+            sources: IndexMap::new(alloc),
             definitions,
-            ..Document::new(alloc)
         })
     }
 }

@@ -11,8 +11,9 @@ ghost use Rattle.graphql_schema.specs.SchemaOf.{schema_tree};
 ghost use Rattle.graphql_schema.specs.LookUps.{type_of_kind, inner_kind_is};
 
 use crate::schema::Schema;
-use graphql_schema_building::graphql_ast::{Name, Node, Type};
-use graphql_schema_building::graphql_schema_types::{
+use graphql_literals::Type;
+use graphql_names::{Name, Node};
+use graphql_schema_types::{
     EnumType, ExtendedType, InputObjectType, InterfaceType, ObjectType, ScalarType, UnionType,
 };
 

@@ -2,19 +2,19 @@
 use Rattle.std.proofs.Common.{◌≡◌, ◌⊎◌, ℕ, List, [], ◌∷◌, ◌++◌, refl, sym, ap, subst, ◌∙◌, inl, inr, Contains, map, take, drop}
 use Rattle.std.specs.Prelude.{◌↔◌}
 use Rattle.std.proofs.lemmas.List.{take-map, drop-map, take_at, drop_at}
-use Rattle.graphql_values.specs.Placed.{Place}
+use Rattle.graphql_names.specs.Placed.{Place}
 use Rattle.graphql_components.proofs.Places.{not_in_nil, Contains-first}
-use Rattle.graphql_type_folding.specs.in_schema_types.SchemaTree.{SchemaTree}
-use Rattle.graphql_type_folding.specs.in_folding.Listed.{Definitions, Listed, numbered}
+use Rattle.graphql_schema_folding.specs.in_schema_types.SchemaTree.{SchemaTree}
+use Rattle.graphql_schema_folding.specs.in_folding.Listed.{Definitions, Listed, numbered}
 use Rattle.graphql_built_in.specs.Table.{built_in_definitions}
-use Rattle.graphql_type_folding.specs.in_folding.BuildErrors.{Fault, Fails, FoldingRules, Somewhere, DirectiveDefinitionCollisionAt, DuplicateRootOperationIn}
-use Rattle.graphql_type_folding.specs.in_folding.Fold.{fold, folded_directives, folded_types}
-use Rattle.graphql_type_folding.specs.in_schema_folding.ListFold.{definitions_of, IsFoldOf, TellsRoots}
-use Rattle.graphql_type_folding.proofs.in_schema_folding.Listing.{definitions_numbered}
-use Rattle.graphql_type_folding.specs.in_schema_folding.DirectiveFold.{TellsDirectives}
-use Rattle.graphql_type_folding.specs.in_schema_folding.TypeFaults.{FailsInType}
-use Rattle.graphql_folding_rules.specs.Misplaced.{Misplaced, TellsMisplaced}
-use Rattle.graphql_folding_rules.proofs.FailsIs.{FailsInParts, fails_is}
+use Rattle.graphql_schema_folding.specs.in_folding.BuildErrors.{Fault, Fails, FoldingRules, Somewhere, DirectiveDefinitionCollisionAt, DuplicateRootOperationIn}
+use Rattle.graphql_schema_folding.specs.in_folding.Fold.{fold, folded_directives, folded_types}
+use Rattle.graphql_schema_folding.specs.ListFold.{definitions_of, IsFoldOf, TellsRoots}
+use Rattle.graphql_schema_folding.proofs.Listing.{definitions_numbered}
+use Rattle.graphql_schema_folding.specs.DirectiveFold.{TellsDirectives}
+use Rattle.graphql_schema_folding.specs.TypeFaults.{FailsInType}
+use Rattle.graphql_schema_folding.specs.Misplaced.{Misplaced, TellsMisplaced}
+use Rattle.graphql_schema_folding.proofs.FailsIs.{FailsInParts, fails_is}
 use Rattle.graphql_schema_building.specs.ListBuilt.{FoldsParts, Folds}
 
 -- a fault that is told by the four calls in turn is one of the four parts

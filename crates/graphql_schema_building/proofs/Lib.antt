@@ -8,5 +8,5 @@ pub mod Folding
 pub mod Growing
 pub mod Keeping
 pub mod Schemas
-pub use Rattle.graphql_type_folding.proofs.in_schema_types as in_schema_types
-pub use Rattle.graphql_type_folding.proofs as in_type_folding
+pub use Rattle.graphql_schema_folding.proofs.in_schema_types as in_schema_types
+pub use Rattle.graphql_schema_folding.proofs as in_schema_folding

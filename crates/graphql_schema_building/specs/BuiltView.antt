@@ -1,7 +1,7 @@
 -- What contracts see of what is built.
-use Rattle.graphql_values.specs.Placed.{Place}
-use Rattle.graphql_type_folding.specs.in_schema_types.SchemaTree.{SchemaTree}
-use Rattle.graphql_type_folding.specs.in_schema_types.SchemaView.{schema_view}
+use Rattle.graphql_names.specs.Placed.{Place}
+use Rattle.graphql_schema_folding.specs.in_schema_types.SchemaTree.{SchemaTree}
+use Rattle.graphql_schema_folding.specs.in_schema_types.SchemaView.{schema_view}
 use Rattle.graphql_schema_building.specs.declared.fold.Folded.{Folded}
 use Rattle.graphql_schema_building.specs.declared.state.Built.{Built}
 

@@ -1,12 +1,12 @@
 //! What is asked of a schema builder's state.
 ghost use Rattle.std.specs.Prelude.{◌≡◌, ◌↔◌, ◌++◌, [], true, false, IfOk, IfErr, OnOk, Contains};
-ghost use Rattle.graphql_type_folding.specs.in_ast.DefinitionTree.{document_tree};
-ghost use Rattle.graphql_type_folding.specs.in_ast.Sources.{sources_of};
+ghost use Rattle.graphql_definitions.specs.DefinitionTree.{document_tree};
+ghost use Rattle.graphql_definitions.specs.Sources.{sources_of};
 ghost use Rattle.graphql_built_in.specs.Table.{built_in_definitions};
-ghost use Rattle.graphql_type_folding.specs.in_folding.BuildErrors.{FoldingRules};
-ghost use Rattle.graphql_type_folding.specs.in_folding.FaultView.{faults_of};
+ghost use Rattle.graphql_schema_folding.specs.in_folding.BuildErrors.{FoldingRules};
+ghost use Rattle.graphql_schema_folding.specs.in_folding.FaultView.{faults_of};
 ghost use Rattle.graphql_schema_building.specs.Building.{plain_settings, folded, FailsIn, counted, lent_names, IsAddRefusal, IsBuildRefusal};
-ghost use Rattle.graphql_schema_building.specs.BuiltView.{built_view};
+ghost use Rattle.graphql_schema_building.specs.BuiltView.{built_view, folded_view};
 ghost use Rattle.graphql_schema_building.specs.BuildingView.{builder_view};
 ghost use Rattle.graphql_schema_building.specs.Noted.{Notes};
 ghost use Rattle.graphql_schema_building.specs.TextsList.{Adds, IsListRefusal};
@@ -15,7 +15,7 @@ ghost use Rattle.graphql_schema_building.specs.Numbers.{HaveNumbers};
 ghost use Rattle.graphql_schema_building.specs.SourcesView.{sources_view, with_sources};
 ghost use Rattle.graphql_schema_building.specs.Waiting.{left_names};
 
-use crate::fold::fold_list;
+use crate::fold::{Folded, fold_list};
 use crate::orphans::Orphans;
 use crate::refusal::BuilderRefusal;
 use crate::settle::{Settings, settle};
@@ -24,10 +24,12 @@ use crate::state::{Building, Built};
 use crate::texts::Texts;
 use crate::waiting::OrphanExtensionTypes;
 use graphql_components::Extensions;
-use graphql_type_folding::graphql_ast::{Document, FileId, SourceFile, SourceSpan};
-use graphql_type_folding::graphql_folding::BuildError;
+use graphql_definitions::{Document, SourceFile};
+use graphql_folding::BuildError;
+use graphql_names::{FileId, SourceSpan};
 use indexmap::IndexMap;
 use std::alloc::Global;
+use std::mem;
 
 impl Building {
     /// A builder of no definitions, which counts extensions from 1. It takes no memory.
@@ -118,18 +120,33 @@ impl Building {
         ensures faultless { IfOk result (λ r. (faults_of r.1 ≡ []) ↔ FoldingRules built_in_definitions (builder_view self).first (counted (builder_view self))) }
         ensures refused { IfErr result (IsBuildRefusal (builder_view self)) }
     {
-        if self.failed {
-            return Err(BuilderRefusal::Failed);
-        }
-        let settled = settle(self.alloc, self.settings, &self.texts, &self.orphans)?;
-        let (folded, faults) = fold_list(self.alloc, &settled.list, settled.built_in)?;
+        let mut building = self;
+        let (folded, faults) = building.fold()?;
+        let none = IndexMap::new(building.alloc);
+        let sources = mem::replace(&mut building.sources, none);
         let built = Built {
-            sources: self.sources,
+            sources,
             schema_definition: folded.schema_definition,
             directive_definitions: folded.directive_definitions,
             types: folded.types,
         };
         Ok((built, faults))
+    }
+
+    /// What the definitions that count fold to, behind what is built in, and each rule that is broken.
+    fn fold(&self) -> Result<(Folded, Vec<(Option<SourceSpan>, BuildError)>), BuilderRefusal>
+        ensures running { OnOk result ((builder_view self.now).failed ≡ false) }
+        ensures schema { IfOk result (λ r. folded_view r.0 ≡ folded (builder_view self.now)) }
+        ensures faults { IfOk result (λ r. (f : _) → Contains (faults_of r.1) f ↔ FailsIn (builder_view self.now) f) }
+        ensures faultless { IfOk result (λ r. (faults_of r.1 ≡ []) ↔ FoldingRules built_in_definitions (builder_view self.now).first (counted (builder_view self.now))) }
+        ensures refused { IfErr result (IsBuildRefusal (builder_view self.now)) }
+    {
+        if self.failed {
+            return Err(BuilderRefusal::Failed);
+        }
+        let settled = settle(self.alloc, self.settings, &self.texts, &self.orphans)?;
+        let (folded, faults) = fold_list(self.alloc, &settled.list, settled.built_in)?;
+        Ok((folded, faults))
     }
 }
 

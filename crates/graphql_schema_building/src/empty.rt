@@ -1,17 +1,21 @@
 //! Definitions with nothing in them.
-ghost use Rattle.std.specs.Prelude.{◌≡◌, IfOk};
-ghost use Rattle.graphql_values.specs.Placed.{name_tree};
-ghost use Rattle.graphql_type_folding.specs.in_ast.DefinitionTree.{definition_tree};
-ghost use Rattle.graphql_type_folding.specs.in_folding.Adoption.{empty_schema};
+ghost use Rattle.std.specs.Prelude.{◌≡◌, None, IfOk};
+ghost use Rattle.graphql_names.specs.Node.{content, place};
+ghost use Rattle.graphql_names.specs.declared.node.Node.{Node};
+ghost use Rattle.graphql_names.specs.Placed.{name_tree};
+ghost use Rattle.graphql_definitions.specs.DefinitionTree.{definition_tree};
+ghost use Rattle.graphql_schema_folding.specs.in_folding.Adoption.{empty_schema};
 ghost use Rattle.graphql_built_in.specs.Table.{built_in_definitions};
 ghost use Rattle.graphql_schema_building.specs.Settling.{empty_of};
 
-use graphql_type_folding::graphql_ast::{
-    Definition, DirectiveList, EnumTypeDefinition, InputObjectTypeDefinition,
-    InterfaceTypeDefinition, Name, Node, ObjectTypeDefinition, ScalarTypeDefinition,
-    SchemaDefinition, UnionTypeDefinition,
+use graphql_composite_types::{InterfaceTypeDefinition, ObjectTypeDefinition, UnionTypeDefinition};
+use graphql_definitions::Definition;
+use graphql_directives::DirectiveList;
+use graphql_input_types::{
+    EnumTypeDefinition, InputObjectTypeDefinition, ScalarTypeDefinition, SchemaDefinition,
 };
-use graphql_type_folding::graphql_schema_types::TypeKind;
+use graphql_names::{Name, Node};
+use graphql_schema_types::TypeKind;
 use std::alloc::{AllocError, Global};
 
 /// The definition of a type of that kind and name, with nothing in it and no place.
@@ -23,15 +27,15 @@ pub(crate) fn empty_type(
     ensures { IfOk result (λ d. definition_tree d ≡ empty_of (name_tree name, kind)) }
 {
     match kind {
-        TypeKind::Scalar => Ok(Definition::ScalarTypeDefinition(Node::new(
+        TypeKind::Scalar => unplaced(
             alloc,
             ScalarTypeDefinition {
                 description: None,
                 name,
                 directives: DirectiveList::new(alloc),
             },
-        )?)),
-        TypeKind::Object => Ok(Definition::ObjectTypeDefinition(Node::new(
+        ),
+        TypeKind::Object => unplaced(
             alloc,
             ObjectTypeDefinition {
                 description: None,
@@ -40,8 +44,8 @@ pub(crate) fn empty_type(
                 directives: DirectiveList::new(alloc),
                 fields: Vec::new(alloc),
             },
-        )?)),
-        TypeKind::Interface => Ok(Definition::InterfaceTypeDefinition(Node::new(
+        ),
+        TypeKind::Interface => unplaced(
             alloc,
             InterfaceTypeDefinition {
                 description: None,
@@ -50,8 +54,8 @@ pub(crate) fn empty_type(
                 directives: DirectiveList::new(alloc),
                 fields: Vec::new(alloc),
             },
-        )?)),
-        TypeKind::Union => Ok(Definition::UnionTypeDefinition(Node::new(
+        ),
+        TypeKind::Union => unplaced(
             alloc,
             UnionTypeDefinition {
                 description: None,
@@ -59,8 +63,8 @@ pub(crate) fn empty_type(
                 directives: DirectiveList::new(alloc),
                 members: Vec::new(alloc),
             },
-        )?)),
-        TypeKind::Enum => Ok(Definition::EnumTypeDefinition(Node::new(
+        ),
+        TypeKind::Enum => unplaced(
             alloc,
             EnumTypeDefinition {
                 description: None,
@@ -68,8 +72,8 @@ pub(crate) fn empty_type(
                 directives: DirectiveList::new(alloc),
                 values: Vec::new(alloc),
             },
-        )?)),
-        TypeKind::InputObject => Ok(Definition::InputObjectTypeDefinition(Node::new(
+        ),
+        TypeKind::InputObject => unplaced(
             alloc,
             InputObjectTypeDefinition {
                 description: None,
@@ -77,7 +81,7 @@ pub(crate) fn empty_type(
                 directives: DirectiveList::new(alloc),
                 fields: Vec::new(alloc),
             },
-        )?)),
+        ),
     }
 }
 
@@ -85,12 +89,21 @@ pub(crate) fn empty_type(
 pub(crate) fn empty_schema(alloc: Global) -> Result<Definition, AllocError>
     ensures { IfOk result (λ d. definition_tree d ≡ empty_schema built_in_definitions) }
 {
-    Ok(Definition::SchemaDefinition(Node::new(
+    unplaced(
         alloc,
         SchemaDefinition {
             description: None,
             directives: DirectiveList::new(alloc),
             root_operations: Vec::new(alloc),
         },
-    )?))
+    )
+}
+
+/// A definition of this content and no place.
+fn unplaced<T: Drop>(alloc: Global, value: T) -> Result<Definition, AllocError>
+where
+    Definition: From<Node<T>>,
+    ensures { IfOk result (λ d. (n : Node T) × ((content n ≡ value) × ((place n ≡ None) × ⟦<Definition as From<Node<T>>>⟧.from_gives n d))) }
+{
+    Ok(Definition::from(Node::new(alloc, value)?))
 }

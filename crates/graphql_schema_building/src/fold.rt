@@ -1,16 +1,15 @@
 //! What a whole list folds to, with its faults.
 ghost use Rattle.std.specs.Prelude.{◌≤◌, length, map, IfOk};
-ghost use Rattle.graphql_type_folding.specs.in_folding.FaultView.{faults_of};
-ghost use Rattle.graphql_type_folding.specs.in_folding.ListedView.{listed_view};
+ghost use Rattle.graphql_schema_folding.specs.in_folding.FaultView.{faults_of};
+ghost use Rattle.graphql_schema_folding.specs.in_folding.ListedView.{listed_view};
 ghost use Rattle.graphql_schema_building.specs.BuiltView.{folded_view};
 ghost use Rattle.graphql_schema_building.specs.ListBuilt.{Folds, FoldsParts};
 
-use graphql_folding_rules::tell_misplaced;
-use graphql_type_folding::fold_types;
-use graphql_type_folding::graphql_ast::{DirectiveDefinition, Name, Node, SourceSpan};
-use graphql_type_folding::graphql_folding::{BuildError, Listed};
-use graphql_type_folding::graphql_schema_folding::{fold_directives, fold_schema};
-use graphql_type_folding::graphql_schema_types::{ExtendedType, SchemaDefinition};
+use graphql_directives::DirectiveDefinition;
+use graphql_folding::{BuildError, Listed};
+use graphql_names::{Name, Node, SourceSpan};
+use graphql_schema_folding::{fold_directives, fold_schema, fold_types, tell_misplaced};
+use graphql_schema_types::{ExtendedType, SchemaDefinition};
 use indexmap::IndexMap;
 use std::alloc::{AllocError, Global};
 

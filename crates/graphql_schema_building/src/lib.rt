@@ -24,7 +24,3 @@ mod waiting;
 pub use refusal::BuilderRefusal;
 pub use state::{Building, Built};
 pub use waiting::OrphanExtensionTypes;
-
-// The crates beneath, for those above.
-pub use graphql_built_in;
-pub use graphql_type_folding::{graphql_ast, graphql_folding, graphql_schema_types};

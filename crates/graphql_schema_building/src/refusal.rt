@@ -1,6 +1,6 @@
 //! Why a schema builder refuses.
 
-use graphql_type_folding::graphql_ast::Spent;
+use graphql_names::Spent;
 use std::alloc::AllocError;
 
 /// Why a schema builder refuses.

@@ -4,8 +4,10 @@ ghost use Rattle.graphql_schema_building.specs.KeptView.{IsKept};
 use crate::orphans::Orphans;
 use crate::settle::Settings;
 use crate::texts::Texts;
-use graphql_type_folding::graphql_ast::{DirectiveDefinition, FileId, Name, Node, SourceFile};
-use graphql_type_folding::graphql_schema_types::{ExtendedType, SchemaDefinition};
+use graphql_definitions::SourceFile;
+use graphql_directives::DirectiveDefinition;
+use graphql_names::{FileId, Name, Node};
+use graphql_schema_types::{ExtendedType, SchemaDefinition};
 use indexmap::IndexMap;
 use std::alloc::Global;
 
@@ -13,7 +15,6 @@ use std::alloc::Global;
 /// for a definition.
 ///
 /// Contracts see it by `builder_view` alone.
-#[derive(Drop)]
 pub struct Building {
     pub(crate) alloc: Global,
     pub(crate) settings: Settings,
@@ -22,6 +23,20 @@ pub struct Building {
     pub(crate) sources: IndexMap<FileId, SourceFile>,
     pub(crate) failed: bool,
     ghost kept: { IsKept texts orphans failed },
+}
+
+/// Lets go what it keeps, here and not wherever a builder goes.
+impl Drop for Building {
+    fn drop(self) {
+        let Building {
+            alloc: _,
+            settings: _,
+            texts: _,
+            orphans: _,
+            sources: _,
+            failed: _,
+        } = self;
+    }
 }
 
 /// What is built: the fold of the definitions, and the sources that they came from.

@@ -5,8 +5,8 @@ ghost use Rattle.graphql_schema_building.specs.Waiting.{is_orphan_in, orphan_kin
 
 use crate::built_in_types::is_built_in_type;
 use crate::orphans::Orphans;
-use graphql_type_folding::graphql_ast::Name;
-use graphql_type_folding::graphql_schema_types::TypeKind;
+use graphql_names::Name;
+use graphql_schema_types::TypeKind;
 use indexmap::IndexMap;
 use indexmap::map::Slice;
 

@@ -2,7 +2,7 @@
 use Rattle.std.proofs.Common.{◌≡◌, ℕ, List, [], ◌∷◌, ◌++◌, ◌||◌, Option, None, ap, ◌∙◌, if◌then◌else◌, is_some, slice_get}
 use Rattle.std.specs.List.{flat_map}
 use Rattle.std.specs.Option.{option_map_or}
-use Rattle.graphql_values.specs.Placed.{Place}
+use Rattle.graphql_names.specs.Placed.{Place}
 use Rattle.graphql_folding.specs.in_schema_types.SchemaTree.{SchemaRoots}
 use Rattle.graphql_folding.specs.Listed.{Definitions, Listed, numbered}
 use Rattle.graphql_folding.specs.SchemaFold.{SchemaGiver, implicit_roots, schema_definition_in, schema_base, schema_is_defined, extends_schema, schema_parts, roots_given, root_key}

@@ -3,8 +3,8 @@ use Rattle.std.specs.Prelude.{◌≡◌, ◌↔◌, ◌⊎◌, List, ◌++◌, m
 use Rattle.std.specs.Map.{lookup}
 use Rattle.std.specs.Option.{option_map_or}
 use Rattle.std.specs.Str.{bytes_eq}
-use Rattle.graphql_values.specs.Placed.{Placed, Place}
-use Rattle.graphql_values.specs.DirectiveTree.{DirectiveDefinitionTree}
+use Rattle.graphql_names.specs.Placed.{Placed, Place}
+use Rattle.graphql_directives.specs.DirectiveTree.{DirectiveDefinitionTree}
 use Rattle.graphql_components.specs.Lists.{firsts, repeats}
 use Rattle.graphql_components.specs.Names.{Entries}
 use Rattle.graphql_folding.specs.Listed.{Definitions, directive_name}

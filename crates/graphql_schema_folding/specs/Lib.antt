@@ -5,7 +5,11 @@ pub mod RootsView
 pub mod DirectiveFold
 pub mod TypeFaults
 pub mod DirectivesView
-pub use Rattle.graphql_folding.specs.in_ast as in_ast
-pub use Rattle.graphql_folding.specs.in_definitions as in_definitions
 pub use Rattle.graphql_folding.specs as in_folding
 pub use Rattle.graphql_folding.specs.in_schema_types as in_schema_types
+pub mod ListTypes
+pub mod Filing
+pub mod OwnNames
+pub mod Misplaced
+pub mod Seen
+pub mod SeenView

@@ -4,10 +4,10 @@ use Rattle.std.specs.Option.{option_map}
 use Rattle.graphql_names.specs.Node.{content, place}
 use Rattle.graphql_names.specs.declared.node.Node.{Node}
 use Rattle.graphql_names.specs.declared.name.Name.{Name}
-use Rattle.graphql_values.specs.Placed.{Place, text_tree}
-use Rattle.graphql_values.specs.DirectiveTree.{directive_tree}
+use Rattle.graphql_names.specs.Placed.{Place, text_tree}
+use Rattle.graphql_directives.specs.DirectiveTree.{directive_tree}
 use Rattle.graphql_operations.specs.declared.operation.OperationType.{OperationType}
-use Rattle.graphql_folding.specs.in_ast.DefinitionTree.{root_tree, schema_parts}
+use Rattle.graphql_definitions.specs.DefinitionTree.{root_tree, schema_parts}
 use Rattle.graphql_input_types.specs.declared.schema.SchemaDefinition.{SchemaDefinition}
 use Rattle.graphql_components.specs.Given.{Given, component_tree, component_name_tree}
 use Rattle.graphql_components.specs.declared.component.Component.{Component}

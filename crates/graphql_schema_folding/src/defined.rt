@@ -1,16 +1,18 @@
 //! What a list of definitions says of the schema: its first schema definition, and which objects it defines.
 ghost use Rattle.std.specs.Prelude.{◌≡◌, map, option_copied};
 ghost use Rattle.std.specs.Option.{option_map};
-ghost use Rattle.graphql_folding.specs.in_ast.DefinitionTree.{definition_tree, schema_extension_parts};
+ghost use Rattle.graphql_definitions.specs.DefinitionTree.{definition_tree, schema_extension_parts};
 ghost use Rattle.graphql_folding.specs.SchemaFold.{schema_here, schema_extension_here, schema_definition_in, is_object_in};
 ghost use Rattle.graphql_folding.specs.ListedView.{listed_view};
 ghost use Rattle.graphql_schema_folding.specs.ListFold.{definitions_of};
 ghost use Rattle.graphql_schema_folding.specs.RootsView.{schema_giver};
 ghost use Rattle.graphql_schema_folding.specs.KindNamed.{kind_here, kind_named};
 
-use graphql_folding::graphql_ast::{Definition, Node, SchemaDefinition, SchemaExtension};
-use graphql_folding::graphql_schema_types::TypeKind;
+use graphql_definitions::Definition;
 use graphql_folding::{Listed, type_definition};
+use graphql_input_types::{SchemaDefinition, SchemaExtension};
+use graphql_names::Node;
+use graphql_schema_types::TypeKind;
 
 /// The schema definition, if it is one.
 fn schema_definition(d: &Definition) -> Option<&Node<SchemaDefinition>>
@@ -23,7 +25,7 @@ fn schema_definition(d: &Definition) -> Option<&Node<SchemaDefinition>>
 }
 
 /// The schema extension, if it is one.
-pub(crate) fn schema_extension(d: &Definition) -> Option<&SchemaExtension>
+pub fn schema_extension(d: &Definition) -> Option<&SchemaExtension>
     ensures { option_map schema_extension_parts (option_copied result) ≡ schema_extension_here (definition_tree d.now) }
 {
     match d {
@@ -33,7 +35,7 @@ pub(crate) fn schema_extension(d: &Definition) -> Option<&SchemaExtension>
 }
 
 /// The first schema definition of the list, if there is one.
-pub(crate) fn first_schema(list: &[Listed]) -> Option<&Node<SchemaDefinition>>
+pub fn first_schema(list: &[Listed]) -> Option<&Node<SchemaDefinition>>
     ensures { option_map schema_giver (option_copied result) ≡ schema_definition_in (definitions_of (map listed_view list.now)) }
 {
     for listed in list {
@@ -45,7 +47,7 @@ pub(crate) fn first_schema(list: &[Listed]) -> Option<&Node<SchemaDefinition>>
 }
 
 /// Whether an object of that name is defined: a type is given by the first definition of its name.
-pub(crate) fn is_object(list: &[Listed], name: &str) -> bool
+pub fn is_object(list: &[Listed], name: &str) -> bool
     ensures { result ≡ is_object_in (definitions_of (map listed_view list.now)) name.now }
 {
     match kind_named(list, name) {

@@ -4,7 +4,7 @@ ghost use Rattle.indexmap.specs.IndexMap.{get};
 ghost use Rattle.graphql_names.specs.Node.{content};
 ghost use Rattle.graphql_components.specs.Names.{same_text};
 ghost use Rattle.graphql_folding.specs.in_schema_types.TypeView.{name_text};
-ghost use Rattle.graphql_folding.specs.in_ast.DefinitionTree.{definition_tree};
+ghost use Rattle.graphql_definitions.specs.DefinitionTree.{definition_tree};
 ghost use Rattle.graphql_folding.specs.Listed.{directive_name, directives_in};
 ghost use Rattle.graphql_folding.specs.Components.{keyed_firsts};
 ghost use Rattle.graphql_folding.specs.Fold.{folded_directives};
@@ -16,8 +16,10 @@ ghost use Rattle.graphql_schema_folding.specs.ListFold.{definitions_of};
 ghost use Rattle.graphql_schema_folding.specs.DirectiveFold.{directive_fault, directive_faults, chosen_of, chosen_firsts, Chooses, TellsDirectives};
 ghost use Rattle.graphql_schema_folding.specs.DirectivesView.{directive_view, directives_view, entries_view};
 
-use graphql_folding::graphql_ast::{Definition, DirectiveDefinition, Name, Node, SourceSpan};
+use graphql_definitions::Definition;
+use graphql_directives::DirectiveDefinition;
 use graphql_folding::{BuildError, Listed};
+use graphql_names::{Name, Node, SourceSpan};
 use indexmap::IndexMap;
 use std::alloc::{AllocError, Global};
 

@@ -1,9 +1,9 @@
 //! All that the schema definition is given, repeated roots too.
 ghost use Rattle.std.specs.Prelude.{◌≡◌, ◌++◌, [], map, OnOk};
 ghost use Rattle.std.specs.List.{flat_map};
-ghost use Rattle.graphql_values.specs.Placed.{node_tree};
-ghost use Rattle.graphql_values.specs.DirectiveTree.{directives_tree};
-ghost use Rattle.graphql_folding.specs.in_ast.DefinitionTree.{root_tree};
+ghost use Rattle.graphql_names.specs.Placed.{node_tree};
+ghost use Rattle.graphql_directives.specs.DirectiveTree.{directives_tree};
+ghost use Rattle.graphql_definitions.specs.DefinitionTree.{root_tree};
 ghost use Rattle.graphql_components.specs.Given.{origin_tree};
 ghost use Rattle.graphql_folding.specs.Components.{all_given};
 ghost use Rattle.graphql_folding.specs.PartsView.{itself, given_contents};
@@ -14,8 +14,11 @@ ghost use Rattle.graphql_schema_folding.specs.RootsView.{all_of_schema};
 
 use crate::defined::schema_extension;
 use graphql_components::{Component, ComponentOrigin};
+use graphql_directives::{Directive, DirectiveList};
 use graphql_folding::Listed;
-use graphql_folding::graphql_ast::{Directive, DirectiveList, NamedType, Node, OperationType};
+use graphql_literals::NamedType;
+use graphql_names::Node;
+use graphql_operations::OperationType;
 use std::alloc::{AllocError, Global};
 
 /// Adds these nodes, shared, from that origin.
@@ -34,10 +37,19 @@ fn add_given<T: Drop>(
 }
 
 /// All that the schema definition is given, in order, repeated roots too.
-#[derive(Drop)]
 pub(crate) struct SchemaComponents {
     pub(crate) directives: Vec<Component<Directive>>,
     pub(crate) roots: Vec<Component<(OperationType, NamedType)>>,
+}
+
+/// Lets both classes go, here and not wherever what is given goes.
+impl Drop for SchemaComponents {
+    fn drop(self) {
+        let SchemaComponents {
+            directives: _,
+            roots: _,
+        } = self;
+    }
 }
 
 impl SchemaComponents {

@@ -10,7 +10,9 @@ ghost use Rattle.graphql_schema_folding.specs.RootsView.{roots_given_by};
 use crate::defined::is_object;
 use graphql_components::{Component, ComponentOrigin};
 use graphql_folding::Listed;
-use graphql_folding::graphql_ast::{Name, NamedType, Node, OperationType};
+use graphql_literals::NamedType;
+use graphql_names::{Name, Node};
+use graphql_operations::OperationType;
 use std::alloc::{AllocError, Global};
 
 /// Adds the implicit roots: without a schema definition the objects with the default names are the roots (section 3.3.1).

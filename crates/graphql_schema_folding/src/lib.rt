@@ -1,21 +1,32 @@
-//! The fold of the schema definition and of the definitions of directives.
+//! The fold of a list of definitions: the schema definition, the definitions of directives and the types; and the folding
+//! rules that are judged by what stands at a position of the list: definitions behind others of their name, and extensions
+//! of what is not defined or is of another kind.
 //!
-//! For the layer above: what they fold to is stated by positions in the whole list of definitions
-//! (`specs/SchemaFold.antt` and `specs/Fold.antt` of `graphql_folding`).
+//! For the layer above: what they fold to, and the faults, are stated by positions in the whole list of definitions
+//! (`specs/SchemaFold.antt`, `specs/Fold.antt` and `specs/BuildErrors.antt` of `graphql_folding`); `specs/Misplaced.antt`
+//! puts the rules together. Extensions are found by the name of their type, so that no definition is looked at once for
+//! each type.
 //!
-//! Begin with `specs/ListFold.antt` and `schema.rt`.
+//! Begin with `specs/ListFold.antt`, `schema.rt`, `types.rt` and `misplaced.rt`.
 #![tactic(auto)]
 
+mod collisions;
 mod defined;
 mod directives;
+mod extensions;
 mod given;
 mod implicit;
+mod insert;
+mod misplaced;
+mod orphans;
 mod roots;
 mod schema;
+mod seen;
+mod tell;
+mod types;
 
+pub use defined::{first_schema, is_object, schema_extension};
 pub use directives::fold_directives;
+pub use misplaced::tell_misplaced;
 pub use schema::fold_schema;
-
-// The crates beneath, for those above.
-pub use graphql_folding;
-pub use graphql_folding::{graphql_ast, graphql_schema_types};
+pub use types::fold_types;

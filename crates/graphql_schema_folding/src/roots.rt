@@ -1,6 +1,6 @@
 //! The first root of each operation.
 ghost use Rattle.std.specs.Prelude.{◌≡◌, ◌++◌, ◌∷◌, [], IfOk, OnOk, is_some};
-ghost use Rattle.graphql_folding.specs.in_ast.DefinitionTree.{root_tree};
+ghost use Rattle.graphql_definitions.specs.DefinitionTree.{root_tree};
 ghost use Rattle.graphql_components.specs.Given.{component_tree, component_name_tree};
 ghost use Rattle.graphql_folding.specs.FaultView.{faults_of};
 ghost use Rattle.graphql_folding.specs.BuildErrors.{DuplicateRootOperation};
@@ -10,7 +10,9 @@ ghost use Rattle.graphql_schema_folding.specs.RootsView.{root_names, roots_given
 
 use graphql_components::{Component, ComponentName};
 use graphql_folding::BuildError;
-use graphql_folding::graphql_ast::{NamedType, OperationType, SourceSpan};
+use graphql_literals::NamedType;
+use graphql_names::SourceSpan;
+use graphql_operations::OperationType;
 use std::alloc::AllocError;
 
 /// The roots that are kept.

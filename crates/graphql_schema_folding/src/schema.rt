@@ -3,8 +3,8 @@ ghost use Rattle.std.specs.Prelude.{◌≡◌, ◌++◌, ◌∷◌, None, map, I
 ghost use Rattle.std.specs.List.{flat_map};
 ghost use Rattle.std.specs.Option.{option_map};
 ghost use Rattle.graphql_names.specs.Node.{place, content};
-ghost use Rattle.graphql_values.specs.Placed.{text_tree};
-ghost use Rattle.graphql_folding.specs.in_ast.DefinitionTree.{schema_parts};
+ghost use Rattle.graphql_names.specs.Placed.{text_tree};
+ghost use Rattle.graphql_definitions.specs.DefinitionTree.{schema_parts};
 ghost use Rattle.graphql_folding.specs.in_schema_types.TypeView.{schema_roots};
 ghost use Rattle.graphql_folding.specs.SchemaFold.{extends_schema};
 ghost use Rattle.graphql_folding.specs.FaultView.{faults_of};
@@ -18,11 +18,13 @@ use crate::given::SchemaComponents;
 use crate::implicit::add_implicit_roots;
 use crate::roots::keep_roots;
 use graphql_components::{ComponentOrigin, DirectiveList};
-use graphql_folding::graphql_ast::{Node, NodeStr, SchemaDefinition as SchemaNode, SourceSpan};
-use graphql_folding::graphql_schema_types::SchemaDefinition;
 use graphql_folding::{BuildError, Listed};
+use graphql_input_types::SchemaDefinition as SchemaNode;
+use graphql_names::{Node, NodeStr, SourceSpan};
+use graphql_schema_types::SchemaDefinition;
 use graphql_type_members::clone_description;
 use std::alloc::{AllocError, Global};
+use std::mem;
 
 /// Folds the schema definition (section 3.3): the first one or, where there is none, the implicit roots; and then
 /// each schema extension, where they apply. Tells each root that is not the first of its operation.
@@ -52,9 +54,9 @@ fn fold_defined(
     ensures folded { IfOk result (λ n. schema_roots n ≡ schema_from (place defined.now) (option_map text_tree (content defined.now).description) (record { extension = None; it = schema_parts (content defined.now) } ∷ flat_map extends_schema (map listed_view list.now))) }
     ensures faults { OnOk result (faults_of faults.new ≡ faults_of faults.old ++ root_faults (roots_from (record { extension = None; it = schema_parts (content defined.now) } ∷ flat_map extends_schema (map listed_view list.now)))) }
 {
-    let all = collect_defined(alloc, defined.content(), list)?;
+    let mut all = collect_defined(alloc, defined.content(), list)?;
     let description = clone_description(&defined.content().description)?;
-    let made = make_schema(description, all, faults)?;
+    let made = make_schema(alloc, description, &mut all, faults)?;
     Ok(defined.same_location(alloc, made)?)
 }
 
@@ -67,8 +69,8 @@ fn fold_implicit(
     ensures folded { IfOk result (λ n. schema_roots n ≡ schema_from None None (implicit_parts (map listed_view list.now))) }
     ensures faults { OnOk result (faults_of faults.new ≡ faults_of faults.old ++ root_faults (roots_from (implicit_parts (map listed_view list.now)))) }
 {
-    let all = collect_implicit(alloc, list)?;
-    let made = make_schema(None, all, faults)?;
+    let mut all = collect_implicit(alloc, list)?;
+    let made = make_schema(alloc, None, &mut all, faults)?;
     Ok(Node::new(alloc, made)?)
 }
 
@@ -103,19 +105,21 @@ fn collect_implicit(alloc: Global, list: &[Listed]) -> Result<SchemaComponents, 
     Ok(all)
 }
 
-/// The schema definition that is made of these: the first root of each operation, and all applied directives.
+/// The schema definition that is made of these: the first root of each operation, and all applied directives, which
+/// are taken.
 fn make_schema(
+    alloc: Global,
     description: Option<NodeStr>,
-    all: SchemaComponents,
+    all: &mut SchemaComponents,
     faults: &mut Vec<(Option<SourceSpan>, BuildError)>,
 ) -> Result<SchemaDefinition, AllocError>
-    ensures made { IfOk result (λ s. (p : _) → schema_made p s ≡ made_from p (option_map text_tree description) (all_of_schema all)) }
-    ensures faults { OnOk result (faults_of faults.new ≡ faults_of faults.old ++ root_faults (all_of_schema all).roots) }
+    ensures made { IfOk result (λ s. (p : _) → schema_made p s ≡ made_from p (option_map text_tree description) (all_of_schema all.old)) }
+    ensures faults { OnOk result (faults_of faults.new ≡ faults_of faults.old ++ root_faults (all_of_schema all.old).roots) }
 {
     let roots = keep_roots(&all.roots, faults)?;
     Ok(SchemaDefinition {
         description,
-        directives: DirectiveList(all.directives),
+        directives: DirectiveList(mem::replace(&mut all.directives, Vec::new(alloc))),
         query: roots.query,
         mutation: roots.mutation,
         subscription: roots.subscription,

@@ -1,8 +1,8 @@
 //! Builders with a row's settings and texts.
 
+use graphql_names::FileId;
 use graphql_read_rows::document_of;
-use graphql_read_rows::graphql_read::graphql_ast::FileId;
-use graphql_read_rows::graphql_row_files::{Case, Problem, number, says, texts};
+use graphql_row_files::{Case, Problem, number, says, texts};
 use graphql_schema::{BuilderRefusal, Extensions, Schema, SchemaBuilder};
 use std::alloc::Global;
 

@@ -6,10 +6,10 @@ use graphql_coords::{
     DirectiveArgumentCoordinate, DirectiveCoordinate, FieldArgumentCoordinate, SchemaCoordinate,
     SchemaCoordinateParseError, TypeAttributeCoordinate, TypeCoordinate,
 };
-use graphql_read_rows::graphql_row_files::{
+use graphql_read_rows::{shown_answer, text_of};
+use graphql_row_files::{
     Answer, Case, Field, Problem, Tally, Way, answer_of, compare, texts, whole,
 };
-use graphql_read_rows::{shown_answer, text_of};
 use graphql_schema::Schema;
 use std::alloc::{AllocError, Global};
 use std::fmt::Display;

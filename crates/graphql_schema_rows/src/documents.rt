@@ -6,9 +6,9 @@ use crate::walks::push_document;
 use graphql_documents::{
     BuildError, ExecutableDocument, ExecutableDocumentBuilder, ExecutableDocumentExt,
 };
+use graphql_names::{FileId, SourceSpan};
 use graphql_read_rows::document_of;
-use graphql_read_rows::graphql_read::graphql_ast::{FileId, SourceSpan};
-use graphql_read_rows::graphql_row_files::{
+use graphql_row_files::{
     Answer, Case, Problem, Tally, Way, answer_of, compare, says, texts, whole,
 };
 use graphql_schema::Schema;

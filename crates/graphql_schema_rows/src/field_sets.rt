@@ -4,12 +4,11 @@ use crate::building::built;
 use crate::documents::{faults_answer, first_file};
 use crate::outline::push_set;
 use graphql_documents::{BuildError, FieldSet, FieldSetExt};
-use graphql_read_rows::graphql_read::graphql_ast::{FileId, Name, Selection, SourceSpan};
-use graphql_read_rows::graphql_read::parse_selections;
-use graphql_read_rows::graphql_row_files::{
-    Answer, Case, Problem, Tally, Way, compare, texts, whole,
-};
+use graphql_names::{FileId, Name, SourceSpan};
+use graphql_operations::Selection;
+use graphql_read::parse_selections;
 use graphql_read_rows::text_of;
+use graphql_row_files::{Answer, Case, Problem, Tally, Way, compare, texts, whole};
 use graphql_schema::Schema;
 use std::alloc::{AllocError, Global};
 

@@ -19,6 +19,3 @@ pub use coordinates::by_coordinate;
 pub use documents::by_document;
 pub use field_sets::by_field_set;
 pub use schemas::{by_schema, push_faults};
-
-// The crates beneath, for those above.
-pub use graphql_read_rows;

@@ -1,7 +1,8 @@
 //! The lines that tell of a part of a document.
 
+use graphql_directives::DirectiveList;
 use graphql_documents::{Field, Fragment, FragmentSpread, InlineFragment, Operation};
-use graphql_read_rows::graphql_read::graphql_ast::{DirectiveList, Name, Node};
+use graphql_names::{Name, Node};
 use std::alloc::{AllocError, Global};
 use std::fmt::Display;
 

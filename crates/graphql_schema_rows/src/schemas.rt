@@ -1,11 +1,9 @@
 //! Rows of schemas that are built and written out.
 
 use crate::building::{add_texts, builder_of, refusal_words};
-use graphql_read_rows::graphql_read::graphql_ast::SourceSpan;
-use graphql_read_rows::graphql_row_files::{
-    Answer, Case, Problem, Tally, Way, answer_of, compare, whole,
-};
+use graphql_names::SourceSpan;
 use graphql_read_rows::writable_answer;
+use graphql_row_files::{Answer, Case, Problem, Tally, Way, answer_of, compare, whole};
 use graphql_schema::{BuildError, Schema, SchemaBuilder};
 use std::alloc::{AllocError, Global};
 use std::fmt::Display;

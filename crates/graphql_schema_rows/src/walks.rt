@@ -5,7 +5,8 @@ use crate::outline::push_set;
 use graphql_documents::{
     AllFields, ExecutableDocument, Field, Operation, OperationExt, RootFields, SelectionSet,
 };
-use graphql_read_rows::graphql_read::graphql_ast::{Node, Tree};
+use graphql_names::Node;
+use graphql_printing::Tree;
 use std::alloc::{AllocError, Global};
 
 /// Adds what the call tells of the document.

@@ -8,5 +8,3 @@ pub mod TypeParts
 pub mod Out
 pub mod Looks
 pub mod Addresses
-pub use Rattle.graphql_ast.specs as in_ast
-pub use Rattle.graphql_ast.specs.in_definitions as in_definitions

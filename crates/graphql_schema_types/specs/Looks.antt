@@ -3,9 +3,9 @@ use Rattle.std.specs.Prelude.{ℕ, Bool, List, Option}
 use Rattle.std.specs.Option.{option_map}
 use Rattle.std.specs.FinMap as fin
 use Rattle.std.specs.FinSet as set
-use Rattle.graphql_values.specs.Placed.{Text}
-use Rattle.graphql_values.specs.DirectiveTree.{DirectiveTree, InputValueTree, DirectiveDefinitionTree}
-use Rattle.graphql_ast.specs.TypeSystemTree.{FieldDefinitionTree, EnumValueTree}
+use Rattle.graphql_names.specs.Placed.{Text}
+use Rattle.graphql_directives.specs.DirectiveTree.{DirectiveTree, InputValueTree, DirectiveDefinitionTree}
+use Rattle.graphql_type_members.specs.TypeSystemTree.{FieldDefinitionTree, EnumValueTree}
 use Rattle.graphql_schema_types.specs.Plain.{PlainType, PlainRoots, PlainSchema}
 use Rattle.graphql_schema_types.specs.declared.type_kind.TypeKind.{TypeKind}
 

@@ -4,13 +4,13 @@ use Rattle.std.specs.List.{flat_map, filter, find}
 use Rattle.std.specs.Option.{option_map_or}
 use Rattle.std.specs.Str.{bytes_eq}
 use Rattle.graphql_names.specs.Places.{is_built_in}
-use Rattle.graphql_values.specs.Placed.{Placed, Place, Text}
+use Rattle.graphql_names.specs.Placed.{Placed, Place, Text}
 use Rattle.graphql_values.specs.OperationQueries.{default_root_name}
-use Rattle.graphql_values.specs.DirectiveTree.{DirectiveDefinitionTree}
+use Rattle.graphql_directives.specs.DirectiveTree.{DirectiveDefinitionTree}
 use Rattle.graphql_operations.specs.declared.operation.OperationType.{OperationType}
 use Rattle.graphql_operations.specs.declared.operation.OperationType.TheVariants as operation
-use Rattle.graphql_ast.specs.TypeSystemTree.{RootOperationTree, SchemaParts}
-use Rattle.graphql_ast.specs.DefinitionTree.{DefinitionTree, DirectiveDefinition, Schema, ExtendSchema}
+use Rattle.graphql_type_members.specs.TypeSystemTree.{RootOperationTree, SchemaParts}
+use Rattle.graphql_definitions.specs.DefinitionTree.{DefinitionTree, DirectiveDefinition, Schema, ExtendSchema}
 use Rattle.graphql_components.specs.Names.{Entries}
 use Rattle.graphql_components.specs.Lists.{firsts}
 use Rattle.graphql_components.specs.Given.{Given, ExtensionTree}

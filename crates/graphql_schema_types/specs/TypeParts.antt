@@ -1,10 +1,10 @@
 -- What the definition of a type, or an extension of one, gives: one record for all kinds (GraphQL, October 2021, section 3.4).
 use Rattle.std.specs.Prelude.{List, [], Option, None, Some}
-use Rattle.graphql_values.specs.Placed.{Placed, Text}
-use Rattle.graphql_values.specs.DirectiveTree.{Directives, InputValues}
-use Rattle.graphql_ast.specs.TypeSystemTree.{FieldDefinitionTree, EnumValueTree, ScalarParts, FieldsParts, UnionParts, EnumParts, InputObjectParts}
-use Rattle.graphql_ast.specs.DefinitionTree as tree
-use Rattle.graphql_ast.specs.DefinitionTree.{DefinitionTree}
+use Rattle.graphql_names.specs.Placed.{Placed, Text}
+use Rattle.graphql_directives.specs.DirectiveTree.{Directives, InputValues}
+use Rattle.graphql_type_members.specs.TypeSystemTree.{FieldDefinitionTree, EnumValueTree, ScalarParts, FieldsParts, UnionParts, EnumParts, InputObjectParts}
+use Rattle.graphql_definitions.specs.DefinitionTree as tree
+use Rattle.graphql_definitions.specs.DefinitionTree.{DefinitionTree}
 use Rattle.graphql_schema_types.specs.declared.type_kind.TypeKind.{TypeKind}
 use Rattle.graphql_schema_types.specs.declared.type_kind.TypeKind.TheVariants.{Scalar, Object, Interface, Union, Enum, InputObject}
 

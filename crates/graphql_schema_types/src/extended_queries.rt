@@ -2,15 +2,15 @@
 ghost use Rattle.std.specs.Prelude.{◌≡◌, ◌||◌, not, codes};
 ghost use Rattle.std.specs.Option.{option_map};
 ghost use Rattle.graphql_names.specs.Places.{is_built_in};
-ghost use Rattle.graphql_values.specs.Placed.{name_tree, text_tree};
+ghost use Rattle.graphql_names.specs.Placed.{name_tree, text_tree};
 ghost use Rattle.graphql_components.specs.Applied.{applied_tree};
 ghost use Rattle.graphql_schema_types.specs.SchemaTree.{is_leaf_kind, is_input_kind, is_output_kind, kind_words};
 ghost use Rattle.graphql_schema_types.specs.TypeView.{extended_type};
 
 use crate::extended_type::ExtendedType;
 use crate::type_kind::TypeKind;
-use graphql_ast::{Name, NodeStr, SourceSpan};
 use graphql_components::DirectiveList;
+use graphql_names::{Name, NodeStr, SourceSpan};
 
 impl ExtendedType {
     /// Its kind.

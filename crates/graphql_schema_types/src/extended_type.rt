@@ -3,7 +3,7 @@ ghost use Rattle.std.specs.Prelude.{◌≡◌};
 ghost use Rattle.graphql_schema_types.specs.declared.extended_type.ExtendedType.TheVariants as variant;
 
 use crate::kinds::{EnumType, InputObjectType, InterfaceType, ObjectType, ScalarType, UnionType};
-use graphql_ast::Node;
+use graphql_names::Node;
 
 /// A type of any kind, with all that its definition and extensions gave (section 3.4).
 #[derive(PartialEq, Eq)]

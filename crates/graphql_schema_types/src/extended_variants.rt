@@ -1,13 +1,13 @@
 //! A type as one of its kinds.
 ghost use Rattle.std.specs.Prelude.{◌≡◌};
-ghost use Rattle.graphql_ast.specs.Queries.{IsContentOf};
+ghost use Rattle.graphql_definitions.specs.Queries.{IsContentOf};
 ghost use Rattle.graphql_schema_types.specs.SchemaTree.{same_kind};
 ghost use Rattle.graphql_schema_types.specs.TypeView.{extended_type};
 ghost use Rattle.graphql_schema_types.specs.declared.type_kind.TypeKind.TheVariants as kind;
 
 use crate::extended_type::ExtendedType;
 use crate::kinds::{EnumType, InputObjectType, InterfaceType, ObjectType, ScalarType, UnionType};
-use graphql_ast::Node;
+use graphql_names::Node;
 
 /// Whether the type is of that kind.
 impl ExtendedType {

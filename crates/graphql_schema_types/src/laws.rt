@@ -5,7 +5,7 @@ ghost use Rattle.graphql_schema_types.specs.Plain.{plain_type, plain_roots};
 
 use crate::extended_type::ExtendedType;
 use crate::schema_definition::SchemaDefinition;
-use graphql_ast::Node;
+use graphql_names::Node;
 
 /// Whether two types are equal.
 #[tactic(auto, using(crate::proofs::TypeEquality::equality))]

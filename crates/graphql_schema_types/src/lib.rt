@@ -26,6 +26,3 @@ pub use roots::RootOperations;
 pub use schema_definition::SchemaDefinition;
 pub use shared::{node_at, shared_description};
 pub use type_kind::TypeKind;
-
-// The crates beneath, for those above.
-pub use graphql_ast;

@@ -4,8 +4,9 @@ ghost use Rattle.std.specs.Iterator.{YieldsFirst, item_count};
 ghost use Rattle.graphql_schema_types.specs.Origins.{component_origins, extensions_in};
 ghost use Rattle.graphql_schema_types.specs.OriginsLeft.{left_origins, noted};
 
-use graphql_ast::{Directive, EnumValueDefinition, FieldDefinition, InputValueDefinition};
 use graphql_components::{Component, ComponentName, ComponentOrigin, ExtensionId};
+use graphql_directives::{Directive, InputValueDefinition};
+use graphql_type_members::{EnumValueDefinition, FieldDefinition};
 use indexmap::IndexSet;
 use std::alloc::{AllocError, Global};
 

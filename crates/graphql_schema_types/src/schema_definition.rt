@@ -6,8 +6,8 @@ ghost use Rattle.graphql_schema_types.specs.OriginsLeft.{left_origins, left_root
 
 use crate::origins::Origins;
 use crate::roots::RootOperations;
-use graphql_ast::NodeStr;
 use graphql_components::{ComponentName, ComponentOrigin, DirectiveList, ExtensionId};
+use graphql_names::NodeStr;
 use indexmap::IndexSet;
 use std::alloc::{AllocError, Global};
 

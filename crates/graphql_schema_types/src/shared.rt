@@ -2,9 +2,9 @@
 ghost use Rattle.std.specs.Prelude.{◌≡◌, IfOk};
 ghost use Rattle.std.specs.Option.{option_map};
 ghost use Rattle.graphql_names.specs.Node.{content, place};
-ghost use Rattle.graphql_values.specs.Placed.{text_tree};
+ghost use Rattle.graphql_names.specs.Placed.{text_tree};
 
-use graphql_ast::{Node, NodeStr, SourceSpan};
+use graphql_names::{Node, NodeStr, SourceSpan};
 use std::alloc::{AllocError, Global};
 
 /// A node of the value with that place.

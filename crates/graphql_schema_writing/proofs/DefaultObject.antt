@@ -4,7 +4,7 @@ use Rattle.std.specs.Option.{option_map_or}
 use Rattle.std.specs.Map.{lookup}
 use Rattle.std.specs.Str.{bytes_eq}
 use Rattle.graphql_names.specs.NameValue.{NameValue}
-use Rattle.graphql_values.specs.Placed.{Place}
+use Rattle.graphql_names.specs.Placed.{Place}
 use Rattle.graphql_schema_types.specs.SchemaTree.{SchemaType, same_kind}
 use Rattle.graphql_schema_types.specs.TypeView.{name_text, extended_type}
 use Rattle.graphql_schema_types.specs.Out.{is_object_named}

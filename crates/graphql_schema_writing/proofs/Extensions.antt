@@ -7,9 +7,9 @@ use Rattle.std.proofs.lemmas.Grind.{flat_map-append}
 use Rattle.indexmap.specs.IndexMap.{values}
 use Rattle.graphql_names.specs.Node.{content}
 use Rattle.graphql_names.specs.declared.node.Node.{Node}
-use Rattle.graphql_values.specs.Placed.{Place}
-use Rattle.graphql_values.specs.DirectiveTree.{directive_tree, input_value_tree}
-use Rattle.graphql_schema_types.specs.in_ast.TypeSystemTree.{field_definition_tree, enum_value_tree}
+use Rattle.graphql_names.specs.Placed.{Place}
+use Rattle.graphql_directives.specs.DirectiveTree.{directive_tree, input_value_tree}
+use Rattle.graphql_type_members.specs.TypeSystemTree.{field_definition_tree, enum_value_tree}
 use Rattle.graphql_directives.specs.declared.directive.Directive.{Directive}
 use Rattle.graphql_directives.specs.declared.input_value.InputValueDefinition.{InputValueDefinition}
 use Rattle.graphql_type_members.specs.declared.field_definition.FieldDefinition.{FieldDefinition}

@@ -5,7 +5,7 @@ use Rattle.std.specs.Map.{lookup, set_value}
 use Rattle.std.specs.Global.{Global}
 use Rattle.std.proofs.lemmas.List.{append-nil}
 use Rattle.std.proofs.lemmas.Bool.Decides.{Decides-eqb}
-use Rattle.graphql_values.specs.Placed.{Place}
+use Rattle.graphql_names.specs.Placed.{Place}
 use Rattle.graphql_components.specs.Given.{ExtensionTree, origin_tree}
 use Rattle.graphql_components.specs.declared.component.ComponentOrigin.{ComponentOrigin}
 use Rattle.graphql_components.specs.declared.component.ComponentOrigin.TheVariants.{Definition, Extension}

@@ -4,17 +4,18 @@ use Rattle.std.specs.Borrow.{Bor}
 use Rattle.std.specs.Option.{option_map}
 use Rattle.graphql_names.specs.NodeStrValue.{NodeStrValue}
 use Rattle.graphql_names.specs.declared.node.Node.{Node}
-use Rattle.graphql_values.specs.Placed.{Place, node_tree, text_tree}
-use Rattle.graphql_values.specs.DirectiveTree.{directive_tree, input_value_tree}
-use Rattle.graphql_schema_types.specs.in_ast.TypeSystemTree.{field_definition_tree, enum_value_tree}
+use Rattle.graphql_names.specs.Placed.{Place, name_tree, node_tree, text_tree}
+use Rattle.graphql_directives.specs.DirectiveTree.{directive_tree, input_value_tree}
+use Rattle.graphql_type_members.specs.TypeSystemTree.{field_definition_tree, enum_value_tree}
 use Rattle.graphql_components.specs.Given.{ExtensionTree, origin_tree, component_tree, component_name_tree}
 use Rattle.graphql_components.specs.declared.component.Component.{Component}
 use Rattle.graphql_schema_types.specs.Out.{same_giver, given_by}
 use Rattle.graphql_schema_writing.specs.Filed.{itself, given_contents, filed_under, lent_node, lent_name}
 use Rattle.graphql_schema_writing.specs.Contents.{parts_given_by}
-use Rattle.graphql_schema_writing.specs.ContentsView.{contents_view, filed_parts, grown, lent_trees}
+use Rattle.graphql_schema_writing.specs.ContentsView.{contents_view, parts_view, filed_parts, grown, lent_trees}
 use Rattle.graphql_schema_writing.specs.declared.contents.Contents.{Contents}
 use Rattle.graphql_schema_writing.specs.declared.parts.FiledType.{FiledType}
+use Rattle.graphql_schema_writing.specs.declared.parts.Parts.{Parts}
 
 module _ {A B : Type 0} (f : A → B) where
   trees_grown : (ns : List (Node A)) → map (node_tree f) ns ≡ map (grown f) (map (node_tree itself) ns)
@@ -60,4 +61,22 @@ all_filed f c directives interfaces fields members values inputs giver = λ i. r
   members = members giver i;
   values = filed_grown enum_value_tree giver (filed_under giver f.values.entries) c.values.now (values giver) i;
   inputs = filed_grown input_value_tree giver (filed_under giver f.inputs.entries) c.inputs.now (inputs giver) i;
+}
+
+-- six classes are given out
+pub all_given : (giver : Option (ExtensionTree Place)) (p : Parts) (f : FiledType)
+    → map (node_tree itself) p.directives.0.items ≡ map lent_node (filed_under giver f.directives.entries)
+    → map name_tree p.interfaces.items ≡ map lent_name (filed_under giver f.interfaces.entries)
+    → map (node_tree itself) p.fields.items ≡ map lent_node (filed_under giver f.fields.entries)
+    → map name_tree p.members.items ≡ map lent_name (filed_under giver f.members.entries)
+    → map (node_tree itself) p.values.items ≡ map lent_node (filed_under giver f.values.entries)
+    → map (node_tree itself) p.inputs.items ≡ map lent_node (filed_under giver f.inputs.entries)
+    → parts_view p ≡ filed_parts giver f
+all_given giver p f directives interfaces fields members values inputs = λ i. record {
+  directives = shared_grown directive_tree p.directives.0.items (filed_under giver f.directives.entries) directives i;
+  interfaces = interfaces i;
+  fields = shared_grown field_definition_tree p.fields.items (filed_under giver f.fields.entries) fields i;
+  members = members i;
+  values = shared_grown enum_value_tree p.values.items (filed_under giver f.values.entries) values i;
+  inputs = shared_grown input_value_tree p.inputs.items (filed_under giver f.inputs.entries) inputs i;
 }

@@ -4,9 +4,9 @@ use Rattle.std.proofs.lemmas.List.{append_assoc}
 use Rattle.graphql_names.specs.Node.{content}
 use Rattle.graphql_names.specs.NameValue.{NameValue}
 use Rattle.graphql_names.specs.Places.{is_built_in}
-use Rattle.graphql_values.specs.Placed.{Place}
-use Rattle.graphql_values.specs.DirectiveTree.{input_value_tree}
-use Rattle.graphql_schema_types.specs.in_ast.TypeSystemTree.{field_definition_tree, enum_value_tree}
+use Rattle.graphql_names.specs.Placed.{Place}
+use Rattle.graphql_directives.specs.DirectiveTree.{input_value_tree}
+use Rattle.graphql_type_members.specs.TypeSystemTree.{field_definition_tree, enum_value_tree}
 use Rattle.graphql_components.specs.Names.{Entries}
 use Rattle.graphql_components.specs.Given.{Given, ExtensionTree, component_tree}
 use Rattle.graphql_components.specs.declared.component.Component.{Component}

@@ -3,9 +3,9 @@ use Rattle.std.specs.Prelude.{◌≡◌, List, [], map, Option}
 use Rattle.std.specs.Option.{option_map}
 use Rattle.std.specs.Borrow.{Bor}
 use Rattle.graphql_names.specs.declared.node.Node.{Node}
-use Rattle.graphql_values.specs.Placed.{Placed, Place, name_tree, text_tree, node_tree}
-use Rattle.graphql_values.specs.DirectiveTree.{directive_tree, directives_tree, input_value_tree}
-use Rattle.graphql_schema_types.specs.in_ast.TypeSystemTree.{field_definition_tree, enum_value_tree}
+use Rattle.graphql_names.specs.Placed.{Placed, Place, name_tree, text_tree, node_tree}
+use Rattle.graphql_directives.specs.DirectiveTree.{directive_tree, directives_tree, input_value_tree}
+use Rattle.graphql_type_members.specs.TypeSystemTree.{field_definition_tree, enum_value_tree}
 use Rattle.graphql_components.specs.Given.{ExtensionTree, component_tree, component_name_tree}
 use Rattle.graphql_schema_writing.specs.Filed.{filed_under, lent_node, lent_name}
 use Rattle.graphql_schema_writing.specs.Contents.{TypeContents, GivenParts}
@@ -64,3 +64,12 @@ pub record HoldsNothing (f : FiledType) : Type 0 where
   pub members : f.members.entries ≡ []
   pub values : f.values.entries ≡ []
   pub inputs : f.inputs.entries ≡ []
+
+-- nothing is given yet
+pub record GivesNothing (p : Parts) : Type 0 where
+  pub directives : p.directives.0.items ≡ []
+  pub interfaces : p.interfaces.items ≡ []
+  pub fields : p.fields.items ≡ []
+  pub members : p.members.items ≡ []
+  pub values : p.values.items ≡ []
+  pub inputs : p.inputs.items ≡ []

@@ -1,10 +1,10 @@
 -- What is written of the schema definition and of directives, by pieces (private: it leads to `specs/Out.antt` of `graphql_schema_types`).
 use Rattle.std.specs.Prelude.{List, [], ◌∷◌, map, None, Some}
 use Rattle.graphql_names.specs.declared.node.Node.{Node}
-use Rattle.graphql_values.specs.Placed.{Place, node_tree}
-use Rattle.graphql_values.specs.DirectiveTree.{Directives, directive_definition_tree}
+use Rattle.graphql_names.specs.Placed.{Place, node_tree}
+use Rattle.graphql_directives.specs.DirectiveTree.{Directives, directive_definition_tree}
 use Rattle.graphql_directives.specs.declared.directive.DirectiveDefinition.{DirectiveDefinition}
-use Rattle.graphql_schema_types.specs.in_ast.DefinitionTree.{DefinitionTree, Schema, ExtendSchema}
+use Rattle.graphql_definitions.specs.DefinitionTree.{DefinitionTree, Schema, ExtendSchema}
 use Rattle.graphql_components.specs.Given.{ExtensionTree}
 use Rattle.graphql_schema_types.specs.SchemaTree.{SchemaRoots, SchemaTree}
 use Rattle.graphql_schema_types.specs.SchemaView.{types_view}

@@ -2,168 +2,71 @@
 ghost use Rattle.std.specs.Prelude.{◌≡◌, IfOk};
 ghost use Rattle.std.specs.Option.{option_map};
 ghost use Rattle.graphql_names.specs.Node.{content, place};
-ghost use Rattle.graphql_values.specs.Placed.{name_tree, text_tree};
-ghost use Rattle.graphql_schema_types.specs.in_ast.DefinitionTree.{definition_tree};
+ghost use Rattle.graphql_names.specs.declared.node.Node.{Node};
+ghost use Rattle.graphql_names.specs.Placed.{name_tree, text_tree};
+ghost use Rattle.graphql_definitions.specs.DefinitionTree.{definition_tree};
 ghost use Rattle.graphql_schema_types.specs.TypeParts.{definition_by};
-ghost use Rattle.graphql_schema_types.specs.declared.type_kind.TypeKind.TheVariants as kind;
 ghost use Rattle.graphql_schema_writing.specs.Contents.{named_parts};
 ghost use Rattle.graphql_schema_writing.specs.ContentsView.{parts_view};
 
-use crate::parts::Parts;
-use graphql_schema_types::TypeKind;
-use graphql_schema_types::graphql_ast::{
-    Definition, EnumTypeDefinition, InputObjectTypeDefinition, InterfaceTypeDefinition, Name, Node,
-    NodeStr, ObjectTypeDefinition, ScalarTypeDefinition, SourceSpan, UnionTypeDefinition,
+use crate::extension_by::{
+    enum_extension, input_object_extension, interface_extension, object_extension,
+    scalar_extension, union_extension,
 };
+use crate::parts::Parts;
+use graphql_definitions::Definition;
+use graphql_names::{Name, Node, NodeStr, SourceSpan};
+use graphql_schema_types::{TypeKind, node_at};
 use std::alloc::{AllocError, Global};
 
-/// The definition of a type of that kind.
+/// A definition or an extension of this content, at that place.
+pub(crate) fn placed<T: Drop>(
+    alloc: Global,
+    location: Option<SourceSpan>,
+    value: T,
+) -> Result<Definition, AllocError>
+where
+    Definition: From<Node<T>>,
+    ensures { IfOk result (λ d. (n : Node T) × ((content n ≡ value) × ((place n ≡ location) × ⟦<Definition as From<Node<T>>>⟧.from_gives n d))) }
+{
+    Ok(Definition::from(node_at(alloc, location, value)?))
+}
+
+/// The definition of a type of that kind: what an extension says, with a description. The parts are taken.
 pub(crate) fn definition_by(
     alloc: Global,
     kind: TypeKind,
     location: Option<SourceSpan>,
     description: Option<NodeStr>,
     name: Name,
-    parts: Parts,
+    parts: &mut Parts,
 ) -> Result<Definition, AllocError>
-    ensures { IfOk result (λ d. definition_tree d ≡ definition_by kind location (option_map text_tree description) (named_parts kind (name_tree name) (parts_view parts))) }
+    ensures { IfOk result (λ d. definition_tree d ≡ definition_by kind location (option_map text_tree description) (named_parts kind (name_tree name) (parts_view parts.old))) }
 {
     match kind {
-        TypeKind::Scalar => scalar_definition(alloc, location, description, name, parts),
-        TypeKind::Object => object_definition(alloc, location, description, name, parts),
-        TypeKind::Interface => interface_definition(alloc, location, description, name, parts),
-        TypeKind::Union => union_definition(alloc, location, description, name, parts),
-        TypeKind::Enum => enum_definition(alloc, location, description, name, parts),
-        TypeKind::InputObject => input_object_definition(alloc, location, description, name, parts),
-    }
-}
-
-/// The definition of a scalar type (section 3.5).
-fn scalar_definition(
-    alloc: Global,
-    location: Option<SourceSpan>,
-    description: Option<NodeStr>,
-    name: Name,
-    parts: Parts,
-) -> Result<Definition, AllocError>
-    ensures { IfOk result (λ d. definition_tree d ≡ definition_by kind.Scalar location (option_map text_tree description) (named_parts kind.Scalar (name_tree name) (parts_view parts))) }
-{
-    let definition = ScalarTypeDefinition {
-        description,
-        name,
-        directives: parts.directives,
-    };
-    Ok(Definition::ScalarTypeDefinition(node_at(alloc, location, definition)?))
-}
-
-/// The definition of an object type (section 3.6).
-fn object_definition(
-    alloc: Global,
-    location: Option<SourceSpan>,
-    description: Option<NodeStr>,
-    name: Name,
-    parts: Parts,
-) -> Result<Definition, AllocError>
-    ensures { IfOk result (λ d. definition_tree d ≡ definition_by kind.Object location (option_map text_tree description) (named_parts kind.Object (name_tree name) (parts_view parts))) }
-{
-    let definition = ObjectTypeDefinition {
-        description,
-        name,
-        implements_interfaces: parts.interfaces,
-        directives: parts.directives,
-        fields: parts.fields,
-    };
-    Ok(Definition::ObjectTypeDefinition(node_at(alloc, location, definition)?))
-}
-
-/// The definition of an interface type (section 3.7).
-fn interface_definition(
-    alloc: Global,
-    location: Option<SourceSpan>,
-    description: Option<NodeStr>,
-    name: Name,
-    parts: Parts,
-) -> Result<Definition, AllocError>
-    ensures { IfOk result (λ d. definition_tree d ≡ definition_by kind.Interface location (option_map text_tree description) (named_parts kind.Interface (name_tree name) (parts_view parts))) }
-{
-    let definition = InterfaceTypeDefinition {
-        description,
-        name,
-        implements_interfaces: parts.interfaces,
-        directives: parts.directives,
-        fields: parts.fields,
-    };
-    Ok(Definition::InterfaceTypeDefinition(node_at(alloc, location, definition)?))
-}
-
-/// The definition of a union type (section 3.8).
-fn union_definition(
-    alloc: Global,
-    location: Option<SourceSpan>,
-    description: Option<NodeStr>,
-    name: Name,
-    parts: Parts,
-) -> Result<Definition, AllocError>
-    ensures { IfOk result (λ d. definition_tree d ≡ definition_by kind.Union location (option_map text_tree description) (named_parts kind.Union (name_tree name) (parts_view parts))) }
-{
-    let definition = UnionTypeDefinition {
-        description,
-        name,
-        directives: parts.directives,
-        members: parts.members,
-    };
-    Ok(Definition::UnionTypeDefinition(node_at(alloc, location, definition)?))
-}
-
-/// The definition of an enum type (section 3.9).
-fn enum_definition(
-    alloc: Global,
-    location: Option<SourceSpan>,
-    description: Option<NodeStr>,
-    name: Name,
-    parts: Parts,
-) -> Result<Definition, AllocError>
-    ensures { IfOk result (λ d. definition_tree d ≡ definition_by kind.Enum location (option_map text_tree description) (named_parts kind.Enum (name_tree name) (parts_view parts))) }
-{
-    let definition = EnumTypeDefinition {
-        description,
-        name,
-        directives: parts.directives,
-        values: parts.values,
-    };
-    Ok(Definition::EnumTypeDefinition(node_at(alloc, location, definition)?))
-}
-
-/// The definition of an input object type (section 3.10).
-fn input_object_definition(
-    alloc: Global,
-    location: Option<SourceSpan>,
-    description: Option<NodeStr>,
-    name: Name,
-    parts: Parts,
-) -> Result<Definition, AllocError>
-    ensures { IfOk result (λ d. definition_tree d ≡ definition_by kind.InputObject location (option_map text_tree description) (named_parts kind.InputObject (name_tree name) (parts_view parts))) }
-{
-    let definition = InputObjectTypeDefinition {
-        description,
-        name,
-        directives: parts.directives,
-        fields: parts.inputs,
-    };
-    Ok(Definition::InputObjectTypeDefinition(node_at(alloc, location, definition)?))
-}
-
-/// A node of the value with that place.
-pub(crate) fn node_at<T: Drop>(
-    alloc: Global,
-    location: Option<SourceSpan>,
-    value: T,
-) -> Result<Node<T>, AllocError>
-    ensures content { IfOk result (λ n. content n ≡ value) }
-    ensures place { IfOk result (λ n. place n ≡ location) }
-{
-    match location {
-        None => Ok(Node::new(alloc, value)?),
-        Some(location) => Ok(Node::new_parsed(alloc, value, location)?),
+        TypeKind::Scalar => {
+            let said = scalar_extension(alloc, name, parts);
+            placed(alloc, location, said.into_definition(description))
+        }
+        TypeKind::Object => {
+            let said = object_extension(alloc, name, parts);
+            placed(alloc, location, said.into_definition(description))
+        }
+        TypeKind::Interface => {
+            let said = interface_extension(alloc, name, parts);
+            placed(alloc, location, said.into_definition(description))
+        }
+        TypeKind::Union => {
+            let said = union_extension(alloc, name, parts);
+            placed(alloc, location, said.into_definition(description))
+        }
+        TypeKind::Enum => {
+            let said = enum_extension(alloc, name, parts);
+            placed(alloc, location, said.into_definition(description))
+        }
+        TypeKind::InputObject => {
+            let said = input_object_extension(alloc, name, parts);
+            placed(alloc, location, said.into_definition(description))
+        }
     }
 }

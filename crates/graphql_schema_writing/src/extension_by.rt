@@ -1,140 +1,118 @@
 //! An extension of a type of each kind.
 ghost use Rattle.std.specs.Prelude.{◌≡◌, IfOk};
-ghost use Rattle.graphql_values.specs.Placed.{name_tree};
-ghost use Rattle.graphql_schema_types.specs.in_ast.DefinitionTree.{definition_tree};
-ghost use Rattle.graphql_schema_types.specs.TypeParts.{extension_by};
+ghost use Rattle.graphql_names.specs.Placed.{name_tree};
+ghost use Rattle.graphql_definitions.specs.DefinitionTree.{definition_tree, scalar_extension_parts, object_extension_parts, interface_extension_parts, union_extension_parts, enum_extension_parts, input_object_extension_parts};
+ghost use Rattle.graphql_schema_types.specs.TypeParts.{extension_by, fields_parts};
 ghost use Rattle.graphql_schema_types.specs.declared.type_kind.TypeKind.TheVariants as kind;
 ghost use Rattle.graphql_schema_writing.specs.Contents.{named_parts};
 ghost use Rattle.graphql_schema_writing.specs.ContentsView.{parts_view};
 
-use crate::definition_by::node_at;
+use crate::definition_by::placed;
 use crate::parts::Parts;
+use graphql_composite_types::{InterfaceTypeExtension, ObjectTypeExtension, UnionTypeExtension};
+use graphql_definitions::Definition;
+use graphql_directives::DirectiveList;
+use graphql_input_types::{EnumTypeExtension, InputObjectTypeExtension, ScalarTypeExtension};
+use graphql_names::{Name, SourceSpan};
 use graphql_schema_types::TypeKind;
-use graphql_schema_types::graphql_ast::{
-    Definition, EnumTypeExtension, InputObjectTypeExtension, InterfaceTypeExtension, Name,
-    ObjectTypeExtension, ScalarTypeExtension, SourceSpan, UnionTypeExtension,
-};
 use std::alloc::{AllocError, Global};
+use std::mem;
 
-/// An extension of a type of that kind.
+/// An extension of a type of that kind. The parts are taken.
 pub(crate) fn extension_by(
     alloc: Global,
     kind: TypeKind,
     location: Option<SourceSpan>,
     name: Name,
-    parts: Parts,
+    parts: &mut Parts,
 ) -> Result<Definition, AllocError>
-    ensures { IfOk result (λ d. definition_tree d ≡ extension_by kind location (named_parts kind (name_tree name) (parts_view parts))) }
+    ensures { IfOk result (λ d. definition_tree d ≡ extension_by kind location (named_parts kind (name_tree name) (parts_view parts.old))) }
 {
     match kind {
-        TypeKind::Scalar => scalar_extension(alloc, location, name, parts),
-        TypeKind::Object => object_extension(alloc, location, name, parts),
-        TypeKind::Interface => interface_extension(alloc, location, name, parts),
-        TypeKind::Union => union_extension(alloc, location, name, parts),
-        TypeKind::Enum => enum_extension(alloc, location, name, parts),
-        TypeKind::InputObject => input_object_extension(alloc, location, name, parts),
+        TypeKind::Scalar => placed(alloc, location, scalar_extension(alloc, name, parts)),
+        TypeKind::Object => placed(alloc, location, object_extension(alloc, name, parts)),
+        TypeKind::Interface => placed(alloc, location, interface_extension(alloc, name, parts)),
+        TypeKind::Union => placed(alloc, location, union_extension(alloc, name, parts)),
+        TypeKind::Enum => placed(alloc, location, enum_extension(alloc, name, parts)),
+        TypeKind::InputObject => placed(
+            alloc,
+            location,
+            input_object_extension(alloc, name, parts),
+        ),
     }
 }
 
-/// An extension of a scalar type (section 3.5.7).
-fn scalar_extension(
-    alloc: Global,
-    location: Option<SourceSpan>,
-    name: Name,
-    parts: Parts,
-) -> Result<Definition, AllocError>
-    ensures { IfOk result (λ d. definition_tree d ≡ extension_by kind.Scalar location (named_parts kind.Scalar (name_tree name) (parts_view parts))) }
+/// What an extension of a scalar type says (section 3.5.7).
+pub(crate) fn scalar_extension(alloc: Global, name: Name, parts: &mut Parts) -> ScalarTypeExtension
+    ensures { scalar_extension_parts result ≡ record { name = name_tree name; directives = (parts_view parts.old).directives } }
 {
-    let extension = ScalarTypeExtension {
+    ScalarTypeExtension {
         name,
-        directives: parts.directives,
-    };
-    Ok(Definition::ScalarTypeExtension(node_at(alloc, location, extension)?))
+        directives: mem::replace(&mut parts.directives, DirectiveList(Vec::new(alloc))),
+    }
 }
 
-/// An extension of an object type (section 3.6.3).
-fn object_extension(
-    alloc: Global,
-    location: Option<SourceSpan>,
-    name: Name,
-    parts: Parts,
-) -> Result<Definition, AllocError>
-    ensures { IfOk result (λ d. definition_tree d ≡ extension_by kind.Object location (named_parts kind.Object (name_tree name) (parts_view parts))) }
+/// What an extension of an object type says (section 3.6.3).
+pub(crate) fn object_extension(alloc: Global, name: Name, parts: &mut Parts) -> ObjectTypeExtension
+    ensures { object_extension_parts result ≡ fields_parts (named_parts kind.Object (name_tree name) (parts_view parts.old)) }
 {
-    let extension = ObjectTypeExtension {
+    ObjectTypeExtension {
         name,
-        implements_interfaces: parts.interfaces,
-        directives: parts.directives,
-        fields: parts.fields,
-    };
-    Ok(Definition::ObjectTypeExtension(node_at(alloc, location, extension)?))
+        implements_interfaces: mem::replace(&mut parts.interfaces, Vec::new(alloc)),
+        directives: mem::replace(&mut parts.directives, DirectiveList(Vec::new(alloc))),
+        fields: mem::replace(&mut parts.fields, Vec::new(alloc)),
+    }
 }
 
-/// An extension of an interface type (section 3.7.1).
-fn interface_extension(
+/// What an extension of an interface type says (section 3.7.1).
+pub(crate) fn interface_extension(
     alloc: Global,
-    location: Option<SourceSpan>,
     name: Name,
-    parts: Parts,
-) -> Result<Definition, AllocError>
-    ensures { IfOk result (λ d. definition_tree d ≡ extension_by kind.Interface location (named_parts kind.Interface (name_tree name) (parts_view parts))) }
+    parts: &mut Parts,
+) -> InterfaceTypeExtension
+    ensures { interface_extension_parts result ≡ fields_parts (named_parts kind.Interface (name_tree name) (parts_view parts.old)) }
 {
-    let extension = InterfaceTypeExtension {
+    InterfaceTypeExtension {
         name,
-        implements_interfaces: parts.interfaces,
-        directives: parts.directives,
-        fields: parts.fields,
-    };
-    Ok(Definition::InterfaceTypeExtension(node_at(alloc, location, extension)?))
+        implements_interfaces: mem::replace(&mut parts.interfaces, Vec::new(alloc)),
+        directives: mem::replace(&mut parts.directives, DirectiveList(Vec::new(alloc))),
+        fields: mem::replace(&mut parts.fields, Vec::new(alloc)),
+    }
 }
 
-/// An extension of a union type (section 3.8.1).
-fn union_extension(
-    alloc: Global,
-    location: Option<SourceSpan>,
-    name: Name,
-    parts: Parts,
-) -> Result<Definition, AllocError>
-    ensures { IfOk result (λ d. definition_tree d ≡ extension_by kind.Union location (named_parts kind.Union (name_tree name) (parts_view parts))) }
+/// What an extension of a union type says (section 3.8.1).
+pub(crate) fn union_extension(alloc: Global, name: Name, parts: &mut Parts) -> UnionTypeExtension
+    ensures { union_extension_parts result ≡ record { name = name_tree name; directives = (parts_view parts.old).directives; members = (parts_view parts.old).members } }
 {
-    let extension = UnionTypeExtension {
+    UnionTypeExtension {
         name,
-        directives: parts.directives,
-        members: parts.members,
-    };
-    Ok(Definition::UnionTypeExtension(node_at(alloc, location, extension)?))
+        directives: mem::replace(&mut parts.directives, DirectiveList(Vec::new(alloc))),
+        members: mem::replace(&mut parts.members, Vec::new(alloc)),
+    }
 }
 
-/// An extension of an enum type (section 3.9.1).
-fn enum_extension(
-    alloc: Global,
-    location: Option<SourceSpan>,
-    name: Name,
-    parts: Parts,
-) -> Result<Definition, AllocError>
-    ensures { IfOk result (λ d. definition_tree d ≡ extension_by kind.Enum location (named_parts kind.Enum (name_tree name) (parts_view parts))) }
+/// What an extension of an enum type says (section 3.9.1).
+pub(crate) fn enum_extension(alloc: Global, name: Name, parts: &mut Parts) -> EnumTypeExtension
+    ensures { enum_extension_parts result ≡ record { name = name_tree name; directives = (parts_view parts.old).directives; values = (parts_view parts.old).values } }
 {
-    let extension = EnumTypeExtension {
+    EnumTypeExtension {
         name,
-        directives: parts.directives,
-        values: parts.values,
-    };
-    Ok(Definition::EnumTypeExtension(node_at(alloc, location, extension)?))
+        directives: mem::replace(&mut parts.directives, DirectiveList(Vec::new(alloc))),
+        values: mem::replace(&mut parts.values, Vec::new(alloc)),
+    }
 }
 
-/// An extension of an input object type (section 3.10.1).
-fn input_object_extension(
+/// What an extension of an input object type says (section 3.10.1).
+pub(crate) fn input_object_extension(
     alloc: Global,
-    location: Option<SourceSpan>,
     name: Name,
-    parts: Parts,
-) -> Result<Definition, AllocError>
-    ensures { IfOk result (λ d. definition_tree d ≡ extension_by kind.InputObject location (named_parts kind.InputObject (name_tree name) (parts_view parts))) }
+    parts: &mut Parts,
+) -> InputObjectTypeExtension
+    ensures { input_object_extension_parts result ≡ record { name = name_tree name; directives = (parts_view parts.old).directives; fields = (parts_view parts.old).inputs } }
 {
-    let extension = InputObjectTypeExtension {
+    InputObjectTypeExtension {
         name,
-        directives: parts.directives,
-        fields: parts.inputs,
-    };
-    Ok(Definition::InputObjectTypeExtension(node_at(alloc, location, extension)?))
+        directives: mem::replace(&mut parts.directives, DirectiveList(Vec::new(alloc))),
+        fields: mem::replace(&mut parts.inputs, Vec::new(alloc)),
+    }
 }

@@ -1,12 +1,12 @@
 //! Components filed under the definition or extension that gave them.
 ghost use Rattle.std.specs.Prelude.{◌≡◌, [], map, IfOk, OnOk};
-ghost use Rattle.graphql_values.specs.Placed.{name_tree, node_tree};
+ghost use Rattle.graphql_names.specs.Placed.{name_tree, node_tree};
 ghost use Rattle.graphql_components.specs.Given.{origin_tree, component_name_tree};
 ghost use Rattle.graphql_schema_types.specs.Out.{given_by};
 ghost use Rattle.graphql_schema_writing.specs.Filed.{filed_under, FilesOn, itself, given_contents, lent_node, lent_name};
 
 use graphql_components::{Component, ComponentName, ComponentOrigin};
-use graphql_schema_types::graphql_ast::{Name, Node};
+use graphql_names::{Name, Node};
 use indexmap::IndexMap;
 use std::alloc::{AllocError, Global};
 
@@ -59,44 +59,45 @@ pub(crate) fn file_names<'a>(
     Ok(())
 }
 
-/// The nodes that this giver gave, shared.
-pub(crate) fn given_nodes<T: Drop>(
-    alloc: Global,
+/// Takes the nodes that this giver gave, shared.
+pub(crate) fn take_nodes<T: Drop>(
     filed: &IndexMap<ComponentOrigin, Vec<&Node<T>>>,
     giver: ComponentOrigin,
-) -> Result<Vec<Node<T>>, AllocError>
-    ensures { IfOk result (λ v. map (node_tree itself) v.items ≡ map lent_node (filed_under (origin_tree giver) filed.now.entries)) }
+    out: &mut Vec<Node<T>>,
+) -> Result<(), AllocError>
+    requires { out.old.items ≡ [] }
+    ensures { OnOk result (map (node_tree itself) out.new.items ≡ map lent_node (filed_under (origin_tree giver) filed.now.entries)) }
 {
     match filed.get(&giver) {
-        None => Ok(Vec::new(alloc)),
-        Some(nodes) => shared_nodes(alloc, nodes),
+        None => Ok(()),
+        Some(nodes) => share_nodes(nodes, out),
     }
 }
 
-/// The names that this giver gave.
-pub(crate) fn given_names(
-    alloc: Global,
+/// Takes the names that this giver gave.
+pub(crate) fn take_names(
     filed: &IndexMap<ComponentOrigin, Vec<&Name>>,
     giver: ComponentOrigin,
-) -> Result<Vec<Name>, AllocError>
-    ensures { IfOk result (λ v. map name_tree v.items ≡ map lent_name (filed_under (origin_tree giver) filed.now.entries)) }
+    out: &mut Vec<Name>,
+) -> Result<(), AllocError>
+    requires { out.old.items ≡ [] }
+    ensures { OnOk result (map name_tree out.new.items ≡ map lent_name (filed_under (origin_tree giver) filed.now.entries)) }
 {
     match filed.get(&giver) {
-        None => Ok(Vec::new(alloc)),
-        Some(names) => shared_names(alloc, names),
+        None => Ok(()),
+        Some(names) => share_names(names, out),
     }
 }
 
-/// The same nodes: what they hold is shared.
-fn shared_nodes<T: Drop>(alloc: Global, nodes: &[&Node<T>]) -> Result<Vec<Node<T>>, AllocError>
-    ensures { IfOk result (λ v. map (node_tree itself) v.items ≡ map lent_node nodes.now) }
+/// Takes the same nodes: what they hold is shared.
+fn share_nodes<T: Drop>(nodes: &[&Node<T>], out: &mut Vec<Node<T>>) -> Result<(), AllocError>
+    requires { out.old.items ≡ [] }
+    ensures { OnOk result (map (node_tree itself) out.new.items ≡ map lent_node nodes.now) }
 {
-    let mut shared = Vec::new(alloc);
     for node in nodes {
-        let node = shared_node(node)?;
-        shared.push(node)?;
+        out.push(shared_node(node)?)?;
     }
-    Ok(shared)
+    Ok(())
 }
 
 /// The same node: what it holds is shared.
@@ -106,16 +107,15 @@ fn shared_node<T: Drop>(node: &Node<T>) -> Result<Node<T>, AllocError>
     node.clone()
 }
 
-/// The same names: no text is copied.
-fn shared_names(alloc: Global, names: &[&Name]) -> Result<Vec<Name>, AllocError>
-    ensures { IfOk result (λ v. map name_tree v.items ≡ map lent_name names.now) }
+/// Takes the same names: no text is copied.
+fn share_names(names: &[&Name], out: &mut Vec<Name>) -> Result<(), AllocError>
+    requires { out.old.items ≡ [] }
+    ensures { OnOk result (map name_tree out.new.items ≡ map lent_name names.now) }
 {
-    let mut shared = Vec::new(alloc);
     for name in names {
-        let name = shared_name(name)?;
-        shared.push(name)?;
+        out.push(shared_name(name)?)?;
     }
-    Ok(shared)
+    Ok(())
 }
 
 /// The same name: no text is copied.

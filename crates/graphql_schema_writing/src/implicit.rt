@@ -12,7 +12,8 @@ ghost use Rattle.graphql_schema_types.specs.Out.{is_empty, is_implicit_root, is_
 ghost use Rattle.graphql_schema_writing.specs.SchemaParts.{schema_and_types};
 
 use graphql_components::{ComponentName, ExtensionId};
-use graphql_schema_types::graphql_ast::{Name, Node, OperationType};
+use graphql_names::{Name, Node};
+use graphql_operations::OperationType;
 use graphql_schema_types::{ExtendedType, SchemaDefinition};
 use indexmap::IndexMap;
 

@@ -1,16 +1,15 @@
 //! What each giver gave to a type.
-ghost use Rattle.std.specs.Prelude.{◌≡◌, IfOk, OnOk};
+ghost use Rattle.std.specs.Prelude.{◌≡◌, OnOk};
 ghost use Rattle.graphql_components.specs.Given.{origin_tree};
 ghost use Rattle.graphql_schema_writing.specs.Contents.{parts_given_by};
-ghost use Rattle.graphql_schema_writing.specs.ContentsView.{HoldsNothing, contents_view, filed_parts, parts_view};
+ghost use Rattle.graphql_schema_writing.specs.ContentsView.{GivesNothing, HoldsNothing, contents_view, filed_parts, parts_view};
 
 use crate::contents::Contents;
-use crate::filing::{file_components, file_names, given_names, given_nodes};
+use crate::filing::{file_components, file_names, take_names, take_nodes};
 use graphql_components::ComponentOrigin;
-use graphql_schema_types::graphql_ast::{
-    Directive, DirectiveList, EnumValueDefinition, FieldDefinition, InputValueDefinition, Name,
-    Node,
-};
+use graphql_directives::{Directive, DirectiveList, InputValueDefinition};
+use graphql_names::{Name, Node};
+use graphql_type_members::{EnumValueDefinition, FieldDefinition};
 use indexmap::IndexMap;
 use std::alloc::{AllocError, Global};
 
@@ -55,7 +54,6 @@ impl<'a> FiledType<'a> {
 }
 
 /// What one giver gave to a type.
-#[derive(Drop)]
 pub(crate) struct Parts {
     pub(crate) directives: DirectiveList,
     pub(crate) interfaces: Vec<Name>,
@@ -65,26 +63,49 @@ pub(crate) struct Parts {
     pub(crate) inputs: Vec<Node<InputValueDefinition>>,
 }
 
-/// What this giver gave to the type, shared.
-pub(crate) fn parts_of(
-    alloc: Global,
-    filed: &FiledType<'_>,
-    giver: ComponentOrigin,
-) -> Result<Parts, AllocError>
-    ensures { IfOk result (λ p. parts_view p ≡ filed_parts (origin_tree giver) filed.now) }
-{
-    let directives = given_nodes(alloc, &filed.directives, giver)?;
-    let interfaces = given_names(alloc, &filed.interfaces, giver)?;
-    let fields = given_nodes(alloc, &filed.fields, giver)?;
-    let members = given_names(alloc, &filed.members, giver)?;
-    let values = given_nodes(alloc, &filed.values, giver)?;
-    let inputs = given_nodes(alloc, &filed.inputs, giver)?;
-    Ok(Parts {
-        directives: DirectiveList(directives),
-        interfaces,
-        fields,
-        members,
-        values,
-        inputs,
-    })
+/// Lets each class go, here and not wherever parts go.
+impl Drop for Parts {
+    fn drop(self) {
+        let Parts {
+            directives: _,
+            interfaces: _,
+            fields: _,
+            members: _,
+            values: _,
+            inputs: _,
+        } = self;
+    }
+}
+
+impl Parts {
+    /// Nothing.
+    pub(crate) fn new(alloc: Global) -> Parts
+        ensures { GivesNothing result }
+    {
+        Parts {
+            directives: DirectiveList(Vec::new(alloc)),
+            interfaces: Vec::new(alloc),
+            fields: Vec::new(alloc),
+            members: Vec::new(alloc),
+            values: Vec::new(alloc),
+            inputs: Vec::new(alloc),
+        }
+    }
+
+    /// Takes, shared, what this giver gave to the type.
+    pub(crate) fn take_given(
+        &mut self,
+        filed: &FiledType<'_>,
+        giver: ComponentOrigin,
+    ) -> Result<(), AllocError>
+        requires { GivesNothing self.old }
+        ensures { OnOk result (parts_view self.new ≡ filed_parts (origin_tree giver) filed.now) }
+    {
+        take_nodes(&filed.directives, giver, &mut self.directives.0)?;
+        take_names(&filed.interfaces, giver, &mut self.interfaces)?;
+        take_nodes(&filed.fields, giver, &mut self.fields)?;
+        take_names(&filed.members, giver, &mut self.members)?;
+        take_nodes(&filed.values, giver, &mut self.values)?;
+        take_nodes(&filed.inputs, giver, &mut self.inputs)
+    }
 }

@@ -1,49 +1,45 @@
 //! The roots that each giver gave to the schema.
-ghost use Rattle.std.specs.Prelude.{◌≡◌, ◌++◌, map, None, Some, IfOk, OnOk};
+ghost use Rattle.std.specs.Prelude.{◌≡◌, ◌++◌, [], map, None, Some, OnOk};
 ghost use Rattle.std.specs.Option.{option_map};
-ghost use Rattle.graphql_values.specs.Placed.{node_tree};
-ghost use Rattle.graphql_schema_types.specs.in_ast.DefinitionTree.{root_tree};
+ghost use Rattle.graphql_names.specs.Placed.{node_tree};
+ghost use Rattle.graphql_definitions.specs.DefinitionTree.{root_tree};
 ghost use Rattle.graphql_components.specs.Given.{origin_tree, component_name_tree};
 ghost use Rattle.graphql_schema_types.specs.TypeView.{schema_roots};
 ghost use Rattle.graphql_schema_types.specs.Out.{same_giver, root_given_by, schema_parts_given_by};
 
 use graphql_components::{ComponentName, ComponentOrigin};
+use graphql_literals::NamedType;
+use graphql_names::Node;
+use graphql_operations::OperationType;
 use graphql_schema_types::SchemaDefinition;
-use graphql_schema_types::graphql_ast::{NamedType, Node, OperationType};
 use std::alloc::{AllocError, Global};
 
-/// The roots that this giver gave, in the order query, mutation, subscription.
-pub(crate) fn roots_of(
+/// Adds the roots that this giver gave, in the order query, mutation, subscription.
+pub(crate) fn add_roots(
     alloc: Global,
     definition: &Node<SchemaDefinition>,
     giver: ComponentOrigin,
-) -> Result<Vec<Node<(OperationType, NamedType)>>, AllocError>
-    ensures { IfOk result (λ v. map (node_tree root_tree) v.items ≡ (schema_parts_given_by None (origin_tree giver) (schema_roots definition.now)).roots) }
+    roots: &mut Vec<Node<(OperationType, NamedType)>>,
+) -> Result<(), AllocError>
+    requires { roots.old.items ≡ [] }
+    ensures { OnOk result (map (node_tree root_tree) roots.new.items ≡ (schema_parts_given_by None (origin_tree giver) (schema_roots definition.now)).roots) }
 {
     let schema = definition.content();
-    let mut roots = Vec::new(alloc);
-    add_root(
-        alloc,
-        giver,
-        OperationType::Query,
-        &schema.query,
-        &mut roots,
-    )?;
+    add_root(alloc, giver, OperationType::Query, &schema.query, roots)?;
     add_root(
         alloc,
         giver,
         OperationType::Mutation,
         &schema.mutation,
-        &mut roots,
+        roots,
     )?;
     add_root(
         alloc,
         giver,
         OperationType::Subscription,
         &schema.subscription,
-        &mut roots,
-    )?;
-    Ok(roots)
+        roots,
+    )
 }
 
 /// Adds the root of an operation, if it is there and this giver gave it.

@@ -1,26 +1,25 @@
 //! The schema definition and its extensions.
 ghost use Rattle.std.specs.Prelude.{◌≡◌, ◌++◌, [], ◌∷◌, map, Option, None, Some, IfOk, OnOk};
-ghost use Rattle.graphql_values.specs.Placed.{Place};
-ghost use Rattle.graphql_values.specs.DirectiveTree.{directive_tree};
-ghost use Rattle.graphql_schema_types.specs.in_ast.DefinitionTree.{definition_tree};
-ghost use Rattle.graphql_components.specs.Given.{ExtensionTree, extension_tree};
+ghost use Rattle.graphql_names.specs.Placed.{Place};
+ghost use Rattle.graphql_directives.specs.DirectiveTree.{directive_tree};
+ghost use Rattle.graphql_definitions.specs.DefinitionTree.{definition_tree, schema_extension_parts};
+ghost use Rattle.graphql_components.specs.Given.{ExtensionTree, extension_tree, origin_tree};
 ghost use Rattle.graphql_schema_types.specs.TypeView.{schema_roots};
-ghost use Rattle.graphql_schema_types.specs.Out.{written_schema, given_by};
+ghost use Rattle.graphql_schema_types.specs.Out.{written_schema, given_by, schema_parts_given_by};
 ghost use Rattle.graphql_schema_writing.specs.Filed.{filed_under};
 ghost use Rattle.graphql_schema_writing.specs.ContentsView.{lent_trees};
 ghost use Rattle.graphql_schema_writing.specs.SchemaParts.{schema_and_types, schema_from, schema_extended_from, whole_schema};
 
-use crate::definition_by::node_at;
-use crate::filing::{file_components, given_nodes};
+use crate::definition_by::placed;
+use crate::filing::{file_components, take_nodes};
 use crate::implicit::is_left_out;
-use crate::roots::roots_of;
-use crate::types::shared_description;
+use crate::roots::add_roots;
 use graphql_components::{ComponentOrigin, ExtensionId};
-use graphql_schema_types::graphql_ast::{
-    Definition, Directive, DirectiveList, Name, Node, SchemaDefinition as WrittenSchema,
-    SchemaExtension,
-};
-use graphql_schema_types::{ExtendedType, SchemaDefinition};
+use graphql_definitions::Definition;
+use graphql_directives::{Directive, DirectiveList};
+use graphql_input_types::SchemaExtension;
+use graphql_names::{Name, Node};
+use graphql_schema_types::{ExtendedType, SchemaDefinition, shared_description};
 use indexmap::IndexMap;
 use std::alloc::{AllocError, Global};
 
@@ -110,14 +109,12 @@ fn schema_definition(
     ensures { IfOk result (λ d. definition_tree d ≡ schema_from (schema_roots definition.now) (lent_trees directive_tree (filed_under None directives.now.entries))) }
 {
     let description = shared_description(definition.content().description.as_ref())?;
-    let directives = given_nodes(alloc, directives, ComponentOrigin::Definition)?;
-    let root_operations = roots_of(alloc, definition, ComponentOrigin::Definition)?;
-    let schema = WrittenSchema {
-        description,
-        directives: DirectiveList(directives),
-        root_operations,
-    };
-    Ok(Definition::SchemaDefinition(node_at(alloc, definition.location(), schema)?))
+    let said = schema_parts(alloc, definition, directives, ComponentOrigin::Definition)?;
+    placed(
+        alloc,
+        definition.location(),
+        said.into_definition(description),
+    )
 }
 
 /// An extension of the schema: what it gave, at its place.
@@ -129,11 +126,29 @@ fn schema_extension(
 ) -> Result<Definition, AllocError>
     ensures { IfOk result (λ d. definition_tree d ≡ schema_extended_from (schema_roots definition.now) (extension_tree id) (lent_trees directive_tree (filed_under (Some (extension_tree id)) directives.now.entries))) }
 {
-    let directives = given_nodes(alloc, directives, ComponentOrigin::Extension(id))?;
-    let root_operations = roots_of(alloc, definition, ComponentOrigin::Extension(id))?;
-    let extension = SchemaExtension {
-        directives: DirectiveList(directives),
-        root_operations,
+    let said = schema_parts(
+        alloc,
+        definition,
+        directives,
+        ComponentOrigin::Extension(id),
+    )?;
+    placed(alloc, id.location(), said)
+}
+
+/// What this giver gave to the schema, as an extension says it (section 3.3.2).
+fn schema_parts(
+    alloc: Global,
+    definition: &Node<SchemaDefinition>,
+    directives: &IndexMap<ComponentOrigin, Vec<&Node<Directive>>>,
+    giver: ComponentOrigin,
+) -> Result<SchemaExtension, AllocError>
+    ensures { IfOk result (λ s. schema_extension_parts s ≡ record { directives = lent_trees directive_tree (filed_under (origin_tree giver) directives.now.entries); roots = (schema_parts_given_by None (origin_tree giver) (schema_roots definition.now)).roots }) }
+{
+    let mut said = SchemaExtension {
+        directives: DirectiveList(Vec::new(alloc)),
+        root_operations: Vec::new(alloc),
     };
-    Ok(Definition::SchemaExtension(node_at(alloc, id.location(), extension)?))
+    take_nodes(directives, giver, &mut said.directives.0)?;
+    add_roots(alloc, definition, giver, &mut said.root_operations)?;
+    Ok(said)
 }

@@ -1,10 +1,8 @@
 //! The definitions and extensions of types.
 ghost use Rattle.std.specs.Prelude.{◌≡◌, ◌++◌, [], ◌∷◌, map, None, Some, IfOk, OnOk, if◌then◌else◌};
 ghost use Rattle.std.specs.List.{flat_map};
-ghost use Rattle.std.specs.Option.{option_map};
 ghost use Rattle.graphql_names.specs.Places.{is_built_in};
-ghost use Rattle.graphql_values.specs.Placed.{text_tree};
-ghost use Rattle.graphql_schema_types.specs.in_ast.DefinitionTree.{definition_tree};
+ghost use Rattle.graphql_definitions.specs.DefinitionTree.{definition_tree};
 ghost use Rattle.graphql_components.specs.Given.{extension_tree, place_of};
 ghost use Rattle.graphql_schema_writing.specs.Contents.{type_contents, written_contents, defined_from, extended_from};
 ghost use Rattle.graphql_schema_writing.specs.ContentsView.{HoldsNothing, contents_view, filed_parts};
@@ -12,10 +10,10 @@ ghost use Rattle.graphql_schema_writing.specs.ContentsView.{HoldsNothing, conten
 use crate::contents::{Contents, contents_of};
 use crate::definition_by::definition_by;
 use crate::extension_by::extension_by;
-use crate::parts::{FiledType, parts_of};
+use crate::parts::{FiledType, Parts};
 use graphql_components::{ComponentOrigin, ExtensionId};
-use graphql_schema_types::ExtendedType;
-use graphql_schema_types::graphql_ast::{Definition, NodeStr};
+use graphql_definitions::Definition;
+use graphql_schema_types::{ExtendedType, shared_description};
 use std::alloc::{AllocError, Global};
 
 /// Writes each type.
@@ -54,10 +52,10 @@ fn write_filed<'a>(
     requires { HoldsNothing filed.old }
     ensures { OnOk result (map definition_tree out.new.items ≡ map definition_tree out.old.items ++ written_contents (type_contents t.now)) }
 {
-    let extensions = t.extensions(alloc)?;
     let contents = contents_of(t);
     filed.file(alloc, &contents)?;
     write_definition(alloc, &contents, filed, out)?;
+    let extensions = t.extensions(alloc)?;
     write_extensions(alloc, &contents, filed, extensions.as_slice(), out)
 }
 
@@ -86,16 +84,17 @@ fn type_definition(
 ) -> Result<Definition, AllocError>
     ensures { IfOk result (λ d. definition_tree d ≡ defined_from (contents_view contents.now) (filed_parts None filed.now)) }
 {
+    let mut parts = Parts::new(alloc);
+    parts.take_given(filed, ComponentOrigin::Definition)?;
     let description = shared_description(contents.description)?;
     let name = contents.name.clone()?;
-    let parts = parts_of(alloc, filed, ComponentOrigin::Definition)?;
     definition_by(
         alloc,
         contents.kind,
         contents.location,
         description,
         name,
-        parts,
+        &mut parts,
     )
 }
 
@@ -125,19 +124,8 @@ fn type_extension(
 ) -> Result<Definition, AllocError>
     ensures { IfOk result (λ d. definition_tree d ≡ extended_from (contents_view contents.now) (place_of id) (filed_parts (Some (extension_tree id)) filed.now)) }
 {
+    let mut parts = Parts::new(alloc);
+    parts.take_given(filed, ComponentOrigin::Extension(id))?;
     let name = contents.name.clone()?;
-    let parts = parts_of(alloc, filed, ComponentOrigin::Extension(id))?;
-    extension_by(alloc, contents.kind, id.location(), name, parts)
-}
-
-/// The same description, with its place. No text is copied.
-pub(crate) fn shared_description(
-    description: Option<&NodeStr>,
-) -> Result<Option<NodeStr>, AllocError>
-    ensures { IfOk result (λ copy. option_map text_tree copy ≡ option_map (λ d. text_tree d.now) description.entry) }
-{
-    match description {
-        None => Ok(None),
-        Some(text) => Ok(Some(text.clone()?)),
-    }
+    extension_by(alloc, contents.kind, id.location(), name, &mut parts)
 }

@@ -2,11 +2,11 @@
 ghost use Rattle.std.specs.Prelude.{◌+◌, ◌<◌, ◌^◌};
 
 use crate::hold::{hold, same_text};
-use graphql_checked::graphql_ast::{FileId, SourceSpan};
 use graphql_checked::{
     CheckedDocument, CheckedSchema, Checker, Details, DiagnosticList, Layout, Limits, Refusal,
     RunFault,
 };
+use graphql_names::{FileId, SourceSpan};
 use std::alloc::{AllocError, Global};
 use std::process::Abort;
 use std::test::Fail;

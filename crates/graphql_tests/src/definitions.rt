@@ -2,7 +2,7 @@
 mod built;
 
 use crate::hold::{hold, is_copied, same_text};
-use graphql_checked::graphql_ast::*;
+use graphql_ast::*;
 use std::alloc::AllocError;
 use std::process::Abort;
 use std::test::Fail;

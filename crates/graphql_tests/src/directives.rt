@@ -1,12 +1,14 @@
 //! Directives, their arguments and selections: what is found, copied and written.
 
 use crate::hold::{equals, hold, is_copied, node, same_text};
-use graphql_names::name;
-use graphql_values::{
+use graphql_directives::{
     Argument, ArgumentByNameError, Directive, DirectiveDefinition, DirectiveList,
-    DirectiveLocation, Field, InputValueDefinition, Name, Node, OperationType, Selection, Value,
-    get_named_mut, ty,
+    DirectiveLocation, InputValueDefinition, get_named_mut,
 };
+use graphql_literals::Value;
+use graphql_names::{Name, Node, name};
+use graphql_operations::{Field, OperationType, Selection};
+use graphql_values::ty;
 use std::alloc::{AllocError, Global};
 use std::test::Fail;
 

@@ -3,7 +3,7 @@ ghost use Rattle.std.specs.Prelude.{◌≡◌, ◌+◌, ◌<◌, ◌^◌};
 ghost use Rattle.graphql_names.specs.NameSyntax.{IsName};
 
 use crate::hold::{are_alike, hold, is_copied};
-use graphql_checked::graphql_ast::*;
+use graphql_ast::*;
 use std::alloc::{AllocError, Global};
 use std::process::Abort;
 use std::test::Fail;

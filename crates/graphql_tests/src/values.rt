@@ -1,10 +1,11 @@
 //! Rows, and each call once in ample memory.
 ghost use Rattle.std.specs.Prelude.{◌≡◌, IfOk, None, codes};
-ghost use Rattle.graphql_values.specs.TypeTree.{NamedTree, ListTree, NonNullListTree, type_tree};
+ghost use Rattle.graphql_literals.specs.TypeTree.{NamedTree, ListTree, NonNullListTree, type_tree};
 
 use crate::hold::{are_alike, equals, hold, is_copied, node, same_text};
-use graphql_names::name;
-use graphql_values::{FileId, FloatValue, IntValue, Node, SourceSpan, Type, Value, ty};
+use graphql_literals::{FloatValue, IntValue, Type, Value};
+use graphql_names::{FileId, Node, SourceSpan, name};
+use graphql_values::ty;
 use std::alloc::{AllocError, Global};
 use std::process::Abort;
 use std::test::Fail;

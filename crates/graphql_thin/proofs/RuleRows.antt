@@ -1,11 +1,11 @@
 -- The rules at small texts.
 use Rattle.std.proofs.Common.{◌≡◌, ℕ, List, [], ◌∷◌, ◌++◌, map, codes, Some, None, Contains, refl, lit<}
-use Rattle.graphql_values.specs.Placed.{Placed, Place, Text}
-use Rattle.graphql_values.specs.TypeTree.{TypeTree, NamedTree, NonNullNamedTree}
-use Rattle.graphql_values.specs.SelectionTree.{SelectionTree, FieldTree, no_selections, selection_then}
+use Rattle.graphql_names.specs.Placed.{Placed, Place, Text}
+use Rattle.graphql_literals.specs.TypeTree.{TypeTree, NamedTree, NonNullNamedTree}
+use Rattle.graphql_operations.specs.SelectionTree.{SelectionTree, FieldTree, no_selections, selection_then}
 use Rattle.graphql_operations.specs.declared.operation.OperationType.TheVariants.{Query}
-use Rattle.graphql_read.specs.in_ast.TypeSystemTree.{FieldDefinitionTree}
-use Rattle.graphql_read.specs.in_ast.DefinitionTree.{DefinitionTree, Operation, ObjectType}
+use Rattle.graphql_type_members.specs.TypeSystemTree.{FieldDefinitionTree}
+use Rattle.graphql_definitions.specs.DefinitionTree.{DefinitionTree, Operation, ObjectType}
 use Rattle.graphql_thin.specs.Lists.{each_place}
 use Rattle.graphql_thin.specs.Fold.{built_in_definitions, definition_list, FoldedType, fold, kept, type_named, query_root}
 use Rattle.graphql_thin.specs.Faults.{Fault, TypeDefinitionCollision, ObjectFieldNameCollision, QueryRootOperationType, UndefinedField, TypeDefinitionCollisionIn, ObjectFieldNameCollisionIn, QueryRootOperationTypeIn, SchemaFails, DocumentFails}

@@ -1,7 +1,7 @@
 -- The trees of selections.
 use Rattle.std.proofs.Common.{◌≡◌, List, [], ◌∷◌, map, refl, ap}
-use Rattle.graphql_values.specs.Placed.{Place}
-use Rattle.graphql_values.specs.SelectionTree.{SelectionTree, selection_trees}
+use Rattle.graphql_names.specs.Placed.{Place}
+use Rattle.graphql_operations.specs.SelectionTree.{SelectionTree, selection_trees}
 use Rattle.graphql_thin.specs.Faults.{selection_list}
 
 -- what a list of selections holds

@@ -1,11 +1,11 @@
 -- Texts, evaluated: what they are read as, and where they leave the thin language.
 use Rattle.std.proofs.Common.{◌≡◌, ℕ, ◌+◌, List, [], ◌∷◌, length, codes, Some, None, Ok, refl, subst}
 use Rattle.graphql_names.specs.declared.span.FileId.{FileId}
-use Rattle.graphql_values.specs.Placed.{Placed, Place, Text}
-use Rattle.graphql_values.specs.TypeTree.{NamedTree}
-use Rattle.graphql_values.specs.SelectionTree.{FieldTree, selection_then, no_selections}
+use Rattle.graphql_names.specs.Placed.{Placed, Place, Text}
+use Rattle.graphql_literals.specs.TypeTree.{NamedTree}
+use Rattle.graphql_operations.specs.SelectionTree.{FieldTree, selection_then, no_selections}
 use Rattle.graphql_operations.specs.declared.operation.OperationType.TheVariants.{Query}
-use Rattle.graphql_read.specs.in_ast.DefinitionTree.{DefinitionTree, Operation, ScalarType, ObjectType}
+use Rattle.graphql_definitions.specs.DefinitionTree.{DefinitionTree, Operation, ScalarType, ObjectType}
 use Rattle.graphql_lexer.specs.Bytes.{run_len}
 use Rattle.graphql_lexer.specs.Tokens.{ignored_at, token_at}
 use Rattle.graphql_lexer.specs.Terminals.{words}

@@ -4,10 +4,10 @@ use Rattle.std.specs.Option.{option_map, option_map_or}
 use Rattle.std.specs.List.{flat_map, find}
 use Rattle.std.specs.Str.{bytes_eq}
 use Rattle.std.proofs.lemmas.Slice.Eq.{bytes_eq-Decides}
-use Rattle.graphql_values.specs.Placed.{Placed, Place}
-use Rattle.graphql_values.specs.SelectionTree.{SelectionTree, FieldTree}
-use Rattle.graphql_read.specs.in_ast.TypeSystemTree.{FieldDefinitionTree}
-use Rattle.graphql_read.specs.in_ast.DefinitionTree.{DefinitionTree, Operation}
+use Rattle.graphql_names.specs.Placed.{Placed, Place}
+use Rattle.graphql_operations.specs.SelectionTree.{SelectionTree, FieldTree}
+use Rattle.graphql_type_members.specs.TypeSystemTree.{FieldDefinitionTree}
+use Rattle.graphql_definitions.specs.DefinitionTree.{DefinitionTree, Operation}
 use Rattle.graphql_thin.specs.Lists.{has_name}
 use Rattle.graphql_thin.specs.Fold.{field_name, FoldedType, fold, is_object, object_alone, query_root, field_named, kept}
 use Rattle.graphql_thin.specs.Faults.{Fault, UndefinedField, selection_list, UndefinedFieldAt, UndefinedFieldHere, DocumentFails}

@@ -4,9 +4,9 @@ use Rattle.std.proofs.lemmas.Bool.{and_parts}
 use Rattle.std.proofs.lemmas.List.{length-drop}
 use Rattle.graphql_names.specs.declared.span.FileId.{FileId}
 use Rattle.graphql_names.specs.declared.span.SourceSpan.{SourceSpan}
-use Rattle.graphql_values.specs.Placed.{Place}
-use Rattle.graphql_read.specs.in_ast.DefinitionTree.{DefinitionTree}
-use Rattle.graphql_read.specs.in_ast.Writable.{has_some}
+use Rattle.graphql_names.specs.Placed.{Place}
+use Rattle.graphql_definitions.specs.DefinitionTree.{DefinitionTree}
+use Rattle.graphql_definitions.specs.Writable.{has_some}
 use Rattle.graphql_lexer.specs.Input.{Token, Ending, Ended, NoTokenAt}
 use Rattle.graphql_lexer.specs.Tokens.{ignored_at, token_at}
 use Rattle.graphql_lexer.specs.Lex.{Piece, piece_at, ArePieces, with_token, tokens_among, LexesFront, Lex}

@@ -5,12 +5,12 @@ use Rattle.std.specs.List.{flat_map, filter, find, list_any}
 use Rattle.std.specs.Str.{bytes_eq}
 use Rattle.std.proofs.Common.{lit<}
 use Rattle.graphql_names.specs.Places.{is_built_in}
-use Rattle.graphql_values.specs.Placed.{Placed, Place}
-use Rattle.graphql_values.specs.TypeTree.{TypeTree, NamedTree, NonNullNamedTree, ListTree, NonNullListTree}
-use Rattle.graphql_read.specs.in_ast.TypeSystemTree.{FieldDefinitionTree}
-use Rattle.graphql_read.specs.in_ast.DefinitionTree as tree
-use Rattle.graphql_read.specs.in_ast.DefinitionTree.{DefinitionTree}
-pub use Rattle.graphql_read.specs.in_ast.Queries.{definition_place}
+use Rattle.graphql_names.specs.Placed.{Placed, Place}
+use Rattle.graphql_literals.specs.TypeTree.{TypeTree, NamedTree, NonNullNamedTree, ListTree, NonNullListTree}
+use Rattle.graphql_type_members.specs.TypeSystemTree.{FieldDefinitionTree}
+use Rattle.graphql_definitions.specs.DefinitionTree as tree
+use Rattle.graphql_definitions.specs.DefinitionTree.{DefinitionTree}
+pub use Rattle.graphql_definitions.specs.Queries.{definition_place}
 use Rattle.graphql_thin.specs.Lists.{firsts, is_among}
 use Rattle.graphql_thin.specs.Thin.{scalar_names}
 

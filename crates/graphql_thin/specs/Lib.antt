@@ -9,7 +9,6 @@ pub mod WordsView
 pub mod Unread
 pub mod SchemaView
 pub mod FaultList
-pub use Rattle.graphql_read.specs.in_ast as in_ast
 pub use Rattle.graphql_read.specs.in_grammar as in_grammar
 pub use Rattle.graphql_read.specs.in_parse_values as in_parse_values
 pub use Rattle.graphql_read.specs as in_read

@@ -2,17 +2,17 @@
 use Rattle.std.specs.Prelude.{◌≡◌, ℕ, Bool, true, false, not, ◌&&◌, ◌==◌, if◌then◌else◌, List, [], ◌∷◌, codes, Option, None, Some, is_none}
 use Rattle.std.specs.List.{list_all}
 use Rattle.graphql_names.specs.declared.span.SourceSpan.{SourceSpan}
-use Rattle.graphql_values.specs.Placed.{Placed, Place}
-use Rattle.graphql_values.specs.TypeTree.{TypeTree, NamedTree, NonNullNamedTree}
-use Rattle.graphql_values.specs.SelectionTree.{SelectionTree, SelectionTrees, FieldHead, FieldTree, no_selections, selection_then}
-use Rattle.graphql_values.specs.OperationTree.{OperationTree}
+use Rattle.graphql_names.specs.Placed.{Placed, Place}
+use Rattle.graphql_literals.specs.TypeTree.{TypeTree, NamedTree, NonNullNamedTree}
+use Rattle.graphql_operations.specs.SelectionTree.{SelectionTree, SelectionTrees, FieldHead, FieldTree, no_selections, selection_then}
+use Rattle.graphql_operations.specs.OperationTree.{OperationTree}
 use Rattle.graphql_values.specs.Writable.{is_none_of, has_selection}
 use Rattle.graphql_operations.specs.declared.operation.OperationType.{OperationType}
 use Rattle.graphql_operations.specs.declared.operation.OperationType.TheVariants.{Query}
-use Rattle.graphql_read.specs.in_ast.TypeSystemTree.{FieldDefinitionTree, FieldsParts}
-use Rattle.graphql_read.specs.in_ast.DefinitionTree.{DefinitionTree, Operation, ObjectType}
-use Rattle.graphql_read.specs.in_ast.Queries.{definition_place}
-use Rattle.graphql_read.specs.in_ast.Writable.{has_some}
+use Rattle.graphql_type_members.specs.TypeSystemTree.{FieldDefinitionTree, FieldsParts}
+use Rattle.graphql_definitions.specs.DefinitionTree.{DefinitionTree, Operation, ObjectType}
+use Rattle.graphql_definitions.specs.Queries.{definition_place}
+use Rattle.graphql_definitions.specs.Writable.{has_some}
 use Rattle.graphql_thin.specs.Lists.{is_among}
 use Rattle.graphql_thin.specs.ReadText.{ReadsText}
 

@@ -1,7 +1,7 @@
 -- What is said of a text that is not read.
 use Rattle.std.specs.Prelude.{◌≡◌, ℕ, ◌⊎◌, List, None, Some}
 use Rattle.graphql_names.specs.declared.span.SourceSpan.{SourceSpan}
-use Rattle.graphql_values.specs.Placed.{Place}
+use Rattle.graphql_names.specs.Placed.{Place}
 use Rattle.graphql_read.specs.in_grammar.Faults as read
 use Rattle.graphql_read.specs.Reads.{IsDue}
 use Rattle.graphql_read.specs.declared.fault.SyntaxFaultKind.TheVariants.{NoToken, Unexpected, End}

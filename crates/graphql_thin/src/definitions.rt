@@ -3,15 +3,16 @@
 ghost use Rattle.std.specs.Prelude.{◌≡◌, ◌++◌, ◌∷◌, [], map, IfOk, OnOk, option_copied};
 ghost use Rattle.std.specs.Option.{option_map};
 ghost use Rattle.graphql_names.specs.NameSyntax.{IsName};
-ghost use Rattle.graphql_values.specs.Placed.{node_tree};
-ghost use Rattle.graphql_read.specs.in_ast.TypeSystemTree.{field_definition_tree};
-ghost use Rattle.graphql_read.specs.in_ast.DefinitionTree.{definition_tree};
+ghost use Rattle.graphql_names.specs.Placed.{node_tree};
+ghost use Rattle.graphql_type_members.specs.TypeSystemTree.{field_definition_tree};
+ghost use Rattle.graphql_definitions.specs.DefinitionTree.{definition_tree};
 ghost use Rattle.graphql_thin.specs.Fold.{built_in_scalar, built_in_definitions, defined_name, is_object, fields_here};
 
-use graphql_read::graphql_ast::{
-    Definition, DirectiveList, FieldDefinition, FileId, Name, Node, ScalarTypeDefinition,
-    SourceSpan,
-};
+use graphql_definitions::Definition;
+use graphql_directives::DirectiveList;
+use graphql_input_types::ScalarTypeDefinition;
+use graphql_names::{FileId, Name, Node, SourceSpan};
+use graphql_type_members::FieldDefinition;
 use std::alloc::{AllocError, Global};
 
 /// The name of the type that is defined here.

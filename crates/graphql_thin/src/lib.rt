@@ -27,7 +27,3 @@ pub use schema::{Schema, SchemaType};
 pub use thin::{document_outside, schema_outside};
 pub use typing::check_document;
 pub use unread::Unread;
-
-// The crates beneath, for those above.
-pub use graphql_read;
-pub use graphql_read::graphql_ast;

@@ -5,7 +5,8 @@ ghost use Rattle.std.specs.Option.{option_map};
 ghost use Rattle.graphql_thin.specs.SchemaView.{types_of, fields_of};
 ghost use Rattle.graphql_thin.specs.FaultList.{root_fields};
 
-use graphql_read::graphql_ast::{FieldDefinition, Name, Node};
+use graphql_names::{Name, Node};
+use graphql_type_members::FieldDefinition;
 use indexmap::IndexMap;
 
 /// A type of a schema: whether it is an object, and the first of its fields of each name.

@@ -12,9 +12,10 @@ ghost use Rattle.graphql_type_rules.specs.Seen.{AreSeen};
 use crate::look_ups::kind_inside;
 use crate::reserved::{Named, reserved_name};
 use crate::types_used::{input_type, undefined_type};
+use graphql_directives::InputValueDefinition;
 use graphql_fault_data::{DiagnosticData, Fault, tell};
+use graphql_names::{Name, Node, SourceSpan};
 use graphql_schema::Schema;
-use graphql_schema::graphql_ast::{InputValueDefinition, Name, Node, SourceSpan};
 use indexmap::IndexMap;
 use std::alloc::{AllocError, Global};
 

@@ -13,8 +13,9 @@ use crate::distinct::names_differ;
 use crate::members::{check_fields, check_input_fields, check_members, check_values};
 use crate::reserved::{Named, reserved_name};
 use crate::roots::check_roots;
+use graphql_directives::DirectiveDefinition;
 use graphql_fault_data::Fault;
-use graphql_schema::graphql_ast::{DirectiveDefinition, Name, Node};
+use graphql_names::{Name, Node};
 use graphql_schema::{ExtendedType, Schema};
 use std::alloc::{AllocError, Global};
 

@@ -8,7 +8,8 @@ ghost use Rattle.graphql_schema_types.specs.TypeView.{extended_type};
 ghost use Rattle.graphql_schema.specs.SchemaOf.{schema_tree};
 ghost use Rattle.graphql_type_rules.specs.FaultLists.{kind_named};
 
-use graphql_schema::graphql_ast::{Name, Type};
+use graphql_literals::Type;
+use graphql_names::Name;
 use graphql_schema::{ExtendedType, Schema, TypeKind};
 
 /// The type of that name, if it is there.

@@ -14,11 +14,11 @@ use crate::empty::{empty_field_set, empty_input_value_set, empty_member_set, emp
 use crate::look_ups::{kind_inside, kind_named};
 use crate::reserved::{Named, reserved_name};
 use crate::types_used::{output_type, undefined_name, undefined_type, union_member_object_type};
+use graphql_directives::InputValueDefinition;
 use graphql_fault_data::Fault;
-use graphql_schema::graphql_ast::{
-    EnumValueDefinition, FieldDefinition, InputValueDefinition, Name, Node,
-};
+use graphql_names::{Name, Node};
 use graphql_schema::{Component, ComponentName, ExtendedType, Schema};
+use graphql_type_members::{EnumValueDefinition, FieldDefinition};
 use indexmap::{IndexMap, IndexSet};
 use std::alloc::{AllocError, Global};
 

@@ -6,7 +6,7 @@ ghost use Rattle.graphql_type_rules.specs.FaultLists.{reserved_name};
 ghost use Rattle.graphql_type_rules.specs.NamedWords.{named_words};
 
 use graphql_fault_data::{DiagnosticData, Fault, tell};
-use graphql_schema::graphql_ast::{Name, SourceSpan};
+use graphql_names::{Name, SourceSpan};
 use std::alloc::AllocError;
 
 /// What has a name, besides types.

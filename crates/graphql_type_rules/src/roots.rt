@@ -12,7 +12,8 @@ ghost use Rattle.graphql_type_rules.specs.FaultLists.{query_root_operation_type,
 use crate::look_ups::kind_named;
 use crate::types_used::undefined_name;
 use graphql_fault_data::{DiagnosticData, Fault, tell};
-use graphql_schema::graphql_ast::{Name, Node, OperationType};
+use graphql_names::{Name, Node};
+use graphql_operations::OperationType;
 use graphql_schema::{ComponentName, Schema, SchemaDefinition, TypeKind};
 use std::alloc::AllocError;
 

@@ -9,9 +9,12 @@ ghost use Rattle.graphql_fault_data.specs.FaultView.{faults_of};
 ghost use Rattle.graphql_rule_definitions.specs.TypesUsed.{scalar_names};
 ghost use Rattle.graphql_type_rules.specs.FaultLists.{undefined_name, undefined_type, output_type, input_type, union_member_object_type};
 
+use graphql_directives::InputValueDefinition;
 use graphql_fault_data::{DiagnosticData, Fault, tell};
+use graphql_literals::Type;
+use graphql_names::{Name, Node};
 use graphql_schema::TypeKind;
-use graphql_schema::graphql_ast::{FieldDefinition, InputValueDefinition, Name, Node, Type};
+use graphql_type_members::FieldDefinition;
 use std::alloc::AllocError;
 
 /// UndefinedDefinition: the type that is named is there.

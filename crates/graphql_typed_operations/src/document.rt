@@ -4,7 +4,8 @@ ghost use Rattle.graphql_typed_operations.specs.TypedDocument.{typed_document_tr
 
 use crate::operation::Fragment;
 use crate::operation_map::OperationMap;
-use graphql_ast::{FileId, Name, Node, SourceFile};
+use graphql_definitions::SourceFile;
+use graphql_names::{FileId, Name, Node};
 use graphql_typed_selections::SelectionSet;
 use indexmap::IndexMap;
 use std::alloc::Global;

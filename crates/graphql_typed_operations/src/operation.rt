@@ -5,8 +5,10 @@ ghost use Rattle.graphql_operations.specs.declared.operation.OperationType.TheVa
 ghost use Rattle.graphql_typed_selections.specs.TypedTree.{set_type};
 ghost use Rattle.graphql_typed_operations.specs.TypedDocument.{typed_operation_tree, typed_fragment_tree};
 
-use graphql_ast::{DirectiveList, Name, NamedType, Node, OperationType, VariableDefinition};
-use graphql_names::{copies_of_four, copies_of_three};
+use graphql_directives::DirectiveList;
+use graphql_literals::NamedType;
+use graphql_names::{Name, Node, copies_of_four, copies_of_three};
+use graphql_operations::{OperationType, VariableDefinition};
 use graphql_typed_selections::SelectionSet;
 use std::alloc::AllocError;
 

@@ -8,7 +8,7 @@ ghost use Rattle.graphql_typed_operations.specs.TypedDocument.{typed_operation_t
 ghost use Rattle.graphql_typed_operations.specs.OperationsByName.{operations_list, operation_called, standing_for, with_operation, left_operations};
 
 use crate::operation::Operation;
-use graphql_ast::{Name, Node};
+use graphql_names::{Name, Node};
 use indexmap::IndexMap;
 use indexmap::map::Values;
 use std::alloc::{AllocError, Global};

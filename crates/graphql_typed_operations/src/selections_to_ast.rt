@@ -11,8 +11,7 @@ ghost use Rattle.graphql_typed_selections.specs.TypedParts.{typed_head, typed_fi
 ghost use Rattle.graphql_typed_operations.specs.ToAst.{ast_selection, ast_set};
 
 use graphql_ast as ast;
-use graphql_ast::Node;
-use graphql_names::{copies_of_four, copies_of_two};
+use graphql_names::{Node, copies_of_four, copies_of_two};
 use graphql_typed_selections::{Field, FragmentSpread, InlineFragment, Selection, SelectionSet};
 use std::alloc::{AllocError, Global};
 

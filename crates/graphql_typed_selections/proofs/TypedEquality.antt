@@ -11,7 +11,7 @@ use Rattle.graphql_typed_selections.specs.TypedTree.{TypedSelection, TypedField,
 use Rattle.graphql_typed_selections.specs.TypedParts.{typed_field, typed_spread, typed_inline}
 use Rattle.graphql_values.proofs.Decided.{Each, through, carried, pair_decides, name_decides, node_decides, nodes_decide, options_decide}
 use Rattle.graphql_values.proofs.DirectiveEquality.{argument_eq, argument_eq-Decides, directive_list_eq-Decides}
-use Rattle.graphql_ast.proofs.in_definitions.TreeEquality.{field_definition_eq-Decides}
+use Rattle.graphql_definitions.proofs.TreeEquality.{field_definition_eq-Decides}
 use Rattle.graphql_typed_selections.proofs.TypedTrees.{tree_here, typed_selection_tree_out, typed_set_tree_out}
 use Rattle.graphql_typed_selections.specs.declared.selection.Selection.{Selection}
 use Rattle.graphql_typed_selections.specs.declared.selection.Field.{Field}

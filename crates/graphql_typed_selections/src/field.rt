@@ -13,10 +13,10 @@ ghost use Rattle.graphql_typed_selections.specs.TypedTree.{TypedField, typed_set
 ghost use Rattle.graphql_typed_selections.specs.TypedParts.{typed_head, typed_field, aliased, and_arguments, and_directives, and_selections};
 
 use crate::selection::{Field, Selection, SelectionSet};
-use graphql_ast::{
-    Argument, ArgumentByNameError, Directive, DirectiveList, FieldDefinition, Name, Node, Type,
-    Value,
-};
+use graphql_directives::{Argument, ArgumentByNameError, Directive, DirectiveList};
+use graphql_literals::{Type, Value};
+use graphql_names::{Name, Node};
+use graphql_type_members::FieldDefinition;
 use std::alloc::{AllocError, Global};
 
 #[tactic(auto, using(crate::proofs::TypedTrees::added_rules))]

@@ -3,7 +3,7 @@ ghost use Rattle.std.specs.Iterator.{YieldsFirstRef, item_count};
 ghost use Rattle.graphql_typed_selections.specs.OwnFields.{left_fields};
 
 use crate::selection::{Field, Selection};
-use graphql_ast::Node;
+use graphql_names::Node;
 
 /// The fields that are left of a selection set itself, in order.
 #[derive(Drop)]

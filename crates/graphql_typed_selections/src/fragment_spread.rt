@@ -6,7 +6,8 @@ ghost use Rattle.graphql_typed_selections.specs.TypedTree.{TypedSpread};
 ghost use Rattle.graphql_typed_selections.specs.TypedParts.{typed_spread, and_directives};
 
 use crate::selection::FragmentSpread;
-use graphql_ast::{Directive, DirectiveList, Name, Node};
+use graphql_directives::{Directive, DirectiveList};
+use graphql_names::{Name, Node};
 use std::alloc::{AllocError, Global};
 
 #[tactic(auto, using(crate::proofs::TypedTrees::added_rules))]

@@ -6,7 +6,9 @@ ghost use Rattle.graphql_typed_selections.specs.TypedTree.{TypedInline, typed_se
 ghost use Rattle.graphql_typed_selections.specs.TypedParts.{typed_inline, and_directives, and_selections};
 
 use crate::selection::{InlineFragment, Selection, SelectionSet};
-use graphql_ast::{Directive, DirectiveList, NamedType, Node};
+use graphql_directives::{Directive, DirectiveList};
+use graphql_literals::NamedType;
+use graphql_names::Node;
 use std::alloc::{AllocError, Global};
 
 #[tactic(auto, using(crate::proofs::TypedTrees::added_rules))]

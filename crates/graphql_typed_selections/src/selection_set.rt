@@ -8,7 +8,8 @@ ghost use Rattle.graphql_typed_selections.specs.OwnFields.{fields_in, field_node
 
 use crate::fields::Fields;
 use crate::selection::{FragmentSpread, InlineFragment, Selection, SelectionSet};
-use graphql_ast::{Name, NamedType};
+use graphql_literals::NamedType;
+use graphql_names::Name;
 use std::alloc::{AllocError, AllocFailed, Global};
 
 #[tactic(auto, using(crate::proofs::TypedTrees::typed_set_rules))]

@@ -7,8 +7,8 @@ use Rattle.std.proofs.lemmas.List.{append-nil, map-append}
 use Rattle.graphql_names.specs.Placed.{Text}
 use Rattle.graphql_operations.specs.OperationLayout.{is_none}
 use Rattle.graphql_operations.specs.OperationTree.{OperationTree, FragmentTree}
-use Rattle.graphql_ast.specs.DefinitionTree.{DefinitionTree, Operation, Fragment}
-use Rattle.graphql_ast.specs.Queries.{definition_place}
+use Rattle.graphql_definitions.specs.DefinitionTree.{DefinitionTree, Operation, Fragment}
+use Rattle.graphql_definitions.specs.Queries.{definition_place}
 use Rattle.graphql_components.specs.Lists.{each_place, has_name}
 use Rattle.graphql_components.proofs.Places.{each_place-push}
 use Rattle.graphql_typing.specs.Meanings.{Meanings}

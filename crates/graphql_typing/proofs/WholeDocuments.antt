@@ -9,7 +9,7 @@ use Rattle.graphql_directives.specs.DirectiveTree.{Directives}
 use Rattle.graphql_operations.specs.OperationLayout.{is_none}
 use Rattle.graphql_operations.specs.OperationTree.{OperationTree, FragmentTree}
 use Rattle.graphql_operations.specs.SelectionTree.{FieldHead, SelectionTree, FieldTree, SpreadTree, InlineTree, SelectionTrees, no_selections, selection_then}
-use Rattle.graphql_ast.specs.DefinitionTree.{DefinitionTree, Operation, Fragment}
+use Rattle.graphql_definitions.specs.DefinitionTree.{DefinitionTree, Operation, Fragment}
 use Rattle.graphql_components.specs.Lists.{StandsAfter, each_place, each_place_after, has_name}
 use Rattle.graphql_components.proofs.Places.{is_only}
 use Rattle.graphql_typing.specs.MeantTree.{Definition, MeantSelection, MeantField, MeantSpread, MeantInline, members, set_on}

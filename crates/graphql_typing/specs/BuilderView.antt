@@ -1,7 +1,7 @@
 -- What contracts see of a builder of documents, and when it refuses.
 use Rattle.std.specs.Prelude.{◌≡◌, Bool, true, false, List, map}
 use Rattle.graphql_names.specs.Placed.{Place}
-use Rattle.graphql_ast.specs.DefinitionTree.{DefinitionTree, definition_tree}
+use Rattle.graphql_definitions.specs.DefinitionTree.{DefinitionTree, definition_tree}
 use Rattle.graphql_schema.specs.SourcesView.{Sources, sources_view}
 use Rattle.graphql_typing.specs.Meanings.{Meanings}
 use Rattle.graphql_typing.specs.MeaningView.{meanings_under}

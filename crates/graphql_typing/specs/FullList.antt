@@ -4,7 +4,7 @@ use Rattle.std.specs.List.{filter}
 use Rattle.graphql_operations.specs.OperationLayout.{is_none}
 use Rattle.graphql_operations.specs.OperationTree.{OperationTree}
 use Rattle.graphql_operations.specs.SelectionTree.{SelectionTree, SelectionTrees}
-use Rattle.graphql_ast.specs.DefinitionTree.{DefinitionTree, Operation, Fragment}
+use Rattle.graphql_definitions.specs.DefinitionTree.{DefinitionTree, Operation, Fragment}
 use Rattle.graphql_components.specs.Lists.{StandsAfter, has_name}
 use Rattle.graphql_typing.specs.Meanings.{Meanings}
 use Rattle.graphql_typing.specs.KeptSelections.{kept}

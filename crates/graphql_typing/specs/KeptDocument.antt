@@ -5,7 +5,7 @@ use Rattle.std.specs.Option.{option_map}
 use Rattle.graphql_names.specs.Placed.{Text}
 use Rattle.graphql_operations.specs.OperationLayout.{is_none}
 use Rattle.graphql_operations.specs.OperationTree.{OperationTree, FragmentTree}
-use Rattle.graphql_ast.specs.DefinitionTree.{DefinitionTree, Operation, Fragment}
+use Rattle.graphql_definitions.specs.DefinitionTree.{DefinitionTree, Operation, Fragment}
 use Rattle.graphql_components.specs.Lists.{firsts}
 use Rattle.graphql_typing.specs.MeantTree.{MeantSet, MeantOperation, MeantFragment, MeantDocument, set_on}
 use Rattle.graphql_typing.specs.Meanings.{Meanings}

@@ -4,8 +4,8 @@ use Rattle.std.specs.List.{filter}
 use Rattle.std.specs.Option.{option_map_or}
 use Rattle.graphql_names.specs.Placed.{Text}
 use Rattle.graphql_operations.specs.OperationTree.{OperationTree, FragmentTree}
-use Rattle.graphql_ast.specs.DefinitionTree.{DefinitionTree, Operation, Fragment}
-use Rattle.graphql_ast.specs.Queries.{definition_place}
+use Rattle.graphql_definitions.specs.DefinitionTree.{DefinitionTree, Operation, Fragment}
+use Rattle.graphql_definitions.specs.Queries.{definition_place}
 use Rattle.graphql_components.specs.Lists.{has_name}
 use Rattle.graphql_components.specs.Names.{Entries}
 use Rattle.graphql_typing.specs.MeantTree.{MeantDocument}

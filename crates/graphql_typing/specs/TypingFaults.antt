@@ -5,8 +5,8 @@ use Rattle.graphql_operations.specs.SelectionTree.{SelectionTree, FieldTree, Inl
 use Rattle.graphql_operations.specs.OperationWritable.{has_selection}
 use Rattle.graphql_names.specs.Placed.{Text}
 use Rattle.graphql_directives.specs.DirectiveTree.{Directives}
-use Rattle.graphql_ast.specs.DefinitionTree.{DefinitionTree, Operation, Fragment}
-use Rattle.graphql_ast.specs.Queries.{is_executable, definition_place}
+use Rattle.graphql_definitions.specs.DefinitionTree.{DefinitionTree, Operation, Fragment}
+use Rattle.graphql_definitions.specs.Queries.{is_executable, definition_place}
 use Rattle.graphql_components.specs.Lists.{AtSomePlace, has_name}
 pub use Rattle.graphql_document_faults.specs.DocumentBreaches.{DocumentBreach, TypeSystemDefinition, AmbiguousAnonymousOperation, OperationNameCollision, FragmentNameCollision, UndefinedRootOperation, UndefinedTypeInNamedFragmentTypeCondition, UndefinedTypeInInlineFragmentTypeCondition, SubselectionOnScalarType, SubselectionOnEnumType, UndefinedField}
 use Rattle.graphql_typing.specs.MeantTree.{Definition}

@@ -6,8 +6,9 @@ ghost use Rattle.graphql_typing.specs.Steps.{faults_if};
 ghost use Rattle.graphql_typing.specs.FaultView.{faults_of};
 
 use crate::rules::tell;
-use graphql_ast::{Name, OperationType, SourceSpan};
 use graphql_document_faults::BuildError;
+use graphql_names::{Name, SourceSpan};
+use graphql_operations::OperationType;
 use std::alloc::AllocError;
 
 /// A document holds operations and fragments alone (section 5.1.1): this definition is of the type system.

@@ -13,8 +13,9 @@ ghost use Rattle.graphql_typing.specs.FaultView.{faults_of};
 
 use crate::keep::set_on;
 use crate::selections::type_selections;
-use graphql_ast::{Name, Selection, SourceSpan};
 use graphql_document_faults::BuildError;
+use graphql_names::{Name, SourceSpan};
+use graphql_operations::Selection;
 use graphql_schema::Schema;
 use graphql_typed_operations::FieldSet;
 use indexmap::IndexMap;

@@ -14,11 +14,11 @@ ghost use Rattle.graphql_typing.specs.KeptDocument.{operation_with, fragment_wit
 ghost use Rattle.graphql_typing.specs.MeaningView.{meant_selections};
 ghost use Rattle.graphql_typing.specs.StepsView.{operation_meaning, fragment_meaning};
 
-use graphql_ast::{
-    Field, FieldDefinition, FragmentDefinition, FragmentSpread, InlineFragment, Name, Node,
-    OperationDefinition,
+use graphql_names::{Name, Node, copies_of_four, copies_of_three, copies_of_two};
+use graphql_operations::{
+    Field, FragmentDefinition, FragmentSpread, InlineFragment, OperationDefinition,
 };
-use graphql_names::{copies_of_four, copies_of_three, copies_of_two};
+use graphql_type_members::FieldDefinition;
 use graphql_typed_operations::{Fragment, Operation};
 use graphql_typed_selections as typed;
 use std::alloc::{AllocError, Global};

@@ -12,9 +12,13 @@ ghost use Rattle.graphql_typing.specs.Meanings.{inner_type, unknown_definition, 
 ghost use Rattle.graphql_typing.specs.DefinedField.{definition_view};
 ghost use Rattle.graphql_typing.specs.MeaningView.{meanings_under};
 
-use graphql_ast::{DirectiveList, FieldDefinition, Name, Node, OperationType, Type};
+use graphql_directives::DirectiveList;
+use graphql_literals::Type;
+use graphql_names::{Name, Node};
+use graphql_operations::OperationType;
 use graphql_schema::Schema;
-use graphql_schema::graphql_schema_types::ExtendedType;
+use graphql_schema_types::ExtendedType;
+use graphql_type_members::FieldDefinition;
 use std::alloc::{AllocError, Global};
 
 /// The type of that name, if there is one.

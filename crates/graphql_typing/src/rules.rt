@@ -11,8 +11,9 @@ ghost use Rattle.graphql_typing.specs.SetFaults.{leaf_faults};
 ghost use Rattle.graphql_typing.specs.MeaningView.{meanings_under};
 
 use crate::look_ups::{is_enum, is_scalar};
-use graphql_ast::{Name, Selection, SourceSpan};
 use graphql_document_faults::BuildError;
+use graphql_names::{Name, SourceSpan};
+use graphql_operations::Selection;
 use graphql_schema::Schema;
 use std::alloc::AllocError;
 

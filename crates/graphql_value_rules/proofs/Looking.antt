@@ -8,7 +8,7 @@ use Rattle.graphql_names.specs.Places.{is_built_in}
 use Rattle.graphql_literals.specs.TypeTree.{TypeTree, NamedTree, NonNullNamedTree, ListTree, NonNullListTree, unplaced_type}
 use Rattle.graphql_literals.specs.TypeQueries.{inner_name, item_type_of, has_mark, is_list_type}
 use Rattle.graphql_directives.specs.DirectiveTree.{InputValueTree, unplaced_input_value}
-use Rattle.graphql_schema.specs.in_ast.TypeSystemTree.{unplaced_enum_value}
+use Rattle.graphql_type_members.specs.TypeSystemTree.{unplaced_enum_value}
 use Rattle.graphql_components.specs.Names.{Entries, by_bytes, named}
 use Rattle.graphql_components.specs.Given.{Given, plain_given}
 use Rattle.graphql_schema.specs.in_schema_types.SchemaTree.{SchemaType, SchemaTree, same_kind}

@@ -7,7 +7,7 @@ ghost use Rattle.graphql_directives.specs.DirectiveTree.{input_value_tree};
 ghost use Rattle.graphql_operations.specs.OperationTree.{variable_definition_tree};
 ghost use Rattle.graphql_components.specs.Given.{component_tree};
 ghost use Rattle.graphql_schema.specs.SchemaOf.{schema_tree};
-ghost use Rattle.graphql_schema.specs.in_ast.TypeSystemTree.{enum_value_tree};
+ghost use Rattle.graphql_type_members.specs.TypeSystemTree.{enum_value_tree};
 ghost use Rattle.graphql_schema.specs.in_schema_types.TypeView.{extended_type};
 ghost use Rattle.graphql_schema.specs.in_schema_types.Addresses.{under, type_at};
 ghost use Rattle.graphql_rule_definitions.specs.Values.{defined_name};
@@ -19,8 +19,8 @@ use graphql_directives::InputValueDefinition;
 use graphql_literals::Value;
 use graphql_names::{Name, Node};
 use graphql_operations::VariableDefinition;
-use graphql_schema::graphql_ast::EnumValueDefinition;
 use graphql_schema::{ExtendedType, Schema};
+use graphql_type_members::EnumValueDefinition;
 
 /// The variable of that name, if there is one.
 pub(crate) fn find_variable<'a>(

@@ -6,7 +6,7 @@ ghost use Rattle.graphql_walks.specs.WalkView.{fragments_tree};
 ghost use Rattle.graphql_walks.specs.Lending.{LendsNext, items_to_lend, all_fields_is_over, all_fields_left, root_fields_is_over, root_fields_left};
 
 use crate::lending::Lending;
-use graphql_ast::Node;
+use graphql_names::Node;
 use graphql_typed_operations::FragmentMap;
 use graphql_typed_selections::{Field, SelectionSet};
 use std::alloc::{AllocError, Global};

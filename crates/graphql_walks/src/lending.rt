@@ -6,7 +6,7 @@ ghost use Rattle.graphql_walks.specs.WalkView.{fragments_tree};
 ghost use Rattle.graphql_walks.specs.Lending.{LendsNext, lending_is_over, left_to_lend};
 
 use crate::walk::Walk;
-use graphql_ast::Node;
+use graphql_names::Node;
 use graphql_typed_operations::FragmentMap;
 use graphql_typed_selections::{Field, SelectionSet};
 use std::alloc::{AllocError, Global};

@@ -8,7 +8,7 @@ ghost use Rattle.graphql_typed_selections.specs.TypedParts.{typed_field_node};
 ghost use Rattle.graphql_walks.specs.Left.{at_start, with_next, with_more, with_name, left_selections, left_fields};
 ghost use Rattle.graphql_walks.specs.WalkView.{standing, fragments_tree, HasPassed, HasEntered, Takes};
 
-use graphql_ast::{Name, Node};
+use graphql_names::{Name, Node};
 use graphql_typed_operations::FragmentMap;
 use graphql_typed_selections::{Field, Selection, SelectionSet};
 use indexmap::IndexSet;

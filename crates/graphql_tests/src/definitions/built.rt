@@ -1,5 +1,5 @@
 //! One definition of each variant, built in a program and without places.
-use graphql_checked::graphql_ast::*;
+use graphql_ast::*;
 use std::alloc::{AllocError, Global};
 
 pub(crate) fn operation_definition(alloc: Global) -> Result<Definition, AllocError> {

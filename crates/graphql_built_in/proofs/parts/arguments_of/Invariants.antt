@@ -1,6 +1,6 @@
 use Rattle.std.proofs.Common.{◌≡◌, map, take}
-use Rattle.graphql_values.specs.Placed.{node_tree}
-use Rattle.graphql_values.specs.DirectiveTree.{input_value_tree}
+use Rattle.graphql_names.specs.Placed.{node_tree}
+use Rattle.graphql_directives.specs.DirectiveTree.{input_value_tree}
 use Rattle.graphql_built_in.specs.Rows.{row_argument}
 use Rattle.graphql_built_in.proofs.parts.arguments_of.Given as goal
 

@@ -1,7 +1,7 @@
 -- The place fits in one way.
 use Rattle.std.proofs.Common.{◌<◌, ◌+◌, ◌^◌, Some, ap, lit<}
 use Rattle.std.specs.Coded.{le_prop}
-use Rattle.graphql_values.specs.Placed.{Place}
+use Rattle.graphql_names.specs.Placed.{Place}
 use Rattle.graphql_built_in.proofs.parts.built_in_place.Goals as goal
 
 abbrev span : (0 + 0 < 2 ^ 64) → Place

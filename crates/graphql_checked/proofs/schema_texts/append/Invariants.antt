@@ -1,5 +1,5 @@
 use Rattle.std.proofs.Common.{◌≡◌, ◌++◌, map}
-use Rattle.graphql_thin.specs.in_ast.DefinitionTree.{definition_tree, document_tree}
+use Rattle.graphql_definitions.specs.DefinitionTree.{definition_tree, document_tree}
 use Rattle.graphql_checked.proofs.schema_texts.append.Given as goal
 
 abbrev pub invariant-loop-definition : goal.invariant-loop-definition

@@ -1,7 +1,5 @@
-use Rattle.std.proofs.Common.{◌++◌, map, sym, ap, ◌∙◌}
-use Rattle.std.proofs.lemmas.Iterator.Adapters.{YieldsList-from_vec}
-use Rattle.std.proofs.lemmas.Iterator.Consumers.{YieldsList-end}
-use Rattle.std.proofs.lemmas.List.{map-id}
+use Rattle.std.proofs.Common.{◌<◌, ◌++◌, [], ◌∷◌, map, take, length, sym, ap, ◌∙◌, arith}
+use Rattle.std.proofs.lemmas.List.{map_more, take_all}
 use Rattle.graphql_components.specs.Lists.{repeats}
 use Rattle.graphql_components.specs.Given.{component_tree}
 use Rattle.graphql_folding.specs.FaultView.{faults_of}
@@ -15,17 +13,20 @@ loop-component-preserved g c =
     let view = component_tree (itself {A = g.row.T.Denot}) in
     let key = content_key g.T.Keyed.key_of in
     let note = component_fault g.T.Keyed.key_of c.args.repeat c.args.type_name.now.text in
+    let xs = c.args.all.now in
+    let i = c.loop-component.component-index in
+    let x = c.component-item.result in
+    let h : i < length xs = omega arith in
+    let front = map_more view xs i x h ∙ ap (λ y. map view (take i xs) ++ view y ∷ []) (sym c.component-item.is) in
     let so_far = c.loop-component.invariant in
     let step = c.in_ok-keep_or_tell.ensures in
     record {
-      kept = kept_on key note view c.loop-component.yielded c.in-Some.component _ _ _ _ so_far.kept step;
-      told = told_on key note view c.loop-component.yielded c.in-Some.component _ _ _ _ _ so_far.kept so_far.told step;
+      kept = kept_on key note (map view (take i xs)) (view x) _ front _ _ _ _ so_far.kept step;
+      told = told_on key note (map view (take i xs)) (view x) _ front _ _ _ _ _ so_far.kept so_far.told step;
     }
 
 pub returns-clause-faults : goal.returns-clause-faults
 returns-clause-faults g c =
     let key = content_key g.T.Keyed.key_of in
     let note = component_fault g.T.Keyed.key_of c.args.repeat c.args.type_name.now.text in
-    let gives = c.into_iter-component-iterator.ensures.into_iter_gives in
-    let end = YieldsList-end (YieldsList-from_vec c.args.all.items gives.0 cc) c.loop-component.yielded c.loop-component.component-iterator c.loop-component.yielded_by c.next.result c.next.new.self c.in-None.is c.next.ensures.steps in
-    c.loop-component.invariant.told ∙ ap (λ xs. faults_of c.args.faults.now ++ map note (repeats key (given_contents xs))) (sym (map-id c.loop-component.yielded) ∙ end.0)
+    c.loop-component.invariant.told ∙ ap (λ xs. faults_of c.args.faults.now ++ map note (repeats key (given_contents xs))) (take_all c.loop-component.component-index c.args.all.now c.loop-component-test.false)

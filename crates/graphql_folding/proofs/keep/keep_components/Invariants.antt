@@ -1,4 +1,4 @@
-use Rattle.std.proofs.Common.{◌≡◌, ◌++◌, map}
+use Rattle.std.proofs.Common.{◌≡◌, ◌++◌, map, take}
 use Rattle.graphql_components.specs.Lists.{repeats}
 use Rattle.graphql_components.specs.Names.{entries_of}
 use Rattle.graphql_components.specs.Given.{component_tree}
@@ -11,6 +11,6 @@ use Rattle.graphql_folding.proofs.keep.keep_components.Given as goal
 
 abbrev pub invariant-loop-component : goal.invariant-loop-component
 invariant-loop-component g l = record {
-  kept : entries_of name_text (component_tree itself) l.kept ≡ keyed_firsts (content_key g.T.Keyed.key_of) (given_contents l.yielded);
-  told : faults_of l.faults ≡ faults_of l.fn.faults ++ map (component_fault g.T.Keyed.key_of l.repeat l.type_name.text) (repeats (content_key g.T.Keyed.key_of) (given_contents l.yielded));
+  kept : entries_of name_text (component_tree itself) l.kept ≡ keyed_firsts (content_key g.T.Keyed.key_of) (given_contents (take l.component-index l.all));
+  told : faults_of l.faults ≡ faults_of l.fn.faults ++ map (component_fault g.T.Keyed.key_of l.repeat l.type_name.text) (repeats (content_key g.T.Keyed.key_of) (given_contents (take l.component-index l.all)));
 }

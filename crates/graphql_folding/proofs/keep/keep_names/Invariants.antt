@@ -1,4 +1,4 @@
-use Rattle.std.proofs.Common.{◌≡◌, ◌++◌, map}
+use Rattle.std.proofs.Common.{◌≡◌, ◌++◌, map, take}
 use Rattle.graphql_components.specs.Lists.{firsts, repeats}
 use Rattle.graphql_components.specs.Given.{component_name_tree, given_name}
 use Rattle.graphql_folding.specs.FaultView.{faults_of}
@@ -7,6 +7,6 @@ use Rattle.graphql_folding.proofs.keep.keep_names.Given as goal
 
 abbrev pub invariant-loop-component : goal.invariant-loop-component
 invariant-loop-component l = record {
-  kept : map component_name_tree l.kept.keys ≡ firsts given_name (map component_name_tree l.yielded);
-  told : faults_of l.faults ≡ faults_of l.fn.faults ++ map (name_fault l.repeat l.type_name.text) (repeats given_name (map component_name_tree l.yielded));
+  kept : map component_name_tree l.kept.keys ≡ firsts given_name (map component_name_tree (take l.component-index l.all));
+  told : faults_of l.faults ≡ faults_of l.fn.faults ++ map (name_fault l.repeat l.type_name.text) (repeats given_name (map component_name_tree (take l.component-index l.all)));
 }

@@ -18,15 +18,16 @@ returns-then-contains_key g c =
     let view = component_tree (itself {A = g.row.T.Denot}) in
     let es = c.args.kept.now.entries in
     let type_name = c.args.type_name.now.text in
-    let named : c.key-name.result.now ≡ g.T.Keyed.key_of (content c.args.component.node) = c.key-name.ensures ∙ ap g.T.Keyed.key_of c.content.ensures in
+    let named : c.key-name.result.now ≡ g.T.Keyed.key_of (content c.args.component.now.node) = c.key-name.ensures ∙ ap g.T.Keyed.key_of c.content.ensures in
     let there = ap (λ (n : NameValue). is_some (lookup (λ k. bytes_eq n.text k.text) es)) (sym named) ∙ sym c.contains_key.ensures ∙ c.if-contains_key.true in
-    IfOk-weaker _ _ _ (λ _ h. keeps_seen (content_key g.T.Keyed.key_of) (component_fault g.T.Keyed.key_of c.args.repeat type_name) view es (view c.args.component) (faults_of c.args.faults.now) (faults_of c.note_repeat.new.faults) there
+    IfOk-weaker _ _ _ (λ _ h. keeps_seen (content_key g.T.Keyed.key_of) (component_fault g.T.Keyed.key_of c.args.repeat type_name) view es (view c.args.component.now) (faults_of c.args.faults.now) (faults_of c.note_repeat.new.faults) there
     (h ∙ (λ i. faults_of c.args.faults.now ++ record { place = c.location.ensures i; breach = repeat_breach c.args.repeat type_name (named i).text } ∷ []))) c.note_repeat.ensures
 
 pub returns-else-contains_key : goal.returns-else-contains_key
 returns-else-contains_key g c =
     let view = component_tree (itself {A = g.row.T.Denot}) in
     let es = c.args.kept.now.entries in
-    let named : c.key-name.result.now ≡ g.T.Keyed.key_of (content c.args.component.node) = c.key-name.ensures ∙ ap g.T.Keyed.key_of c.content.ensures in
+    let named : c.key-name.result.now ≡ g.T.Keyed.key_of (content c.args.component.now.node) = c.key-name.ensures ∙ ap g.T.Keyed.key_of c.content.ensures in
     let absent = ap (λ (n : NameValue). is_some (lookup (λ k. bytes_eq n.text k.text) es)) (sym named) ∙ sym c.contains_key.ensures ∙ c.if-contains_key.false in
-    IfOk-weaker _ _ _ (λ _ h. keeps_new (content_key g.T.Keyed.key_of) (component_fault g.T.Keyed.key_of c.args.repeat c.args.type_name.now.text) view es (view c.args.component) (entries_of name_text view c.keep_component.new.kept) (faults_of c.args.faults.now) absent h) c.keep_component.ensures
+    IfOk-weaker _ _ _ (λ _ h. keeps_new (content_key g.T.Keyed.key_of) (component_fault g.T.Keyed.key_of c.args.repeat c.args.type_name.now.text) view es (view c.args.component.now) (entries_of name_text view c.keep_component.new.kept) (faults_of c.args.faults.now) absent
+    (h ∙ ap (λ (n : NameValue). entries_of name_text view c.args.kept.now ++ (n.text, view c.args.component.now) ∷ []) named)) c.keep_component.ensures

@@ -2,7 +2,7 @@ use Rattle.std.proofs.Common.{◌≡◌, true, false}
 use Rattle.std.proofs.lemmas.Result.{err_from_is_err_and}
 use Rattle.std.specs.Prelude.{map}
 use Rattle.graphql_names.specs.declared.span.FileId.{FileId}
-use Rattle.graphql_values.specs.Placed.{name_tree}
+use Rattle.graphql_names.specs.Placed.{name_tree}
 use Rattle.graphql_lexer.specs.Input.{next}
 use Rattle.graphql_lexer.specs.declared.terminal.Terminal.{Terminal}
 use Rattle.graphql_grammar.specs.Kinds as kinds

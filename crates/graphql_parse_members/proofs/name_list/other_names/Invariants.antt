@@ -1,6 +1,6 @@
 use Rattle.std.proofs.Common.{◌≡◌, length}
 use Rattle.std.specs.Prelude.{map}
-use Rattle.graphql_values.specs.Placed.{name_tree}
+use Rattle.graphql_names.specs.Placed.{name_tree}
 use Rattle.graphql_grammar.specs.Kinds as kinds
 use Rattle.graphql_grammar.specs.Reading as read
 use Rattle.graphql_grammar.specs.ValueReading as values

@@ -2,7 +2,7 @@ use Rattle.std.proofs.Common.{◌≡◌, ℕ, true, false, rules, arith}
 use Rattle.std.proofs.lemmas.Result.{err_from_is_err_and}
 use Rattle.std.specs.Prelude.{map}
 use Rattle.graphql_names.specs.declared.span.FileId.{FileId}
-use Rattle.graphql_values.specs.SelectionTree.{selection_tree}
+use Rattle.graphql_operations.specs.SelectionTree.{selection_tree}
 use Rattle.graphql_lexer.specs.Input.{next}
 use Rattle.graphql_grammar.specs.Begins as begins
 use Rattle.graphql_grammar.specs.Kinds.{next_is, is_name, is_fragment_name}

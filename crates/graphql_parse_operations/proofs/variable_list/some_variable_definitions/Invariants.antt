@@ -1,7 +1,7 @@
 use Rattle.std.proofs.Common.{◌≡◌, length}
 use Rattle.std.specs.Prelude.{map}
-use Rattle.graphql_values.specs.Placed.{node_tree}
-use Rattle.graphql_values.specs.OperationTree.{variable_definition_tree}
+use Rattle.graphql_names.specs.Placed.{node_tree}
+use Rattle.graphql_operations.specs.OperationTree.{variable_definition_tree}
 use Rattle.graphql_grammar.specs.Kinds as kinds
 use Rattle.graphql_grammar.specs.Reading as read
 use Rattle.graphql_grammar.specs.OperationReading as reading

@@ -1,6 +1,6 @@
 use Rattle.std.proofs.Common.{◌≡◌, true, false, rules, ap, ◌∙◌}
 use Rattle.std.proofs.lemmas.Result.{err_from_is_err_and}
-use Rattle.graphql_values.specs.TypeTree.{type_tree}
+use Rattle.graphql_literals.specs.TypeTree.{type_tree}
 use Rattle.graphql_lexer.specs.Input.{next}
 use Rattle.graphql_grammar.specs.Kinds.{next_is, is_bang}
 use Rattle.graphql_parse_values.specs.Meanings.{in_file}

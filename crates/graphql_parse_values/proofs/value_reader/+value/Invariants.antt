@@ -1,7 +1,7 @@
 use Rattle.std.proofs.Common.{◌≡◌, ℕ, ◌+◌, ◌*◌, length}
 use Rattle.std.specs.Prelude.{map}
-use Rattle.graphql_values.specs.Placed.{node_tree}
-use Rattle.graphql_values.specs.ValueTree.{value_tree}
+use Rattle.graphql_names.specs.Placed.{node_tree}
+use Rattle.graphql_literals.specs.ValueTree.{value_tree}
 use Rattle.graphql_grammar.specs.Begins as begins
 use Rattle.graphql_grammar.specs.Kinds as kinds
 use Rattle.graphql_grammar.specs.Reading as read

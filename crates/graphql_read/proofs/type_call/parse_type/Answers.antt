@@ -1,5 +1,5 @@
 use Rattle.std.proofs.Common.{refl, sym, subst, ◌∙◌}
-use Rattle.graphql_values.specs.TypeTree.{type_tree}
+use Rattle.graphql_literals.specs.TypeTree.{type_tree}
 use Rattle.graphql_grammar.specs.Grammar.{DerivesType}
 use Rattle.graphql_read.proofs.Symbols.{any_type_parses}
 use Rattle.graphql_parse_operations.specs.in_parse_values.Meanings.{in_file}

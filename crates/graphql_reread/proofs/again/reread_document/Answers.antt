@@ -1,6 +1,6 @@
 use Rattle.std.proofs.Common.{◌∙◌}
 use Rattle.std.specs.Option.{option_copied}
-use Rattle.graphql_ast.specs.DefinitionTree.{document_tree, unplaced_document}
+use Rattle.graphql_definitions.specs.DefinitionTree.{document_tree, unplaced_document}
 use Rattle.graphql_grammar.specs.Grammar.{Derives}
 use Rattle.graphql_parse_values.specs.Meanings.{in_file}
 use Rattle.graphql_reread.specs.ReadsAgain.{laid_out}

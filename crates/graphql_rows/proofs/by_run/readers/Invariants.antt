@@ -1,5 +1,5 @@
 use Rattle.std.proofs.Common.{◌≡◌, false, All}
-use Rattle.graphql_row_files.specs.in_names.Device.{device_failed}
+use Rattle.graphql_names.specs.Device.{device_failed}
 use Rattle.graphql_rows.proofs.by_run.readers.Given as goal
 
 -- no reader made so far has failed

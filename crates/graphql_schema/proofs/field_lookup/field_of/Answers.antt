@@ -1,5 +1,5 @@
 use Rattle.std.proofs.Common.{sym, ap, ◌∙◌}
-use Rattle.graphql_schema_building.specs.in_ast.TypeSystemTree.{field_definition_tree}
+use Rattle.graphql_type_members.specs.TypeSystemTree.{field_definition_tree}
 use Rattle.graphql_components.specs.Names.{entries_of}
 use Rattle.graphql_components.specs.Given.{component_tree}
 use Rattle.graphql_schema_building.specs.in_schema_types.TypeView.{name_text, extended_type}

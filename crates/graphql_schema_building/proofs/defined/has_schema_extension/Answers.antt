@@ -1,10 +1,10 @@
 use Rattle.std.proofs.Common.{◌<◌, ◌+◌, ◌∷◌, ◌||◌, Bool, List, map, drop, length, is_some, sym, ap, ◌∙◌, arith}
 use Rattle.std.specs.List.{list_any}
 use Rattle.std.proofs.lemmas.List.{at_drop_more}
-use Rattle.graphql_type_folding.specs.in_folding.SchemaFold.{schema_extension_here}
-use Rattle.graphql_type_folding.specs.in_folding.ListedView.{listed_view}
-use Rattle.graphql_type_folding.specs.in_folding.declared.listed.Listed.{Listed}
-use Rattle.graphql_type_folding.specs.in_schema_folding.ListFold.{definitions_of}
+use Rattle.graphql_schema_folding.specs.in_folding.SchemaFold.{schema_extension_here}
+use Rattle.graphql_schema_folding.specs.in_folding.ListedView.{listed_view}
+use Rattle.graphql_schema_folding.specs.in_folding.declared.listed.Listed.{Listed}
+use Rattle.graphql_schema_folding.specs.ListFold.{definitions_of}
 use Rattle.graphql_schema_building.proofs.defined.has_schema_extension.Goals as goal
 
 pub returns-then-is_schema_extension : goal.returns-then-is_schema_extension

@@ -2,10 +2,10 @@ use Rattle.std.proofs.Common.{map}
 use Rattle.std.specs.Prelude.{Vec}
 use Rattle.std.specs.declared.alloc.Global.{Global}
 use Rattle.std.proofs.lemmas.Result.{IfOk-weaker}
-use Rattle.graphql_values.specs.Placed.{Place}
-use Rattle.graphql_type_folding.specs.in_folding.FaultView.{faults_of}
-use Rattle.graphql_type_folding.specs.in_folding.ListedView.{listed_view}
-use Rattle.graphql_type_folding.specs.in_folding.declared.build_error.BuildError.{BuildError}
+use Rattle.graphql_names.specs.Placed.{Place}
+use Rattle.graphql_schema_folding.specs.in_folding.FaultView.{faults_of}
+use Rattle.graphql_schema_folding.specs.in_folding.ListedView.{listed_view}
+use Rattle.graphql_schema_folding.specs.in_folding.declared.build_error.BuildError.{BuildError}
 use Rattle.graphql_schema_building.specs.BuiltView.{folded_view}
 use Rattle.graphql_schema_building.specs.declared.fold.Folded.{Folded}
 use Rattle.graphql_schema_building.proofs.Folding.{folds_split}

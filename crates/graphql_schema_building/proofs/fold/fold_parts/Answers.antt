@@ -1,8 +1,8 @@
 use Rattle.std.proofs.Common.{map, subst}
-use Rattle.graphql_type_folding.specs.in_folding.FaultView.{fault_of, faults_of}
-use Rattle.graphql_type_folding.specs.in_folding.ListedView.{listed_view}
-use Rattle.graphql_folding_rules.specs.Misplaced.{TellsMisplaced}
-use Rattle.graphql_type_folding.specs.in_schema_folding.ListFold.{definitions_of}
+use Rattle.graphql_schema_folding.specs.in_folding.FaultView.{fault_of, faults_of}
+use Rattle.graphql_schema_folding.specs.in_folding.ListedView.{listed_view}
+use Rattle.graphql_schema_folding.specs.Misplaced.{TellsMisplaced}
+use Rattle.graphql_schema_folding.specs.ListFold.{definitions_of}
 use Rattle.graphql_schema_building.proofs.Folding.{folds_parts}
 use Rattle.graphql_schema_building.proofs.fold.fold_parts.Goals as goal
 

@@ -1,5 +1,5 @@
 use Rattle.std.proofs.Common.{◌<◌, map, take, length, arith}
-use Rattle.graphql_type_folding.specs.in_folding.ListedView.{listed_view}
+use Rattle.graphql_schema_folding.specs.in_folding.ListedView.{listed_view}
 use Rattle.graphql_schema_building.specs.Settling.{is_kept}
 use Rattle.graphql_schema_building.proofs.Growing.{filtered}
 use Rattle.graphql_schema_building.proofs.settle.keep_texts.Goals as goal

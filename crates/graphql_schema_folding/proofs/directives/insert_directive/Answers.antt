@@ -2,7 +2,7 @@ use Rattle.std.proofs.Common.{◌++◌, [], ◌∷◌, map, ap, ◌∙◌}
 use Rattle.std.proofs.lemmas.List.{map-append}
 use Rattle.indexmap.specs.IndexMap.{insert_entry}
 use Rattle.indexmap.proofs.CallerLemmas.{insert_entry-new}
-use Rattle.graphql_values.specs.DirectiveTree.{directive_definition_tree}
+use Rattle.graphql_directives.specs.DirectiveTree.{directive_definition_tree}
 use Rattle.graphql_components.specs.Names.{same_text}
 use Rattle.graphql_folding.specs.in_schema_types.TypeView.{name_text}
 use Rattle.graphql_schema_folding.proofs.Choosing.{entry_view}

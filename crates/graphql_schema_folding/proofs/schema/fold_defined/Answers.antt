@@ -2,8 +2,8 @@ use Rattle.std.proofs.Common.{◌∷◌, None, map, ap, ◌∙◌}
 use Rattle.std.specs.List.{flat_map}
 use Rattle.std.specs.Option.{option_map}
 use Rattle.graphql_names.specs.Node.{place}
-use Rattle.graphql_values.specs.Placed.{text_tree}
-use Rattle.graphql_folding.specs.in_ast.DefinitionTree.{schema_parts}
+use Rattle.graphql_names.specs.Placed.{text_tree}
+use Rattle.graphql_definitions.specs.DefinitionTree.{schema_parts}
 use Rattle.graphql_folding.specs.SchemaFold.{extends_schema}
 use Rattle.graphql_folding.specs.ListedView.{listed_view}
 use Rattle.graphql_schema_folding.specs.RootFold.{all_from, made_from}

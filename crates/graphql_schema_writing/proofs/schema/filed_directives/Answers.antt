@@ -1,5 +1,5 @@
 use Rattle.std.proofs.Common.{ap, ◌∙◌}
-use Rattle.graphql_values.specs.DirectiveTree.{directive_tree}
+use Rattle.graphql_directives.specs.DirectiveTree.{directive_tree}
 use Rattle.graphql_schema_types.specs.Out.{given_by}
 use Rattle.graphql_schema_writing.specs.Filed.{filed_under, given_contents}
 use Rattle.graphql_schema_writing.proofs.Growing.{filed_grown}

@@ -3,8 +3,8 @@ use Rattle.std.proofs.lemmas.List.{map-append}
 use Rattle.indexmap.specs.IndexMap.{insert_entry}
 use Rattle.indexmap.proofs.CallerLemmas.{insert_entry-new}
 use Rattle.graphql_names.specs.Node.{content}
-use Rattle.graphql_values.specs.Placed.{node_tree}
-use Rattle.graphql_read.specs.in_ast.TypeSystemTree.{field_definition_tree}
+use Rattle.graphql_names.specs.Placed.{node_tree}
+use Rattle.graphql_type_members.specs.TypeSystemTree.{field_definition_tree}
 use Rattle.graphql_thin.specs.SchemaView.{same_name, field_entry, fields_of}
 use Rattle.graphql_thin.proofs.builder.add_field.Goals as goal
 

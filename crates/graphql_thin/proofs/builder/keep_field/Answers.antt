@@ -2,8 +2,8 @@ use Rattle.std.proofs.Common.{is_some, sym, ap, ◌∙◌}
 use Rattle.std.specs.Map.{lookup}
 use Rattle.std.specs.Str.{bytes_eq}
 use Rattle.std.proofs.lemmas.Result.{IfOk-weaker}
-use Rattle.graphql_values.specs.Placed.{node_tree}
-use Rattle.graphql_read.specs.in_ast.TypeSystemTree.{field_definition_tree}
+use Rattle.graphql_names.specs.Placed.{node_tree}
+use Rattle.graphql_type_members.specs.TypeSystemTree.{field_definition_tree}
 use Rattle.graphql_thin.specs.FaultView.{faults_of}
 use Rattle.graphql_thin.specs.SchemaView.{fields_of}
 use Rattle.graphql_thin.proofs.FoldSteps.{keeps_seen, keeps_new}

@@ -1,6 +1,6 @@
 use Rattle.std.proofs.Common.{◌<◌, length, sym, arith}
-use Rattle.graphql_values.specs.Placed.{node_tree}
-use Rattle.graphql_read.specs.in_ast.TypeSystemTree.{field_definition_tree}
+use Rattle.graphql_names.specs.Placed.{node_tree}
+use Rattle.graphql_type_members.specs.TypeSystemTree.{field_definition_tree}
 use Rattle.graphql_thin.proofs.FoldSteps.{fields_more, field_faults_more}
 use Rattle.graphql_thin.proofs.builder.keep_fields.Goals as goal
 

@@ -1,6 +1,6 @@
 use Rattle.std.proofs.Common.{◌≡◌, ◌++◌, map, take}
-use Rattle.graphql_values.specs.Placed.{node_tree}
-use Rattle.graphql_read.specs.in_ast.TypeSystemTree.{field_definition_tree}
+use Rattle.graphql_names.specs.Placed.{node_tree}
+use Rattle.graphql_type_members.specs.TypeSystemTree.{field_definition_tree}
 use Rattle.graphql_thin.specs.Lists.{each_place, firsts}
 use Rattle.graphql_thin.specs.Fold.{field_name}
 use Rattle.graphql_thin.specs.FaultView.{faults_of}

@@ -1,6 +1,6 @@
 use Rattle.std.proofs.Common.{◌≡◌, map, drop}
-use Rattle.graphql_values.specs.Placed.{node_tree}
-use Rattle.graphql_read.specs.in_ast.TypeSystemTree.{field_definition_tree}
+use Rattle.graphql_names.specs.Placed.{node_tree}
+use Rattle.graphql_type_members.specs.TypeSystemTree.{field_definition_tree}
 use Rattle.graphql_thin.specs.Thin.{are_thin_fields}
 use Rattle.graphql_thin.proofs.thin.are_thin_fields.Given as goal
 

@@ -1,5 +1,5 @@
 use Rattle.std.proofs.Common.{◌≡◌, drop}
-use Rattle.graphql_values.specs.SelectionTree.{selection_tree, selection_trees}
+use Rattle.graphql_operations.specs.SelectionTree.{selection_tree, selection_trees}
 use Rattle.graphql_thin.specs.Thin.{are_thin_selections}
 use Rattle.graphql_thin.proofs.thin.are_thin_selections.Given as goal
 

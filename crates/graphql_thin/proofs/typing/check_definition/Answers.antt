@@ -2,8 +2,8 @@ use Rattle.std.proofs.Common.{◌++◌, map, sym, ap, ◌∙◌}
 use Rattle.std.specs.List.{flat_map}
 use Rattle.std.proofs.lemmas.Result.{IfOk-equal}
 use Rattle.graphql_names.specs.Node.{content}
-use Rattle.graphql_values.specs.SelectionTree.{selection_tree}
-use Rattle.graphql_read.specs.in_ast.DefinitionTree.{definition_tree}
+use Rattle.graphql_operations.specs.SelectionTree.{selection_tree}
+use Rattle.graphql_definitions.specs.DefinitionTree.{definition_tree}
 use Rattle.graphql_thin.specs.FaultView.{faults_of}
 use Rattle.graphql_thin.specs.SchemaView.{fields_of}
 use Rattle.graphql_thin.specs.FaultList.{selection_faults, operation_faults}

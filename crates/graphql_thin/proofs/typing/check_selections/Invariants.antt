@@ -1,6 +1,6 @@
 use Rattle.std.proofs.Common.{◌≡◌, ◌++◌, map, take}
 use Rattle.std.specs.List.{flat_map}
-use Rattle.graphql_values.specs.SelectionTree.{selection_tree}
+use Rattle.graphql_operations.specs.SelectionTree.{selection_tree}
 use Rattle.graphql_thin.specs.FaultView.{faults_of}
 use Rattle.graphql_thin.specs.SchemaView.{fields_of}
 use Rattle.graphql_thin.specs.FaultList.{selection_faults}

@@ -1,5 +1,5 @@
 use Rattle.std.proofs.Common.{◌≡◌, map, length}
-use Rattle.graphql_ast.specs.Sources.{numbered_source}
+use Rattle.graphql_definitions.specs.Sources.{numbered_source}
 use Rattle.graphql_schema.specs.SourcesView.{sources_view, with_sources}
 use Rattle.graphql_typing.proofs.sources.add_sources.Given as goal
 

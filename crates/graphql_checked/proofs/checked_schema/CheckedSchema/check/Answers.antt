@@ -1,7 +1,7 @@
 use Rattle.std.proofs.Common.{refl, subst, map}
 use Rattle.std.specs.Prelude.{string_bytes}
 use Rattle.std.proofs.lemmas.Result.{err_from_is_err_and}
-use Rattle.graphql_thin.specs.in_ast.DefinitionTree.{document_tree}
+use Rattle.graphql_definitions.specs.DefinitionTree.{document_tree}
 use Rattle.graphql_checked.specs.Refusals.{IsAccepted, RefusalOfDocument}
 use Rattle.graphql_checked.specs.Answer.{RefusesDocument}
 use Rattle.graphql_checked.specs.Accepted.{IsAcceptedDocument}

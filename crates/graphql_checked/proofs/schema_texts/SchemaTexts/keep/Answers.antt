@@ -1,6 +1,6 @@
 use Rattle.std.proofs.Common.{◌≡◌, ◌+◌, ◌++◌, ◌∷◌, ℕ, List, [], Some, sym, ◌∙◌}
 use Rattle.std.proofs.lemmas.Result.{on_ok_weaker}
-use Rattle.graphql_thin.specs.in_ast.DefinitionTree.{document_tree}
+use Rattle.graphql_definitions.specs.DefinitionTree.{document_tree}
 use Rattle.graphql_thin.specs.ReadText.{ReadsText, PassesNesting}
 use Rattle.graphql_checked.specs.TextsView.{texts_of, IsReadingOf}
 use Rattle.graphql_checked.proofs.TextsReading.{reading_of, behind_kept, thin_kept, outside_kept}

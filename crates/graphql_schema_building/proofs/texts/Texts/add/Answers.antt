@@ -1,6 +1,6 @@
 use Rattle.std.proofs.Common.{[], ◌∷◌, ◌++◌, map, ap, ◌∙◌}
-use Rattle.graphql_type_folding.specs.in_ast.DefinitionTree.{definition_tree}
-use Rattle.graphql_type_folding.specs.in_folding.ListedView.{listed_view}
+use Rattle.graphql_definitions.specs.DefinitionTree.{definition_tree}
+use Rattle.graphql_schema_folding.specs.in_folding.ListedView.{listed_view}
 use Rattle.graphql_schema_building.specs.TextsView.{texts_view}
 use Rattle.graphql_schema_building.proofs.Adding.{adds_one}
 use Rattle.graphql_schema_building.proofs.texts.Texts.add.Goals as goal

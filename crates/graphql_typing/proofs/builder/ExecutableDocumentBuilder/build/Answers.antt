@@ -1,6 +1,6 @@
 use Rattle.std.proofs.Common.{◌≡◌, ◌↔◌, [], map, ap, sym, subst, ◌∙◌, Contains}
 use Rattle.graphql_names.specs.Placed.{Place}
-use Rattle.graphql_ast.specs.DefinitionTree.{definition_tree}
+use Rattle.graphql_definitions.specs.DefinitionTree.{definition_tree}
 use Rattle.graphql_typed_operations.specs.declared.document.ExecutableDocument.{ExecutableDocument}
 use Rattle.graphql_typing.specs.MeaningView.{meanings_under}
 use Rattle.graphql_typing.specs.TypingFaults.{TypingFails}

@@ -1,6 +1,0 @@
-pub mod FailsIs
-pub mod Seeing
-pub mod Judging
-pub mod Telling
-pub mod Turns
-pub mod MisplacedRows

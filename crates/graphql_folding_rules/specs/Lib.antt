@@ -1,3 +1,0 @@
-pub mod Misplaced
-pub mod Seen
-pub mod SeenView

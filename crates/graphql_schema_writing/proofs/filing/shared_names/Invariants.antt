@@ -1,7 +1,0 @@
-use Rattle.std.proofs.Common.{◌≡◌, map, take}
-use Rattle.graphql_values.specs.Placed.{name_tree}
-use Rattle.graphql_schema_writing.specs.Filed.{lent_name}
-use Rattle.graphql_schema_writing.proofs.filing.shared_names.Given as goal
-
-abbrev pub invariant-loop-name : goal.invariant-loop-name
-invariant-loop-name l = map name_tree l.shared.items ≡ map lent_name (take l.name-index l.names)

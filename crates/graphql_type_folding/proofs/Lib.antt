@@ -1,8 +1,0 @@
-pub mod Under
-pub mod Filing
-pub mod Folding
-pub mod FoldedTypes
-pub mod OwnNames
-pub mod Lookups
-pub use Rattle.graphql_schema_folding.proofs as in_schema_folding
-pub use Rattle.graphql_schema_folding.proofs.in_schema_types as in_schema_types

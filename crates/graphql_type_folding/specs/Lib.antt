@@ -1,8 +1,0 @@
-pub mod ListTypes
-pub mod Filing
-pub mod OwnNames
-pub use Rattle.graphql_schema_folding.specs.in_ast as in_ast
-pub use Rattle.graphql_schema_folding.specs.in_definitions as in_definitions
-pub use Rattle.graphql_schema_folding.specs.in_folding as in_folding
-pub use Rattle.graphql_schema_folding.specs as in_schema_folding
-pub use Rattle.graphql_schema_folding.specs.in_schema_types as in_schema_types
