@@ -4,3 +4,4 @@ pub mod ParseErrors
 pub mod LookUps
 pub mod LookUpView
 pub use Rattle.graphql_components.specs as in_components
+pub use Rattle.graphql_schema.specs as in_schema

@@ -19,5 +19,6 @@ pub use coordinate::{
     DirectiveArgumentCoordinate, DirectiveCoordinate, FieldArgumentCoordinate, SchemaCoordinate,
     TypeAttributeCoordinate, TypeCoordinate,
 };
+pub use graphql_schema::{FieldLookupError, Schema};
 pub use lookup_answers::{SchemaCoordinateLookup, SchemaLookupError, TypeAttributeLookup};
 pub use parse_error::SchemaCoordinateParseError;

@@ -1,15 +1,13 @@
 //! Tells which definitions lead back to themselves.
 ghost use Rattle.std.specs.Prelude.{OnOk};
-ghost use Rattle.graphql_schema.specs.SchemaOf.{schema_tree};
+ghost use Rattle.graphql_fault_data.specs.in_schema.SchemaOf.{schema_tree};
 ghost use Rattle.graphql_rule_definitions.specs.Distinct.{AreAllDistinct};
 ghost use Rattle.graphql_fault_data.specs.FaultView.{faults_of};
 ghost use Rattle.graphql_cycle_rules.specs.Told.{CyclesTold};
 
 use crate::check_directives::check_directive_cycles;
 use crate::check_inputs::check_input_cycles;
-use crate::distinct::names_differ;
-use graphql_fault_data::Fault;
-use graphql_schema::Schema;
+use graphql_fault_data::{Fault, Schema};
 use std::alloc::{AllocError, Global};
 
 /// Tells each input object and each directive definition that leads back to itself, or that the ways from there hold
@@ -19,14 +17,6 @@ pub fn check_cycles(
     schema: &Schema,
     faults: &mut Vec<Fault>,
 ) -> Result<(), AllocError>
-    ensures { OnOk result (CyclesTold (schema_tree schema.now) (faults_of faults.old) (faults_of faults.new)) }
-{
-    let _ = names_differ(schema);
-    check_both(alloc, schema, faults)
-}
-
-/// Tells those of input objects, then those of directives.
-fn check_both(alloc: Global, schema: &Schema, faults: &mut Vec<Fault>) -> Result<(), AllocError>
     requires { AreAllDistinct (schema_tree schema.now) }
     ensures { OnOk result (CyclesTold (schema_tree schema.now) (faults_of faults.old) (faults_of faults.new)) }
 {

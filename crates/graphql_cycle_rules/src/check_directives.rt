@@ -1,6 +1,6 @@
 //! Tells which directives reach themselves.
 ghost use Rattle.std.specs.Prelude.{◌<◌, map, OnOk, IfOk, option_to_list};
-ghost use Rattle.graphql_schema.specs.SchemaOf.{schema_tree};
+ghost use Rattle.graphql_fault_data.specs.in_schema.SchemaOf.{schema_tree};
 ghost use Rattle.graphql_rule_definitions.specs.Distinct.{AreAllDistinct};
 ghost use Rattle.graphql_fault_data.specs.FaultView.{fault_of, faults_of};
 ghost use Rattle.graphql_cycle_rules.specs.Search.{IsSound, IsReady};
@@ -14,8 +14,7 @@ use crate::graph::Graph;
 use crate::marks::Mark;
 use crate::search::{Found, new_marks, way_back};
 use crate::uses::use_targets;
-use graphql_fault_data::{Fault, tell};
-use graphql_schema::Schema;
+use graphql_fault_data::{Fault, Schema, tell};
 use std::alloc::{AllocError, Global};
 
 /// What each directive and each type refers to: directives by their arguments, types by their directives, values and

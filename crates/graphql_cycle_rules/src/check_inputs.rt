@@ -1,6 +1,6 @@
 //! Tells which input objects lead back to themselves.
 ghost use Rattle.std.specs.Prelude.{◌<◌, map, OnOk, IfOk, option_to_list};
-ghost use Rattle.graphql_schema.specs.SchemaOf.{schema_tree};
+ghost use Rattle.graphql_fault_data.specs.in_schema.SchemaOf.{schema_tree};
 ghost use Rattle.graphql_rule_definitions.specs.Distinct.{AreAllDistinct};
 ghost use Rattle.graphql_fault_data.specs.FaultView.{fault_of, faults_of};
 ghost use Rattle.graphql_cycle_rules.specs.Search.{IsSound, IsReady};
@@ -14,8 +14,7 @@ use crate::input_faults::{deeply_nested_input_object, recursive_input_object_def
 use crate::inputs::input_targets;
 use crate::marks::Mark;
 use crate::search::{Found, new_marks, way_back};
-use graphql_fault_data::{Fault, tell};
-use graphql_schema::Schema;
+use graphql_fault_data::{Fault, Schema, tell};
 use std::alloc::{AllocError, Global};
 
 /// What each type refers to by fields of type `Name!`.

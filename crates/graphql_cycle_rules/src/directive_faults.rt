@@ -3,7 +3,7 @@ ghost use Rattle.std.specs.Prelude.{◌≡◌, ◌++◌, map, IfOk, OnOk, option
 ghost use Rattle.graphql_names.specs.Placed.{node_tree};
 ghost use Rattle.graphql_names.specs.Places.{Recomposes};
 ghost use Rattle.graphql_directives.specs.DirectiveTree.{directive_tree, directive_definition_tree};
-ghost use Rattle.graphql_schema.specs.SchemaOf.{schema_tree};
+ghost use Rattle.graphql_fault_data.specs.in_schema.SchemaOf.{schema_tree};
 ghost use Rattle.graphql_fault_data.specs.FaultView.{fault_of};
 ghost use Rattle.graphql_cycle_rules.specs.Labels.{label};
 ghost use Rattle.graphql_cycle_rules.specs.UseNumbers.{uses_at};
@@ -11,9 +11,8 @@ ghost use Rattle.graphql_cycle_rules.specs.DirectiveFaults.{use_trace, TellsDire
 
 use crate::uses::{first_use, use_references};
 use graphql_directives::{Directive, DirectiveDefinition};
-use graphql_fault_data::{DiagnosticData, Fault};
+use graphql_fault_data::{DiagnosticData, Fault, Schema};
 use graphql_names::{Node, SourceSpan, recompose};
-use graphql_schema::Schema;
 use std::alloc::{AllocError, Global};
 
 /// From the first token of a directive's definition to its name.

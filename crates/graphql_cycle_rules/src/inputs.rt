@@ -5,16 +5,18 @@ ghost use Rattle.graphql_names.specs.Placed.{node_tree};
 ghost use Rattle.graphql_literals.specs.TypeTree.{type_tree};
 ghost use Rattle.graphql_directives.specs.DirectiveTree.{input_value_tree};
 ghost use Rattle.graphql_schema_types.specs.TypeView.{extended_type};
-ghost use Rattle.graphql_schema.specs.SchemaOf.{schema_tree};
+ghost use Rattle.graphql_fault_data.specs.in_schema.SchemaOf.{schema_tree};
 ghost use Rattle.graphql_cycle_rules.specs.Labels.{label, targets};
 ghost use Rattle.graphql_cycle_rules.specs.Numbers.{required_input, field_references, input_references, each_value, at_number};
 ghost use Rattle.graphql_cycle_rules.specs.ReferenceViews.{field_tree, input_reference_view};
 
 use crate::numbers::input_object_number;
+use graphql_components::Component;
 use graphql_directives::InputValueDefinition;
+use graphql_fault_data::Schema;
 use graphql_literals::Type;
 use graphql_names::{Name, Node};
-use graphql_schema::{Component, ExtendedType, Schema};
+use graphql_schema_types::ExtendedType;
 use indexmap::IndexMap;
 use std::alloc::{AllocError, Global};
 

@@ -14,7 +14,6 @@ mod check;
 mod check_directives;
 mod check_inputs;
 mod directive_faults;
-mod distinct;
 mod graph;
 mod input_faults;
 mod inputs;

@@ -7,17 +7,19 @@ ghost use Rattle.graphql_directives.specs.DirectiveTree.{directive_tree, directi
 ghost use Rattle.graphql_components.specs.Applied.{applied_tree};
 ghost use Rattle.graphql_schema_types.specs.Addresses.{applied};
 ghost use Rattle.graphql_schema_types.specs.TypeView.{extended_type};
-ghost use Rattle.graphql_schema.specs.SchemaOf.{schema_tree};
+ghost use Rattle.graphql_fault_data.specs.in_schema.SchemaOf.{schema_tree};
 ghost use Rattle.graphql_cycle_rules.specs.Labels.{label, targets};
 ghost use Rattle.graphql_cycle_rules.specs.Numbers.{each_value, at_number};
 ghost use Rattle.graphql_cycle_rules.specs.UseNumbers.{use_references, uses_references, type_reference, input_uses, arguments_uses, definition_uses, part_uses, type_uses, uses_at};
 ghost use Rattle.graphql_cycle_rules.specs.UseViews.{use_view, value_uses, field_uses};
 
 use crate::numbers::type_node;
+use graphql_components::{Component, DirectiveList};
 use graphql_directives::{Directive, DirectiveList, InputValueDefinition};
+use graphql_fault_data::Schema;
 use graphql_literals::Type;
 use graphql_names::{Name, Node};
-use graphql_schema::{Component, ExtendedType, Schema};
+use graphql_schema_types::ExtendedType;
 use graphql_type_members::EnumValueDefinition;
 use indexmap::IndexMap;
 use std::alloc::{AllocError, Global};
@@ -110,7 +112,7 @@ fn add_arguments(
 /// Adds the references of the directives that are applied to a type.
 fn add_component_uses(
     schema: &Schema,
-    directives: &graphql_schema::DirectiveList,
+    directives: &DirectiveList,
     references: &mut Vec<UseReference>,
 ) -> Result<(), AllocError>
     ensures { OnOk result (map use_view references.new.items ≡ map use_view references.old.items ++ uses_references (schema_tree schema.now) (applied (schema_tree schema.now) (applied_tree directives.now))) }

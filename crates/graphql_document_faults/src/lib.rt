@@ -12,3 +12,4 @@ mod build_error_text;
 pub use build_error::{
     BuildError, ConflictingFieldArgument, ConflictingFieldName, ConflictingFieldType,
 };
+pub use graphql_coords::{FieldLookupError, Schema};

@@ -4,7 +4,7 @@ use Rattle.graphql_names.specs.Placed.{Placed, Place, Text}
 use Rattle.graphql_literals.specs.TypeQueries.{inner_name}
 use Rattle.graphql_type_members.specs.TypeSystemTree.{FieldDefinitionTree}
 use Rattle.graphql_schema_types.specs.SchemaTree.{SchemaTree}
-use Rattle.graphql_schema.specs.LookUps.{FieldIsMissing}
+use Rattle.graphql_typing.specs.in_schema.LookUps.{FieldIsMissing}
 use Rattle.graphql_typed_selections.specs.TypedTree.{TypedSelection, TypedField, typed_set, no_typed}
 use Rattle.graphql_documents.specs.declared.new_field_error.NewFieldError.{NewFieldError}
 use Rattle.graphql_documents.specs.declared.new_field_error.NewFieldError.TheVariants.{Lookup, Memory}

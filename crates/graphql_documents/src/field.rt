@@ -6,10 +6,11 @@ ghost use Rattle.graphql_literals.specs.TypeQueries.{inner_name};
 ghost use Rattle.graphql_type_members.specs.TypeSystemTree.{field_definition_tree};
 ghost use Rattle.graphql_schema_types.specs.TypeView.{extended_type};
 ghost use Rattle.graphql_schema_types.specs.Addresses.{type_at};
-ghost use Rattle.graphql_schema.specs.SchemaOf.{schema_tree};
+ghost use Rattle.graphql_typing.specs.in_schema.SchemaOf.{schema_tree};
 
-use graphql_schema::{ExtendedType, Schema};
+use graphql_schema_types::ExtendedType;
 use graphql_typed_selections::Field;
+use graphql_typing::Schema;
 
 /// Calls of a field that need a schema.
 pub trait FieldExt {

@@ -2,7 +2,7 @@
 ghost use Rattle.std.specs.Prelude.{◌≡◌, ◌↔◌, [], IfOk, Contains};
 ghost use Rattle.graphql_operations.specs.SelectionTree.{selection_tree, selection_trees};
 ghost use Rattle.graphql_schema_types.specs.Plain.{plain};
-ghost use Rattle.graphql_schema.specs.SchemaOf.{schema_tree};
+ghost use Rattle.graphql_typing.specs.in_schema.SchemaOf.{schema_tree};
 ghost use Rattle.graphql_typed_selections.specs.TypedTree.{typed_set_tree};
 ghost use Rattle.graphql_typing.specs.MeantTree.{meant_of_set, set_on};
 ghost use Rattle.graphql_typing.specs.Meanings.{meanings};
@@ -13,9 +13,8 @@ ghost use Rattle.graphql_typing.specs.FaultView.{faults_of};
 
 use graphql_names::{Name, SourceSpan};
 use graphql_operations::Selection;
-use graphql_schema::Schema;
 use graphql_typed_operations::FieldSet;
-use graphql_typing::{BuildError, field_set_from_ast};
+use graphql_typing::{BuildError, Schema, field_set_from_ast};
 use std::alloc::{AllocError, Global};
 
 /// Calls that make a selection set by itself.

@@ -2,8 +2,8 @@
 ghost use Rattle.std.specs.Prelude.{◌≡◌, true, false, None, Some, IfOk, IfErr};
 ghost use Rattle.std.specs.Option.{option_map};
 ghost use Rattle.graphql_names.specs.Placed.{name_tree};
-ghost use Rattle.graphql_schema.specs.SchemaOf.{schema_tree};
-ghost use Rattle.graphql_schema.specs.LookUps.{field_named};
+ghost use Rattle.graphql_typing.specs.in_schema.SchemaOf.{schema_tree};
+ghost use Rattle.graphql_typing.specs.in_schema.LookUps.{field_named};
 ghost use Rattle.graphql_typed_selections.specs.TypedTree.{set_type, typed_set_tree};
 ghost use Rattle.graphql_typed_selections.specs.TypedParts.{typed_field};
 ghost use Rattle.graphql_typed_operations.specs.TypedDocument.{typed_document_tree};
@@ -14,9 +14,9 @@ ghost use Rattle.graphql_documents.specs.NewFields.{bare_field, IsNewFieldError}
 use crate::new_field_error::NewFieldError;
 use crate::walks;
 use graphql_names::Name;
-use graphql_schema::Schema;
 use graphql_typed_operations::ExecutableDocument;
 use graphql_typed_selections::{Field, SelectionSet};
+use graphql_typing::Schema;
 use graphql_walks::{AllFields, RootFields};
 use std::alloc::Global;
 

@@ -15,6 +15,6 @@ mod template;
 pub use diagnostic_data::DiagnosticData;
 pub use fault::{Fault, tell};
 pub use graphql_coords::{
-    DirectiveArgumentCoordinate, DirectiveCoordinate, FieldArgumentCoordinate, SchemaCoordinate,
-    TypeAttributeCoordinate,
+    DirectiveArgumentCoordinate, DirectiveCoordinate, FieldArgumentCoordinate, Schema,
+    SchemaCoordinate, TypeAttributeCoordinate,
 };

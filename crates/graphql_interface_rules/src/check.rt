@@ -4,9 +4,10 @@ ghost use Rattle.graphql_names.specs.Node.{content, place};
 ghost use Rattle.graphql_names.specs.Placed.{name_tree};
 ghost use Rattle.graphql_components.specs.Given.{component_name_tree};
 ghost use Rattle.graphql_schema_types.specs.TypeView.{extended_type, interface_type};
-ghost use Rattle.graphql_schema.specs.SchemaOf.{schema_tree};
+ghost use Rattle.graphql_fault_data.specs.in_schema.SchemaOf.{schema_tree};
 ghost use Rattle.graphql_fault_data.specs.Adds.{Adds};
 ghost use Rattle.graphql_fault_data.specs.FaultView.{faults_of};
+ghost use Rattle.graphql_rule_definitions.specs.Distinct.{AreAllDistinct};
 ghost use Rattle.graphql_rule_definitions.specs.Rules.{InterfacesBreak};
 ghost use Rattle.graphql_rule_definitions.specs.Told.{Told};
 ghost use Rattle.graphql_interface_rules.specs.InterfaceFaults.{type_faults, interface_faults, listed_faults, over_faults, types_faults};
@@ -14,10 +15,10 @@ ghost use Rattle.graphql_interface_rules.specs.InterfaceFaults.{type_faults, int
 use crate::fields::check_each_field;
 use crate::interfaces::{check_transitive, recursive_interface_definition, undefined_interface};
 use crate::look_ups::interfaces_of;
-use graphql_distinct_names::names_differ;
-use graphql_fault_data::{Fault, tell};
+use graphql_components::ComponentName;
+use graphql_fault_data::{Fault, Schema, tell};
 use graphql_names::{Name, Node};
-use graphql_schema::{ComponentName, ExtendedType, InterfaceType, Schema};
+use graphql_schema_types::{ExtendedType, InterfaceType};
 use std::alloc::{AllocError, Global};
 
 /// Tells each fault of the rules on interfaces. It fails only where memory is refused; then some may be told.
@@ -26,9 +27,9 @@ pub fn check_interfaces(
     schema: &Schema,
     faults: &mut Vec<Fault>,
 ) -> Result<(), AllocError>
+    requires distinct { AreAllDistinct (schema_tree schema.now) }
     ensures { OnOk result (Adds faults.old faults.new (Told (schema_tree schema.now) InterfacesBreak)) }
 {
-    names_differ(schema);
     check_each_type(alloc, schema, faults)
 }
 

@@ -7,9 +7,10 @@ ghost use Rattle.graphql_fault_data.specs.FaultView.{fault_of, faults_of};
 ghost use Rattle.graphql_interface_rules.specs.InterfaceFaults.{undefined_interface, recursive_interface_definition, transitive_implemented_interfaces};
 
 use crate::look_ups::implements;
+use graphql_components::ComponentName;
 use graphql_fault_data::{DiagnosticData, Fault, tell};
 use graphql_names::Name;
-use graphql_schema::{ComponentName, ExtendedType};
+use graphql_schema_types::ExtendedType;
 use std::alloc::AllocError;
 
 /// UndefinedDefinition: what a type implements is an interface. Told of one that is not.

@@ -7,8 +7,9 @@ ghost use Rattle.graphql_components.specs.Given.{component_tree, component_name_
 ghost use Rattle.graphql_schema_types.specs.TypeView.{extended_type};
 ghost use Rattle.graphql_schema_types.specs.Addresses.{under};
 
+use graphql_components::{Component, ComponentName};
 use graphql_names::Name;
-use graphql_schema::{Component, ComponentName, ExtendedType};
+use graphql_schema_types::ExtendedType;
 use graphql_type_members::FieldDefinition;
 
 /// The interfaces that a type lists, in order.

@@ -2,13 +2,13 @@
 ghost use Rattle.std.specs.Prelude.{◌≡◌, ◌||◌, bytes_eq};
 ghost use Rattle.graphql_names.specs.Placed.{name_tree, unplaced_text};
 ghost use Rattle.graphql_literals.specs.TypeTree.{NamedTree, NonNullNamedTree, type_tree, unplaced_type};
-ghost use Rattle.graphql_schema.specs.SchemaOf.{schema_tree};
+ghost use Rattle.graphql_fault_data.specs.in_schema.SchemaOf.{schema_tree};
 ghost use Rattle.graphql_rule_definitions.specs.Judged.{judged};
 ghost use Rattle.graphql_rule_definitions.specs.Interfaces.{is_subtype, is_valid_type};
 
+use graphql_fault_data::Schema;
 use graphql_literals::Type;
 use graphql_names::Name;
-use graphql_schema::Schema;
 
 /// Whether a field of type `implementing` serves where an interface has one of type `interface_type`: the same name or
 /// that of a subtype, inside the same lists, and non-null wherever the interface's is.

@@ -4,4 +4,3 @@ pub mod Examples
 pub mod Lists
 pub mod Lookups
 pub mod Tells
-pub mod DistinctFacts

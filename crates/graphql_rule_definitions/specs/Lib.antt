@@ -13,7 +13,7 @@ pub mod Values
 pub mod Uses
 pub mod Rules
 pub mod Told
-pub mod Distinct
+pub use Rattle.graphql_schema_types.specs.Distinct
 pub mod Kept
 pub mod Laws
 pub use Rattle.graphql_components.specs as in_components

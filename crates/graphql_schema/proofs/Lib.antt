@@ -4,3 +4,5 @@ pub mod Implementing
 pub mod Implemented
 pub mod Subtyping
 pub mod FieldLooks
+pub mod DistinctFacts
+pub use Rattle.graphql_schema_building.proofs as in_schema_building

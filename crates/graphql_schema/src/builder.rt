@@ -19,9 +19,8 @@ use crate::meta_fields::MetaFields;
 use crate::schema::Schema;
 use graphql_components::Extensions;
 use graphql_definitions::Document;
-use graphql_folding::BuildError;
 use graphql_names::SourceSpan;
-use graphql_schema_building::{BuilderRefusal, Building, Built, OrphanExtensionTypes};
+use graphql_schema_building::{BuildError, BuilderRefusal, Building, Built, OrphanExtensionTypes};
 use std::alloc::{AllocError, Global};
 
 /// Takes the definitions of documents, and builds the schema of them all behind what is built in.

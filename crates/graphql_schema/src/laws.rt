@@ -1,11 +1,13 @@
 //! What equality of schemas means: exactly that they are the same, places, origins, sources and order aside. And the
-//! subtypes of an interface are its implementers; and what fields a type has is a fact of the schema without places.
+//! subtypes of an interface are its implementers; what fields a type has is a fact of the schema without places; and no
+//! two things of one kind have one name.
 ghost use Rattle.std.specs.Prelude.{◌≡◌, ◌↔◌, IsTrue};
 ghost use Rattle.graphql_schema_building.specs.in_schema_types.Plain.{plain};
 ghost use Rattle.graphql_schema.specs.SchemaOf.{schema_tree};
 ghost use Rattle.graphql_schema.specs.Subtypes.{SubtypesAreImplementers};
 ghost use Rattle.graphql_schema.specs.FieldLooks.{FieldsArePlain};
 
+pub use crate::distinct::names_differ;
 use crate::schema::Schema;
 
 /// Whether two schemas are equal.

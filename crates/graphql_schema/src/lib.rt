@@ -12,6 +12,7 @@
 #![tactic(auto)]
 
 mod builder;
+mod distinct;
 mod field_lookup;
 mod implementers;
 pub mod laws;
@@ -27,8 +28,7 @@ pub use graphql_components::{
     Component, ComponentName, ComponentOrigin, DirectiveList, ExtensionId, Extensions,
     NamedComponents,
 };
-pub use graphql_folding::BuildError;
-pub use graphql_schema_building::{BuilderRefusal, OrphanExtensionTypes};
+pub use graphql_schema_building::{BuildError, BuilderRefusal, OrphanExtensionTypes};
 pub use graphql_schema_types::{
     EnumType, ExtendedType, InputObjectType, InterfaceType, ObjectType, Origins, RootOperations,
     ScalarType, SchemaDefinition, TypeKind, UnionType,

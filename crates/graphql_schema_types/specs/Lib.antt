@@ -8,3 +8,4 @@ pub mod TypeParts
 pub mod Out
 pub mod Looks
 pub mod Addresses
+pub mod Distinct

@@ -2,21 +2,21 @@
 ghost use Rattle.std.specs.Prelude.{◌≡◌, ◌↔◌, ◌++◌, ◌⊎◌, OnOk, Contains};
 ghost use Rattle.graphql_names.specs.Placed.{node_tree};
 ghost use Rattle.graphql_directives.specs.DirectiveTree.{directive_definition_tree};
-ghost use Rattle.graphql_schema.specs.SchemaOf.{schema_tree};
+ghost use Rattle.graphql_fault_data.specs.in_schema.SchemaOf.{schema_tree};
 ghost use Rattle.graphql_fault_data.specs.FaultView.{faults_of};
+ghost use Rattle.graphql_rule_definitions.specs.Distinct.{AreAllDistinct};
 ghost use Rattle.graphql_rule_definitions.specs.Told.{Told};
 ghost use Rattle.graphql_type_rules.specs.TypesBreak.{TypesBreak};
 ghost use Rattle.graphql_type_rules.specs.FaultLists.{parts_faults, type_faults, types_faults, directive_faults, directives_faults, all_faults};
 
 use crate::arguments::check_arguments;
-use crate::distinct::names_differ;
 use crate::members::{check_fields, check_input_fields, check_members, check_values};
 use crate::reserved::{Named, reserved_name};
 use crate::roots::check_roots;
 use graphql_directives::DirectiveDefinition;
-use graphql_fault_data::Fault;
+use graphql_fault_data::{Fault, Schema};
 use graphql_names::{Name, Node};
-use graphql_schema::{ExtendedType, Schema};
+use graphql_schema_types::ExtendedType;
 use std::alloc::{AllocError, Global};
 
 /// Tells each fault of the rules on roots, names, the types that are named, and what a type must have. It fails only
@@ -26,9 +26,9 @@ pub fn check_types(
     schema: &Schema,
     faults: &mut Vec<Fault>,
 ) -> Result<(), AllocError>
+    requires distinct { AreAllDistinct (schema_tree schema.now) }
     ensures { OnOk result ((f : _) → Contains (faults_of faults.new) f ↔ (Contains (faults_of faults.old) f ⊎ Told (schema_tree schema.now) TypesBreak f)) }
 {
-    let _ = names_differ(schema);
     check_all(alloc, schema, faults)
 }
 

@@ -6,10 +6,11 @@ ghost use Rattle.graphql_schema_types.specs.TypeView.{extended_type};
 ghost use Rattle.graphql_components.specs.Given.{place_of};
 ghost use Rattle.graphql_type_rules.specs.FaultLists.{empty_field_set, empty_member_set, empty_value_set, empty_input_value_set};
 
+use graphql_components::{Component, ComponentName, ExtensionId};
 use graphql_directives::InputValueDefinition;
 use graphql_fault_data::{DiagnosticData, Fault, tell};
 use graphql_names::{Name, SourceSpan};
-use graphql_schema::{Component, ComponentName, ExtendedType, ExtensionId};
+use graphql_schema_types::ExtendedType;
 use graphql_type_members::{EnumValueDefinition, FieldDefinition};
 use indexmap::{IndexMap, IndexSet};
 use std::alloc::{AllocError, Global};

@@ -9,7 +9,6 @@
 
 mod arguments;
 mod check;
-mod distinct;
 mod empty;
 mod look_ups;
 mod members;

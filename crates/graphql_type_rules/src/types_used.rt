@@ -13,7 +13,7 @@ use graphql_directives::InputValueDefinition;
 use graphql_fault_data::{DiagnosticData, Fault, tell};
 use graphql_literals::Type;
 use graphql_names::{Name, Node};
-use graphql_schema::TypeKind;
+use graphql_schema_types::TypeKind;
 use graphql_type_members::FieldDefinition;
 use std::alloc::AllocError;
 

@@ -14,3 +14,4 @@ pub mod DocumentMeant
 pub mod TypedPlaces
 pub mod WholeDocuments
 pub mod WrittenMeant
+pub use Rattle.graphql_document_faults.proofs.in_schema as in_schema

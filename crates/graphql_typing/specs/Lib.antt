@@ -14,3 +14,4 @@ pub mod Steps
 pub mod DocumentView
 pub mod StepsView
 pub mod BuilderView
+pub use Rattle.graphql_document_faults.specs.in_schema as in_schema

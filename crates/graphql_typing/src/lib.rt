@@ -23,5 +23,6 @@ pub use builder::ExecutableDocumentBuilder;
 pub use field_set::field_set_from_ast;
 pub use graphql_document_faults::{
     BuildError, ConflictingFieldArgument, ConflictingFieldName, ConflictingFieldType,
+    FieldLookupError, Schema,
 };
 pub use refusal::BuilderRefusal;

@@ -11,10 +11,9 @@ ghost use Rattle.graphql_typing.specs.SetFaults.{leaf_faults};
 ghost use Rattle.graphql_typing.specs.MeaningView.{meanings_under};
 
 use crate::look_ups::{is_enum, is_scalar};
-use graphql_document_faults::BuildError;
+use graphql_document_faults::{BuildError, Schema};
 use graphql_names::{Name, SourceSpan};
 use graphql_operations::Selection;
-use graphql_schema::Schema;
 use std::alloc::AllocError;
 
 /// Tells a fault at a place.

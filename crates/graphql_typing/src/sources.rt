@@ -2,7 +2,7 @@
 ghost use Rattle.std.specs.Prelude.{◌≡◌, nat_eq, OnOk};
 ghost use Rattle.graphql_definitions.specs.Sources.{source_of};
 ghost use Rattle.indexmap.specs.IndexMap.{insert_entry};
-ghost use Rattle.graphql_schema.specs.SourcesView.{sources_view, with_sources};
+ghost use Rattle.graphql_document_faults.specs.in_schema.SourcesView.{sources_view, with_sources};
 
 use graphql_definitions::SourceFile;
 use graphql_names::FileId;

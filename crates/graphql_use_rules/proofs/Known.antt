@@ -8,7 +8,7 @@ use Rattle.graphql_literals.specs.ValueQueries.{variable_name}
 use Rattle.graphql_directives.specs.DirectiveTree.{ArgumentTree, Arguments, InputValueTree, InputValues, unplaced_input_value}
 use Rattle.graphql_directives.specs.DirectiveQueries.{argument_has_name, input_value_has_name}
 use Rattle.graphql_operations.specs.OperationTree.{VariableDefinitionTree}
-use Rattle.graphql_schema.specs.in_schema_types.SchemaTree.{SchemaTree}
+use Rattle.graphql_value_rules.specs.in_schema.in_schema_types.SchemaTree.{SchemaTree}
 use Rattle.graphql_rule_definitions.specs.Diagnostics.{DisallowedVariableUsage}
 use Rattle.graphql_rule_definitions.specs.Words.{Present}
 use Rattle.graphql_rule_definitions.specs.Faults.{wrong}

@@ -2,7 +2,7 @@
 use Rattle.std.proofs.Common.{◌≡◌, ℕ, ◌⊎◌, List, [], ◌∷◌, refl, sym, ◌∙◌, None, Contains}
 use Rattle.graphql_names.specs.Placed.{Place}
 use Rattle.graphql_literals.specs.ValueTree.{ValueTree, ItemTrees, EntryTrees, NullTree, EnumTree, VariableTree, StringTree, FloatTree, IntTree, BooleanTree, ListTree, ObjectTree, no_items, item_then, no_entries, entry_then}
-use Rattle.graphql_schema.specs.in_schema_types.Addresses.{Address, TypeAt, InputAt, TypeReferenceAt}
+use Rattle.graphql_value_rules.specs.in_schema.in_schema_types.Addresses.{Address, TypeAt, InputAt, TypeReferenceAt}
 use Rattle.graphql_schema_types.specs.Looks.{TypeLooks}
 use Rattle.graphql_rule_definitions.specs.Words.{Present}
 use Rattle.graphql_rule_definitions.specs.Judged.{Judged}

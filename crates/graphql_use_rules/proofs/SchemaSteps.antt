@@ -2,8 +2,8 @@
 use Rattle.std.proofs.Common.{◌≡◌, ℕ, ◌↔◌, Bool, true, false, ◌&&◌, List, [], ◌∷◌, ◌++◌, map, refl, sym, ap, ◌∙◌, inl, inr, slice_get, true≢false, is_some}
 use Rattle.std.proofs.lemmas.List.{map-append}
 use Rattle.graphql_names.specs.Placed.{Place}
-use Rattle.graphql_schema.specs.in_schema_types.SchemaTree.{SchemaType, SchemaTree}
-use Rattle.graphql_schema.specs.in_schema_types.Addresses.{applied}
+use Rattle.graphql_value_rules.specs.in_schema.in_schema_types.SchemaTree.{SchemaType, SchemaTree}
+use Rattle.graphql_value_rules.specs.in_schema.in_schema_types.Addresses.{applied}
 use Rattle.graphql_rule_definitions.specs.Words.{AtSomeIndex}
 use Rattle.graphql_rule_definitions.specs.Rules.{type_location}
 use Rattle.graphql_rule_definitions.specs.Told.{PlacedFault}

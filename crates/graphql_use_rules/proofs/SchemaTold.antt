@@ -28,7 +28,7 @@ use Rattle.graphql_rule_definitions.specs.Told.{PlacedFault, Told}
 use Rattle.graphql_rule_definitions.specs.Distinct.{AreAllDistinct}
 use Rattle.graphql_rule_definitions.proofs.Lists.{index_found, index_given, mapped_some, slice_get-map}
 use Rattle.graphql_rule_definitions.proofs.Lookups.{under_found, under_given}
-use Rattle.graphql_fault_data.proofs.Judgings.{type_look, directive_look, field_look, value_look, input_look}
+use Rattle.graphql_value_rules.proofs.in_fault_data.Judgings.{type_look, directive_look, field_look, value_look, input_look}
 use Rattle.graphql_use_rules.specs.SchemaUses.{is_built_in_scalar, UsesAt, ArgumentUses, FieldUses, FieldsUses, ValuesUses, InputsUses, OwnUses, TypeUses, DefinitionUses, SchemaUses}
 use Rattle.graphql_use_rules.proofs.Moves.{Moves, moves_either, moves_where}
 use Rattle.graphql_use_rules.proofs.SpottedUses.{uses_told}

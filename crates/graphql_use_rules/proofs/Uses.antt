@@ -12,8 +12,8 @@ use Rattle.graphql_directives.specs.DirectiveQueries.{is_required_input, given_v
 use Rattle.graphql_directives.specs.declared.directive_location.DirectiveLocation.{DirectiveLocation}
 use Rattle.graphql_components.specs.Coordinate.{OfDirective, OfDirectiveArgument}
 use Rattle.graphql_components.specs.Lists.{each_place}
-use Rattle.graphql_schema.specs.in_schema_types.SchemaTree.{SchemaTree}
-use Rattle.graphql_schema.specs.in_schema_types.Addresses.{Address, ArgumentAt, TypeReferenceAt, DirectiveDefinitionAt, place_at, arguments_at, or_nothing, directive_definition_at}
+use Rattle.graphql_value_rules.specs.in_schema.in_schema_types.SchemaTree.{SchemaTree}
+use Rattle.graphql_value_rules.specs.in_schema.in_schema_types.Addresses.{Address, ArgumentAt, TypeReferenceAt, DirectiveDefinitionAt, place_at, arguments_at, or_nothing, directive_definition_at}
 use Rattle.graphql_rule_definitions.specs.Diagnostics.{UniqueArgument, UndefinedArgument, RequiredArgument, DisallowedVariableUsage, UniqueDirective, UnsupportedLocation}
 use Rattle.graphql_rule_definitions.specs.Words.{Present, AtSomeIndex, Lacks, IsFirst, FirstNamed}
 use Rattle.graphql_rule_definitions.specs.Faults.{wrong}

@@ -8,8 +8,8 @@ use Rattle.graphql_directives.specs.DirectiveTree.{ArgumentTree, Arguments, Dire
 use Rattle.graphql_directives.specs.DirectiveQueries.{argument_has_name, input_value_has_name}
 use Rattle.graphql_directives.specs.declared.directive_location.DirectiveLocation.{DirectiveLocation}
 use Rattle.graphql_operations.specs.OperationTree.{VariableDefinitionTree}
-use Rattle.graphql_schema.specs.in_schema_types.SchemaTree.{SchemaTree}
-use Rattle.graphql_schema.specs.in_schema_types.Addresses.{place_at}
+use Rattle.graphql_value_rules.specs.in_schema.in_schema_types.SchemaTree.{SchemaTree}
+use Rattle.graphql_value_rules.specs.in_schema.in_schema_types.Addresses.{place_at}
 use Rattle.graphql_rule_definitions.specs.Diagnostics.{DisallowedVariableUsage}
 use Rattle.graphql_rule_definitions.specs.Faults.{wrong}
 use Rattle.graphql_rule_definitions.specs.Words.{Present}

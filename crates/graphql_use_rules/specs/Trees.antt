@@ -8,10 +8,10 @@ use Rattle.graphql_directives.specs.declared.directive.Argument.{Argument}
 use Rattle.graphql_directives.specs.declared.directive.Directive.{Directive}
 use Rattle.graphql_directives.specs.declared.input_value.InputValueDefinition.{InputValueDefinition}
 use Rattle.graphql_components.specs.Coordinate.{Coordinate, OfAttribute, OfArgument, OfDirective, OfDirectiveArgument}
-use Rattle.graphql_schema.specs.in_schema_types.SchemaTree.{SchemaTree}
-use Rattle.graphql_schema.specs.in_schema_types.Addresses.{Address, TypeAt, FieldAt, InputAt, ArgumentAt, TypeReferenceAt, DirectiveDefinitionAt, place_at}
-use Rattle.graphql_schema.specs.SchemaOf.{schema_tree}
-use Rattle.graphql_schema.specs.declared.schema.Schema.{Schema}
+use Rattle.graphql_value_rules.specs.in_schema.in_schema_types.SchemaTree.{SchemaTree}
+use Rattle.graphql_value_rules.specs.in_schema.in_schema_types.Addresses.{Address, TypeAt, FieldAt, InputAt, ArgumentAt, TypeReferenceAt, DirectiveDefinitionAt, place_at}
+use Rattle.graphql_value_rules.specs.in_schema.SchemaOf.{schema_tree}
+use Rattle.graphql_value_rules.specs.in_schema.declared.schema.Schema.{Schema}
 use Rattle.graphql_rule_definitions.specs.Uses.{Taker}
 use Rattle.graphql_use_rules.specs.declared.taker.Taker.{Taker as Rust}
 use Rattle.graphql_use_rules.specs.declared.taker.TakerName.{TakerName}

@@ -7,13 +7,13 @@ ghost use Rattle.graphql_directives.specs.DirectiveTree.{directive_tree, directi
 ghost use Rattle.graphql_directives.specs.DirectiveQueries.{directive_has_name};
 ghost use Rattle.graphql_directives.specs.declared.directive_location.DirectiveLocation.{DirectiveLocation};
 ghost use Rattle.graphql_components.specs.Lists.{each_place};
-ghost use Rattle.graphql_schema.specs.in_schema_types.Addresses.{place_at, directive_definition_at};
-ghost use Rattle.graphql_schema.specs.SchemaOf.{schema_tree};
-ghost use Rattle.graphql_fault_data.specs.FaultView.{fault_of, faults_of};
+ghost use Rattle.graphql_value_rules.specs.in_schema.in_schema_types.Addresses.{place_at, directive_definition_at};
+ghost use Rattle.graphql_value_rules.specs.in_schema.SchemaOf.{schema_tree};
+ghost use Rattle.graphql_value_rules.specs.in_fault_data.FaultView.{fault_of, faults_of};
 ghost use Rattle.graphql_rule_definitions.specs.Words.{AtSomeIndex};
 ghost use Rattle.graphql_rule_definitions.specs.Judged.{judged};
 ghost use Rattle.graphql_rule_definitions.specs.Uses.{directive_name, UseBreaks, UsesBreak};
-ghost use Rattle.graphql_fault_data.specs.Adds.{Adds};
+ghost use Rattle.graphql_value_rules.specs.in_fault_data.Adds.{Adds};
 ghost use Rattle.graphql_value_rules.specs.Wanting.{variables_of};
 ghost use Rattle.graphql_use_rules.specs.Trees.{directives_of, inputs_of, no_schema, tree_of};
 ghost use Rattle.graphql_use_rules.specs.UseFaults.{undefined_directive, unsupported_location, repeated_directive, found_repeated};
@@ -23,10 +23,9 @@ use crate::given::check_given;
 use crate::taken::check_taken;
 use crate::taker::{Taker, TakerName};
 use graphql_directives::{Directive, DirectiveDefinition, DirectiveLocation};
-use graphql_fault_data::{DiagnosticData, Fault, tell};
 use graphql_names::{Name, Node};
 use graphql_operations::VariableDefinition;
-use graphql_schema::Schema;
+use graphql_value_rules::{DiagnosticData, Fault, Schema, tell};
 use std::alloc::AllocError;
 
 /// The definition of the directive of that name, if there is one.

@@ -5,11 +5,11 @@ ghost use Rattle.graphql_names.specs.Placed.{Place, node_tree};
 ghost use Rattle.graphql_directives.specs.DirectiveTree.{argument_tree};
 ghost use Rattle.graphql_directives.specs.DirectiveQueries.{argument_has_name};
 ghost use Rattle.graphql_components.specs.Lists.{each_place};
-ghost use Rattle.graphql_schema.specs.in_schema_types.Addresses.{Address};
-ghost use Rattle.graphql_fault_data.specs.FaultView.{fault_of, faults_of};
+ghost use Rattle.graphql_value_rules.specs.in_schema.in_schema_types.Addresses.{Address};
+ghost use Rattle.graphql_value_rules.specs.in_fault_data.FaultView.{fault_of, faults_of};
 ghost use Rattle.graphql_rule_definitions.specs.Words.{AtSomeIndex};
 ghost use Rattle.graphql_rule_definitions.specs.Uses.{GivenBreaks};
-ghost use Rattle.graphql_fault_data.specs.Adds.{Adds};
+ghost use Rattle.graphql_value_rules.specs.in_fault_data.Adds.{Adds};
 ghost use Rattle.graphql_value_rules.specs.Wanting.{variables_of};
 ghost use Rattle.graphql_use_rules.specs.Trees.{arguments_of};
 ghost use Rattle.graphql_use_rules.specs.UseFaults.{repeated_argument};
@@ -17,10 +17,9 @@ ghost use Rattle.graphql_use_rules.specs.Steps.{ValueGivenBreaks};
 ghost use Rattle.graphql_rule_definitions.specs.Judged.{Judged};
 
 use graphql_directives::Argument;
-use graphql_fault_data::{DiagnosticData, Fault, tell};
 use graphql_names::{Name, Node};
 use graphql_operations::VariableDefinition;
-use graphql_value_rules::{undefined_variables, unique_input_values};
+use graphql_value_rules::{DiagnosticData, Fault, tell, undefined_variables, unique_input_values};
 use std::alloc::AllocError;
 
 /// The first of these arguments that has that name.

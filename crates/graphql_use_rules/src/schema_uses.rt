@@ -7,11 +7,11 @@ ghost use Rattle.graphql_names.specs.Placed.{node_tree};
 ghost use Rattle.graphql_components.specs.Names.{entries_of};
 ghost use Rattle.graphql_components.specs.Given.{component_tree};
 ghost use Rattle.graphql_components.specs.Applied.{applied_tree};
-ghost use Rattle.graphql_schema.specs.in_schema_types.TypeView.{name_text, extended_type};
-ghost use Rattle.graphql_schema.specs.in_schema_types.Addresses.{applied};
-ghost use Rattle.graphql_schema.specs.SchemaOf.{schema_tree};
+ghost use Rattle.graphql_value_rules.specs.in_schema.in_schema_types.TypeView.{name_text, extended_type};
+ghost use Rattle.graphql_value_rules.specs.in_schema.in_schema_types.Addresses.{applied};
+ghost use Rattle.graphql_value_rules.specs.in_schema.SchemaOf.{schema_tree};
 ghost use Rattle.graphql_rule_definitions.specs.Rules.{type_location, SchemaUsesBreak};
-ghost use Rattle.graphql_fault_data.specs.Adds.{Adds};
+ghost use Rattle.graphql_value_rules.specs.in_fault_data.Adds.{Adds};
 ghost use Rattle.graphql_use_rules.specs.Trees.{inputs_of, directives_of};
 ghost use Rattle.graphql_rule_definitions.specs.Told.{Told};
 ghost use Rattle.graphql_rule_definitions.specs.Distinct.{AreAllDistinct};
@@ -20,10 +20,10 @@ ghost use Rattle.graphql_use_rules.specs.SchemaUses.{UsesAt, ArgumentUses, Field
 use crate::directives::check_uses;
 use graphql_components::{Component, DirectiveList};
 use graphql_directives::{Directive, DirectiveDefinition, DirectiveLocation, InputValueDefinition};
-use graphql_fault_data::Fault;
 use graphql_names::{Name, Node};
-use graphql_schema::{ExtendedType, Schema, TypeKind};
+use graphql_schema_types::{ExtendedType, TypeKind};
 use graphql_type_members::{EnumValueDefinition, FieldDefinition};
+use graphql_value_rules::{Fault, Schema};
 use indexmap::IndexMap;
 use std::alloc::{AllocError, Global};
 

@@ -1,15 +1,15 @@
 //! What takes arguments.
 ghost use Rattle.std.specs.Prelude.{◌≡◌, IfOk};
 ghost use Rattle.graphql_components.specs.Coordinate.{OfAttribute, OfArgument, OfDirectiveArgument};
-ghost use Rattle.graphql_fault_data.specs.in_coords.CoordinateView.{schema_coordinate};
+ghost use Rattle.graphql_value_rules.specs.in_fault_data.in_coords.CoordinateView.{schema_coordinate};
 ghost use Rattle.graphql_use_rules.specs.Trees.{coordinate_of, argument_coordinate_of};
 
 use graphql_directives::{Argument, InputValueDefinition};
-use graphql_fault_data::{
+use graphql_names::{Name, Node, SourceSpan};
+use graphql_value_rules::{
     DirectiveArgumentCoordinate, DirectiveCoordinate, FieldArgumentCoordinate, SchemaCoordinate,
     TypeAttributeCoordinate,
 };
-use graphql_names::{Name, Node, SourceSpan};
 use std::alloc::AllocError;
 
 /// How what takes arguments is called: a directive, or a field of a type.

@@ -7,8 +7,8 @@ ghost use Rattle.graphql_literals.specs.TypeTree.{type_tree};
 ghost use Rattle.graphql_literals.specs.TypeQueries.{nullable_type, AreTypesCompatible};
 ghost use Rattle.graphql_directives.specs.DirectiveTree.{argument_tree, input_value_tree, unplaced_input_value};
 ghost use Rattle.graphql_operations.specs.OperationTree.{variable_definition_tree};
-ghost use Rattle.graphql_fault_data.specs.FaultView.{fault_of};
-ghost use Rattle.graphql_fault_data.specs.DiagnosticView.{plain_type};
+ghost use Rattle.graphql_value_rules.specs.in_fault_data.FaultView.{fault_of};
+ghost use Rattle.graphql_value_rules.specs.in_fault_data.DiagnosticView.{plain_type};
 ghost use Rattle.graphql_rule_definitions.specs.Diagnostics.{DisallowedVariableUsage};
 ghost use Rattle.graphql_rule_definitions.specs.Faults.{wrong};
 ghost use Rattle.graphql_rule_definitions.specs.Values.{defined_name};
@@ -17,10 +17,10 @@ ghost use Rattle.graphql_value_rules.specs.Wanting.{variables_of};
 ghost use Rattle.graphql_use_rules.specs.Steps.{Lists, FitsWithDefault, DisallowedUsage};
 
 use graphql_directives::{Argument, InputValueDefinition};
-use graphql_fault_data::{DiagnosticData, Fault};
 use graphql_literals::Type;
 use graphql_names::{Name, Node};
 use graphql_operations::VariableDefinition;
+use graphql_value_rules::{DiagnosticData, Fault};
 use std::alloc::AllocError;
 
 /// The variable of that name, if there is one: the first of them.

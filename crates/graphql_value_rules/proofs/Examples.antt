@@ -5,8 +5,8 @@ use Rattle.graphql_names.specs.Placed.{Placed, Text}
 use Rattle.graphql_literals.specs.NumberSyntax.{integer_value}
 use Rattle.graphql_literals.specs.TypeTree.{TypeTree, NamedTree, ListTree as ListOf}
 use Rattle.graphql_literals.specs.ValueTree.{ValueTree, StringTree, IntTree, ListTree, no_items, item_then}
-use Rattle.graphql_schema.specs.in_schema_types.Looks.{TypeLooks}
-use Rattle.graphql_schema.specs.in_schema_types.declared.type_kind.TypeKind.TheVariants as kind
+use Rattle.graphql_fault_data.specs.in_schema.in_schema_types.Looks.{TypeLooks}
+use Rattle.graphql_fault_data.specs.in_schema.in_schema_types.declared.type_kind.TypeKind.TheVariants as kind
 use Rattle.graphql_rule_definitions.specs.Diagnostics.{UnsupportedValueType, IntCoercionError}
 use Rattle.graphql_rule_definitions.specs.Faults.{FaultAt, wrong}
 use Rattle.graphql_rule_definitions.specs.Judged.{Judged}

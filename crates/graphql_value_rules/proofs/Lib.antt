@@ -8,3 +8,4 @@ pub mod Adding
 pub mod Looping
 pub mod Examples
 pub use Rattle.graphql_fault_data.proofs as in_fault_data
+pub use Rattle.graphql_fault_data.proofs.in_schema as in_schema

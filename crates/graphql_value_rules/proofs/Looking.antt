@@ -11,12 +11,12 @@ use Rattle.graphql_directives.specs.DirectiveTree.{InputValueTree, unplaced_inpu
 use Rattle.graphql_type_members.specs.TypeSystemTree.{unplaced_enum_value}
 use Rattle.graphql_components.specs.Names.{Entries, by_bytes, named}
 use Rattle.graphql_components.specs.Given.{Given, plain_given}
-use Rattle.graphql_schema.specs.in_schema_types.SchemaTree.{SchemaType, SchemaTree, same_kind}
-use Rattle.graphql_schema.specs.in_schema_types.Plain.{plain_type, plain}
-use Rattle.graphql_schema.specs.in_schema_types.Looks.{TypeLooks, type_looks}
-use Rattle.graphql_schema.specs.in_schema_types.Addresses.{under, type_at, input_at, place_at, or_nothing, TypeAt, InputAt, TypeReferenceAt}
-use Rattle.graphql_schema.specs.in_schema_types.declared.type_kind.TypeKind.{TypeKind}
-use Rattle.graphql_schema.specs.in_schema_types.declared.type_kind.TypeKind.TheVariants.{Scalar, Object, Interface, Union, Enum, InputObject}
+use Rattle.graphql_fault_data.specs.in_schema.in_schema_types.SchemaTree.{SchemaType, SchemaTree, same_kind}
+use Rattle.graphql_fault_data.specs.in_schema.in_schema_types.Plain.{plain_type, plain}
+use Rattle.graphql_fault_data.specs.in_schema.in_schema_types.Looks.{TypeLooks, type_looks}
+use Rattle.graphql_fault_data.specs.in_schema.in_schema_types.Addresses.{under, type_at, input_at, place_at, or_nothing, TypeAt, InputAt, TypeReferenceAt}
+use Rattle.graphql_fault_data.specs.in_schema.in_schema_types.declared.type_kind.TypeKind.{TypeKind}
+use Rattle.graphql_fault_data.specs.in_schema.in_schema_types.declared.type_kind.TypeKind.TheVariants.{Scalar, Object, Interface, Union, Enum, InputObject}
 use Rattle.graphql_rule_definitions.specs.Words.{Present}
 use Rattle.graphql_rule_definitions.specs.Judged.{judged}
 use Rattle.graphql_value_rules.proofs.Tells.{no_true}

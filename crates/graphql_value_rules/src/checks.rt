@@ -2,8 +2,8 @@
 ghost use Rattle.std.specs.Prelude.{◌≡◌, OnOk};
 ghost use Rattle.graphql_names.specs.Node.{content, place};
 ghost use Rattle.graphql_literals.specs.ValueTree.{value_tree};
-ghost use Rattle.graphql_schema.specs.SchemaOf.{schema_tree};
-ghost use Rattle.graphql_schema.specs.in_schema_types.Addresses.{place_at};
+ghost use Rattle.graphql_fault_data.specs.in_schema.SchemaOf.{schema_tree};
+ghost use Rattle.graphql_fault_data.specs.in_schema.in_schema_types.Addresses.{place_at};
 ghost use Rattle.graphql_rule_definitions.specs.Judged.{judged};
 ghost use Rattle.graphql_rule_definitions.specs.Values.{TypeBreaks, UndefinedVariableIn, UniqueInputValueIn, ValueBreaks};
 ghost use Rattle.graphql_fault_data.specs.Adds.{Adds};
@@ -12,11 +12,10 @@ ghost use Rattle.graphql_value_rules.specs.Wanting.{wanted_type, variables_of};
 use crate::keys::tell_key_faults;
 use crate::types::tell_type_faults;
 use crate::variables::tell_variable_faults;
-use graphql_fault_data::Fault;
+use graphql_fault_data::{Fault, Schema};
 use graphql_literals::{Type, Value};
 use graphql_names::Node;
 use graphql_operations::VariableDefinition;
-use graphql_schema::Schema;
 use std::alloc::AllocError;
 
 /// Adds the faults of a value that is given for a type: those of `type_breaks` and of `undefined_variables`.

@@ -6,20 +6,21 @@ ghost use Rattle.graphql_literals.specs.ValueTree.{value_tree, entry_trees};
 ghost use Rattle.graphql_directives.specs.DirectiveTree.{input_value_tree};
 ghost use Rattle.graphql_operations.specs.OperationTree.{variable_definition_tree};
 ghost use Rattle.graphql_components.specs.Given.{component_tree};
-ghost use Rattle.graphql_schema.specs.SchemaOf.{schema_tree};
+ghost use Rattle.graphql_fault_data.specs.in_schema.SchemaOf.{schema_tree};
 ghost use Rattle.graphql_type_members.specs.TypeSystemTree.{enum_value_tree};
-ghost use Rattle.graphql_schema.specs.in_schema_types.TypeView.{extended_type};
-ghost use Rattle.graphql_schema.specs.in_schema_types.Addresses.{under, type_at};
+ghost use Rattle.graphql_fault_data.specs.in_schema.in_schema_types.TypeView.{extended_type};
+ghost use Rattle.graphql_fault_data.specs.in_schema.in_schema_types.Addresses.{under, type_at};
 ghost use Rattle.graphql_rule_definitions.specs.Values.{defined_name};
 ghost use Rattle.graphql_value_rules.specs.Wanting.{variables_of};
 ghost use Rattle.graphql_value_rules.specs.ValueFaults.{given_entry, is_key};
 
 use graphql_components::Component;
 use graphql_directives::InputValueDefinition;
+use graphql_fault_data::Schema;
 use graphql_literals::Value;
 use graphql_names::{Name, Node};
 use graphql_operations::VariableDefinition;
-use graphql_schema::{ExtendedType, Schema};
+use graphql_schema_types::ExtendedType;
 use graphql_type_members::EnumValueDefinition;
 
 /// The variable of that name, if there is one.

@@ -16,3 +16,7 @@ mod types;
 mod variables;
 
 pub use checks::{check_value, type_breaks, undefined_variables, unique_input_values};
+pub use graphql_fault_data::{
+    DiagnosticData, DirectiveArgumentCoordinate, DirectiveCoordinate, Fault,
+    FieldArgumentCoordinate, Schema, SchemaCoordinate, TypeAttributeCoordinate, tell,
+};

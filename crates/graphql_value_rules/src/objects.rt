@@ -5,7 +5,7 @@ ghost use Rattle.graphql_literals.specs.ValueTree.{value_tree, entry_trees};
 ghost use Rattle.graphql_directives.specs.DirectiveTree.{input_value_tree};
 ghost use Rattle.graphql_components.specs.Given.{component_tree};
 ghost use Rattle.graphql_components.specs.Names.{entries_of};
-ghost use Rattle.graphql_schema.specs.in_schema_types.TypeView.{extended_type, name_text};
+ghost use Rattle.graphql_fault_data.specs.in_schema.in_schema_types.TypeView.{extended_type, name_text};
 ghost use Rattle.graphql_components.specs.Coordinate.{OfAttribute};
 ghost use Rattle.graphql_fault_data.specs.in_coords.CoordinateView.{attribute_coordinate};
 ghost use Rattle.graphql_rule_definitions.specs.Diagnostics.{UndefinedInputValue};
@@ -20,7 +20,7 @@ use graphql_directives::InputValueDefinition;
 use graphql_fault_data::{DiagnosticData, Fault, TypeAttributeCoordinate, tell};
 use graphql_literals::Value;
 use graphql_names::{Name, Node, SourceSpan};
-use graphql_schema::ExtendedType;
+use graphql_schema_types::ExtendedType;
 use indexmap::IndexMap;
 use std::alloc::AllocError;
 

@@ -1,10 +1,11 @@
-use Rattle.std.proofs.Common.{refl}
-use Rattle.graphql_schema.specs.SchemaOf.{schema_tree}
-use Rattle.graphql_rule_definitions.proofs.DistinctFacts.{all_distinct}
+use Rattle.std.proofs.lemmas.Result.{on_ok_weaker}
+use Rattle.graphql_fault_data.specs.in_schema.SchemaOf.{schema_tree}
+use Rattle.graphql_fault_data.specs.FaultView.{faults_of}
+use Rattle.graphql_cycle_rules.proofs.BothTold.{both_told}
 use Rattle.graphql_cycle_rules.proofs.check.check_cycles.Goals as goal
 
-pub check_both-requires : goal.check_both-requires
-check_both-requires c =
-    let s = c.args.schema.now in
-    let differ = c.names_differ.ensures in
-    all_distinct (schema_tree s) s.types.entries s.directive_definitions.entries refl refl differ.types differ.directives differ.parts
+pub returns : goal.returns
+returns c =
+    on_ok_weaker c.check_directive_cycles.result
+    (both_told (schema_tree c.args.schema.now) (faults_of c.args.faults.now) (faults_of c.check_input_cycles.new.faults) (faults_of c.check_directive_cycles.new.faults) c.in_ok-check_input_cycles.ensures)
+    c.check_directive_cycles.ensures

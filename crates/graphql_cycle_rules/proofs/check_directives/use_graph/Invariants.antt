@@ -1,5 +1,5 @@
 use Rattle.std.proofs.Common.{◌≡◌, ◌<◌, ℕ, length}
-use Rattle.graphql_schema.specs.SchemaOf.{schema_tree}
+use Rattle.graphql_fault_data.specs.in_schema.SchemaOf.{schema_tree}
 use Rattle.graphql_cycle_rules.specs.Labels.{targets}
 use Rattle.graphql_cycle_rules.specs.UseNumbers.{uses_at}
 use Rattle.graphql_cycle_rules.specs.InputGraph.{listed}

@@ -1,5 +1,5 @@
 use Rattle.std.proofs.lemmas.Result.{on_ok_weaker}
-use Rattle.graphql_schema.specs.SchemaOf.{schema_tree}
+use Rattle.graphql_fault_data.specs.in_schema.SchemaOf.{schema_tree}
 use Rattle.graphql_fault_data.specs.FaultView.{faults_of}
 use Rattle.graphql_cycle_rules.proofs.InputsTold.{inputs_told}
 use Rattle.graphql_cycle_rules.proofs.check_inputs.check_input_cycles.Goals as goal

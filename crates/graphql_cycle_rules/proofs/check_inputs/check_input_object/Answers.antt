@@ -1,6 +1,6 @@
 use Rattle.std.proofs.Common.{map, subst, option_to_list}
 use Rattle.std.proofs.lemmas.Result.{on_ok_weaker}
-use Rattle.graphql_schema.specs.SchemaOf.{schema_tree}
+use Rattle.graphql_fault_data.specs.in_schema.SchemaOf.{schema_tree}
 use Rattle.graphql_fault_data.specs.FaultView.{fault_of, faults_of}
 use Rattle.graphql_cycle_rules.specs.FaultLists.{TellsInput, TellsDeepInput}
 use Rattle.graphql_cycle_rules.specs.Telling.{TellsFound}

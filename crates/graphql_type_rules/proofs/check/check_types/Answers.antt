@@ -4,16 +4,14 @@ use Rattle.graphql_names.specs.NameValue.{NameValue}
 use Rattle.graphql_names.specs.Placed.{node_tree}
 use Rattle.graphql_directives.specs.DirectiveTree.{directive_definition_tree}
 use Rattle.graphql_schema_types.specs.SchemaTree.{SchemaType}
-use Rattle.graphql_schema.specs.SchemaOf.{schema_tree}
+use Rattle.graphql_fault_data.specs.in_schema.SchemaOf.{schema_tree}
 use Rattle.graphql_fault_data.specs.FaultView.{faults_of}
-use Rattle.graphql_rule_definitions.proofs.DistinctFacts.{all_distinct}
 use Rattle.graphql_type_rules.proofs.Whole.{told_behind}
 use Rattle.graphql_type_rules.proofs.check.check_types.Goals as goal
 
 pub returns : goal.returns
 returns c =
     let s = c.args.schema.now in
-    let differ = c.names_differ.ensures in
     IfOk-weaker _ _ _ (λ _ told.
-    told_behind (schema_tree s) (all_distinct (schema_tree s) s.types.entries s.directive_definitions.entries refl refl differ.types differ.directives differ.parts) s.types.entries refl s.directive_definitions.entries refl
+    told_behind (schema_tree s) c.requires.distinct s.types.entries refl s.directive_definitions.entries refl
     (faults_of c.args.faults.now) (faults_of c.check_all.new.faults) told) c.check_all.ensures

@@ -1,4 +1,4 @@
-use Rattle.graphql_schema.specs.SchemaOf.{schema_tree}
+use Rattle.graphql_document_faults.specs.in_schema.SchemaOf.{schema_tree}
 use Rattle.graphql_typing.proofs.FieldsFound.{field-err, field-ok}
 use Rattle.graphql_typing.proofs.look_ups.field_in.Goals as goal
 

@@ -1,4 +1,4 @@
-use Rattle.graphql_schema.specs.SchemaOf.{schema_tree}
+use Rattle.graphql_document_faults.specs.in_schema.SchemaOf.{schema_tree}
 use Rattle.graphql_typing.proofs.Roots.{root-lent}
 use Rattle.graphql_typing.proofs.look_ups.root_in.Goals as goal
 

@@ -6,17 +6,17 @@ use Rattle.graphql_names.specs.Placed.{Placed, Place, node_tree}
 use Rattle.graphql_directives.specs.DirectiveTree.{DirectiveDefinitionTree, directive_tree, directive_definition_tree}
 use Rattle.graphql_directives.specs.declared.directive.Directive.{Directive}
 use Rattle.graphql_directives.specs.declared.directive.DirectiveDefinition.{DirectiveDefinition}
-use Rattle.graphql_schema.specs.in_schema_types.Addresses.{DirectiveDefinitionAt, arguments_at, place_at}
-use Rattle.graphql_schema.specs.SchemaOf.{schema_tree}
-use Rattle.graphql_fault_data.specs.FaultView.{faults_of}
+use Rattle.graphql_value_rules.specs.in_schema.in_schema_types.Addresses.{DirectiveDefinitionAt, arguments_at, place_at}
+use Rattle.graphql_value_rules.specs.in_schema.SchemaOf.{schema_tree}
+use Rattle.graphql_value_rules.specs.in_fault_data.FaultView.{faults_of}
 use Rattle.graphql_rule_definitions.specs.Judged.{judged}
 use Rattle.graphql_rule_definitions.specs.Uses.{Taker, TakerBreaks}
-use Rattle.graphql_fault_data.specs.Adds.{Adds}
+use Rattle.graphql_value_rules.specs.in_fault_data.Adds.{Adds}
 use Rattle.graphql_value_rules.specs.Wanting.{variables_of}
 use Rattle.graphql_use_rules.specs.Trees.{arguments_of, inputs_of}
 use Rattle.graphql_use_rules.specs.UseFaults.{unsupported_location}
 use Rattle.graphql_use_rules.proofs.Listing.{gains_both, gains_list}
-use Rattle.graphql_fault_data.proofs.Judgings.{directive_look}
+use Rattle.graphql_value_rules.proofs.in_fault_data.Judgings.{directive_look}
 use Rattle.graphql_use_rules.proofs.Uses.{same_taker, stands_in, lists_unsupported_location}
 use Rattle.graphql_use_rules.proofs.directives.check_defined_use.Goals as goal
 

@@ -3,16 +3,16 @@ use Rattle.std.proofs.lemmas.Result.{on_ok_weaker}
 use Rattle.graphql_names.specs.Placed.{Place, node_tree}
 use Rattle.graphql_directives.specs.DirectiveTree.{Arguments, directive_tree}
 use Rattle.graphql_directives.specs.declared.directive.Directive.{Directive}
-use Rattle.graphql_schema.specs.in_schema_types.Addresses.{place_at}
-use Rattle.graphql_fault_data.specs.FaultView.{faults_of}
+use Rattle.graphql_value_rules.specs.in_schema.in_schema_types.Addresses.{place_at}
+use Rattle.graphql_value_rules.specs.in_fault_data.FaultView.{faults_of}
 use Rattle.graphql_rule_definitions.specs.Judged.{judged}
 use Rattle.graphql_rule_definitions.specs.Uses.{GivenBreaks}
-use Rattle.graphql_fault_data.specs.Adds.{Adds}
+use Rattle.graphql_value_rules.specs.in_fault_data.Adds.{Adds}
 use Rattle.graphql_value_rules.specs.Wanting.{variables_of}
 use Rattle.graphql_use_rules.specs.Trees.{arguments_of, no_schema}
 use Rattle.graphql_use_rules.specs.UseFaults.{undefined_directive}
 use Rattle.graphql_use_rules.proofs.Listing.{gains_same, gains_both, gains_list, lists_one}
-use Rattle.graphql_fault_data.proofs.Judgings.{directive_look}
+use Rattle.graphql_value_rules.proofs.in_fault_data.Judgings.{directive_look}
 use Rattle.graphql_use_rules.proofs.Uses.{use_undefined}
 use Rattle.graphql_use_rules.proofs.directives.check_undefined_use.Goals as goal
 

@@ -2,16 +2,16 @@ use Rattle.std.proofs.Common.{◌<◌, ◌+◌, take, length, refl, subst, arith
 use Rattle.std.proofs.lemmas.List.{take_all}
 use Rattle.graphql_names.specs.Placed.{node_tree}
 use Rattle.graphql_directives.specs.DirectiveTree.{directive_tree}
-use Rattle.graphql_schema.specs.in_schema_types.Addresses.{place_at}
-use Rattle.graphql_fault_data.specs.FaultView.{faults_of}
+use Rattle.graphql_value_rules.specs.in_schema.in_schema_types.Addresses.{place_at}
+use Rattle.graphql_value_rules.specs.in_fault_data.FaultView.{faults_of}
 use Rattle.graphql_rule_definitions.specs.Words.{AtSomeIndex}
 use Rattle.graphql_rule_definitions.specs.Judged.{judged}
 use Rattle.graphql_rule_definitions.specs.Uses.{UseBreaks}
-use Rattle.graphql_fault_data.specs.Adds.{Adds}
+use Rattle.graphql_value_rules.specs.in_fault_data.Adds.{Adds}
 use Rattle.graphql_value_rules.specs.Wanting.{variables_of}
 use Rattle.graphql_use_rules.specs.Trees.{directives_of, no_schema}
 use Rattle.graphql_use_rules.proofs.Listing.{gains_more, gains_same, mapped_more}
-use Rattle.graphql_fault_data.proofs.Judgings.{directive_look}
+use Rattle.graphql_value_rules.proofs.in_fault_data.Judgings.{directive_look}
 use Rattle.graphql_use_rules.proofs.Uses.{uses_undefined}
 use Rattle.graphql_use_rules.proofs.directives.check_undefined_uses.Goals as goal
 

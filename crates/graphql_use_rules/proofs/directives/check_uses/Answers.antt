@@ -1,15 +1,15 @@
 use Rattle.std.proofs.lemmas.Result.{on_ok_weaker}
 use Rattle.graphql_components.specs.Lists.{each_place}
-use Rattle.graphql_schema.specs.in_schema_types.Addresses.{directive_definition_at}
-use Rattle.graphql_fault_data.specs.FaultView.{faults_of}
-use Rattle.graphql_schema.specs.SchemaOf.{schema_tree}
+use Rattle.graphql_value_rules.specs.in_schema.in_schema_types.Addresses.{directive_definition_at}
+use Rattle.graphql_value_rules.specs.in_fault_data.FaultView.{faults_of}
+use Rattle.graphql_value_rules.specs.in_schema.SchemaOf.{schema_tree}
 use Rattle.graphql_rule_definitions.specs.Uses.{directive_name}
 use Rattle.graphql_value_rules.specs.Wanting.{variables_of}
 use Rattle.graphql_use_rules.specs.Trees.{directives_of}
 use Rattle.graphql_use_rules.specs.UseFaults.{repeated_directive}
 use Rattle.graphql_use_rules.proofs.Listing.{gains_both, gains_list}
 use Rattle.graphql_use_rules.proofs.Uses.{lists_repeated_directives}
-use Rattle.graphql_fault_data.proofs.Judgings.{directive_look}
+use Rattle.graphql_value_rules.proofs.in_fault_data.Judgings.{directive_look}
 use Rattle.graphql_use_rules.proofs.directives.check_uses.Goals as goal
 
 pub returns : goal.returns

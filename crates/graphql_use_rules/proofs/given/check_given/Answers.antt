@@ -1,6 +1,6 @@
 use Rattle.std.proofs.lemmas.Result.{on_ok_weaker}
 use Rattle.graphql_components.specs.Lists.{each_place}
-use Rattle.graphql_fault_data.specs.FaultView.{faults_of}
+use Rattle.graphql_value_rules.specs.in_fault_data.FaultView.{faults_of}
 use Rattle.graphql_value_rules.specs.Wanting.{variables_of}
 use Rattle.graphql_use_rules.specs.Trees.{arguments_of}
 use Rattle.graphql_use_rules.specs.UseFaults.{repeated_argument}

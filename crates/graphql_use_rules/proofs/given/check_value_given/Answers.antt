@@ -3,8 +3,8 @@ use Rattle.std.proofs.lemmas.Result.{on_ok_weaker}
 use Rattle.graphql_directives.specs.DirectiveTree.{argument_tree}
 use Rattle.graphql_directives.specs.declared.directive.Argument.{Argument}
 use Rattle.graphql_names.specs.Node.{place}
-use Rattle.graphql_fault_data.specs.Adds.{Adds}
-use Rattle.graphql_fault_data.specs.FaultView.{faults_of}
+use Rattle.graphql_value_rules.specs.in_fault_data.Adds.{Adds}
+use Rattle.graphql_value_rules.specs.in_fault_data.FaultView.{faults_of}
 use Rattle.graphql_value_rules.specs.Wanting.{variables_of}
 use Rattle.graphql_use_rules.specs.Steps.{ValueGivenBreaks}
 use Rattle.graphql_use_rules.proofs.Listing.{gains_both}

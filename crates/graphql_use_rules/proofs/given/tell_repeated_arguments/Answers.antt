@@ -1,7 +1,7 @@
 use Rattle.std.proofs.Common.{◌<◌, length, arith}
 use Rattle.graphql_directives.specs.DirectiveTree.{argument_tree}
 use Rattle.graphql_names.specs.Placed.{node_tree}
-use Rattle.graphql_fault_data.specs.FaultView.{faults_of}
+use Rattle.graphql_value_rules.specs.in_fault_data.FaultView.{faults_of}
 use Rattle.graphql_use_rules.specs.UseFaults.{repeated_argument}
 use Rattle.graphql_use_rules.proofs.Listing.{places_more}
 use Rattle.graphql_use_rules.proofs.given.tell_repeated_arguments.Goals as goal

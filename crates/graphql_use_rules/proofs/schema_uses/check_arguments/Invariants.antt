@@ -1,6 +1,6 @@
 use Rattle.std.proofs.Common.{take}
-use Rattle.graphql_schema.specs.SchemaOf.{schema_tree}
-use Rattle.graphql_fault_data.specs.Adds.{Adds}
+use Rattle.graphql_value_rules.specs.in_schema.SchemaOf.{schema_tree}
+use Rattle.graphql_value_rules.specs.in_fault_data.Adds.{Adds}
 use Rattle.graphql_use_rules.specs.Trees.{inputs_of}
 use Rattle.graphql_use_rules.specs.SchemaUses.{ArgumentUses}
 use Rattle.graphql_use_rules.proofs.schema_uses.check_arguments.Given as goal

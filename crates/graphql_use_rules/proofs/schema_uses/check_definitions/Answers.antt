@@ -6,10 +6,10 @@ use Rattle.graphql_names.specs.Placed.{Placed, Place, node_tree}
 use Rattle.graphql_names.specs.declared.node.Node.{Node}
 use Rattle.graphql_directives.specs.declared.directive.DirectiveDefinition.{DirectiveDefinition}
 use Rattle.graphql_directives.specs.DirectiveTree.{InputValues, DirectiveDefinitionTree, directive_definition_tree}
-use Rattle.graphql_schema.specs.in_schema_types.TypeView.{name_text}
-use Rattle.graphql_schema.specs.SchemaOf.{schema_tree}
-use Rattle.graphql_fault_data.specs.FaultView.{faults_of}
-use Rattle.graphql_fault_data.specs.Adds.{Adds}
+use Rattle.graphql_value_rules.specs.in_schema.in_schema_types.TypeView.{name_text}
+use Rattle.graphql_value_rules.specs.in_schema.SchemaOf.{schema_tree}
+use Rattle.graphql_value_rules.specs.in_fault_data.FaultView.{faults_of}
+use Rattle.graphql_value_rules.specs.in_fault_data.Adds.{Adds}
 use Rattle.graphql_use_rules.specs.Trees.{inputs_of}
 use Rattle.graphql_use_rules.specs.SchemaUses.{ArgumentUses, DefinitionUses}
 use Rattle.graphql_use_rules.proofs.Listing.{gains_more}

@@ -3,9 +3,9 @@ use Rattle.std.proofs.lemmas.Result.{on_ok_weaker}
 use Rattle.graphql_names.specs.Placed.{Place}
 use Rattle.graphql_directives.specs.DirectiveTree.{Directives, InputValues}
 use Rattle.graphql_directives.specs.declared.directive_location.DirectiveLocation.TheVariants as location
-use Rattle.graphql_schema.specs.SchemaOf.{schema_tree}
-use Rattle.graphql_fault_data.specs.FaultView.{faults_of}
-use Rattle.graphql_fault_data.specs.Adds.{Adds}
+use Rattle.graphql_value_rules.specs.in_schema.SchemaOf.{schema_tree}
+use Rattle.graphql_value_rules.specs.in_fault_data.FaultView.{faults_of}
+use Rattle.graphql_value_rules.specs.in_fault_data.Adds.{Adds}
 use Rattle.graphql_use_rules.specs.Trees.{directives_of, inputs_of}
 use Rattle.graphql_use_rules.specs.SchemaUses.{UsesAt, ArgumentUses}
 use Rattle.graphql_use_rules.proofs.Listing.{gains_both}

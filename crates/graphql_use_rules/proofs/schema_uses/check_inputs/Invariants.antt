@@ -2,9 +2,9 @@ use Rattle.std.proofs.Common.{map}
 use Rattle.graphql_names.specs.NameValue.{NameValue}
 use Rattle.graphql_components.specs.declared.component.Component.{Component}
 use Rattle.graphql_directives.specs.declared.input_value.InputValueDefinition.{InputValueDefinition}
-use Rattle.graphql_schema.specs.in_schema_types.TypeView.{name_text}
-use Rattle.graphql_schema.specs.SchemaOf.{schema_tree}
-use Rattle.graphql_fault_data.specs.Adds.{Adds}
+use Rattle.graphql_value_rules.specs.in_schema.in_schema_types.TypeView.{name_text}
+use Rattle.graphql_value_rules.specs.in_schema.SchemaOf.{schema_tree}
+use Rattle.graphql_value_rules.specs.in_fault_data.Adds.{Adds}
 use Rattle.graphql_use_rules.specs.SchemaUses.{InputsUses}
 use Rattle.graphql_components.specs.Given.{component_tree}
 use Rattle.graphql_directives.specs.DirectiveTree.{input_value_tree}

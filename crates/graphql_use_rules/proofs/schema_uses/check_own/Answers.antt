@@ -4,13 +4,13 @@ use Rattle.graphql_names.specs.Placed.{Place}
 use Rattle.graphql_names.specs.Places.{is_built_in}
 use Rattle.graphql_directives.specs.declared.directive_location.DirectiveLocation.{DirectiveLocation}
 use Rattle.graphql_components.specs.Applied.{Applied, applied_tree}
-use Rattle.graphql_schema.specs.in_schema_types.SchemaTree.{same_kind}
-use Rattle.graphql_schema.specs.in_schema_types.TypeView.{extended_type}
-use Rattle.graphql_schema.specs.in_schema_types.Addresses.{applied}
-use Rattle.graphql_schema.specs.in_schema_types.declared.type_kind.TypeKind.TheVariants as kind
-use Rattle.graphql_schema.specs.SchemaOf.{schema_tree}
-use Rattle.graphql_fault_data.specs.FaultView.{faults_of}
-use Rattle.graphql_fault_data.specs.Adds.{Adds}
+use Rattle.graphql_value_rules.specs.in_schema.in_schema_types.SchemaTree.{same_kind}
+use Rattle.graphql_value_rules.specs.in_schema.in_schema_types.TypeView.{extended_type}
+use Rattle.graphql_value_rules.specs.in_schema.in_schema_types.Addresses.{applied}
+use Rattle.graphql_value_rules.specs.in_schema.in_schema_types.declared.type_kind.TypeKind.TheVariants as kind
+use Rattle.graphql_value_rules.specs.in_schema.SchemaOf.{schema_tree}
+use Rattle.graphql_value_rules.specs.in_fault_data.FaultView.{faults_of}
+use Rattle.graphql_value_rules.specs.in_fault_data.Adds.{Adds}
 use Rattle.graphql_rule_definitions.specs.Rules.{type_location}
 use Rattle.graphql_use_rules.specs.SchemaUses.{UsesAt, is_built_in_scalar}
 use Rattle.graphql_use_rules.proofs.Listing.{gains_same}

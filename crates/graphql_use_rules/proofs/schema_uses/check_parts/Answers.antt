@@ -5,15 +5,15 @@ use Rattle.graphql_directives.specs.DirectiveTree.{input_value_tree}
 use Rattle.graphql_type_members.specs.TypeSystemTree.{field_definition_tree, enum_value_tree}
 use Rattle.graphql_components.specs.Names.{entries_of}
 use Rattle.graphql_components.specs.Given.{component_tree}
-use Rattle.graphql_schema.specs.in_schema_types.TypeView.{name_text, extended_type, object_type, interface_type, enum_type, input_object_type}
-use Rattle.graphql_schema.specs.in_schema_types.declared.extended_type.ExtendedType.{ExtendedType}
-use Rattle.graphql_schema.specs.in_schema_types.declared.kinds.ObjectType.{ObjectType}
-use Rattle.graphql_schema.specs.in_schema_types.declared.kinds.InterfaceType.{InterfaceType}
-use Rattle.graphql_schema.specs.in_schema_types.declared.kinds.EnumType.{EnumType}
-use Rattle.graphql_schema.specs.in_schema_types.declared.kinds.InputObjectType.{InputObjectType}
-use Rattle.graphql_schema.specs.SchemaOf.{schema_tree}
-use Rattle.graphql_fault_data.specs.FaultView.{faults_of}
-use Rattle.graphql_fault_data.specs.Adds.{Adds}
+use Rattle.graphql_value_rules.specs.in_schema.in_schema_types.TypeView.{name_text, extended_type, object_type, interface_type, enum_type, input_object_type}
+use Rattle.graphql_value_rules.specs.in_schema.in_schema_types.declared.extended_type.ExtendedType.{ExtendedType}
+use Rattle.graphql_value_rules.specs.in_schema.in_schema_types.declared.kinds.ObjectType.{ObjectType}
+use Rattle.graphql_value_rules.specs.in_schema.in_schema_types.declared.kinds.InterfaceType.{InterfaceType}
+use Rattle.graphql_value_rules.specs.in_schema.in_schema_types.declared.kinds.EnumType.{EnumType}
+use Rattle.graphql_value_rules.specs.in_schema.in_schema_types.declared.kinds.InputObjectType.{InputObjectType}
+use Rattle.graphql_value_rules.specs.in_schema.SchemaOf.{schema_tree}
+use Rattle.graphql_value_rules.specs.in_fault_data.FaultView.{faults_of}
+use Rattle.graphql_value_rules.specs.in_fault_data.Adds.{Adds}
 use Rattle.graphql_use_rules.specs.SchemaUses.{FieldsUses, ValuesUses, InputsUses, PartsUses}
 use Rattle.graphql_use_rules.proofs.Listing.{gains_same}
 use Rattle.graphql_use_rules.proofs.SchemaSteps.{only_fields, only_values, only_inputs}

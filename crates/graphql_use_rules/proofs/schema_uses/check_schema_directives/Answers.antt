@@ -2,11 +2,11 @@ use Rattle.std.proofs.Common.{subst}
 use Rattle.std.proofs.lemmas.Result.{on_ok_weaker}
 use Rattle.graphql_directives.specs.declared.directive_location.DirectiveLocation.TheVariants as location
 use Rattle.graphql_components.specs.Applied.{applied_tree}
-use Rattle.graphql_schema.specs.in_schema_types.Addresses.{applied}
-use Rattle.graphql_schema.specs.in_schema_types.declared.schema_definition.SchemaDefinition.{SchemaDefinition}
-use Rattle.graphql_schema.specs.SchemaOf.{schema_tree}
-use Rattle.graphql_fault_data.specs.FaultView.{faults_of}
-use Rattle.graphql_fault_data.specs.Adds.{Adds}
+use Rattle.graphql_value_rules.specs.in_schema.in_schema_types.Addresses.{applied}
+use Rattle.graphql_value_rules.specs.in_schema.in_schema_types.declared.schema_definition.SchemaDefinition.{SchemaDefinition}
+use Rattle.graphql_value_rules.specs.in_schema.SchemaOf.{schema_tree}
+use Rattle.graphql_value_rules.specs.in_fault_data.FaultView.{faults_of}
+use Rattle.graphql_value_rules.specs.in_fault_data.Adds.{Adds}
 use Rattle.graphql_use_rules.specs.SchemaUses.{UsesAt}
 use Rattle.graphql_use_rules.proofs.Listing.{gains_both, gains_same}
 use Rattle.graphql_use_rules.proofs.SchemaTold.{schema_uses_told}

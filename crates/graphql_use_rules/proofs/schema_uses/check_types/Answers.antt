@@ -3,12 +3,12 @@ use Rattle.std.specs.Borrow.{Bor}
 use Rattle.std.proofs.lemmas.Iterator.Consumers.{YieldsList-end, YieldsList-from_rest}
 use Rattle.graphql_names.specs.NameValue.{NameValue}
 use Rattle.graphql_names.specs.Placed.{Place}
-use Rattle.graphql_schema.specs.in_schema_types.SchemaTree.{SchemaType}
-use Rattle.graphql_schema.specs.in_schema_types.TypeView.{name_text, extended_type}
-use Rattle.graphql_schema.specs.in_schema_types.declared.extended_type.ExtendedType.{ExtendedType}
-use Rattle.graphql_schema.specs.SchemaOf.{schema_tree}
-use Rattle.graphql_fault_data.specs.FaultView.{faults_of}
-use Rattle.graphql_fault_data.specs.Adds.{Adds}
+use Rattle.graphql_value_rules.specs.in_schema.in_schema_types.SchemaTree.{SchemaType}
+use Rattle.graphql_value_rules.specs.in_schema.in_schema_types.TypeView.{name_text, extended_type}
+use Rattle.graphql_value_rules.specs.in_schema.in_schema_types.declared.extended_type.ExtendedType.{ExtendedType}
+use Rattle.graphql_value_rules.specs.in_schema.SchemaOf.{schema_tree}
+use Rattle.graphql_value_rules.specs.in_fault_data.FaultView.{faults_of}
+use Rattle.graphql_value_rules.specs.in_fault_data.Adds.{Adds}
 use Rattle.graphql_use_rules.specs.SchemaUses.{TypeUses, TypesUses}
 use Rattle.graphql_use_rules.proofs.Listing.{gains_more, gains_both}
 use Rattle.graphql_use_rules.proofs.SchemaSteps.{pairs_more}

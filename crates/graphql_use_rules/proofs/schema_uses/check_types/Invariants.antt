@@ -1,9 +1,9 @@
 use Rattle.std.proofs.Common.{map}
 use Rattle.graphql_names.specs.NameValue.{NameValue}
-use Rattle.graphql_schema.specs.in_schema_types.declared.extended_type.ExtendedType.{ExtendedType}
-use Rattle.graphql_schema.specs.in_schema_types.TypeView.{name_text, extended_type}
-use Rattle.graphql_schema.specs.SchemaOf.{schema_tree}
-use Rattle.graphql_fault_data.specs.Adds.{Adds}
+use Rattle.graphql_value_rules.specs.in_schema.in_schema_types.declared.extended_type.ExtendedType.{ExtendedType}
+use Rattle.graphql_value_rules.specs.in_schema.in_schema_types.TypeView.{name_text, extended_type}
+use Rattle.graphql_value_rules.specs.in_schema.SchemaOf.{schema_tree}
+use Rattle.graphql_value_rules.specs.in_fault_data.Adds.{Adds}
 use Rattle.graphql_use_rules.specs.SchemaUses.{TypesUses}
 use Rattle.graphql_use_rules.proofs.schema_uses.check_types.Given as goal
 

@@ -7,10 +7,10 @@ use Rattle.graphql_components.specs.declared.component.Component.{Component}
 use Rattle.graphql_type_members.specs.declared.enum_value.EnumValueDefinition.{EnumValueDefinition}
 use Rattle.graphql_type_members.specs.TypeSystemTree.{EnumValueTree, enum_value_tree}
 use Rattle.graphql_components.specs.Given.{Given, component_tree}
-use Rattle.graphql_schema.specs.in_schema_types.TypeView.{name_text}
-use Rattle.graphql_schema.specs.SchemaOf.{schema_tree}
-use Rattle.graphql_fault_data.specs.FaultView.{faults_of}
-use Rattle.graphql_fault_data.specs.Adds.{Adds}
+use Rattle.graphql_value_rules.specs.in_schema.in_schema_types.TypeView.{name_text}
+use Rattle.graphql_value_rules.specs.in_schema.SchemaOf.{schema_tree}
+use Rattle.graphql_value_rules.specs.in_fault_data.FaultView.{faults_of}
+use Rattle.graphql_value_rules.specs.in_fault_data.Adds.{Adds}
 use Rattle.graphql_directives.specs.declared.directive_location.DirectiveLocation.TheVariants as location
 use Rattle.graphql_directives.specs.DirectiveTree.{Directives}
 use Rattle.graphql_use_rules.specs.Trees.{directives_of}

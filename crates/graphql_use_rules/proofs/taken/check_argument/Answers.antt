@@ -4,9 +4,9 @@ use Rattle.graphql_names.specs.Node.{content, place}
 use Rattle.graphql_directives.specs.DirectiveTree.{argument_tree, input_value_tree}
 use Rattle.graphql_directives.specs.declared.directive.Argument.{Argument}
 use Rattle.graphql_directives.specs.declared.input_value.InputValueDefinition.{InputValueDefinition}
-use Rattle.graphql_fault_data.specs.FaultView.{fault_of, faults_of}
-use Rattle.graphql_schema.specs.SchemaOf.{schema_tree}
-use Rattle.graphql_fault_data.specs.Adds.{Adds}
+use Rattle.graphql_value_rules.specs.in_fault_data.FaultView.{fault_of, faults_of}
+use Rattle.graphql_value_rules.specs.in_schema.SchemaOf.{schema_tree}
+use Rattle.graphql_value_rules.specs.in_fault_data.Adds.{Adds}
 use Rattle.graphql_value_rules.specs.Wanting.{variables_of}
 use Rattle.graphql_use_rules.specs.Steps.{Lists, DisallowedUsage, GivenArgumentBreaks}
 use Rattle.graphql_use_rules.proofs.Listing.{gains_both, gains_list}

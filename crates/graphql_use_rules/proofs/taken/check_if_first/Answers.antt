@@ -4,8 +4,8 @@ use Rattle.graphql_names.specs.Placed.{node_tree}
 use Rattle.graphql_directives.specs.DirectiveTree.{argument_tree, input_value_tree}
 use Rattle.graphql_directives.specs.DirectiveQueries.{argument_has_name, input_value_has_name}
 use Rattle.graphql_directives.specs.declared.directive.Argument.{Argument}
-use Rattle.graphql_fault_data.specs.FaultView.{faults_of}
-use Rattle.graphql_schema.specs.SchemaOf.{schema_tree}
+use Rattle.graphql_value_rules.specs.in_fault_data.FaultView.{faults_of}
+use Rattle.graphql_value_rules.specs.in_schema.SchemaOf.{schema_tree}
 use Rattle.graphql_value_rules.specs.Wanting.{variables_of}
 use Rattle.graphql_use_rules.specs.Trees.{arguments_of, inputs_of}
 use Rattle.graphql_use_rules.proofs.Listing.{gains_same}

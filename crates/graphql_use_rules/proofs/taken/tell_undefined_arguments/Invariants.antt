@@ -1,6 +1,6 @@
 use Rattle.std.proofs.Common.{◌≡◌, ◌++◌, take}
 use Rattle.std.specs.List.{flat_map}
-use Rattle.graphql_fault_data.specs.FaultView.{faults_of}
+use Rattle.graphql_value_rules.specs.in_fault_data.FaultView.{faults_of}
 use Rattle.graphql_use_rules.specs.Trees.{arguments_of, inputs_of, taker_of}
 use Rattle.graphql_use_rules.specs.UseFaults.{undefined_argument}
 use Rattle.graphql_use_rules.proofs.taken.tell_undefined_arguments.Given as goal

@@ -1,7 +1,7 @@
 use Rattle.std.proofs.Common.{◌<◌, ◌++◌, length, arith}
 use Rattle.graphql_literals.specs.TypeTree.{type_tree}
 use Rattle.graphql_literals.specs.ValueTree.{value_tree, item_trees}
-use Rattle.graphql_schema.specs.SchemaOf.{schema_tree}
+use Rattle.graphql_fault_data.specs.in_schema.SchemaOf.{schema_tree}
 use Rattle.graphql_fault_data.specs.FaultView.{faults_of}
 use Rattle.graphql_value_rules.specs.Wanting.{variables_of}
 use Rattle.graphql_value_rules.specs.ValueFaults.{item_faults}

@@ -3,8 +3,8 @@ use Rattle.graphql_names.specs.Placed.{Place, Text}
 use Rattle.graphql_literals.specs.TypeQueries.{inner_name}
 use Rattle.graphql_schema_types.specs.TypeView.{extended_type}
 use Rattle.graphql_schema_types.specs.Addresses.{type_at}
-use Rattle.graphql_schema.specs.SchemaOf.{schema_tree}
-use Rattle.graphql_schema.proofs.Lookups.{got}
+use Rattle.graphql_typing.specs.in_schema.SchemaOf.{schema_tree}
+use Rattle.graphql_typing.proofs.in_schema.Lookups.{got}
 use Rattle.graphql_documents.proofs.field.FieldFieldExt.inner_type_def.Goals as goal
 
 pub returns : goal.returns

@@ -1,9 +1,9 @@
 use Rattle.graphql_names.specs.NameValue.{NameValue}
 use Rattle.graphql_schema_types.specs.TypeView.{extended_type}
 use Rattle.graphql_schema_types.specs.declared.extended_type.ExtendedType.{ExtendedType}
-use Rattle.graphql_rule_definitions.specs.Distinct.{ArePartsDistinct}
-use Rattle.graphql_rule_definitions.proofs.DistinctFacts.{each_push}
-use Rattle.graphql_distinct_names.proofs.names.each_differ.Goals as goal
+use Rattle.graphql_schema_types.specs.Distinct.{ArePartsDistinct}
+use Rattle.graphql_schema.proofs.DistinctFacts.{each_push}
+use Rattle.graphql_schema.proofs.distinct.each_differ.Goals as goal
 
 pub loop-ty-preserved : goal.loop-ty-preserved
 loop-ty-preserved c =

@@ -11,9 +11,9 @@ use Rattle.graphql_schema_types.specs.declared.kinds.InterfaceType.{InterfaceTyp
 use Rattle.graphql_schema_types.specs.declared.kinds.UnionType.{UnionType}
 use Rattle.graphql_schema_types.specs.declared.kinds.EnumType.{EnumType}
 use Rattle.graphql_schema_types.specs.declared.kinds.InputObjectType.{InputObjectType}
-use Rattle.graphql_rule_definitions.specs.Distinct.{ArePartsDistinct}
-use Rattle.graphql_rule_definitions.proofs.DistinctFacts.{scalar_parts, object_parts, interface_parts, union_parts, enum_parts, input_parts}
-use Rattle.graphql_type_rules.proofs.distinct.parts_differ.Goals as goal
+use Rattle.graphql_schema_types.specs.Distinct.{ArePartsDistinct}
+use Rattle.graphql_schema.proofs.DistinctFacts.{scalar_parts, object_parts, interface_parts, union_parts, enum_parts, input_parts}
+use Rattle.graphql_schema.proofs.distinct.parts_differ.Goals as goal
 
 pub returns-in-Scalar : goal.returns-in-Scalar
 returns-in-Scalar c =

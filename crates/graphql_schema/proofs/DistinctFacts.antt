@@ -1,5 +1,5 @@
 -- Names of maps and sets differ.
-use Rattle.std.proofs.Common.{◌≡◌, ℕ, Bool, false, List, [], ◌∷◌, ◌++◌, map, refl, sym, ap, subst, ◌∙◌, Contains, inl, inr}
+use Rattle.std.proofs.Common.{◌≡◌, ℕ, ◌<◌, ◌⊎◌, Bool, false, List, [], ◌∷◌, ◌++◌, get_or, map, length, zero, suc, arith, refl, sym, ap, subst, ◌∙◌, Contains, inl, inr}
 use Rattle.std.specs.List.{IsDistinct, AllByRecursion}
 use Rattle.std.specs.Map.{keys_of}
 use Rattle.std.specs.Str.{bytes_eq}
@@ -24,8 +24,24 @@ use Rattle.graphql_schema_types.specs.declared.kinds.InterfaceType.{InterfaceTyp
 use Rattle.graphql_schema_types.specs.declared.kinds.UnionType.{UnionType}
 use Rattle.graphql_schema_types.specs.declared.kinds.EnumType.{EnumType}
 use Rattle.graphql_schema_types.specs.declared.kinds.InputObjectType.{InputObjectType}
-use Rattle.graphql_rule_definitions.specs.Distinct.{ArePartsDistinct, AreAllDistinct}
-use Rattle.graphql_rule_definitions.proofs.Lists.{not_in_nil, only, Contains-cons, Contains-first}
+use Rattle.graphql_schema_types.specs.Distinct.{ArePartsDistinct, AreAllDistinct}
+
+module _ {X : Type 0} where
+  not_in_nil : {R : Type 0} (y : X) → Contains [] y → R
+  not_in_nil y h = absurd (omega (arith, h.1))
+
+  Contains-cons : (x : X) (xs : List X) (y : X) → Contains (x ∷ xs) y → (x ≡ y) ⊎ Contains xs y
+  Contains-cons x xs y (k, h, e) = by k h e
+    where
+      by : (k : ℕ) → k < length (x ∷ xs) → get_or (x ∷ xs) k y ≡ y → (x ≡ y) ⊎ Contains xs y
+      by zero h e = inl e
+      by (suc k) h e = inr (k, omega arith, e)
+
+  Contains-first : (x : X) (xs : List X) (y : X) → x ≡ y → Contains (x ∷ xs) y
+  Contains-first x xs y e = (0, omega arith, e)
+
+  only : (x y : X) → Contains (x ∷ []) y → y ≡ x
+  only x y h = elim (Contains-cons x [] y h) [ inl e ↦ sym e | inr r ↦ not_in_nil y r ]
 
 -- things that differ have different names, where the name is what is compared
 module _ {X : Type 0} (eq : X → X → Bool) (name : X → List ℕ) (compares : (a b : X) → eq a b ≡ bytes_eq (name a) (name b)) where

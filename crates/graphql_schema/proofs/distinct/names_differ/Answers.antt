@@ -1,7 +1,7 @@
 use Rattle.std.proofs.Common.{refl}
 use Rattle.graphql_schema.specs.SchemaOf.{schema_tree}
-use Rattle.graphql_rule_definitions.proofs.DistinctFacts.{all_distinct}
-use Rattle.graphql_distinct_names.proofs.names.names_differ.Goals as goal
+use Rattle.graphql_schema.proofs.DistinctFacts.{all_distinct}
+use Rattle.graphql_schema.proofs.distinct.names_differ.Goals as goal
 
 pub returns : goal.returns
 returns c =

@@ -1,0 +1,1 @@
+pub use Rattle.graphql_coords.proofs.in_schema as in_schema

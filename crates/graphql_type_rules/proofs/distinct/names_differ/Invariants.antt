@@ -1,9 +1,0 @@
-use Rattle.std.proofs.Common.{ℕ, map, Contains}
-use Rattle.graphql_names.specs.NameValue.{NameValue}
-use Rattle.graphql_schema_types.specs.TypeView.{extended_type}
-use Rattle.graphql_schema_types.specs.declared.extended_type.ExtendedType.{ExtendedType}
-use Rattle.graphql_rule_definitions.specs.Distinct.{ArePartsDistinct}
-use Rattle.graphql_type_rules.proofs.distinct.names_differ.Given as goal
-
-abbrev pub invariant-loop-ty : goal.invariant-loop-ty
-invariant-loop-ty l = (e : NameValue × ExtendedType) → Contains (map (λ x. (x.0.now, x.1.now)) l.yielded) e → ArePartsDistinct (extended_type e.1)
