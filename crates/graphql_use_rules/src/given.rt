@@ -58,7 +58,7 @@ fn unique_argument(
 }
 
 /// Adds a fault for each argument that is given before.
-fn tell_repeated_arguments(
+pub fn tell_repeated_arguments(
     given: &[Node<Argument>],
     faults: &mut Vec<Fault>,
 ) -> Result<(), AllocError>

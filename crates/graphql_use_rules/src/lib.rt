@@ -16,7 +16,8 @@ mod taker;
 mod usage;
 
 pub use directives::{check_directives, check_uses};
-pub use given::check_given;
+pub use given::{check_given, tell_repeated_arguments};
 pub use schema_uses::check_schema_directives;
 pub use taken::check_taken;
 pub use taker::{Taker, TakerName};
+pub use usage::disallowed_variable_usage;

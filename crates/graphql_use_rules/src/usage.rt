@@ -120,7 +120,7 @@ fn told_usage(
 }
 
 /// DisallowedVariableUsage: a variable that is given may stand there (section 5.8.5).
-pub(crate) fn disallowed_variable_usage(
+pub fn disallowed_variable_usage(
     argument: &Node<Argument>,
     definition: &InputValueDefinition,
     variables: &[Node<VariableDefinition>],
