@@ -11,7 +11,7 @@ pub nothing_behind : (old new : Telling) (added : List PlacedFault) → AppendsT
 nothing_behind old new added behind same =
     let whole = ap length (sym behind ∙ same) in
     let parts = length-append old (map of_rule added) in
-    let long = length-map of_rule added in
+    let long = length-map added of_rule in
     nil_from_length added (omega (arith, whole, parts, long))
 
 pub behind_nothing : (old new : Telling) (added : List PlacedFault) → AppendsThese old new added → added ≡ [] → new ≡ old

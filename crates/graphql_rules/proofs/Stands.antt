@@ -1,5 +1,5 @@
 -- What is told of stands somewhere.
-use Rattle.std.proofs.Common.{◌≡◌, ℕ, ◌+◌, ◌<◌, ◌≤◌, ◌⊎◌, refl, sym, ap, ◌∙◌, inl, inr, Option, None, Some, zero, suc, arith}
+use Rattle.std.proofs.Common.{◌≡◌, ℕ, ◌+◌, ◌-◌, ◌^◌, ◌<◌, ◌≤◌, ◌⊎◌, refl, sym, ap, subst, inl, inr, Option, None, Some, zero, suc, arith}
 use Rattle.graphql_names.specs.Placed.{Place}
 use Rattle.graphql_names.specs.Places.{span_end, Reaches, RecomposesBoth, Recomposes}
 use Rattle.graphql_names.specs.declared.span.FileId.{FileId}
@@ -19,22 +19,31 @@ compare a zero = inr (omega arith)
 compare zero (suc b) = inl (omega arith)
 compare (suc a) (suc b) = elim (compare a b) [ inl h ↦ inl (omega (arith, h)) | inr h ↦ inr (omega (arith, h)) ]
 
+abbrev file_of : ℕ → FileId
+file_of n = record { 0 = n }
+
 same_file : (a b : FileId) → a.0 ≡ b.0 → a ≡ b
-same_file a b e = cc
+same_file a b e = ap file_of e
+
+-- from where one begins to where the other ends
+abbrev reaching : (start end : SourceSpan) → start.offset ≤ span_end end → SourceSpan
+reaching start end h =
+    let ends : start.offset + (span_end end - start.offset) ≡ end.offset + end.length = omega (arith, h) in
+    record { file_id = start.file_id; offset = start.offset; length = span_end end - start.offset; fits = subst (λ n. n < 2 ^ 64) (sym ends) end.fits }
 
 -- two places can be put together
 together : (start end : SourceSpan) → (whole : SourceSpan) × RecomposesBoth start end whole
 together start end = elim (decide start.file_id.0 end.file_id.0) [
   | inr n ↦ (end, record { other_file = λ h. refl; before = λ e. absurd (n (ap (λ f. f.0) e)); reaches = λ e. absurd (n (ap (λ f. f.0) e)) })
   | inl e ↦
-    let same = same_file start.file_id end.file_id e in
-    elim (compare (span_end end) start.offset) [
-      | inl h ↦ (start, record { other_file = λ n. absurd (n same); before = λ a b. refl; reaches = λ a b. absurd (omega (arith, h, b)) })
-      | inr h ↦ (
-          record { file_id = start.file_id; offset = start.offset; length = span_end end ∸ start.offset },
+      let same = same_file start.file_id end.file_id e in
+      elim (compare (span_end end) start.offset) [
+        | inl h ↦ (start, record { other_file = λ n. absurd (n same); before = λ a b. refl; reaches = λ a b. absurd (omega (arith, h, b)) })
+        | inr h ↦ (
+          reaching start end h,
           record { other_file = λ n. absurd (n same); before = λ a b. absurd (omega (arith, h, b)); reaches = λ a b. record { file = refl; begins = refl; ends = omega (arith, h) } },
         )
-    ]
+      ]
 ]
 
 recomposed : (start end : Place) → (whole : Place) × Recomposes start end whole

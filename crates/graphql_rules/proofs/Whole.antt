@@ -20,33 +20,32 @@ told_as into s f t = (t.0, (into (judged s) t.0 t.1.0, t.1.1))
 
 -- what each check adds to what the one before it left
 module _ (s : SchemaTree Place) (none types interfaces cycles uses : List PlacedFault) (is_none : none ≡ [])
-  (by_types : (f : PlacedFault) → Contains types f ↔ (Contains none f ⊎ Told s TypesBreak f))
-  (by_interfaces : (f : PlacedFault) → Contains interfaces f ↔ (Contains types f ⊎ Told s InterfacesBreak f))
-  (by_cycles : CyclesTold s interfaces cycles)
-  (by_uses : (f : PlacedFault) → Contains uses f ↔ (Contains cycles f ⊎ Told s SchemaUsesBreak f)) where
-
+    (by_types : (f : PlacedFault) → Contains types f ↔ (Contains none f ⊎ Told s TypesBreak f))
+    (by_interfaces : (f : PlacedFault) → Contains interfaces f ↔ (Contains types f ⊎ Told s InterfacesBreak f))
+    (by_cycles : CyclesTold s interfaces cycles)
+    (by_uses : (f : PlacedFault) → Contains uses f ↔ (Contains cycles f ⊎ Told s SchemaUsesBreak f)) where
   of_types : (f : PlacedFault) → Contains types f → Told s Fails f
   of_types f h = elim ((by_types f).0 h) [
     | inl n ↦ not_in_nil f (subst (λ l. Contains l f) is_none n)
-    | inr t ↦ told_as {TypesBreak} {Fails} (λ j g b. inl (elim b [ inl r ↦ inl r | inr e ↦ inr (inl e) ])) s f t
+    | inr t ↦ told_as {A = TypesBreak} {B = Fails} (λ j g b. inl (elim b [ inl r ↦ inl r | inr e ↦ inr (inl e) ])) s f t
   ]
 
   of_interfaces : (f : PlacedFault) → Contains interfaces f → Told s Fails f
   of_interfaces f h = elim ((by_interfaces f).0 h) [
     | inl before ↦ of_types f before
-    | inr t ↦ told_as {InterfacesBreak} {Fails} (λ j g b. inl (inr (inr (inl b)))) s f t
+    | inr t ↦ told_as {A = InterfacesBreak} {B = Fails} (λ j g b. inl (inr (inr (inl b)))) s f t
   ]
 
   of_cycles : (f : PlacedFault) → Contains cycles f → Told s Fails f
   of_cycles f h = elim (Contains-append_cases interfaces by_cycles.added f (subst (λ l. Contains l f) by_cycles.is h)) [
     | inl before ↦ of_interfaces f before
-    | inr c ↦ told_as {CyclesFail} {Fails} (λ j g b. elim b [ inl r ↦ inl (inr (inr (inr (inl r)))) | inr p ↦ inr p ]) s f (by_cycles.right f c)
+    | inr c ↦ told_as {A = CyclesFail} {B = Fails} (λ j g b. elim b [ inl r ↦ inl (inr (inr (inr (inl r)))) | inr p ↦ inr p ]) s f (by_cycles.right f c)
   ]
 
   of_uses : (f : PlacedFault) → Contains uses f → Told s Fails f
   of_uses f h = elim ((by_uses f).0 h) [
     | inl before ↦ of_cycles f before
-    | inr t ↦ told_as {SchemaUsesBreak} {Fails} (λ j g b. inl (inr (inr (inr (inr b))))) s f t
+    | inr t ↦ told_as {A = SchemaUsesBreak} {B = Fails} (λ j g b. inl (inr (inr (inr (inr b))))) s f t
   ]
 
   from_interfaces : (f : PlacedFault) → Contains interfaces f → Contains uses f
@@ -77,7 +76,7 @@ module _ (s : SchemaTree Place) (none types interfaces cycles uses : List Placed
 
 module _ (s : SchemaTree Place) (told : List PlacedFault) (tells : TellsSchema s told) where
   -- the broken rule at its place
-  placed : SchemaFault → PlacedFault
+  abbrev placed : SchemaFault → PlacedFault
   placed g = record { place = (stands s g.place).0; breach = map_places (spot_place s) (extension_places_at s) g.breach }
 
   told_at : (A : Judged → SchemaFault → Type 0) (g : SchemaFault) → A (judged s) g → Told s A (placed g)

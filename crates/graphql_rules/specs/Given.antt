@@ -1,15 +1,27 @@
 -- Rules on arguments alone, and on a variable that is given for one (GraphQL, October 2021, sections 5.4.2, 5.6.3 and 5.8.5).
-use Rattle.std.specs.Prelude.{◌≡◌, ℕ, ◌⊎◌, List}
-use Rattle.graphql_names.specs.Placed.{Placed, Place}
+use Rattle.std.specs.Prelude.{◌≡◌, ℕ, ◌⊎◌, List, [], ◌∷◌, ⊤}
+use Rattle.graphql_names.specs.Placed.{Placed, Place, node_tree}
+use Rattle.graphql_names.specs.declared.node.Node.{Node}
 use Rattle.graphql_literals.specs.TypeTree.{unplaced_type}
 use Rattle.graphql_literals.specs.ValueQueries.{variable_name}
-use Rattle.graphql_directives.specs.DirectiveTree.{ArgumentTree, Arguments, InputValueTree}
+use Rattle.graphql_directives.specs.DirectiveTree.{ArgumentTree, Arguments, DirectiveTree, InputValueTree, directive_tree}
+use Rattle.graphql_directives.specs.declared.directive.Directive.{Directive}
 use Rattle.graphql_rule_definitions.specs.Diagnostics.{UniqueArgument, DisallowedVariableUsage}
 use Rattle.graphql_rule_definitions.specs.Faults.{wrong}
 use Rattle.graphql_rule_definitions.specs.Words.{Present, AtSomeIndex, FirstNamed, Repeats}
 use Rattle.graphql_rule_definitions.specs.Values.{Variables, defined_name, UniqueInputValueIn}
 use Rattle.graphql_rule_definitions.specs.Uses.{argument_name, IsVariableUsageAllowed}
 use Rattle.graphql_rule_definitions.specs.Told.{PlacedFault}
+
+-- each of these gives that of those, in order
+abbrev pub Each : {A B : Type 0} → (A → B → Type 0) → List A → List B → Type 0
+Each Gives [] [] = ⊤
+Each Gives (x ∷ xs) (y ∷ ys) = Gives x y × Each Gives xs ys
+Each Gives xs ys = ⊥
+
+-- what leads to a node that is this directive
+abbrev pub LeadsTo : {A : Type 0} → (A → Node Directive → Type 0) → A → Placed Place (DirectiveTree Place) → Type 0
+LeadsTo Gives x d = (n : Node Directive) × (Gives x n × (node_tree directive_tree n ≡ d))
 
 -- a key is given twice in the value of an argument
 abbrev pub KeysBreak : Arguments Place → PlacedFault → Type 0

@@ -1,12 +1,9 @@
 //! Rules on directives, and on arguments and variables by themselves.
-ghost use Rattle.std.specs.Prelude.{◌≡◌, ◌↔◌, ⊤, List, map, IfOk, OnOk, OnErr, IsTrue};
-ghost use Rattle.std.specs.Borrow.{Bor};
+ghost use Rattle.std.specs.Prelude.{◌≡◌, ◌↔◌, ⊤, List, IfOk, OnOk, OnErr, IsTrue};
 ghost use Rattle.std.specs.Iterator.{IsFinite, HoldsAlong, DrainsIf};
 ghost use Rattle.graphql_names.specs.Node.{content};
-ghost use Rattle.graphql_names.specs.Placed.{node_tree};
-ghost use Rattle.graphql_names.specs.declared.node.Node.{Node};
-ghost use Rattle.graphql_directives.specs.DirectiveTree.{argument_tree, directive_tree, input_value_tree, unplaced_input_value};
-ghost use Rattle.graphql_directives.specs.declared.directive.Directive.{Directive};
+ghost use Rattle.graphql_names.specs.Placed.{Place, node_tree};
+ghost use Rattle.graphql_directives.specs.DirectiveTree.{Directives, argument_tree, input_value_tree, unplaced_input_value};
 ghost use Rattle.graphql_schema_types.specs.Addresses.{place_at};
 ghost use Rattle.graphql_fault_data.specs.FaultView.{faults_of};
 ghost use Rattle.graphql_fault_data.specs.Adds.{Adds};
@@ -16,7 +13,7 @@ ghost use Rattle.graphql_value_rules.specs.Wanting.{variables_of};
 ghost use Rattle.graphql_use_rules.specs.Trees.{arguments_of, directives_of, tree_of};
 ghost use Rattle.graphql_faults.specs.DetailsView.{diagnostics_of, BeginsAs};
 ghost use Rattle.graphql_rules.specs.Appends.{Appends};
-ghost use Rattle.graphql_rules.specs.Given.{KeysBreak, ArgumentsBreak, UsageBreaks};
+ghost use Rattle.graphql_rules.specs.Given.{Each, LeadsTo, KeysBreak, ArgumentsBreak, UsageBreaks};
 
 use graphql_directives::{Argument, Directive, DirectiveLocation, InputValueDefinition};
 use graphql_fault_data::Fault;
@@ -27,26 +24,28 @@ use graphql_schema::Schema;
 use graphql_use_rules::{check_directives, disallowed_variable_usage, tell_repeated_arguments};
 use graphql_value_rules::unique_input_values;
 use std::alloc::{AllocError, Global};
+use std::ops::Deref;
 
 /// The nodes that the iterator gives, in order.
-fn nodes_of<'a, I: IntoIterator<Item = &'a Node<Directive>>>(
+fn nodes_of<D: Deref<Target = Node<Directive>> + Drop, I: IntoIterator<Item = D>>(
     alloc: Global,
     directives: I,
 ) -> Result<Vec<Node<Directive>>, AllocError>
     requires { (it : I.IntoIter) → I.into_iter_gives directives it → I.IntoIter.can_next it × IsFinite (I.IntoIter.remaining it) × HoldsAlong I.IntoIter.next_gives it (λ _. ⊤) }
-    ensures { IfOk result (λ nodes. (it : I.IntoIter) × I.into_iter_gives directives it × ((all : List (Bor (Node Directive))) × (DrainsIf I.IntoIter.next_gives ⊤ it all × (directives_of nodes.items ≡ map (λ d. node_tree directive_tree d.now) all)))) }
+    ensures { IfOk result (λ nodes. (it : I.IntoIter) × (I.into_iter_gives directives it × ((all : List D) × (DrainsIf I.IntoIter.next_gives ⊤ it all × Each (LeadsTo D.deref_gives) all (directives_of nodes.items))))) }
 {
     let mut nodes = Vec::new(alloc);
     for directive in directives {
-        nodes.push(directive.clone()?)?;
+        nodes.push(directive.deref().clone()?)?;
     }
     Ok(nodes)
 }
 
 /// Tells the faults of the directives that are used at one place of a schema or a document (section 5.7), with an
 /// operation's variables or none: UniqueDirective, UndefinedDirective, UnsupportedLocation, and the rules on their
-/// arguments. Without a schema each of them is undefined. After a refusal the list begins as before.
-pub fn validate_directives<'a, I: IntoIterator<Item = &'a Node<Directive>>>(
+/// arguments. Any iterator gives them, of references to nodes or of what else leads to one. Without a schema each of them
+/// is undefined. After a refusal the list begins as before.
+pub fn validate_directives<D: Deref<Target = Node<Directive>> + Drop, I: IntoIterator<Item = D>>(
     alloc: Global,
     list: &mut DiagnosticList,
     schema: Option<&Schema>,
@@ -55,7 +54,7 @@ pub fn validate_directives<'a, I: IntoIterator<Item = &'a Node<Directive>>>(
     variables: &[Node<VariableDefinition>],
 ) -> Result<(), AllocError>
     requires { (it : I.IntoIter) → I.into_iter_gives directives it → I.IntoIter.can_next it × IsFinite (I.IntoIter.remaining it) × HoldsAlong I.IntoIter.next_gives it (λ _. ⊤) }
-    ensures told { OnOk result ((it : I.IntoIter) × I.into_iter_gives directives it × ((all : List (Bor (Node Directive))) × (DrainsIf I.IntoIter.next_gives ⊤ it all × Appends (diagnostics_of list.old) (diagnostics_of list.new) (UsesBreak (place_at (tree_of schema.entry)) (judged (tree_of schema.entry)) (variables_of variables.now) location (map (λ d. node_tree directive_tree d.now) all))))) }
+    ensures told { OnOk result ((it : I.IntoIter) × (I.into_iter_gives directives it × ((all : List D) × (DrainsIf I.IntoIter.next_gives ⊤ it all × ((ds : Directives Place) × (Each (LeadsTo D.deref_gives) all ds × Appends (diagnostics_of list.old) (diagnostics_of list.new) (UsesBreak (place_at (tree_of schema.entry)) (judged (tree_of schema.entry)) (variables_of variables.now) location ds))))))) }
     ensures begins { OnErr result (BeginsAs (diagnostics_of list.old) (diagnostics_of list.new)) }
 {
     let nodes = nodes_of(alloc, directives)?;
