@@ -1,8 +1,7 @@
 -- Faults of arguments and of a variable that is given, from what is told of them.
-use Rattle.std.proofs.Common.{◌≡◌, ℕ, ◌⊎◌, ◌↔◌, List, [], ◌∷◌, ◌++◌, refl, sym, subst, inl, inr, None, Contains}
+use Rattle.std.proofs.Common.{◌≡◌, ℕ, ◌⊎◌, ◌↔◌, List, [], ◌∷◌, ◌++◌, subst, inl, inr, None, Contains}
 use Rattle.graphql_names.specs.Placed.{Placed, Place, node_tree}
 use Rattle.graphql_literals.specs.TypeTree.{unplaced_type}
-use Rattle.graphql_literals.specs.ValueQueries.{variable_name}
 use Rattle.graphql_directives.specs.DirectiveTree.{ArgumentTree, Arguments, InputValueTree, directive_tree, input_value_tree, unplaced_input_value}
 use Rattle.graphql_directives.specs.declared.directive.Directive.{Directive}
 use Rattle.graphql_directives.specs.declared.input_value.InputValueDefinition.{InputValueDefinition}

@@ -1,7 +1,7 @@
 -- What is told of stands somewhere.
-use Rattle.std.proofs.Common.{◌≡◌, ℕ, ◌+◌, ◌-◌, ◌^◌, ◌<◌, ◌≤◌, ◌⊎◌, refl, sym, ap, subst, inl, inr, Option, None, Some, zero, suc, arith}
+use Rattle.std.proofs.Common.{◌≡◌, ℕ, ◌+◌, ◌-◌, ◌^◌, ◌<◌, ◌≤◌, ◌⊎◌, refl, sym, ap, subst, inl, inr, None, Some, zero, suc, arith}
 use Rattle.graphql_names.specs.Placed.{Place}
-use Rattle.graphql_names.specs.Places.{span_end, Reaches, RecomposesBoth, Recomposes}
+use Rattle.graphql_names.specs.Places.{span_end, RecomposesBoth, Recomposes}
 use Rattle.graphql_names.specs.declared.span.FileId.{FileId}
 use Rattle.graphql_names.specs.declared.span.SourceSpan.{SourceSpan}
 use Rattle.graphql_schema_types.specs.SchemaTree.{SchemaTree}

@@ -1,5 +1,5 @@
 -- The faults of all rules on schemas.
-use Rattle.std.proofs.Common.{◌≡◌, ℕ, ◌⊎◌, ◌↔◌, List, [], ◌∷◌, ◌++◌, refl, sym, subst, inl, inr, Contains}
+use Rattle.std.proofs.Common.{◌≡◌, ◌⊎◌, ◌↔◌, List, [], ◌∷◌, refl, sym, subst, inl, inr, Contains}
 use Rattle.std.proofs.lemmas.List.Elements.{Contains-append_left, Contains-append_right, Contains-append_cases}
 use Rattle.graphql_names.specs.Placed.{Place}
 use Rattle.graphql_schema_types.specs.SchemaTree.{SchemaTree}
@@ -7,7 +7,7 @@ use Rattle.graphql_rule_definitions.specs.Diagnostics.{map_places}
 use Rattle.graphql_rule_definitions.specs.Spots.{spot_place}
 use Rattle.graphql_rule_definitions.specs.Faults.{SchemaFault}
 use Rattle.graphql_rule_definitions.specs.Judged.{Judged, judged}
-use Rattle.graphql_rule_definitions.specs.Rules.{InterfacesBreak, SchemaUsesBreak, Breaks, SchemaRules, extension_places_at}
+use Rattle.graphql_rule_definitions.specs.Rules.{InterfacesBreak, SchemaUsesBreak, SchemaRules, extension_places_at}
 use Rattle.graphql_rule_definitions.specs.Told.{PlacedFault, Told}
 use Rattle.graphql_rule_definitions.proofs.Lists.{not_in_nil, Contains-first}
 use Rattle.graphql_type_rules.specs.TypesBreak.{TypesBreak}

@@ -1,5 +1,5 @@
 -- Rules on arguments alone, and on a variable that is given for one (GraphQL, October 2021, sections 5.4.2, 5.6.3 and 5.8.5).
-use Rattle.std.specs.Prelude.{◌≡◌, ℕ, ◌⊎◌, List, [], ◌∷◌, ⊤}
+use Rattle.std.specs.Prelude.{◌≡◌, ◌⊎◌, List, [], ◌∷◌, ⊤}
 use Rattle.graphql_names.specs.Placed.{Placed, Place, node_tree}
 use Rattle.graphql_names.specs.declared.node.Node.{Node}
 use Rattle.graphql_literals.specs.TypeTree.{unplaced_type}
