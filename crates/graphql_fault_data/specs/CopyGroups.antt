@@ -1,6 +1,7 @@
 -- Which variants are copied alike (private: it leads to `diagnostic_of`).
-use Rattle.std.specs.Prelude.{Bool, true, false, Option, Some, None}
+use Rattle.std.specs.Prelude.{Bool, true, false, List, Option, Some, None}
 use Rattle.graphql_names.specs.NameValue.{NameValue}
+use Rattle.graphql_names.specs.Placed.{Place}
 use Rattle.graphql_fault_data.specs.declared.diagnostic_data.DiagnosticData.{DiagnosticData}
 use Rattle.graphql_fault_data.specs.declared.diagnostic_data.DiagnosticData.TheVariants as rust
 
@@ -26,13 +27,20 @@ one_name (rust.UndefinedFragment name) = Some name
 one_name (rust.UnusedFragment name) = Some name
 one_name _ = None
 
--- a type that lacks its members
-abbrev pub is_of_set : DiagnosticData → Bool
-is_of_set (rust.EmptyFieldSet type_name type_location extensions_locations) = true
-is_of_set (rust.EmptyValueSet type_name type_location extensions_locations) = true
-is_of_set (rust.EmptyMemberSet type_name type_location extensions_locations) = true
-is_of_set (rust.EmptyInputValueSet type_name type_location extensions_locations) = true
-is_of_set _ = false
+-- the name of a type that lacks its members, and the places of its extensions
+abbrev pub set_name : DiagnosticData → Option NameValue
+set_name (rust.EmptyFieldSet type_name type_location extensions_locations) = Some type_name
+set_name (rust.EmptyValueSet type_name type_location extensions_locations) = Some type_name
+set_name (rust.EmptyMemberSet type_name type_location extensions_locations) = Some type_name
+set_name (rust.EmptyInputValueSet type_name type_location extensions_locations) = Some type_name
+set_name _ = None
+
+abbrev pub set_places : DiagnosticData → Option (List Place)
+set_places (rust.EmptyFieldSet type_name type_location extensions_locations) = Some extensions_locations.items
+set_places (rust.EmptyValueSet type_name type_location extensions_locations) = Some extensions_locations.items
+set_places (rust.EmptyMemberSet type_name type_location extensions_locations) = Some extensions_locations.items
+set_places (rust.EmptyInputValueSet type_name type_location extensions_locations) = Some extensions_locations.items
+set_places _ = None
 
 -- a type that does not implement an interface
 abbrev pub is_of_implementation : DiagnosticData → Bool

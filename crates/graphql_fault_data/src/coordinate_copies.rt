@@ -9,7 +9,7 @@ use graphql_coords::{
 use graphql_names::{copies_of_three, copies_of_two};
 use std::alloc::AllocError;
 
-/// The coordinate again.
+/// A copy of the coordinate.
 pub(crate) fn copied_attribute(
     coordinate: &TypeAttributeCoordinate,
 ) -> Result<TypeAttributeCoordinate, AllocError>
@@ -19,7 +19,7 @@ pub(crate) fn copied_attribute(
     Ok(TypeAttributeCoordinate { ty, attribute })
 }
 
-/// The coordinate again.
+/// A copy of the coordinate.
 pub(crate) fn copied_coordinate(
     coordinate: &SchemaCoordinate,
 ) -> Result<SchemaCoordinate, AllocError>

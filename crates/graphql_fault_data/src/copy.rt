@@ -1,17 +1,16 @@
-//! Copies of what breaks rules. Texts and nodes are shared, and not copied.
+//! Copies of what breaks rules. Names and nodes are shared, and not copied.
 ghost use Rattle.std.specs.Prelude.{◌≡◌, IfOk, Some};
 ghost use Rattle.graphql_fault_data.specs.CopyGroups.{one_name};
 ghost use Rattle.graphql_fault_data.specs.DiagnosticView.{diagnostic_of};
 
 use crate::diagnostic_data::DiagnosticData;
-use crate::schema_copies::{copied_cycle, copied_implementation, copied_set};
+use crate::schema_copies::{copied_cycle, copied_implementation, set_parts, with_set};
 use crate::use_copies::{copied_document, copied_use, copied_value};
 use graphql_names::Name;
 use std::alloc::AllocError;
 
 impl DiagnosticData {
-    /// The same data again. Memory is refused only where a list has to be copied, or a text or a node is shared as often
-    /// as can be counted.
+    /// The same data again: names and nodes are shared, lists, strings and the boxes of types are copied.
     pub fn clone(&self) -> Result<DiagnosticData, AllocError>
         ensures { IfOk result (λ copy. diagnostic_of copy ≡ diagnostic_of self.now) }
     {
@@ -36,10 +35,29 @@ impl DiagnosticData {
             | DiagnosticData::UnusedVariable { name }
             | DiagnosticData::UndefinedFragment { name }
             | DiagnosticData::UnusedFragment { name } => Ok(with_name(self, name.clone()?)),
-            DiagnosticData::EmptyFieldSet { .. }
-            | DiagnosticData::EmptyValueSet { .. }
-            | DiagnosticData::EmptyMemberSet { .. }
-            | DiagnosticData::EmptyInputValueSet { .. } => copied_set(self),
+            DiagnosticData::EmptyFieldSet {
+                type_name,
+                extensions_locations,
+                ..
+            }
+            | DiagnosticData::EmptyValueSet {
+                type_name,
+                extensions_locations,
+                ..
+            }
+            | DiagnosticData::EmptyMemberSet {
+                type_name,
+                extensions_locations,
+                ..
+            }
+            | DiagnosticData::EmptyInputValueSet {
+                type_name,
+                extensions_locations,
+                ..
+            } => {
+                let (type_name, places) = set_parts(type_name, extensions_locations)?;
+                Ok(with_set(self, type_name, places))
+            }
             DiagnosticData::TransitiveImplementedInterfaces { .. }
             | DiagnosticData::MissingInterfaceField { .. }
             | DiagnosticData::InvalidImplementationFieldType { .. }

@@ -31,7 +31,7 @@ impl Fault {
         (location, data)
     }
 
-    /// The same fault again, as data are copied.
+    /// The same fault again.
     pub fn clone(&self) -> Result<Fault, AllocError>
         ensures { IfOk result (λ copy. fault_of copy ≡ fault_of self.now) }
     {

@@ -1,6 +1,6 @@
 //! Copies of what breaks rules of schemas.
-ghost use Rattle.std.specs.Prelude.{◌≡◌, IfOk, IsTrue};
-ghost use Rattle.graphql_fault_data.specs.CopyGroups.{is_of_set, is_of_implementation, is_of_cycle};
+ghost use Rattle.std.specs.Prelude.{◌≡◌, IfOk, IsTrue, Some};
+ghost use Rattle.graphql_fault_data.specs.CopyGroups.{set_name, set_places, is_of_implementation, is_of_cycle};
 ghost use Rattle.graphql_fault_data.specs.DiagnosticView.{diagnostic_of};
 
 use crate::diagnostic_data::DiagnosticData;
@@ -9,65 +9,43 @@ use graphql_names::{
 };
 use std::alloc::AllocError;
 
-/// What is wrong with a type that lacks its members, again.
-pub(crate) fn copied_set(diagnostic: &DiagnosticData) -> Result<DiagnosticData, AllocError>
-    requires { IsTrue (is_of_set diagnostic.now) }
-    ensures { IfOk result (λ copy. diagnostic_of copy ≡ diagnostic_of diagnostic.now) }
+/// What is wrong with a type that lacks its members, with a copy of the type's name and of its extensions' places.
+pub(crate) fn with_set(
+    diagnostic: &DiagnosticData,
+    type_name: Name,
+    extensions_locations: Vec<Option<SourceSpan>>,
+) -> DiagnosticData
+    requires name { set_name diagnostic.now ≡ Some type_name }
+    requires places { set_places diagnostic.now ≡ Some extensions_locations.items }
+    ensures { diagnostic_of result ≡ diagnostic_of diagnostic.now }
 {
     match diagnostic {
-        DiagnosticData::EmptyFieldSet {
+        DiagnosticData::EmptyFieldSet { type_location, .. } => DiagnosticData::EmptyFieldSet {
             type_name,
-            type_location,
+            type_location: *type_location,
             extensions_locations,
-        } => {
-            let (type_name, extensions_locations) = set_parts(type_name, extensions_locations)?;
-            Ok(DiagnosticData::EmptyFieldSet {
+        },
+        DiagnosticData::EmptyValueSet { type_location, .. } => DiagnosticData::EmptyValueSet {
+            type_name,
+            type_location: *type_location,
+            extensions_locations,
+        },
+        DiagnosticData::EmptyMemberSet { type_location, .. } => DiagnosticData::EmptyMemberSet {
+            type_name,
+            type_location: *type_location,
+            extensions_locations,
+        },
+        DiagnosticData::EmptyInputValueSet { type_location, .. } =>
+            DiagnosticData::EmptyInputValueSet {
                 type_name,
                 type_location: *type_location,
                 extensions_locations,
-            })
-        }
-        DiagnosticData::EmptyValueSet {
-            type_name,
-            type_location,
-            extensions_locations,
-        } => {
-            let (type_name, extensions_locations) = set_parts(type_name, extensions_locations)?;
-            Ok(DiagnosticData::EmptyValueSet {
-                type_name,
-                type_location: *type_location,
-                extensions_locations,
-            })
-        }
-        DiagnosticData::EmptyMemberSet {
-            type_name,
-            type_location,
-            extensions_locations,
-        } => {
-            let (type_name, extensions_locations) = set_parts(type_name, extensions_locations)?;
-            Ok(DiagnosticData::EmptyMemberSet {
-                type_name,
-                type_location: *type_location,
-                extensions_locations,
-            })
-        }
-        DiagnosticData::EmptyInputValueSet {
-            type_name,
-            type_location,
-            extensions_locations,
-        } => {
-            let (type_name, extensions_locations) = set_parts(type_name, extensions_locations)?;
-            Ok(DiagnosticData::EmptyInputValueSet {
-                type_name,
-                type_location: *type_location,
-                extensions_locations,
-            })
-        }
+            },
         _ => unreachable!(),
     }
 }
 
-/// What is wrong with a type that does not implement an interface, again.
+/// A copy of what is wrong with a type that does not implement an interface.
 pub(crate) fn copied_implementation(
     diagnostic: &DiagnosticData,
 ) -> Result<DiagnosticData, AllocError>
@@ -204,7 +182,7 @@ pub(crate) fn copied_implementation(
     }
 }
 
-/// What is wrong with a definition that leads back to itself, again.
+/// A copy of what is wrong with a definition that leads back to itself.
 pub(crate) fn copied_cycle(diagnostic: &DiagnosticData) -> Result<DiagnosticData, AllocError>
     requires { IsTrue (is_of_cycle diagnostic.now) }
     ensures { IfOk result (λ copy. diagnostic_of copy ≡ diagnostic_of diagnostic.now) }
@@ -234,8 +212,8 @@ pub(crate) fn copied_cycle(diagnostic: &DiagnosticData) -> Result<DiagnosticData
     }
 }
 
-/// A name and places, again.
-fn set_parts(
+/// Copies of a name and of places.
+pub(crate) fn set_parts(
     name: &Name,
     places: &Vec<Option<SourceSpan>>,
 ) -> Result<(Name, Vec<Option<SourceSpan>>), AllocError>

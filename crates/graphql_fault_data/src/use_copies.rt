@@ -8,7 +8,7 @@ use crate::diagnostic_data::DiagnosticData;
 use graphql_names::{copies_of_four, copies_of_three, copies_of_two};
 use std::alloc::AllocError;
 
-/// What is wrong with a use of a directive or an argument, again.
+/// A copy of what is wrong with a use of a directive or an argument.
 pub(crate) fn copied_use(diagnostic: &DiagnosticData) -> Result<DiagnosticData, AllocError>
     requires { IsTrue (is_of_use diagnostic.now) }
     ensures { IfOk result (λ copy. diagnostic_of copy ≡ diagnostic_of diagnostic.now) }
@@ -83,7 +83,7 @@ pub(crate) fn copied_use(diagnostic: &DiagnosticData) -> Result<DiagnosticData, 
     }
 }
 
-/// What is wrong with a value, again.
+/// A copy of what is wrong with a value.
 pub(crate) fn copied_value(diagnostic: &DiagnosticData) -> Result<DiagnosticData, AllocError>
     requires { IsTrue (is_of_value diagnostic.now) }
     ensures { IfOk result (λ copy. diagnostic_of copy ≡ diagnostic_of diagnostic.now) }
@@ -152,7 +152,7 @@ pub(crate) fn copied_value(diagnostic: &DiagnosticData) -> Result<DiagnosticData
     }
 }
 
-/// What is wrong with a part of a document, again.
+/// A copy of what is wrong with a part of a document.
 pub(crate) fn copied_document(diagnostic: &DiagnosticData) -> Result<DiagnosticData, AllocError>
     requires { IsTrue (is_of_document diagnostic.now) }
     ensures { IfOk result (λ copy. diagnostic_of copy ≡ diagnostic_of diagnostic.now) }
