@@ -1,5 +1,5 @@
 -- What contracts see of `DiagnosticData`: all that `==` compares.
-use Rattle.std.specs.Prelude.{ℕ, List, map, Vec}
+use Rattle.std.specs.Prelude.{List, map, Vec}
 use Rattle.std.specs.Option.{option_map}
 use Rattle.std.specs.String.{string_bytes}
 use Rattle.std.specs.declared.alloc.Global.{Global}

@@ -1,5 +1,5 @@
 //! What breaks rules, each with its place.
-ghost use Rattle.std.specs.Prelude.{◌≡◌, ◌++◌, map, OnErr, OnOk, option_to_list};
+ghost use Rattle.std.specs.Prelude.{◌≡◌, ◌++◌, map, IfOk, OnErr, OnOk, option_to_list};
 ghost use Rattle.graphql_fault_data.specs.FaultView.{fault_of, faults_of};
 
 use crate::diagnostic_data::DiagnosticData;
@@ -29,6 +29,17 @@ impl Fault {
     {
         let Fault { location, data } = self;
         (location, data)
+    }
+
+    /// The same fault again.
+    pub fn clone(&self) -> Result<Fault, AllocError>
+        ensures { IfOk result (λ copy. fault_of copy ≡ fault_of self.now) }
+    {
+        let data = self.data.clone()?;
+        Ok(Fault {
+            location: self.location,
+            data,
+        })
     }
 }
 

@@ -7,10 +7,14 @@
 //! Begin with `diagnostic_data.rt` and `specs/DiagnosticView.antt`.
 #![tactic(auto)]
 
+mod coordinate_copies;
+mod copy;
 mod diagnostic_data;
 mod fault;
 mod message;
+mod schema_copies;
 mod template;
+mod use_copies;
 
 pub use diagnostic_data::DiagnosticData;
 pub use fault::{Fault, tell};
