@@ -20,6 +20,27 @@ fn makes(
     }
 }
 
+/// Whether of the set's field is found its definition, and its type, and of its spread the fragment.
+fn are_found_of(
+    alloc: Global,
+    schema: &Schema,
+    document: &ExecutableDocument,
+    set: &SelectionSet,
+    field: &Selection,
+    spread: &Selection,
+) -> Result<bool, AllocError> {
+    match (field, spread) {
+        (Selection::Field(field), Selection::FragmentSpread(spread)) => {
+            Ok(
+                field.content().inner_type_def(schema).is_some()
+                    && spread.content().fragment_def(document).is_some()
+                    && makes(alloc, schema, set, field.content())?,
+            )
+        }
+        _ => Ok(false),
+    }
+}
+
 /// Whether of the set's first field and first spread is found what they name.
 pub(crate) fn are_found(
     alloc: Global,
@@ -28,16 +49,7 @@ pub(crate) fn are_found(
     set: &SelectionSet,
 ) -> Result<bool, AllocError> {
     match set.selections.as_slice() {
-        [
-            Selection::Field(field),
-            _,
-            Selection::FragmentSpread(spread),
-            ..
-        ] => {
-            let is_there = field.content().inner_type_def(schema).is_some()
-                && spread.content().fragment_def(document).is_some();
-            Ok(is_there && makes(alloc, schema, set, field.content())?)
-        }
+        [field, _, spread, ..] => are_found_of(alloc, schema, document, set, field, spread),
         _ => Ok(false),
     }
 }

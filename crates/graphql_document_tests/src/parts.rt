@@ -75,30 +75,56 @@ fn longer_spread(
     fresh.with_directive(directive(alloc)?)
 }
 
-/// Whether the second field is the first one, built of its parts, with one more of each.
-fn field_is_longer(alloc: Global, one: &Field, other: &Field) -> Result<bool, AllocError> {
-    equals(other, longer_field(alloc, field_of_parts(alloc, one)?))
+/// Whether the second selection is the first one, a field built of its parts, with one more of each.
+fn field_is_longer(alloc: Global, one: &Selection, other: &Selection) -> Result<bool, AllocError> {
+    match (one, other) {
+        (Selection::Field(one), Selection::Field(other)) => equals(
+            other.content(),
+            longer_field(alloc, field_of_parts(alloc, one.content())?),
+        ),
+        _ => Ok(false),
+    }
+}
+
+/// The same of spreads.
+fn spread_is_longer(
+    alloc: Global,
+    set: &SelectionSet,
+    one: &Selection,
+    other: &Selection,
+) -> Result<bool, AllocError> {
+    match (one, other) {
+        (Selection::FragmentSpread(one), Selection::FragmentSpread(other)) => {
+            equals(other.content(), longer_spread(alloc, set, one.content()))
+        }
+        _ => Ok(false),
+    }
+}
+
+/// The same of inline fragments.
+fn inline_is_longer(
+    alloc: Global,
+    set: &SelectionSet,
+    one: &Selection,
+    other: &Selection,
+) -> Result<bool, AllocError> {
+    match (one, other) {
+        (Selection::InlineFragment(one), Selection::InlineFragment(other)) => equals(
+            other.content(),
+            longer_inline(alloc, inline_of_parts(alloc, set, one.content())?),
+        ),
+        _ => Ok(false),
+    }
 }
 
 /// Whether each second selection of the set is the one before it, built of its parts, with one more of each.
 pub(crate) fn are_of_parts(alloc: Global, set: &SelectionSet) -> Result<bool, AllocError> {
     match set.selections.as_slice() {
-        [
-            Selection::Field(one),
-            Selection::Field(other),
-            Selection::FragmentSpread(spread),
-            Selection::FragmentSpread(longer),
-            Selection::InlineFragment(inline),
-            Selection::InlineFragment(wanted),
-        ] => {
-            let fresh = inline_of_parts(alloc, set, inline.content())?;
+        [field, more_field, spread, more_spread, inline, more_inline] => {
             Ok(
-                equals(wanted.content(), longer_inline(alloc, fresh))?
-                    && equals(
-                        longer.content(),
-                        longer_spread(alloc, set, spread.content()),
-                    )?
-                    && field_is_longer(alloc, one.content(), other.content())?,
+                field_is_longer(alloc, field, more_field)?
+                    && spread_is_longer(alloc, set, spread, more_spread)?
+                    && inline_is_longer(alloc, set, inline, more_inline)?,
             )
         }
         _ => Ok(false),
