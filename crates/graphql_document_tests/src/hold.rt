@@ -3,9 +3,9 @@
 use std::alloc::AllocError;
 use std::process::Abort;
 
-/// It holds.
-pub(crate) fn hold(rt: &impl Abort, condition: bool, what: &str) {
-    assert!(rt; condition, "{what}");
+/// It holds, and no memory was refused.
+pub(crate) fn hold(rt: &impl Abort, condition: Result<bool, AllocError>, what: &str) {
+    assert!(rt; matches!(condition, Ok(true)), "{what}");
 }
 
 /// Whether the value's copy equals it.

@@ -1,10 +1,10 @@
-//! Tests over documents with their meaning that no row of text reaches: copies, selections that are built by calls, operations
-//! by name, and walks and look-ups from sets, once each in ample memory. The rows are those of `graphql_rows`. It has no code
-//! but these.
+//! A test over one document with its meaning, of what no row of text reaches: copies, selections that are built by calls,
+//! operations by name, and walks and look-ups from sets, each call once in ample memory. The rows are those of
+//! `graphql_rows`. It has no code but this.
 #![tactic(auto)]
 
 #[cfg(test)]
-mod additions;
+mod answers;
 #[cfg(test)]
 mod copies;
 #[cfg(test)]

@@ -1,19 +1,33 @@
-//! Selections that are built of their parts.
+//! Selections that are built of their parts, and get one more of each.
 
-use crate::hold::{equals, hold};
-use crate::typed::typed;
-use graphql_documents::{
-    ExecutableDocument, Field, FragmentSpread, InlineFragment, Selection, SelectionSet,
-};
-use graphql_names::{Node, copies_of_three};
+use crate::hold::equals;
+use graphql_directives::Directive;
+use graphql_documents::{Field, FragmentSpread, InlineFragment, Selection, SelectionSet};
+use graphql_literals::Value;
+use graphql_names::{Name, Node, copies_of_three};
 use std::alloc::{AllocError, Global};
-use std::process::Abort;
-use std::test::Fail;
+
+/// `true`
+fn value(alloc: Global) -> Result<Node<Value>, AllocError> {
+    Ok(Node::new(alloc, Value::Boolean(true))?)
+}
+
+/// `@e`
+fn directive(alloc: Global) -> Result<Node<Directive>, AllocError> {
+    let directive = Directive::new(alloc, Name::new_static_unchecked("e"));
+    Ok(Node::new(alloc, directive)?)
+}
+
+/// `...F`
+fn spread(alloc: Global) -> Result<Selection, AllocError> {
+    let spread = FragmentSpread::new(alloc, Name::new_static_unchecked("F"));
+    Ok(Selection::from(Node::new(alloc, spread)?))
+}
 
 /// The field of that name, alias and definition, and of nothing else.
 fn bare(alloc: Global, field: &Field) -> Result<Field, AllocError> {
-    let (name, alias, definition) = copies_of_three(&field.name, &field.alias, &field.definition)?;
-    Ok(Field::new(alloc, name, definition)?.with_opt_alias(alias))
+    let copies = copies_of_three(&field.name, &field.definition, &field.alias)?;
+    Ok(Field::new(alloc, copies.0, copies.1)?.with_opt_alias(copies.2))
 }
 
 /// The field, built of its parts.
@@ -21,6 +35,15 @@ fn field_of_parts(alloc: Global, field: &Field) -> Result<Field, AllocError> {
     let fresh = bare(alloc, field)?.with_arguments(field.arguments.clone()?)?;
     let fresh = fresh.with_directives(field.directives.0.clone()?)?;
     fresh.with_selections(field.selection_set.selections.clone()?)
+}
+
+/// The field with one more of each part.
+fn longer_field(alloc: Global, field: Field) -> Result<Field, AllocError> {
+    let name = Name::new_static_unchecked("y");
+    let longer = field.with_argument(name, value(alloc)?)?;
+    longer
+        .with_directive(directive(alloc)?)?
+        .with_selection(spread(alloc)?)
 }
 
 /// The fragment, built of its parts.
@@ -34,65 +57,76 @@ fn inline_of_parts(
     fresh.with_selections(inline.selection_set.selections.clone()?)
 }
 
-/// The spread, built of its parts.
-fn spread_of_parts(
+/// The fragment with one more of each part.
+fn longer_inline(alloc: Global, inline: InlineFragment) -> Result<InlineFragment, AllocError> {
+    inline
+        .with_directive(directive(alloc)?)?
+        .with_selection(spread(alloc)?)
+}
+
+/// The spread, built of its parts, with one more directive.
+fn longer_spread(
     alloc: Global,
     set: &SelectionSet,
     spread: &FragmentSpread,
 ) -> Result<FragmentSpread, AllocError> {
     let fresh = set.new_fragment_spread(alloc, spread.fragment_name.clone()?);
-    fresh.with_directives(spread.directives.0.clone()?)
+    let fresh = fresh.with_directives(spread.directives.0.clone()?)?;
+    fresh.with_directive(directive(alloc)?)
 }
 
-/// The selection, built of its parts.
-fn of_parts(
+/// Whether the second selection is the first one, a field built of its parts, with one more of each.
+fn field_is_longer(alloc: Global, one: &Selection, other: &Selection) -> Result<bool, AllocError> {
+    match (one, other) {
+        (Selection::Field(one), Selection::Field(other)) => equals(
+            other.content(),
+            longer_field(alloc, field_of_parts(alloc, one.content())?),
+        ),
+        _ => Ok(false),
+    }
+}
+
+/// The same of spreads.
+fn spread_is_longer(
     alloc: Global,
     set: &SelectionSet,
-    selection: &Selection,
-) -> Result<Selection, AllocError> {
-    match selection {
-        Selection::Field(node) => {
-            Ok(Selection::from(Node::new(alloc, field_of_parts(alloc, node.content())?)?))
+    one: &Selection,
+    other: &Selection,
+) -> Result<bool, AllocError> {
+    match (one, other) {
+        (Selection::FragmentSpread(one), Selection::FragmentSpread(other)) => {
+            equals(other.content(), longer_spread(alloc, set, one.content()))
         }
-        Selection::FragmentSpread(node) => Ok(Selection::from(Node::new(
-            alloc,
-            spread_of_parts(alloc, set, node.content())?,
-        )?)),
-        Selection::InlineFragment(node) => Ok(Selection::from(Node::new(
-            alloc,
-            inline_of_parts(alloc, set, node.content())?,
-        )?)),
+        _ => Ok(false),
     }
 }
 
-/// The set, built of its parts.
-fn set_of_parts(alloc: Global, set: &SelectionSet) -> Result<SelectionSet, AllocError> {
-    let mut fresh = SelectionSet::new(alloc, set.ty.clone()?);
-    for selection in &set.selections {
-        fresh.push(of_parts(alloc, set, selection)?)?;
-    }
-    Ok(fresh)
-}
-
-/// Each operation's set equals the one that is built of its parts.
-fn is_of_parts(
-    rt: &impl Abort,
+/// The same of inline fragments.
+fn inline_is_longer(
     alloc: Global,
-    document: &ExecutableDocument,
-) -> Result<(), AllocError> {
-    for operation in document.operations.iter() {
-        let set = &operation.content().selection_set;
-        let is_equal = equals(set, set_of_parts(alloc, set))?;
-        hold(rt, is_equal, "a set of the same parts");
+    set: &SelectionSet,
+    one: &Selection,
+    other: &Selection,
+) -> Result<bool, AllocError> {
+    match (one, other) {
+        (Selection::InlineFragment(one), Selection::InlineFragment(other)) => equals(
+            other.content(),
+            longer_inline(alloc, inline_of_parts(alloc, set, one.content())?),
+        ),
+        _ => Ok(false),
     }
-    Ok(())
 }
 
-#[test]
-fn builds_typed_selections(rt: HostRuntime) -> Result<(), Fail> {
-    let text = "{ z: a(x: 1, y: 2) @d @e { b } c ...F @d @e ... on T @d @e { b } ... { c } }";
-    match typed(rt.alloc(), text) {
-        Some(document) => Ok(is_of_parts(&rt, rt.alloc(), &document)?),
-        None => Err("no document")?,
+/// Whether each second selection of the set is the one before it, built of its parts, with one more of each.
+pub(crate) fn are_of_parts(alloc: Global, set: &SelectionSet) -> Result<bool, AllocError> {
+    match set.selections.as_slice() {
+        [field, more_field, spread, more_spread, inline, more_inline] => {
+            Ok(
+                field_is_longer(alloc, field, more_field)?
+                    && spread_is_longer(alloc, set, spread, more_spread)?
+                    && inline_is_longer(alloc, set, inline, more_inline)?,
+            )
+        }
+        _ => Ok(false),
     }
 }

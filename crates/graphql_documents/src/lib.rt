@@ -15,7 +15,6 @@ mod document;
 mod field;
 mod field_set;
 mod fragment_spread;
-pub mod laws;
 mod new_field_error;
 mod operation;
 mod selection_set;

@@ -15,7 +15,6 @@ pub type FragmentMap = IndexMap<Name, Node<Fragment>>;
 
 /// A document under a schema (section 2.2): its operations and its fragments, and the texts that it was read from, by the
 /// numbers of their files. Equality ignores these texts, places and the order of what has names.
-#[derive(Drop)]
 #[derive_where(PartialEq, Eq)]
 pub struct ExecutableDocument {
     #[derive_where(skip)]
@@ -24,14 +23,32 @@ pub struct ExecutableDocument {
     pub fragments: FragmentMap,
 }
 
+impl Drop for ExecutableDocument {
+    fn drop(self) {
+        let ExecutableDocument {
+            sources: _,
+            operations: _,
+            fragments: _,
+        } = self;
+    }
+}
+
 /// A selection set by itself, and the texts that it was read from, by the numbers of their files. Equality ignores these
 /// texts and places.
-#[derive(Drop)]
 #[derive_where(PartialEq, Eq)]
 pub struct FieldSet {
     #[derive_where(skip)]
     pub sources: IndexMap<FileId, SourceFile>,
     pub selection_set: SelectionSet,
+}
+
+impl Drop for FieldSet {
+    fn drop(self) {
+        let FieldSet {
+            sources: _,
+            selection_set: _,
+        } = self;
+    }
 }
 
 impl ExecutableDocument {

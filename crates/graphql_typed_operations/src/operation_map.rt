@@ -14,10 +14,19 @@ use indexmap::map::Values;
 use std::alloc::{AllocError, Global};
 
 /// The operation without a name, if there is one, and the others under their names, in order. Equality ignores the order.
-#[derive(PartialEq, Eq, Drop)]
+#[derive(PartialEq, Eq)]
 pub struct OperationMap {
     pub anonymous: Option<Node<Operation>>,
     pub named: IndexMap<Name, Node<Operation>>,
+}
+
+impl Drop for OperationMap {
+    fn drop(self) {
+        let OperationMap {
+            anonymous: _,
+            named: _,
+        } = self;
+    }
 }
 
 impl OperationMap {

@@ -10,8 +10,8 @@ ghost use Rattle.graphql_typed_selections.specs.TypedTree.{typed_selection_tree,
 ghost use Rattle.graphql_typed_selections.specs.TypedParts.{typed_head, typed_field_node, typed_spread_node, typed_inline_node};
 ghost use Rattle.graphql_typed_operations.specs.ToAst.{ast_selection, ast_set};
 
-use graphql_ast as ast;
 use graphql_names::{Node, copies_of_four, copies_of_two};
+use graphql_operations as ast;
 use graphql_typed_selections::{Field, FragmentSpread, InlineFragment, Selection, SelectionSet};
 use std::alloc::{AllocError, Global};
 

@@ -15,9 +15,14 @@ use std::alloc::{AllocError, Global};
 /// then one fragment's after the other's, those of each in the order of the text. A spread of a fragment that the
 /// document does not have is passed over. An item is an error where memory is refused; after that, and after the end,
 /// nothing is lent any more.
-#[derive(Drop)]
 pub struct AllFields<'doc> {
     lending: Lending<'doc>,
+}
+
+impl Drop for AllFields<'_> {
+    fn drop(self) {
+        let AllFields { lending: _ } = self;
+    }
 }
 
 impl<'doc> AllFields<'doc> {
@@ -50,9 +55,14 @@ impl<'doc> Iterator for AllFields<'doc> {
 
 /// Lends each field of a selection set that stands in no other field, and each of every fragment that the set reaches
 /// through such selections, in the order and with the answers of [`AllFields`].
-#[derive(Drop)]
 pub struct RootFields<'doc> {
     lending: Lending<'doc>,
+}
+
+impl Drop for RootFields<'_> {
+    fn drop(self) {
+        let RootFields { lending: _ } = self;
+    }
 }
 
 impl<'doc> RootFields<'doc> {

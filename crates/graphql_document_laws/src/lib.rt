@@ -1,4 +1,9 @@
-//! What follows of building and writing together.
+//! What follows of building a document and writing it together.
+//!
+//! For the layers above: the law names the kept document of `specs/KeptDocument.antt`, the faults of
+//! `specs/TypingFaults.antt` and what is written by `specs/OutDoc.antt`, all of `graphql_typing`.
+#![tactic(auto)]
+
 ghost use Rattle.std.specs.Prelude.{◌≡◌, ◌↔◌, [], IfOk, Contains};
 ghost use Rattle.graphql_definitions.specs.DefinitionTree.{document_tree};
 ghost use Rattle.graphql_typing.specs.KeptDocument.{kept_document};
