@@ -8,38 +8,20 @@ use graphql_read::parse_document;
 use graphql_row_files::{Answer, Case, Problem, Tally, Way, answer_of, compare, texts, whole};
 use std::alloc::{AllocError, Global};
 
-/// Judges the row: each of its inputs, under each layout.
+/// The layouts, by their words.
+const LAYOUTS: [&str; 4] = ["line", "two", "four", "tab"];
+
+/// Judges the row: each of its inputs, under each layout. On one line it is to print the row's `flat`, or itself where
+/// there is none.
 pub fn by_layouts(alloc: Global, case: Case<'_>, tally: &mut Tally) -> Result<(), Problem> {
     let flat = texts(alloc, case.row, "flat")?;
-    by_inputs(alloc, case, &flat, tally)
-}
-
-/// Judges each input of the row. On one line it is to print the first of the texts, or itself where there is none.
-fn by_inputs(
-    alloc: Global,
-    case: Case<'_>,
-    flat: &[Vec<u8>],
-    tally: &mut Tally,
-) -> Result<(), Problem> {
     for input in &texts(alloc, case.row, "input")? {
-        let flat = flat.first().unwrap_or(input).as_slice();
-        each_layout(alloc, case, flat, input.as_slice(), tally)?;
+        let flat = flat.first().unwrap_or(input);
+        for layout in &LAYOUTS {
+            by_layout(alloc, case, layout, flat, input, tally)?;
+        }
     }
     Ok(())
-}
-
-/// Judges the input under each layout.
-fn each_layout(
-    alloc: Global,
-    case: Case<'_>,
-    flat: &[u8],
-    input: &[u8],
-    tally: &mut Tally,
-) -> Result<(), Problem> {
-    by_layout(alloc, case, "line", flat, input, tally)?;
-    by_layout(alloc, case, "two", flat, input, tally)?;
-    by_layout(alloc, case, "four", flat, input, tally)?;
-    by_layout(alloc, case, "tab", flat, input, tally)
 }
 
 /// Judges the input under a layout. The row tells what is printed on one line and under two spaces.
@@ -51,8 +33,7 @@ fn by_layout(
     input: &[u8],
     tally: &mut Tally,
 ) -> Result<(), Problem> {
-    let form = form_named(layout).unwrap_or(Form::Unsaid);
-    let answer = answer_under(alloc, text_of(case, input)?, form)?;
+    let answer = answer_under(alloc, text_of(case, input)?, layout)?;
     let out = match layout {
         "line" => flat,
         "two" => case.out,
@@ -68,7 +49,8 @@ fn by_layout(
 }
 
 /// What is printed of the text under the layout, and whether that reads as it was and is printed alike.
-fn answer_under(alloc: Global, text: &str, form: Form) -> Result<Answer, AllocError> {
+fn answer_under(alloc: Global, text: &str, layout: &str) -> Result<Answer, AllocError> {
+    let form = form_named(layout).unwrap_or(Form::Unsaid);
     match parse_document(alloc, text, FileId(1), usize::MAX) {
         Ok(document) => printed_answer(alloc, &document, form),
         Err(_) => answer_of(alloc, "1 the input is not read", ""),
@@ -77,36 +59,24 @@ fn answer_under(alloc: Global, text: &str, form: Form) -> Result<Answer, AllocEr
 
 /// What is printed of the document, and whether that reads as it and is printed alike.
 fn printed_answer(alloc: Global, document: &Document, form: Form) -> Result<Answer, AllocError> {
-    let printed = laid_out(document, (form, 0)).to_string(alloc)?;
-    let status = read_again(alloc, document, form, &printed)?;
-    answer_of(alloc, status, &printed)
+    let printed = laid_out(document, form, 0).to_string(alloc)?;
+    answer_of(alloc, read_again(alloc, document, form, &printed), &printed)
 }
 
 /// Whether what is printed of the document reads as it, places aside, and is printed alike.
-fn read_again(
-    alloc: Global,
-    document: &Document,
-    form: Form,
-    printed: &str,
-) -> Result<&'static str, AllocError> {
+fn read_again(alloc: Global, document: &Document, form: Form, printed: &str) -> &'static str {
     match parse_document(alloc, printed, FileId(2), usize::MAX) {
         Ok(again) if again == *document => printed_twice(alloc, &again, form, printed),
-        Ok(_) => Ok("1 what is printed reads as another document"),
-        Err(_) => Ok("1 what is printed is not read"),
+        Ok(_) => "1 what is printed reads as another document",
+        Err(_) => "1 what is printed is not read",
     }
 }
 
 /// Whether the document that was read again is printed alike.
-fn printed_twice(
-    alloc: Global,
-    again: &Document,
-    form: Form,
-    printed: &str,
-) -> Result<&'static str, AllocError> {
-    let twice = laid_out(again, (form, 0)).to_string(alloc)?;
-    if twice.as_str() == printed {
-        Ok("0")
-    } else {
-        Ok("1 what was read again is printed otherwise")
+fn printed_twice(alloc: Global, again: &Document, form: Form, printed: &str) -> &'static str {
+    match laid_out(again, form, 0).to_string(alloc) {
+        Ok(twice) if twice.as_str() == printed => "0",
+        Ok(_) => "1 what was read again is printed otherwise",
+        Err(_) => "4 out of memory",
     }
 }

@@ -18,14 +18,13 @@ pub(crate) enum Form {
     Prefix(&'static str),
 }
 
-/// The row's layout and level.
-fn form_of(case: Case<'_>) -> Result<(Form, usize), Problem> {
-    let level = number(case.row, "level", 0)?;
+/// The row's layout.
+fn form_of(case: Case<'_>) -> Result<Form, Problem> {
     let Some(layout) = case.row.one("layout")? else {
-        return Ok((Form::Unsaid, level));
+        return Ok(Form::Unsaid);
     };
     match form_named(layout.value) {
-        Some(form) => Ok((form, level)),
+        Some(form) => Ok(form),
         None => Err(layout.problem("there is no such layout")),
     }
 }
@@ -44,45 +43,40 @@ pub(crate) fn form_named(word: &str) -> Option<Form> {
     Some(Form::Prefix(prefix))
 }
 
-/// The tree under its layout.
-pub(crate) fn laid_out<'a, T: Tree>(tree: &'a T, form: (Form, usize)) -> Serialize<'a, T> {
-    let layout = tree.serialize().initial_indent_level(form.1);
-    match form.0 {
+/// The tree under its layout, from this level on.
+pub(crate) fn laid_out<'a, T: Tree>(tree: &'a T, form: Form, level: usize) -> Serialize<'a, T> {
+    let layout = tree.serialize().initial_indent_level(level);
+    match form {
         Form::Unsaid => layout,
         Form::OneLine => layout.no_indent(),
         Form::Prefix(prefix) => layout.indent_prefix(prefix),
     }
 }
 
-/// A tree that rows name.
-pub(crate) trait Named: Tree {
-    /// Its `is_writable`.
-    fn writable(&self) -> bool;
-}
-
-/// Judges what the row asks of this tree: what is printed of it under the layout, or whether it is writable.
-pub(crate) fn by_tree<T: Named>(
-    alloc: Global,
-    case: Case<'_>,
-    tree: &T,
-    form: Option<(Form, usize)>,
-    tally: &mut Tally,
-) -> Result<(), Problem> {
-    match form {
-        Some(form) => prints(alloc, case, tree, form, tally),
-        None => tells_writable(alloc, case, tree.writable(), tally),
-    }
-}
-
 /// Judges the row: what is printed of its tree, by `Display`, and by `write_to` by each of its plans.
 pub fn by_print(alloc: Global, case: Case<'_>, tally: &mut Tally) -> Result<(), Problem> {
-    let form = form_of(case)?;
-    by_name(alloc, case, Some(form), tally)
+    by_name(alloc, case, true, tally)
 }
 
 /// Judges the row: whether its tree is writable.
 pub fn by_writable(alloc: Global, case: Case<'_>, tally: &mut Tally) -> Result<(), Problem> {
-    by_name(alloc, case, None, tally)
+    by_name(alloc, case, false, tally)
+}
+
+/// Judges what the row asks of this tree: what is printed of it, or whether it is writable.
+pub(crate) fn by_tree<T: Tree>(
+    alloc: Global,
+    case: Case<'_>,
+    is_print: bool,
+    tree: &T,
+    is_writable: bool,
+    tally: &mut Tally,
+) -> Result<(), Problem> {
+    if is_print {
+        prints(alloc, case, tree, tally)
+    } else {
+        tells_writable(alloc, case, is_writable, tally)
+    }
 }
 
 /// The answer whether a tree is writable.
@@ -101,40 +95,33 @@ fn tells_writable(
     compare(alloc, case, way_of("is_writable", whole()), &answer, tally)
 }
 
-/// Judges what is printed of the tree.
+/// Judges what is printed of the tree under the row's layout.
 fn prints<T: Tree>(
     alloc: Global,
     case: Case<'_>,
     tree: &T,
-    form: (Form, usize),
     tally: &mut Tally,
 ) -> Result<(), Problem> {
-    displays(alloc, case, tree, form, tally)?;
+    let shown = laid_out(tree, form_of(case)?, number(case.row, "level", 0)?);
+    if case.status == "0" {
+        displays(alloc, case, shown, tally)?;
+    }
     for plan in &plans_of(alloc, case)? {
-        write_answer(alloc, case, tree, form, *plan, tally)?;
+        writes(alloc, case, shown, *plan, tally)?;
     }
     Ok(())
 }
 
-/// The text by `Display`, where it comes to its end.
+/// Judges the text by `Display`.
 fn displays<T: Tree>(
     alloc: Global,
     case: Case<'_>,
-    tree: &T,
-    form: (Form, usize),
+    shown: Serialize<'_, T>,
     tally: &mut Tally,
 ) -> Result<(), Problem> {
-    if case.status != "0" {
-        return Ok(());
-    }
-    let answer = shown_answer(alloc, "0", &laid_out(tree, form))?;
-    compare(
-        alloc,
-        case,
-        way_of("print by Display", whole()),
-        &answer,
-        tally,
-    )
+    let answer = shown_answer(alloc, "0", &shown)?;
+    let way = way_of("print by Display", whole());
+    compare(alloc, case, way, &answer, tally)
 }
 
 /// The way of a print.
@@ -147,48 +134,41 @@ fn way_of(call: &str, plan: Plan) -> Way<'_> {
     }
 }
 
-/// The answer by this plan.
-fn write_answer<T: Tree>(
+/// Judges the text by `write_to`, by this plan.
+fn writes<T: Tree>(
     alloc: Global,
     case: Case<'_>,
-    tree: &T,
-    form: (Form, usize),
+    shown: Serialize<'_, T>,
     plan: Plan,
     tally: &mut Tally,
 ) -> Result<(), Problem> {
-    let mut out = Vec::new(alloc);
-    let status = written(alloc, tree, form, plan, &mut out)?;
-    let answer = Answer { status, out };
-    compare_cut(
-        alloc,
-        case,
-        way_of("print by write_to", plan),
-        &answer,
-        tally,
-    )
+    let mut answer = answer_of(alloc, "", "")?;
+    write_by(shown, plan, &mut answer)?;
+    let way = way_of("print by write_to", plan);
+    compare_cut(alloc, case, way, &answer, tally)
 }
 
-/// The status of `write_to` by the plan, with its output behind `out`.
-fn written<T: Tree>(
-    alloc: Global,
-    tree: &T,
-    form: (Form, usize),
+/// Writes the text by the plan, and adds the status of that.
+fn write_by<T: Tree>(
+    shown: Serialize<'_, T>,
     plan: Plan,
-    out: &mut Vec<u8>,
-) -> Result<String, AllocError> {
-    let mut writer = device(out, plan, plan.write);
-    let answer = laid_out(tree, form).write_to(&mut writer);
-    if writer.failed() != answer.is_err() {
-        return String::from_str(alloc, "the device tells otherwise than the answer");
+    answer: &mut Answer,
+) -> Result<(), AllocError> {
+    let mut writer = device(&mut answer.out, plan, plan.write);
+    let written = shown.write_to(&mut writer);
+    if writer.failed() != written.is_err() {
+        return answer
+            .status
+            .push_str("the device tells otherwise than the answer");
     }
-    match answer {
-        Ok(()) => String::from_str(alloc, "0"),
+    match written {
+        Ok(()) => answer.status.push_str("0"),
         Err(
             WriteFault {
                 cause: Cause::Writer,
                 out,
             },
-        ) => format!(in alloc; "3 output failed {out}"),
-        Err(WriteFault { out, .. }) => format!(in alloc; "3 too long {out}"),
+        ) => write!(answer.status, "3 output failed {out}"),
+        Err(WriteFault { out, .. }) => write!(answer.status, "3 too long {out}"),
     }
 }

@@ -6,8 +6,7 @@ use graphql_names::FileId;
 use graphql_operations::Selection;
 use graphql_printing::Tree;
 use graphql_read::{
-    NextToken, ReadFault, SyntaxFaultKind, Token, next_token, parse_document, parse_selections,
-    parse_type,
+    NextToken, ReadFault, SyntaxFaultKind, next_token, parse_document, parse_selections, parse_type,
 };
 use graphql_row_files::{
     Answer, Case, Problem, Tally, Way, answer_of, compare, numbers, texts, whole,
@@ -21,50 +20,34 @@ pub fn by_read(
     call: &str,
     tally: &mut Tally,
 ) -> Result<(), Problem> {
-    for nesting in numbers(alloc, case.row, "nesting", 500)? {
-        by_inputs(alloc, case, call, nesting, tally)?;
-    }
-    Ok(())
-}
-
-/// Judges each input of the row.
-fn by_inputs(
-    alloc: Global,
-    case: Case<'_>,
-    call: &str,
-    nesting: usize,
-    tally: &mut Tally,
-) -> Result<(), Problem> {
-    for input in &texts(alloc, case.row, "input")? {
-        let way = Way {
-            call,
-            document: input.as_slice(),
-            nesting,
-            plan: whole(),
-        };
-        by_input(alloc, case, way, tally)?;
-    }
-    Ok(())
-}
-
-/// Judges the answer to an input, which must be UTF-8.
-fn by_input(alloc: Global, case: Case<'_>, way: Way<'_>, tally: &mut Tally) -> Result<(), Problem> {
-    let text = text_of(case, way.document)?;
-    let answer = answer_by(alloc, way.call, text, way.nesting)?;
-    compare(alloc, as_it_stands(case, way.document), way, &answer, tally)
-}
-
-/// What the row wants, where the output may be the input as it stands.
-fn as_it_stands<'a>(case: Case<'a>, input: &'a [u8]) -> Case<'a> {
-    if case.status == "0 as it stands" {
-        Case {
-            status: "0",
-            out: input,
-            ..case
+    let inputs = texts(alloc, case.row, "input")?;
+    for nesting in &numbers(alloc, case.row, "nesting", 500)? {
+        for input in &inputs {
+            let way = Way {
+                call,
+                document: input.as_slice(),
+                nesting: *nesting,
+                plan: whole(),
+            };
+            by_input(alloc, case, way, tally)?;
         }
-    } else {
-        case
     }
+    Ok(())
+}
+
+/// Judges the answer to an input, which must be UTF-8. The output that is wanted may be the input as it stands.
+fn by_input(alloc: Global, case: Case<'_>, way: Way<'_>, tally: &mut Tally) -> Result<(), Problem> {
+    let answer = answer_by(alloc, way.call, text_of(case, way.document)?, way.nesting)?;
+    if case.status == "0 as it stands" {
+        let (status, out) = ("0", way.document);
+        let wanted = Case {
+            status,
+            out,
+            ..case
+        };
+        return compare(alloc, wanted, way, &answer, tally);
+    }
+    compare(alloc, case, way, &answer, tally)
 }
 
 /// The answer of the call.
@@ -105,31 +88,25 @@ fn selections_answer(alloc: Global, text: &str, nesting: usize) -> Result<Answer
 fn printed_selections(alloc: Global, selections: &[Selection]) -> Result<Answer, AllocError> {
     let mut lines = String::new(alloc);
     for selection in selections {
-        push_selection(alloc, &mut lines, selection)?;
+        write!(lines, "{}\n", selection.serialize().no_indent())?;
     }
     answer_of(alloc, "0", &lines)
 }
 
-/// Adds the selection and a line feed.
-fn push_selection(
-    alloc: Global,
-    lines: &mut String,
-    selection: &Selection,
-) -> Result<(), AllocError> {
-    let printed = selection.serialize().no_indent().to_string(alloc)?;
-    lines.push_str(&printed)?;
-    lines.push('\n')
-}
-
 /// A fault and its place.
 fn fault_answer(alloc: Global, fault: ReadFault) -> Result<Answer, AllocError> {
-    let (words, offset) = match fault {
-        ReadFault::Syntax(fault) => (kind_words(fault.kind), fault.offset),
-        ReadFault::Nesting { offset } => ("nesting", offset),
-        ReadFault::Memory => return answer_of(alloc, "4 out of memory", ""),
-    };
-    let status = format!(in alloc; "1 {words} {offset}")?;
-    answer_of(alloc, &status, "")
+    match fault {
+        ReadFault::Syntax(fault) => told_fault(alloc, kind_words(fault.kind), fault.offset),
+        ReadFault::Nesting { offset } => told_fault(alloc, "nesting", offset),
+        ReadFault::Memory => answer_of(alloc, "4 out of memory", ""),
+    }
+}
+
+/// These words and a place.
+fn told_fault(alloc: Global, words: &str, offset: usize) -> Result<Answer, AllocError> {
+    let mut answer = answer_of(alloc, "", "")?;
+    write!(answer.status, "1 {words} {offset}")?;
+    Ok(answer)
 }
 
 /// A fault of the tokens in words.
@@ -141,31 +118,25 @@ fn kind_words(kind: SyntaxFaultKind) -> &'static str {
     }
 }
 
-/// Each token of the text on a line of its own, up to the end or to where none starts.
+/// Each token of the text on a line of its own, up to the end or to where none starts, and the place of that.
 fn tokens_answer(alloc: Global, text: &str) -> Result<Answer, AllocError> {
     let mut lines = String::new(alloc);
-    let end = push_tokens(alloc, &mut lines, text)?;
-    end_answer(alloc, end, &lines)
-}
-
-/// The answer of these lines and what stands behind them: nothing, or at this offset no token.
-fn end_answer(alloc: Global, end: Option<usize>, lines: &str) -> Result<Answer, AllocError> {
+    let end = push_tokens(text, &mut lines)?;
+    let mut answer = answer_of(alloc, "", &lines)?;
     match end {
-        None => answer_of(alloc, "0", lines),
-        Some(offset) => {
-            let status = format!(in alloc; "1 no token {offset}")?;
-            answer_of(alloc, &status, lines)
-        }
+        None => answer.status.push_str("0")?,
+        Some(offset) => write!(answer.status, "1 no token {offset}")?,
     }
+    Ok(answer)
 }
 
-/// Adds each token, up to the end or to the offset at which none starts.
-fn push_tokens(alloc: Global, lines: &mut String, text: &str) -> Result<Option<usize>, AllocError> {
+/// Adds the offset, the kind and the text of each token, up to the end or to the offset at which none starts.
+fn push_tokens(text: &str, lines: &mut String) -> Result<Option<usize>, AllocError> {
     let mut at = 0;
     for _ in 0..=text.len() {
         match token_at(text, at) {
             NextToken::Token(token) => {
-                push_token(alloc, lines, token)?;
+                write!(lines, "{} {:?} {}\n", token.offset, token.kind, token.text)?;
                 at = token.offset.saturating_add(token.text.len());
             }
             NextToken::End => return Ok(None),
@@ -182,13 +153,4 @@ fn token_at(text: &str, at: usize) -> NextToken<'_> {
     } else {
         NextToken::NoToken(at)
     }
-}
-
-/// Adds the token's offset, its kind and its text.
-fn push_token(alloc: Global, lines: &mut String, token: Token<'_>) -> Result<(), AllocError> {
-    let offset = token.offset;
-    let kind = token.kind;
-    let text = token.text;
-    let line = format!(in alloc; "{offset} {kind:?} {text}\n")?;
-    lines.push_str(&line)
 }

@@ -92,68 +92,45 @@ pub fn compare(
     }
     tally.differences = tally.differences.saturating_add(1);
     if tally.told.is_empty() {
-        tell(alloc, case, way, answer, &mut tally.told)?;
+        tally.told = difference(alloc, case, way, answer)?;
     }
     Ok(())
 }
 
-/// Tells a difference.
-fn tell(
+/// What tells of a difference: which row it is, in which way it was run, what was wanted and what came.
+fn difference(
     alloc: Global,
     case: Case<'_>,
     way: Way<'_>,
     answer: &Answer,
-    told: &mut String,
-) -> Result<(), AllocError> {
-    tell_row(alloc, case, told)?;
-    tell_way(alloc, way, told)?;
-    tell_plan(alloc, way.plan, told)?;
-    tell_answer(alloc, "wanted", case.status, case.out, told)?;
-    tell_answer(
-        alloc,
-        "got",
-        answer.status.as_str(),
-        answer.out.as_slice(),
+) -> Result<String, AllocError> {
+    let head = case.row.head;
+    let mut told = format!(in alloc; "{}:{}: {}\n", case.file, head.line, head.value)?;
+    tell_way(way, &mut told)?;
+    tell_answer("wanted", case.status, case.out, &mut told)?;
+    let status = answer.status.as_str();
+    tell_answer("got", status, answer.out.as_slice(), &mut told)?;
+    Ok(told)
+}
+
+/// Tells in which way it was run, and where devices end.
+fn tell_way(way: Way<'_>, told: &mut String) -> Result<(), AllocError> {
+    let plan = way.plan;
+    write!(
         told,
+        "  {}, nesting {}, document `{}`\n",
+        way.call,
+        way.nesting,
+        way.document.escape_ascii()
+    )?;
+    write!(
+        told,
+        "  {} bytes a call, text {} ends after {}, output after {}\n",
+        plan.step, plan.text, plan.read, plan.write
     )
 }
 
-/// Tells which row it is.
-fn tell_row(alloc: Global, case: Case<'_>, told: &mut String) -> Result<(), AllocError> {
-    let file = case.file;
-    let line = case.row.head.line;
-    let name = case.row.head.value;
-    told.push_str(&format!(in alloc; "{file}:{line}: {name}\n")?)
-}
-
-/// Tells in which way it was run.
-fn tell_way(alloc: Global, way: Way<'_>, told: &mut String) -> Result<(), AllocError> {
-    let call = way.call;
-    let nesting = way.nesting;
-    let document = way.document.escape_ascii();
-    told.push_str(&format!(in alloc; "  {call}, nesting {nesting}, document `{document}`\n")?)
-}
-
-/// Tells where devices end.
-fn tell_plan(alloc: Global, plan: Plan, told: &mut String) -> Result<(), AllocError> {
-    let step = plan.step;
-    let text = plan.text;
-    let read = plan.read;
-    let write = plan.write;
-    let line = format!(in alloc;
-        "  {step} bytes a call, text {text} ends after {read}, output after {write}\n"
-    )?;
-    told.push_str(&line)
-}
-
 /// Tells an answer.
-fn tell_answer(
-    alloc: Global,
-    word: &str,
-    status: &str,
-    out: &[u8],
-    told: &mut String,
-) -> Result<(), AllocError> {
-    let bytes = out.escape_ascii();
-    told.push_str(&format!(in alloc; "  {word}: {status} `{bytes}`\n")?)
+fn tell_answer(word: &str, status: &str, out: &[u8], told: &mut String) -> Result<(), AllocError> {
+    write!(told, "  {word}: {status} `{}`\n", out.escape_ascii())
 }

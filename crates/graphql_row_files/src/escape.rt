@@ -17,15 +17,20 @@ enum Escape {
     Digit(u8),
 }
 
-/// The bytes that the value of a field stands for: `\n` is LF, `\r` CR, `\t` a tab, `\\` a backslash, `\xNN` the
-/// byte of these two hexadecimal digits, and every other byte stands for itself.
+/// The bytes that the value of a field stands for.
 pub fn bytes_of(alloc: Global, field: Field<'_>) -> Result<Vec<u8>, Problem> {
     let mut bytes = Vec::new(alloc);
+    push_bytes(field, &mut bytes)?;
+    Ok(bytes)
+}
+
+/// Adds the bytes that the value of a field stands for: `\n` is LF, `\r` CR, `\t` a tab, `\\` a backslash, `\xNN` the
+/// byte of these two hexadecimal digits, and every other byte stands for itself.
+pub(crate) fn push_bytes(field: Field<'_>, bytes: &mut Vec<u8>) -> Result<(), Problem> {
     let mut escape = Escape::Outside;
     for byte in field.value.bytes() {
-        let (next, given) = match step(escape, byte) {
-            Some(taken) => taken,
-            None => return Err(field.problem("an escape is wrong")),
+        let Some((next, given)) = step(escape, byte) else {
+            return Err(field.problem("an escape is wrong"));
         };
         escape = next;
         if let Some(given) = given {
@@ -33,7 +38,7 @@ pub fn bytes_of(alloc: Global, field: Field<'_>) -> Result<Vec<u8>, Problem> {
         }
     }
     match escape {
-        Escape::Outside => Ok(bytes),
+        Escape::Outside => Ok(()),
         _ => Err(field.problem("an escape is cut")),
     }
 }

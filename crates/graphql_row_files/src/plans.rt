@@ -10,34 +10,18 @@ use std::alloc::{AllocError, Global};
 /// output does, and where the row says `write: each` also after each smaller number of bytes.
 pub fn plans_of(alloc: Global, case: Case<'_>) -> Result<Vec<Plan>, Problem> {
     let text = number(case.row, "behind", usize::MAX)?;
-    let least = least_write(case)?;
-    let mut list = Vec::new(alloc);
-    push_plans(alloc, case, &mut list, Plan { text, ..whole() }, least)?;
-    Ok(list)
-}
-
-/// The least number of bytes after which the writer ends.
-fn least_write(case: Case<'_>) -> Result<usize, Problem> {
     let is_each = says(case.row, "write", "each")?;
-    Ok(if is_each { 0 } else { case.out.len() })
-}
-
-/// Adds the plan at each of the row's numbers of bytes a call.
-fn push_plans(
-    alloc: Global,
-    case: Case<'_>,
-    list: &mut Vec<Plan>,
-    plan: Plan,
-    least: usize,
-) -> Result<(), Problem> {
+    let least = if is_each { 0 } else { case.out.len() };
+    let mut list = Vec::new(alloc);
     for step in &numbers(alloc, case.row, "step", usize::MAX)? {
         let plan = Plan {
+            text,
             step: *step,
-            ..plan
+            ..whole()
         };
-        push_cuts(list, plan, least, case.out.len())?;
+        push_cuts(&mut list, plan, least, case.out.len())?;
     }
-    Ok(())
+    Ok(list)
 }
 
 /// Adds the plan with each ending, and with a writer that ends after each number of bytes from the least to the most.
@@ -68,23 +52,22 @@ pub fn compare_cut(
     tally: &mut Tally,
 ) -> Result<(), Problem> {
     let write = way.plan.write;
-    let Some(out) = case.out.get(..write) else {
-        return compare(alloc, case, way, answer, tally);
-    };
-    if out.len() == case.out.len() {
-        return compare(alloc, case, way, answer, tally);
+    match case.out.get(..write) {
+        Some(out) if out.len() < case.out.len() => {
+            let status = format!(in alloc; "3 output failed {write}")?;
+            let status = status.as_str();
+            compare(
+                alloc,
+                Case {
+                    status,
+                    out,
+                    ..case
+                },
+                way,
+                answer,
+                tally,
+            )
+        }
+        _ => compare(alloc, case, way, answer, tally),
     }
-    let status = format!(in alloc; "3 output failed {write}")?;
-    let status = status.as_str();
-    compare(
-        alloc,
-        Case {
-            status,
-            out,
-            ..case
-        },
-        way,
-        answer,
-        tally,
-    )
 }

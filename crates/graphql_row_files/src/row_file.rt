@@ -1,7 +1,7 @@
 //! Row files: lines, and the rows that they make.
 
 use crate::problem::Problem;
-use std::alloc::{AllocError, Global};
+use std::alloc::Global;
 
 /// A line of a row file: `name: value`.
 #[derive(Clone, Copy)]
@@ -79,21 +79,28 @@ pub struct Row<'a> {
 }
 
 impl<'a> Row<'a> {
-    /// The fields of this name: the row's own, and where it has none those in common.
-    pub fn all(self, alloc: Global, name: &str) -> Result<Vec<Field<'a>>, AllocError> {
-        let own = named(alloc, self.own, name)?;
-        if own.is_empty() {
-            return named(alloc, self.common, name);
+    /// The fields among which those of this name stand: the row's own, and where none of these has it those in common.
+    pub fn part(self, name: &str) -> &'a [Field<'a>] {
+        for field in self.own {
+            if field.name == name {
+                return self.own;
+            }
         }
-        Ok(own)
+        self.common
     }
 
     /// The one field of this name, if there is one.
     pub fn one(self, name: &str) -> Result<Option<Field<'a>>, Problem> {
-        match only(self.own, name)? {
-            Some(field) => Ok(Some(field)),
-            None => only(self.common, name),
+        let mut found = None;
+        for field in self.part(name) {
+            if field.name == name {
+                if found.is_some() {
+                    return Err(field.problem("the field stands there already"));
+                }
+                found = Some(*field);
+            }
         }
+        Ok(found)
     }
 
     /// The one field of this name, which must be there.
@@ -103,35 +110,6 @@ impl<'a> Row<'a> {
             None => Err(self.head.problem("the row lacks a field")),
         }
     }
-}
-
-/// The fields of this name.
-fn named<'a>(
-    alloc: Global,
-    fields: &'a [Field<'a>],
-    name: &str,
-) -> Result<Vec<Field<'a>>, AllocError> {
-    let mut found = Vec::new(alloc);
-    for field in fields {
-        if field.name == name {
-            found.push(*field)?;
-        }
-    }
-    Ok(found)
-}
-
-/// The one field of this name, if there is one.
-fn only<'a>(fields: &'a [Field<'a>], name: &str) -> Result<Option<Field<'a>>, Problem> {
-    let mut found = None;
-    for field in fields {
-        if field.name == name {
-            if found.is_some() {
-                return Err(field.problem("the field stands there already"));
-            }
-            found = Some(*field);
-        }
-    }
-    Ok(found)
 }
 
 /// The rows of a file, in order.

@@ -1,6 +1,6 @@
 //! Numbers and texts in rows.
 
-use crate::escape::bytes_of;
+use crate::escape::{bytes_of, push_bytes};
 use crate::problem::Problem;
 use crate::row_file::{Field, Row};
 use std::alloc::Global;
@@ -59,8 +59,10 @@ pub fn says(row: Row<'_>, name: &str, word: &str) -> Result<bool, Problem> {
 /// The texts of the fields of this name.
 pub fn texts(alloc: Global, row: Row<'_>, name: &str) -> Result<Vec<Vec<u8>>, Problem> {
     let mut list = Vec::new(alloc);
-    for field in &row.all(alloc, name)? {
-        list.push(bytes_of(alloc, *field)?)?;
+    for field in row.part(name) {
+        if field.name == name {
+            list.push(bytes_of(alloc, *field)?)?;
+        }
     }
     Ok(list)
 }
@@ -69,22 +71,12 @@ pub fn texts(alloc: Global, row: Row<'_>, name: &str) -> Result<Vec<Vec<u8>>, Pr
 pub fn output(alloc: Global, row: Row<'_>) -> Result<Vec<u8>, Problem> {
     let mut out = Vec::new(alloc);
     for field in row.own {
-        match field.name {
-            "line" => push_line(alloc, &mut out, *field)?,
-            "text" => push_text(alloc, &mut out, *field)?,
-            _ => {}
+        if field.name == "line" || field.name == "text" {
+            push_bytes(*field, &mut out)?;
+        }
+        if field.name == "line" {
+            out.push(b'\n')?;
         }
     }
     Ok(out)
-}
-
-/// Adds the bytes of the field.
-fn push_text(alloc: Global, out: &mut Vec<u8>, field: Field<'_>) -> Result<(), Problem> {
-    Ok(out.extend_from_slice(&bytes_of(alloc, field)?)?)
-}
-
-/// Adds the bytes of the field and an LF.
-fn push_line(alloc: Global, out: &mut Vec<u8>, field: Field<'_>) -> Result<(), Problem> {
-    push_text(alloc, out, field)?;
-    Ok(out.push(b'\n')?)
 }

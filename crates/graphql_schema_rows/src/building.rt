@@ -4,7 +4,7 @@ use graphql_names::FileId;
 use graphql_read_rows::document_of;
 use graphql_row_files::{Case, Problem, number, says, texts};
 use graphql_schema::{BuilderRefusal, Extensions, Schema, SchemaBuilder};
-use std::alloc::Global;
+use std::alloc::{AllocError, Global};
 
 /// A builder with the row's settings.
 pub(crate) fn builder_of(alloc: Global, case: Case<'_>) -> Result<SchemaBuilder, Problem> {
@@ -42,50 +42,61 @@ fn ignoring(builder: SchemaBuilder, is_so: bool) -> SchemaBuilder {
     }
 }
 
-/// Adds the row's schema texts, numbered from 1, which must be read: the status of a builder that refuses, or nothing.
+/// The status of a builder that refuses a text, or nothing.
+pub(crate) type Added = Result<Option<&'static str>, Problem>;
+
+/// Adds the row's schema texts, numbered from 1, which must be read, and tells the names that then have an extension and
+/// no definition.
 pub(crate) fn add_texts(
     alloc: Global,
     case: Case<'_>,
     builder: &mut SchemaBuilder,
-) -> Result<Option<&'static str>, Problem> {
+    orphans: &mut String,
+) -> Added {
     let mut file = 1;
     for text in &texts(alloc, case.row, "schema")? {
-        let refusal = add_text(alloc, case, text.as_slice(), FileId(file), builder)?;
+        let refusal = add_text(alloc, case, text, FileId(file), builder)?;
         if refusal.is_some() {
             return Ok(refusal);
         }
         file = file.wrapping_add(1);
     }
+    push_orphans(builder, orphans)?;
     Ok(None)
 }
 
-/// Adds a schema text: the status of a builder that refuses it, or nothing.
+/// Adds a schema text.
 fn add_text(
     alloc: Global,
     case: Case<'_>,
     text: &[u8],
     file: FileId,
     builder: &mut SchemaBuilder,
-) -> Result<Option<&'static str>, Problem> {
-    let document = document_of(alloc, case, text, file)?;
-    match builder.add_ast(&document) {
-        Ok(()) => Ok(None),
-        Err(refusal) => Ok(Some(refusal_words(refusal))),
+) -> Added {
+    match document_of(alloc, case, text, file) {
+        Ok(document) => Ok(refusal_of(builder.add_ast(&document))),
+        Err(problem) => Err(problem),
     }
 }
 
 /// The schema of the row's texts, whatever its faults are.
-pub(crate) fn built(alloc: Global, case: Case<'_>) -> Result<Schema, Problem> {
+pub fn built(alloc: Global, case: Case<'_>) -> Result<Schema, Problem> {
+    let mut orphans = String::new(alloc);
     let mut builder = builder_of(alloc, case)?;
-    add_texts(alloc, case, &mut builder)?;
-    schema_of(case, builder)
-}
-
-/// The schema that the builder builds, which builds none where it has refused a text.
-fn schema_of(case: Case<'_>, builder: SchemaBuilder) -> Result<Schema, Problem> {
-    match builder.build() {
+    let added = add_texts(alloc, case, &mut builder, &mut orphans);
+    let built = builder.build();
+    added?;
+    match built {
         Ok(built) => Ok(built.0),
         Err(_) => Err(case.row.head.problem("the texts build no schema")),
+    }
+}
+
+/// Why a builder refuses, if it does.
+fn refusal_of(added: Result<(), BuilderRefusal>) -> Option<&'static str> {
+    match added {
+        Ok(()) => None,
+        Err(refusal) => Some(refusal_words(refusal)),
     }
 }
 
@@ -96,4 +107,12 @@ pub(crate) fn refusal_words(refusal: BuilderRefusal) -> &'static str {
         BuilderRefusal::Spent => "3 spent",
         BuilderRefusal::Failed => "4 failed",
     }
+}
+
+/// Adds the names that have an extension and no definition, a line each.
+fn push_orphans(builder: &SchemaBuilder, lines: &mut String) -> Result<(), AllocError> {
+    for name in builder.iter_orphan_extension_types() {
+        write!(lines, "{name}\n")?;
+    }
+    Ok(())
 }

@@ -1,5 +1,6 @@
 //! Rows of coordinates, and of what they name in a schema.
 
+use crate::answers::judge;
 use crate::building::built;
 use crate::words::{missing_words, named_words, parse_words};
 use graphql_coords::{
@@ -7,20 +8,20 @@ use graphql_coords::{
     SchemaCoordinateParseError, TypeAttributeCoordinate, TypeCoordinate,
 };
 use graphql_read_rows::{shown_answer, text_of};
-use graphql_row_files::{
-    Answer, Case, Field, Problem, Tally, Way, answer_of, compare, texts, whole,
-};
+use graphql_row_files::{Answer, Case, Field, Problem, Tally, answer_of, texts};
 use graphql_schema::Schema;
 use std::alloc::{AllocError, Global};
 use std::fmt::Display;
 
 /// Judges the row: each of its inputs, read in the row's form, over the schema of its texts.
 pub fn by_coordinate(alloc: Global, case: Case<'_>, tally: &mut Tally) -> Result<(), Problem> {
-    let schema = built(alloc, case)?;
-    by_inputs(alloc, case, &schema, tally)
+    match built(alloc, case) {
+        Ok(schema) => by_inputs(alloc, case, &schema, tally),
+        Err(problem) => Err(problem),
+    }
 }
 
-/// Judges each input of the row.
+/// Judges each input of the row, which must be UTF-8.
 fn by_inputs(
     alloc: Global,
     case: Case<'_>,
@@ -28,27 +29,10 @@ fn by_inputs(
     tally: &mut Tally,
 ) -> Result<(), Problem> {
     for input in &texts(alloc, case.row, "input")? {
-        by_input(alloc, case, schema, input.as_slice(), tally)?;
+        let answer = answer_by(alloc, case, schema, text_of(case, input)?)?;
+        judge(alloc, case, "coordinate", input, &answer, tally)?;
     }
     Ok(())
-}
-
-/// Judges an input, which must be UTF-8.
-fn by_input(
-    alloc: Global,
-    case: Case<'_>,
-    schema: &Schema,
-    input: &[u8],
-    tally: &mut Tally,
-) -> Result<(), Problem> {
-    let answer = answer_by(alloc, case, schema, text_of(case, input)?)?;
-    let way = Way {
-        call: "coordinate",
-        document: input,
-        nesting: 0,
-        plan: whole(),
-    };
-    compare(alloc, case, way, &answer, tally)
 }
 
 /// The answer to a text, in the row's form where it has one.

@@ -1,59 +1,38 @@
 //! Rows of sets of fields by themselves.
 
+use crate::answers::{faults_answer, judge};
 use crate::building::built;
-use crate::documents::{faults_answer, first_file};
+use crate::documents::first_file;
 use crate::outline::push_set;
 use graphql_documents::{BuildError, FieldSet, FieldSetExt};
 use graphql_names::{FileId, Name, SourceSpan};
 use graphql_operations::Selection;
-use graphql_read::parse_selections;
-use graphql_read_rows::text_of;
-use graphql_row_files::{Answer, Case, Problem, Tally, Way, compare, texts, whole};
+use graphql_read_rows::{parse_selections, text_of};
+use graphql_row_files::{Answer, Case, Problem, Tally, texts};
 use graphql_schema::Schema;
 use std::alloc::{AllocError, Global};
 
 /// Judges the row: what is kept of each of its inputs under the type that it names, and what has no meaning.
 pub fn by_field_set(alloc: Global, case: Case<'_>, tally: &mut Tally) -> Result<(), Problem> {
-    let schema = built(alloc, case)?;
-    by_type(alloc, case, &schema, tally)
+    match built(alloc, case) {
+        Ok(schema) => by_inputs(alloc, case, &schema, tally),
+        Err(problem) => Err(problem),
+    }
 }
 
-/// Judges the row under the type that it names.
-fn by_type(
+/// Judges each input of the row under the type that it names.
+fn by_inputs(
     alloc: Global,
     case: Case<'_>,
     schema: &Schema,
     tally: &mut Tally,
 ) -> Result<(), Problem> {
     let type_name = type_name_of(alloc, case)?;
-    by_inputs(alloc, case, schema, &type_name, tally)
-}
-
-/// Judges each input of the row under the type of that name.
-fn by_inputs(
-    alloc: Global,
-    case: Case<'_>,
-    schema: &Schema,
-    type_name: &Name,
-    tally: &mut Tally,
-) -> Result<(), Problem> {
     for input in &texts(alloc, case.row, "input")? {
-        by_input(alloc, case, schema, type_name, input.as_slice(), tally)?;
+        let answer = answer_by(alloc, case, schema, &type_name, input)?;
+        judge(alloc, case, "field_set", input, &answer, tally)?;
     }
     Ok(())
-}
-
-/// Judges an input under the type of that name.
-fn by_input(
-    alloc: Global,
-    case: Case<'_>,
-    schema: &Schema,
-    type_name: &Name,
-    input: &[u8],
-    tally: &mut Tally,
-) -> Result<(), Problem> {
-    let answer = answer_by(alloc, case, schema, type_name, input)?;
-    compare(alloc, case, way_of(input), &answer, tally)
 }
 
 /// The name of the row's type.
@@ -62,16 +41,6 @@ fn type_name_of(alloc: Global, case: Case<'_>) -> Result<Name, Problem> {
     match Name::new(alloc, field.value) {
         Ok(name) => Ok(name),
         Err(_) => Err(field.problem("this is no name")),
-    }
-}
-
-/// The way of a set of fields.
-fn way_of(input: &[u8]) -> Way<'_> {
-    Way {
-        call: "field_set",
-        document: input,
-        nesting: 500,
-        plan: whole(),
     }
 }
 
@@ -97,8 +66,10 @@ fn set_answer(
     type_name: &Name,
     selections: &[Selection],
 ) -> Result<Answer, AllocError> {
-    let typed = FieldSet::from_ast(alloc, schema, type_name, selections)?;
-    typed_answer(alloc, &typed)
+    match FieldSet::from_ast(alloc, schema, type_name, selections) {
+        Ok(typed) => typed_answer(alloc, &typed),
+        Err(refused) => Err(refused),
+    }
 }
 
 /// The lines of what is kept, and those of the faults.
@@ -107,6 +78,6 @@ fn typed_answer(
     typed: &(FieldSet, Vec<(Option<SourceSpan>, BuildError)>),
 ) -> Result<Answer, AllocError> {
     let mut lines = String::new(alloc);
-    push_set(alloc, &typed.0.selection_set, 0, &mut lines)?;
+    push_set(&typed.0.selection_set, 0, &mut lines)?;
     faults_answer(alloc, &typed.1, &mut lines)
 }

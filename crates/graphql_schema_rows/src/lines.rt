@@ -2,75 +2,55 @@
 
 use graphql_directives::DirectiveList;
 use graphql_documents::{Field, Fragment, FragmentSpread, InlineFragment, Operation};
-use graphql_names::{Name, Node};
-use std::alloc::{AllocError, Global};
+use graphql_names::Name;
+use std::alloc::AllocError;
 use std::fmt::Display;
 
 /// `query name(variables) @directives on TYPE`, and a line feed.
-pub(crate) fn push_operation(
-    alloc: Global,
-    operation: &Operation,
-    lines: &mut String,
-) -> Result<(), AllocError> {
+pub(crate) fn push_operation(operation: &Operation, lines: &mut String) -> Result<(), AllocError> {
     lines.push_str(operation.operation_type.name())?;
     if let Some(name) = &operation.name {
         push_between(" ", name, "", lines)?;
     }
-    push_list(alloc, &operation.variables, lines)?;
-    push_directives(alloc, &operation.directives, lines)?;
+    push_list(&operation.variables, lines)?;
+    push_directives(&operation.directives, lines)?;
     push_between(" on ", operation.object_type(), "\n", lines)
 }
 
 /// `fragment name on TYPE @directives`, and a line feed.
-pub(crate) fn push_fragment(
-    alloc: Global,
-    fragment: &Fragment,
-    lines: &mut String,
-) -> Result<(), AllocError> {
-    push_between("fragment ", &fragment.name, "", lines)?;
-    push_between(" on ", fragment.type_condition(), "", lines)?;
-    push_directives(alloc, &fragment.directives, lines)?;
+pub(crate) fn push_fragment(fragment: &Fragment, lines: &mut String) -> Result<(), AllocError> {
+    push_between("fragment ", &fragment.name, " on ", lines)?;
+    push_between("", fragment.type_condition(), "", lines)?;
+    push_directives(&fragment.directives, lines)?;
     lines.push('\n')
 }
 
-/// `alias: name(arguments) @directives by DEFINITION`, and a line feed.
-pub(crate) fn push_field(
-    alloc: Global,
-    field: &Field,
-    lines: &mut String,
-) -> Result<(), AllocError> {
+/// `alias: name(arguments) @directives by DEFINITION` behind this, and a line feed.
+pub(crate) fn push_field(front: &str, field: &Field, lines: &mut String) -> Result<(), AllocError> {
+    lines.push_str(front)?;
     if let Some(alias) = &field.alias {
         push_between("", alias, ": ", lines)?;
     }
     lines.push_str(field.name.as_str())?;
-    push_list(alloc, &field.arguments, lines)?;
-    push_directives(alloc, &field.directives, lines)?;
-    push_shown(alloc, " by ", &field.definition, lines)?;
-    lines.push('\n')
+    push_list(&field.arguments, lines)?;
+    push_directives(&field.directives, lines)?;
+    write!(lines, " by {}\n", field.definition)
 }
 
 /// `...name @directives`, and a line feed.
-pub(crate) fn push_spread(
-    alloc: Global,
-    spread: &FragmentSpread,
-    lines: &mut String,
-) -> Result<(), AllocError> {
+pub(crate) fn push_spread(spread: &FragmentSpread, lines: &mut String) -> Result<(), AllocError> {
     push_between("...", &spread.fragment_name, "", lines)?;
-    push_directives(alloc, &spread.directives, lines)?;
+    push_directives(&spread.directives, lines)?;
     lines.push('\n')
 }
 
 /// `... on CONDITION @directives in TYPE`, and a line feed.
-pub(crate) fn push_inline(
-    alloc: Global,
-    inline: &InlineFragment,
-    lines: &mut String,
-) -> Result<(), AllocError> {
+pub(crate) fn push_inline(inline: &InlineFragment, lines: &mut String) -> Result<(), AllocError> {
     lines.push_str("...")?;
     if let Some(condition) = &inline.type_condition {
         push_between(" on ", condition, "", lines)?;
     }
-    push_directives(alloc, &inline.directives, lines)?;
+    push_directives(&inline.directives, lines)?;
     push_between(" in ", &inline.selection_set.ty, "\n", lines)
 }
 
@@ -86,23 +66,11 @@ pub(crate) fn push_between(
     lines.push_str(back)
 }
 
-/// Adds what is shown, behind this.
-pub(crate) fn push_shown<T: Display>(
-    alloc: Global,
-    front: &str,
-    shown: &T,
-    lines: &mut String,
-) -> Result<(), AllocError> {
-    let text = shown.to_string(alloc)?;
-    lines.push_str(front)?;
-    lines.push_str(&text)
-}
-
 /// Adds what is shown in parentheses, with a comma between each two, or nothing where there is nothing.
-fn push_list<T: Display>(alloc: Global, list: &[T], lines: &mut String) -> Result<(), AllocError> {
+fn push_list<T: Display>(list: &[T], lines: &mut String) -> Result<(), AllocError> {
     let mut front = "(";
     for shown in list {
-        push_shown(alloc, front, shown, lines)?;
+        write!(lines, "{front}{shown}")?;
         front = ", ";
     }
     if list.is_empty() {
@@ -112,13 +80,9 @@ fn push_list<T: Display>(alloc: Global, list: &[T], lines: &mut String) -> Resul
 }
 
 /// Adds each directive behind a space.
-fn push_directives(
-    alloc: Global,
-    directives: &DirectiveList,
-    lines: &mut String,
-) -> Result<(), AllocError> {
+fn push_directives(directives: &DirectiveList, lines: &mut String) -> Result<(), AllocError> {
     for directive in &directives.0 {
-        push_shown(alloc, " ", directive, lines)?;
+        write!(lines, " {directive}")?;
     }
     Ok(())
 }

@@ -2,19 +2,18 @@
 
 use crate::lines::{push_field, push_inline, push_spread};
 use graphql_documents::{Selection, SelectionSet};
-use std::alloc::{AllocError, Global};
+use std::alloc::AllocError;
 
 /// Adds the lines of the selections of a set, which stands so deep.
 #[cycle(outline)]
 pub(crate) fn push_set(
-    alloc: Global,
     set: &SelectionSet,
     depth: usize,
     lines: &mut String,
 ) -> Result<(), AllocError> {
     for selection in &set.selections {
         push_depth(depth, lines)?;
-        push_selection(alloc, selection, depth.saturating_add(1), lines)?;
+        push_selection(selection, depth.saturating_add(1), lines)?;
     }
     Ok(())
 }
@@ -22,20 +21,19 @@ pub(crate) fn push_set(
 /// Adds the line of a selection, and those of what is in it, so deep.
 #[cycle(outline)]
 fn push_selection(
-    alloc: Global,
     selection: &Selection,
     depth: usize,
     lines: &mut String,
 ) -> Result<(), AllocError> {
     match selection {
         Selection::Field(field) => {
-            push_field(alloc, field.content(), lines)?;
-            push_set(alloc, &field.content().selection_set, depth, lines)
+            push_field("", field.content(), lines)?;
+            push_set(&field.content().selection_set, depth, lines)
         }
-        Selection::FragmentSpread(spread) => push_spread(alloc, spread.content(), lines),
+        Selection::FragmentSpread(spread) => push_spread(spread.content(), lines),
         Selection::InlineFragment(inline) => {
-            push_inline(alloc, inline.content(), lines)?;
-            push_set(alloc, &inline.content().selection_set, depth, lines)
+            push_inline(inline.content(), lines)?;
+            push_set(&inline.content().selection_set, depth, lines)
         }
     }
 }
