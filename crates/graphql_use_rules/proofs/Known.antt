@@ -5,8 +5,8 @@ use Rattle.std.proofs.lemmas.Option.{same_Some}
 use Rattle.graphql_names.specs.Placed.{Placed, Place, Text}
 use Rattle.graphql_literals.specs.TypeTree.{unplaced_type}
 use Rattle.graphql_literals.specs.ValueQueries.{variable_name}
-use Rattle.graphql_directives.specs.DirectiveTree.{ArgumentTree, Arguments, InputValueTree, InputValues, unplaced_input_value}
-use Rattle.graphql_directives.specs.DirectiveQueries.{argument_has_name, input_value_has_name}
+use Rattle.graphql_directives.specs.DirectiveTree.{ArgumentTree, InputValueTree, InputValues, unplaced_input_value}
+use Rattle.graphql_directives.specs.DirectiveQueries.{input_value_has_name}
 use Rattle.graphql_operations.specs.OperationTree.{VariableDefinitionTree}
 use Rattle.graphql_value_rules.specs.in_schema.in_schema_types.SchemaTree.{SchemaTree}
 use Rattle.graphql_rule_definitions.specs.Diagnostics.{DisallowedVariableUsage}
@@ -15,7 +15,7 @@ use Rattle.graphql_rule_definitions.specs.Faults.{wrong}
 use Rattle.graphql_rule_definitions.specs.Values.{Variables, defined_name}
 use Rattle.graphql_rule_definitions.specs.Uses.{argument_name, IsVariableUsageAllowed}
 use Rattle.graphql_rule_definitions.specs.Told.{PlacedFault}
-use Rattle.graphql_use_rules.specs.Steps.{DisallowedUsage, GivenArgumentBreaks, FirstGivenBreaks}
+use Rattle.graphql_use_rules.specs.Steps.{DisallowedUsage, GivenArgumentBreaks, DefinedArgumentBreaks}
 use Rattle.graphql_use_rules.proofs.Listing.{Lists, lists_same, lists_nothing, lists_where}
 
 pub present_known : {X : Type 0} (o : Option X) (x : X) (P : X → Type 0) → o ≡ Some x → P x ↔ Present o P
@@ -25,13 +25,10 @@ pub absent : {X Y : Type 0} (f : X → Y) (o : Option X) → is_some o ≡ false
 absent f None e = refl
 absent f (Some x) e = absurd (true≢false e)
 
--- an argument of which none of its name is before, with its definition
-pub first_known : (s : SchemaTree Place) (variables : Variables Place) (definitions : InputValues Place) (before : Arguments Place) (a : Placed Place (ArgumentTree Place)) (v : Placed Place (InputValueTree Place))
-    → find (argument_has_name (argument_name a)) before ≡ None → find (input_value_has_name (argument_name a)) definitions ≡ Some v
-    → (f : PlacedFault) → GivenArgumentBreaks s variables v.it a f ↔ FirstGivenBreaks s variables definitions before a f
-first_known s variables definitions before a v none is f =
-    let known = present_known (find (input_value_has_name (argument_name a)) definitions) v (λ w. GivenArgumentBreaks s variables w.it a f) is in
-    (λ g. (none, known.0 g), λ q. known.1 q.1)
+-- an argument with its definition
+pub defined_known : (s : SchemaTree Place) (variables : Variables Place) (definitions : InputValues Place) (a : Placed Place (ArgumentTree Place)) (v : Placed Place (InputValueTree Place))
+    → find (input_value_has_name (argument_name a)) definitions ≡ Some v → (f : PlacedFault) → GivenArgumentBreaks s variables v.it a f ↔ DefinedArgumentBreaks s variables definitions a f
+defined_known s variables definitions a v is f = present_known (find (input_value_has_name (argument_name a)) definitions) v (λ w. GivenArgumentBreaks s variables w.it a f) is
 
 -- a variable that is given
 module _ (variables : Variables Place) (v : InputValueTree Place) (a : Placed Place (ArgumentTree Place)) (n : Text Place) (given : variable_name a.it.value.it ≡ Some n) where

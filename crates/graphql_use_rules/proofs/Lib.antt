@@ -8,5 +8,7 @@ pub mod Listing
 pub mod Types
 pub mod ReadPlaces
 pub mod Known
+pub mod Again
+pub mod Numbered
 pub mod Uses
 pub mod SchemaSteps

@@ -43,10 +43,13 @@ DisallowedUsage variables v a f = Present (variable_name a.it.value.it) (λ n. P
 abbrev pub GivenArgumentBreaks : SchemaTree Place → Variables Place → InputValueTree Place → Placed Place (ArgumentTree Place) → PlacedFault → Type 0
 GivenArgumentBreaks s variables v a f = DisallowedUsage variables v a f ⊎ TypeBreaks (place_at s) (judged s) variables (wanted v.ty.it v.ty.place) a.it.value.place a.it.value.it f
 
--- the same, if none of its name is before it, and it is defined
+-- the same, if it is defined
+abbrev pub DefinedArgumentBreaks : SchemaTree Place → Variables Place → InputValues Place → Placed Place (ArgumentTree Place) → PlacedFault → Type 0
+DefinedArgumentBreaks s variables definitions a f = Present (find (input_value_has_name (argument_name a)) definitions) (λ v. GivenArgumentBreaks s variables v.it a f)
+
+-- the same, if none of its name is before it
 abbrev pub FirstGivenBreaks : SchemaTree Place → Variables Place → InputValues Place → Arguments Place → Placed Place (ArgumentTree Place) → PlacedFault → Type 0
-FirstGivenBreaks s variables definitions before a f = (find (argument_has_name (argument_name a)) before ≡ None)
-    × Present (find (input_value_has_name (argument_name a)) definitions) (λ v. GivenArgumentBreaks s variables v.it a f)
+FirstGivenBreaks s variables definitions before a f = (find (argument_has_name (argument_name a)) before ≡ None) × DefinedArgumentBreaks s variables definitions a f
 
 -- a directive that is used breaks a rule by its definition
 abbrev pub DefinedUseBreaks : SchemaTree Place → Variables Place → DirectiveLocation → Placed Place (DirectiveTree Place) → InputValues Place → PlacedFault → Type 0

@@ -17,6 +17,10 @@ abbrev pub repeated_argument : Arguments Place → Placed Place (ArgumentTree Pl
 repeated_argument before later =
     option_map_or (λ first. wrong later.place (UniqueArgument (argument_name later) first.place later.place) ∷ []) (find (argument_has_name (argument_name later)) before) []
 
+-- an argument, where the first of its name before it, if there is one, has this place
+abbrev pub argument_again : Option Place → Placed Place (ArgumentTree Place) → List PlacedFault
+argument_again first later = option_map_or (λ p. wrong later.place (UniqueArgument (argument_name later) p later.place) ∷ []) first []
+
 -- an argument that is given, where these are defined
 abbrev pub undefined_argument : Taker Place → InputValues Place → Placed Place (ArgumentTree Place) → List PlacedFault
 undefined_argument t definitions a =
@@ -45,3 +49,8 @@ found_repeated before later =
 -- a directive behind these, if it has a definition
 abbrev pub repeated_directive : Option (Placed Place (DirectiveDefinitionTree Place)) → Directives Place → Placed Place (DirectiveTree Place) → List PlacedFault
 repeated_directive defined before later = option_map_or (λ x. if x.it.repeatable then [] else found_repeated before later) defined []
+
+-- a directive, if it has a definition, where the first of its name before it, if there is one, has this place
+abbrev pub directive_again : Option (Placed Place (DirectiveDefinitionTree Place)) → Option Place → Placed Place (DirectiveTree Place) → List PlacedFault
+directive_again defined first later =
+    option_map_or (λ x. if x.it.repeatable then [] else option_map_or (λ p. wrong later.place (UniqueDirective (directive_name later) p) ∷ []) first []) defined []

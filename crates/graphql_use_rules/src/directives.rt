@@ -1,10 +1,9 @@
 //! Directives that are used at one place.
-ghost use Rattle.std.specs.Prelude.{Bool, ◌≡◌, ◌++◌, ◌⊎◌, ◌↔◌, ◌∷◌, [], map, find, IfOk, IsTrue, OnOk, option_to_list, Some, Contains};
+ghost use Rattle.std.specs.Prelude.{Bool, ◌≡◌, ◌++◌, ◌⊎◌, ◌↔◌, ◌∷◌, [], map, IfOk, IsTrue, OnOk, option_to_list, Some, Contains};
 ghost use Rattle.std.specs.Option.{option_map};
 ghost use Rattle.graphql_names.specs.Node.{content, place};
 ghost use Rattle.graphql_names.specs.Placed.{node_tree};
 ghost use Rattle.graphql_directives.specs.DirectiveTree.{directive_tree, directive_definition_tree};
-ghost use Rattle.graphql_directives.specs.DirectiveQueries.{directive_has_name};
 ghost use Rattle.graphql_directives.specs.declared.directive_location.DirectiveLocation.{DirectiveLocation};
 ghost use Rattle.graphql_components.specs.Lists.{each_place};
 ghost use Rattle.graphql_value_rules.specs.in_schema.in_schema_types.Addresses.{place_at, directive_definition_at};
@@ -16,16 +15,17 @@ ghost use Rattle.graphql_rule_definitions.specs.Uses.{directive_name, UseBreaks,
 ghost use Rattle.graphql_value_rules.specs.in_fault_data.Adds.{Adds};
 ghost use Rattle.graphql_value_rules.specs.Wanting.{variables_of};
 ghost use Rattle.graphql_use_rules.specs.Trees.{directives_of, inputs_of, no_schema, tree_of};
-ghost use Rattle.graphql_use_rules.specs.UseFaults.{undefined_directive, unsupported_location, repeated_directive, found_repeated};
+ghost use Rattle.graphql_use_rules.specs.UseFaults.{undefined_directive, unsupported_location, directive_again, repeated_directive};
 ghost use Rattle.graphql_use_rules.specs.Steps.{DefinedUseBreaks};
 
 use crate::given::check_given;
 use crate::taken::check_taken;
 use crate::taker::{Taker, TakerName};
 use graphql_directives::{Directive, DirectiveDefinition, DirectiveLocation};
-use graphql_names::{Name, Node};
+use graphql_names::{Name, Node, SourceSpan};
 use graphql_operations::VariableDefinition;
-use graphql_value_rules::{DiagnosticData, Fault, Schema, tell};
+use graphql_value_rules::{DiagnosticData, Fault, Schema, note_first, tell};
+use indexmap::IndexMap;
 use std::alloc::AllocError;
 
 /// The definition of the directive of that name, if there is one.
@@ -33,18 +33,6 @@ fn find_definition<'a>(schema: &'a Schema, name: &Name) -> Option<&'a Node<Direc
     ensures { option_map (λ d. node_tree directive_definition_tree d.now) result ≡ directive_definition_at (schema_tree schema.now) name.now.text }
 {
     schema.directive_definitions.get(name)
-}
-
-/// The first of these directives that has that name.
-fn find_directive<'a>(directives: &'a [Node<Directive>], name: &Name) -> Option<&'a Node<Directive>>
-    ensures { option_map (λ d. node_tree directive_tree d.now) result ≡ find (directive_has_name name.now.text) (directives_of directives.now) }
-{
-    for directive in directives {
-        if directive.content().name.as_str() == name.as_str() {
-            return Some(directive);
-        }
-    }
-    None
 }
 
 /// UndefinedDirective: a directive that is used is defined (section 5.7.1). This one is not.
@@ -89,40 +77,31 @@ fn unsupported_location(
     }))
 }
 
-/// What is told of a directive behind these, if one of them has its name.
-fn repeated(
-    before: &[Node<Directive>],
-    later: &Node<Directive>,
-) -> Result<Option<Fault>, AllocError>
-    ensures { IfOk result (λ r. map fault_of (option_to_list r) ≡ found_repeated (directives_of before.now) (node_tree directive_tree later.now)) }
-{
-    let name = &later.content().name;
-    let Some(first) = find_directive(before, name) else {
-        return Ok(None);
-    };
-    let data = DiagnosticData::UniqueDirective {
-        name: name.clone()?,
-        original_application: first.location(),
-    };
-    let location = later.location();
-    Ok(Some(Fault { location, data }))
-}
-
-/// UniqueDirective: one that is not repeatable is used once at a place (section 5.7.3). `before` are those before it.
+/// UniqueDirective: one that is not repeatable is used once at a place (section 5.7.3). `first` is the place of the first of
+/// its name, if one is before it.
 fn unique_directive(
     schema: &Schema,
-    before: &[Node<Directive>],
+    first: Option<Option<SourceSpan>>,
     later: &Node<Directive>,
 ) -> Result<Option<Fault>, AllocError>
-    ensures { IfOk result (λ r. map fault_of (option_to_list r) ≡ repeated_directive (directive_definition_at (schema_tree schema.now) (content later.now).name.text) (directives_of before.now) (node_tree directive_tree later.now)) }
+    ensures { IfOk result (λ r. map fault_of (option_to_list r) ≡ directive_again (directive_definition_at (schema_tree schema.now) (content later.now).name.text) first (node_tree directive_tree later.now)) }
 {
-    let Some(definition) = find_definition(schema, &later.content().name) else {
+    let name = &later.content().name;
+    let Some(definition) = find_definition(schema, name) else {
         return Ok(None);
     };
     if definition.content().repeatable {
         return Ok(None);
     }
-    repeated(before, later)
+    let Some(original_application) = first else {
+        return Ok(None);
+    };
+    let data = DiagnosticData::UniqueDirective {
+        name: name.clone()?,
+        original_application,
+    };
+    let location = later.location();
+    Ok(Some(Fault { location, data }))
 }
 
 /// Adds a fault for each directive that is not repeatable and is used before.
@@ -133,9 +112,14 @@ fn tell_repeated_directives(
 ) -> Result<(), AllocError>
     ensures { OnOk result (faults_of faults.new ≡ faults_of faults.old ++ each_place (λ before d. repeated_directive (directive_definition_at (schema_tree schema.now) (directive_name d)) before d) (directives_of directives.now)) }
 {
-    for index in 0..directives.len() {
-        let fault = unique_directive(schema, &directives[..index], &directives[index])?;
-        tell(faults, fault)?;
+    if directives.len() < 2 {
+        return Ok(());
+    }
+    let mut places = IndexMap::new(*faults.allocator());
+    for directive in directives {
+        let name = &directive.content().name;
+        let first = note_first(&mut places, name, directive.location())?;
+        tell(faults, unique_directive(schema, first, directive)?)?;
     }
     Ok(())
 }

@@ -8,50 +8,68 @@ ghost use Rattle.graphql_components.specs.Lists.{each_place};
 ghost use Rattle.graphql_value_rules.specs.in_schema.in_schema_types.Addresses.{Address};
 ghost use Rattle.graphql_value_rules.specs.in_fault_data.FaultView.{fault_of, faults_of};
 ghost use Rattle.graphql_rule_definitions.specs.Words.{AtSomeIndex};
-ghost use Rattle.graphql_rule_definitions.specs.Uses.{GivenBreaks};
+ghost use Rattle.graphql_rule_definitions.specs.Uses.{argument_name, GivenBreaks};
 ghost use Rattle.graphql_value_rules.specs.in_fault_data.Adds.{Adds};
+ghost use Rattle.graphql_value_rules.specs.Firsts.{AreNumbers};
 ghost use Rattle.graphql_value_rules.specs.Wanting.{variables_of};
 ghost use Rattle.graphql_use_rules.specs.Trees.{arguments_of};
-ghost use Rattle.graphql_use_rules.specs.UseFaults.{repeated_argument};
+ghost use Rattle.graphql_use_rules.specs.UseFaults.{argument_again, repeated_argument};
 ghost use Rattle.graphql_use_rules.specs.Steps.{ValueGivenBreaks};
 ghost use Rattle.graphql_rule_definitions.specs.Judged.{Judged};
 
 use graphql_directives::Argument;
-use graphql_names::{Name, Node};
+use graphql_names::{Name, Node, SourceSpan};
 use graphql_operations::VariableDefinition;
-use graphql_value_rules::{DiagnosticData, Fault, tell, undefined_variables, unique_input_values};
-use std::alloc::AllocError;
+use graphql_value_rules::{
+    DiagnosticData, Fault, note_first, tell, undefined_variables, unique_input_values,
+};
+use indexmap::IndexMap;
+use std::alloc::{AllocError, Global};
 
-/// The first of these arguments that has that name.
-pub(crate) fn find_argument<'a>(
-    given: &'a [Node<Argument>],
-    name: &Name,
-) -> Option<&'a Node<Argument>>
-    ensures { option_map (λ a. node_tree argument_tree a.now) result ≡ find (argument_has_name name.now.text) (arguments_of given.now) }
+/// Of each name the index of the first of these arguments that has it.
+pub(crate) fn argument_numbers(
+    alloc: Global,
+    given: &[Node<Argument>],
+) -> Result<IndexMap<Name, usize>, AllocError>
+    ensures { IfOk result (λ numbers. AreNumbers argument_name numbers (arguments_of given.now)) }
 {
-    for argument in given {
-        if argument.content().name.as_str() == name.as_str() {
-            return Some(argument);
-        }
+    let mut numbers = IndexMap::new(alloc);
+    for index in 0..given.len() {
+        note_first(&mut numbers, &given[index].content().name, index)?;
     }
-    None
+    Ok(numbers)
 }
 
-/// UniqueArgument: no argument is given twice (section 5.4.2). `before` are those before it.
+/// The first of these arguments that has that name; `numbers` has where it stands.
+pub(crate) fn find_argument<'a>(
+    given: &'a [Node<Argument>],
+    numbers: &IndexMap<Name, usize>,
+    name: &Name,
+) -> Option<&'a Node<Argument>>
+    requires { AreNumbers argument_name numbers.now (arguments_of given.now) }
+    ensures { option_map (λ a. node_tree argument_tree a.now) result ≡ find (argument_has_name name.now.text) (arguments_of given.now) }
+{
+    match numbers.get(name) {
+        None => None,
+        Some(index) => given.get(*index),
+    }
+}
+
+/// UniqueArgument: no argument is given twice (section 5.4.2). `first` is the place of the first of its name, if one is before
+/// it.
 fn unique_argument(
-    before: &[Node<Argument>],
+    first: Option<Option<SourceSpan>>,
     later: &Node<Argument>,
 ) -> Result<Option<Fault>, AllocError>
-    ensures { IfOk result (λ r. map fault_of (option_to_list r) ≡ repeated_argument (arguments_of before.now) (node_tree argument_tree later.now)) }
+    ensures { IfOk result (λ r. map fault_of (option_to_list r) ≡ argument_again first (node_tree argument_tree later.now)) }
 {
-    let name = &later.content().name;
-    let Some(first) = find_argument(before, name) else {
+    let Some(original_definition) = first else {
         return Ok(None);
     };
     let location = later.location();
     let data = DiagnosticData::UniqueArgument {
-        name: name.clone()?,
-        original_definition: first.location(),
+        name: later.content().name.clone()?,
+        original_definition,
         redefined_definition: location,
     };
     Ok(Some(Fault { location, data }))
@@ -64,9 +82,14 @@ pub fn tell_repeated_arguments(
 ) -> Result<(), AllocError>
     ensures { OnOk result (faults_of faults.new ≡ faults_of faults.old ++ each_place repeated_argument (arguments_of given.now)) }
 {
-    for index in 0..given.len() {
-        let fault = unique_argument(&given[..index], &given[index])?;
-        tell(faults, fault)?;
+    if given.len() < 2 {
+        return Ok(());
+    }
+    let mut places = IndexMap::new(*faults.allocator());
+    for argument in given {
+        let name = &argument.content().name;
+        let first = note_first(&mut places, name, argument.location())?;
+        tell(faults, unique_argument(first, argument)?)?;
     }
     Ok(())
 }

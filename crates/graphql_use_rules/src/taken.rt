@@ -2,11 +2,14 @@
 ghost use Rattle.std.specs.Prelude.{◌≡◌, ◌++◌, ◌⊎◌, ◌↔◌, map, find, is_none, IfOk, IsTrue, OnOk, option_to_list, slice_get, take, ◌<◌, length, Some};
 ghost use Rattle.std.specs.List.{flat_map};
 ghost use Rattle.std.specs.Option.{option_map};
+ghost use Rattle.indexmap.specs.IndexMap.{get};
 ghost use Rattle.graphql_names.specs.Node.{content, place};
 ghost use Rattle.graphql_names.specs.Placed.{Place, node_tree};
 ghost use Rattle.graphql_literals.specs.ValueTree.{value_tree};
 ghost use Rattle.graphql_directives.specs.DirectiveTree.{argument_tree, input_value_tree};
 ghost use Rattle.graphql_directives.specs.DirectiveQueries.{input_value_has_name, given_value};
+ghost use Rattle.graphql_components.specs.Names.{same_text};
+ghost use Rattle.graphql_value_rules.specs.in_schema.in_schema_types.TypeView.{name_text};
 ghost use Rattle.graphql_value_rules.specs.in_schema.in_schema_types.Addresses.{Address};
 ghost use Rattle.graphql_value_rules.specs.in_schema.SchemaOf.{schema_tree};
 ghost use Rattle.graphql_value_rules.specs.in_fault_data.FaultView.{fault_of, faults_of};
@@ -16,46 +19,64 @@ ghost use Rattle.graphql_rule_definitions.specs.Faults.{wrong};
 ghost use Rattle.graphql_rule_definitions.specs.Words.{AtSomeIndex};
 ghost use Rattle.graphql_rule_definitions.specs.Judged.{judged};
 ghost use Rattle.graphql_rule_definitions.specs.Values.{is_absent_or_null};
-ghost use Rattle.graphql_rule_definitions.specs.Uses.{TakerBreaks};
+ghost use Rattle.graphql_rule_definitions.specs.Uses.{argument_name, input_name, TakerBreaks};
 ghost use Rattle.graphql_value_rules.specs.in_fault_data.Adds.{Adds};
+ghost use Rattle.graphql_value_rules.specs.Firsts.{AreNumbers};
 ghost use Rattle.graphql_value_rules.specs.Wanting.{variables_of};
 ghost use Rattle.graphql_use_rules.specs.Trees.{arguments_of, inputs_of, taker_of, coordinate_of, argument_coordinate_of, TellsPlaces};
 ghost use Rattle.graphql_use_rules.specs.UseFaults.{undefined_argument, required_argument};
-ghost use Rattle.graphql_use_rules.specs.Steps.{GivenArgumentBreaks, FirstGivenBreaks};
+ghost use Rattle.graphql_use_rules.specs.Steps.{GivenArgumentBreaks, DefinedArgumentBreaks, FirstGivenBreaks};
 
-use crate::given::find_argument;
+use crate::given::{argument_numbers, find_argument};
 use crate::taker::Taker;
 use crate::usage::disallowed_variable_usage;
 use graphql_directives::{Argument, InputValueDefinition};
 use graphql_names::{Name, Node};
 use graphql_operations::VariableDefinition;
-use graphql_value_rules::{DiagnosticData, Fault, Schema, tell, type_breaks};
-use std::alloc::AllocError;
+use graphql_value_rules::{DiagnosticData, Fault, Schema, note_first, tell, type_breaks};
+use indexmap::IndexMap;
+use std::alloc::{AllocError, Global};
 
-/// The first of these definitions that has that name.
+/// Of each name the index of the first of these definitions that has it.
+fn definition_numbers(
+    alloc: Global,
+    definitions: &[Node<InputValueDefinition>],
+) -> Result<IndexMap<Name, usize>, AllocError>
+    ensures { IfOk result (λ numbers. AreNumbers input_name numbers (inputs_of definitions.now)) }
+{
+    let mut numbers = IndexMap::new(alloc);
+    for index in 0..definitions.len() {
+        note_first(&mut numbers, &definitions[index].content().name, index)?;
+    }
+    Ok(numbers)
+}
+
+/// The first of these definitions that has that name; `numbers` has where it stands.
 fn find_definition<'a>(
     definitions: &'a [Node<InputValueDefinition>],
+    numbers: &IndexMap<Name, usize>,
     name: &Name,
 ) -> Option<&'a Node<InputValueDefinition>>
+    requires { AreNumbers input_name numbers.now (inputs_of definitions.now) }
     ensures { option_map (λ v. node_tree input_value_tree v.now) result ≡ find (input_value_has_name name.now.text) (inputs_of definitions.now) }
 {
-    for definition in definitions {
-        if definition.content().name.as_str() == name.as_str() {
-            return Some(definition);
-        }
+    match numbers.get(name) {
+        None => None,
+        Some(index) => definitions.get(*index),
     }
-    None
 }
 
 /// UndefinedArgument: each argument that is given is defined (section 5.4.1).
 fn undefined_argument(
     taker: &Taker<'_>,
+    defined: &IndexMap<Name, usize>,
     argument: &Node<Argument>,
 ) -> Result<Option<Fault>, AllocError>
+    requires { AreNumbers input_name defined.now (inputs_of taker.now.definitions.now) }
     ensures { IfOk result (λ r. map fault_of (option_to_list r) ≡ undefined_argument (taker_of taker.now) (inputs_of taker.now.definitions.now) (node_tree argument_tree argument.now)) }
 {
     let name = &argument.content().name;
-    match find_definition(taker.definitions, name) {
+    match find_definition(taker.definitions, defined, name) {
         Some(_) => Ok(None),
         None => Ok(Some(told_undefined(taker, argument)?)),
     }
@@ -76,20 +97,26 @@ fn told_undefined(taker: &Taker<'_>, argument: &Node<Argument>) -> Result<Fault,
 }
 
 /// Adds a fault for each argument that is given and not defined.
-fn tell_undefined_arguments(taker: &Taker<'_>, faults: &mut Vec<Fault>) -> Result<(), AllocError>
+fn tell_undefined_arguments(
+    taker: &Taker<'_>,
+    defined: &IndexMap<Name, usize>,
+    faults: &mut Vec<Fault>,
+) -> Result<(), AllocError>
+    requires { AreNumbers input_name defined.now (inputs_of taker.now.definitions.now) }
     ensures { OnOk result (faults_of faults.new ≡ faults_of faults.old ++ flat_map (undefined_argument (taker_of taker.now) (inputs_of taker.now.definitions.now)) (arguments_of taker.now.given.now)) }
 {
     for argument in taker.given {
-        tell(faults, undefined_argument(taker, argument)?)?;
+        tell(faults, undefined_argument(taker, defined, argument)?)?;
     }
     Ok(())
 }
 
 /// Whether no argument of that name is given, or it is null.
-fn is_not_given(given: &[Node<Argument>], name: &Name) -> bool
+fn is_not_given(given: &[Node<Argument>], numbers: &IndexMap<Name, usize>, name: &Name) -> bool
+    requires { AreNumbers argument_name numbers.now (arguments_of given.now) }
     ensures { result ≡ is_absent_or_null (given_value name.now.text (arguments_of given.now)) }
 {
-    match find_argument(given, name) {
+    match find_argument(given, numbers, name) {
         None => true,
         Some(argument) => argument.content().value.content().is_null(),
     }
@@ -98,12 +125,14 @@ fn is_not_given(given: &[Node<Argument>], name: &Name) -> bool
 /// RequiredArgument: each required argument is given, and not as null (section 5.4.2.1).
 fn required_argument(
     taker: &Taker<'_>,
+    given: &IndexMap<Name, usize>,
     definition: &Node<InputValueDefinition>,
 ) -> Result<Option<Fault>, AllocError>
+    requires { AreNumbers argument_name given.now (arguments_of taker.now.given.now) }
     ensures { IfOk result (λ r. map fault_of (option_to_list r) ≡ required_argument (taker_of taker.now) (node_tree input_value_tree definition.now)) }
 {
     let name = &definition.content().name;
-    if !(definition.content().is_required() && is_not_given(taker.given, name)) {
+    if !(definition.content().is_required() && is_not_given(taker.given, given, name)) {
         return Ok(None);
     }
     Ok(Some(told_required(taker, definition)?))
@@ -130,11 +159,16 @@ fn told_required(
 }
 
 /// Adds a fault for each required argument that is not given.
-fn tell_required_arguments(taker: &Taker<'_>, faults: &mut Vec<Fault>) -> Result<(), AllocError>
+fn tell_required_arguments(
+    taker: &Taker<'_>,
+    given: &IndexMap<Name, usize>,
+    faults: &mut Vec<Fault>,
+) -> Result<(), AllocError>
+    requires { AreNumbers argument_name given.now (arguments_of taker.now.given.now) }
     ensures { OnOk result (faults_of faults.new ≡ faults_of faults.old ++ flat_map (required_argument (taker_of taker.now)) (inputs_of taker.now.definitions.now)) }
 {
     for definition in taker.definitions {
-        tell(faults, required_argument(taker, definition)?)?;
+        tell(faults, required_argument(taker, given, definition)?)?;
     }
     Ok(())
 }
@@ -156,24 +190,32 @@ fn check_argument(
     type_breaks(schema, &defined.ty, value, variables, faults)
 }
 
-/// Adds the same for an argument, if it is the first of its name and defined. `before` are those that are given before it.
-fn check_if_first(
+/// Adds the same for an argument, if it is defined.
+fn check_if_defined(
     schema: &Schema,
     taker: &Taker<'_>,
-    before: &[Node<Argument>],
+    defined: &IndexMap<Name, usize>,
     argument: &Node<Argument>,
     variables: &[Node<VariableDefinition>],
     faults: &mut Vec<Fault>,
 ) -> Result<(), AllocError>
-    ensures { OnOk result (Adds faults.old faults.new (FirstGivenBreaks (schema_tree schema.now) (variables_of variables.now) (inputs_of taker.now.definitions.now) (arguments_of before.now) (node_tree argument_tree argument.now))) }
+    requires { AreNumbers input_name defined.now (inputs_of taker.now.definitions.now) }
+    ensures { OnOk result (Adds faults.old faults.new (DefinedArgumentBreaks (schema_tree schema.now) (variables_of variables.now) (inputs_of taker.now.definitions.now) (node_tree argument_tree argument.now))) }
 {
     let name = &argument.content().name;
-    if find_argument(before, name).is_some() {
-        return Ok(());
-    }
-    match find_definition(taker.definitions, name) {
+    match find_definition(taker.definitions, defined, name) {
         None => Ok(()),
         Some(definition) => check_argument(schema, argument, definition, variables, faults),
+    }
+}
+
+/// Whether the name has that number.
+fn has_number(numbers: &IndexMap<Name, usize>, name: &Name, number: usize) -> bool
+    ensures { IsTrue result ↔ (get (same_text name_text) numbers.now name.now ≡ Some number) }
+{
+    match numbers.get(name) {
+        None => false,
+        Some(own) => *own == number,
     }
 }
 
@@ -181,20 +223,20 @@ fn check_if_first(
 fn check_arguments(
     schema: &Schema,
     taker: &Taker<'_>,
+    defined: &IndexMap<Name, usize>,
+    given: &IndexMap<Name, usize>,
     variables: &[Node<VariableDefinition>],
     faults: &mut Vec<Fault>,
 ) -> Result<(), AllocError>
+    requires defined { AreNumbers input_name defined.now (inputs_of taker.now.definitions.now) }
+    requires given { AreNumbers argument_name given.now (arguments_of taker.now.given.now) }
     ensures { OnOk result (Adds faults.old faults.new (λ f. AtSomeIndex (arguments_of taker.now.given.now) (λ j a. FirstGivenBreaks (schema_tree schema.now) (variables_of variables.now) (inputs_of taker.now.definitions.now) (take j (arguments_of taker.now.given.now)) a f))) }
 {
     for index in 0..taker.given.len() {
-        check_if_first(
-            schema,
-            taker,
-            &taker.given[..index],
-            &taker.given[index],
-            variables,
-            faults,
-        )?;
+        let argument = &taker.given[index];
+        if has_number(given, &argument.content().name, index) {
+            check_if_defined(schema, taker, defined, argument, variables, faults)?;
+        }
     }
     Ok(())
 }
@@ -210,7 +252,10 @@ pub fn check_taken(
 ) -> Result<(), AllocError>
     ensures { OnOk result ((at : Address → Place) → TellsPlaces at (schema_tree schema.now) taker.now → Adds faults.old faults.new (TakerBreaks at (judged (schema_tree schema.now)) (variables_of variables.now) (taker_of taker.now))) }
 {
-    tell_undefined_arguments(taker, faults)?;
-    tell_required_arguments(taker, faults)?;
-    check_arguments(schema, taker, variables, faults)
+    let alloc = *faults.allocator();
+    let defined = definition_numbers(alloc, taker.definitions)?;
+    let given = argument_numbers(alloc, taker.given)?;
+    tell_undefined_arguments(taker, &defined, faults)?;
+    tell_required_arguments(taker, &given, faults)?;
+    check_arguments(schema, taker, &defined, &given, variables, faults)
 }

@@ -1,5 +1,5 @@
 -- From lists of faults to what a check adds.
-use Rattle.std.proofs.Common.{◌≡◌, List, ◌++◌, Contains, refl, sym, subst, inl, inr, ◌⊎◌, ◌↔◌, Vec}
+use Rattle.std.proofs.Common.{◌≡◌, List, ◌++◌, Contains, sym, subst, inl, inr, ◌⊎◌, Vec}
 use Rattle.std.specs.declared.alloc.Global.{Global}
 use Rattle.std.proofs.lemmas.List.Elements.{Contains-append_left, Contains-append_right, Contains-append_cases}
 use Rattle.graphql_fault_data.specs.FaultView.{faults_of}

@@ -1,17 +1,16 @@
 -- Small values, by computation: what breaks a rule, and what next to it does not.
-use Rattle.std.proofs.Common.{◌≡◌, ℕ, Bool, true, false, List, [], ◌∷◌, codes, if◌then◌else◌, bytes_eq, Contains, Option, None, Some, refl, sym, inl, inr, ◌⊎◌, FitsSigned, w32, arith}
-use Rattle.std.specs.Bool.{Decides}
-use Rattle.graphql_names.specs.Placed.{Placed, Text}
+use Rattle.std.proofs.Common.{ℕ, true, false, List, [], ◌∷◌, codes, if◌then◌else◌, bytes_eq, None, Some, refl, sym, inl, inr, FitsSigned, w32}
+use Rattle.graphql_names.specs.Placed.{Text}
 use Rattle.graphql_literals.specs.NumberSyntax.{integer_value}
-use Rattle.graphql_literals.specs.TypeTree.{TypeTree, NamedTree, ListTree as ListOf}
-use Rattle.graphql_literals.specs.ValueTree.{ValueTree, StringTree, IntTree, ListTree, no_items, item_then}
+use Rattle.graphql_literals.specs.TypeTree.{NamedTree, ListTree as ListOf}
+use Rattle.graphql_literals.specs.ValueTree.{StringTree, IntTree, ListTree, no_items, item_then}
 use Rattle.graphql_fault_data.specs.in_schema.in_schema_types.Looks.{TypeLooks}
 use Rattle.graphql_fault_data.specs.in_schema.in_schema_types.declared.type_kind.TypeKind.TheVariants as kind
 use Rattle.graphql_rule_definitions.specs.Diagnostics.{UnsupportedValueType, IntCoercionError}
-use Rattle.graphql_rule_definitions.specs.Faults.{FaultAt, wrong}
+use Rattle.graphql_rule_definitions.specs.Faults.{wrong}
 use Rattle.graphql_rule_definitions.specs.Judged.{Judged}
 use Rattle.graphql_rule_definitions.specs.Values.{Wanted, FitsForm, IntCoercionErrorAt, TypeBreaks}
-use Rattle.graphql_value_rules.proofs.Tells.{no_true, not_in_nil, Contains-cons}
+use Rattle.graphql_value_rules.proofs.Tells.{no_true}
 use Rattle.graphql_value_rules.proofs.FormsTold.{fits_decides, among_more, among_one}
 
 abbrev int_name : List ℕ

@@ -1,16 +1,16 @@
 -- The lists of faults of one value tell the rules on its form.
-use Rattle.std.proofs.Common.{◌≡◌, ℕ, ℤ, pos, negsuc, ◌<◌, ◌^◌, zero, suc, Bool, true, false, not, ◌&&◌, ◌||◌, ltb, List, [], ◌∷◌, ◌++◌, codes, map, find, bytes_eq, Contains, is_none, Option, None, Some, option_map, refl, sym, ap, subst, ◌∙◌, inl, inr, ◌⊎◌, ◌↔◌, FitsSigned, slice_get, if◌then◌else◌, w32, arith}
+use Rattle.std.proofs.Common.{◌≡◌, ℕ, ℤ, pos, negsuc, ◌<◌, ◌^◌, Bool, true, false, not, ◌&&◌, ◌||◌, List, [], ◌∷◌, ◌++◌, codes, find, bytes_eq, Contains, is_none, Option, None, Some, option_map, refl, sym, ap, subst, ◌∙◌, inl, inr, ◌⊎◌, ◌↔◌, FitsSigned, if◌then◌else◌, w32}
 use Rattle.std.specs.Bool.{Decides}
 use Rattle.std.specs.Option.{option_map_or}
-use Rattle.std.proofs.lemmas.Bool.Decides.{Decides-ltb, Decides-not}
+use Rattle.std.proofs.lemmas.Bool.Decides.{Decides-ltb}
 use Rattle.std.proofs.lemmas.Slice.Eq.{bytes_eq-Decides}
 use Rattle.graphql_names.specs.Placed.{Placed, Place, Text, unplaced_node}
 use Rattle.graphql_names.specs.Places.{is_built_in}
 use Rattle.graphql_literals.specs.NumberSyntax.{integer_value}
 use Rattle.graphql_literals.specs.TypeTree.{TypeTree, unplaced_type}
 use Rattle.graphql_literals.specs.TypeQueries.{has_mark, is_list_type, inner_name}
-use Rattle.graphql_literals.specs.ValueTree.{ValueTree, ItemTrees, EntryTrees, NullTree, EnumTree, VariableTree, StringTree, FloatTree, IntTree, BooleanTree, ListTree, ObjectTree, no_items, item_then, no_entries, entry_then, unplaced_value}
-use Rattle.graphql_literals.specs.ValueQueries.{is_null_value, enum_name, integer_text, object_entries}
+use Rattle.graphql_literals.specs.ValueTree.{ValueTree, EntryTrees, NullTree, EnumTree, VariableTree, StringTree, FloatTree, IntTree, BooleanTree, ListTree, ObjectTree, no_entries, entry_then, unplaced_value}
+use Rattle.graphql_literals.specs.ValueQueries.{enum_name, integer_text, object_entries}
 use Rattle.graphql_directives.specs.DirectiveTree.{InputValueTree, unplaced_input_value}
 use Rattle.graphql_directives.specs.DirectiveQueries.{is_required_input}
 use Rattle.graphql_operations.specs.OperationTree.{VariableDefinitionTree}
@@ -31,8 +31,8 @@ use Rattle.graphql_rule_definitions.specs.Judged.{Judged, judged, IsBuiltInScala
 use Rattle.graphql_rule_definitions.specs.Values.{Wanted, Variables, defined_name, wanted_name, entry_named, is_absent_or_null, IsScalarAmong, FitsForm, UnsupportedValueTypeAt, IntCoercionErrorAt, UndefinedEnumValueAt, UndefinedInputValueAt, RequiredFieldAt, FormBreaks}
 use Rattle.graphql_rule_definitions.specs.Told.{PlacedFault}
 use Rattle.graphql_value_rules.specs.Wanting.{wanted}
-use Rattle.graphql_value_rules.specs.ValueFaults.{is_key, fits_32_bits, is_built_in_scalar, is_custom_scalar, is_scalar_so, takes_integers, takes_floats, takes_strings, takes_booleans, given_entry, is_missing_entry, each_first, variable_fits, fits_form, unsupported_value_type, int_coercion_error, undefined_enum_value, undefined_key, undefined_input_value, required_field, required_fields, form_faults}
-use Rattle.graphql_value_rules.proofs.Tells.{no_true, no_some, not_in_nil, Tells, tells_same, tells_both, tells_nothing, tells_one, tells_one_as, tells_when, tells_unless, tells_present, tells_mapped, first_told, tells_first}
+use Rattle.graphql_value_rules.specs.ValueFaults.{is_key, fits_32_bits, is_built_in_scalar, is_custom_scalar, is_scalar_so, takes_integers, takes_floats, takes_strings, takes_booleans, given_entry, is_missing_entry, each_first, fits_form, unsupported_value_type, int_coercion_error, undefined_enum_value, undefined_key, undefined_input_value, required_field, required_fields, form_faults}
+use Rattle.graphql_value_rules.proofs.Tells.{no_true, no_some, Tells, tells_same, tells_both, tells_nothing, tells_one, tells_one_as, tells_when, tells_unless, tells_present, first_told, tells_first}
 use Rattle.graphql_value_rules.proofs.Looking.{kind_decides, inner_unplaced, mark_unplaced, list_unplaced, input_under, no_input_decides, no_value_decides, type_present, place_of_type, mark_of_type, place_of_input}
 
 -- ---- tests

@@ -1,5 +1,5 @@
 -- The list of faults of the keys in a value tells the rule on them.
-use Rattle.std.proofs.Common.{◌≡◌, ℕ, ◌<◌, ◌+◌, zero, suc, Bool, true, false, List, [], ◌∷◌, ◌++◌, map, length, find, slice_get, bytes_eq, Option, None, Some, refl, sym, ap, subst, ◌∙◌, inl, inr, ◌⊎◌, ◌↔◌, if◌then◌else◌, arith, append_assoc}
+use Rattle.std.proofs.Common.{◌≡◌, ℕ, ◌<◌, ◌+◌, zero, suc, Bool, true, false, List, [], ◌∷◌, ◌++◌, map, length, find, slice_get, bytes_eq, Option, Some, refl, sym, ap, subst, ◌∙◌, inl, inr, ◌⊎◌, if◌then◌else◌, arith, append_assoc}
 use Rattle.std.specs.Bool.{Decides}
 use Rattle.std.specs.Option.{option_map_or}
 use Rattle.std.proofs.lemmas.List.{map-append}
@@ -12,7 +12,7 @@ use Rattle.graphql_rule_definitions.specs.Spots.{entry_list}
 use Rattle.graphql_rule_definitions.specs.Faults.{wrong}
 use Rattle.graphql_rule_definitions.specs.Values.{UniqueInputValueIn, UniqueInputValueInItems, UniqueInputValueInEntries}
 use Rattle.graphql_rule_definitions.specs.Told.{PlacedFault}
-use Rattle.graphql_value_rules.specs.KeyFaults.{first_key, repeated_key, repeated_keys, key_faults, key_faults_items, key_faults_entries}
+use Rattle.graphql_value_rules.specs.KeyFaults.{repeated_key, repeated_keys, key_faults, key_faults_items, key_faults_entries}
 use Rattle.graphql_value_rules.proofs.Tells.{no_true, no_some, Tells, tells_same, tells_both, tells_nothing, tells_one, tells_present}
 
 -- ---- what stands at an index of two lists, one behind the other

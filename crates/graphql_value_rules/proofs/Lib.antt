@@ -1,4 +1,6 @@
 pub mod Tells
+pub mod Noted
+pub mod NotedKeys
 pub mod Looking
 pub mod VariablesTold
 pub mod KeysTold

@@ -1,5 +1,5 @@
 -- What rules read of a schema, by the entries of its tree.
-use Rattle.std.proofs.Common.{◌≡◌, ℕ, Bool, true, false, cond, not, ◌&&◌, ◌||◌, List, [], ◌∷◌, map, find, bytes_eq, is_none, Option, None, Some, option_map, refl, sym, ap, subst, ◌∙◌, inl, inr, ◌⊎◌, ◌↔◌, if◌then◌else◌, true≢false}
+use Rattle.std.proofs.Common.{◌≡◌, ℕ, Bool, true, false, cond, List, [], ◌∷◌, map, find, bytes_eq, is_none, Option, None, Some, option_map, refl, sym, ap, subst, ◌∙◌, ◌↔◌, if◌then◌else◌}
 use Rattle.std.specs.Bool.{Decides}
 use Rattle.std.specs.Cmp.Lexicographic.{nat_list_cmp_total, texts_ties}
 use Rattle.std.specs.FinMap as fin
@@ -12,7 +12,7 @@ use Rattle.graphql_type_members.specs.TypeSystemTree.{unplaced_enum_value}
 use Rattle.graphql_components.specs.Names.{Entries, by_bytes, named}
 use Rattle.graphql_components.specs.Given.{Given, plain_given}
 use Rattle.graphql_fault_data.specs.in_schema.in_schema_types.SchemaTree.{SchemaType, SchemaTree, same_kind}
-use Rattle.graphql_fault_data.specs.in_schema.in_schema_types.Plain.{plain_type, plain}
+use Rattle.graphql_fault_data.specs.in_schema.in_schema_types.Plain.{plain_type}
 use Rattle.graphql_fault_data.specs.in_schema.in_schema_types.Looks.{TypeLooks, type_looks}
 use Rattle.graphql_fault_data.specs.in_schema.in_schema_types.Addresses.{under, type_at, input_at, place_at, or_nothing, TypeAt, InputAt, TypeReferenceAt}
 use Rattle.graphql_fault_data.specs.in_schema.in_schema_types.declared.type_kind.TypeKind.{TypeKind}

@@ -1,18 +1,17 @@
 -- The list of faults of a value against a type tells the rules on values.
-use Rattle.std.proofs.Common.{◌≡◌, ℕ, Bool, true, false, ◌||◌, List, [], ◌∷◌, ◌++◌, map, bytes_eq, Contains, Option, None, Some, option_map, refl, sym, ap, subst, ◌∙◌, inl, inr, ◌⊎◌, ◌↔◌, if◌then◌else◌}
+use Rattle.std.proofs.Common.{◌≡◌, ℕ, Bool, true, false, ◌||◌, List, [], ◌∷◌, ◌++◌, bytes_eq, Contains, Option, None, Some, option_map, refl, sym, ap, subst, ◌∙◌, inl, inr, ◌⊎◌, ◌↔◌}
 use Rattle.std.specs.Bool.{Decides}
-use Rattle.std.specs.List.{list_any}
 use Rattle.std.specs.Option.{option_map_or}
 use Rattle.std.proofs.lemmas.Slice.Eq.{bytes_eq-Decides}
-use Rattle.graphql_names.specs.Placed.{Placed, Place, Text}
-use Rattle.graphql_literals.specs.TypeTree.{TypeTree, unplaced_type}
+use Rattle.graphql_names.specs.Placed.{Placed, Place}
+use Rattle.graphql_literals.specs.TypeTree.{TypeTree}
 use Rattle.graphql_literals.specs.TypeQueries.{inner_name, item_type_of}
 use Rattle.graphql_literals.specs.ValueTree.{ValueTree, ItemTrees, EntryTrees, NullTree, EnumTree, VariableTree, StringTree, FloatTree, IntTree, BooleanTree, ListTree, ObjectTree, no_items, item_then, no_entries, entry_then}
 use Rattle.graphql_directives.specs.DirectiveTree.{InputValueTree, unplaced_input_value}
 use Rattle.graphql_components.specs.Given.{Given, plain_given}
 use Rattle.graphql_fault_data.specs.in_schema.in_schema_types.SchemaTree.{SchemaType, SchemaTree, same_kind}
 use Rattle.graphql_fault_data.specs.in_schema.in_schema_types.Plain.{plain_type}
-use Rattle.graphql_fault_data.specs.in_schema.in_schema_types.Looks.{TypeLooks, type_looks}
+use Rattle.graphql_fault_data.specs.in_schema.in_schema_types.Looks.{type_looks}
 use Rattle.graphql_fault_data.specs.in_schema.in_schema_types.Addresses.{under, type_at, place_at, TypeReferenceAt, InputAt}
 use Rattle.graphql_fault_data.specs.in_schema.in_schema_types.declared.type_kind.TypeKind.TheVariants as kind
 use Rattle.graphql_rule_definitions.specs.Words.{Present}
@@ -21,7 +20,7 @@ use Rattle.graphql_rule_definitions.specs.Values.{Wanted, Variables, wanted_name
 use Rattle.graphql_rule_definitions.specs.Told.{PlacedFault}
 use Rattle.graphql_value_rules.specs.Wanting.{wanted}
 use Rattle.graphql_value_rules.specs.ValueFaults.{is_key, fits_form, form_faults, faults_with, inner_faults, item_faults, entry_faults, type_faults}
-use Rattle.graphql_value_rules.proofs.Tells.{no_true, not_in_nil, Tells, tells_same, tells_both, tells_nothing, tells_one, tells_when, tells_unless}
+use Rattle.graphql_value_rules.proofs.Tells.{no_true, not_in_nil, Tells, tells_same, tells_both, tells_nothing, tells_when, tells_unless}
 use Rattle.graphql_value_rules.proofs.Looking.{kind_decides, inner_unplaced, item_unplaced, input_under, type_present, type_absent, place_of_reference}
 use Rattle.graphql_value_rules.proofs.FormsTold.{fits_there, form_told, among_more}
 

@@ -1,17 +1,16 @@
 -- The list of faults of the variables in a value tells the rule on them.
-use Rattle.std.proofs.Common.{◌≡◌, ℕ, zero, suc, Bool, true, false, ◌||◌, List, [], ◌∷◌, ◌++◌, slice_get, find, bytes_eq, if◌then◌else◌, Option, None, Some, refl, sym, ap, subst, ◌∙◌, inl, inr, ◌⊎◌}
+use Rattle.std.proofs.Common.{◌≡◌, zero, suc, Bool, true, false, List, [], ◌∷◌, find, bytes_eq, if◌then◌else◌, Some, refl, subst}
 use Rattle.std.specs.Bool.{Decides}
 use Rattle.std.specs.Option.{option_map_or}
 use Rattle.std.proofs.lemmas.Slice.Eq.{bytes_eq-Decides}
-use Rattle.graphql_names.specs.Placed.{Placed, Place, Text}
+use Rattle.graphql_names.specs.Placed.{Placed, Place}
 use Rattle.graphql_literals.specs.ValueTree.{ValueTree, ItemTrees, EntryTrees, NullTree, EnumTree, VariableTree, StringTree, FloatTree, IntTree, BooleanTree, ListTree, ObjectTree, no_items, item_then, no_entries, entry_then}
 use Rattle.graphql_operations.specs.OperationTree.{VariableDefinitionTree}
 use Rattle.graphql_rule_definitions.specs.Diagnostics.{UndefinedVariable}
 use Rattle.graphql_rule_definitions.specs.Words.{AtSomeIndex}
 use Rattle.graphql_rule_definitions.specs.Faults.{wrong}
 use Rattle.graphql_rule_definitions.specs.Values.{Variables, defined_name, UndefinedVariableIn, UndefinedVariableInItems, UndefinedVariableInEntries}
-use Rattle.graphql_rule_definitions.specs.Told.{PlacedFault}
-use Rattle.graphql_value_rules.specs.VariableFaults.{undefined_variable, variable_faults, variable_faults_items, variable_faults_entries}
+use Rattle.graphql_value_rules.specs.VariableFaults.{variable_faults, variable_faults_items, variable_faults_entries}
 use Rattle.graphql_value_rules.proofs.Tells.{no_true, no_some, not_in_nil, only, is_only, Tells, tells_both, tells_nothing}
 
 -- none of these passes a test

@@ -1,8 +1,8 @@
 -- The faults of the keys in a value as a list, in the order in which they are told.
-use Rattle.std.specs.Prelude.{ℕ, List, [], ◌∷◌, ◌++◌, Option, find, bytes_eq}
+use Rattle.std.specs.Prelude.{List, [], ◌∷◌, ◌++◌, Option, find, bytes_eq}
 use Rattle.std.specs.Option.{option_map_or}
 use Rattle.graphql_names.specs.Placed.{Place, Text}
-use Rattle.graphql_literals.specs.ValueTree.{ValueTree, ItemTrees, EntryTrees, NullTree, EnumTree, VariableTree, StringTree, FloatTree, IntTree, BooleanTree, ListTree, ObjectTree, no_items, item_then, no_entries, entry_then}
+use Rattle.graphql_literals.specs.ValueTree.{ValueTree, ItemTrees, EntryTrees, ListTree, ObjectTree, no_items, item_then, no_entries, entry_then}
 use Rattle.graphql_rule_definitions.specs.Diagnostics.{UniqueInputValue}
 use Rattle.graphql_rule_definitions.specs.Faults.{wrong}
 use Rattle.graphql_rule_definitions.specs.Told.{PlacedFault}
@@ -14,6 +14,10 @@ first_key before n = find (λ k. bytes_eq k.it n.it) before
 -- a key behind others
 abbrev pub repeated_key : List (Text Place) → Text Place → List PlacedFault
 repeated_key before n = option_map_or (λ k. wrong n.place (UniqueInputValue n.it k.place n.place) ∷ []) (first_key before n) []
+
+-- a key, where the first of its name before it, if there is one, has this place
+abbrev pub key_again : Option Place → Text Place → List PlacedFault
+key_again first n = option_map_or (λ p. wrong n.place (UniqueInputValue n.it p n.place) ∷ []) first []
 
 abbrev pub repeated_keys : List (Text Place) → EntryTrees Place → List PlacedFault
 repeated_keys before no_entries = []

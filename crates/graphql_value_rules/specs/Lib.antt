@@ -2,6 +2,7 @@ pub mod Wanting
 pub mod ValueFaults
 pub mod VariableFaults
 pub mod KeyFaults
+pub mod Firsts
 pub use Rattle.graphql_fault_data.specs as in_fault_data
 pub use Rattle.graphql_rule_definitions.specs as in_rule_definitions
 pub use Rattle.graphql_fault_data.specs.in_schema as in_schema

@@ -1,9 +1,9 @@
 -- The faults of a value against a type as a list, in the order in which they are told. `ty` is the type that is wanted, `at_type` the place
 -- of the reference to it, and `t` the type of the schema that stands inside all its brackets.
-use Rattle.std.specs.Prelude.{ℕ, ℤ, pos, negsuc, ◌^◌, ltb, Bool, true, false, not, ◌&&◌, ◌||◌, is_none, List, [], ◌∷◌, ◌++◌, codes, find, bytes_eq, Option, None, Some, option_map, if◌then◌else◌}
+use Rattle.std.specs.Prelude.{ℕ, ℤ, pos, negsuc, ◌^◌, ltb, Bool, true, not, ◌&&◌, ◌||◌, is_none, List, [], ◌∷◌, ◌++◌, codes, find, bytes_eq, Option, None, Some, if◌then◌else◌}
 use Rattle.std.specs.List.{list_any}
 use Rattle.std.specs.Option.{option_map_or}
-use Rattle.graphql_names.specs.Placed.{Placed, Place, Text}
+use Rattle.graphql_names.specs.Placed.{Placed, Place}
 use Rattle.graphql_names.specs.Places.{is_built_in}
 use Rattle.graphql_literals.specs.NumberSyntax.{integer_value}
 use Rattle.graphql_literals.specs.TypeTree.{TypeTree, unplaced_type}
@@ -115,10 +115,14 @@ undefined_key n t (entry_then k p v es) = if is_none (under k.it t.inputs) then 
 abbrev pub undefined_input_value : List ℕ → SchemaType Place → ValueTree Place → List PlacedFault
 undefined_input_value n t v = if same_kind t.kind kind.InputObject then option_map_or (λ es. undefined_key n t es) (object_entries v) [] else []
 
+-- a field of an input object, by the test whether it is missing
+abbrev pub required_if : Bool → List ℕ → Place → List ℕ → Given Place (Placed Place (InputValueTree Place)) → List PlacedFault
+required_if missing n p m f = if is_required_input f.it.it && missing
+    then wrong p (RequiredField m (OfAttribute n m) (unplaced_type f.it.it.ty.it) f.it.place) ∷ [] else []
+
 -- a field of an input object
 abbrev pub required_field : List ℕ → Place → EntryTrees Place → List ℕ → Given Place (Placed Place (InputValueTree Place)) → List PlacedFault
-required_field n p es m f = if is_required_input f.it.it && is_missing_entry m es
-    then wrong p (RequiredField m (OfAttribute n m) (unplaced_type f.it.it.ty.it) f.it.place) ∷ [] else []
+required_field n p es m f = required_if (is_missing_entry m es) n p m f
 
 abbrev pub required_fields : List ℕ → SchemaType Place → Place → ValueTree Place → List PlacedFault
 required_fields n t p v = if same_kind t.kind kind.InputObject then option_map_or (λ es. each_first (required_field n p es) [] t.inputs) (object_entries v) [] else []

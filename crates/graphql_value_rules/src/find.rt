@@ -1,8 +1,7 @@
 //! What values refer to, by name.
-ghost use Rattle.std.specs.Prelude.{◌≡◌, find, map, bytes_eq};
+ghost use Rattle.std.specs.Prelude.{◌≡◌, find, bytes_eq};
 ghost use Rattle.std.specs.Option.{option_map};
 ghost use Rattle.graphql_names.specs.Placed.{node_tree};
-ghost use Rattle.graphql_literals.specs.ValueTree.{value_tree, entry_trees};
 ghost use Rattle.graphql_directives.specs.DirectiveTree.{input_value_tree};
 ghost use Rattle.graphql_operations.specs.OperationTree.{variable_definition_tree};
 ghost use Rattle.graphql_components.specs.Given.{component_tree};
@@ -12,12 +11,10 @@ ghost use Rattle.graphql_fault_data.specs.in_schema.in_schema_types.TypeView.{ex
 ghost use Rattle.graphql_fault_data.specs.in_schema.in_schema_types.Addresses.{under, type_at};
 ghost use Rattle.graphql_rule_definitions.specs.Values.{defined_name};
 ghost use Rattle.graphql_value_rules.specs.Wanting.{variables_of};
-ghost use Rattle.graphql_value_rules.specs.ValueFaults.{given_entry, is_key};
 
 use graphql_components::Component;
 use graphql_directives::InputValueDefinition;
 use graphql_fault_data::Schema;
-use graphql_literals::Value;
 use graphql_names::{Name, Node};
 use graphql_operations::VariableDefinition;
 use graphql_schema_types::ExtendedType;
@@ -69,31 +66,4 @@ pub(crate) fn find_value<'a>(
         ExtendedType::Enum(own) => own.content().values.get(name),
         _ => None,
     }
-}
-
-/// The value of the first entry of that name, if there is one.
-pub(crate) fn find_entry<'a>(
-    entries: &'a [(Name, Node<Value>)],
-    name: &Name,
-) -> Option<&'a Node<Value>>
-    ensures { option_map (λ v. node_tree value_tree v.now) result ≡ given_entry name.now.text (entry_trees value_tree entries.now) }
-{
-    for entry in entries {
-        if entry.0.as_str() == name.as_str() {
-            return Some(&entry.1);
-        }
-    }
-    None
-}
-
-/// Whether one of these entries has that name.
-pub(crate) fn stands_before(before: &[(Name, Node<Value>)], name: &Name) -> bool
-    ensures { result ≡ is_key name.now.text (map (λ e. e.0.text) before.now) }
-{
-    for entry in before {
-        if entry.0.as_str() == name.as_str() {
-            return true;
-        }
-    }
-    false
 }

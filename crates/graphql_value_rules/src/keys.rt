@@ -1,45 +1,34 @@
 //! Keys of objects.
 ghost use Rattle.std.specs.Prelude.{◌≡◌, ◌++◌, [], OnOk};
-ghost use Rattle.std.specs.Option.{option_map};
 ghost use Rattle.graphql_names.specs.Node.{content};
 ghost use Rattle.graphql_names.specs.Placed.{name_tree};
 ghost use Rattle.graphql_literals.specs.ValueTree.{value_tree, item_trees, entry_trees};
 ghost use Rattle.graphql_fault_data.specs.FaultView.{faults_of};
-ghost use Rattle.graphql_value_rules.specs.KeyFaults.{first_key, repeated_key, repeated_keys, key_faults, key_faults_items, key_faults_object, key_faults_entries};
-ghost use Rattle.graphql_value_rules.specs.Wanting.{keys_of_entries};
+ghost use Rattle.graphql_value_rules.specs.KeyFaults.{key_again, repeated_keys, key_faults, key_faults_items, key_faults_object, key_faults_entries};
 
+use crate::firsts::note_first;
 use graphql_fault_data::{DiagnosticData, Fault, tell};
 use graphql_literals::Value;
-use graphql_names::{Name, Node};
+use graphql_names::{Name, Node, SourceSpan};
+use indexmap::IndexMap;
 use std::alloc::AllocError;
 
-/// The first of these keys that has that name.
-fn first_key<'a>(before: &'a [(Name, Node<Value>)], name: &Name) -> Option<&'a Name>
-    ensures { option_map (λ k. name_tree k.now) result ≡ first_key (keys_of_entries before.now) (name_tree name.now) }
-{
-    for entry in before {
-        if entry.0.as_str() == name.as_str() {
-            return Some(&entry.0);
-        }
-    }
-    None
-}
-
-/// UniqueInputValue: no key stands twice in an object (section 5.6.3). `before` are the entries before the key.
+/// UniqueInputValue: no key stands twice in an object (section 5.6.3). `first` is the place of the first of its name, if one is
+/// before it.
 fn unique_input_value(
-    before: &[(Name, Node<Value>)],
+    first: Option<Option<SourceSpan>>,
     key: &Name,
     faults: &mut Vec<Fault>,
 ) -> Result<(), AllocError>
-    ensures { OnOk result (faults_of faults.new ≡ faults_of faults.old ++ repeated_key (keys_of_entries before.now) (name_tree key.now)) }
+    ensures { OnOk result (faults_of faults.new ≡ faults_of faults.old ++ key_again first (name_tree key.now)) }
 {
-    let Some(first) = first_key(before, key) else {
+    let Some(original_definition) = first else {
         return Ok(());
     };
     let location = key.location();
     let data = DiagnosticData::UniqueInputValue {
         name: key.clone()?,
-        original_definition: first.location(),
+        original_definition,
         redefined_definition: location,
     };
     tell(faults, Some(Fault { location, data }))
@@ -52,8 +41,10 @@ fn tell_repeated_keys(
 ) -> Result<(), AllocError>
     ensures { OnOk result (faults_of faults.new ≡ faults_of faults.old ++ repeated_keys [] (entry_trees value_tree entries.now)) }
 {
-    for index in 0..entries.len() {
-        unique_input_value(&entries[..index], &entries[index].0, faults)?;
+    let mut places = IndexMap::new(*faults.allocator());
+    for entry in entries {
+        let first = note_first(&mut places, &entry.0, entry.0.location())?;
+        unique_input_value(first, &entry.0, faults)?;
     }
     Ok(())
 }

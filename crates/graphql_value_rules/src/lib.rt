@@ -9,6 +9,7 @@
 
 mod checks;
 mod find;
+mod firsts;
 mod forms;
 mod keys;
 mod objects;
@@ -16,6 +17,7 @@ mod types;
 mod variables;
 
 pub use checks::{check_value, type_breaks, undefined_variables, unique_input_values};
+pub use firsts::note_first;
 pub use graphql_fault_data::{
     DiagnosticData, DirectiveArgumentCoordinate, DirectiveCoordinate, Fault,
     FieldArgumentCoordinate, Schema, SchemaCoordinate, TypeAttributeCoordinate, tell,

@@ -11,10 +11,12 @@ ghost use Rattle.graphql_fault_data.specs.in_coords.CoordinateView.{attribute_co
 ghost use Rattle.graphql_rule_definitions.specs.Diagnostics.{UndefinedInputValue};
 ghost use Rattle.graphql_rule_definitions.specs.Faults.{wrong};
 ghost use Rattle.graphql_fault_data.specs.FaultView.{faults_of};
-ghost use Rattle.graphql_value_rules.specs.ValueFaults.{is_missing_entry, undefined_key, undefined_input_value, required_field, required_fields, each_first};
-ghost use Rattle.graphql_value_rules.specs.Wanting.{required_among};
+ghost use Rattle.graphql_value_rules.specs.ValueFaults.{undefined_key, undefined_input_value, required_if, required_field, required_fields, each_first};
+ghost use Rattle.graphql_value_rules.specs.Firsts.{AreFirsts};
+ghost use Rattle.graphql_value_rules.specs.Wanting.{is_missing, nulls_of, required_among};
 
-use crate::find::{find_entry, find_input};
+use crate::find::find_input;
+use crate::firsts::note_first;
 use graphql_components::Component;
 use graphql_directives::InputValueDefinition;
 use graphql_fault_data::{DiagnosticData, Fault, TypeAttributeCoordinate, tell};
@@ -22,7 +24,7 @@ use graphql_literals::Value;
 use graphql_names::{Name, Node, SourceSpan};
 use graphql_schema_types::ExtendedType;
 use indexmap::IndexMap;
-use std::alloc::AllocError;
+use std::alloc::{AllocError, Global};
 
 /// UndefinedInputValue: an input object has a field for each key; the first key without one is told (section 5.6.2).
 pub(crate) fn undefined_input_value(
@@ -83,30 +85,44 @@ fn told_key(
     )
 }
 
-/// Whether there is no entry of that name, or it is null.
-fn is_missing_entry(entries: &[(Name, Node<Value>)], name: &Name) -> bool
-    ensures { result ≡ is_missing_entry name.now.text (entry_trees value_tree entries.now) }
+/// Of each key whether the value of its first entry is null.
+fn nulls_by_key(
+    alloc: Global,
+    entries: &[(Name, Node<Value>)],
+) -> Result<IndexMap<Name, bool>, AllocError>
+    ensures { IfOk result (λ nulls. AreFirsts (λ e. e.0) (λ i e. e.1) nulls (nulls_of entries.now)) }
 {
-    match find_entry(entries, name) {
+    let mut nulls = IndexMap::new(alloc);
+    for entry in entries {
+        note_first(&mut nulls, &entry.0, entry.1.content().is_null())?;
+    }
+    Ok(nulls)
+}
+
+/// Whether there is no entry of that name, or it is null.
+fn is_missing_entry(nulls: &IndexMap<Name, bool>, name: &Name) -> bool
+    ensures { result ≡ is_missing nulls.now name.now }
+{
+    match nulls.get(name) {
         None => true,
-        Some(value) => value.content().is_null(),
+        Some(is_null) => *is_null,
     }
 }
 
 /// RequiredField: a required field of an input object is given, and not as null (section 5.6.4). `field` stands under the
-/// name `field_name` in the type of that name.
+/// name `field_name` in the type of that name; `nulls` has whether what is given is null.
 fn required_field(
     name: &Name,
     location: Option<SourceSpan>,
-    entries: &[(Name, Node<Value>)],
+    nulls: &IndexMap<Name, bool>,
     field_name: &Name,
     field: &Component<InputValueDefinition>,
     faults: &mut Vec<Fault>,
 ) -> Result<(), AllocError>
-    ensures { OnOk result (faults_of faults.new ≡ faults_of faults.old ++ required_field name.now.text location (entry_trees value_tree entries.now) field_name.now.text (component_tree input_value_tree field.now)) }
+    ensures { OnOk result (faults_of faults.new ≡ faults_of faults.old ++ required_if (is_missing nulls.now field_name.now) name.now.text location field_name.now.text (component_tree input_value_tree field.now)) }
 {
     let definition = field.node.content();
-    if !(definition.is_required() && is_missing_entry(entries, field_name)) {
+    if !(definition.is_required() && is_missing_entry(nulls, field_name)) {
         return Ok(());
     }
     let coordinate = attribute_coordinate(name, field_name)?;
@@ -163,20 +179,22 @@ fn tell_required(
     if fields.len() == 0 {
         return Ok(());
     }
-    tell_each_required(name, location, entries, fields, faults)
+    let nulls = nulls_by_key(*faults.allocator(), entries)?;
+    tell_each_required(name, location, &nulls, fields, faults)
 }
 
+/// Adds the faults of the required ones of these fields, where `nulls` has whether what is given is null.
 fn tell_each_required(
     name: &Name,
     location: Option<SourceSpan>,
-    entries: &[(Name, Node<Value>)],
+    nulls: &IndexMap<Name, bool>,
     fields: &IndexMap<Name, Component<InputValueDefinition>>,
     faults: &mut Vec<Fault>,
 ) -> Result<(), AllocError>
-    ensures { OnOk result (faults_of faults.new ≡ faults_of faults.old ++ required_among name.now.text location (entry_trees value_tree entries.now) fields.now.entries) }
+    ensures { OnOk result (faults_of faults.new ≡ faults_of faults.old ++ required_among (is_missing nulls.now) name.now.text location fields.now.entries) }
 {
     for (field_name, field) in fields {
-        required_field(name, location, entries, field_name, field, faults)?;
+        required_field(name, location, nulls, field_name, field, faults)?;
     }
     Ok(())
 }

@@ -9,7 +9,8 @@ ghost use Rattle.graphql_fault_data.specs.FaultView.{faults_of};
 ghost use Rattle.graphql_value_rules.specs.Wanting.{variables_of};
 ghost use Rattle.graphql_value_rules.specs.ValueFaults.{form_faults, inner_faults, item_faults, entry_faults, type_faults, field_faults};
 
-use crate::find::{find_input, find_type, stands_before};
+use crate::find::{find_input, find_type};
+use crate::firsts::note_first;
 use crate::forms::{
     int_coercion_error, is_custom_scalar, undefined_enum_value, unsupported_value_type,
 };
@@ -19,6 +20,7 @@ use graphql_literals::{Type, Value};
 use graphql_names::{Name, Node, SourceSpan};
 use graphql_operations::VariableDefinition;
 use graphql_schema_types::ExtendedType;
+use indexmap::IndexMap;
 use std::alloc::AllocError;
 
 /// Adds the faults of a value against a type.
@@ -179,15 +181,16 @@ fn tell_entries(
 ) -> Result<(), AllocError>
     ensures { OnOk result (faults_of faults.new ≡ faults_of faults.old ++ entry_faults (schema_tree schema.now) (variables_of variables.now) (extended_type found.now) [] (entry_trees value_tree entries.now)) }
 {
-    for index in 0..entries.len() {
-        if !stands_before(&entries[..index], &entries[index].0) {
-            let node = &entries[index].1;
+    let mut keys = IndexMap::new(*faults.allocator());
+    for entry in entries {
+        let first = note_first(&mut keys, &entry.0, entry.0.location())?;
+        if first.is_none() {
             tell_entry(
                 schema,
-                node.content(),
-                node.location(),
+                entry.1.content(),
+                entry.1.location(),
                 found,
-                &entries[index].0,
+                &entry.0,
                 variables,
                 faults,
             )?;

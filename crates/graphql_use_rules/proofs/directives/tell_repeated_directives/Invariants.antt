@@ -1,12 +1,16 @@
 use Rattle.std.proofs.Common.{◌≡◌, ◌++◌, take}
 use Rattle.graphql_components.specs.Lists.{each_place}
-use Rattle.graphql_value_rules.specs.in_schema.in_schema_types.Addresses.{directive_definition_at}
-use Rattle.graphql_value_rules.specs.in_schema.SchemaOf.{schema_tree}
 use Rattle.graphql_value_rules.specs.in_fault_data.FaultView.{faults_of}
 use Rattle.graphql_rule_definitions.specs.Uses.{directive_name}
+use Rattle.graphql_value_rules.specs.Firsts.{AreFirsts}
 use Rattle.graphql_use_rules.specs.Trees.{directives_of}
 use Rattle.graphql_use_rules.specs.UseFaults.{repeated_directive}
+use Rattle.graphql_value_rules.specs.in_schema.in_schema_types.Addresses.{directive_definition_at}
+use Rattle.graphql_value_rules.specs.in_schema.SchemaOf.{schema_tree}
 use Rattle.graphql_use_rules.proofs.directives.tell_repeated_directives.Given as goal
 
-abbrev pub invariant-loop-index : goal.invariant-loop-index
-invariant-loop-index l = faults_of l.faults ≡ faults_of l.fn.faults ++ each_place (λ before d. repeated_directive (directive_definition_at (schema_tree l.schema) (directive_name d)) before d) (directives_of (take l.index l.directives))
+abbrev pub invariant-loop-directive : goal.invariant-loop-directive
+invariant-loop-directive l = record {
+  told : faults_of l.faults ≡ faults_of l.fn.faults ++ each_place (λ before d. repeated_directive (directive_definition_at (schema_tree l.schema) (directive_name d)) before d) (directives_of (take l.directive-index l.directives));
+  noted : AreFirsts directive_name (λ i a. a.place) l.places (directives_of (take l.directive-index l.directives));
+}

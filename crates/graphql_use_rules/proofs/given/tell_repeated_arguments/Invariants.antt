@@ -1,9 +1,14 @@
 use Rattle.std.proofs.Common.{◌≡◌, ◌++◌, take}
 use Rattle.graphql_components.specs.Lists.{each_place}
 use Rattle.graphql_value_rules.specs.in_fault_data.FaultView.{faults_of}
+use Rattle.graphql_rule_definitions.specs.Uses.{argument_name}
+use Rattle.graphql_value_rules.specs.Firsts.{AreFirsts}
 use Rattle.graphql_use_rules.specs.Trees.{arguments_of}
 use Rattle.graphql_use_rules.specs.UseFaults.{repeated_argument}
 use Rattle.graphql_use_rules.proofs.given.tell_repeated_arguments.Given as goal
 
-abbrev pub invariant-loop-index : goal.invariant-loop-index
-invariant-loop-index l = faults_of l.faults ≡ faults_of l.fn.faults ++ each_place repeated_argument (arguments_of (take l.index l.given))
+abbrev pub invariant-loop-argument : goal.invariant-loop-argument
+invariant-loop-argument l = record {
+  told : faults_of l.faults ≡ faults_of l.fn.faults ++ each_place repeated_argument (arguments_of (take l.argument-index l.given));
+  noted : AreFirsts argument_name (λ i a. a.place) l.places (arguments_of (take l.argument-index l.given));
+}

@@ -1,8 +1,9 @@
-use Rattle.std.proofs.Common.{◌<◌, ◌+◌, take, length, sym, subst, arith}
+use Rattle.std.proofs.Common.{◌≡◌, ◌<◌, ◌+◌, take, length, true, false, sym, ap, subst, ◌∙◌, arith, true≢false}
 use Rattle.std.proofs.lemmas.List.{take_all}
-use Rattle.graphql_names.specs.Placed.{Place, node_tree}
+use Rattle.graphql_names.specs.Node.{content}
+use Rattle.graphql_names.specs.Placed.{node_tree}
 use Rattle.graphql_names.specs.declared.node.Node.{Node}
-use Rattle.graphql_directives.specs.DirectiveTree.{Arguments, argument_tree}
+use Rattle.graphql_directives.specs.DirectiveTree.{argument_tree}
 use Rattle.graphql_directives.specs.declared.directive.Argument.{Argument}
 use Rattle.graphql_value_rules.specs.in_fault_data.FaultView.{faults_of}
 use Rattle.graphql_value_rules.specs.in_schema.SchemaOf.{schema_tree}
@@ -10,9 +11,11 @@ use Rattle.graphql_rule_definitions.specs.Words.{AtSomeIndex}
 use Rattle.graphql_value_rules.specs.in_fault_data.Adds.{Adds}
 use Rattle.graphql_value_rules.specs.Wanting.{variables_of}
 use Rattle.graphql_use_rules.specs.Trees.{arguments_of, inputs_of}
-use Rattle.graphql_use_rules.specs.Steps.{FirstGivenBreaks}
-use Rattle.graphql_use_rules.proofs.Listing.{gains_more, mapped_more, front_of}
+use Rattle.graphql_use_rules.specs.Steps.{DefinedArgumentBreaks, FirstGivenBreaks}
+use Rattle.graphql_use_rules.proofs.Listing.{Gains, gains_more, mapped_more}
+use Rattle.graphql_use_rules.proofs.Numbered.{first_gains, later_gains}
 use Rattle.graphql_use_rules.proofs.taken.check_arguments.Goals as goal
+use Rattle.graphql_use_rules.proofs.taken.check_arguments.Goals.{then-has_number+in_ok-check_if_defined, else-has_number}
 
 pub loop-index-preserved : goal.loop-index-preserved
 loop-index-preserved c =
@@ -23,10 +26,21 @@ loop-index-preserved c =
     let i = c.loop-index.index in
     let x = c.index-taker-index.result in
     let h : i < length xs = omega arith in
-    gains_more (faults_of c.args.faults.now) (faults_of c.loop-index.faults) (faults_of c.check_if_first.new.faults) (arguments_of (take i xs)) (arguments_of (take (i + 1) xs)) (node_tree argument_tree x)
-    (λ j a f. FirstGivenBreaks s vs definitions (take j (arguments_of xs)) a f) (mapped_more (node_tree argument_tree) xs i x h c.index-taker-index.is) c.loop-index.invariant
-    (subst (λ (l : Arguments Place). Adds c.loop-index.faults c.check_if_first.new.faults (FirstGivenBreaks s vs definitions l (node_tree argument_tree x))) (sym (front_of (node_tree argument_tree) xs i))
-    (subst (λ (a : Node Argument). Adds c.loop-index.faults c.check_if_first.new.faults (FirstGivenBreaks s vs definitions (arguments_of (take i xs)) (node_tree argument_tree a))) (sym c.index-taker-index.is) c.in_ok-check_if_first.ensures))
+    let before = faults_of c.loop-index.faults in
+    let named = ap (λ (a : Argument). a.name.text) c.content.ensures ∙ ap (λ (a : Node Argument). (content a).name.text) (sym c.index-taker-index.is) in
+    let name = c.content.result.now.name in
+    let step : Gains before (faults_of c.if-has_number.faults) (FirstGivenBreaks s vs definitions (take (length (arguments_of (take i xs))) (arguments_of xs)) (node_tree argument_tree x)) =
+    elim c.if-has_number.branch [
+      | then-has_number+in_ok-check_if_defined w ↦
+          subst (λ l. Gains before (faults_of l) (FirstGivenBreaks s vs definitions (take (length (arguments_of (take i xs))) (arguments_of xs)) (node_tree argument_tree x))) (sym w.faults-is)
+          (first_gains s vs definitions xs i x h c.index-taker-index.is c.args.given.now c.requires.given name named before (faults_of w.check_if_defined.new.faults) (c.has_number.ensures.0 w.if-has_number.true)
+          (subst (λ (a : Node Argument). Gains before (faults_of w.check_if_defined.new.faults) (DefinedArgumentBreaks s vs definitions (node_tree argument_tree a))) (sym c.index-taker-index.is) w.in_ok-check_if_defined.ensures))
+      | else-has_number w ↦
+          subst (λ l. Gains before (faults_of l) (FirstGivenBreaks s vs definitions (take (length (arguments_of (take i xs))) (arguments_of xs)) (node_tree argument_tree x))) (sym w.faults-is)
+          (later_gains s vs definitions xs i x h c.index-taker-index.is c.args.given.now c.requires.given name named before (λ e. true≢false (sym (c.has_number.ensures.1 e) ∙ w.if-has_number.false)))
+    ] in
+    gains_more (faults_of c.args.faults.now) before (faults_of c.if-has_number.faults) (arguments_of (take i xs)) (arguments_of (take (i + 1) xs)) (node_tree argument_tree x)
+    (λ j a f. FirstGivenBreaks s vs definitions (take j (arguments_of xs)) a f) (mapped_more (node_tree argument_tree) xs i x h c.index-taker-index.is) c.loop-index.invariant step
 
 pub returns : goal.returns
 returns c =

@@ -3,9 +3,12 @@ use Rattle.graphql_literals.specs.ValueTree.{value_tree, entry_trees}
 use Rattle.graphql_fault_data.specs.FaultView.{faults_of}
 use Rattle.graphql_value_rules.specs.Wanting.{keys_of_entries}
 use Rattle.graphql_value_rules.specs.KeyFaults.{repeated_keys}
+use Rattle.graphql_value_rules.specs.Firsts.{AreFirsts}
 use Rattle.graphql_value_rules.proofs.keys.tell_repeated_keys.Given as goal
 
-abbrev pub invariant-loop-index : goal.invariant-loop-index
-invariant-loop-index l =
-    faults_of l.fn.faults ++ repeated_keys [] (entry_trees value_tree l.entries)
-    ≡ faults_of l.faults ++ repeated_keys (keys_of_entries (take l.index l.entries)) (entry_trees value_tree (drop l.index l.entries))
+abbrev pub invariant-loop-entry : goal.invariant-loop-entry
+invariant-loop-entry l = record {
+  told : faults_of l.fn.faults ++ repeated_keys [] (entry_trees value_tree l.entries)
+      ≡ faults_of l.faults ++ repeated_keys (keys_of_entries (take l.entry-index l.entries)) (entry_trees value_tree (drop l.entry-index l.entries));
+  noted : AreFirsts (λ k. k.it) (λ i k. k.place) l.places (keys_of_entries (take l.entry-index l.entries));
+}

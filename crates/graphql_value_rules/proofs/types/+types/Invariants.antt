@@ -4,7 +4,8 @@ use Rattle.graphql_literals.specs.ValueTree.{value_tree, item_trees, entry_trees
 use Rattle.graphql_fault_data.specs.in_schema.SchemaOf.{schema_tree}
 use Rattle.graphql_fault_data.specs.in_schema.in_schema_types.TypeView.{extended_type}
 use Rattle.graphql_fault_data.specs.FaultView.{faults_of}
-use Rattle.graphql_value_rules.specs.Wanting.{variables_of}
+use Rattle.graphql_value_rules.specs.Wanting.{variables_of, keys_of_entries}
+use Rattle.graphql_value_rules.specs.Firsts.{AreFirsts}
 use Rattle.graphql_value_rules.specs.ValueFaults.{item_faults, entry_faults}
 use Rattle.graphql_value_rules.proofs.types.+types.Given as goal
 
@@ -13,7 +14,9 @@ invariant-tell_items-loop-item l =
     faults_of l.fn.faults ++ item_faults (schema_tree l.schema) (variables_of l.variables) (type_tree l.ty) l.type_location (item_trees value_tree l.items)
     ≡ faults_of l.faults ++ item_faults (schema_tree l.schema) (variables_of l.variables) (type_tree l.ty) l.type_location (item_trees value_tree (drop l.item-index l.items))
 
-abbrev pub invariant-tell_entries-loop-index : goal.invariant-tell_entries-loop-index
-invariant-tell_entries-loop-index l =
-    faults_of l.fn.faults ++ entry_faults (schema_tree l.schema) (variables_of l.variables) (extended_type l.found) [] (entry_trees value_tree l.entries)
-    ≡ faults_of l.faults ++ entry_faults (schema_tree l.schema) (variables_of l.variables) (extended_type l.found) (map (λ e. e.0.text) (take l.index l.entries)) (entry_trees value_tree (drop l.index l.entries))
+abbrev pub invariant-tell_entries-loop-entry : goal.invariant-tell_entries-loop-entry
+invariant-tell_entries-loop-entry l = record {
+  told : faults_of l.fn.faults ++ entry_faults (schema_tree l.schema) (variables_of l.variables) (extended_type l.found) [] (entry_trees value_tree l.entries)
+      ≡ faults_of l.faults ++ entry_faults (schema_tree l.schema) (variables_of l.variables) (extended_type l.found) (map (λ e. e.0.text) (take l.entry-index l.entries)) (entry_trees value_tree (drop l.entry-index l.entries));
+  noted : AreFirsts (λ k. k.it) (λ i k. k.place) l.keys (keys_of_entries (take l.entry-index l.entries));
+}
