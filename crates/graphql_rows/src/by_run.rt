@@ -7,7 +7,7 @@ use crate::by_texts::Texts;
 use graphql_checked::{Layout, Limits, Outcome, RunFault, exit_status, run};
 use graphql_names::{Cut, Device};
 use graphql_row_files::{
-    Answer, Case, Plan, Problem, Tally, Way, compare_cut, device, plans_of, reader, says,
+    Answer, Case, Plan, Problem, Tally, Way, answer_of, compare_cut, device, plans_of, reader, says,
 };
 use std::alloc::{AllocError, Global};
 
@@ -86,27 +86,21 @@ fn run_answer(
         nesting: given.nesting,
         plan,
     };
-    let answer = run_by(alloc, given, plan)?;
+    let mut answer = answer_of(alloc, "", "")?;
+    run_by(alloc, given, plan, &mut answer)?;
     compare_cut(alloc, case, way, &answer, tally)
 }
 
-/// What `run` answers by the plan.
-fn run_by(alloc: Global, given: Texts<'_>, plan: Plan) -> Result<Answer, AllocError> {
-    let mut out = Vec::new(alloc);
-    let status = run_onto(alloc, given, plan, &mut out)?;
-    Ok(Answer { status, out })
-}
-
-/// The status of what `run` answers by the plan, with its output behind `out`.
-fn run_onto(
+/// Runs by the plan, and adds the output and the status of that.
+fn run_by(
     alloc: Global,
     given: Texts<'_>,
     plan: Plan,
-    out: &mut Vec<u8>,
-) -> Result<String, AllocError> {
+    told: &mut Answer,
+) -> Result<(), AllocError> {
     let mut schemas = readers(alloc, given.schemas, plan)?;
     let mut document = reader(given.document, plan, given.schemas.len().saturating_add(1));
-    let mut writer = device(out, plan, plan.write);
+    let mut writer = device(&mut told.out, plan, plan.write);
     let limits = Limits {
         nesting: given.nesting,
     };
@@ -118,11 +112,13 @@ fn run_onto(
         Layout::OneLine,
         &mut writer,
     );
-    let told = told_failures(answer);
-    if told.0 != failed_reader(&schemas, document.failed()) || told.1 != writer.failed() {
-        return String::from_str(alloc, "another device has failed than the answer tells");
+    let failures = told_failures(answer);
+    if failures.0 != failed_reader(&schemas, document.failed()) || failures.1 != writer.failed() {
+        return told
+            .status
+            .push_str("another device has failed than the answer tells");
     }
-    status_of(alloc, answer)
+    push_status(answer, &mut told.status)
 }
 
 /// The readers of the schema texts.
@@ -163,16 +159,15 @@ fn told_failures(answer: Result<Outcome, RunFault>) -> (usize, bool) {
     }
 }
 
-/// The status in words: the program's status, what it tells, and for whom the place or the number of bytes.
-fn status_of(alloc: Global, answer: Result<Outcome, RunFault>) -> Result<String, AllocError> {
+/// Adds the status in words: the program's status, what it tells, and for whom the place or the number of bytes.
+fn push_status(answer: Result<Outcome, RunFault>, words: &mut String) -> Result<(), AllocError> {
     let status = exit_status(&answer);
     match answer {
-        Ok(_) => format!(in alloc; "{status}"),
+        Ok(_) => write!(words, "{status}"),
         Err(RunFault::NotYet { file, offset }) => {
-            let number = file.0;
-            format!(in alloc; "{status} not yet {number}:{offset}")
+            write!(words, "{status} not yet {}:{offset}", file.0)
         }
-        Err(RunFault::Writer(out)) => format!(in alloc; "{status} output failed {out}"),
-        Err(fault) => format!(in alloc; "{status} {fault}"),
+        Err(RunFault::Writer(out)) => write!(words, "{status} output failed {out}"),
+        Err(fault) => write!(words, "{status} {fault}"),
     }
 }

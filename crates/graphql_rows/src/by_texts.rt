@@ -2,8 +2,8 @@
 
 use crate::by_calls::{by_calls, by_check_texts};
 use crate::by_run::by_run;
-use graphql_read_rows::text_of;
 use graphql_row_files::{Answer, Case, Problem, Tally, Way, compare, numbers, texts, whole};
+use graphql_schema_rows::text_of;
 use std::alloc::Global;
 
 /// Texts under a limit.
@@ -22,28 +22,16 @@ pub(crate) fn by_texts(
     tally: &mut Tally,
 ) -> Result<(), Problem> {
     let schemas = texts(alloc, case.row, "schema")?;
-    for nesting in numbers(alloc, case.row, "nesting", 500)? {
-        let given = Texts {
-            schemas: schemas.as_slice(),
-            document: &[],
-            nesting,
-        };
-        by_documents(alloc, case, call, given, tally)?;
-    }
-    Ok(())
-}
-
-/// Judges each document of the row in the place of the one that is given.
-fn by_documents(
-    alloc: Global,
-    case: Case<'_>,
-    call: &str,
-    given: Texts<'_>,
-    tally: &mut Tally,
-) -> Result<(), Problem> {
-    for document in &texts(alloc, case.row, "document")? {
-        let document = document.as_slice();
-        by_call(alloc, case, call, Texts { document, ..given }, tally)?;
+    let documents = texts(alloc, case.row, "document")?;
+    for nesting in &numbers(alloc, case.row, "nesting", 500)? {
+        for document in &documents {
+            let given = Texts {
+                schemas: schemas.as_slice(),
+                document: document.as_slice(),
+                nesting: *nesting,
+            };
+            by_call(alloc, case, call, given, tally)?;
+        }
     }
     Ok(())
 }
