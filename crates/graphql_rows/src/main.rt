@@ -11,6 +11,7 @@ use crate::by_texts::by_texts;
 use crate::calls::call_of;
 use graphql_read_rows::{by_layouts, by_print, by_read, by_writable};
 use graphql_row_files::{Case, Field, Problem, Row, Tally, fields_of, output, rows_of};
+use graphql_rule_rows::{by_rules, by_use};
 use graphql_schema_rows::{by_coordinate, by_document, by_field_set, by_schema};
 use std::alloc::Global;
 use std::fs;
@@ -52,6 +53,10 @@ fn by_call(alloc: Global, case: Case<'_>, call: &str, tally: &mut Tally) -> Resu
             by_document(alloc, case, call, tally)
         }
         "field_set" => by_field_set(alloc, case, tally),
+        "rules" | "kept" => by_rules(alloc, case, call, tally),
+        "value" | "directives" | "arguments" | "usage" | "covariant" => {
+            by_use(alloc, case, call, tally)
+        }
         "parse_document" | "parse_type" | "parse_selections" | "next_token" => {
             by_read(alloc, case, call, tally)
         }

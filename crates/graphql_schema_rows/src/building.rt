@@ -75,7 +75,7 @@ fn add_text(
 }
 
 /// The schema of the row's texts, whatever its faults are.
-pub(crate) fn built(alloc: Global, case: Case<'_>) -> Result<Schema, Problem> {
+pub fn built(alloc: Global, case: Case<'_>) -> Result<Schema, Problem> {
     let mut builder = builder_of(alloc, case)?;
     add_texts(alloc, case, &mut builder)?;
     schema_of(case, builder)

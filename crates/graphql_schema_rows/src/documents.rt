@@ -67,7 +67,7 @@ fn add_documents(
 }
 
 /// The number of the first document, which is the one after the last schema text.
-pub(crate) fn first_file(alloc: Global, case: Case<'_>) -> Result<u64, Problem> {
+pub fn first_file(alloc: Global, case: Case<'_>) -> Result<u64, Problem> {
     let count = texts(alloc, case.row, "schema")?.len();
     Ok((count as u64).wrapping_add(1))
 }

@@ -1,8 +1,9 @@
 //! Rows of schemas that are built and written out, of coordinates in them, and of documents that get a meaning under them,
 //! with the walks over these.
 //!
-//! For the layer above: each function judges a row of one call, and counts its answers. Begin with `schemas.rt` and
-//! `documents.rt`; `lines.rt` and `outline.rt` have the lines that tell what is kept of a document.
+//! For the layer above: each `by_` function judges a row of one call, and counts its answers; the others serve rows
+//! of rules. Begin with `schemas.rt` and `documents.rt`; `lines.rt` and `outline.rt` have the lines that tell what is
+//! kept of a document.
 #![tactic(auto)]
 
 mod building;
@@ -15,7 +16,8 @@ mod schemas;
 mod walks;
 mod words;
 
+pub use building::built;
 pub use coordinates::by_coordinate;
-pub use documents::by_document;
+pub use documents::{by_document, first_file};
 pub use field_sets::by_field_set;
 pub use schemas::{by_schema, push_faults};
