@@ -14,7 +14,7 @@ ghost use Rattle.graphql_cycle_rules.specs.UseNumbers.{use_references, uses_refe
 ghost use Rattle.graphql_cycle_rules.specs.UseViews.{use_view, value_uses, field_uses};
 
 use crate::numbers::type_node;
-use graphql_components::{Component, DirectiveList};
+use graphql_components::Component;
 use graphql_directives::{Directive, DirectiveList, InputValueDefinition};
 use graphql_fault_data::Schema;
 use graphql_literals::Type;
@@ -112,7 +112,7 @@ fn add_arguments(
 /// Adds the references of the directives that are applied to a type.
 fn add_component_uses(
     schema: &Schema,
-    directives: &DirectiveList,
+    directives: &graphql_components::DirectiveList,
     references: &mut Vec<UseReference>,
 ) -> Result<(), AllocError>
     ensures { OnOk result (map use_view references.new.items ≡ map use_view references.old.items ++ uses_references (schema_tree schema.now) (applied (schema_tree schema.now) (applied_tree directives.now))) }

@@ -162,4 +162,4 @@ module _ {P E : Type 0} (at : Address → P) (s : Judged) (variables : Variables
 
 -- the type accepts the value: no rule on values fails (section 5.6.1)
 abbrev pub Accepts : {P : Type 0} → (Address → P) → Judged → Variables P → Wanted P → P → ValueTree P → Type 0
-Accepts {P} at s variables ty p v = (fault : FaultAt P Address) → ValueBreaks at s variables ty p v fault → ⊥
+Accepts {P} at s variables ty p v = (fault : FaultAt P (List P)) → ValueBreaks at s variables ty p v fault → ⊥

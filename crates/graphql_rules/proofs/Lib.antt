@@ -1,0 +1,4 @@
+pub mod Stands
+pub mod Whole
+pub mod Appended
+pub mod GivenFacts

@@ -1,0 +1,34 @@
+use Rattle.std.proofs.Common.{List, ap, map, sym, subst}
+use Rattle.std.proofs.lemmas.Result.{on_ok_weaker}
+use Rattle.graphql_names.specs.declared.node.Node.{Node}
+use Rattle.graphql_directives.specs.declared.directive.Directive.{Directive}
+use Rattle.graphql_fault_data.specs.FaultView.{fault_of, faults_of}
+use Rattle.graphql_use_rules.specs.Trees.{directives_of}
+use Rattle.graphql_rules.specs.Given.{Each, LeadsTo}
+use Rattle.graphql_rules.proofs.GivenFacts.{only_added}
+use Rattle.graphql_rules.proofs.given.validate_directives.Goals as goal
+
+pub returns-clause-told : goal.returns-clause-told
+returns-clause-told g c =
+    let given = c.in_ok-nodes.ensures in
+    on_ok_weaker c.append_faults.result
+    (λ added. (
+      given.0,
+      (
+        given.1.0,
+        (
+          given.1.1.0,
+          (
+            given.1.1.1.0,
+            (
+              directives_of c.deref.result.now,
+              (
+                subst (λ (l : List (Node Directive)). Each (LeadsTo g.D.Deref.deref_gives) given.1.1.0 (directives_of l)) (sym c.deref.ensures.value) given.1.1.1.1,
+                (faults_of c.check_directives.new.faults, (added, only_added (faults_of c.new-faults.result) (faults_of c.check_directives.new.faults) _ (ap (λ l. map fault_of l) c.new-faults.ensures.items) c.in_ok-check_directives.ensures)),
+              ),
+            ),
+          ),
+        ),
+      ),
+    ))
+    c.append_faults.ensures.added

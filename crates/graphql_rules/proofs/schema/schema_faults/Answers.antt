@@ -1,0 +1,10 @@
+use Rattle.std.proofs.Common.{ap, map}
+use Rattle.graphql_schema.specs.SchemaOf.{schema_tree}
+use Rattle.graphql_fault_data.specs.FaultView.{fault_of, faults_of}
+use Rattle.graphql_rules.proofs.Whole.{tells_schema}
+use Rattle.graphql_rules.proofs.schema.schema_faults.Goals as goal
+
+pub returns : goal.returns
+returns c =
+    tells_schema (schema_tree c.args.schema.now) (faults_of c.new-faults.result) (faults_of c.check_types.new.faults) (faults_of c.check_interfaces.new.faults) (faults_of c.check_cycles.new.faults) (faults_of c.check_schema_directives.new.faults)
+    (ap (λ l. map fault_of l) c.new-faults.ensures.items) c.in_ok-check_types.ensures c.in_ok-check_interfaces.ensures c.in_ok-check_cycles.ensures c.in_ok-check_schema_directives.ensures

@@ -1,0 +1,4 @@
+pub mod Appends
+pub mod SchemaTold
+pub mod Given
+pub mod Scalars

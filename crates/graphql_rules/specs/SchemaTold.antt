@@ -1,0 +1,34 @@
+-- What is told of a schema (GraphQL, October 2021, sections 3 and 5).
+use Rattle.std.specs.Prelude.{ℕ, List, Contains, ◌⊎◌}
+use Rattle.graphql_names.specs.Placed.{Place}
+use Rattle.graphql_schema_types.specs.SchemaTree.{SchemaTree}
+use Rattle.graphql_rule_definitions.specs.Faults.{SchemaFault}
+use Rattle.graphql_rule_definitions.specs.Judged.{Judged, judged}
+use Rattle.graphql_rule_definitions.specs.Cycles.{PassesReferenceBound}
+use Rattle.graphql_rule_definitions.specs.Rules.{ReferencesBreak, EmptyBreaks, InterfacesBreak, SchemaUsesBreak, Breaks}
+use Rattle.graphql_rule_definitions.specs.Told.{PlacedFault, Told}
+use Rattle.graphql_cycle_rules.specs.Told.{IsInputCycle, IsDirectiveCycle, AnswersInput, AnswersDirective}
+use Rattle.graphql_rules.specs.Appends.{Telling, AppendsThese}
+
+-- a rule fails so, or the bound on references is passed
+abbrev pub Fails : Judged → SchemaFault → Type 0
+Fails s fault = Breaks s fault ⊎ PassesReferenceBound s fault
+
+-- a rule fails so, other than those on definitions that lead back to themselves
+abbrev pub BreaksBesideCycles : Judged → SchemaFault → Type 0
+BreaksBesideCycles s fault = ReferencesBreak s fault ⊎ (EmptyBreaks s fault ⊎ (InterfacesBreak s fault ⊎ SchemaUsesBreak s fault))
+
+-- the bound on references is passed nowhere
+abbrev pub IsWithinReferenceBound : Judged → Type 0
+IsWithinReferenceBound s = (fault : SchemaFault) → PassesReferenceBound s fault → ⊥
+
+-- these faults tell what fails of the schema, and all of it: of cycles, each definition that leads back to itself
+pub record TellsSchema (s : SchemaTree Place) (told : List PlacedFault) : Type 0 where
+  pub right : (f : PlacedFault) → Contains told f → Told s Fails f
+  pub full : (f : PlacedFault) → Told s BreaksBesideCycles f → Contains told f
+  pub inputs : (n : List ℕ) → IsInputCycle (judged s) n → (f : PlacedFault) × (Contains told f × AnswersInput n f)
+  pub directives : (n : List ℕ) → IsDirectiveCycle (judged s) n → (f : PlacedFault) × (Contains told f × AnswersDirective n f)
+
+-- behind what was told stands what is told of the schema
+abbrev pub SchemaTold : SchemaTree Place → Telling → Telling → Type 0
+SchemaTold s old new = (added : List PlacedFault) × (AppendsThese old new added × TellsSchema s added)

@@ -1,0 +1,112 @@
+//! Rules on directives, and on arguments and variables by themselves.
+ghost use Rattle.std.specs.Prelude.{◌≡◌, ◌↔◌, ⊤, List, IfOk, OnOk, OnErr, IsTrue};
+ghost use Rattle.std.specs.Iterator.{IsFinite, HoldsAlong, DrainsIf};
+ghost use Rattle.graphql_names.specs.Node.{content};
+ghost use Rattle.graphql_names.specs.Placed.{Place, node_tree};
+ghost use Rattle.graphql_directives.specs.DirectiveTree.{Directives, argument_tree, input_value_tree, unplaced_input_value};
+ghost use Rattle.graphql_schema_types.specs.Addresses.{place_at};
+ghost use Rattle.graphql_fault_data.specs.FaultView.{faults_of};
+ghost use Rattle.graphql_fault_data.specs.Adds.{Adds};
+ghost use Rattle.graphql_rule_definitions.specs.Judged.{judged};
+ghost use Rattle.graphql_rule_definitions.specs.Uses.{UsesBreak};
+ghost use Rattle.graphql_value_rules.specs.Wanting.{variables_of};
+ghost use Rattle.graphql_use_rules.specs.Trees.{arguments_of, directives_of, tree_of};
+ghost use Rattle.graphql_faults.specs.DetailsView.{diagnostics_of, BeginsAs};
+ghost use Rattle.graphql_rules.specs.Appends.{Appends};
+ghost use Rattle.graphql_rules.specs.Given.{Each, LeadsTo, KeysBreak, ArgumentsBreak, UsageBreaks};
+
+use graphql_directives::{Argument, Directive, DirectiveLocation, InputValueDefinition};
+use graphql_fault_data::Fault;
+use graphql_faults::DiagnosticList;
+use graphql_names::Node;
+use graphql_operations::VariableDefinition;
+use graphql_schema::Schema;
+use graphql_use_rules::{check_directives, disallowed_variable_usage, tell_repeated_arguments};
+use graphql_value_rules::unique_input_values;
+use std::alloc::{AllocError, Global};
+use std::ops::Deref;
+
+/// The nodes that the iterator gives, in order.
+fn nodes_of<D: Deref<Target = Node<Directive>> + Drop, I: IntoIterator<Item = D>>(
+    alloc: Global,
+    directives: I,
+) -> Result<Vec<Node<Directive>>, AllocError>
+    requires { (it : I.IntoIter) → I.into_iter_gives directives it → I.IntoIter.can_next it × IsFinite (I.IntoIter.remaining it) × HoldsAlong I.IntoIter.next_gives it (λ _. ⊤) }
+    ensures { IfOk result (λ nodes. (it : I.IntoIter) × (I.into_iter_gives directives it × ((all : List D) × (DrainsIf I.IntoIter.next_gives ⊤ it all × Each (LeadsTo D.deref_gives) all (directives_of nodes.items))))) }
+{
+    let mut nodes = Vec::new(alloc);
+    for directive in directives {
+        nodes.push(directive.deref().clone()?)?;
+    }
+    Ok(nodes)
+}
+
+/// Tells the faults of the directives that are used at one place of a schema or a document (section 5.7), with an
+/// operation's variables or none: UniqueDirective, UndefinedDirective, UnsupportedLocation, and the rules on their
+/// arguments. Any iterator gives them, of references to nodes or of what else leads to one. Without a schema each of them
+/// is undefined. After a refusal the list begins as before.
+pub fn validate_directives<D: Deref<Target = Node<Directive>> + Drop, I: IntoIterator<Item = D>>(
+    alloc: Global,
+    list: &mut DiagnosticList,
+    schema: Option<&Schema>,
+    directives: I,
+    location: DirectiveLocation,
+    variables: &[Node<VariableDefinition>],
+) -> Result<(), AllocError>
+    requires { (it : I.IntoIter) → I.into_iter_gives directives it → I.IntoIter.can_next it × IsFinite (I.IntoIter.remaining it) × HoldsAlong I.IntoIter.next_gives it (λ _. ⊤) }
+    ensures told { OnOk result ((it : I.IntoIter) × (I.into_iter_gives directives it × ((all : List D) × (DrainsIf I.IntoIter.next_gives ⊤ it all × ((ds : Directives Place) × (Each (LeadsTo D.deref_gives) all ds × Appends (diagnostics_of list.old) (diagnostics_of list.new) (UsesBreak (place_at (tree_of schema.entry)) (judged (tree_of schema.entry)) (variables_of variables.now) location ds))))))) }
+    ensures begins { OnErr result (BeginsAs (diagnostics_of list.old) (diagnostics_of list.new)) }
+{
+    let nodes = nodes_of(alloc, directives)?;
+    let mut faults = Vec::new(alloc);
+    check_directives(schema, &nodes, location, variables, &mut faults)?;
+    list.append_faults(faults)
+}
+
+/// Tells each argument that is given before (UniqueArgument, section 5.4.2), and each key that stands before in an object
+/// inside what is given (UniqueInputValue, section 5.6.3). After a refusal the list begins as before.
+pub fn validate_arguments(
+    alloc: Global,
+    list: &mut DiagnosticList,
+    arguments: &[Node<Argument>],
+) -> Result<(), AllocError>
+    ensures told { OnOk result (Appends (diagnostics_of list.old) (diagnostics_of list.new) (ArgumentsBreak (arguments_of arguments.now))) }
+    ensures begins { OnErr result (BeginsAs (diagnostics_of list.old) (diagnostics_of list.new)) }
+{
+    let mut faults = Vec::new(alloc);
+    tell_repeated_arguments(arguments, &mut faults)?;
+    check_keys(arguments, &mut faults)?;
+    list.append_faults(faults)
+}
+
+/// Adds each key that stands before in an object inside what is given.
+fn check_keys(arguments: &[Node<Argument>], faults: &mut Vec<Fault>) -> Result<(), AllocError>
+    ensures { OnOk result (Adds faults.old faults.new (KeysBreak (arguments_of arguments.now))) }
+{
+    for argument in arguments {
+        unique_input_values(&argument.content().value, faults)?;
+    }
+    Ok(())
+}
+
+/// Whether what is given for an argument may stand there: false, and told, of a variable among `variables` whose type does
+/// not fit (DisallowedVariableUsage, section 5.8.5), else true. After a refusal the list is as before.
+pub fn validate_variable_usage(
+    list: &mut DiagnosticList,
+    definition: &Node<InputValueDefinition>,
+    variables: &[Node<VariableDefinition>],
+    argument: &Node<Argument>,
+) -> Result<bool, AllocError>
+    ensures told { OnOk result (Appends (diagnostics_of list.old) (diagnostics_of list.new) (UsageBreaks (variables_of variables.now) (unplaced_input_value (input_value_tree (content definition.now))) (node_tree argument_tree argument.now))) }
+    ensures silent { IfOk result (λ b. IsTrue b ↔ (diagnostics_of list.new ≡ diagnostics_of list.old)) }
+    ensures kept { OnErr result (diagnostics_of list.new ≡ diagnostics_of list.old) }
+{
+    let fault = disallowed_variable_usage(argument, definition.content(), variables)?;
+    match fault {
+        None => Ok(true),
+        Some(fault) => {
+            list.push_fault(fault)?;
+            Ok(false)
+        }
+    }
+}

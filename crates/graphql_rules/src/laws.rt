@@ -1,0 +1,3 @@
+//! Laws of the rules, each the contract of a function that does nothing.
+
+pub use graphql_rule_definitions::laws::equal_schemas_same_breaches;

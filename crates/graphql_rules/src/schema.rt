@@ -1,0 +1,57 @@
+//! Every rule on a schema.
+ghost use Rattle.std.specs.Prelude.{◌≡◌, IfOk, OnOk, OnErr};
+ghost use Rattle.graphql_schema.specs.SchemaOf.{schema_tree};
+ghost use Rattle.graphql_fault_data.specs.FaultView.{faults_of};
+ghost use Rattle.graphql_rule_definitions.specs.Distinct.{AreAllDistinct};
+ghost use Rattle.graphql_rule_definitions.specs.Judged.{judged};
+ghost use Rattle.graphql_rule_definitions.specs.Kept.{validated};
+ghost use Rattle.graphql_rule_definitions.specs.Rules.{SchemaRules};
+ghost use Rattle.graphql_faults.specs.DetailsView.{diagnostics_of, BeginsAs};
+ghost use Rattle.graphql_rules.specs.SchemaTold.{IsWithinReferenceBound, TellsSchema, SchemaTold};
+
+use graphql_cycle_rules::check_cycles;
+use graphql_fault_data::Fault;
+use graphql_faults::DiagnosticList;
+use graphql_interface_rules::check_interfaces;
+use graphql_kept_types::kept_types;
+use graphql_schema::Schema;
+use graphql_schema::laws::names_differ;
+use graphql_type_rules::check_types;
+use graphql_use_rules::check_schema_directives;
+use std::alloc::{AllocError, Global};
+
+/// Tells every fault of the rules on schemas (sections 3 and 5), and then keeps of the types all but the built-in scalars
+/// to which no field, argument or input field refers; those of the five that are referred to and missing come last. Where
+/// memory is refused the schema is as before, and some faults may be told.
+pub fn validate_schema(
+    alloc: Global,
+    list: &mut DiagnosticList,
+    schema: &mut Schema,
+) -> Result<(), AllocError>
+    ensures told { OnOk result (SchemaTold (schema_tree schema.old) (diagnostics_of list.old) (diagnostics_of list.new)) }
+    ensures silent { OnOk result (diagnostics_of list.new ≡ diagnostics_of list.old → SchemaRules (judged (schema_tree schema.old))) }
+    ensures accepts { OnOk result (SchemaRules (judged (schema_tree schema.old)) → IsWithinReferenceBound (judged (schema_tree schema.old)) → diagnostics_of list.new ≡ diagnostics_of list.old) }
+    ensures kept { OnOk result (schema_tree schema.new ≡ validated (schema_tree schema.old)) }
+    ensures unchanged { OnErr result (schema.new ≡ schema.old) }
+    ensures begins { OnErr result (BeginsAs (diagnostics_of list.old) (diagnostics_of list.new)) }
+{
+    names_differ(schema);
+    let faults = schema_faults(alloc, schema)?;
+    let types = kept_types(alloc, schema)?;
+    list.append_faults(faults)?;
+    schema.types = types;
+    Ok(())
+}
+
+/// What breaks the rules on schemas.
+fn schema_faults(alloc: Global, schema: &Schema) -> Result<Vec<Fault>, AllocError>
+    requires { AreAllDistinct (schema_tree schema.now) }
+    ensures { IfOk result (λ faults. TellsSchema (schema_tree schema.now) (faults_of faults)) }
+{
+    let mut faults = Vec::new(alloc);
+    check_types(alloc, schema, &mut faults)?;
+    check_interfaces(alloc, schema, &mut faults)?;
+    check_cycles(alloc, schema, &mut faults)?;
+    check_schema_directives(schema, &mut faults)?;
+    Ok(faults)
+}

@@ -1,0 +1,39 @@
+//! Rules on values.
+ghost use Rattle.std.specs.Prelude.{◌≡◌, ◌↔◌, OnOk, OnErr};
+ghost use Rattle.graphql_names.specs.Node.{content, place};
+ghost use Rattle.graphql_literals.specs.ValueTree.{value_tree};
+ghost use Rattle.graphql_schema_types.specs.Addresses.{place_at};
+ghost use Rattle.graphql_schema.specs.SchemaOf.{schema_tree};
+ghost use Rattle.graphql_rule_definitions.specs.Judged.{judged};
+ghost use Rattle.graphql_rule_definitions.specs.Values.{Accepts, ValueBreaks};
+ghost use Rattle.graphql_value_rules.specs.Wanting.{wanted_type, variables_of};
+ghost use Rattle.graphql_faults.specs.DetailsView.{diagnostics_of, BeginsAs};
+ghost use Rattle.graphql_rules.specs.Appends.{Appends};
+
+use graphql_faults::DiagnosticList;
+use graphql_literals::{Type, Value};
+use graphql_names::Node;
+use graphql_operations::VariableDefinition;
+use graphql_schema::Schema;
+use graphql_value_rules::check_value;
+use std::alloc::{AllocError, Global};
+
+/// Tells the faults of a value that is given for a type (section 5.6), and each variable in it, at any depth, that is none
+/// of `variables` (section 5.8.3): nothing exactly where the type accepts the value. After a refusal the list begins as
+/// before.
+pub fn value_of_correct_type(
+    alloc: Global,
+    list: &mut DiagnosticList,
+    schema: &Schema,
+    ty: &Node<Type>,
+    value: &Node<Value>,
+    variables: &[Node<VariableDefinition>],
+) -> Result<(), AllocError>
+    ensures told { OnOk result (Appends (diagnostics_of list.old) (diagnostics_of list.new) (ValueBreaks (place_at (schema_tree schema.now)) (judged (schema_tree schema.now)) (variables_of variables.now) (wanted_type ty.now) (place value.now) (value_tree (content value.now)))) }
+    ensures silent { OnOk result ((diagnostics_of list.new ≡ diagnostics_of list.old) ↔ Accepts (place_at (schema_tree schema.now)) (judged (schema_tree schema.now)) (variables_of variables.now) (wanted_type ty.now) (place value.now) (value_tree (content value.now))) }
+    ensures begins { OnErr result (BeginsAs (diagnostics_of list.old) (diagnostics_of list.new)) }
+{
+    let mut faults = Vec::new(alloc);
+    check_value(schema, ty, value, variables, &mut faults)?;
+    list.append_faults(faults)
+}
