@@ -25,7 +25,7 @@ fn names_of(call: &str) -> Option<&'static [&'static str]> {
         "value" | "covariant" => Some(&["schema", "type", "input"]),
         "directives" => Some(&["schema", "standalone", "location", "input"]),
         "arguments" => Some(&["input"]),
-        "usage" => Some(&["definition", "input"]),
+        "usage" => Some(&["schema", "input"]),
         _ => None,
     }
 }

@@ -1,13 +1,14 @@
-//! What a row gives beside its schema: types, locations and definitions, and arguments of an operation's first field.
+//! What a row gives beside its schema: types, locations, and the arguments of an operation's first field; and which
+//! argument of the schema rows of usage ask for.
 
-use graphql_definitions::Definition;
-use graphql_directives::{Argument, DirectiveDefinition, DirectiveLocation, InputValueDefinition};
+use graphql_directives::{Argument, DirectiveLocation, InputValueDefinition};
 use graphql_literals::Type;
 use graphql_names::{FileId, Node};
 use graphql_operations::{OperationDefinition, Selection};
 use graphql_read::parse_type;
-use graphql_read_rows::{document_of, text_of};
+use graphql_read_rows::text_of;
 use graphql_row_files::{Case, Problem, bytes_of};
+use graphql_schema::Schema;
 use std::alloc::Global;
 
 /// The type that is written so.
@@ -24,46 +25,55 @@ pub(crate) fn row_type(alloc: Global, case: Case<'_>) -> Result<Type, Problem> {
     type_of(alloc, case, &text)
 }
 
-/// The definition of a directive that is written so.
-fn directive_of(
-    alloc: Global,
-    case: Case<'_>,
-    text: &[u8],
-) -> Result<Node<DirectiveDefinition>, Problem> {
-    let document = document_of(alloc, case, text, FileId(1))?;
-    match document.definitions.first() {
-        Some(Definition::DirectiveDefinition(node)) => Ok(node.clone()?),
-        _ => Err(
-            case.row
-                .head
-                .problem("a text of this call defines no directive"),
-        ),
-    }
-}
+/// The nineteen locations (section 3.13).
+const LOCATIONS: [DirectiveLocation; 19] = [
+    DirectiveLocation::Query,
+    DirectiveLocation::Mutation,
+    DirectiveLocation::Subscription,
+    DirectiveLocation::Field,
+    DirectiveLocation::FragmentDefinition,
+    DirectiveLocation::FragmentSpread,
+    DirectiveLocation::InlineFragment,
+    DirectiveLocation::VariableDefinition,
+    DirectiveLocation::Schema,
+    DirectiveLocation::Scalar,
+    DirectiveLocation::Object,
+    DirectiveLocation::FieldDefinition,
+    DirectiveLocation::ArgumentDefinition,
+    DirectiveLocation::Interface,
+    DirectiveLocation::Union,
+    DirectiveLocation::Enum,
+    DirectiveLocation::EnumValue,
+    DirectiveLocation::InputObject,
+    DirectiveLocation::InputFieldDefinition,
+];
 
-/// The row's location, which is read as a directive's definition names it.
-pub(crate) fn location_of(alloc: Global, case: Case<'_>) -> Result<DirectiveLocation, Problem> {
+/// The row's location.
+pub(crate) fn location_of(case: Case<'_>) -> Result<DirectiveLocation, Problem> {
     let field = case.row.needed("location")?;
-    let word = field.value;
-    let text = format!(in alloc; "directive @d on {word}")?;
-    let definition = directive_of(alloc, case, text.as_bytes())?;
-    match definition.content().locations.first() {
-        Some(location) => Ok(*location),
-        None => Err(field.problem("there is no such location")),
+    for location in &LOCATIONS {
+        if location.name() == field.value {
+            return Ok(*location);
+        }
     }
+    Err(field.problem("there is no such location"))
 }
 
-/// The first argument that the row's directive defines.
-pub(crate) fn argument_definition(
-    alloc: Global,
+/// The first argument of the last directive that the schema defines.
+pub(crate) fn asked_for<'a>(
     case: Case<'_>,
-) -> Result<Node<InputValueDefinition>, Problem> {
-    let field = case.row.needed("definition")?;
-    let definition = directive_of(alloc, case, &bytes_of(alloc, field)?)?;
-    match definition.content().arguments.first() {
-        Some(argument) => Ok(argument.clone()?),
-        None => Err(field.problem("the directive has no argument")),
+    schema: &'a Schema,
+) -> Result<&'a Node<InputValueDefinition>, Problem> {
+    if let Some(definition) = schema.directive_definitions.values().as_slice().last() {
+        if let Some(argument) = definition.content().arguments.first() {
+            return Ok(argument);
+        }
     }
+    Err(
+        case.row
+            .head
+            .problem("the last directive of the schema has no argument"),
+    )
 }
 
 /// What the operation's first selection, a field, is given.
@@ -77,12 +87,12 @@ pub(crate) fn arguments_of<'a>(
     }
 }
 
-/// The first of these arguments.
+/// The first argument that the operation's first field is given.
 pub(crate) fn first_argument<'a>(
     case: Case<'_>,
-    arguments: &'a [Node<Argument>],
+    operation: &'a OperationDefinition,
 ) -> Result<&'a Node<Argument>, Problem> {
-    match arguments.first() {
+    match arguments_of(case, operation)?.first() {
         Some(argument) => Ok(argument),
         None => Err(
             case.row

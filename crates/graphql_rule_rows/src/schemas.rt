@@ -14,11 +14,7 @@ pub fn by_rules(
     call: &str,
     tally: &mut Tally,
 ) -> Result<(), Problem> {
-    let mut schema = built(alloc, case)?;
-    schema
-        .types
-        .truncate(number(case.row, "types", usize::MAX)?);
-    let answer = schema_answer(alloc, call, &mut schema)?;
+    let answer = answer_by(alloc, case, call)?;
     let way = Way {
         call,
         document: &[],
@@ -26,6 +22,14 @@ pub fn by_rules(
         plan: whole(),
     };
     compare(alloc, case, way, &answer, tally)
+}
+
+/// What the call tells of the schema of the row's texts.
+fn answer_by(alloc: Global, case: Case<'_>, call: &str) -> Result<Answer, Problem> {
+    let most = number(case.row, "types", usize::MAX)?;
+    let mut schema = built(alloc, case)?;
+    schema.types.truncate(most);
+    Ok(schema_answer(alloc, call, &mut schema)?)
 }
 
 /// What breaks a rule in the schema, behind the scalars that are left where the call asks for them.

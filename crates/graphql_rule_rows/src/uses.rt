@@ -1,10 +1,8 @@
 //! Rows of directives, arguments, variables and values by themselves, and of types that fields of interfaces ask for.
 
-use crate::given::{
-    argument_definition, arguments_of, first_argument, location_of, row_type, type_of,
-};
+use crate::given::{arguments_of, asked_for, first_argument, location_of, row_type, type_of};
 use crate::schemas::list_answer;
-use graphql_definitions::Definition;
+use graphql_definitions::{Definition, Document};
 use graphql_faults::DiagnosticList;
 use graphql_names::{FileId, Node};
 use graphql_operations::OperationDefinition;
@@ -72,12 +70,7 @@ fn answer_by(
     }
     let file = FileId(first_file(alloc, case)?);
     let document = document_of(alloc, case, input, file)?;
-    match document.definitions.first() {
-        Some(Definition::OperationDefinition(node)) => {
-            operation_answer(alloc, case, call, schema, node.content())
-        }
-        _ => Err(case.row.head.problem("an input begins with no operation")),
-    }
+    document_answer(alloc, case, call, schema, &document)
 }
 
 /// Whether a field of the input's type serves where an interface has one of the row's type.
@@ -97,16 +90,19 @@ fn covariant_answer(
     Ok(answer_of(alloc, status, "")?)
 }
 
-/// What the call tells of the operation, a line for each fault.
-fn operation_answer(
+/// What the call tells of the document's first definition, an operation: a line for each fault.
+fn document_answer(
     alloc: Global,
     case: Case<'_>,
     call: &str,
     schema: &Schema,
-    operation: &OperationDefinition,
+    document: &Document,
 ) -> Result<Answer, Problem> {
+    let Some(Definition::OperationDefinition(node)) = document.definitions.first() else {
+        return Err(case.row.head.problem("an input begins with no operation"));
+    };
     let mut list = DiagnosticList::new(alloc);
-    tell(alloc, case, call, schema, operation, &mut list)?;
+    tell(alloc, case, call, schema, node.content(), &mut list)?;
     Ok(list_answer(alloc, &list, &mut String::new(alloc))?)
 }
 
@@ -122,7 +118,7 @@ fn tell(
     match call {
         "directives" => tell_directives(alloc, case, schema, operation, list),
         "arguments" => Ok(validate_arguments(alloc, list, arguments_of(case, operation)?)?),
-        "usage" => tell_usage(alloc, case, operation, list),
+        "usage" => tell_usage(case, schema, operation, list),
         _ => tell_value(alloc, case, schema, operation, list),
     }
 }
@@ -135,7 +131,7 @@ fn tell_directives(
     operation: &OperationDefinition,
     list: &mut DiagnosticList,
 ) -> Result<(), Problem> {
-    let location = location_of(alloc, case)?;
+    let location = location_of(case)?;
     let schema = if says(case.row, "standalone", "yes")? {
         None
     } else {
@@ -146,17 +142,17 @@ fn tell_directives(
     Ok(validate_directives(alloc, list, schema, directives, location, variables)?)
 }
 
-/// Tells whether the variable that the operation's first field is given may stand where the row's definition is.
+/// Tells whether the variable that the operation's first field is given may stand where the schema asks for one.
 fn tell_usage(
-    alloc: Global,
     case: Case<'_>,
+    schema: &Schema,
     operation: &OperationDefinition,
     list: &mut DiagnosticList,
 ) -> Result<(), Problem> {
-    let definition = argument_definition(alloc, case)?;
-    let argument = first_argument(case, arguments_of(case, operation)?)?;
+    let definition = asked_for(case, schema)?;
+    let argument = first_argument(case, operation)?;
     let variables = operation.variables.as_slice();
-    let fits = validate_variable_usage(list, &definition, variables, argument)?;
+    let fits = validate_variable_usage(list, definition, variables, argument)?;
     if fits == list.is_empty() {
         Ok(())
     } else {
@@ -176,9 +172,8 @@ fn tell_value(
     operation: &OperationDefinition,
     list: &mut DiagnosticList,
 ) -> Result<(), Problem> {
-    let ty = Node::new(alloc, row_type(alloc, case)?)?;
-    let argument = first_argument(case, arguments_of(case, operation)?)?;
-    let value = &argument.content().value;
+    let value = &first_argument(case, operation)?.content().value;
     let variables = operation.variables.as_slice();
+    let ty = Node::new(alloc, row_type(alloc, case)?)?;
     Ok(value_of_correct_type(alloc, list, schema, &ty, value, variables)?)
 }
