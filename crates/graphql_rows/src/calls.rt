@@ -21,6 +21,11 @@ fn names_of(call: &str) -> Option<&'static [&'static str]> {
             Some(&["schema", "standalone", "document"])
         }
         "field_set" => Some(&["schema", "type", "input"]),
+        "rules" | "kept" => Some(&["schema", "types"]),
+        "value" | "covariant" => Some(&["schema", "type", "input"]),
+        "directives" => Some(&["schema", "standalone", "location", "input"]),
+        "arguments" => Some(&["input"]),
+        "usage" => Some(&["schema", "input"]),
         _ => None,
     }
 }

@@ -10,6 +10,7 @@ mod calls;
 use crate::by_texts::by_texts;
 use crate::calls::call_of;
 use graphql_row_files::{Case, Field, Problem, Row, Tally, fields_of, output, rows_of};
+use graphql_rule_rows::{by_rules, by_use};
 use graphql_schema_rows::{
     by_coordinate, by_document, by_field_set, by_layouts, by_print, by_read, by_schema, by_writable,
 };
@@ -53,6 +54,10 @@ fn by_call(alloc: Global, case: Case<'_>, call: &str, tally: &mut Tally) -> Resu
             by_document(alloc, case, call, tally)
         }
         "field_set" => by_field_set(alloc, case, tally),
+        "rules" | "kept" => by_rules(alloc, case, call, tally),
+        "value" | "directives" | "arguments" | "usage" | "covariant" => {
+            by_use(alloc, case, call, tally)
+        }
         "parse_document" | "parse_type" | "parse_selections" | "next_token" => {
             by_read(alloc, case, call, tally)
         }
