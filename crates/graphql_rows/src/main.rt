@@ -6,11 +6,15 @@ mod by_calls;
 mod by_run;
 mod by_texts;
 mod calls;
+mod rule_given;
+mod rule_schemas;
+mod rule_uses;
 
 use crate::by_texts::by_texts;
 use crate::calls::call_of;
+use crate::rule_schemas::by_rules;
+use crate::rule_uses::by_use;
 use graphql_row_files::{Case, Field, Problem, Row, Tally, fields_of, output, rows_of};
-use graphql_rule_rows::{by_rules, by_use};
 use graphql_schema_rows::{
     by_coordinate, by_document, by_field_set, by_layouts, by_print, by_read, by_schema, by_writable,
 };

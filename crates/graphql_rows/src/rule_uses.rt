@@ -1,7 +1,7 @@
 //! Rows of directives, arguments, variables and values by themselves, and of types that fields of interfaces ask for.
 
-use crate::given::{arguments_of, asked_for, first_argument, location_of, row_type, type_of};
-use crate::schemas::list_answer;
+use crate::rule_given::{arguments_of, asked_for, first_argument, location_of, row_type, type_of};
+use crate::rule_schemas::list_answer;
 use graphql_definitions::{Definition, Document};
 use graphql_faults::DiagnosticList;
 use graphql_names::{FileId, Node};
@@ -19,7 +19,12 @@ use graphql_schema_rows::{built, first_file};
 use std::alloc::Global;
 
 /// Judges the row: what the call tells of each of its inputs over the schema of its texts.
-pub fn by_use(alloc: Global, case: Case<'_>, call: &str, tally: &mut Tally) -> Result<(), Problem> {
+pub(crate) fn by_use(
+    alloc: Global,
+    case: Case<'_>,
+    call: &str,
+    tally: &mut Tally,
+) -> Result<(), Problem> {
     let schema = built(alloc, case)?;
     by_inputs(alloc, case, call, &schema, tally)
 }

@@ -8,7 +8,7 @@ use graphql_schema_rows::{built, push_faults};
 use std::alloc::{AllocError, Global};
 
 /// Judges the row: what breaks a rule in the schema of its texts, or in so many of its types as the row says.
-pub fn by_rules(
+pub(crate) fn by_rules(
     alloc: Global,
     case: Case<'_>,
     call: &str,
