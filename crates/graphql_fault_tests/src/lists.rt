@@ -20,15 +20,15 @@ pub(crate) fn show_reading(rt: &HostRuntime) -> io::Result<()> {
     show_details(rt, "Data", Details::Data(unused))
 }
 
-/// Prints a list of two behind its length.
+/// Prints a list of two, of which one is a copy, behind its length.
 pub(crate) fn show_list(rt: &HostRuntime) -> io::Result<()> {
     let mut list = DiagnosticList::new(rt.alloc());
     list.push(None, Details::Nesting)?;
-    let unused = DiagnosticData::UnusedFragment { name: type_name() };
-    list.push_fault(Fault {
+    let unused = Fault {
         location: None,
-        data: unused,
-    })?;
+        data: DiagnosticData::UnusedFragment { name: type_name() },
+    };
+    list.push_fault(unused.clone()?)?;
     println!(rt; "DiagnosticList: {}", list.len())?;
     for diagnostic in list.iter() {
         println!(rt; "- {}", diagnostic.1)?;
