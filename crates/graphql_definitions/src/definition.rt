@@ -5,14 +5,15 @@ ghost use Rattle.graphql_names.specs.declared.node.Node.{Node};
 ghost use Rattle.graphql_definitions.specs.DefinitionTree.{definition_tree};
 
 use graphql_composite_types::{
-    InterfaceTypeDefinition, InterfaceTypeExtension, ObjectTypeDefinition, ObjectTypeExtension,
-    UnionTypeDefinition, UnionTypeExtension,
+    DirectiveDefinition, FragmentDefinition, InterfaceTypeDefinition, InterfaceTypeExtension,
+    ObjectTypeDefinition, ObjectTypeExtension, OperationDefinition, UnionTypeDefinition,
+    UnionTypeExtension,
 };
 use graphql_input_types::{
     EnumTypeDefinition, EnumTypeExtension, InputObjectTypeDefinition, InputObjectTypeExtension,
     ScalarTypeDefinition, ScalarTypeExtension, SchemaDefinition, SchemaExtension,
 };
-use graphql_values::{DirectiveDefinition, FragmentDefinition, Node, OperationDefinition};
+use graphql_names::Node;
 use std::alloc::AllocError;
 
 /// What a document holds, with a variant for each form (section 2.2).

@@ -5,7 +5,7 @@ use Rattle.std.specs.declared.alloc.AllocError.{AllocError}
 use Rattle.graphql_names.specs.Placed.{Place}
 use Rattle.graphql_operations.specs.declared.operation.OperationType.TheVariants.{Query}
 use Rattle.graphql_typed_selections.specs.TypedTree.{TypedSelection}
-use Rattle.graphql_typed_operations.specs.TypedDocument.{TypedOperation}
+use Rattle.graphql_typing.specs.in_typed_operations.TypedDocument.{TypedOperation}
 use Rattle.graphql_walks.specs.Reached.{Fragments, IsWalk}
 use Rattle.graphql_documents.specs.Introspection.{are_meta_fields, SaysIntrospection}
 

@@ -4,7 +4,7 @@ use Rattle.std.specs.List.{list_all}
 use Rattle.graphql_operations.specs.declared.operation.OperationType.TheVariants.{Query}
 use Rattle.graphql_components.specs.Lists.{is_among}
 use Rattle.graphql_typed_selections.specs.TypedTree.{TypedSelection, TypedField, TypedSpread, TypedInline}
-use Rattle.graphql_typed_operations.specs.TypedDocument.{TypedOperation}
+use Rattle.graphql_typing.specs.in_typed_operations.TypedDocument.{TypedOperation}
 use Rattle.graphql_walks.specs.Reached.{Fragments, IsWalk}
 
 -- the names of the meta-fields

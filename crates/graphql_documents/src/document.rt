@@ -3,8 +3,7 @@ ghost use Rattle.std.specs.Prelude.{◌≡◌, [], false};
 ghost use Rattle.graphql_typing.specs.MeaningView.{meanings_under};
 ghost use Rattle.graphql_typing.specs.BuilderView.{builder_value};
 
-use graphql_typed_operations::ExecutableDocument;
-use graphql_typing::{ExecutableDocumentBuilder, Schema};
+use graphql_typing::{ExecutableDocument, ExecutableDocumentBuilder, Schema};
 use std::alloc::Global;
 
 /// Calls that make a document.

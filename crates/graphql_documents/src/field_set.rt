@@ -13,8 +13,7 @@ ghost use Rattle.graphql_typing.specs.FaultView.{faults_of};
 
 use graphql_names::{Name, SourceSpan};
 use graphql_operations::Selection;
-use graphql_typed_operations::FieldSet;
-use graphql_typing::{BuildError, Schema, field_set_from_ast};
+use graphql_typing::{BuildError, FieldSet, Schema, field_set_from_ast};
 use std::alloc::{AllocError, Global};
 
 /// Calls that make a selection set by itself.

@@ -25,15 +25,13 @@ pub use document::ExecutableDocumentExt;
 pub use field::FieldExt;
 pub use field_set::FieldSetExt;
 pub use fragment_spread::FragmentSpreadExt;
-pub use graphql_typed_operations::{
-    ExecutableDocument, FieldSet, Fragment, FragmentMap, Operation, OperationMap, Operations,
-};
 pub use graphql_typed_selections::{
     Field, Fields, FragmentSpread, InlineFragment, Selection, SelectionSet,
 };
 pub use graphql_typing::{
     BuildError, BuilderRefusal, ConflictingFieldArgument, ConflictingFieldName,
-    ConflictingFieldType, ExecutableDocumentBuilder,
+    ConflictingFieldType, ExecutableDocument, ExecutableDocumentBuilder, FieldSet, Fragment,
+    FragmentMap, Operation, OperationMap, Operations,
 };
 pub use graphql_walks::{AllFields, RootFields};
 pub use new_field_error::NewFieldError;

@@ -1,13 +1,13 @@
 //! Calls of operations that need a document.
 ghost use Rattle.std.specs.Prelude.{◌≡◌, true, false, IfOk};
-ghost use Rattle.graphql_typed_operations.specs.TypedDocument.{typed_operation_tree, typed_document_tree};
+ghost use Rattle.graphql_typing.specs.in_typed_operations.TypedDocument.{typed_operation_tree, typed_document_tree};
 ghost use Rattle.graphql_walks.specs.Reached.{IsWalk, document_fragments};
 ghost use Rattle.graphql_walks.specs.Lending.{all_fields_is_over, all_fields_left, root_fields_is_over, root_fields_left};
 ghost use Rattle.graphql_documents.specs.Introspection.{is_meta_name, are_meta_fields, SaysIntrospection};
 
 use crate::walks;
 use graphql_names::Name;
-use graphql_typed_operations::{ExecutableDocument, Operation};
+use graphql_typing::{ExecutableDocument, Operation};
 use graphql_walks::{AllFields, RootFields};
 use std::alloc::{AllocError, Global};
 

@@ -1,12 +1,12 @@
 //! Walks over the fields that a selection set reaches in a document.
 ghost use Rattle.std.specs.Prelude.{◌≡◌, true, false};
 ghost use Rattle.graphql_typed_selections.specs.TypedTree.{typed_set_tree};
-ghost use Rattle.graphql_typed_operations.specs.TypedDocument.{typed_document_tree};
+ghost use Rattle.graphql_typing.specs.in_typed_operations.TypedDocument.{typed_document_tree};
 ghost use Rattle.graphql_walks.specs.Reached.{IsWalk, document_fragments};
 ghost use Rattle.graphql_walks.specs.Lending.{all_fields_is_over, all_fields_left, root_fields_is_over, root_fields_left};
 
-use graphql_typed_operations::ExecutableDocument;
 use graphql_typed_selections::SelectionSet;
+use graphql_typing::ExecutableDocument;
 use graphql_walks::{AllFields, RootFields};
 use std::alloc::Global;
 

@@ -3,7 +3,7 @@ ghost use Rattle.std.specs.Prelude.{◌≡◌, ◌++◌, [], ◌∷◌, OnOk};
 ghost use Rattle.graphql_folding.specs.FaultView.{faults_of, breach_of, repeat_breach};
 
 use graphql_names::{Name, SourceSpan};
-use graphql_operations::OperationType;
+use graphql_schema_types::OperationType;
 use std::alloc::AllocError;
 
 /// What breaks a folding rule, with the names that its message tells (section 3).

@@ -12,6 +12,14 @@ mod selection;
 mod serialize_operation;
 mod writable_operation;
 
+pub use graphql_directives::{
+    Argument, ArgumentByNameError, Cause, Directive, DirectiveDefinition, DirectiveList,
+    DirectiveLocation, FloatValue, InputValueDefinition, IntValue, Level, Named, NamedDirectives,
+    NamedType, Serialize, Sink, Tree, Type, Value, WriteFault, can_be_enum,
+    directives_are_writable, get_named_mut, input_values_are_writable, put_argument_definitions,
+    put_break, put_description, put_directive_definition, put_directives, put_input_members,
+    put_start, put_type,
+};
 pub use operation::{FragmentDefinition, OperationDefinition, OperationType, VariableDefinition};
 pub use print_operation::{begins_output, put_fragment, put_keyword, put_operation};
 pub use selection::{Field, FragmentSpread, InlineFragment, Selection};

@@ -17,10 +17,9 @@ use graphql_lexer::{Source, Terminal};
 use graphql_literals::NamedType;
 use graphql_names::{FileId, Node};
 use graphql_parse_members::{
-    fields_or_none, names_or_none, optional_fields_definition, optional_implements_interfaces,
-    optional_union_member_types,
+    directives_or_none, expect, fields_or_none, name, names_or_none, optional_directives,
+    optional_fields_definition, optional_implements_interfaces, optional_union_member_types,
 };
-use graphql_parse_values::{directives_or_none, expect, name, optional_directives};
 use graphql_type_members::FieldDefinition;
 use std::alloc::Global;
 

@@ -19,8 +19,7 @@ use graphql_definitions::Definition;
 use graphql_grammar::Stop;
 use graphql_lexer::{Source, Terminal};
 use graphql_names::{FileId, Node, NodeStr, SourceSpan};
-use graphql_parse_members::directive_definition;
-use graphql_parse_values::{begin, next_is, optional_description, since};
+use graphql_parse_members::{begin, directive_definition, next_is, optional_description, since};
 use std::alloc::{AllocError, Global};
 
 /// A definition of this value, at a place.

@@ -16,7 +16,7 @@ use graphql_definitions::Definition;
 use graphql_grammar::Stop;
 use graphql_lexer::{Source, Terminal};
 use graphql_names::{FileId, SourceSpan};
-use graphql_parse_values::{begin, expect, next_is, since};
+use graphql_parse_members::{begin, expect, next_is, since};
 use std::alloc::{AllocError, Global};
 
 /// What an extension says behind `extend`, without a look at its parts.

@@ -16,10 +16,9 @@ use graphql_input_types::{EnumTypeExtension, InputObjectTypeExtension, ScalarTyp
 use graphql_lexer::{Source, Terminal};
 use graphql_names::{FileId, Node};
 use graphql_parse_members::{
-    enum_values_or_none, input_values_or_none, optional_enum_values_definition,
-    optional_input_fields_definition,
+    directives_or_none, enum_values_or_none, expect, input_values_or_none, name,
+    optional_directives, optional_enum_values_definition, optional_input_fields_definition,
 };
-use graphql_parse_values::{directives_or_none, expect, name, optional_directives};
 use graphql_type_members::EnumValueDefinition;
 use std::alloc::Global;
 

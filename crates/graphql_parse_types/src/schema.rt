@@ -10,8 +10,9 @@ use graphql_grammar::Stop;
 use graphql_input_types::SchemaExtension;
 use graphql_lexer::{Source, Terminal};
 use graphql_names::FileId;
-use graphql_parse_members::{optional_roots, roots, roots_or_none};
-use graphql_parse_values::{directives_or_none, expect, optional_directives};
+use graphql_parse_members::{
+    directives_or_none, expect, optional_directives, optional_roots, roots, roots_or_none,
+};
 use std::alloc::Global;
 
 /// SchemaDefinition (section 3.3): `"schema" Directives? "{" RootOperationTypeDefinition+ "}"`.

@@ -11,7 +11,7 @@ use crate::kind::Kind;
 use graphql_grammar::Stop;
 use graphql_lexer::{Source, Terminal};
 use graphql_names::FileId;
-use graphql_parse_values::next_is;
+use graphql_parse_members::next_is;
 use std::alloc::Global;
 
 /// TypeDefinition (section 3.4): a scalar, an object, an interface, a union, an enum or an input object, by its keyword.

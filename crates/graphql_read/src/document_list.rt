@@ -13,8 +13,7 @@ use graphql_grammar::Stop;
 use graphql_lexer::{Source, Terminal};
 use graphql_names::FileId;
 use graphql_parse_operations::{placed_fragment, placed_operation};
-use graphql_parse_types::{type_system_definition, type_system_extension};
-use graphql_parse_values::next_is;
+use graphql_parse_types::{next_is, type_system_definition, type_system_extension};
 use std::alloc::Global;
 
 /// Whether an operation may begin with the next token.

@@ -9,7 +9,7 @@ ghost use Rattle.graphql_read.specs.ReadFaults.{fault_at, fault_view};
 use crate::fault::{ReadFault, SyntaxFault, SyntaxFaultKind};
 use graphql_grammar::Stop;
 use graphql_lexer::Source;
-use graphql_parse_values::begin;
+use graphql_parse_types::begin;
 
 /// Whether the text ends here.
 pub fn end_of_text(tokens: &Source<'_>) -> Result<(), Stop>

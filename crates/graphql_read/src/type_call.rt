@@ -17,7 +17,7 @@ use graphql_grammar::Stop;
 use graphql_lexer::Source;
 use graphql_literals::Type;
 use graphql_names::FileId;
-use graphql_parse_values::ty;
+use graphql_parse_types::ty;
 use std::alloc::Global;
 
 /// Type, and nothing behind it.

@@ -11,6 +11,7 @@ mod shown;
 mod trees;
 
 pub use given::{document_of, text_of};
+pub use graphql_read::parse_selections;
 pub use layouts::by_layouts;
 pub use print::{by_print, by_writable};
 pub use read::by_read;

@@ -1,8 +1,8 @@
 -- A schema as a plain tree with order, places and origins: what it has of each type, directive and root (GraphQL, October 2021, section 3).
 use Rattle.std.specs.Prelude.{ℕ, Bool, ◌==◌, ◌||◌, not, List, Option, codes}
 use Rattle.graphql_names.specs.Placed.{Placed, Text}
-use Rattle.graphql_directives.specs.DirectiveTree.{InputValueTree, DirectiveDefinitionTree}
-use Rattle.graphql_type_members.specs.TypeSystemTree.{FieldDefinitionTree, EnumValueTree}
+use Rattle.graphql_components.specs.in_directives.DirectiveTree.{InputValueTree, DirectiveDefinitionTree}
+use Rattle.graphql_definitions.specs.in_type_members.TypeSystemTree.{FieldDefinitionTree, EnumValueTree}
 use Rattle.graphql_components.specs.Names.{Entries}
 use Rattle.graphql_components.specs.Given.{Given}
 use Rattle.graphql_components.specs.Applied.{Applied}

@@ -3,10 +3,9 @@
 //! Each has a `drop` of its own, which is proved here once; a derived one would be proved again in each crate above that
 //! lets a schema go. So no field moves out of one of them: it is lent, shared or replaced.
 
-use graphql_components::{Component, ComponentName, DirectiveList};
-use graphql_directives::InputValueDefinition;
+use graphql_components::{Component, ComponentName, DirectiveList, InputValueDefinition};
+use graphql_definitions::{EnumValueDefinition, FieldDefinition};
 use graphql_names::{Name, NodeStr};
-use graphql_type_members::{EnumValueDefinition, FieldDefinition};
 use indexmap::{IndexMap, IndexSet};
 
 /// A scalar type (section 3.5).

@@ -4,9 +4,10 @@ ghost use Rattle.std.specs.Iterator.{YieldsFirst, item_count};
 ghost use Rattle.graphql_schema_types.specs.Origins.{component_origins, extensions_in};
 ghost use Rattle.graphql_schema_types.specs.OriginsLeft.{left_origins, noted};
 
-use graphql_components::{Component, ComponentName, ComponentOrigin, ExtensionId};
-use graphql_directives::{Directive, InputValueDefinition};
-use graphql_type_members::{EnumValueDefinition, FieldDefinition};
+use graphql_components::{
+    Component, ComponentName, ComponentOrigin, Directive, ExtensionId, InputValueDefinition,
+};
+use graphql_definitions::{EnumValueDefinition, FieldDefinition};
 use indexmap::IndexSet;
 use std::alloc::{AllocError, Global};
 

@@ -25,4 +25,7 @@ pub use graphql_document_faults::{
     BuildError, ConflictingFieldArgument, ConflictingFieldName, ConflictingFieldType,
     FieldLookupError, Schema,
 };
+pub use graphql_typed_operations::{
+    ExecutableDocument, FieldSet, Fragment, FragmentMap, Operation, OperationMap, Operations,
+};
 pub use refusal::BuilderRefusal;

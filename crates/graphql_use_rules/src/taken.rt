@@ -11,12 +11,12 @@ ghost use Rattle.graphql_value_rules.specs.in_schema.in_schema_types.Addresses.{
 ghost use Rattle.graphql_value_rules.specs.in_schema.SchemaOf.{schema_tree};
 ghost use Rattle.graphql_value_rules.specs.in_fault_data.FaultView.{fault_of, faults_of};
 ghost use Rattle.graphql_value_rules.specs.in_fault_data.DiagnosticView.{plain_type};
-ghost use Rattle.graphql_rule_definitions.specs.Diagnostics.{UndefinedArgument, RequiredArgument};
-ghost use Rattle.graphql_rule_definitions.specs.Faults.{wrong};
-ghost use Rattle.graphql_rule_definitions.specs.Words.{AtSomeIndex};
-ghost use Rattle.graphql_rule_definitions.specs.Judged.{judged};
-ghost use Rattle.graphql_rule_definitions.specs.Values.{is_absent_or_null};
-ghost use Rattle.graphql_rule_definitions.specs.Uses.{TakerBreaks};
+ghost use Rattle.graphql_value_rules.specs.in_rule_definitions.Diagnostics.{UndefinedArgument, RequiredArgument};
+ghost use Rattle.graphql_value_rules.specs.in_rule_definitions.Faults.{wrong};
+ghost use Rattle.graphql_value_rules.specs.in_rule_definitions.Words.{AtSomeIndex};
+ghost use Rattle.graphql_value_rules.specs.in_rule_definitions.Judged.{judged};
+ghost use Rattle.graphql_value_rules.specs.in_rule_definitions.Values.{is_absent_or_null};
+ghost use Rattle.graphql_value_rules.specs.in_rule_definitions.Uses.{TakerBreaks};
 ghost use Rattle.graphql_value_rules.specs.in_fault_data.Adds.{Adds};
 ghost use Rattle.graphql_value_rules.specs.Wanting.{variables_of};
 ghost use Rattle.graphql_use_rules.specs.Trees.{arguments_of, inputs_of, taker_of, coordinate_of, argument_coordinate_of, TellsPlaces};

@@ -7,10 +7,10 @@ use Rattle.graphql_literals.specs.TypeTree.{TypeTree, NamedTree, ListTree as Lis
 use Rattle.graphql_literals.specs.ValueTree.{ValueTree, StringTree, IntTree, ListTree, no_items, item_then}
 use Rattle.graphql_fault_data.specs.in_schema.in_schema_types.Looks.{TypeLooks}
 use Rattle.graphql_fault_data.specs.in_schema.in_schema_types.declared.type_kind.TypeKind.TheVariants as kind
-use Rattle.graphql_rule_definitions.specs.Diagnostics.{UnsupportedValueType, IntCoercionError}
-use Rattle.graphql_rule_definitions.specs.Faults.{FaultAt, wrong}
-use Rattle.graphql_rule_definitions.specs.Judged.{Judged}
-use Rattle.graphql_rule_definitions.specs.Values.{Wanted, FitsForm, IntCoercionErrorAt, TypeBreaks}
+use Rattle.graphql_fault_data.specs.in_rule_definitions.Diagnostics.{UnsupportedValueType, IntCoercionError}
+use Rattle.graphql_fault_data.specs.in_rule_definitions.Faults.{FaultAt, wrong}
+use Rattle.graphql_fault_data.specs.in_rule_definitions.Judged.{Judged}
+use Rattle.graphql_fault_data.specs.in_rule_definitions.Values.{Wanted, FitsForm, IntCoercionErrorAt, TypeBreaks}
 use Rattle.graphql_value_rules.proofs.Tells.{no_true, not_in_nil, Contains-cons}
 use Rattle.graphql_value_rules.proofs.FormsTold.{fits_decides, among_more, among_one}
 

@@ -4,7 +4,7 @@ use Rattle.graphql_names.specs.Placed.{node_tree}
 use Rattle.graphql_value_rules.specs.in_schema.in_schema_types.Addresses.{directive_definition_at}
 use Rattle.graphql_value_rules.specs.in_schema.SchemaOf.{schema_tree}
 use Rattle.graphql_value_rules.specs.in_fault_data.FaultView.{faults_of}
-use Rattle.graphql_rule_definitions.specs.Uses.{directive_name}
+use Rattle.graphql_value_rules.specs.in_rule_definitions.Uses.{directive_name}
 use Rattle.graphql_use_rules.specs.UseFaults.{repeated_directive}
 use Rattle.graphql_use_rules.proofs.Listing.{places_more}
 use Rattle.graphql_use_rules.proofs.directives.tell_repeated_directives.Goals as goal
