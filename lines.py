@@ -17,7 +17,8 @@ import sys
 PREFIX = "graphql_"
 # Listed wherever it is used, for its macro and since every crate uses its names.
 ALWAYS = "graphql_names"
-WIDTH = 100
+# Kept listed though they cost more: without them prints would be taken through crates that have nothing to do with them.
+ALSO = [("graphql_definitions", "graphql_values")]
 ROOT = os.getcwd()
 
 
@@ -660,6 +661,8 @@ def unsaid(before, after, new):
 
 def main(words):
     limit, also, plan_only, formats = 400, [], False, True
+    listed = read_lines()[0]
+    also += [(name, dep) for name, dep in ALSO if dep in listed.get(name, [])]
     while words:
         word = words.pop(0)
         if word == "--plan":

@@ -15,11 +15,7 @@ mod serialize_union;
 mod union_type;
 mod writable;
 
-pub use graphql_type_members::{
-    DirectiveDefinition, DirectiveList, EnumValueDefinition, FieldDefinition, FragmentDefinition,
-    Level, OperationDefinition, Sink, Tree, begins_output, put_directive_definition, put_fragment,
-    put_operation, put_start,
-};
+pub use graphql_type_members::{EnumValueDefinition, FieldDefinition};
 pub use interface_type::{InterfaceTypeDefinition, InterfaceTypeExtension};
 pub use object_type::{ObjectTypeDefinition, ObjectTypeExtension};
 pub use print_composite::{

@@ -1,13 +1,13 @@
 -- The layout of small documents, computed. The texts are written by hand.
 use Rattle.std.proofs.Common.{◌≡◌, ℕ, List, [], ◌∷◌, codes, Option, None, Some, refl}
-use Rattle.graphql_composite_types.specs.in_printing.Joined.{joined}
-use Rattle.graphql_names.specs.Placed.{Placed, Text}
-use Rattle.graphql_composite_types.specs.in_literals.TypeTree.{TypeTree, NamedTree}
-use Rattle.graphql_composite_types.specs.in_literals.ValueTree.{ValueTree, IntTree}
-use Rattle.graphql_composite_types.specs.in_directives.DirectiveTree.{DirectiveTree, InputValueTree}
-use Rattle.graphql_composite_types.specs.in_operations.SelectionTree.{FieldTree, no_selections, selection_then}
-use Rattle.graphql_composite_types.specs.in_printing.LineLayout.{Prefix}
-use Rattle.graphql_composite_types.specs.in_operations.declared.operation.OperationType.TheVariants.{Query, Mutation}
+use Rattle.graphql_values.specs.Joined.{joined}
+use Rattle.graphql_values.specs.Placed.{Placed, Text}
+use Rattle.graphql_values.specs.TypeTree.{TypeTree, NamedTree}
+use Rattle.graphql_values.specs.ValueTree.{ValueTree, IntTree}
+use Rattle.graphql_values.specs.DirectiveTree.{DirectiveTree, InputValueTree}
+use Rattle.graphql_values.specs.SelectionTree.{FieldTree, no_selections, selection_then}
+use Rattle.graphql_values.specs.LineLayout.{Prefix}
+use Rattle.graphql_values.specs.in_operations.declared.operation.OperationType.TheVariants.{Query, Mutation}
 use Rattle.graphql_composite_types.specs.in_type_members.TypeSystemTree.{FieldDefinitionTree, EnumValueTree, FieldsParts}
 use Rattle.graphql_definitions.specs.DefinitionTree.{DefinitionTree, Operation, Schema, ScalarType, ObjectType, InterfaceType, UnionType, EnumType, InputObjectType, ExtendSchema, ExtendScalar, ExtendObject, ExtendUnion}
 use Rattle.graphql_definitions.specs.DocumentLayout.{document_text}

@@ -1,10 +1,10 @@
 -- Definitions and documents (GraphQL, October 2021, section 2.2).
 use Rattle.std.specs.Prelude.{ℕ, Bool, false, List, [], ◌∷◌, map, codes, None, Some}
-use Rattle.graphql_composite_types.specs.in_printing.Joined.{joined}
-use Rattle.graphql_composite_types.specs.in_printing.LineLayout.{Prefix, Leveled, start_text}
-use Rattle.graphql_composite_types.specs.in_printing.StringLayout.{description_text}
-use Rattle.graphql_composite_types.specs.in_directives.InputLayout.{directive_definition_text}
-use Rattle.graphql_composite_types.specs.in_operations.OperationLayout.{operation_text, fragment_text, begins_output}
+use Rattle.graphql_values.specs.Joined.{joined}
+use Rattle.graphql_values.specs.LineLayout.{Prefix, Leveled, start_text}
+use Rattle.graphql_values.specs.StringLayout.{description_text}
+use Rattle.graphql_values.specs.InputLayout.{directive_definition_text}
+use Rattle.graphql_values.specs.OperationLayout.{operation_text, fragment_text, begins_output}
 use Rattle.graphql_composite_types.specs.in_type_members.TypeSystemLayout.{schema_text, scalar_text, fields_text, union_text, enum_text, input_object_text}
 pub use Rattle.graphql_composite_types.specs.in_type_members.TypeSystemLayout.{extend}
 use Rattle.graphql_definitions.specs.DefinitionTree.{DefinitionTree, Operation, Fragment, DirectiveDefinition, Schema, ScalarType, ObjectType, InterfaceType, UnionType, EnumType, InputObjectType, ExtendSchema, ExtendScalar, ExtendObject, ExtendInterface, ExtendUnion, ExtendEnum, ExtendInputObject}

@@ -1,8 +1,8 @@
 -- What can be asked of a definition (GraphQL, October 2021, sections 2.2 and 3).
 use Rattle.std.specs.Prelude.{◌≡◌, ◌≢◌, Bool, true, false, Option, Some, None}
 use Rattle.std.specs.Borrow.{Bor}
-use Rattle.graphql_names.specs.Placed.{Text}
-use Rattle.graphql_composite_types.specs.in_directives.DirectiveTree.{Directives}
+use Rattle.graphql_values.specs.Placed.{Text}
+use Rattle.graphql_values.specs.DirectiveTree.{Directives}
 pub use Rattle.graphql_composite_types.specs.in_type_members.ArgumentQueries.{argument_named}
 use Rattle.graphql_definitions.specs.DefinitionTree.{DefinitionTree, Operation, Fragment, DirectiveDefinition, Schema, ScalarType, ObjectType, InterfaceType, UnionType, EnumType, InputObjectType, ExtendSchema, ExtendScalar, ExtendObject, ExtendInterface, ExtendUnion, ExtendEnum, ExtendInputObject}
 

@@ -5,15 +5,14 @@ ghost use Rattle.graphql_names.specs.declared.node.Node.{Node};
 ghost use Rattle.graphql_definitions.specs.DefinitionTree.{definition_tree};
 
 use graphql_composite_types::{
-    DirectiveDefinition, FragmentDefinition, InterfaceTypeDefinition, InterfaceTypeExtension,
-    ObjectTypeDefinition, ObjectTypeExtension, OperationDefinition, UnionTypeDefinition,
-    UnionTypeExtension,
+    InterfaceTypeDefinition, InterfaceTypeExtension, ObjectTypeDefinition, ObjectTypeExtension,
+    UnionTypeDefinition, UnionTypeExtension,
 };
 use graphql_input_types::{
     EnumTypeDefinition, EnumTypeExtension, InputObjectTypeDefinition, InputObjectTypeExtension,
     ScalarTypeDefinition, ScalarTypeExtension, SchemaDefinition, SchemaExtension,
 };
-use graphql_names::Node;
+use graphql_values::{DirectiveDefinition, FragmentDefinition, Node, OperationDefinition};
 use std::alloc::AllocError;
 
 /// What a document holds, with a variant for each form (section 2.2).

@@ -4,15 +4,14 @@ ghost use Rattle.graphql_definitions.specs.declared.definition.Definition.TheVar
 
 use crate::definition::Definition;
 use graphql_composite_types::{
-    DirectiveDefinition, FragmentDefinition, InterfaceTypeDefinition, InterfaceTypeExtension,
-    ObjectTypeDefinition, ObjectTypeExtension, OperationDefinition, UnionTypeDefinition,
-    UnionTypeExtension,
+    InterfaceTypeDefinition, InterfaceTypeExtension, ObjectTypeDefinition, ObjectTypeExtension,
+    UnionTypeDefinition, UnionTypeExtension,
 };
 use graphql_input_types::{
     EnumTypeDefinition, EnumTypeExtension, InputObjectTypeDefinition, InputObjectTypeExtension,
     ScalarTypeDefinition, ScalarTypeExtension, SchemaDefinition, SchemaExtension,
 };
-use graphql_names::Node;
+use graphql_values::{DirectiveDefinition, FragmentDefinition, Node, OperationDefinition};
 
 impl From<Node<OperationDefinition>> for Definition {
     ghost from_gives = { λ node d. d ≡ variant.OperationDefinition node };

@@ -1,14 +1,13 @@
 //! What can be asked of every definition.
 ghost use Rattle.std.specs.Prelude.{◌≡◌};
 ghost use Rattle.std.specs.Option.{option_map};
-ghost use Rattle.graphql_names.specs.Placed.{name_tree};
-ghost use Rattle.graphql_composite_types.specs.in_directives.DirectiveTree.{directives_tree};
+ghost use Rattle.graphql_values.specs.Placed.{name_tree};
+ghost use Rattle.graphql_values.specs.DirectiveTree.{directives_tree};
 ghost use Rattle.graphql_definitions.specs.DefinitionTree.{definition_tree};
 ghost use Rattle.graphql_definitions.specs.Queries.{is_executable, is_extension, definition_place, definition_name, definition_directives};
 
 use crate::definition::Definition;
-use graphql_composite_types::DirectiveList;
-use graphql_names::{Name, SourceSpan};
+use graphql_values::{DirectiveList, Name, SourceSpan};
 
 impl Definition {
     /// Whether it is an operation or a fragment.

@@ -3,15 +3,14 @@ ghost use Rattle.graphql_definitions.specs.Queries.{IsContentOf};
 
 use crate::definition::Definition;
 use graphql_composite_types::{
-    DirectiveDefinition, FragmentDefinition, InterfaceTypeDefinition, InterfaceTypeExtension,
-    ObjectTypeDefinition, ObjectTypeExtension, OperationDefinition, UnionTypeDefinition,
-    UnionTypeExtension,
+    InterfaceTypeDefinition, InterfaceTypeExtension, ObjectTypeDefinition, ObjectTypeExtension,
+    UnionTypeDefinition, UnionTypeExtension,
 };
 use graphql_input_types::{
     EnumTypeDefinition, EnumTypeExtension, InputObjectTypeDefinition, InputObjectTypeExtension,
     ScalarTypeDefinition, ScalarTypeExtension, SchemaDefinition, SchemaExtension,
 };
-use graphql_names::Node;
+use graphql_values::{DirectiveDefinition, FragmentDefinition, Node, OperationDefinition};
 
 /// The content, where the definition is of that variant, and `None` for every other.
 impl Definition {

@@ -4,7 +4,7 @@ ghost use Rattle.graphql_definitions.specs.DefinitionTree.{document_tree};
 ghost use Rattle.graphql_definitions.specs.Sources.{source_of, sources_of};
 
 use crate::definition::Definition;
-use graphql_names::FileId;
+use graphql_values::FileId;
 use indexmap::IndexMap;
 use std::alloc::{AllocError, Global};
 

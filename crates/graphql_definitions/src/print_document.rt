@@ -1,21 +1,23 @@
 //! Definitions in general, and whole documents.
 ghost use Rattle.std.specs.Prelude.{map};
 ghost use Rattle.std.specs.Option.{option_copied};
-ghost use Rattle.graphql_composite_types.specs.in_printing.Joined.{joined};
-ghost use Rattle.graphql_composite_types.specs.in_printing.Levels.{level_depth};
+ghost use Rattle.graphql_values.specs.Joined.{joined};
+ghost use Rattle.graphql_values.specs.Levels.{level_depth};
 ghost use Rattle.graphql_definitions.specs.DefinitionTree.{definition_tree};
 ghost use Rattle.graphql_definitions.specs.DocumentLayout.{definition_text, between_text, next_definition_text, end_text, document_text};
 
 use crate::definition::Definition;
 use graphql_composite_types::{
-    Level, Sink, begins_output, put_directive_definition, put_fragment, put_interface_definition,
-    put_interface_extension, put_object_definition, put_object_extension, put_operation, put_start,
+    put_interface_definition, put_interface_extension, put_object_definition, put_object_extension,
     put_union_definition, put_union_extension,
 };
 use graphql_input_types::{
     put_enum_definition, put_enum_extension, put_input_object_definition,
     put_input_object_extension, put_scalar_definition, put_scalar_extension, put_schema_definition,
     put_schema_extension,
+};
+use graphql_values::{
+    Level, Sink, begins_output, put_directive_definition, put_fragment, put_operation, put_start,
 };
 
 /// A definition. `at_start` says whether nothing stands before it.

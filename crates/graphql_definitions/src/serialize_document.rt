@@ -1,14 +1,14 @@
 //! The texts of documents and of definitions in general by themselves.
 ghost use Rattle.std.specs.Prelude.{Some};
-ghost use Rattle.graphql_composite_types.specs.in_printing.LineLayout.{default_prefix, standing};
-ghost use Rattle.graphql_composite_types.specs.in_operations.OperationLayout.{begins_output};
+ghost use Rattle.graphql_values.specs.LineLayout.{default_prefix, standing};
+ghost use Rattle.graphql_values.specs.OperationLayout.{begins_output};
 ghost use Rattle.graphql_definitions.specs.DefinitionTree.{definition_tree, document_tree};
 ghost use Rattle.graphql_definitions.specs.DocumentLayout.{definition_text, document_text};
 
 use crate::definition::Definition;
 use crate::document::Document;
 use crate::print_document::{put_definition, put_document};
-use graphql_composite_types::{Level, Sink, Tree, begins_output, put_start};
+use graphql_values::{Level, Sink, Tree, begins_output, put_start};
 use std::fmt;
 
 impl Tree for Definition {

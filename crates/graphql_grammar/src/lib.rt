@@ -10,4 +10,5 @@
 pub mod one_tree;
 mod stop;
 
+pub use graphql_ast::{Definition, Document, SourceFile};
 pub use stop::Stop;

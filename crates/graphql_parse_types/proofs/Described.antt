@@ -2,7 +2,7 @@
 use Rattle.std.proofs.Common.{◌≡◌, ◌⊎◌, ℕ, Bool, true, false, cond, Option, Ok, Err, inl, inr, refl, ap, ◌∙◌}
 use Rattle.graphql_directives.specs.DirectiveTree.{DirectiveDefinitionTree}
 use Rattle.graphql_names.specs.Placed.{Placed, Text}
-use Rattle.graphql_definitions.specs.DefinitionTree.{DefinitionTree}
+use Rattle.graphql_grammar.specs.in_definitions.DefinitionTree.{DefinitionTree}
 use Rattle.graphql_lexer.specs.Input.{Input, next}
 use Rattle.graphql_grammar.specs.Meaning.{Meaning, begin_of, place_between}
 use Rattle.graphql_grammar.specs.Kinds.{next_is, is_string, is_directive}

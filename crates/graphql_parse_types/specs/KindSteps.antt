@@ -2,7 +2,7 @@
 use Rattle.std.specs.Prelude.{ℕ, List, Option, Ok}
 use Rattle.graphql_directives.specs.DirectiveTree.{Directives, InputValues}
 use Rattle.graphql_names.specs.Placed.{Text}
-use Rattle.graphql_definitions.specs.DefinitionTree.{DefinitionTree, DirectiveDefinition}
+use Rattle.graphql_grammar.specs.in_definitions.DefinitionTree.{DefinitionTree, DirectiveDefinition}
 use Rattle.graphql_grammar.specs.Meaning.{Meaning}
 use Rattle.graphql_grammar.specs.Kinds.{is_at, is_equals, is_implements, is_open_brace, is_schema}
 use Rattle.graphql_grammar.specs.Grammar.{definition_of}

@@ -4,7 +4,7 @@ ghost use Rattle.std.specs.Option.{option_map};
 ghost use Rattle.graphql_names.specs.Node.{content, place as place_of};
 ghost use Rattle.graphql_names.specs.declared.node.Node.{Node};
 ghost use Rattle.graphql_names.specs.Placed.{text_tree};
-ghost use Rattle.graphql_definitions.specs.DefinitionTree.{definition_tree};
+ghost use Rattle.graphql_grammar.specs.in_definitions.DefinitionTree.{definition_tree};
 ghost use Rattle.graphql_grammar.specs.DocumentReading as reading;
 ghost use Rattle.graphql_grammar.specs.Grammar as grammar;
 ghost use Rattle.graphql_grammar.specs.Reading.{Reads};
@@ -15,11 +15,12 @@ ghost use Rattle.graphql_parse_members.specs.in_parse_values.Meanings.{in_file};
 use crate::kind::Kind;
 use crate::schema::schema_definition;
 use crate::types::type_definition;
-use graphql_definitions::Definition;
 use graphql_grammar::Stop;
 use graphql_lexer::{Source, Terminal};
 use graphql_names::{FileId, Node, NodeStr, SourceSpan};
-use graphql_parse_members::{begin, directive_definition, next_is, optional_description, since};
+use graphql_parse_members::{
+    Definition, begin, directive_definition, next_is, optional_description, since,
+};
 use std::alloc::{AllocError, Global};
 
 /// A definition of this value, at a place.

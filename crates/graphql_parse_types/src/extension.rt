@@ -1,6 +1,6 @@
 //! Extensions of the type system (sections 3.3.2 and 3.4.3).
 ghost use Rattle.std.specs.Prelude.{◌≡◌, Some, IfOk};
-ghost use Rattle.graphql_definitions.specs.DefinitionTree.{definition_tree};
+ghost use Rattle.graphql_grammar.specs.in_definitions.DefinitionTree.{definition_tree};
 ghost use Rattle.graphql_grammar.specs.DocumentReading as reading;
 ghost use Rattle.graphql_grammar.specs.Grammar as grammar;
 ghost use Rattle.graphql_grammar.specs.Reading.{Reads};
@@ -12,11 +12,10 @@ use crate::definition::placed;
 use crate::kind::Kind;
 use crate::schema::schema_extension;
 use crate::types::type_definition;
-use graphql_definitions::Definition;
 use graphql_grammar::Stop;
 use graphql_lexer::{Source, Terminal};
 use graphql_names::{FileId, SourceSpan};
-use graphql_parse_members::{begin, expect, next_is, since};
+use graphql_parse_members::{Definition, begin, expect, next_is, since};
 use std::alloc::{AllocError, Global};
 
 /// What an extension says behind `extend`, without a look at its parts.

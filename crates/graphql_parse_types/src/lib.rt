@@ -16,4 +16,4 @@ mod types;
 
 pub use definition::type_system_definition;
 pub use extension::type_system_extension;
-pub use graphql_parse_members::{begin, next_is, since, ty};
+pub use graphql_parse_members::{Definition, Document, SourceFile, begin, next_is, since, ty};

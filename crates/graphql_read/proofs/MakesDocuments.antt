@@ -6,8 +6,8 @@ use Rattle.graphql_names.specs.Placed.{Text}
 use Rattle.graphql_operations.specs.SelectionTree.{SelectionTrees}
 use Rattle.graphql_operations.specs.in_directives.DirectiveTree.{DirectiveDefinitionTree}
 use Rattle.graphql_grammar.specs.in_values.Writable.{has_selection, selections_writable, directives_writable, directive_definition_writable}
-use Rattle.graphql_definitions.specs.DefinitionTree.{DefinitionTree, Operation, Fragment, DirectiveDefinition, Schema, ScalarType, ObjectType, InterfaceType, UnionType, EnumType, InputObjectType, ExtendSchema, ExtendScalar, ExtendObject, ExtendInterface, ExtendUnion, ExtendEnum, ExtendInputObject}
-use Rattle.graphql_definitions.specs.Writable.{has_some, schema_writable, fields_writable, enum_writable, input_object_writable, definition_writable, document_writable}
+use Rattle.graphql_grammar.specs.in_definitions.DefinitionTree.{DefinitionTree, Operation, Fragment, DirectiveDefinition, Schema, ScalarType, ObjectType, InterfaceType, UnionType, EnumType, InputObjectType, ExtendSchema, ExtendScalar, ExtendObject, ExtendInterface, ExtendUnion, ExtendEnum, ExtendInputObject}
+use Rattle.graphql_grammar.specs.in_definitions.Writable.{has_some, schema_writable, fields_writable, enum_writable, input_object_writable, definition_writable, document_writable}
 use Rattle.graphql_lexer.specs.Input.{Token}
 use Rattle.graphql_grammar.specs.Meaning.{Meaning, start}
 use Rattle.graphql_grammar.specs.Kinds.{is_extend}

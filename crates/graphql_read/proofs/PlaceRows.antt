@@ -9,7 +9,7 @@ use Rattle.graphql_operations.specs.in_directives.DirectiveTree.{Directives, Inp
 use Rattle.graphql_operations.specs.SelectionTree.{FieldHead, SelectionTrees, FieldTree, SpreadTree, InlineTree, no_selections, selection_then}
 use Rattle.graphql_operations.specs.OperationTree.{VariableDefinitionTree}
 use Rattle.graphql_grammar.specs.in_type_members.TypeSystemTree.{FieldDefinitionTree, SchemaParts, ScalarParts, FieldsParts, UnionParts, EnumParts, InputObjectParts}
-use Rattle.graphql_definitions.specs.DefinitionTree.{DefinitionTree, Operation, Fragment, DirectiveDefinition, Schema, ScalarType, ObjectType, InterfaceType, UnionType, EnumType, InputObjectType, ExtendSchema, ExtendScalar, ExtendObject, ExtendInterface, ExtendUnion, ExtendEnum, ExtendInputObject}
+use Rattle.graphql_grammar.specs.in_definitions.DefinitionTree.{DefinitionTree, Operation, Fragment, DirectiveDefinition, Schema, ScalarType, ObjectType, InterfaceType, UnionType, EnumType, InputObjectType, ExtendSchema, ExtendScalar, ExtendObject, ExtendInterface, ExtendUnion, ExtendEnum, ExtendInputObject}
 use Rattle.graphql_read.specs.EachPlace.{all_in_type, all_in_selections, all_in_definition}
 
 -- no place below the number may fail

@@ -5,7 +5,7 @@ use Rattle.graphql_names.specs.Placed.{Place, Text}
 use Rattle.graphql_literals.specs.TypeTree.{TypeTree}
 use Rattle.graphql_operations.specs.SelectionTree.{SelectionTrees}
 use Rattle.graphql_operations.specs.in_directives.DirectiveTree.{DirectiveDefinitionTree}
-use Rattle.graphql_definitions.specs.DefinitionTree.{DefinitionTree, Operation, Fragment}
+use Rattle.graphql_grammar.specs.in_definitions.DefinitionTree.{DefinitionTree, Operation, Fragment}
 use Rattle.graphql_lexer.specs.Input.{Token}
 use Rattle.graphql_grammar.specs.Meaning.{Meaning, start}
 use Rattle.graphql_grammar.specs.Kinds.{is_extend}

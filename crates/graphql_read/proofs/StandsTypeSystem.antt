@@ -1,7 +1,7 @@
 -- Each place in definitions of the type system is one that the meaning gives.
 use Rattle.std.proofs.Common.{◌≡◌, ℕ, zero, suc, Bool, true, false, ◌&&◌, [], unwrap_or, refl}
 use Rattle.std.proofs.lemmas.Bool.{and_parts}
-use Rattle.graphql_definitions.specs.Writable.{has_some}
+use Rattle.graphql_grammar.specs.in_definitions.Writable.{has_some}
 use Rattle.graphql_grammar.specs.Meaning.{Meaning, text_of}
 use Rattle.graphql_lexer.specs.Input.{end_of}
 use Rattle.graphql_lexer.specs.declared.terminal.Terminal.{Terminal}

@@ -1,8 +1,8 @@
 //! Documents, from texts (section 2.2).
 ghost use Rattle.std.specs.Prelude.{◌≡◌, IfOk, IfErr, List, [], ◌∷◌, map};
 ghost use Rattle.graphql_names.specs.Placed.{Place};
-ghost use Rattle.graphql_definitions.specs.DefinitionTree.{DefinitionTree, document_tree};
-ghost use Rattle.graphql_definitions.specs.Sources.{source_of, numbered_source, sources_of};
+ghost use Rattle.graphql_grammar.specs.in_definitions.DefinitionTree.{DefinitionTree, document_tree};
+ghost use Rattle.graphql_grammar.specs.in_definitions.Sources.{source_of, numbered_source, sources_of};
 ghost use Rattle.graphql_grammar.specs.DocumentReading as reading;
 ghost use Rattle.graphql_grammar.specs.Grammar.{Derives};
 ghost use Rattle.graphql_grammar.specs.Reading as read;
@@ -15,10 +15,10 @@ ghost use Rattle.graphql_read.specs.Sound.{IsSound};
 use crate::document_list::definitions;
 use crate::fault::ReadFault;
 use crate::finish::{end_of_text, fault};
-use graphql_definitions::{Definition, Document, SourceFile};
 use graphql_grammar::Stop;
 use graphql_lexer::Source;
 use graphql_names::FileId;
+use graphql_parse_types::{Definition, Document, SourceFile};
 use indexmap::IndexMap;
 use std::alloc::{AllocError, Global};
 

@@ -1,19 +1,18 @@
 //! Definitions and documents (section 2.2).
 ghost use Rattle.std.specs.Prelude.{◌≡◌, map};
 ghost use Rattle.graphql_lexer.specs.Input as input;
-ghost use Rattle.graphql_definitions.specs.DefinitionTree.{definition_tree};
+ghost use Rattle.graphql_grammar.specs.in_definitions.DefinitionTree.{definition_tree};
 ghost use Rattle.graphql_grammar.specs.Begins as begins;
 ghost use Rattle.graphql_grammar.specs.Kinds as kinds;
 ghost use Rattle.graphql_grammar.specs.DocumentReading as reading;
 ghost use Rattle.graphql_grammar.specs.Reading as read;
 ghost use Rattle.graphql_parse_operations.specs.in_parse_values.Meanings.{in_file};
 
-use graphql_definitions::Definition;
 use graphql_grammar::Stop;
 use graphql_lexer::{Source, Terminal};
 use graphql_names::FileId;
 use graphql_parse_operations::{placed_fragment, placed_operation};
-use graphql_parse_types::{next_is, type_system_definition, type_system_extension};
+use graphql_parse_types::{Definition, next_is, type_system_definition, type_system_extension};
 use std::alloc::Global;
 
 /// Whether an operation may begin with the next token.

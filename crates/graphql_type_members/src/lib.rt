@@ -19,10 +19,9 @@ pub use copies::{clone_described, clone_description, clone_head};
 pub use enum_value::EnumValueDefinition;
 pub use field_definition::FieldDefinition;
 pub use graphql_values::{
-    DirectiveDefinition, DirectiveList, FragmentDefinition, InputValueDefinition, Level, Name,
-    NamedType, Node, NodeStr, OperationDefinition, OperationType, Sink, Tree, begins_output,
-    directives_are_writable, input_values_are_writable, put_break, put_description,
-    put_directive_definition, put_directives, put_fragment, put_keyword, put_operation, put_start,
+    DirectiveList, InputValueDefinition, Level, Name, NamedType, Node, NodeStr, OperationType,
+    Sink, Tree, directives_are_writable, input_values_are_writable, put_break, put_description,
+    put_directives, put_keyword, put_start,
 };
 pub use print_members::{put_field_set, put_input_set, put_value_set};
 pub use print_names::{put_head, put_names};

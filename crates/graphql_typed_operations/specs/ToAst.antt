@@ -3,7 +3,7 @@ use Rattle.std.specs.Prelude.{List, ◌++◌, map, option_to_list}
 use Rattle.graphql_names.specs.Placed.{Placed}
 use Rattle.graphql_operations.specs.SelectionTree.{SelectionTree, FieldTree, SpreadTree, InlineTree, SelectionTrees, no_selections, selection_then}
 use Rattle.graphql_operations.specs.OperationTree.{OperationTree, FragmentTree}
-use Rattle.graphql_definitions.specs.DefinitionTree.{DefinitionTree, Operation, Fragment}
+use Rattle.graphql_ast.specs.in_definitions.DefinitionTree.{DefinitionTree, Operation, Fragment}
 use Rattle.graphql_typed_selections.specs.TypedTree.{TypedSelection, TypedField, TypedSpread, TypedInline, TypedSet, typed_set, TypedSelections, no_typed, typed_then, set_type}
 use Rattle.graphql_typed_operations.specs.TypedDocument.{TypedOperation, TypedFragment, TypedDocumentTree}
 

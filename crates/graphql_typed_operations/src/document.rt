@@ -4,7 +4,7 @@ ghost use Rattle.graphql_typed_operations.specs.TypedDocument.{typed_document_tr
 
 use crate::operation::Fragment;
 use crate::operation_map::OperationMap;
-use graphql_definitions::SourceFile;
+use graphql_ast::SourceFile;
 use graphql_names::{FileId, Name, Node};
 use graphql_typed_selections::SelectionSet;
 use indexmap::IndexMap;

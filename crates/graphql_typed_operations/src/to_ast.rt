@@ -3,14 +3,14 @@ ghost use Rattle.std.specs.Prelude.{◌≡◌, ◌++◌, [], ◌∷◌, map, opt
 ghost use Rattle.graphql_names.specs.Placed.{node_tree};
 ghost use Rattle.graphql_operations.specs.SelectionTree.{selection_tree, selection_trees};
 ghost use Rattle.graphql_operations.specs.OperationTree.{operation_tree, fragment_tree};
-ghost use Rattle.graphql_definitions.specs.DefinitionTree.{definition_tree, document_tree};
+ghost use Rattle.graphql_ast.specs.in_definitions.DefinitionTree.{definition_tree, document_tree};
 ghost use Rattle.graphql_typed_operations.specs.TypedDocument.{typed_operation_tree, typed_fragment_tree, typed_document_tree};
 ghost use Rattle.graphql_typed_operations.specs.ToAst.{operation_with, fragment_with, ast_operation, ast_fragment, ast_document};
 
 use crate::document::ExecutableDocument;
 use crate::operation::{Fragment, Operation};
 use crate::selections_to_ast::set_to_ast;
-use graphql_definitions::{Definition, Document};
+use graphql_ast::{Definition, Document};
 use graphql_names::{Node, copies_of_three};
 use graphql_operations::{FragmentDefinition, OperationDefinition, Selection};
 use std::alloc::{AllocError, Global};

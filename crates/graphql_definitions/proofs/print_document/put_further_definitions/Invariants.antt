@@ -1,7 +1,7 @@
 use Rattle.std.proofs.Common.{map, take}
 use Rattle.std.specs.Option.{option_copied}
-use Rattle.graphql_composite_types.specs.in_printing.Joined.{joined}
-use Rattle.graphql_composite_types.specs.in_printing.Levels.{level_depth}
+use Rattle.graphql_values.specs.Joined.{joined}
+use Rattle.graphql_values.specs.Levels.{level_depth}
 use Rattle.graphql_definitions.specs.DefinitionTree.{definition_tree}
 use Rattle.graphql_definitions.specs.DocumentLayout.{next_definition_text}
 use Rattle.graphql_definitions.proofs.print_document.put_further_definitions.Given as goal

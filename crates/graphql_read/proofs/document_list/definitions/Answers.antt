@@ -2,7 +2,7 @@ use Rattle.std.proofs.Common.{◌≡◌, ℕ, true, false, arith}
 use Rattle.std.proofs.lemmas.Result.{err_from_is_err_and}
 use Rattle.std.specs.Prelude.{map}
 use Rattle.graphql_names.specs.declared.span.FileId.{FileId}
-use Rattle.graphql_definitions.specs.DefinitionTree.{definition_tree}
+use Rattle.graphql_grammar.specs.in_definitions.DefinitionTree.{definition_tree}
 use Rattle.graphql_lexer.specs.Input.{next}
 use Rattle.graphql_grammar.specs.Begins as begins
 use Rattle.graphql_grammar.specs.Kinds.{next_is}

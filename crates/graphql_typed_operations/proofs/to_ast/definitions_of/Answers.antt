@@ -1,6 +1,6 @@
 use Rattle.std.proofs.Common.{◌≡◌, ◌++◌, map, option_to_list, ap, sym, ◌∙◌, append_assoc}
 use Rattle.graphql_names.specs.Placed.{node_tree}
-use Rattle.graphql_definitions.specs.DefinitionTree.{definition_tree}
+use Rattle.graphql_ast.specs.in_definitions.DefinitionTree.{definition_tree}
 use Rattle.graphql_typed_operations.specs.TypedDocument.{typed_operation_tree, typed_fragment_tree}
 use Rattle.graphql_typed_operations.specs.ToAst.{ast_operation, ast_fragment}
 use Rattle.graphql_typed_operations.proofs.Written.{values-written, optional-written}
