@@ -176,11 +176,9 @@ class Crate:
             self.passed[part] = {}
             for row in read(file).splitlines() if os.path.isfile(file) else []:
                 found = PASSED.match(row)
-                if found:
+                if found and found["part"] == part:
                     steps = [it for it in found["rest"].split(".") if it]
                     self.passed[part][found["alias"] or steps[-1]] = (found["crate"], steps)
-                    if found["part"] != part:
-                        raise ValueError(f"{file}: {row}")
 
 
 class Tree:
@@ -284,8 +282,9 @@ class Plan:
                         self.keep(name, path[0], "it is taken whole")
                     else:
                         origin, _ = tree.origin(path)
-                        if tree.kind(origin) == "macro" and path[0] != ALWAYS:
-                            self.keep(name, path[0], f"the macro {origin[1][0]}")
+                        if tree.kind(origin) == "macro" and origin[0] != name:
+                            # A macro is found only where the line names the crate that defines it.
+                            self.keep(name, origin[0], f"the macro {origin[1][0]}")
                         through = [it for it in path if it in tree.lines][-1]
                         self.items[name].setdefault(origin, set()).add(through)
                 for it in GHOST.finditer(text):
