@@ -230,7 +230,7 @@ def code_paths(text):
     found = []
     for use in USE.finditer(text):
         if PREFIX in use["tree"] and "Rattle." not in use["tree"]:
-            found += [(path, alias, "use") for path, alias in leaves(use["tree"]) if path[0].startswith(PREFIX)]
+            found += [(path, alias, (use["vis"] or "use").strip()) for path, alias in leaves(use["tree"]) if path[0].startswith(PREFIX)]
     rest = "\n".join(it for it in USE.sub("", text).split("\n") if not it.strip().startswith("//"))
     found += [(tuple(it["path"].split("::")), None, "inline") for it in INLINE.finditer(rest)]
     return found
@@ -239,6 +239,54 @@ def code_paths(text):
 def is_passed_whole(steps):
     """Whether a path below specs or proofs is known to hold below a pass-on: of a file, or of what is declared or promised."""
     return not steps or steps[0] in ("declared", "contracts") or steps[0][0].isupper()
+
+
+TYPE = re.compile(r"^[ \t]*(?:pub(?:\([^)\n]*\))? )?(?:struct|enum) (\w+)([^;{(]*(?:\{.*?^[ \t]*\}|\(.*?\);|;))", re.M | re.S)
+
+
+def recursive_types(tree):
+    """The types whose values can hold values of the same type, as origins: a contract that reads one of them is refused where its crate is not listed."""
+    holds, known = {}, {}
+    for name, crate in tree.crates.items():
+        known[name] = {}
+        for file, text in crate.texts.items():
+            plain = re.sub(r"//[^\n]*", "", text)
+            for it, body in TYPE.findall(plain):
+                known[name].setdefault(it, set()).add((name, (it,)))
+                holds.setdefault((name, (it,)), set()).update(re.findall(r"\w+", body))
+            for path, alias, _ in code_paths(text):
+                if len(path) > 1 and path[1] not in ("specs", "proofs") and path[-1] != "*":
+                    known[name].setdefault(alias or path[-1], set()).add(tree.origin(path)[0])
+    below = {it: {to for word in words for to in known[it[0]].get(word, ()) if to in holds} for it, words in holds.items()}
+    found = set()
+    for it in below:
+        seen, left = set(), list(below[it])
+        while left:
+            at = left.pop()
+            if at not in seen:
+                seen.add(at)
+                left += below[at]
+        if it in seen:
+            found.add(it)
+    return found
+
+
+def types_in_signature(tree, crate, steps_, name):
+    """The repository's types, as origins, that the signature of a definition names."""
+    file = f"{ROOT}/crates/{crate}/specs/{'/'.join(steps_)}.antt"
+    if not os.path.isfile(file):
+        return set()
+    text = read(file)
+    said = re.search(r"^(?:abbrev |unfoldable |pub |record |data )*" + re.escape(name) + r" :((?:[^\n]*\n)(?:[ \t]+[^\n]*→[^\n]*\n)*)", text, re.M)
+    words = set(re.findall(r"[^\s(){}]+", said[1])) if said else set()
+    found = set()
+    for it in re.finditer(r"^use " + GHOST.pattern + r"\.\{([^{}\n]*)\}", text, re.M):
+        at, inner = tree.definition(it["crate"], it["part"], it["rest"])
+        for item in it[4].split(", ") if inner[:1] == ["declared"] else []:
+            real, _, alias = item.partition(" as ")
+            if (alias or real) in words:
+                found.add((at, (real.strip("«»"),)))
+    return found
 
 
 class Plan:
@@ -272,9 +320,14 @@ class Plan:
         tree = self.tree
         self.items = {it: {} for it in tree.lines}
         self.ghosts = {it: {} for it in tree.lines}
+        recursive = recursive_types(tree)
         for name in tree.lines:
             for file in files_of(name, ".rt", ".edit", ".antt"):
                 text = read(file)
+                if file.endswith(".rt"):
+                    for at, path in self.read_types(text) & recursive:
+                        if at in tree.lines[name]:
+                            self.keep(name, at, f"contracts read the recursive type {path[-1]}")
                 for path, _, _ in [] if file.endswith(".antt") else code_paths(text):
                     if len(path) > 1 and path[1] in ("specs", "proofs"):
                         self.keep(name, path[0], "a tactic names it")
@@ -293,6 +346,18 @@ class Plan:
                         if not is_passed_whole(steps_):
                             self.keep(name, at, f"{it['part']}.{'.'.join(steps_)}")
                         self.ghosts[name].setdefault((at, it["part"]), set()).add(it["crate"])
+
+    def read_types(self, text):
+        """The types that the file's code or contracts name; those aside that it only gives again."""
+        tree, found = self.tree, set()
+        for path, _, how in code_paths(text):
+            if how != "pub" and len(path) > 1 and path[1] not in ("specs", "proofs") and path[-1] != "*":
+                found.add(tree.origin(path)[0])
+        for it in re.finditer(r"ghost use " + GHOST.pattern + r"\.\{([^{}\n]*)\}", text):
+            at, steps_ = tree.definition(it["crate"], it["part"], it["rest"])
+            for item in it[4].split(", "):
+                found |= types_in_signature(tree, at, steps_, item.partition(" as ")[0])
+        return found
 
     def cut(self):
         """The shortest lines over what is kept."""

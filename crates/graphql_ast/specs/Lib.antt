@@ -14,6 +14,6 @@ pub use Rattle.graphql_definitions.specs as in_definitions
 pub use Rattle.graphql_values.specs.in_directives as in_directives
 pub use Rattle.graphql_definitions.specs.in_input_types as in_input_types
 pub use Rattle.graphql_values.specs.in_literals as in_literals
-pub use Rattle.graphql_values.specs.in_operations as in_operations
+pub use Rattle.graphql_definitions.specs.in_operations as in_operations
 pub use Rattle.graphql_definitions.specs.in_type_members as in_type_members
 pub use Rattle.graphql_values.specs as in_values

@@ -5,7 +5,7 @@ use Rattle.std.specs.List.{flat_map}
 use Rattle.graphql_names.specs.Places.{is_built_in}
 use Rattle.graphql_names.specs.Placed.{Placed, Place}
 use Rattle.graphql_directives.specs.DirectiveTree.{InputValues, DirectiveDefinitionTree}
-use Rattle.graphql_type_members.specs.TypeSystemTree.{FieldDefinitionTree}
+use Rattle.graphql_folding.specs.in_type_members.TypeSystemTree.{FieldDefinitionTree}
 use Rattle.graphql_folding.specs.in_schema_types.SchemaTree.{SchemaType, SchemaTree}
 
 pub data Mark : Type 0 where

@@ -3,7 +3,7 @@ use Rattle.std.specs.Prelude.{ℕ, Bool, List, [], ◌∷◌, ◌++◌, Option, 
 use Rattle.std.specs.List.{find}
 use Rattle.std.specs.Str.{bytes_eq}
 use Rattle.graphql_names.specs.Placed.{Placed, Place}
-use Rattle.graphql_type_members.specs.TypeSystemTree.{FieldDefinitionTree}
+use Rattle.graphql_folding.specs.in_type_members.TypeSystemTree.{FieldDefinitionTree}
 use Rattle.graphql_folding.specs.BuiltIn.{a, one, argument, field, field_with}
 
 -- __typename: String!

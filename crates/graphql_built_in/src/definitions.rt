@@ -13,12 +13,10 @@ ghost use Rattle.graphql_built_in.specs.Rows.{row_argument, row_field, row_defin
 use crate::members::{fields_of, values_of};
 use crate::parts::{arguments_of, node_here};
 use crate::table::{ArgumentRow, FieldRow, ROWS, Row};
-use graphql_composite_types::ObjectTypeDefinition;
 use graphql_directives::{
     DirectiveDefinition, DirectiveList, DirectiveLocation, InputValueDefinition,
 };
-use graphql_folding::Definition;
-use graphql_input_types::{EnumTypeDefinition, ScalarTypeDefinition};
+use graphql_folding::{Definition, EnumTypeDefinition, ObjectTypeDefinition, ScalarTypeDefinition};
 use graphql_names::{Name, Node};
 use std::alloc::{AllocError, Global};
 

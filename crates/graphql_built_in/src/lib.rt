@@ -13,4 +13,5 @@ mod parts;
 mod table;
 
 pub use definitions::{built_in_definitions, is_built_in_scalar};
+pub use graphql_folding::SchemaDefinition;
 pub use meta_fields::{schema_field, type_field, typename_field};

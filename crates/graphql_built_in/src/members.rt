@@ -5,16 +5,16 @@ ghost use Rattle.graphql_names.specs.NameSyntax.{IsName, is_name};
 ghost use Rattle.graphql_names.specs.Placed.{name_tree, node_tree};
 ghost use Rattle.graphql_literals.specs.TypeTree.{type_tree};
 ghost use Rattle.graphql_directives.specs.DirectiveTree.{input_value_tree};
-ghost use Rattle.graphql_type_members.specs.TypeSystemTree.{field_definition_tree, enum_value_tree};
+ghost use Rattle.graphql_folding.specs.in_type_members.TypeSystemTree.{field_definition_tree, enum_value_tree};
 ghost use Rattle.graphql_folding.specs.BuiltIn.{here, value};
 ghost use Rattle.graphql_built_in.specs.Rows.{row_field, has_field_names};
 
 use crate::parts::{arguments_of, node_here, type_of};
 use crate::table::FieldRow;
 use graphql_directives::{DirectiveList, InputValueDefinition};
+use graphql_folding::{EnumValueDefinition, FieldDefinition};
 use graphql_literals::Type;
 use graphql_names::{Name, Node};
-use graphql_type_members::{EnumValueDefinition, FieldDefinition};
 use std::alloc::{AllocError, Global};
 
 /// A field of these parts.

@@ -1,13 +1,13 @@
 //! The meta-fields: fields that types have though no definition gives them (sections 4.1 and 4.2).
 ghost use Rattle.std.specs.Prelude.{◌≡◌, IfOk};
 ghost use Rattle.graphql_names.specs.Placed.{node_tree};
-ghost use Rattle.graphql_type_members.specs.TypeSystemTree.{field_definition_tree};
+ghost use Rattle.graphql_folding.specs.in_type_members.TypeSystemTree.{field_definition_tree};
 ghost use Rattle.graphql_built_in.specs.MetaFields.{typename_field, schema_field, type_field};
 
 use crate::members::field_of;
 use crate::table::{SCHEMA_FIELD, TYPE_FIELD, TYPENAME_FIELD};
+use graphql_folding::FieldDefinition;
 use graphql_names::Node;
-use graphql_type_members::FieldDefinition;
 use std::alloc::{AllocError, Global};
 
 /// `__typename: String!`, the name of the object that is selected from (section 4.1).

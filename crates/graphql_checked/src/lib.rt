@@ -27,7 +27,7 @@ mod verdict;
 pub use checked_document::CheckedDocument;
 pub use checked_schema::CheckedSchema;
 pub use checker::{Checker, Limits};
-pub use graphql_thin::{Details, DiagnosticList, Schema};
+pub use graphql_thin::{Details, DiagnosticList, Schema, parse_document};
 pub use layout::Layout;
 pub use refusal::Refusal;
 pub use run_fault::{Outcome, RunFault};

@@ -6,4 +6,3 @@ pub mod NamedLookups
 pub mod NamedWrites
 pub mod ComponentEquality
 pub mod Copies
-pub use Rattle.graphql_values.proofs as in_values

@@ -1,6 +1,6 @@
 //! Copies of the parts that objects and interfaces share.
 ghost use Rattle.std.specs.Prelude.{◌≡◌, map, IfOk};
-ghost use Rattle.graphql_type_members.specs.in_names.Placed.{node_tree, name_tree};
+ghost use Rattle.graphql_printing.specs.in_names.Placed.{node_tree, name_tree};
 ghost use Rattle.graphql_type_members.specs.TypeSystemTree.{field_definition_tree};
 
 use graphql_type_members::{FieldDefinition, NamedType, Node};

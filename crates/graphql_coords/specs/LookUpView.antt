@@ -2,7 +2,7 @@
 use Rattle.std.specs.Prelude.{Result, Ok, Err}
 use Rattle.graphql_names.specs.Placed.{Place, node_tree}
 use Rattle.graphql_directives.specs.DirectiveTree.{input_value_tree, directive_definition_tree}
-use Rattle.graphql_type_members.specs.TypeSystemTree.{field_definition_tree, enum_value_tree}
+use Rattle.graphql_schema.specs.in_type_members.TypeSystemTree.{field_definition_tree, enum_value_tree}
 use Rattle.graphql_components.specs.Given.{component_tree}
 use Rattle.graphql_schema.specs.in_schema_types.SchemaTree.{SchemaTree}
 use Rattle.graphql_schema.specs.in_schema_types.TypeView.{extended_type}

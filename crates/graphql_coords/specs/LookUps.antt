@@ -3,8 +3,8 @@ use Rattle.std.specs.Prelude.{ℕ, ◌||◌, List, Result, Ok, Err, ok_or, find,
 use Rattle.graphql_names.specs.Placed.{Placed, Place}
 use Rattle.graphql_directives.specs.DirectiveTree.{InputValueTree, DirectiveDefinitionTree}
 use Rattle.graphql_directives.specs.DirectiveQueries.{input_value_has_name}
-use Rattle.graphql_type_members.specs.TypeSystemTree.{FieldDefinitionTree, EnumValueTree}
-use Rattle.graphql_type_members.specs.ArgumentQueries.{argument_named}
+use Rattle.graphql_schema.specs.in_type_members.TypeSystemTree.{FieldDefinitionTree, EnumValueTree}
+use Rattle.graphql_schema.specs.in_type_members.ArgumentQueries.{argument_named}
 use Rattle.graphql_components.specs.Given.{Given}
 use Rattle.graphql_schema.specs.in_schema_types.SchemaTree.{SchemaType, SchemaTree, same_kind}
 use Rattle.graphql_schema.specs.in_schema_types.Addresses.{under, type_at}

@@ -19,6 +19,8 @@ pub use coordinate::{
     DirectiveArgumentCoordinate, DirectiveCoordinate, FieldArgumentCoordinate, SchemaCoordinate,
     TypeAttributeCoordinate, TypeCoordinate,
 };
-pub use graphql_schema::{FieldLookupError, Schema};
+pub use graphql_schema::{
+    Definition, Document, ExtendedType, FieldLookupError, Schema, SourceFile,
+};
 pub use lookup_answers::{SchemaCoordinateLookup, SchemaLookupError, TypeAttributeLookup};
 pub use parse_error::SchemaCoordinateParseError;

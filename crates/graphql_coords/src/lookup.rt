@@ -2,7 +2,7 @@
 ghost use Rattle.std.specs.Prelude.{◌≡◌};
 ghost use Rattle.graphql_names.specs.Placed.{node_tree};
 ghost use Rattle.graphql_directives.specs.DirectiveTree.{input_value_tree, directive_definition_tree};
-ghost use Rattle.graphql_type_members.specs.TypeSystemTree.{field_definition_tree, enum_value_tree};
+ghost use Rattle.graphql_schema.specs.in_type_members.TypeSystemTree.{field_definition_tree, enum_value_tree};
 ghost use Rattle.graphql_components.specs.Given.{component_tree};
 ghost use Rattle.graphql_schema.specs.in_schema_types.TypeView.{extended_type};
 ghost use Rattle.graphql_schema.specs.SchemaOf.{schema_tree};
@@ -21,8 +21,7 @@ use crate::find::{
 use crate::lookup_answers::{SchemaCoordinateLookup, SchemaLookupError, TypeAttributeLookup};
 use graphql_directives::{DirectiveDefinition, InputValueDefinition};
 use graphql_names::Node;
-use graphql_schema::{Component, ExtendedType, Schema};
-use graphql_type_members::{EnumValueDefinition, FieldDefinition};
+use graphql_schema::{Component, EnumValueDefinition, ExtendedType, FieldDefinition, Schema};
 
 impl TypeCoordinate {
     /// The type.

@@ -22,6 +22,7 @@ pub use document::{Document, SourceFile};
 pub use graphql_composite_types::{
     EnumValueDefinition, FieldDefinition, InterfaceTypeDefinition, InterfaceTypeExtension,
     ObjectTypeDefinition, ObjectTypeExtension, UnionTypeDefinition, UnionTypeExtension,
+    clone_description,
 };
 pub use graphql_input_types::{
     EnumTypeDefinition, EnumTypeExtension, InputObjectTypeDefinition, InputObjectTypeExtension,

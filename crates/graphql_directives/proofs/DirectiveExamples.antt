@@ -1,7 +1,7 @@
 -- The layout of small directives and their definitions, computed. The texts are written by hand.
 use Rattle.std.proofs.Common.{◌≡◌, ℕ, List, [], ◌∷◌, codes, true, false, Option, None, Some, refl}
-use Rattle.graphql_literals.specs.in_printing.Joined.{joined}
-use Rattle.graphql_literals.specs.in_printing.LineLayout.{Prefix}
+use Rattle.graphql_printing.specs.Joined.{joined}
+use Rattle.graphql_printing.specs.LineLayout.{Prefix}
 use Rattle.graphql_names.specs.Placed.{Placed, Text}
 use Rattle.graphql_literals.specs.TypeTree.{NamedTree}
 use Rattle.graphql_literals.specs.ValueTree.{IntTree}

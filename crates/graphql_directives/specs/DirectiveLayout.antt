@@ -1,7 +1,7 @@
 -- Arguments and directives (GraphQL, October 2021, sections 2.6 and 2.12).
 use Rattle.std.specs.Prelude.{ℕ, List, [], ◌∷◌, codes}
-use Rattle.graphql_literals.specs.in_printing.Joined.{joined, further_text, separated}
-use Rattle.graphql_literals.specs.in_printing.LineLayout.{Prefix, standing, parenthesized_text, texts_of}
+use Rattle.graphql_printing.specs.Joined.{joined, further_text, separated}
+use Rattle.graphql_printing.specs.LineLayout.{Prefix, standing, parenthesized_text, texts_of}
 use Rattle.graphql_literals.specs.ValueLayout.{value_text, named_value_text}
 use Rattle.graphql_directives.specs.DirectiveTree.{ArgumentTree, Arguments, DirectiveTree, Directives}
 

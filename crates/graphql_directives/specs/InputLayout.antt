@@ -1,13 +1,14 @@
 -- Definitions of arguments, of input fields and of directives (GraphQL, October 2021, sections 3.6.1, 3.10, 3.13).
 use Rattle.std.specs.Prelude.{ℕ, ◌+◌, Bool, true, false, if◌then◌else◌, List, [], ◌∷◌, map, codes, None, Some, is_some}
 use Rattle.std.specs.List.{list_any}
-use Rattle.graphql_literals.specs.in_printing.Joined.{joined, further_text}
+use Rattle.graphql_printing.specs.Joined.{joined, further_text}
 use Rattle.graphql_names.specs.Placed.{Placed}
 use Rattle.graphql_directives.specs.DirectiveTree.{InputValueTree, InputValues, DirectiveDefinitionTree}
-use Rattle.graphql_literals.specs.in_printing.LineLayout.{Prefix, Leveled, break_text, members_text, parenthesized_text, texts_of}
-use Rattle.graphql_literals.specs.in_printing.StringLayout.{description_text}
+use Rattle.graphql_printing.specs.LineLayout.{Prefix, Leveled, break_text, members_text}
+use Rattle.graphql_printing.specs.StringLayout.{description_text}
 use Rattle.graphql_literals.specs.ValueLayout.{type_text, default_text}
 use Rattle.graphql_directives.specs.DirectiveLayout.{directives_text}
+use Rattle.graphql_printing.specs.LineLayout.{parenthesized_text, texts_of}
 use Rattle.graphql_directives.specs.declared.directive_location.DirectiveLocation.{DirectiveLocation}
 use Rattle.graphql_directives.specs.DirectivePlaces.{location_keyword}
 

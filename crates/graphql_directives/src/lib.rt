@@ -23,10 +23,6 @@ pub use argument_error::ArgumentByNameError;
 pub use directive::{Argument, Directive, DirectiveDefinition, DirectiveList};
 pub use directive_list::NamedDirectives;
 pub use directive_location::DirectiveLocation;
-pub use graphql_literals::{
-    Cause, FloatValue, IntValue, Level, NamedType, Serialize, Sink, Tree, Type, Value, WriteFault,
-    can_be_enum, default_is_writable, put_break, put_default, put_description, put_start, put_type,
-};
 pub use input_value::InputValueDefinition;
 pub use named::{Named, get_named_mut};
 pub use print_directive::{put_arguments, put_directives};

@@ -3,9 +3,10 @@ ghost use Rattle.std.specs.Prelude.{◌≡◌, ◌∷◌, ◌+◌, ℕ, List, []
 ghost use Rattle.std.specs.Option.{option_copied, option_map};
 ghost use Rattle.graphql_names.specs.Placed.{node_tree, Place};
 ghost use Rattle.graphql_directives.specs.DirectiveTree.{input_value_tree, directive_definition_tree};
-ghost use Rattle.graphql_literals.specs.in_printing.Joined.{joined, after, further_text};
-ghost use Rattle.graphql_literals.specs.in_printing.Levels.{level_depth};
-ghost use Rattle.graphql_literals.specs.in_printing.LineLayout.{member_text, members_text, texts_of};
+ghost use Rattle.graphql_printing.specs.Joined.{joined, after, further_text};
+ghost use Rattle.graphql_printing.specs.Levels.{level_depth};
+ghost use Rattle.graphql_printing.specs.LineLayout.{member_text, members_text};
+ghost use Rattle.graphql_printing.specs.LineLayout.{texts_of};
 ghost use Rattle.graphql_directives.specs.InputLayout.{input_value_text, stand_on_lines, arguments_in_line, arguments_on_lines, argument_definitions_text, repeatable_text, locations_text, undescribed_directive_text, directive_definition_text};
 ghost use Rattle.graphql_directives.specs.DirectivePlaces.{location_keyword};
 
@@ -13,8 +14,9 @@ use crate::directive::DirectiveDefinition;
 use crate::directive_location::DirectiveLocation;
 use crate::input_value::InputValueDefinition;
 use crate::print_directive::put_directives;
-use graphql_literals::{Level, Sink, put_break, put_default, put_description, put_type};
+use graphql_literals::{put_default, put_type};
 use graphql_names::Node;
+use graphql_printing::{Level, Sink, put_break, put_description};
 
 pub fn put_input_value<S: Sink>(
     sink: &mut S,

@@ -1,12 +1,12 @@
 //! The texts of arguments and directives by themselves.
 ghost use Rattle.std.specs.Prelude.{Some};
-ghost use Rattle.graphql_literals.specs.in_printing.LineLayout.{default_prefix, standing};
+ghost use Rattle.graphql_printing.specs.LineLayout.{default_prefix, standing};
 ghost use Rattle.graphql_directives.specs.DirectiveTree.{argument_tree, directive_tree, directives_tree};
 ghost use Rattle.graphql_directives.specs.DirectiveLayout.{argument_text, directive_text, directives_alone};
 
 use crate::directive::{Argument, Directive, DirectiveList};
 use crate::print_directive::{put_argument, put_directive, put_directive_list};
-use graphql_literals::{Level, Sink, Tree, put_start};
+use graphql_printing::{Level, Sink, Tree, put_start};
 use std::fmt;
 
 impl Tree for Argument {

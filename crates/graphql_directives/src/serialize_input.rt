@@ -1,15 +1,15 @@
 //! The texts of definitions of input values and directives by themselves.
 ghost use Rattle.std.specs.Prelude.{Some};
 ghost use Rattle.std.specs.Option.{option_copied};
-ghost use Rattle.graphql_literals.specs.in_printing.Levels.{level_depth};
-ghost use Rattle.graphql_literals.specs.in_printing.LineLayout.{default_prefix, standing};
+ghost use Rattle.graphql_printing.specs.Levels.{level_depth};
+ghost use Rattle.graphql_printing.specs.LineLayout.{default_prefix, standing};
 ghost use Rattle.graphql_directives.specs.DirectiveTree.{input_value_tree, directive_definition_tree};
 ghost use Rattle.graphql_directives.specs.InputLayout.{input_value_text, directive_definition_text};
 
 use crate::directive::DirectiveDefinition;
 use crate::input_value::InputValueDefinition;
 use crate::print_input::{put_directive_definition, put_input_value};
-use graphql_literals::{Level, Sink, Tree, put_start};
+use graphql_printing::{Level, Sink, Tree, put_start};
 use std::fmt;
 
 impl Tree for InputValueDefinition {

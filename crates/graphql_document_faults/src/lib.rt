@@ -12,4 +12,9 @@ mod build_error_text;
 pub use build_error::{
     BuildError, ConflictingFieldArgument, ConflictingFieldName, ConflictingFieldType,
 };
-pub use graphql_coords::{FieldLookupError, Schema};
+pub use graphql_coords::{
+    Definition, DirectiveArgumentCoordinate, DirectiveCoordinate, Document, ExtendedType,
+    FieldArgumentCoordinate, FieldLookupError, Schema, SchemaCoordinate, SchemaCoordinateLookup,
+    SchemaCoordinateParseError, SchemaLookupError, SourceFile, TypeAttributeCoordinate,
+    TypeCoordinate,
+};

@@ -2,8 +2,8 @@
 use Rattle.std.specs.Prelude.{ℕ, List, [], None}
 use Rattle.graphql_names.specs.Placed.{Placed, Place, Text}
 use Rattle.graphql_components.specs.in_literals.TypeQueries.{inner_name}
-use Rattle.graphql_schema_types.specs.in_type_members.TypeSystemTree.{FieldDefinitionTree}
-use Rattle.graphql_schema_types.specs.SchemaTree.{SchemaTree}
+use Rattle.graphql_definitions.specs.in_type_members.TypeSystemTree.{FieldDefinitionTree}
+use Rattle.graphql_typing.specs.in_schema_types.SchemaTree.{SchemaTree}
 use Rattle.graphql_typing.specs.in_schema.LookUps.{FieldIsMissing}
 use Rattle.graphql_typed_selections.specs.TypedTree.{TypedSelection, TypedField, typed_set, no_typed}
 use Rattle.graphql_documents.specs.declared.new_field_error.NewFieldError.{NewFieldError}

@@ -1,7 +1,7 @@
 //! Making selection sets by themselves.
 ghost use Rattle.std.specs.Prelude.{◌≡◌, ◌↔◌, [], IfOk, Contains};
 ghost use Rattle.graphql_operations.specs.SelectionTree.{selection_tree, selection_trees};
-ghost use Rattle.graphql_schema_types.specs.Plain.{plain};
+ghost use Rattle.graphql_typing.specs.in_schema_types.Plain.{plain};
 ghost use Rattle.graphql_typing.specs.in_schema.SchemaOf.{schema_tree};
 ghost use Rattle.graphql_typed_selections.specs.TypedTree.{typed_set_tree};
 ghost use Rattle.graphql_typing.specs.MeantTree.{meant_of_set, set_on};

@@ -2,7 +2,7 @@
 ghost use Rattle.std.specs.Prelude.{◌≡◌};
 ghost use Rattle.std.specs.Option.{option_map};
 ghost use Rattle.graphql_names.specs.Placed.{node_tree};
-ghost use Rattle.graphql_schema_types.specs.Addresses.{under};
+ghost use Rattle.graphql_typing.specs.in_schema_types.Addresses.{under};
 ghost use Rattle.graphql_typing.specs.in_typed_operations.TypedDocument.{typed_fragment_tree, typed_document_tree};
 
 use graphql_names::Node;

@@ -30,8 +30,10 @@ pub use graphql_typed_selections::{
 };
 pub use graphql_typing::{
     BuildError, BuilderRefusal, ConflictingFieldArgument, ConflictingFieldName,
-    ConflictingFieldType, ExecutableDocument, ExecutableDocumentBuilder, FieldSet, Fragment,
-    FragmentMap, Operation, OperationMap, Operations,
+    ConflictingFieldType, DirectiveArgumentCoordinate, DirectiveCoordinate, ExecutableDocument,
+    ExecutableDocumentBuilder, FieldArgumentCoordinate, FieldSet, Fragment, FragmentMap, Operation,
+    OperationMap, Operations, SchemaCoordinate, SchemaCoordinateLookup, SchemaCoordinateParseError,
+    SchemaLookupError, TypeAttributeCoordinate, TypeCoordinate,
 };
 pub use graphql_walks::{AllFields, RootFields};
 pub use new_field_error::NewFieldError;

@@ -10,7 +10,7 @@ use Rattle.graphql_names.specs.Placed.{Placed, Place, Text}
 use Rattle.graphql_literals.specs.TypeTree.{TypeTree, NamedTree, NonNullNamedTree, ListTree, NonNullListTree, unplaced_type}
 use Rattle.graphql_literals.specs.TypeQueries.{inner_name}
 use Rattle.graphql_directives.specs.DirectiveTree.{InputValueTree, DirectiveDefinitionTree, unplaced_input_value, unplaced_directive_definition}
-use Rattle.graphql_typed_selections.specs.in_type_members.TypeSystemTree.{FieldDefinitionTree, EnumValueTree, unplaced_field_definition, unplaced_enum_value}
+use Rattle.graphql_rule_definitions.specs.in_type_members.TypeSystemTree.{FieldDefinitionTree, EnumValueTree, unplaced_field_definition, unplaced_enum_value}
 use Rattle.graphql_rule_definitions.specs.in_components.Lists.{is_among}
 use Rattle.graphql_rule_definitions.specs.in_components.Names.{names}
 use Rattle.graphql_rule_definitions.specs.in_components.Given.{Given, given_name, plain_given}

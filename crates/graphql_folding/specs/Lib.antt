@@ -21,3 +21,4 @@ pub use Rattle.graphql_directives.specs as in_directives
 pub use Rattle.graphql_directives.specs.in_literals as in_literals
 pub use Rattle.graphql_schema_types.specs.in_operations as in_operations
 pub use Rattle.graphql_schema_types.specs.in_type_members as in_type_members
+pub use Rattle.graphql_schema_types.specs.in_values as in_values

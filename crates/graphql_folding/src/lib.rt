@@ -20,7 +20,10 @@ mod parts;
 pub use build_error::{BuildError, Repeat};
 pub use fold::fold_type;
 pub use graphql_schema_types::{
-    Definition, Document, ExtendedType, SchemaDefinition, SourceFile, TypeKind,
+    Component, ComponentName, ComponentOrigin, Definition, DirectiveList, Document,
+    EnumTypeDefinition, EnumValueDefinition, ExtendedType, ExtensionId, Extensions,
+    FieldDefinition, InterfaceTypeDefinition, ObjectTypeDefinition, ScalarTypeDefinition,
+    SchemaDefinition, SourceFile, TypeKind, UnionTypeDefinition, clone_description,
 };
 pub use listed::Listed;
 pub use parts::{Defined, Parts, extension_parts, type_definition};

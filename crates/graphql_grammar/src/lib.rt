@@ -10,5 +10,9 @@
 pub mod one_tree;
 mod stop;
 
-pub use graphql_ast::{Definition, Document, SourceFile};
+pub use graphql_ast::{
+    Definition, Document, EnumTypeExtension, EnumValueDefinition, FieldDefinition,
+    InputObjectTypeExtension, InterfaceTypeExtension, ObjectTypeExtension, ScalarTypeExtension,
+    SchemaExtension, SourceFile, UnionTypeExtension,
+};
 pub use stop::Stop;

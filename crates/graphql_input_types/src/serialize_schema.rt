@@ -2,14 +2,14 @@
 ghost use Rattle.std.specs.Prelude.{Some};
 ghost use Rattle.std.specs.Option.{option_map};
 ghost use Rattle.graphql_names.specs.Placed.{text_tree};
-ghost use Rattle.graphql_type_members.specs.in_printing.LineLayout.{default_prefix, standing};
-ghost use Rattle.graphql_type_members.specs.in_printing.StringLayout.{description_text};
+ghost use Rattle.graphql_printing.specs.LineLayout.{default_prefix, standing};
+ghost use Rattle.graphql_printing.specs.StringLayout.{description_text};
 ghost use Rattle.graphql_type_members.specs.TypeSystemLayout.{extend, schema_text};
 ghost use Rattle.graphql_input_types.specs.InputTypeTree.{schema_parts, schema_extension_parts};
 
 use crate::print_schema::{put_schema_definition, put_schema_extension};
 use crate::schema::{SchemaDefinition, SchemaExtension};
-use graphql_type_members::{Level, Sink, Tree, put_start};
+use graphql_printing::{Level, Sink, Tree, put_start};
 use std::fmt;
 
 impl Tree for SchemaDefinition {

@@ -11,4 +11,3 @@ pub use Rattle.graphql_printing.specs.Levels
 pub use Rattle.graphql_printing.specs.LineLayout
 pub use Rattle.graphql_printing.specs.StringLayout
 pub use Rattle.graphql_names.specs.Placed
-pub use Rattle.graphql_printing.specs as in_printing

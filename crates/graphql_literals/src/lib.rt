@@ -14,9 +14,6 @@ mod ty;
 mod value;
 mod writable;
 
-pub use graphql_printing::{
-    Cause, Level, Serialize, Sink, Tree, WriteFault, put_break, put_description, put_start,
-};
 pub use number::{FloatValue, IntValue};
 pub use print_value::{put_default, put_named_value, put_type};
 pub use ty::{NamedType, Type};

@@ -1,10 +1,10 @@
 -- The layout of small selections, operations and fragments, computed. The texts are written by hand.
 use Rattle.std.proofs.Common.{◌≡◌, ℕ, List, [], ◌∷◌, codes, true, false, None, Some, refl}
-use Rattle.graphql_directives.specs.in_printing.Joined.{joined}
-use Rattle.graphql_directives.specs.in_printing.LineLayout.{Prefix}
+use Rattle.graphql_printing.specs.Joined.{joined}
+use Rattle.graphql_printing.specs.LineLayout.{Prefix}
 use Rattle.graphql_names.specs.Placed.{Placed, Text}
-use Rattle.graphql_directives.specs.in_literals.TypeTree.{NamedTree}
-use Rattle.graphql_directives.specs.in_literals.ValueTree.{IntTree}
+use Rattle.graphql_literals.specs.TypeTree.{NamedTree}
+use Rattle.graphql_literals.specs.ValueTree.{IntTree}
 use Rattle.graphql_directives.specs.DirectiveTree.{DirectiveTree}
 use Rattle.graphql_operations.specs.SelectionTree.{SelectionTree, SelectionTrees, FieldTree, SpreadTree, InlineTree, no_selections, selection_then}
 use Rattle.graphql_operations.specs.OperationTree.{VariableDefinitionTree, OperationTree}

@@ -2,9 +2,9 @@
 use Rattle.std.proofs.Common.{◌≡◌, ◌≤◌, ◌<◌, ◌+◌, arith, codes, ℕ, List, [], ◌∷◌, length, take, map, true, refl, ap}
 use Rattle.graphql_operations.specs.OperationWritable.{has_selection}
 use Rattle.std.proofs.lemmas.List.{take_all}
-use Rattle.graphql_directives.specs.in_printing.Joined.{joined, further_text, separated}
+use Rattle.graphql_printing.specs.Joined.{joined, further_text, separated}
 use Rattle.graphql_operations.specs.SelectionTree.{selection_trees, selection_tree}
-use Rattle.graphql_directives.specs.in_printing.LineLayout.{Prefix, members_text, break_text, braced_text, set_text}
+use Rattle.graphql_printing.specs.LineLayout.{Prefix, members_text, break_text, braced_text, set_text}
 use Rattle.graphql_operations.specs.OperationLayout.{selection_text, selection_texts}
 use Rattle.graphql_operations.specs.declared.selection.Selection.{Selection}
 

@@ -1,13 +1,14 @@
 -- Selections, operations and fragments (GraphQL, October 2021, sections 2.3 to 2.5, 2.8, 2.10).
 use Rattle.std.specs.Prelude.{ℕ, ◌==◌, Bool, true, false, ◌&&◌, ◌||◌, if◌then◌else◌, List, [], ◌∷◌, codes, Option, None, Some}
-use Rattle.graphql_directives.specs.in_printing.Joined.{joined}
+use Rattle.graphql_printing.specs.Joined.{joined}
 use Rattle.graphql_names.specs.Placed.{Placed, Text}
 use Rattle.graphql_directives.specs.DirectiveTree.{Directives}
 use Rattle.graphql_operations.specs.SelectionTree.{FieldHead, SelectionTree, FieldTree, SpreadTree, InlineTree, SelectionTrees, no_selections, selection_then}
 use Rattle.graphql_operations.specs.OperationTree.{VariableDefinitionTree, OperationTree, FragmentTree}
-use Rattle.graphql_directives.specs.in_printing.LineLayout.{Prefix, Leveled, braced_text, set_text, parenthesized_text, texts_of}
-use Rattle.graphql_directives.specs.in_literals.ValueLayout.{type_text, default_text}
+use Rattle.graphql_printing.specs.LineLayout.{Prefix, Leveled, braced_text, set_text}
+use Rattle.graphql_literals.specs.ValueLayout.{type_text, default_text}
 use Rattle.graphql_directives.specs.DirectiveLayout.{arguments_text, directives_text}
+use Rattle.graphql_printing.specs.LineLayout.{parenthesized_text, texts_of}
 use Rattle.graphql_operations.specs.OperationQueries.{operation_keyword}
 use Rattle.graphql_operations.specs.declared.operation.OperationType.{OperationType}
 use Rattle.graphql_operations.specs.declared.operation.OperationType.TheVariants.{Query, Mutation, Subscription}

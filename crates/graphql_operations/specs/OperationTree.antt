@@ -2,8 +2,8 @@
 use Rattle.std.specs.Prelude.{List, map, Option}
 use Rattle.std.specs.Option.{option_map}
 use Rattle.graphql_names.specs.Placed.{Placed, Place, Text, name_tree, node_tree, unplaced_text, unplaced_node}
-use Rattle.graphql_directives.specs.in_literals.TypeTree.{TypeTree, type_tree, unplaced_type}
-use Rattle.graphql_directives.specs.in_literals.ValueTree.{ValueTree, value_tree, unplaced_value}
+use Rattle.graphql_literals.specs.TypeTree.{TypeTree, type_tree, unplaced_type}
+use Rattle.graphql_literals.specs.ValueTree.{ValueTree, value_tree, unplaced_value}
 use Rattle.graphql_directives.specs.DirectiveTree.{Directives, directives_tree, unplaced_directives}
 use Rattle.graphql_operations.specs.SelectionTree.{SelectionTrees, selection_trees, selection_tree, unplaced_selections}
 use Rattle.graphql_operations.specs.declared.operation.OperationType.{OperationType}

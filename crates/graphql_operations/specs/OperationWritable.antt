@@ -2,7 +2,7 @@
 use Rattle.std.specs.Prelude.{ℕ, Bool, true, false, not, ◌&&◌, List, codes}
 use Rattle.std.specs.List.{list_all}
 use Rattle.graphql_names.specs.Placed.{Placed}
-use Rattle.graphql_directives.specs.in_literals.ValueWritable.{is_text, default_writable}
+use Rattle.graphql_literals.specs.ValueWritable.{is_text, default_writable}
 use Rattle.graphql_directives.specs.DirectiveWritable.{arguments_writable, directives_writable}
 use Rattle.graphql_operations.specs.SelectionTree.{FieldHead, SelectionTree, FieldTree, SpreadTree, InlineTree, SelectionTrees, no_selections, selection_then}
 use Rattle.graphql_operations.specs.OperationTree.{VariableDefinitionTree, OperationTree, FragmentTree}

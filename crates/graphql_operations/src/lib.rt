@@ -13,12 +13,13 @@ mod serialize_operation;
 mod writable_operation;
 
 pub use graphql_directives::{
-    Argument, ArgumentByNameError, Cause, Directive, DirectiveDefinition, DirectiveList,
-    DirectiveLocation, FloatValue, InputValueDefinition, IntValue, Level, Named, NamedDirectives,
-    NamedType, Serialize, Sink, Tree, Type, Value, WriteFault, can_be_enum,
-    directives_are_writable, get_named_mut, input_values_are_writable, put_argument_definitions,
-    put_break, put_description, put_directive_definition, put_directives, put_input_members,
-    put_start, put_type,
+    Argument, ArgumentByNameError, Directive, DirectiveDefinition, DirectiveList,
+    DirectiveLocation, InputValueDefinition, Named, NamedDirectives, directives_are_writable,
+    get_named_mut, input_values_are_writable, put_argument_definitions, put_directive_definition,
+    put_directives, put_input_members,
+};
+pub use graphql_printing::{
+    Cause, Level, Serialize, Sink, Tree, WriteFault, put_break, put_description, put_start,
 };
 pub use operation::{FragmentDefinition, OperationDefinition, OperationType, VariableDefinition};
 pub use print_operation::{begins_output, put_fragment, put_keyword, put_operation};

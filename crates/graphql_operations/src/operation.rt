@@ -4,7 +4,8 @@ ghost use Rattle.graphql_operations.specs.OperationQueries.{operation_keyword, d
 ghost use Rattle.graphql_operations.specs.OperationTree.{variable_definition_tree, operation_tree, fragment_tree};
 
 use crate::selection::Selection;
-use graphql_directives::{DirectiveList, DirectiveLocation, NamedType, Type, Value};
+use graphql_directives::{DirectiveList, DirectiveLocation};
+use graphql_literals::{NamedType, Type, Value};
 use graphql_names::{Name, Node, copies_of_four};
 use std::alloc::AllocError;
 use std::fmt;

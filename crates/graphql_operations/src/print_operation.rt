@@ -5,9 +5,10 @@ ghost use Rattle.graphql_names.specs.Placed.{node_tree, name_tree, Place};
 ghost use Rattle.graphql_operations.specs.SelectionTree.{selection_tree, selection_trees};
 ghost use Rattle.graphql_operations.specs.SelectionParts.{field_tree, spread_tree, inline_tree};
 ghost use Rattle.graphql_operations.specs.OperationTree.{variable_definition_tree, operation_tree, fragment_tree};
-ghost use Rattle.graphql_directives.specs.in_printing.Joined.{joined, after, further_text};
-ghost use Rattle.graphql_directives.specs.in_printing.Levels.{level_depth};
-ghost use Rattle.graphql_directives.specs.in_printing.LineLayout.{member_text, members_text, braced_text, set_text, texts_of};
+ghost use Rattle.graphql_printing.specs.Joined.{joined, after, further_text};
+ghost use Rattle.graphql_printing.specs.Levels.{level_depth};
+ghost use Rattle.graphql_printing.specs.LineLayout.{member_text, members_text, braced_text, set_text};
+ghost use Rattle.graphql_printing.specs.LineLayout.{texts_of};
 ghost use Rattle.graphql_operations.specs.OperationLayout.{alias_text, condition_text, selection_text, selection_texts, variable_text, variables_text, operation_name_text, is_bare_query, full_operation_text, operation_text, begins_output, fragment_text};
 ghost use Rattle.graphql_operations.specs.OperationQueries.{operation_keyword};
 
@@ -15,10 +16,10 @@ use crate::operation::{
     FragmentDefinition, OperationDefinition, OperationType, VariableDefinition,
 };
 use crate::selection::{Field, FragmentSpread, InlineFragment, Selection};
-use graphql_directives::{
-    Level, Sink, put_arguments, put_break, put_default, put_directives, put_type,
-};
+use graphql_directives::{put_arguments, put_directives};
+use graphql_literals::{put_default, put_type};
 use graphql_names::{Name, Node};
+use graphql_printing::{Level, Sink, put_break};
 
 fn put_alias<S: Sink>(sink: &mut S, alias: &Option<Name>)
     ensures { S.puts sink.old (alias_text (option_map name_tree alias.now)) sink.new }

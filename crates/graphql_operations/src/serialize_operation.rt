@@ -1,8 +1,8 @@
 //! The texts of selections, operations and fragments by themselves.
 ghost use Rattle.std.specs.Prelude.{Some, None};
 ghost use Rattle.std.specs.Option.{option_copied};
-ghost use Rattle.graphql_directives.specs.in_printing.Levels.{level_depth};
-ghost use Rattle.graphql_directives.specs.in_printing.LineLayout.{default_prefix, standing};
+ghost use Rattle.graphql_printing.specs.Levels.{level_depth};
+ghost use Rattle.graphql_printing.specs.LineLayout.{default_prefix, standing};
 ghost use Rattle.graphql_operations.specs.SelectionTree.{selection_tree};
 ghost use Rattle.graphql_operations.specs.SelectionParts.{field_tree, spread_tree, inline_tree};
 ghost use Rattle.graphql_operations.specs.OperationTree.{variable_definition_tree, operation_tree, fragment_tree};
@@ -14,7 +14,7 @@ use crate::print_operation::{
     put_variable_definition,
 };
 use crate::selection::{Field, FragmentSpread, InlineFragment, Selection};
-use graphql_directives::{Level, Sink, Tree, put_start};
+use graphql_printing::{Level, Sink, Tree, put_start};
 use std::fmt;
 
 impl Tree for Selection {

@@ -9,7 +9,8 @@ ghost use Rattle.graphql_operations.specs.OperationWritable.{can_be_fragment, ha
 
 use crate::operation::{FragmentDefinition, OperationDefinition, VariableDefinition};
 use crate::selection::{Field, FragmentSpread, InlineFragment, Selection};
-use graphql_directives::{arguments_are_writable, default_is_writable, directives_are_writable};
+use graphql_directives::{arguments_are_writable, directives_are_writable};
+use graphql_literals::default_is_writable;
 use graphql_names::{Name, Node};
 
 /// No fragment is named `on` (section 2.8).

@@ -2,7 +2,7 @@
 ghost use Rattle.std.specs.Prelude.{◌≡◌, [], map, unwrap_or};
 ghost use Rattle.std.specs.Option.{option_map};
 ghost use Rattle.graphql_names.specs.Placed.{node_tree};
-ghost use Rattle.graphql_type_members.specs.TypeSystemTree.{enum_value_tree};
+ghost use Rattle.graphql_parse_values.specs.in_type_members.TypeSystemTree.{enum_value_tree};
 ghost use Rattle.graphql_grammar.specs.Begins as begins;
 ghost use Rattle.graphql_grammar.specs.Kinds as kinds;
 ghost use Rattle.graphql_grammar.specs.Reading as read;
@@ -15,10 +15,9 @@ use graphql_grammar::Stop;
 use graphql_lexer::{Source, Terminal};
 use graphql_names::{FileId, Node};
 use graphql_parse_values::{
-    begin, directives_or_none, enum_value, expect, next_is, open, optional_description,
-    optional_directives, since,
+    EnumValueDefinition, begin, directives_or_none, enum_value, expect, next_is, open,
+    optional_description, optional_directives, since,
 };
-use graphql_type_members::EnumValueDefinition;
 use std::alloc::Global;
 
 /// EnumValueDefinition: `Description? EnumValue Directives?`, without variables in its values.

@@ -4,7 +4,7 @@ ghost use Rattle.std.specs.Option.{option_map};
 ghost use Rattle.graphql_names.specs.Placed.{node_tree};
 ghost use Rattle.graphql_directives.specs.DirectiveTree.{directives_tree, input_value_tree};
 ghost use Rattle.graphql_literals.specs.TypeTree.{type_tree};
-ghost use Rattle.graphql_type_members.specs.TypeSystemTree.{field_definition_tree};
+ghost use Rattle.graphql_parse_values.specs.in_type_members.TypeSystemTree.{field_definition_tree};
 ghost use Rattle.graphql_grammar.specs.Begins as begins;
 ghost use Rattle.graphql_grammar.specs.Kinds as kinds;
 ghost use Rattle.graphql_grammar.specs.Reading as read;
@@ -21,9 +21,9 @@ use graphql_lexer::{Source, Terminal};
 use graphql_literals::Type;
 use graphql_names::{FileId, Node};
 use graphql_parse_values::{
-    begin, directives_or_none, expect, next_is, open, optional_directives, since, ty,
+    FieldDefinition, begin, directives_or_none, expect, next_is, open, optional_directives, since,
+    ty,
 };
-use graphql_type_members::FieldDefinition;
 use std::alloc::Global;
 
 /// What stands behind the arguments of a field: `":" Type Directives?`, without variables in its values.

@@ -20,8 +20,10 @@ pub use enum_value_list::{
 };
 pub use field_list::{fields_definition, fields_or_none, optional_fields_definition};
 pub use graphql_parse_values::{
-    Definition, Document, SourceFile, begin, directives_or_none, expect, name, next_is,
-    optional_description, optional_directives, since, ty,
+    Definition, Document, EnumTypeExtension, InputObjectTypeExtension, InterfaceTypeExtension,
+    ObjectTypeExtension, ScalarTypeExtension, SchemaExtension, SourceFile, UnionTypeExtension,
+    begin, directives_or_none, expect, name, next_is, optional_description, optional_directives,
+    since, ty,
 };
 pub use input_value_list::{
     arguments_definition, input_fields_definition, input_values_or_none,

@@ -10,15 +10,15 @@ ghost use Rattle.graphql_parse_types.specs.KindTrees.{kind_tree};
 ghost use Rattle.graphql_parse_members.specs.in_parse_values.Meanings.{in_file};
 
 use crate::kind::Kind;
-use graphql_composite_types::{InterfaceTypeExtension, ObjectTypeExtension, UnionTypeExtension};
 use graphql_directives::DirectiveList;
 use graphql_grammar::Stop;
 use graphql_lexer::{Source, Terminal};
 use graphql_literals::NamedType;
 use graphql_names::{FileId, Node};
 use graphql_parse_members::{
-    directives_or_none, expect, fields_or_none, name, names_or_none, optional_directives,
-    optional_fields_definition, optional_implements_interfaces, optional_union_member_types,
+    InterfaceTypeExtension, ObjectTypeExtension, UnionTypeExtension, directives_or_none, expect,
+    fields_or_none, name, names_or_none, optional_directives, optional_fields_definition,
+    optional_implements_interfaces, optional_union_member_types,
 };
 use graphql_type_members::FieldDefinition;
 use std::alloc::Global;

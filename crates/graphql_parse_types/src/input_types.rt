@@ -12,12 +12,12 @@ ghost use Rattle.graphql_parse_members.specs.in_parse_values.Meanings.{in_file};
 use crate::kind::Kind;
 use graphql_directives::{DirectiveList, InputValueDefinition};
 use graphql_grammar::Stop;
-use graphql_input_types::{EnumTypeExtension, InputObjectTypeExtension, ScalarTypeExtension};
 use graphql_lexer::{Source, Terminal};
 use graphql_names::{FileId, Node};
 use graphql_parse_members::{
-    directives_or_none, enum_values_or_none, expect, input_values_or_none, name,
-    optional_directives, optional_enum_values_definition, optional_input_fields_definition,
+    EnumTypeExtension, InputObjectTypeExtension, ScalarTypeExtension, directives_or_none,
+    enum_values_or_none, expect, input_values_or_none, name, optional_directives,
+    optional_enum_values_definition, optional_input_fields_definition,
 };
 use graphql_type_members::EnumValueDefinition;
 use std::alloc::Global;

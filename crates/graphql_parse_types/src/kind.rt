@@ -5,9 +5,9 @@ ghost use Rattle.graphql_grammar.specs.Grammar as grammar;
 ghost use Rattle.graphql_grammar.specs.TypeSystemGrammar.{SchemaKind, ScalarKind, ObjectKind, InterfaceKind, UnionKind, EnumKind, InputObjectKind};
 ghost use Rattle.graphql_parse_types.specs.KindTrees.{kind_tree};
 
-use graphql_composite_types::{InterfaceTypeExtension, ObjectTypeExtension, UnionTypeExtension};
-use graphql_input_types::{
-    EnumTypeExtension, InputObjectTypeExtension, ScalarTypeExtension, SchemaExtension,
+use graphql_parse_members::{
+    EnumTypeExtension, InputObjectTypeExtension, InterfaceTypeExtension, ObjectTypeExtension,
+    ScalarTypeExtension, SchemaExtension, UnionTypeExtension,
 };
 
 /// What a definition of the schema or of a type says behind its description, and an extension behind `extend`.

@@ -7,11 +7,11 @@ ghost use Rattle.graphql_parse_members.specs.in_parse_values.Meanings.{in_file};
 
 use crate::kind::Kind;
 use graphql_grammar::Stop;
-use graphql_input_types::SchemaExtension;
 use graphql_lexer::{Source, Terminal};
 use graphql_names::FileId;
 use graphql_parse_members::{
-    directives_or_none, expect, optional_directives, optional_roots, roots, roots_or_none,
+    SchemaExtension, directives_or_none, expect, optional_directives, optional_roots, roots,
+    roots_or_none,
 };
 use std::alloc::Global;
 

@@ -14,7 +14,11 @@ mod value_token;
 
 pub use argument_list::arguments;
 pub use directive_list::directives;
-pub use graphql_grammar::{Definition, Document, SourceFile};
+pub use graphql_grammar::{
+    Definition, Document, EnumTypeExtension, EnumValueDefinition, FieldDefinition,
+    InputObjectTypeExtension, InterfaceTypeExtension, ObjectTypeExtension, ScalarTypeExtension,
+    SchemaExtension, SourceFile, UnionTypeExtension,
+};
 pub use name_token::name;
 pub use optional::{
     arguments_or_none, directives_or_none, optional_arguments, optional_default,

@@ -22,5 +22,6 @@ mod type_call;
 pub use document_call::parse_document;
 pub use fault::{ReadFault, SyntaxFault, SyntaxFaultKind};
 pub use graphql_lexer::{NextToken, Token, TokenKind, next_token};
+pub use graphql_parse_types::{Definition, Document};
 pub use selections_call::parse_selections;
 pub use type_call::parse_type;

@@ -2,8 +2,8 @@
 
 use crate::by_calls::{by_calls, by_check_texts};
 use crate::by_run::by_run;
-use graphql_read_rows::text_of;
 use graphql_row_files::{Answer, Case, Problem, Tally, Way, compare, numbers, texts, whole};
+use graphql_schema_rows::text_of;
 use std::alloc::Global;
 
 /// Texts under a limit.

@@ -9,9 +9,10 @@ mod calls;
 
 use crate::by_texts::by_texts;
 use crate::calls::call_of;
-use graphql_read_rows::{by_layouts, by_print, by_read, by_writable};
 use graphql_row_files::{Case, Field, Problem, Row, Tally, fields_of, output, rows_of};
-use graphql_schema_rows::{by_coordinate, by_document, by_field_set, by_schema};
+use graphql_schema_rows::{
+    by_coordinate, by_document, by_field_set, by_layouts, by_print, by_read, by_schema, by_writable,
+};
 use std::alloc::Global;
 use std::fs;
 use std::process::ExitCode;

@@ -19,3 +19,4 @@ pub mod Laws
 pub use Rattle.graphql_folding.specs.in_components as in_components
 pub use Rattle.graphql_folding.specs as in_folding
 pub use Rattle.graphql_folding.specs.in_schema_types as in_schema_types
+pub use Rattle.graphql_folding.specs.in_type_members as in_type_members

@@ -6,17 +6,17 @@ use Rattle.std.specs.Str.{bytes_eq}
 use Rattle.std.proofs.lemmas.List.{map-append}
 use Rattle.std.proofs.lemmas.List.Elements.{Contains-append_cases, Contains-append_right}
 use Rattle.graphql_names.specs.NameValue.{NameValue}
-use Rattle.graphql_components.specs.Names.{Entries, same_text}
-use Rattle.graphql_components.specs.Given.{component_tree, component_name_tree, given_name}
-use Rattle.graphql_components.specs.declared.component_name.ComponentName.{ComponentName}
-use Rattle.graphql_components.proofs.ComponentEquality.{component_text}
+use Rattle.graphql_schema_writing.specs.in_components.Names.{Entries, same_text}
+use Rattle.graphql_schema_writing.specs.in_components.Given.{component_tree, component_name_tree, given_name}
+use Rattle.graphql_schema_writing.specs.in_components.declared.component_name.ComponentName.{ComponentName}
+use Rattle.graphql_schema_writing.proofs.in_components.ComponentEquality.{component_text}
 use Rattle.graphql_names.specs.Placed.{Placed, Place, node_tree}
 use Rattle.graphql_names.specs.declared.node.Node.{Node}
 use Rattle.graphql_directives.specs.declared.directive.DirectiveDefinition.{DirectiveDefinition}
 use Rattle.graphql_schema_building.specs.in_schema_types.SchemaTree.{SchemaType, SchemaTree}
 use Rattle.graphql_schema_building.specs.in_schema_types.declared.extended_type.ExtendedType.{ExtendedType}
 use Rattle.graphql_directives.specs.DirectiveTree.{DirectiveDefinitionTree, input_value_tree, directive_definition_tree}
-use Rattle.graphql_type_members.specs.TypeSystemTree.{field_definition_tree, enum_value_tree}
+use Rattle.graphql_schema_writing.specs.in_type_members.TypeSystemTree.{field_definition_tree, enum_value_tree}
 use Rattle.graphql_schema_building.specs.in_schema_types.TypeView.{name_text, extended_type, scalar_type, object_type, interface_type, union_type, enum_type, input_object_type}
 use Rattle.graphql_schema_building.specs.in_schema_types.declared.kinds.ScalarType.{ScalarType}
 use Rattle.graphql_schema_building.specs.in_schema_types.declared.kinds.ObjectType.{ObjectType}

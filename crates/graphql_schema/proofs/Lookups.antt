@@ -8,7 +8,7 @@ use Rattle.std.specs.Option.{option_map, option_copied}
 use Rattle.std.specs.Str.{bytes_eq}
 use Rattle.indexmap.specs.IndexMap.{IndexMap, get}
 use Rattle.graphql_names.specs.NameValue.{NameValue}
-use Rattle.graphql_components.specs.Names.{same_text, entries_of}
+use Rattle.graphql_schema_writing.specs.in_components.Names.{same_text, entries_of}
 use Rattle.graphql_schema_building.specs.in_schema_types.TypeView.{name_text}
 use Rattle.graphql_schema_building.specs.in_schema_types.Addresses.{under}
 

@@ -10,9 +10,9 @@ use Rattle.std.proofs.lemmas.Map.Keys.{IsDistinct-head, IsDistinct-tail}
 use Rattle.std.proofs.lemmas.Slice.Eq.{bytes_eq-Decides}
 use Rattle.graphql_names.specs.NameValue.{NameValue}
 use Rattle.graphql_names.specs.Placed.{Place, Text}
-use Rattle.graphql_components.specs.Lists.{is_among}
-use Rattle.graphql_components.specs.Names.{Entries, same_text}
-use Rattle.graphql_components.specs.Given.{Given, given_name}
+use Rattle.graphql_schema_writing.specs.in_components.Lists.{is_among}
+use Rattle.graphql_schema_writing.specs.in_components.Names.{Entries, same_text}
+use Rattle.graphql_schema_writing.specs.in_components.Given.{Given, given_name}
 use Rattle.graphql_schema_building.specs.in_schema_types.SchemaTree.{SchemaType, SchemaTree, same_kind}
 use Rattle.graphql_schema_building.specs.in_schema_types.TypeView.{name_text, extended_type}
 use Rattle.graphql_schema_building.specs.in_schema_types.Addresses.{under, type_at}

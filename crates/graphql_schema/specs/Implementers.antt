@@ -2,7 +2,7 @@
 use Rattle.std.specs.Prelude.{ℕ, List, ◌&&◌, map, filter, Option, None, Some, if◌then◌else◌}
 use Rattle.std.specs.List.{list_any}
 use Rattle.graphql_names.specs.Placed.{Place}
-use Rattle.graphql_components.specs.Lists.{firsts}
+use Rattle.graphql_schema_writing.specs.in_components.Lists.{firsts}
 use Rattle.graphql_schema_building.specs.in_schema_types.SchemaTree.{SchemaTree, same_kind}
 use Rattle.graphql_schema_building.specs.in_schema_types.declared.type_kind.TypeKind.{TypeKind}
 use Rattle.graphql_schema_building.specs.in_schema_types.declared.type_kind.TypeKind.TheVariants.{Object, Interface}

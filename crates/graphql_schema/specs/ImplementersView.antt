@@ -4,7 +4,7 @@ use Rattle.std.specs.Option.{option_map, option_map_or}
 pub use Rattle.std.specs.Map.Iter.{deref_pair}
 use Rattle.indexmap.specs.IndexMap.{IndexMap, get}
 use Rattle.graphql_names.specs.NameValue.{NameValue}
-use Rattle.graphql_components.specs.Names.{same_text}
+use Rattle.graphql_schema_writing.specs.in_components.Names.{same_text}
 use Rattle.graphql_schema_building.specs.in_schema_types.TypeView.{name_text, extended_type}
 use Rattle.graphql_schema_building.specs.in_schema_types.declared.extended_type.ExtendedType.{ExtendedType}
 use Rattle.graphql_schema.specs.Implementers.{ImplementersTree}

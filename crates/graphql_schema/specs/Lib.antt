@@ -7,9 +7,9 @@ pub mod Implementers
 pub mod Noting
 pub mod ImplementersView
 pub mod Subtypes
-pub use Rattle.graphql_components.specs.Names
-pub use Rattle.graphql_components.specs.Given
-pub use Rattle.graphql_components.specs.Applied
+pub use Rattle.graphql_schema_writing.specs.in_components.Names
+pub use Rattle.graphql_schema_writing.specs.in_components.Given
+pub use Rattle.graphql_schema_writing.specs.in_components.Applied
 pub use Rattle.graphql_schema_building.specs.in_schema_types.SchemaTree
 pub use Rattle.graphql_schema_building.specs.in_schema_types.TypeView
 pub use Rattle.graphql_schema_building.specs.in_schema_types.SchemaView
@@ -37,3 +37,4 @@ pub use Rattle.graphql_schema_building.specs.Waiting
 pub use Rattle.graphql_schema_building.specs.in_schema_types as in_schema_types
 pub use Rattle.graphql_schema_building.specs.in_built_in as in_built_in
 pub use Rattle.graphql_schema_building.specs as in_schema_building
+pub use Rattle.graphql_schema_writing.specs.in_type_members as in_type_members

@@ -5,9 +5,9 @@ use Rattle.std.specs.Str.{bytes_eq}
 use Rattle.graphql_names.specs.Placed.{Placed, Place}
 use Rattle.graphql_literals.specs.TypeTree.{TypeTree}
 use Rattle.graphql_literals.specs.TypeQueries.{inner_name}
-use Rattle.graphql_type_members.specs.TypeSystemTree.{FieldDefinitionTree}
-use Rattle.graphql_components.specs.Lists.{is_among}
-use Rattle.graphql_components.specs.Given.{Given, given_name}
+use Rattle.graphql_schema_writing.specs.in_type_members.TypeSystemTree.{FieldDefinitionTree}
+use Rattle.graphql_schema_writing.specs.in_components.Lists.{is_among}
+use Rattle.graphql_schema_writing.specs.in_components.Given.{Given, given_name}
 use Rattle.graphql_schema_building.specs.in_schema_types.SchemaTree.{SchemaType, SchemaTree, same_kind}
 use Rattle.graphql_schema_building.specs.in_schema_types.Addresses.{under, type_at, root_at}
 use Rattle.graphql_schema_building.specs.in_schema_types.TypeView.{extended_type}

@@ -2,7 +2,7 @@
 use Rattle.std.specs.Prelude.{◌≡◌, ℕ, Bool, true, false, ◌||◌, List, Option, is_some}
 use Rattle.std.specs.Option.{option_map_or}
 use Rattle.graphql_names.specs.Placed.{Place}
-use Rattle.graphql_components.specs.Lists.{is_among}
+use Rattle.graphql_schema_writing.specs.in_components.Lists.{is_among}
 use Rattle.graphql_schema_building.specs.in_schema_types.SchemaTree.{SchemaTree}
 use Rattle.graphql_schema_building.specs.in_schema_types.declared.type_kind.TypeKind.TheVariants.{Interface}
 use Rattle.graphql_schema.specs.Implementers.{ImplementersTree, implementers_in}

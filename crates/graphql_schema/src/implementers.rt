@@ -3,7 +3,7 @@ ghost use Rattle.std.specs.Prelude.{◌≡◌, ◌++◌, map, fold, IfOk, OnOk};
 ghost use Rattle.std.specs.Option.{option_map};
 ghost use Rattle.std.specs.Iterator.{YieldsFirstRef, item_count};
 ghost use Rattle.graphql_names.specs.NameValue.{NameValue};
-ghost use Rattle.graphql_components.specs.Given.{component_name_tree};
+ghost use Rattle.graphql_schema_writing.specs.in_components.Given.{component_name_tree};
 ghost use Rattle.graphql_schema_building.specs.in_schema_types.TypeView.{extended_type};
 ghost use Rattle.graphql_schema.specs.SchemaOf.{schema_tree};
 ghost use Rattle.graphql_schema.specs.Implementers.{implementers_in};
@@ -11,9 +11,8 @@ ghost use Rattle.graphql_schema.specs.Noting.{nobody, and_type, and_naming, nami
 ghost use Rattle.graphql_schema.specs.ImplementersView.{implementers_tree, implementers_at, left_implementers, entry_namings, deref_pair};
 
 use crate::schema::Schema;
-use graphql_components::ComponentName;
 use graphql_names::Name;
-use graphql_schema_writing::ExtendedType;
+use graphql_schema_writing::{ComponentName, ExtendedType};
 use indexmap::{IndexMap, IndexSet};
 use std::alloc::{AllocError, Global};
 

@@ -24,14 +24,12 @@ mod types_by_name;
 
 pub use builder::SchemaBuilder;
 pub use field_lookup::FieldLookupError;
-pub use graphql_components::{
-    Component, ComponentName, ComponentOrigin, DirectiveList, ExtensionId, Extensions,
-    NamedComponents,
-};
 pub use graphql_schema_building::{BuildError, BuilderRefusal, OrphanExtensionTypes};
 pub use graphql_schema_writing::{
-    EnumType, ExtendedType, InputObjectType, InterfaceType, ObjectType, Origins, RootOperations,
-    ScalarType, SchemaDefinition, TypeKind, UnionType,
+    Component, ComponentName, ComponentOrigin, Definition, DirectiveList, Document, EnumType,
+    EnumValueDefinition, ExtendedType, ExtensionId, Extensions, FieldDefinition, InputObjectType,
+    InterfaceType, NamedComponents, ObjectType, Origins, RootOperations, ScalarType,
+    SchemaDefinition, SourceFile, TypeKind, UnionType,
 };
 pub use implementers::{Implementers, ImplementersNames};
 pub use schema::Schema;

@@ -1,16 +1,15 @@
 //! The definitions of a schema's meta-fields.
 ghost use Rattle.std.specs.Prelude.{◌≡◌};
 ghost use Rattle.std.specs.Option.{option_map};
-ghost use Rattle.graphql_type_members.specs.TypeSystemTree.{field_definition_tree};
+ghost use Rattle.graphql_schema_writing.specs.in_type_members.TypeSystemTree.{field_definition_tree};
 ghost use Rattle.graphql_schema_building.specs.in_built_in.MetaFields.{typename_field, schema_field, type_field, meta_field_of};
 ghost use Rattle.graphql_names.specs.Placed.{node_tree};
-ghost use Rattle.graphql_components.specs.Given.{component_tree};
+ghost use Rattle.graphql_schema_writing.specs.in_components.Given.{component_tree};
 ghost use Rattle.graphql_schema.specs.MetaField.{by_definition};
 
-use graphql_components::{Component, ComponentOrigin};
 use graphql_names::{Name, Node};
 use graphql_schema_building::{schema_field, type_field, typename_field};
-use graphql_type_members::FieldDefinition;
+use graphql_schema_writing::{Component, ComponentOrigin, FieldDefinition};
 use std::alloc::{AllocError, Global};
 use std::marker::Model;
 

@@ -8,8 +8,8 @@ use Rattle.std.proofs.lemmas.List.Folds.{list_any-append}
 use Rattle.std.proofs.lemmas.Grind.{flat_map-append}
 use Rattle.std.proofs.lemmas.Slice.Eq.{bytes_eq-Decides}
 use Rattle.graphql_names.specs.Placed.{Place}
-use Rattle.graphql_components.specs.Lists.{each_place_after, firsts, has_name, is_among}
-use Rattle.graphql_components.proofs.Firsts.{is_some-firsts}
+use Rattle.graphql_schema_folding.specs.in_components.Lists.{each_place_after, firsts, has_name, is_among}
+use Rattle.graphql_schema_folding.proofs.in_components.Firsts.{is_some-firsts}
 use Rattle.graphql_schema_folding.specs.in_schema_types.TypeParts.{TypeParts, TypeDefinition, type_here}
 use Rattle.graphql_schema_folding.specs.in_folding.Listed.{Definitions, type_name, types_in, type_named}
 use Rattle.graphql_schema_folding.specs.in_folding.Adoption.{orphans}

@@ -1,7 +1,7 @@
 -- Lemmas on what a builder keeps.
 use Rattle.std.proofs.Common.{◌≡◌, ℕ, ◌+◌, ◌-◌, Bool, true, false, List, [], ◌∷◌, ◌++◌, map, refl, sym, ap, subst, ◌∙◌, arith}
 use Rattle.graphql_names.specs.Placed.{Place, Text}
-use Rattle.graphql_components.specs.Lists.{firsts}
+use Rattle.graphql_schema_folding.specs.in_components.Lists.{firsts}
 use Rattle.graphql_schema_folding.specs.in_schema_types.TypeParts.{TypeParts}
 use Rattle.graphql_schema_folding.specs.in_folding.Adoption.{orphans, settled, Settings}
 use Rattle.graphql_built_in.specs.Table.{built_in_definitions}

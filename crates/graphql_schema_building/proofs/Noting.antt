@@ -4,7 +4,7 @@ use Rattle.std.specs.Map.{lookup}
 use Rattle.std.specs.Str.{bytes_eq}
 use Rattle.graphql_names.specs.NameValue.{NameValue}
 use Rattle.graphql_names.specs.Placed.{Place}
-use Rattle.graphql_components.proofs.Firsts.{kept_seen, kept_new}
+use Rattle.graphql_schema_folding.proofs.in_components.Firsts.{kept_seen, kept_new}
 use Rattle.graphql_schema_folding.specs.in_schema_types.TypeParts.{TypeParts}
 use Rattle.graphql_schema_folding.specs.in_schema_types.declared.type_kind.TypeKind.{TypeKind}
 use Rattle.graphql_schema_building.specs.Noted.{NamedKind, named_kind, kind_view, parts_key, first_kinds}

@@ -5,7 +5,7 @@ use Rattle.std.proofs.lemmas.List.{append_assoc, append-nil}
 use Rattle.graphql_names.specs.Placed.{Place}
 use Rattle.graphql_schema_folding.specs.in_definitions.DefinitionTree.{DefinitionTree}
 use Rattle.graphql_schema_folding.specs.in_definitions.Queries.{is_extension, definition_place}
-use Rattle.graphql_components.specs.Lists.{each_place_after}
+use Rattle.graphql_schema_folding.specs.in_components.Lists.{each_place_after}
 use Rattle.graphql_schema_folding.specs.in_folding.Listed.{Definitions, Listed, listed, numbered}
 use Rattle.graphql_schema_building.specs.Numbers.{extension_count}
 use Rattle.graphql_schema_building.specs.Settling.{unnumbered}

@@ -10,7 +10,7 @@ use Rattle.graphql_names.specs.Placed.{Place}
 use Rattle.graphql_schema_folding.specs.in_definitions.DefinitionTree as tree
 use Rattle.graphql_schema_folding.specs.in_definitions.DefinitionTree.{DefinitionTree}
 use Rattle.graphql_schema_folding.specs.in_definitions.Queries.{is_extension}
-use Rattle.graphql_components.specs.Lists.{firsts, has_name}
+use Rattle.graphql_schema_folding.specs.in_components.Lists.{firsts, has_name}
 use Rattle.graphql_schema_folding.specs.in_schema_types.TypeParts.{TypeParts, TypeDefinition, type_here, type_extension_here}
 use Rattle.graphql_schema_folding.specs.in_schema_types.declared.type_kind.TypeKind.{TypeKind}
 use Rattle.graphql_schema_folding.specs.in_schema_types.declared.type_kind.TypeKind.TheVariants as kind

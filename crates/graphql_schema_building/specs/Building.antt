@@ -1,7 +1,7 @@
 -- What a schema builder answers (GraphQL, October 2021, section 3).
 use Rattle.std.specs.Prelude.{◌≡◌, ◌↔◌, Bool, true, false, List, [], ◌++◌, map, if◌then◌else◌, Contains}
 use Rattle.graphql_names.specs.Placed.{Place, Text}
-use Rattle.graphql_components.specs.Lists.{firsts}
+use Rattle.graphql_schema_folding.specs.in_components.Lists.{firsts}
 use Rattle.graphql_schema_folding.specs.in_schema_types.SchemaTree.{SchemaTree}
 use Rattle.graphql_schema_folding.specs.in_folding.Listed.{Definitions}
 use Rattle.graphql_schema_folding.specs.in_folding.Adoption.{Settings, settled, orphans, parts_name}

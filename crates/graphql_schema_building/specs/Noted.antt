@@ -3,7 +3,7 @@ use Rattle.std.specs.Prelude.{◌≡◌, ℕ, Bool, not, List, [], ◌∷◌, �
 use Rattle.std.specs.List.{flat_map, filter}
 use Rattle.graphql_names.specs.NameValue.{NameValue}
 use Rattle.graphql_names.specs.Placed.{Place, Text, name_tree}
-use Rattle.graphql_components.specs.Lists.{firsts}
+use Rattle.graphql_schema_folding.specs.in_components.Lists.{firsts}
 use Rattle.graphql_schema_folding.specs.in_schema_types.TypeParts.{TypeParts, type_extension_here, bare, definition_by}
 use Rattle.graphql_schema_folding.specs.in_schema_types.declared.type_kind.TypeKind.{TypeKind}
 use Rattle.graphql_schema_folding.specs.in_definitions.DefinitionTree.{DefinitionTree}

@@ -8,7 +8,7 @@ use Rattle.graphql_schema_folding.specs.in_folding.Listed.{Definitions, Listed}
 use Rattle.graphql_schema_folding.specs.in_folding.SchemaFold.{schema_extension_here, schema_is_defined}
 use Rattle.graphql_schema_folding.specs.in_folding.Adoption.{Settings, is_redefinition, empty_type, empty_schema, orphans}
 use Rattle.graphql_built_in.specs.Table.{built_in_definitions}
-use Rattle.graphql_components.specs.Lists.{firsts}
+use Rattle.graphql_schema_folding.specs.in_components.Lists.{firsts}
 use Rattle.graphql_schema_building.specs.Noted.{NamedKind, parts_key}
 use Rattle.graphql_schema_folding.specs.ListFold.{definitions_of}
 

@@ -1,7 +1,7 @@
 //! The names of the types that each schema has.
 ghost use Rattle.std.specs.Prelude.{◌≡◌, map, is_some};
 ghost use Rattle.graphql_schema_folding.specs.in_definitions.DefinitionTree.{definition_tree};
-ghost use Rattle.graphql_components.specs.Lists.{is_among};
+ghost use Rattle.graphql_schema_folding.specs.in_components.Lists.{is_among};
 ghost use Rattle.graphql_schema_folding.specs.in_folding.Listed.{type_named};
 ghost use Rattle.graphql_schema_folding.specs.in_folding.Adoption.{is_redefinition};
 ghost use Rattle.graphql_built_in.specs.Table.{built_in_definitions};

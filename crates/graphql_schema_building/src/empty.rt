@@ -8,13 +8,12 @@ ghost use Rattle.graphql_schema_folding.specs.in_folding.Adoption.{empty_schema}
 ghost use Rattle.graphql_built_in.specs.Table.{built_in_definitions};
 ghost use Rattle.graphql_schema_building.specs.Settling.{empty_of};
 
-use graphql_composite_types::{InterfaceTypeDefinition, ObjectTypeDefinition, UnionTypeDefinition};
 use graphql_directives::DirectiveList;
-use graphql_input_types::{
-    EnumTypeDefinition, InputObjectTypeDefinition, ScalarTypeDefinition, SchemaDefinition,
-};
 use graphql_names::{Name, Node};
-use graphql_schema_folding::{Definition, TypeKind};
+use graphql_schema_folding::{
+    Definition, EnumTypeDefinition, InputObjectTypeDefinition, InterfaceTypeDefinition,
+    ObjectTypeDefinition, ScalarTypeDefinition, SchemaDefinition, TypeKind, UnionTypeDefinition,
+};
 use std::alloc::{AllocError, Global};
 
 /// The definition of a type of that kind and name, with nothing in it and no place.

@@ -5,11 +5,11 @@ ghost use Rattle.graphql_schema_folding.specs.in_folding.ListedView.{listed_view
 ghost use Rattle.graphql_schema_building.specs.BuiltView.{folded_view};
 ghost use Rattle.graphql_schema_building.specs.ListBuilt.{Folds, FoldsParts};
 
+use graphql_built_in::SchemaDefinition;
 use graphql_directives::DirectiveDefinition;
 use graphql_names::{Name, Node, SourceSpan};
 use graphql_schema_folding::{
-    BuildError, ExtendedType, Listed, SchemaDefinition, fold_directives, fold_schema, fold_types,
-    tell_misplaced,
+    BuildError, ExtendedType, Listed, fold_directives, fold_schema, fold_types, tell_misplaced,
 };
 use indexmap::IndexMap;
 use std::alloc::{AllocError, Global};

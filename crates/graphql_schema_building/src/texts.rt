@@ -3,15 +3,14 @@ ghost use Rattle.std.specs.Prelude.{◌≡◌, ◌+◌, ◌<◌, ◌^◌, ◌++�
 ghost use Rattle.std.specs.Option.{option_map};
 ghost use Rattle.graphql_schema_folding.specs.in_definitions.DefinitionTree.{definition_tree};
 ghost use Rattle.graphql_schema_folding.specs.in_definitions.Queries.{is_extension, definition_place};
-ghost use Rattle.graphql_components.specs.Given.{extension_tree};
+ghost use Rattle.graphql_schema_folding.specs.in_components.Given.{extension_tree};
 ghost use Rattle.graphql_schema_folding.specs.in_folding.ListedView.{listed_view};
 ghost use Rattle.graphql_schema_building.specs.TextsView.{texts_view};
 ghost use Rattle.graphql_schema_building.specs.TextsList.{Adds, IsListRefusal};
 
 use crate::refusal::BuilderRefusal;
-use graphql_components::{ExtensionId, Extensions};
 use graphql_names::Spent;
-use graphql_schema_folding::{Definition, Listed};
+use graphql_schema_folding::{Definition, ExtensionId, Extensions, Listed};
 use std::alloc::{AllocError, Global};
 
 /// The definitions of the texts in order, each extension with its number, folded or not.

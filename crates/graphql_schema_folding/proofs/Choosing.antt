@@ -11,9 +11,9 @@ use Rattle.graphql_names.specs.NameValue.{NameValue}
 use Rattle.graphql_names.specs.declared.node.Node.{Node}
 use Rattle.graphql_directives.specs.declared.directive.DirectiveDefinition.{DirectiveDefinition}
 use Rattle.graphql_folding.specs.in_definitions.DefinitionTree.{definition_tree}
-use Rattle.graphql_components.specs.Lists.{each_place_after, firsts, has_name}
-use Rattle.graphql_components.specs.Names.{Entries}
-use Rattle.graphql_components.proofs.Firsts.{has_name-push, kept_seen, kept_new}
+use Rattle.graphql_folding.specs.in_components.Lists.{each_place_after, firsts, has_name}
+use Rattle.graphql_folding.specs.in_components.Names.{Entries}
+use Rattle.graphql_folding.proofs.in_components.Firsts.{has_name-push, kept_seen, kept_new}
 use Rattle.graphql_folding.specs.Components.{keyed_firsts}
 use Rattle.graphql_folding.specs.Fold.{chosen_directive, folded_directives}
 use Rattle.graphql_folding.specs.Listed.{Definitions, directive_here, directive_name, directives_in}

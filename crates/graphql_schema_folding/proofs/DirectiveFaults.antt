@@ -7,8 +7,8 @@ use Rattle.graphql_names.specs.Placed.{Place}
 use Rattle.graphql_folding.specs.in_definitions.DefinitionTree as tree
 use Rattle.graphql_folding.specs.in_definitions.DefinitionTree.{DefinitionTree}
 use Rattle.graphql_folding.specs.in_definitions.Queries.{definition_place}
-use Rattle.graphql_components.specs.Lists.{each_place, each_place_after, has_name}
-use Rattle.graphql_components.proofs.Places.{not_in_nil, found_at, given_at, AtSomePlace-map, only, is_only}
+use Rattle.graphql_folding.specs.in_components.Lists.{each_place, each_place_after, has_name}
+use Rattle.graphql_folding.proofs.in_components.Places.{not_in_nil, found_at, given_at, AtSomePlace-map, only, is_only}
 use Rattle.graphql_folding.specs.Listed.{Definitions, directive_here, directive_name, directives_in}
 use Rattle.graphql_folding.specs.BuildErrors.{Fault, DirectiveDefinitionCollision, DirectiveDefinitionCollisionAt, Somewhere}
 use Rattle.graphql_schema_folding.specs.DirectiveFold.{Directive, directive_fault, directive_faults, TellsDirectives}

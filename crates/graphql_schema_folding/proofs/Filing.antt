@@ -6,8 +6,8 @@ use Rattle.std.specs.Str.{bytes_eq}
 use Rattle.std.proofs.lemmas.List.{append-nil, map-append}
 use Rattle.std.proofs.lemmas.List.Elements.{filter-append}
 use Rattle.graphql_names.specs.Placed.{Place}
-use Rattle.graphql_components.specs.Given.{Given}
-use Rattle.graphql_components.specs.Lists.{firsts}
+use Rattle.graphql_folding.specs.in_components.Given.{Given}
+use Rattle.graphql_folding.specs.in_components.Lists.{firsts}
 use Rattle.graphql_folding.specs.in_schema_types.SchemaTree.{SchemaType, same_kind}
 use Rattle.graphql_folding.specs.in_schema_types.TypeParts.{TypeParts, TypeDefinition, type_extension_here}
 use Rattle.graphql_folding.specs.Components.{go_together, extension_here, keyed_firsts, field_key, value_key, input_key}

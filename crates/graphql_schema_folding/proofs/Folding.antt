@@ -7,9 +7,9 @@ use Rattle.std.proofs.lemmas.List.{append_assoc, append-nil}
 use Rattle.graphql_names.specs.NameValue.{NameValue}
 use Rattle.graphql_names.specs.Placed.{Place}
 use Rattle.graphql_folding.specs.in_definitions.DefinitionTree.{DefinitionTree}
-use Rattle.graphql_components.specs.Lists.{firsts}
-use Rattle.graphql_components.specs.Names.{Entries}
-use Rattle.graphql_components.proofs.Firsts.{kept_seen, kept_new, is_some-firsts, firsts-push_seen, firsts-push_new}
+use Rattle.graphql_folding.specs.in_components.Lists.{firsts}
+use Rattle.graphql_folding.specs.in_components.Names.{Entries}
+use Rattle.graphql_folding.proofs.in_components.Firsts.{kept_seen, kept_new, is_some-firsts, firsts-push_seen, firsts-push_new}
 use Rattle.graphql_folding.specs.in_schema_types.SchemaTree.{SchemaType}
 use Rattle.graphql_folding.specs.in_schema_types.TypeParts.{TypeDefinition, type_here}
 use Rattle.graphql_folding.specs.in_schema_types.TypeView.{extended_type}

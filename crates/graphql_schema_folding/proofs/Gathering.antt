@@ -9,8 +9,8 @@ use Rattle.graphql_operations.specs.declared.operation.OperationType.{OperationT
 use Rattle.graphql_names.specs.Placed.{Place, node_tree}
 use Rattle.graphql_directives.specs.DirectiveTree.{directive_tree}
 use Rattle.graphql_folding.specs.in_definitions.DefinitionTree.{root_tree}
-use Rattle.graphql_components.specs.Given.{Given, ExtensionTree}
-use Rattle.graphql_components.specs.declared.component.Component.{Component}
+use Rattle.graphql_folding.specs.in_components.Given.{Given, ExtensionTree}
+use Rattle.graphql_folding.specs.in_components.declared.component.Component.{Component}
 use Rattle.graphql_folding.specs.Components.{all_given}
 use Rattle.graphql_folding.specs.Listed.{Listed}
 use Rattle.graphql_folding.specs.PartsView.{itself, given_contents}

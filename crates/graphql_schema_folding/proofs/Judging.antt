@@ -5,7 +5,7 @@ use Rattle.std.specs.Option.{option_map, option_map_or, option_or}
 use Rattle.graphql_names.specs.Placed.{Place}
 use Rattle.graphql_folding.specs.in_definitions.DefinitionTree.{DefinitionTree}
 use Rattle.graphql_folding.specs.in_definitions.Queries.{is_executable}
-use Rattle.graphql_components.proofs.Places.{not_in_nil, only, is_only}
+use Rattle.graphql_folding.proofs.in_components.Places.{not_in_nil, only, is_only}
 use Rattle.graphql_folding.specs.in_schema_types.SchemaTree.{same_kind}
 use Rattle.graphql_folding.specs.in_schema_types.TypeParts.{TypeDefinition, type_here, type_extension_here}
 use Rattle.graphql_folding.specs.in_schema_types.declared.type_kind.TypeKind.{TypeKind}

@@ -4,11 +4,11 @@ use Rattle.std.specs.List.{find}
 use Rattle.std.specs.Option.{option_map}
 use Rattle.std.proofs.lemmas.List.{append-nil}
 use Rattle.graphql_names.specs.Placed.{Place, Text}
-use Rattle.graphql_components.specs.in_values.OperationQueries.{operation_keyword}
+use Rattle.graphql_folding.specs.in_values.OperationQueries.{operation_keyword}
 use Rattle.graphql_operations.specs.declared.operation.OperationType.{OperationType}
 use Rattle.graphql_operations.specs.declared.operation.OperationType.TheVariants as operation
-use Rattle.graphql_components.specs.Lists.{has_name}
-use Rattle.graphql_components.specs.Given.{Given, ExtensionTree}
+use Rattle.graphql_folding.specs.in_components.Lists.{has_name}
+use Rattle.graphql_folding.specs.in_components.Given.{Given, ExtensionTree}
 use Rattle.graphql_folding.specs.BuildErrors.{Fault}
 use Rattle.graphql_folding.specs.SchemaFold.{Root, root_key, root_in}
 use Rattle.graphql_schema_folding.specs.ListFold.{root_fault}

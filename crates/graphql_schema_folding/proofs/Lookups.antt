@@ -4,7 +4,7 @@ use Rattle.std.specs.List.{find}
 use Rattle.std.specs.Map.{lookup}
 use Rattle.std.specs.Option.{option_map}
 use Rattle.std.specs.Str.{bytes_eq}
-use Rattle.graphql_components.specs.Lists.{firsts}
+use Rattle.graphql_folding.specs.in_components.Lists.{firsts}
 use Rattle.graphql_folding.specs.Listed.{Definitions, numbered, type_name, type_named, types_in}
 use Rattle.graphql_folding.specs.Fold.{folded_type, folded_types}
 use Rattle.graphql_schema_folding.proofs.Named.{named}

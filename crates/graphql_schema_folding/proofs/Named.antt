@@ -5,7 +5,7 @@ use Rattle.std.specs.Option.{option_or}
 use Rattle.std.specs.Str.{bytes_eq}
 use Rattle.std.proofs.lemmas.List.Folds.{find-append}
 use Rattle.std.proofs.lemmas.Slice.Eq.{bytes_eq-Decides}
-use Rattle.graphql_components.specs.Lists.{has_name}
+use Rattle.graphql_folding.specs.in_components.Lists.{has_name}
 
 some_first : {A : Type 0} (o p : Option A) → is_some o ≡ true → option_or o p ≡ o
 some_first None p h = cc

@@ -8,10 +8,10 @@ use Rattle.std.proofs.lemmas.List.Elements.{All-map}
 use Rattle.std.proofs.lemmas.Slice.Eq.{bytes_eq-Decides}
 use Rattle.graphql_names.specs.Placed.{Placed, Place}
 use Rattle.graphql_directives.specs.DirectiveTree.{DirectiveDefinitionTree}
-use Rattle.graphql_components.specs.Lists.{each_place_after, firsts, has_name}
-use Rattle.graphql_components.specs.Names.{Entries}
-use Rattle.graphql_components.specs.Given.{given_name}
-use Rattle.graphql_components.proofs.Firsts.{has_name-push}
+use Rattle.graphql_folding.specs.in_components.Lists.{each_place_after, firsts, has_name}
+use Rattle.graphql_folding.specs.in_components.Names.{Entries}
+use Rattle.graphql_folding.specs.in_components.Given.{given_name}
+use Rattle.graphql_folding.proofs.in_components.Firsts.{has_name-push}
 use Rattle.graphql_folding.specs.in_schema_types.TypeParts.{TypeDefinition}
 use Rattle.graphql_folding.specs.Listed.{Definitions, Listed, numbered, type_name, types_in, directive_name, directives_in}
 use Rattle.graphql_folding.specs.Components.{components, field_key, value_key, input_key}

@@ -2,8 +2,8 @@
 use Rattle.std.proofs.Common.{◌≡◌, ◌⊎◌, ℕ, Bool, true, false, List, [], ◌∷◌, ◌++◌, map, refl, sym, ap, subst, ◌∙◌, inl, inr, cond, if◌then◌else◌, Contains}
 use Rattle.std.specs.Prelude.{◌↔◌}
 use Rattle.std.proofs.lemmas.List.Elements.{Contains-append_left, Contains-append_right, Contains-append_cases}
-use Rattle.graphql_components.specs.Lists.{repeats, has_name, IsRepeated}
-use Rattle.graphql_components.proofs.Places.{not_in_nil, Contains-cons, Contains-first, Contains-rest, found_at, given_at, AtSomePlace-map, only, is_only}
+use Rattle.graphql_folding.specs.in_components.Lists.{repeats, has_name, IsRepeated}
+use Rattle.graphql_folding.proofs.in_components.Places.{not_in_nil, Contains-cons, Contains-first, Contains-rest, found_at, given_at, AtSomePlace-map, only, is_only}
 
 module _ {X F : Type 0} (note : X → F) where
   pub from_map : (xs : List X) (f : F) → Contains (map note xs) f → (x : X) × (Contains xs x × (f ≡ note x))

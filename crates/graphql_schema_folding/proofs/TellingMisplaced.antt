@@ -4,8 +4,8 @@ use Rattle.std.specs.List.{flat_map}
 use Rattle.std.proofs.lemmas.List.Elements.{Contains-append_left, Contains-append_right, Contains-append_cases}
 use Rattle.graphql_names.specs.Placed.{Place}
 use Rattle.graphql_folding.specs.in_definitions.DefinitionTree.{DefinitionTree}
-use Rattle.graphql_components.specs.Lists.{AtSomePlace}
-use Rattle.graphql_components.proofs.Places.{found_at, given_at, found_among, given_among, AtSomePlace-map}
+use Rattle.graphql_folding.specs.in_components.Lists.{AtSomePlace}
+use Rattle.graphql_folding.proofs.in_components.Places.{found_at, given_at, found_among, given_among, AtSomePlace-map}
 use Rattle.graphql_folding.specs.Listed.{Definitions}
 use Rattle.graphql_folding.specs.BuildErrors.{Fault}
 use Rattle.graphql_schema_folding.proofs.Telling.{told_more}

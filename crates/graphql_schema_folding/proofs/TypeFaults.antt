@@ -6,10 +6,10 @@ use Rattle.std.proofs.lemmas.List.Elements.{Contains-append_left, Contains-appen
 use Rattle.graphql_names.specs.Placed.{Placed, Place, Text}
 use Rattle.graphql_directives.specs.DirectiveTree.{InputValueTree}
 use Rattle.graphql_folding.specs.in_definitions.DefinitionTree.{DefinitionTree}
-use Rattle.graphql_type_members.specs.TypeSystemTree.{FieldDefinitionTree, EnumValueTree}
-use Rattle.graphql_components.specs.Lists.{firsts, has_name, AtSomePlace}
-use Rattle.graphql_components.specs.Given.{Given, given_name}
-use Rattle.graphql_components.proofs.Places.{not_in_nil, Contains-cons, Contains-first, Contains-rest, found_at, only}
+use Rattle.graphql_folding.specs.in_type_members.TypeSystemTree.{FieldDefinitionTree, EnumValueTree}
+use Rattle.graphql_folding.specs.in_components.Lists.{firsts, has_name, AtSomePlace}
+use Rattle.graphql_folding.specs.in_components.Given.{Given, given_name}
+use Rattle.graphql_folding.proofs.in_components.Places.{not_in_nil, Contains-cons, Contains-first, Contains-rest, found_at, only}
 use Rattle.graphql_folding.specs.in_schema_types.SchemaTree.{same_kind}
 use Rattle.graphql_folding.specs.in_schema_types.TypeParts.{TypeDefinition, type_here}
 use Rattle.graphql_folding.specs.in_schema_types.declared.type_kind.TypeKind.{TypeKind}

@@ -5,8 +5,8 @@ use Rattle.std.specs.Option.{option_map_or}
 use Rattle.std.specs.Str.{bytes_eq}
 use Rattle.graphql_names.specs.Placed.{Placed, Place}
 use Rattle.graphql_directives.specs.DirectiveTree.{DirectiveDefinitionTree}
-use Rattle.graphql_components.specs.Lists.{firsts, repeats}
-use Rattle.graphql_components.specs.Names.{Entries}
+use Rattle.graphql_folding.specs.in_components.Lists.{firsts, repeats}
+use Rattle.graphql_folding.specs.in_components.Names.{Entries}
 use Rattle.graphql_folding.specs.Listed.{Definitions, directive_name}
 use Rattle.graphql_folding.specs.BuildErrors.{Fault, DirectiveDefinitionCollision, DirectiveDefinitionCollisionAt, Somewhere}
 

@@ -5,7 +5,7 @@ use Rattle.graphql_names.specs.declared.node.Node.{Node}
 use Rattle.graphql_names.specs.Placed.{node_tree}
 use Rattle.graphql_directives.specs.DirectiveTree.{directive_definition_tree}
 use Rattle.graphql_directives.specs.declared.directive.DirectiveDefinition.{DirectiveDefinition}
-use Rattle.graphql_components.specs.Names.{Entries, entries_of}
+use Rattle.graphql_folding.specs.in_components.Names.{Entries, entries_of}
 use Rattle.graphql_folding.specs.in_schema_types.TypeView.{name_text}
 use Rattle.graphql_schema_folding.specs.DirectiveFold.{Directive}
 use Rattle.indexmap.specs.IndexMap.{IndexMap}

@@ -8,8 +8,8 @@ use Rattle.std.specs.declared.alloc.Global.{Global}
 use Rattle.indexmap.specs.IndexMap.{IndexMap}
 use Rattle.graphql_names.specs.NameValue.{NameValue}
 use Rattle.graphql_names.specs.Placed.{Place}
-use Rattle.graphql_components.specs.Lists.{firsts}
-use Rattle.graphql_components.specs.Names.{Entries}
+use Rattle.graphql_folding.specs.in_components.Lists.{firsts}
+use Rattle.graphql_folding.specs.in_components.Names.{Entries}
 use Rattle.graphql_folding.specs.in_schema_types.SchemaTree.{SchemaType}
 use Rattle.graphql_folding.specs.in_schema_types.TypeParts.{TypeDefinition, type_extension_here}
 use Rattle.graphql_folding.specs.Listed.{Listed, type_name}

@@ -13,4 +13,5 @@ pub mod OwnNames
 pub mod Misplaced
 pub mod Seen
 pub mod SeenView
+pub use Rattle.graphql_folding.specs.in_components as in_components
 pub use Rattle.graphql_folding.specs.in_definitions as in_definitions

@@ -3,10 +3,10 @@ use Rattle.std.specs.Prelude.{◌≡◌, ◌↔◌, ◌⊎◌, ℕ, List, [], �
 use Rattle.std.specs.List.{flat_map}
 use Rattle.graphql_names.specs.Placed.{Place, Text}
 use Rattle.graphql_operations.specs.declared.operation.OperationType.TheVariants as operation
-use Rattle.graphql_type_members.specs.TypeSystemTree.{SchemaParts}
-use Rattle.graphql_components.specs.Lists.{repeats}
-use Rattle.graphql_components.specs.Given.{Given}
-use Rattle.graphql_components.specs.Applied.{Applied}
+use Rattle.graphql_folding.specs.in_type_members.TypeSystemTree.{SchemaParts}
+use Rattle.graphql_folding.specs.in_components.Lists.{repeats}
+use Rattle.graphql_folding.specs.in_components.Given.{Given}
+use Rattle.graphql_folding.specs.in_components.Applied.{Applied}
 use Rattle.graphql_folding.specs.in_schema_types.SchemaTree.{SchemaRoots}
 use Rattle.graphql_folding.specs.Listed.{Definitions, Listed, numbered}
 use Rattle.graphql_folding.specs.Components.{all_given}

@@ -2,8 +2,8 @@
 use Rattle.std.specs.Prelude.{◌≡◌, ◌↔◌, ◌⊎◌, ℕ, List, ◌++◌, map, Contains}
 use Rattle.std.specs.List.{flat_map}
 use Rattle.graphql_names.specs.Placed.{Place}
-use Rattle.graphql_components.specs.Lists.{firsts}
-use Rattle.graphql_components.specs.Names.{Entries}
+use Rattle.graphql_folding.specs.in_components.Lists.{firsts}
+use Rattle.graphql_folding.specs.in_components.Names.{Entries}
 use Rattle.graphql_folding.specs.in_schema_types.SchemaTree.{SchemaType}
 use Rattle.graphql_folding.specs.in_schema_types.TypeParts.{TypeDefinition}
 use Rattle.graphql_folding.specs.Listed.{Definitions, Listed, numbered, type_name, types_in}

@@ -4,8 +4,8 @@ use Rattle.std.specs.List.{IsDistinct}
 use Rattle.std.specs.Map.{keys_of, values_of}
 use Rattle.std.specs.Str.{bytes_eq}
 use Rattle.graphql_names.specs.Placed.{Place}
-use Rattle.graphql_components.specs.Names.{Entries}
-use Rattle.graphql_components.specs.Given.{given_name}
+use Rattle.graphql_folding.specs.in_components.Names.{Entries}
+use Rattle.graphql_folding.specs.in_components.Given.{given_name}
 use Rattle.graphql_folding.specs.in_schema_types.SchemaTree.{SchemaType, SchemaTree}
 use Rattle.graphql_folding.specs.Listed.{directive_name}
 use Rattle.graphql_folding.specs.Components.{field_key, value_key, input_key}

@@ -3,8 +3,8 @@ use Rattle.std.specs.Prelude.{◌≡◌, List, [], ◌∷◌, ◌++◌, Option, 
 use Rattle.graphql_names.specs.Placed.{Place, Text}
 use Rattle.graphql_operations.specs.declared.operation.OperationType.{OperationType}
 use Rattle.graphql_operations.specs.declared.operation.OperationType.TheVariants as operation
-use Rattle.graphql_components.specs.Given.{Given}
-use Rattle.graphql_components.specs.Applied.{Applied}
+use Rattle.graphql_folding.specs.in_components.Given.{Given}
+use Rattle.graphql_folding.specs.in_components.Applied.{Applied}
 use Rattle.graphql_folding.specs.in_schema_types.SchemaTree.{SchemaRoots}
 use Rattle.graphql_folding.specs.Components.{all_given}
 use Rattle.graphql_folding.specs.SchemaFold.{Root, root_key, root_in}

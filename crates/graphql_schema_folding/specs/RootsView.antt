@@ -9,9 +9,9 @@ use Rattle.graphql_directives.specs.DirectiveTree.{directive_tree}
 use Rattle.graphql_operations.specs.declared.operation.OperationType.{OperationType}
 use Rattle.graphql_folding.specs.in_definitions.DefinitionTree.{root_tree, schema_parts}
 use Rattle.graphql_input_types.specs.declared.schema.SchemaDefinition.{SchemaDefinition}
-use Rattle.graphql_components.specs.Given.{Given, component_tree, component_name_tree}
-use Rattle.graphql_components.specs.declared.component.Component.{Component}
-use Rattle.graphql_components.specs.Applied.{applied_tree}
+use Rattle.graphql_folding.specs.in_components.Given.{Given, component_tree, component_name_tree}
+use Rattle.graphql_folding.specs.in_components.declared.component.Component.{Component}
+use Rattle.graphql_folding.specs.in_components.Applied.{applied_tree}
 use Rattle.graphql_folding.specs.in_schema_types.SchemaTree.{SchemaRoots}
 use Rattle.graphql_folding.specs.in_schema_types.declared.schema_definition.SchemaDefinition.{SchemaDefinition as Made}
 use Rattle.graphql_folding.specs.SchemaFold.{Root, SchemaGiver}

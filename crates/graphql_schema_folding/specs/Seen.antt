@@ -5,13 +5,13 @@ use Rattle.std.specs.Map.{lookup}
 use Rattle.std.specs.Option.{option_map_or, option_or}
 use Rattle.std.specs.Str.{bytes_eq}
 use Rattle.graphql_names.specs.Placed.{Place}
-use Rattle.graphql_components.specs.in_values.OperationQueries.{default_root_name}
+use Rattle.graphql_folding.specs.in_values.OperationQueries.{default_root_name}
 use Rattle.graphql_operations.specs.declared.operation.OperationType.{OperationType}
 use Rattle.graphql_operations.specs.declared.operation.OperationType.TheVariants as operation
 use Rattle.graphql_folding.specs.in_definitions.DefinitionTree.{DefinitionTree}
 use Rattle.graphql_folding.specs.in_definitions.Queries.{is_executable}
-use Rattle.graphql_components.specs.Lists.{each_place, firsts}
-use Rattle.graphql_components.specs.Names.{Entries}
+use Rattle.graphql_folding.specs.in_components.Lists.{each_place, firsts}
+use Rattle.graphql_folding.specs.in_components.Names.{Entries}
 use Rattle.graphql_folding.specs.in_schema_types.SchemaTree.{same_kind}
 use Rattle.graphql_folding.specs.in_schema_types.TypeParts.{TypeDefinition, type_here, type_extension_here}
 use Rattle.graphql_folding.specs.in_schema_types.declared.type_kind.TypeKind.{TypeKind}

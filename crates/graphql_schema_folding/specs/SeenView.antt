@@ -1,5 +1,5 @@
 -- What contracts see of what a list defines (private: it leads to `specs/Seen.antt`).
-use Rattle.graphql_components.specs.Names.{entries_of}
+use Rattle.graphql_folding.specs.in_components.Names.{entries_of}
 use Rattle.graphql_folding.specs.in_schema_types.TypeView.{name_text}
 use Rattle.graphql_folding.specs.PartsView.{itself}
 use Rattle.graphql_schema_folding.specs.Seen.{Seen}

@@ -2,7 +2,7 @@
 use Rattle.std.specs.Prelude.{ℕ, List}
 use Rattle.std.specs.List.{flat_map}
 use Rattle.graphql_names.specs.Placed.{Place}
-use Rattle.graphql_components.specs.Lists.{firsts}
+use Rattle.graphql_folding.specs.in_components.Lists.{firsts}
 use Rattle.graphql_folding.specs.in_schema_types.TypeParts.{TypeDefinition}
 use Rattle.graphql_folding.specs.Listed.{Definitions, Listed, numbered, type_name, types_in}
 use Rattle.graphql_folding.specs.Components.{parts_of}

@@ -2,7 +2,7 @@
 ghost use Rattle.std.specs.Prelude.{◌≡◌, ◌++◌, ◌∷◌, [], None, Some, map, IfOk, OnOk};
 ghost use Rattle.indexmap.specs.IndexMap.{get};
 ghost use Rattle.graphql_names.specs.Node.{content};
-ghost use Rattle.graphql_components.specs.Names.{same_text};
+ghost use Rattle.graphql_folding.specs.in_components.Names.{same_text};
 ghost use Rattle.graphql_folding.specs.in_schema_types.TypeView.{name_text};
 ghost use Rattle.graphql_folding.specs.in_definitions.DefinitionTree.{definition_tree};
 ghost use Rattle.graphql_folding.specs.Listed.{directive_name, directives_in};

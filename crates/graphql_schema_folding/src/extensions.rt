@@ -2,7 +2,7 @@
 ghost use Rattle.std.specs.Prelude.{◌≡◌, ℕ, ◌++◌, ◌∷◌, [], List, map, if◌then◌else◌, IfOk, OnOk};
 ghost use Rattle.std.specs.Str.{bytes_eq};
 ghost use Rattle.indexmap.specs.IndexMap.{get};
-ghost use Rattle.graphql_components.specs.Names.{same_text};
+ghost use Rattle.graphql_folding.specs.in_components.Names.{same_text};
 ghost use Rattle.graphql_folding.specs.in_schema_types.TypeView.{name_text};
 ghost use Rattle.graphql_folding.specs.ListedView.{listed_view};
 ghost use Rattle.graphql_schema_folding.specs.Filing.{items_under, extensions_under, extensions_named, Files};

@@ -4,7 +4,7 @@ ghost use Rattle.std.specs.List.{flat_map};
 ghost use Rattle.graphql_names.specs.Placed.{node_tree};
 ghost use Rattle.graphql_directives.specs.DirectiveTree.{directives_tree};
 ghost use Rattle.graphql_folding.specs.in_definitions.DefinitionTree.{root_tree};
-ghost use Rattle.graphql_components.specs.Given.{origin_tree};
+ghost use Rattle.graphql_folding.specs.in_components.Given.{origin_tree};
 ghost use Rattle.graphql_folding.specs.Components.{all_given};
 ghost use Rattle.graphql_folding.specs.PartsView.{itself, given_contents};
 ghost use Rattle.graphql_folding.specs.ListedView.{listed_view};
@@ -13,9 +13,8 @@ ghost use Rattle.graphql_schema_folding.specs.RootFold.{all_from, all_and, Colle
 ghost use Rattle.graphql_schema_folding.specs.RootsView.{all_of_schema};
 
 use crate::defined::schema_extension;
-use graphql_components::{Component, ComponentOrigin};
 use graphql_directives::{Directive, DirectiveList};
-use graphql_folding::Listed;
+use graphql_folding::{Component, ComponentOrigin, Listed};
 use graphql_literals::NamedType;
 use graphql_names::Node;
 use graphql_operations::OperationType;

@@ -1,6 +1,6 @@
 //! The roots of a schema without a schema definition.
 ghost use Rattle.std.specs.Prelude.{◌≡◌, ◌++◌, None, map, OnOk};
-ghost use Rattle.graphql_components.specs.in_values.OperationQueries.{default_root_name};
+ghost use Rattle.graphql_folding.specs.in_values.OperationQueries.{default_root_name};
 ghost use Rattle.graphql_folding.specs.Components.{all_given};
 ghost use Rattle.graphql_folding.specs.SchemaFold.{implicit_root, implicit_roots};
 ghost use Rattle.graphql_folding.specs.ListedView.{listed_view};
@@ -8,8 +8,7 @@ ghost use Rattle.graphql_schema_folding.specs.ListFold.{definitions_of};
 ghost use Rattle.graphql_schema_folding.specs.RootsView.{roots_given_by};
 
 use crate::defined::is_object;
-use graphql_components::{Component, ComponentOrigin};
-use graphql_folding::Listed;
+use graphql_folding::{Component, ComponentOrigin, Listed};
 use graphql_literals::NamedType;
 use graphql_names::{Name, Node};
 use graphql_operations::OperationType;

@@ -1,7 +1,7 @@
 //! What is new under its name.
 ghost use Rattle.std.specs.Prelude.{◌≡◌, ◌++◌, ◌∷◌, [], None, OnOk};
 ghost use Rattle.indexmap.specs.IndexMap.{get};
-ghost use Rattle.graphql_components.specs.Names.{same_text};
+ghost use Rattle.graphql_folding.specs.in_components.Names.{same_text};
 ghost use Rattle.graphql_folding.specs.in_schema_types.TypeView.{name_text};
 
 use graphql_names::Name;

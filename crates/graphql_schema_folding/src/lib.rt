@@ -28,8 +28,12 @@ mod types;
 pub use defined::{first_schema, is_object, schema_extension};
 pub use directives::fold_directives;
 pub use graphql_folding::{
-    BuildError, Definition, Document, ExtendedType, Listed, Parts, SchemaDefinition, SourceFile,
-    TypeKind, extension_parts, type_definition,
+    BuildError, Definition, Document, ExtendedType, ExtensionId, Extensions,
+    InterfaceTypeDefinition, Listed, ObjectTypeDefinition, Parts, SourceFile, TypeKind,
+    UnionTypeDefinition, extension_parts, type_definition,
+};
+pub use graphql_input_types::{
+    EnumTypeDefinition, InputObjectTypeDefinition, ScalarTypeDefinition, SchemaDefinition,
 };
 pub use misplaced::tell_misplaced;
 pub use schema::fold_schema;

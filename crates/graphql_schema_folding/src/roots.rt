@@ -1,15 +1,14 @@
 //! The first root of each operation.
 ghost use Rattle.std.specs.Prelude.{◌≡◌, ◌++◌, ◌∷◌, [], IfOk, OnOk, is_some};
 ghost use Rattle.graphql_folding.specs.in_definitions.DefinitionTree.{root_tree};
-ghost use Rattle.graphql_components.specs.Given.{component_tree, component_name_tree};
+ghost use Rattle.graphql_folding.specs.in_components.Given.{component_tree, component_name_tree};
 ghost use Rattle.graphql_folding.specs.FaultView.{faults_of};
 ghost use Rattle.graphql_folding.specs.BuildErrors.{DuplicateRootOperation};
 ghost use Rattle.graphql_schema_folding.specs.ListFold.{root_faults};
 ghost use Rattle.graphql_schema_folding.specs.RootFold.{root_for, with_root, first_roots, KeepsRoot};
 ghost use Rattle.graphql_schema_folding.specs.RootsView.{root_names, roots_given_by};
 
-use graphql_components::{Component, ComponentName};
-use graphql_folding::BuildError;
+use graphql_folding::{BuildError, Component, ComponentName};
 use graphql_literals::NamedType;
 use graphql_names::SourceSpan;
 use graphql_operations::OperationType;

@@ -17,11 +17,11 @@ use crate::defined::first_schema;
 use crate::given::SchemaComponents;
 use crate::implicit::add_implicit_roots;
 use crate::roots::keep_roots;
-use graphql_components::{ComponentOrigin, DirectiveList};
-use graphql_folding::{BuildError, Listed, SchemaDefinition};
+use graphql_folding::{
+    BuildError, ComponentOrigin, DirectiveList, Listed, SchemaDefinition, clone_description,
+};
 use graphql_input_types::SchemaDefinition as SchemaNode;
 use graphql_names::{Node, NodeStr, SourceSpan};
-use graphql_type_members::clone_description;
 use std::alloc::{AllocError, Global};
 use std::mem;
 

@@ -2,7 +2,7 @@
 
 use crate::building::built;
 use crate::words::{missing_words, named_words, parse_words};
-use graphql_coords::{
+use graphql_documents::{
     DirectiveArgumentCoordinate, DirectiveCoordinate, FieldArgumentCoordinate, SchemaCoordinate,
     SchemaCoordinateParseError, TypeAttributeCoordinate, TypeCoordinate,
 };

@@ -18,4 +18,5 @@ mod words;
 pub use coordinates::by_coordinate;
 pub use documents::by_document;
 pub use field_sets::by_field_set;
+pub use graphql_read_rows::{by_layouts, by_print, by_read, by_writable, text_of};
 pub use schemas::{by_schema, push_faults};

@@ -1,6 +1,6 @@
 //! What coordinates answer, in words.
 
-use graphql_coords::{SchemaCoordinateLookup, SchemaCoordinateParseError, SchemaLookupError};
+use graphql_documents::{SchemaCoordinateLookup, SchemaCoordinateParseError, SchemaLookupError};
 
 /// Why a text is no coordinate.
 pub(crate) fn parse_words(error: SchemaCoordinateParseError) -> &'static str {

@@ -21,10 +21,14 @@ mod type_origins;
 
 pub use extended_type::ExtendedType;
 pub use graphql_components::{
-    Component, ComponentName, ComponentOrigin, DirectiveList, ExtensionId, OperationType,
+    Component, ComponentName, ComponentOrigin, DirectiveList, ExtensionId, Extensions,
+    NamedComponents, OperationType,
 };
 pub use graphql_definitions::{
-    Definition, Document, EnumValueDefinition, FieldDefinition, SourceFile,
+    Definition, Document, EnumTypeDefinition, EnumTypeExtension, EnumValueDefinition,
+    FieldDefinition, InputObjectTypeExtension, InterfaceTypeDefinition, InterfaceTypeExtension,
+    ObjectTypeDefinition, ObjectTypeExtension, ScalarTypeDefinition, ScalarTypeExtension,
+    SchemaExtension, SourceFile, UnionTypeDefinition, UnionTypeExtension, clone_description,
 };
 pub use kinds::{EnumType, InputObjectType, InterfaceType, ObjectType, ScalarType, UnionType};
 pub use origins::Origins;

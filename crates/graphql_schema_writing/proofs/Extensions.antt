@@ -9,18 +9,18 @@ use Rattle.graphql_names.specs.Node.{content}
 use Rattle.graphql_names.specs.declared.node.Node.{Node}
 use Rattle.graphql_names.specs.Placed.{Place}
 use Rattle.graphql_directives.specs.DirectiveTree.{directive_tree, input_value_tree}
-use Rattle.graphql_type_members.specs.TypeSystemTree.{field_definition_tree, enum_value_tree}
+use Rattle.graphql_schema_types.specs.in_type_members.TypeSystemTree.{field_definition_tree, enum_value_tree}
 use Rattle.graphql_directives.specs.declared.directive.Directive.{Directive}
 use Rattle.graphql_directives.specs.declared.input_value.InputValueDefinition.{InputValueDefinition}
-use Rattle.graphql_type_members.specs.declared.field_definition.FieldDefinition.{FieldDefinition}
-use Rattle.graphql_type_members.specs.declared.enum_value.EnumValueDefinition.{EnumValueDefinition}
-use Rattle.graphql_components.specs.Lists.{each_place_after, has_name, is_among}
-use Rattle.graphql_components.specs.Given.{ExtensionTree, number_of, extension_id, extension_tree, origin_tree, component_tree, component_name_tree}
-use Rattle.graphql_components.specs.declared.extension.ExtensionId.{ExtensionId}
-use Rattle.graphql_components.specs.declared.component.Component.{Component}
-use Rattle.graphql_components.specs.declared.component.ComponentOrigin.{ComponentOrigin}
-use Rattle.graphql_components.specs.declared.component.ComponentOrigin.TheVariants.{Definition, Extension}
-use Rattle.graphql_components.specs.declared.component_name.ComponentName.{ComponentName}
+use Rattle.graphql_schema_types.specs.in_type_members.declared.field_definition.FieldDefinition.{FieldDefinition}
+use Rattle.graphql_schema_types.specs.in_type_members.declared.enum_value.EnumValueDefinition.{EnumValueDefinition}
+use Rattle.graphql_schema_types.specs.in_components.Lists.{each_place_after, has_name, is_among}
+use Rattle.graphql_schema_types.specs.in_components.Given.{ExtensionTree, number_of, extension_id, extension_tree, origin_tree, component_tree, component_name_tree}
+use Rattle.graphql_schema_types.specs.in_components.declared.extension.ExtensionId.{ExtensionId}
+use Rattle.graphql_schema_types.specs.in_components.declared.component.Component.{Component}
+use Rattle.graphql_schema_types.specs.in_components.declared.component.ComponentOrigin.{ComponentOrigin}
+use Rattle.graphql_schema_types.specs.in_components.declared.component.ComponentOrigin.TheVariants.{Definition, Extension}
+use Rattle.graphql_schema_types.specs.in_components.declared.component_name.ComponentName.{ComponentName}
 use Rattle.graphql_schema_types.specs.Origins.{component_origins, name_origins, origin_of, origins_of, type_origins, schema_origins, extensions_in}
 use Rattle.graphql_schema_types.specs.Out.{givers, each_once, extensions_of_schema}
 use Rattle.graphql_schema_types.specs.TypeView.{schema_roots}

@@ -6,9 +6,9 @@ use Rattle.std.specs.Global.{Global}
 use Rattle.std.proofs.lemmas.List.{append-nil}
 use Rattle.std.proofs.lemmas.Bool.Decides.{Decides-eqb}
 use Rattle.graphql_names.specs.Placed.{Place}
-use Rattle.graphql_components.specs.Given.{ExtensionTree, origin_tree}
-use Rattle.graphql_components.specs.declared.component.ComponentOrigin.{ComponentOrigin}
-use Rattle.graphql_components.specs.declared.component.ComponentOrigin.TheVariants.{Definition, Extension}
+use Rattle.graphql_schema_types.specs.in_components.Given.{ExtensionTree, origin_tree}
+use Rattle.graphql_schema_types.specs.in_components.declared.component.ComponentOrigin.{ComponentOrigin}
+use Rattle.graphql_schema_types.specs.in_components.declared.component.ComponentOrigin.TheVariants.{Definition, Extension}
 use Rattle.graphql_schema_types.specs.Out.{same_giver}
 use Rattle.graphql_schema_writing.specs.Filed.{filed_under}
 

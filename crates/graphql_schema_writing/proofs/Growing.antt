@@ -6,9 +6,9 @@ use Rattle.graphql_names.specs.NodeStrValue.{NodeStrValue}
 use Rattle.graphql_names.specs.declared.node.Node.{Node}
 use Rattle.graphql_names.specs.Placed.{Place, name_tree, node_tree, text_tree}
 use Rattle.graphql_directives.specs.DirectiveTree.{directive_tree, input_value_tree}
-use Rattle.graphql_type_members.specs.TypeSystemTree.{field_definition_tree, enum_value_tree}
-use Rattle.graphql_components.specs.Given.{ExtensionTree, origin_tree, component_tree, component_name_tree}
-use Rattle.graphql_components.specs.declared.component.Component.{Component}
+use Rattle.graphql_schema_types.specs.in_type_members.TypeSystemTree.{field_definition_tree, enum_value_tree}
+use Rattle.graphql_schema_types.specs.in_components.Given.{ExtensionTree, origin_tree, component_tree, component_name_tree}
+use Rattle.graphql_schema_types.specs.in_components.declared.component.Component.{Component}
 use Rattle.graphql_schema_types.specs.Out.{same_giver, given_by}
 use Rattle.graphql_schema_writing.specs.Filed.{itself, given_contents, filed_under, lent_node, lent_name}
 use Rattle.graphql_schema_writing.specs.Contents.{parts_given_by}

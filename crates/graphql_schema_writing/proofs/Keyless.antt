@@ -6,10 +6,10 @@ use Rattle.graphql_names.specs.NameValue.{NameValue}
 use Rattle.graphql_names.specs.Places.{is_built_in}
 use Rattle.graphql_names.specs.Placed.{Place}
 use Rattle.graphql_directives.specs.DirectiveTree.{input_value_tree}
-use Rattle.graphql_type_members.specs.TypeSystemTree.{field_definition_tree, enum_value_tree}
-use Rattle.graphql_components.specs.Names.{Entries}
-use Rattle.graphql_components.specs.Given.{Given, ExtensionTree, component_tree}
-use Rattle.graphql_components.specs.declared.component.Component.{Component}
+use Rattle.graphql_schema_types.specs.in_type_members.TypeSystemTree.{field_definition_tree, enum_value_tree}
+use Rattle.graphql_schema_types.specs.in_components.Names.{Entries}
+use Rattle.graphql_schema_types.specs.in_components.Given.{Given, ExtensionTree, component_tree}
+use Rattle.graphql_schema_types.specs.in_components.declared.component.Component.{Component}
 use Rattle.graphql_schema_types.specs.SchemaTree.{SchemaType}
 use Rattle.graphql_schema_types.specs.TypeView.{name_text, extended_type}
 use Rattle.graphql_schema_types.specs.TypeParts.{definition_by, extension_by}

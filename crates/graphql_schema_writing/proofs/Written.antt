@@ -11,8 +11,8 @@ use Rattle.graphql_directives.specs.DirectiveTree.{Directives, directive_definit
 use Rattle.graphql_directives.specs.declared.directive.DirectiveDefinition.{DirectiveDefinition}
 use Rattle.graphql_schema_types.specs.in_definitions.DefinitionTree.{DefinitionTree}
 use Rattle.graphql_operations.specs.declared.operation.OperationType.TheVariants as operation
-use Rattle.graphql_components.specs.Given.{ExtensionTree, extension_tree, place_of}
-use Rattle.graphql_components.specs.declared.extension.ExtensionId.{ExtensionId}
+use Rattle.graphql_schema_types.specs.in_components.Given.{ExtensionTree, extension_tree, place_of}
+use Rattle.graphql_schema_types.specs.in_components.declared.extension.ExtensionId.{ExtensionId}
 use Rattle.graphql_schema_types.specs.SchemaTree.{SchemaRoots, SchemaTree}
 use Rattle.graphql_schema_types.specs.TypeView.{name_text, extended_type, schema_roots}
 use Rattle.graphql_schema_types.specs.Origins.{type_origins, schema_origins, extensions_in}

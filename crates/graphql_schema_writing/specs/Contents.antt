@@ -7,10 +7,10 @@ use Rattle.graphql_names.specs.Node.{content, place}
 use Rattle.graphql_names.specs.Places.{is_built_in}
 use Rattle.graphql_names.specs.Placed.{Placed, Place, Text, name_tree, text_tree}
 use Rattle.graphql_directives.specs.DirectiveTree.{Directives, InputValues, InputValueTree, input_value_tree}
-use Rattle.graphql_type_members.specs.TypeSystemTree.{FieldDefinitionTree, EnumValueTree, field_definition_tree, enum_value_tree}
+use Rattle.graphql_schema_types.specs.in_type_members.TypeSystemTree.{FieldDefinitionTree, EnumValueTree, field_definition_tree, enum_value_tree}
 use Rattle.graphql_schema_types.specs.in_definitions.DefinitionTree.{DefinitionTree}
-use Rattle.graphql_components.specs.Applied.{Applied, applied_tree}
-use Rattle.graphql_components.specs.Given.{Given, ExtensionTree, component_tree, component_name_tree}
+use Rattle.graphql_schema_types.specs.in_components.Applied.{Applied, applied_tree}
+use Rattle.graphql_schema_types.specs.in_components.Given.{Given, ExtensionTree, component_tree, component_name_tree}
 use Rattle.graphql_schema_types.specs.Out.{given_by, givers, each_once}
 use Rattle.graphql_schema_types.specs.TypeParts.{TypeParts, definition_by, extension_by}
 use Rattle.graphql_schema_types.specs.declared.type_kind.TypeKind.{TypeKind}

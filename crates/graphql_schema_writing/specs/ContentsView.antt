@@ -5,8 +5,8 @@ use Rattle.std.specs.Borrow.{Bor}
 use Rattle.graphql_names.specs.declared.node.Node.{Node}
 use Rattle.graphql_names.specs.Placed.{Placed, Place, name_tree, text_tree, node_tree}
 use Rattle.graphql_directives.specs.DirectiveTree.{directive_tree, directives_tree, input_value_tree}
-use Rattle.graphql_type_members.specs.TypeSystemTree.{field_definition_tree, enum_value_tree}
-use Rattle.graphql_components.specs.Given.{ExtensionTree, component_tree, component_name_tree}
+use Rattle.graphql_schema_types.specs.in_type_members.TypeSystemTree.{field_definition_tree, enum_value_tree}
+use Rattle.graphql_schema_types.specs.in_components.Given.{ExtensionTree, component_tree, component_name_tree}
 use Rattle.graphql_schema_writing.specs.Filed.{filed_under, lent_node, lent_name}
 use Rattle.graphql_schema_writing.specs.Contents.{TypeContents, GivenParts}
 use Rattle.graphql_schema_writing.specs.declared.contents.Contents.{Contents}

@@ -7,9 +7,9 @@ use Rattle.std.specs.Global.{Global}
 use Rattle.graphql_names.specs.NameValue.{NameValue}
 use Rattle.graphql_names.specs.declared.node.Node.{Node}
 use Rattle.graphql_names.specs.Placed.{Placed, Place, Text, name_tree, node_tree}
-use Rattle.graphql_components.specs.Given.{Given, ExtensionTree, origin_tree, component_tree}
-use Rattle.graphql_components.specs.declared.component.Component.{Component}
-use Rattle.graphql_components.specs.declared.component.ComponentOrigin.{ComponentOrigin}
+use Rattle.graphql_schema_types.specs.in_components.Given.{Given, ExtensionTree, origin_tree, component_tree}
+use Rattle.graphql_schema_types.specs.in_components.declared.component.Component.{Component}
+use Rattle.graphql_schema_types.specs.in_components.declared.component.ComponentOrigin.{ComponentOrigin}
 use Rattle.graphql_schema_types.specs.Out.{same_giver}
 
 -- what stands under this giver

@@ -3,19 +3,17 @@ ghost use Rattle.std.specs.Prelude.{◌≡◌, map};
 ghost use Rattle.std.specs.Option.{option_map};
 ghost use Rattle.graphql_names.specs.Places.{is_built_in};
 ghost use Rattle.graphql_names.specs.Placed.{name_tree, text_tree};
-ghost use Rattle.graphql_components.specs.Applied.{applied_tree};
+ghost use Rattle.graphql_schema_types.specs.in_components.Applied.{applied_tree};
 ghost use Rattle.graphql_schema_types.specs.declared.extended_type.ExtendedType.TheVariants as rust;
 ghost use Rattle.graphql_schema_writing.specs.Contents.{type_contents, bare_contents};
 ghost use Rattle.graphql_schema_writing.specs.ContentsView.{contents_view};
 
-use graphql_components::{Component, ComponentName, DirectiveList};
 use graphql_directives::{Directive, InputValueDefinition};
 use graphql_names::{FileId, Name, Node, NodeStr, SourceSpan};
 use graphql_schema_types::{
-    EnumType, ExtendedType, InputObjectType, InterfaceType, ObjectType, ScalarType, TypeKind,
-    UnionType,
+    Component, ComponentName, DirectiveList, EnumType, EnumValueDefinition, ExtendedType,
+    FieldDefinition, InputObjectType, InterfaceType, ObjectType, ScalarType, TypeKind, UnionType,
 };
-use graphql_type_members::{EnumValueDefinition, FieldDefinition};
 
 /// What a type has, lent. Interfaces, fields, members, values and input fields are empty where the kind has none.
 #[derive(Drop)]

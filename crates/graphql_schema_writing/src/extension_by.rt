@@ -9,11 +9,12 @@ ghost use Rattle.graphql_schema_writing.specs.ContentsView.{parts_view};
 
 use crate::definition_by::placed;
 use crate::parts::Parts;
-use graphql_composite_types::{InterfaceTypeExtension, ObjectTypeExtension, UnionTypeExtension};
 use graphql_directives::DirectiveList;
-use graphql_input_types::{EnumTypeExtension, InputObjectTypeExtension, ScalarTypeExtension};
 use graphql_names::{Name, SourceSpan};
-use graphql_schema_types::{Definition, TypeKind};
+use graphql_schema_types::{
+    Definition, EnumTypeExtension, InputObjectTypeExtension, InterfaceTypeExtension,
+    ObjectTypeExtension, ScalarTypeExtension, TypeKind, UnionTypeExtension,
+};
 use std::alloc::{AllocError, Global};
 use std::mem;
 

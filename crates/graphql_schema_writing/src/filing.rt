@@ -1,12 +1,12 @@
 //! Components filed under the definition or extension that gave them.
 ghost use Rattle.std.specs.Prelude.{◌≡◌, [], map, IfOk, OnOk};
 ghost use Rattle.graphql_names.specs.Placed.{name_tree, node_tree};
-ghost use Rattle.graphql_components.specs.Given.{origin_tree, component_name_tree};
+ghost use Rattle.graphql_schema_types.specs.in_components.Given.{origin_tree, component_name_tree};
 ghost use Rattle.graphql_schema_types.specs.Out.{given_by};
 ghost use Rattle.graphql_schema_writing.specs.Filed.{filed_under, FilesOn, itself, given_contents, lent_node, lent_name};
 
-use graphql_components::{Component, ComponentName, ComponentOrigin};
 use graphql_names::{Name, Node};
+use graphql_schema_types::{Component, ComponentName, ComponentOrigin};
 use indexmap::IndexMap;
 use std::alloc::{AllocError, Global};
 

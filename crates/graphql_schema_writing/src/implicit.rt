@@ -3,7 +3,7 @@ ghost use Rattle.std.specs.Prelude.{◌≡◌, ◌&&◌, is_none, is_some};
 ghost use Rattle.std.specs.Option.{option_map};
 ghost use Rattle.graphql_names.specs.Node.{content};
 ghost use Rattle.graphql_schema_types.specs.in_values.OperationQueries.{default_root_name};
-ghost use Rattle.graphql_components.specs.Given.{component_name_tree};
+ghost use Rattle.graphql_schema_types.specs.in_components.Given.{component_name_tree};
 ghost use Rattle.graphql_operations.specs.declared.operation.OperationType.TheVariants as operation;
 ghost use Rattle.graphql_schema_types.specs.SchemaView.{types_view};
 ghost use Rattle.graphql_schema_types.specs.TypeView.{schema_roots};
@@ -11,10 +11,9 @@ ghost use Rattle.graphql_schema_types.specs.Origins.{schema_origins, extensions_
 ghost use Rattle.graphql_schema_types.specs.Out.{is_empty, is_implicit_root, is_left_out, is_object_named};
 ghost use Rattle.graphql_schema_writing.specs.SchemaParts.{schema_and_types};
 
-use graphql_components::{ComponentName, ExtensionId};
 use graphql_names::{Name, Node};
 use graphql_operations::OperationType;
-use graphql_schema_types::{ExtendedType, SchemaDefinition};
+use graphql_schema_types::{ComponentName, ExtendedType, ExtensionId, SchemaDefinition};
 use indexmap::IndexMap;
 
 /// Whether the schema definition is left out: it says nothing but the implicit roots, and these extensions are none.

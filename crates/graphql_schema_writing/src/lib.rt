@@ -20,7 +20,9 @@ mod types;
 mod write;
 
 pub use graphql_schema_types::{
-    Document, EnumType, ExtendedType, InputObjectType, InterfaceType, ObjectType, Origins,
-    RootOperations, ScalarType, SchemaDefinition, SourceFile, TypeKind, UnionType,
+    Component, ComponentName, ComponentOrigin, Definition, DirectiveList, Document, EnumType,
+    EnumValueDefinition, ExtendedType, ExtensionId, Extensions, FieldDefinition, InputObjectType,
+    InterfaceType, NamedComponents, ObjectType, Origins, RootOperations, ScalarType,
+    SchemaDefinition, SourceFile, TypeKind, UnionType,
 };
 pub use write::written_definitions;

@@ -1,15 +1,14 @@
 //! What each giver gave to a type.
 ghost use Rattle.std.specs.Prelude.{◌≡◌, OnOk};
-ghost use Rattle.graphql_components.specs.Given.{origin_tree};
+ghost use Rattle.graphql_schema_types.specs.in_components.Given.{origin_tree};
 ghost use Rattle.graphql_schema_writing.specs.Contents.{parts_given_by};
 ghost use Rattle.graphql_schema_writing.specs.ContentsView.{GivesNothing, HoldsNothing, contents_view, filed_parts, parts_view};
 
 use crate::contents::Contents;
 use crate::filing::{file_components, file_names, take_names, take_nodes};
-use graphql_components::ComponentOrigin;
 use graphql_directives::{Directive, DirectiveList, InputValueDefinition};
 use graphql_names::{Name, Node};
-use graphql_type_members::{EnumValueDefinition, FieldDefinition};
+use graphql_schema_types::{ComponentOrigin, EnumValueDefinition, FieldDefinition};
 use indexmap::IndexMap;
 use std::alloc::{AllocError, Global};
 

@@ -3,15 +3,14 @@ ghost use Rattle.std.specs.Prelude.{◌≡◌, ◌++◌, [], map, None, Some, On
 ghost use Rattle.std.specs.Option.{option_map};
 ghost use Rattle.graphql_names.specs.Placed.{node_tree};
 ghost use Rattle.graphql_schema_types.specs.in_definitions.DefinitionTree.{root_tree};
-ghost use Rattle.graphql_components.specs.Given.{origin_tree, component_name_tree};
+ghost use Rattle.graphql_schema_types.specs.in_components.Given.{origin_tree, component_name_tree};
 ghost use Rattle.graphql_schema_types.specs.TypeView.{schema_roots};
 ghost use Rattle.graphql_schema_types.specs.Out.{same_giver, root_given_by, schema_parts_given_by};
 
-use graphql_components::{ComponentName, ComponentOrigin};
 use graphql_literals::NamedType;
 use graphql_names::Node;
 use graphql_operations::OperationType;
-use graphql_schema_types::SchemaDefinition;
+use graphql_schema_types::{ComponentName, ComponentOrigin, SchemaDefinition};
 use std::alloc::{AllocError, Global};
 
 /// Adds the roots that this giver gave, in the order query, mutation, subscription.

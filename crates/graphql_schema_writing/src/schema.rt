@@ -3,7 +3,7 @@ ghost use Rattle.std.specs.Prelude.{◌≡◌, ◌++◌, [], ◌∷◌, map, Opt
 ghost use Rattle.graphql_names.specs.Placed.{Place};
 ghost use Rattle.graphql_directives.specs.DirectiveTree.{directive_tree};
 ghost use Rattle.graphql_schema_types.specs.in_definitions.DefinitionTree.{definition_tree, schema_extension_parts};
-ghost use Rattle.graphql_components.specs.Given.{ExtensionTree, extension_tree, origin_tree};
+ghost use Rattle.graphql_schema_types.specs.in_components.Given.{ExtensionTree, extension_tree, origin_tree};
 ghost use Rattle.graphql_schema_types.specs.TypeView.{schema_roots};
 ghost use Rattle.graphql_schema_types.specs.Out.{written_schema, given_by, schema_parts_given_by};
 ghost use Rattle.graphql_schema_writing.specs.Filed.{filed_under};
@@ -14,11 +14,12 @@ use crate::definition_by::placed;
 use crate::filing::{file_components, take_nodes};
 use crate::implicit::is_left_out;
 use crate::roots::add_roots;
-use graphql_components::{ComponentOrigin, ExtensionId};
 use graphql_directives::{Directive, DirectiveList};
-use graphql_input_types::SchemaExtension;
 use graphql_names::{Name, Node};
-use graphql_schema_types::{Definition, ExtendedType, SchemaDefinition, shared_description};
+use graphql_schema_types::{
+    ComponentOrigin, Definition, ExtendedType, ExtensionId, SchemaDefinition, SchemaExtension,
+    shared_description,
+};
 use indexmap::IndexMap;
 use std::alloc::{AllocError, Global};
 

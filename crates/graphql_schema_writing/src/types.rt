@@ -3,7 +3,7 @@ ghost use Rattle.std.specs.Prelude.{◌≡◌, ◌++◌, [], ◌∷◌, map, Non
 ghost use Rattle.std.specs.List.{flat_map};
 ghost use Rattle.graphql_names.specs.Places.{is_built_in};
 ghost use Rattle.graphql_schema_types.specs.in_definitions.DefinitionTree.{definition_tree};
-ghost use Rattle.graphql_components.specs.Given.{extension_tree, place_of};
+ghost use Rattle.graphql_schema_types.specs.in_components.Given.{extension_tree, place_of};
 ghost use Rattle.graphql_schema_writing.specs.Contents.{type_contents, written_contents, defined_from, extended_from};
 ghost use Rattle.graphql_schema_writing.specs.ContentsView.{HoldsNothing, contents_view, filed_parts};
 
@@ -11,8 +11,9 @@ use crate::contents::{Contents, contents_of};
 use crate::definition_by::definition_by;
 use crate::extension_by::extension_by;
 use crate::parts::{FiledType, Parts};
-use graphql_components::{ComponentOrigin, ExtensionId};
-use graphql_schema_types::{Definition, ExtendedType, shared_description};
+use graphql_schema_types::{
+    ComponentOrigin, Definition, ExtendedType, ExtensionId, shared_description,
+};
 use std::alloc::{AllocError, Global};
 
 /// Writes each type.

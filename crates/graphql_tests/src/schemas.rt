@@ -1,9 +1,9 @@
 //! Schemas, types and components: each call that may want memory and that no row of text reaches, once.
 
 use crate::hold::{hold, is_copied};
+use graphql_checked::parse_document;
 use graphql_directives::Directive;
 use graphql_names::{FileId, Name, Node};
-use graphql_read::parse_document;
 use graphql_schema::{
     Component, ComponentName, ComponentOrigin, DirectiveList, ExtendedType, ExtensionId,
     Implementers, Schema, SchemaBuilder, SchemaDefinition,

@@ -6,7 +6,7 @@ use Rattle.std.specs.Str.{bytes_eq}
 use Rattle.std.proofs.lemmas.List.Elements.{Contains-append_left, Contains-append_right, Contains-append_cases}
 use Rattle.graphql_names.specs.Placed.{Placed, Place}
 use Rattle.graphql_type_members.specs.TypeSystemTree.{FieldDefinitionTree}
-use Rattle.graphql_definitions.specs.DefinitionTree.{DefinitionTree}
+use Rattle.graphql_read.specs.in_definitions.DefinitionTree.{DefinitionTree}
 use Rattle.graphql_thin.specs.Lists.{each_place, AtSomePlace, has_name}
 use Rattle.graphql_thin.specs.Fold.{defined_name, definition_place, fields_here, field_name, has_type, FoldedType, fold, is_object, object_alone, query_root}
 use Rattle.graphql_thin.specs.Faults.{Fault, TypeDefinitionCollision, ObjectFieldNameCollision, QueryRootOperationType, FoldingFails, QueryRootOperationTypeIn, SchemaFails}

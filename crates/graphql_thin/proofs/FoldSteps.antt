@@ -9,7 +9,7 @@ use Rattle.std.proofs.lemmas.Grind.{flat_map-append}
 use Rattle.std.proofs.lemmas.List.{append_assoc, append-nil, map_more}
 use Rattle.graphql_names.specs.Placed.{Placed, Place}
 use Rattle.graphql_type_members.specs.TypeSystemTree.{FieldDefinitionTree}
-use Rattle.graphql_definitions.specs.DefinitionTree.{DefinitionTree}
+use Rattle.graphql_read.specs.in_definitions.DefinitionTree.{DefinitionTree}
 use Rattle.graphql_thin.specs.Lists.{each_place, firsts}
 use Rattle.graphql_thin.specs.Fold.{Defined, defined_here, defined_types, defined_name, definition_place, fields_here, field_name, has_type, folded, fold}
 use Rattle.graphql_thin.specs.Faults.{Fault, TypeDefinitionCollision, ObjectFieldNameCollision}

@@ -2,10 +2,10 @@
 use Rattle.std.proofs.Common.{◌≡◌, ℕ, Bool, true, false, ◌&&◌, cond, List, [], ◌∷◌, Option, Some, None, refl, sym, ap, subst, ◌∙◌}
 use Rattle.std.specs.List.{list_all}
 use Rattle.graphql_names.specs.Placed.{Place}
-use Rattle.graphql_definitions.specs.DefinitionTree as tree
-use Rattle.graphql_definitions.specs.DefinitionTree.{DefinitionTree}
-use Rattle.graphql_definitions.specs.Queries.{definition_place}
-use Rattle.graphql_definitions.specs.Writable.{has_some}
+use Rattle.graphql_read.specs.in_definitions.DefinitionTree as tree
+use Rattle.graphql_read.specs.in_definitions.DefinitionTree.{DefinitionTree}
+use Rattle.graphql_read.specs.in_definitions.Queries.{definition_place}
+use Rattle.graphql_read.specs.in_definitions.Writable.{has_some}
 use Rattle.graphql_thin.specs.ReadText.{ReadsText}
 use Rattle.graphql_thin.specs.Thin.{is_thin_type_definition, is_thin_operation, begin_of, schema_outside, first_begin, document_outside, ReadsSchema, ReadsDocument, SchemaLeavesAt, DocumentLeavesAt}
 use Rattle.graphql_thin.specs.Fold.{is_object}

@@ -6,8 +6,8 @@ use Rattle.std.specs.Str.{bytes_eq}
 use Rattle.std.proofs.lemmas.Slice.Eq.{bytes_eq-Decides}
 use Rattle.graphql_names.specs.Places.{is_built_in}
 use Rattle.graphql_names.specs.Placed.{Place}
-use Rattle.graphql_definitions.specs.DefinitionTree as tree
-use Rattle.graphql_definitions.specs.DefinitionTree.{DefinitionTree}
+use Rattle.graphql_read.specs.in_definitions.DefinitionTree as tree
+use Rattle.graphql_read.specs.in_definitions.DefinitionTree.{DefinitionTree}
 use Rattle.graphql_thin.specs.Lists.{each_place_after, has_name}
 use Rattle.graphql_thin.specs.Fold.{Defined, defined_types, FoldedType, folded, fold, is_object, is_scalar_type, definition_place, object_alone, query_root, is_referenced, is_kept, kept}
 use Rattle.graphql_thin.proofs.Firsts.{has_name-push}

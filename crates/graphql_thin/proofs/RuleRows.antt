@@ -5,7 +5,7 @@ use Rattle.graphql_literals.specs.TypeTree.{TypeTree, NamedTree, NonNullNamedTre
 use Rattle.graphql_operations.specs.SelectionTree.{SelectionTree, FieldTree, no_selections, selection_then}
 use Rattle.graphql_operations.specs.declared.operation.OperationType.TheVariants.{Query}
 use Rattle.graphql_type_members.specs.TypeSystemTree.{FieldDefinitionTree}
-use Rattle.graphql_definitions.specs.DefinitionTree.{DefinitionTree, Operation, ObjectType}
+use Rattle.graphql_read.specs.in_definitions.DefinitionTree.{DefinitionTree, Operation, ObjectType}
 use Rattle.graphql_thin.specs.Lists.{each_place}
 use Rattle.graphql_thin.specs.Fold.{built_in_definitions, definition_list, FoldedType, fold, kept, type_named, query_root}
 use Rattle.graphql_thin.specs.Faults.{Fault, TypeDefinitionCollision, ObjectFieldNameCollision, QueryRootOperationType, UndefinedField, TypeDefinitionCollisionIn, ObjectFieldNameCollisionIn, QueryRootOperationTypeIn, SchemaFails, DocumentFails}

@@ -7,7 +7,7 @@ use Rattle.std.proofs.lemmas.Slice.Eq.{bytes_eq-Decides}
 use Rattle.graphql_names.specs.Placed.{Placed, Place}
 use Rattle.graphql_operations.specs.SelectionTree.{SelectionTree, FieldTree}
 use Rattle.graphql_type_members.specs.TypeSystemTree.{FieldDefinitionTree}
-use Rattle.graphql_definitions.specs.DefinitionTree.{DefinitionTree, Operation}
+use Rattle.graphql_read.specs.in_definitions.DefinitionTree.{DefinitionTree, Operation}
 use Rattle.graphql_thin.specs.Lists.{has_name}
 use Rattle.graphql_thin.specs.Fold.{field_name, FoldedType, fold, is_object, object_alone, query_root, field_named, kept}
 use Rattle.graphql_thin.specs.Faults.{Fault, UndefinedField, selection_list, UndefinedFieldAt, UndefinedFieldHere, DocumentFails}

@@ -5,8 +5,8 @@ use Rattle.std.proofs.lemmas.List.{length-drop}
 use Rattle.graphql_names.specs.declared.span.FileId.{FileId}
 use Rattle.graphql_names.specs.declared.span.SourceSpan.{SourceSpan}
 use Rattle.graphql_names.specs.Placed.{Place}
-use Rattle.graphql_definitions.specs.DefinitionTree.{DefinitionTree}
-use Rattle.graphql_definitions.specs.Writable.{has_some}
+use Rattle.graphql_read.specs.in_definitions.DefinitionTree.{DefinitionTree}
+use Rattle.graphql_read.specs.in_definitions.Writable.{has_some}
 use Rattle.graphql_read.specs.in_lexer.Input.{Token, Ending, Ended, NoTokenAt}
 use Rattle.graphql_read.specs.in_lexer.Tokens.{ignored_at, token_at}
 use Rattle.graphql_read.specs.in_lexer.Lex.{Piece, piece_at, ArePieces, with_token, tokens_among, LexesFront, Lex}

@@ -6,7 +6,7 @@ use Rattle.std.specs.Str.{bytes_eq}
 use Rattle.graphql_names.specs.Placed.{Placed, Place}
 use Rattle.graphql_operations.specs.SelectionTree.{SelectionTree, FieldTree}
 use Rattle.graphql_type_members.specs.TypeSystemTree.{FieldDefinitionTree}
-use Rattle.graphql_definitions.specs.DefinitionTree.{DefinitionTree, Operation}
+use Rattle.graphql_read.specs.in_definitions.DefinitionTree.{DefinitionTree, Operation}
 use Rattle.graphql_thin.specs.Lists.{each_place, firsts, has_name}
 use Rattle.graphql_thin.specs.Fold.{defined_name, definition_place, fields_here, field_name, has_type, FoldedType, fold, query_root}
 use Rattle.graphql_thin.specs.Faults.{Fault, TypeDefinitionCollision, ObjectFieldNameCollision, QueryRootOperationType, UndefinedField, selection_list}

@@ -2,7 +2,7 @@
 use Rattle.std.specs.Prelude.{◌≡◌, ℕ, true, false, List, [], ◌∷◌, ◌++◌, None, Some, ◌⊎◌}
 use Rattle.graphql_names.specs.Placed.{Place}
 use Rattle.graphql_operations.specs.SelectionTree.{SelectionTree, SelectionTrees, FieldTree, no_selections, selection_then}
-use Rattle.graphql_definitions.specs.DefinitionTree.{DefinitionTree, Operation}
+use Rattle.graphql_read.specs.in_definitions.DefinitionTree.{DefinitionTree, Operation}
 use Rattle.graphql_read.specs.declared.fault.SyntaxFaultKind.{SyntaxFaultKind}
 use Rattle.graphql_thin.specs.Lists.{AtSomePlace, has_name}
 use Rattle.graphql_thin.specs.Fold.{defined_name, definition_place, fields_here, field_name, has_type, FoldedType, fold, kept, query_root, field_named}

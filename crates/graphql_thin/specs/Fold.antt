@@ -8,9 +8,9 @@ use Rattle.graphql_names.specs.Places.{is_built_in}
 use Rattle.graphql_names.specs.Placed.{Placed, Place}
 use Rattle.graphql_literals.specs.TypeTree.{TypeTree, NamedTree, NonNullNamedTree, ListTree, NonNullListTree}
 use Rattle.graphql_type_members.specs.TypeSystemTree.{FieldDefinitionTree}
-use Rattle.graphql_definitions.specs.DefinitionTree as tree
-use Rattle.graphql_definitions.specs.DefinitionTree.{DefinitionTree}
-pub use Rattle.graphql_definitions.specs.Queries.{definition_place}
+use Rattle.graphql_read.specs.in_definitions.DefinitionTree as tree
+use Rattle.graphql_read.specs.in_definitions.DefinitionTree.{DefinitionTree}
+pub use Rattle.graphql_read.specs.in_definitions.Queries.{definition_place}
 use Rattle.graphql_thin.specs.Lists.{firsts, is_among}
 use Rattle.graphql_thin.specs.Thin.{scalar_names}
 

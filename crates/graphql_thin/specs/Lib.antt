@@ -14,4 +14,3 @@ pub use Rattle.graphql_read.specs.in_parse_values as in_parse_values
 pub use Rattle.graphql_read.specs as in_read
 pub use Rattle.graphql_read.specs.in_lexer as in_lexer
 pub use Rattle.graphql_literals.specs as in_literals
-pub use Rattle.graphql_operations.specs as in_operations

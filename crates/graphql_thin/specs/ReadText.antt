@@ -1,7 +1,7 @@
 -- Which texts are read: they have a tree, and pass no bound.
 use Rattle.std.specs.Prelude.{ℕ, ◌+◌, ◌<◌, ◌≤◌, ◌^◌, List}
 use Rattle.graphql_names.specs.Placed.{Place}
-use Rattle.graphql_definitions.specs.DefinitionTree.{DefinitionTree}
+use Rattle.graphql_read.specs.in_definitions.DefinitionTree.{DefinitionTree}
 use Rattle.graphql_read.specs.in_lexer.Input.{Token}
 use Rattle.graphql_read.specs.in_lexer.Lex.{LexesFront, Lex}
 use Rattle.graphql_read.specs.in_grammar.Depth.{depth}

@@ -7,7 +7,7 @@ use Rattle.graphql_names.specs.declared.node.Node.{Node}
 use Rattle.graphql_names.specs.Placed.{Placed, Place, node_tree}
 use Rattle.graphql_type_members.specs.TypeSystemTree.{FieldDefinitionTree, field_definition_tree}
 use Rattle.graphql_type_members.specs.declared.field_definition.FieldDefinition.{FieldDefinition}
-use Rattle.graphql_definitions.specs.DefinitionTree.{DefinitionTree}
+use Rattle.graphql_read.specs.in_definitions.DefinitionTree.{DefinitionTree}
 use Rattle.graphql_thin.specs.Lists.{firsts}
 use Rattle.graphql_thin.specs.Fold.{FoldedType, fold, field_name, fields_here, is_object}
 use Rattle.graphql_thin.specs.declared.schema.SchemaType.{SchemaType}

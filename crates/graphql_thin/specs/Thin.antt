@@ -10,9 +10,9 @@ use Rattle.graphql_type_members.specs.in_values.Writable.{is_none_of, has_select
 use Rattle.graphql_operations.specs.declared.operation.OperationType.{OperationType}
 use Rattle.graphql_operations.specs.declared.operation.OperationType.TheVariants.{Query}
 use Rattle.graphql_type_members.specs.TypeSystemTree.{FieldDefinitionTree, FieldsParts}
-use Rattle.graphql_definitions.specs.DefinitionTree.{DefinitionTree, Operation, ObjectType}
-use Rattle.graphql_definitions.specs.Queries.{definition_place}
-use Rattle.graphql_definitions.specs.Writable.{has_some}
+use Rattle.graphql_read.specs.in_definitions.DefinitionTree.{DefinitionTree, Operation, ObjectType}
+use Rattle.graphql_read.specs.in_definitions.Queries.{definition_place}
+use Rattle.graphql_read.specs.in_definitions.Writable.{has_some}
 use Rattle.graphql_thin.specs.Lists.{is_among}
 use Rattle.graphql_thin.specs.ReadText.{ReadsText}
 

@@ -5,7 +5,7 @@ ghost use Rattle.indexmap.specs.IndexMap.{get};
 ghost use Rattle.graphql_names.specs.Node.{content, place};
 ghost use Rattle.graphql_names.specs.Placed.{node_tree};
 ghost use Rattle.graphql_type_members.specs.TypeSystemTree.{field_definition_tree};
-ghost use Rattle.graphql_definitions.specs.DefinitionTree.{definition_tree, document_tree};
+ghost use Rattle.graphql_read.specs.in_definitions.DefinitionTree.{definition_tree, document_tree};
 ghost use Rattle.graphql_thin.specs.Lists.{each_place, firsts};
 ghost use Rattle.graphql_thin.specs.Fold.{built_in_definitions, definition_place, fields_here, field_name};
 ghost use Rattle.graphql_thin.specs.Faults.{SchemaFails, TypeDefinitionCollision, ObjectFieldNameCollision};
@@ -16,8 +16,8 @@ ghost use Rattle.graphql_thin.specs.FaultList.{field_faults, KeepsOn, FoldsOn, n
 use crate::definitions::{built_in_definitions, defined_name, fields_here, is_object};
 use crate::faults::{Details, DiagnosticList};
 use crate::schema::{Schema, SchemaType};
-use graphql_definitions::{Definition, Document};
 use graphql_names::{Name, Node};
+use graphql_read::{Definition, Document};
 use graphql_type_members::FieldDefinition;
 use indexmap::IndexMap;
 use std::alloc::{AllocError, Global};

@@ -5,13 +5,13 @@ ghost use Rattle.std.specs.Option.{option_map};
 ghost use Rattle.graphql_names.specs.NameSyntax.{IsName};
 ghost use Rattle.graphql_names.specs.Placed.{node_tree};
 ghost use Rattle.graphql_type_members.specs.TypeSystemTree.{field_definition_tree};
-ghost use Rattle.graphql_definitions.specs.DefinitionTree.{definition_tree};
+ghost use Rattle.graphql_read.specs.in_definitions.DefinitionTree.{definition_tree};
 ghost use Rattle.graphql_thin.specs.Fold.{built_in_scalar, built_in_definitions, defined_name, is_object, fields_here};
 
-use graphql_definitions::Definition;
 use graphql_directives::DirectiveList;
 use graphql_input_types::ScalarTypeDefinition;
 use graphql_names::{FileId, Name, Node, SourceSpan};
+use graphql_read::Definition;
 use graphql_type_members::FieldDefinition;
 use std::alloc::{AllocError, Global};
 

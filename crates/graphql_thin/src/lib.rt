@@ -22,6 +22,7 @@ mod unread;
 
 pub use builder::{Built, build};
 pub use faults::{Details, DiagnosticList};
+pub use graphql_read::parse_document;
 pub use reader::read;
 pub use schema::{Schema, SchemaType};
 pub use thin::{document_outside, schema_outside};

@@ -1,7 +1,7 @@
 //! One text, read: its tree, or the fault of an unread text.
 
 ghost use Rattle.std.specs.Prelude.{◌≡◌, ◌<◌, ℕ, length, IfOk, IfErr, OnOk};
-ghost use Rattle.graphql_definitions.specs.DefinitionTree.{document_tree};
+ghost use Rattle.graphql_read.specs.in_definitions.DefinitionTree.{document_tree};
 ghost use Rattle.graphql_read.specs.in_grammar.Faults as faults;
 ghost use Rattle.graphql_read.specs.ReadFaults.{fault_at, fault_view};
 ghost use Rattle.graphql_read.specs.declared.fault.ReadFault.TheVariants.{Nesting};
@@ -10,9 +10,8 @@ ghost use Rattle.graphql_thin.specs.Unread.{IsUnread, TellsUnread};
 
 use crate::faults::Details;
 use crate::unread::Unread;
-use graphql_definitions::Document;
 use graphql_names::{FileId, SourceSpan};
-use graphql_read::{ReadFault, SyntaxFault, parse_document};
+use graphql_read::{Document, ReadFault, SyntaxFault, parse_document};
 use std::alloc::Global;
 
 /// Reads a text with this file number, with at most `nesting` brackets open at once.

@@ -9,15 +9,15 @@ ghost use Rattle.graphql_operations.specs.OperationTree.{operation_tree};
 ghost use Rattle.graphql_type_members.specs.in_values.Writable.{has_selection};
 ghost use Rattle.graphql_type_members.specs.TypeSystemTree.{field_definition_tree};
 ghost use Rattle.graphql_composite_types.specs.CompositeTree.{object_parts};
-ghost use Rattle.graphql_definitions.specs.DefinitionTree.{definition_tree, document_tree};
+ghost use Rattle.graphql_read.specs.in_definitions.DefinitionTree.{definition_tree, document_tree};
 ghost use Rattle.graphql_thin.specs.Lists.{is_among};
 ghost use Rattle.graphql_thin.specs.Thin.{is_reserved, scalar_names, can_name_type, is_thin_type, is_plain_field, is_thin_field, are_thin_fields, is_plain_object, is_thin_object, is_thin_type_definition, is_plain_head, is_thin_selection, are_thin_selections, is_plain_query, is_thin_query, is_thin_operation, begin_of, schema_outside, first_begin, document_outside};
 
 use graphql_composite_types::ObjectTypeDefinition;
-use graphql_definitions::{Definition, Document};
 use graphql_literals::Type;
 use graphql_names::{Node, SourceSpan};
 use graphql_operations::{Field, OperationDefinition, Selection};
+use graphql_read::{Definition, Document};
 use graphql_type_members::FieldDefinition;
 
 /// Whether the name begins with two underscores (section 4.1).

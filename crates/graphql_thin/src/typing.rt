@@ -4,7 +4,7 @@ ghost use Rattle.std.specs.Prelude.{◌≡◌, ◌↔◌, ◌++◌, map, IfOk, O
 ghost use Rattle.std.specs.List.{flat_map};
 ghost use Rattle.graphql_names.specs.Node.{content, place};
 ghost use Rattle.graphql_operations.specs.SelectionTree.{selection_tree};
-ghost use Rattle.graphql_definitions.specs.DefinitionTree.{definition_tree, document_tree};
+ghost use Rattle.graphql_read.specs.in_definitions.DefinitionTree.{definition_tree, document_tree};
 ghost use Rattle.graphql_thin.specs.Faults.{DocumentFails};
 ghost use Rattle.graphql_thin.specs.FaultView.{faults_of};
 ghost use Rattle.graphql_thin.specs.SchemaView.{fields_of, types_of, IsSchemaOf};
@@ -12,9 +12,9 @@ ghost use Rattle.graphql_thin.specs.FaultList.{undefined_field, selection_faults
 
 use crate::faults::{Details, DiagnosticList};
 use crate::schema::{Schema, SchemaType};
-use graphql_definitions::{Definition, Document};
 use graphql_names::{Name, Node};
 use graphql_operations::{Field, Selection};
+use graphql_read::{Definition, Document};
 use std::alloc::{AllocError, Global};
 
 /// Tells each field of the document that the query root of the schema does not have, in order.

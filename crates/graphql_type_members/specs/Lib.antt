@@ -3,7 +3,5 @@ pub mod ArgumentQueries
 pub mod TypeSystemLayout
 pub mod PartsWritable
 pub use Rattle.graphql_values.specs.in_directives as in_directives
-pub use Rattle.graphql_values.specs.in_names as in_names
 pub use Rattle.graphql_values.specs.in_operations as in_operations
-pub use Rattle.graphql_values.specs.in_printing as in_printing
 pub use Rattle.graphql_values.specs as in_values

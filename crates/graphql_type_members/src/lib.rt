@@ -19,9 +19,8 @@ pub use copies::{clone_described, clone_description, clone_head};
 pub use enum_value::EnumValueDefinition;
 pub use field_definition::FieldDefinition;
 pub use graphql_values::{
-    DirectiveList, InputValueDefinition, Level, Name, NamedType, Node, NodeStr, OperationType,
-    Sink, Tree, directives_are_writable, input_values_are_writable, put_break, put_description,
-    put_directives, put_keyword, put_start,
+    DirectiveList, InputValueDefinition, Name, NamedType, Node, NodeStr, OperationType,
+    directives_are_writable, input_values_are_writable, put_directives, put_keyword,
 };
 pub use print_members::{put_field_set, put_input_set, put_value_set};
 pub use print_names::{put_head, put_names};

@@ -5,10 +5,10 @@ ghost use Rattle.graphql_directives.specs.DirectiveTree.{directives_tree};
 ghost use Rattle.graphql_typed_selections.specs.TypedTree.{typed_selection_tree};
 ghost use Rattle.graphql_typed_selections.specs.TypedParts.{typed_place, typed_directives, typed_field_node, typed_spread_node, typed_inline_node, as_typed_field, as_typed_spread, as_typed_inline};
 
+use graphql_definitions::FieldDefinition;
 use graphql_directives::{Argument, DirectiveList};
 use graphql_literals::NamedType;
 use graphql_names::{Name, Node, SourceSpan};
-use graphql_type_members::FieldDefinition;
 
 /// What a selection set holds (section 2.4).
 #[cycle(selection)]

@@ -2,7 +2,7 @@
 use Rattle.std.proofs.Common.{◌≡◌, ℕ, List, [], ◌∷◌, map, Option, None, Some, refl, ap}
 use Rattle.std.specs.Option.{option_map}
 use Rattle.graphql_names.specs.Placed.{node_tree}
-use Rattle.graphql_schema_types.specs.TypeView.{name_text}
+use Rattle.graphql_typed_operations.specs.in_schema_types.TypeView.{name_text}
 use Rattle.graphql_typed_operations.specs.TypedDocument.{typed_operation_tree, typed_fragment_tree, typed_document_tree}
 use Rattle.graphql_typed_operations.specs.declared.document.ExecutableDocument.{ExecutableDocument}
 use Rattle.graphql_typing.specs.DocumentView.{meant_by_operation, meant_by_fragment, meant_document}

@@ -4,11 +4,11 @@ use Rattle.std.specs.Option.{option_map, option_or}
 use Rattle.graphql_names.specs.Placed.{Place}
 use Rattle.graphql_type_members.specs.TypeSystemTree.{field_definition_tree, unplaced_field_definition}
 use Rattle.graphql_type_members.specs.declared.field_definition.FieldDefinition.{FieldDefinition}
-use Rattle.graphql_schema_types.specs.in_components.Given.{component_tree, plain_given}
-use Rattle.graphql_schema_types.specs.in_components.declared.component.Component.{Component}
-use Rattle.graphql_schema_types.specs.Addresses.{under}
-use Rattle.graphql_schema_types.specs.SchemaTree.{SchemaTree}
-use Rattle.graphql_schema_types.specs.Plain.{plain}
+use Rattle.graphql_document_faults.specs.in_components.Given.{component_tree, plain_given}
+use Rattle.graphql_document_faults.specs.in_components.declared.component.Component.{Component}
+use Rattle.graphql_typed_operations.specs.in_schema_types.Addresses.{under}
+use Rattle.graphql_typed_operations.specs.in_schema_types.SchemaTree.{SchemaTree}
+use Rattle.graphql_typed_operations.specs.in_schema_types.Plain.{plain}
 use Rattle.graphql_document_faults.specs.in_schema.LookUps.{meta_field_on, field_named, FieldIsMissing}
 use Rattle.graphql_document_faults.specs.in_schema.declared.field_lookup.FieldLookupError.{FieldLookupError}
 use Rattle.graphql_document_faults.specs.in_schema.declared.field_lookup.FieldLookupError.TheVariants.{NoSuchType, NoSuchField}

@@ -5,10 +5,10 @@ use Rattle.graphql_names.specs.NameValue.{NameValue}
 use Rattle.graphql_names.specs.Placed.{Place, Text, name_tree}
 use Rattle.graphql_operations.specs.declared.operation.OperationType.{OperationType}
 use Rattle.graphql_operations.specs.declared.operation.OperationType.TheVariants.{Query, Mutation, Subscription}
-use Rattle.graphql_schema_types.specs.in_components.Given.{Given, given_name}
-use Rattle.graphql_schema_types.specs.SchemaTree.{SchemaTree}
-use Rattle.graphql_schema_types.specs.Plain.{plain}
-use Rattle.graphql_schema_types.specs.Addresses.{root_at}
+use Rattle.graphql_document_faults.specs.in_components.Given.{Given, given_name}
+use Rattle.graphql_typed_operations.specs.in_schema_types.SchemaTree.{SchemaTree}
+use Rattle.graphql_typed_operations.specs.in_schema_types.Plain.{plain}
+use Rattle.graphql_typed_operations.specs.in_schema_types.Addresses.{root_at}
 use Rattle.graphql_typing.specs.Meanings.{meanings}
 
 name-given : (o : Option (Given Place (Text Place))) → option_map (λ (x : Text Place). x.it) (option_map (λ g. g.it) o) ≡ option_map given_name o

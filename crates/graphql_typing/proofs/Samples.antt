@@ -7,10 +7,10 @@ use Rattle.graphql_names.specs.Placed.{Text}
 use Rattle.graphql_literals.specs.TypeTree.{TypeTree}
 use Rattle.graphql_operations.specs.SelectionTree.{FieldHead, SelectionTree, FieldTree, InlineTree, SelectionTrees, no_selections, selection_then}
 use Rattle.graphql_operations.specs.declared.operation.OperationType.{OperationType}
-use Rattle.graphql_definitions.specs.DefinitionTree.{DefinitionTree, Operation, Fragment}
-use Rattle.graphql_schema_types.specs.in_components.Lists.{is_among}
-use Rattle.graphql_schema_types.specs.Looks.{Looks, TypeLooks}
-use Rattle.graphql_schema_types.specs.declared.type_kind.TypeKind.{TypeKind}
+use Rattle.graphql_typed_selections.specs.in_definitions.DefinitionTree.{DefinitionTree, Operation, Fragment}
+use Rattle.graphql_document_faults.specs.in_components.Lists.{is_among}
+use Rattle.graphql_typed_operations.specs.in_schema_types.Looks.{Looks, TypeLooks}
+use Rattle.graphql_typed_operations.specs.in_schema_types.declared.type_kind.TypeKind.{TypeKind}
 use Rattle.graphql_typing.specs.MeantTree.{MeantSelection, MeantField, MeantSpread, MeantInline}
 use Rattle.graphql_typing.specs.Meanings.{bare, plain_field, inner_type}
 

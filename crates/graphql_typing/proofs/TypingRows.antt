@@ -3,9 +3,9 @@ use Rattle.std.proofs.Common.{◌≡◌, ℕ, List, [], ◌∷◌, map, refl, co
 use Rattle.graphql_literals.specs.TypeTree.{NamedTree, ListTree}
 use Rattle.graphql_operations.specs.declared.operation.OperationType.TheVariants.{Query, Mutation}
 use Rattle.graphql_type_members.specs.TypeSystemTree.{unplaced_field_definition}
-use Rattle.graphql_definitions.specs.DefinitionTree.{DefinitionTree}
+use Rattle.graphql_typed_selections.specs.in_definitions.DefinitionTree.{DefinitionTree}
 use Rattle.graphql_document_faults.specs.in_schema.MetaFields.{typename_field}
-use Rattle.graphql_schema_types.specs.declared.type_kind.TypeKind.TheVariants as kind
+use Rattle.graphql_typed_operations.specs.in_schema_types.declared.type_kind.TypeKind.TheVariants as kind
 use Rattle.graphql_typing.specs.MeantTree.{MeantField, MeantInline, set_on}
 use Rattle.graphql_typing.specs.Meanings.{Meanings, meanings_in, meanings_without_schema, bare, plain_field}
 use Rattle.graphql_typing.specs.KeptSelections.{kept_all}

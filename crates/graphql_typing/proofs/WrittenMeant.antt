@@ -3,7 +3,7 @@ use Rattle.std.proofs.Common.{◌≡◌, ℕ, List, [], ◌∷◌, ◌++◌, map
 use Rattle.std.specs.Option.{option_map}
 use Rattle.graphql_names.specs.Placed.{Placed}
 use Rattle.graphql_operations.specs.SelectionTree.{FieldTree, InlineTree, selection_then}
-use Rattle.graphql_definitions.specs.DefinitionTree.{Operation, Fragment}
+use Rattle.graphql_typed_selections.specs.in_definitions.DefinitionTree.{Operation, Fragment}
 use Rattle.graphql_typed_selections.specs.TypedTree.{TypedSelection, TypedField, TypedSpread, TypedInline, TypedSet, typed_set, TypedSelections, no_typed, typed_then}
 use Rattle.graphql_typed_operations.specs.TypedDocument.{TypedOperation, TypedFragment, TypedDocumentTree}
 use Rattle.graphql_typed_operations.specs.ToAst.{ast_selection, ast_set, ast_selections, operation_with, fragment_with, ast_operation, ast_fragment, ast_document}

@@ -1,7 +1,7 @@
 -- What contracts see of a builder of documents, and when it refuses.
 use Rattle.std.specs.Prelude.{◌≡◌, Bool, true, false, List, map}
 use Rattle.graphql_names.specs.Placed.{Place}
-use Rattle.graphql_definitions.specs.DefinitionTree.{DefinitionTree, definition_tree}
+use Rattle.graphql_typed_selections.specs.in_definitions.DefinitionTree.{DefinitionTree, definition_tree}
 use Rattle.graphql_document_faults.specs.in_schema.SourcesView.{Sources, sources_view}
 use Rattle.graphql_typing.specs.Meanings.{Meanings}
 use Rattle.graphql_typing.specs.MeaningView.{meanings_under}

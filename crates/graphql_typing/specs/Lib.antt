@@ -15,4 +15,5 @@ pub mod DocumentView
 pub mod StepsView
 pub mod BuilderView
 pub use Rattle.graphql_document_faults.specs.in_schema as in_schema
+pub use Rattle.graphql_typed_operations.specs.in_schema_types as in_schema_types
 pub use Rattle.graphql_typed_operations.specs as in_typed_operations

@@ -4,7 +4,7 @@ use Rattle.std.specs.Borrow.{Bor}
 use Rattle.std.specs.Option.{option_map}
 use Rattle.std.specs.declared.alloc.Global.{Global}
 use Rattle.graphql_names.specs.Placed.{Place}
-use Rattle.graphql_schema_types.specs.Plain.{plain}
+use Rattle.graphql_typed_operations.specs.in_schema_types.Plain.{plain}
 use Rattle.graphql_document_faults.specs.in_schema.SchemaOf.{schema_tree}
 use Rattle.graphql_document_faults.specs.in_schema.declared.schema.Schema.{Schema}
 use Rattle.graphql_typed_selections.specs.TypedTree.{typed_selection_tree}

@@ -8,11 +8,11 @@ use Rattle.graphql_directives.specs.DirectiveTree.{InputValues}
 use Rattle.graphql_operations.specs.OperationQueries.{default_root_name}
 use Rattle.graphql_operations.specs.declared.operation.OperationType.{OperationType}
 use Rattle.graphql_operations.specs.declared.operation.OperationType.TheVariants.{Query, Mutation, Subscription}
-use Rattle.graphql_schema_types.specs.SchemaTree.{same_kind}
-use Rattle.graphql_schema_types.specs.Plain.{PlainSchema}
-use Rattle.graphql_schema_types.specs.Looks.{Looks, looks}
-use Rattle.graphql_schema_types.specs.declared.type_kind.TypeKind.{TypeKind}
-use Rattle.graphql_schema_types.specs.declared.type_kind.TypeKind.TheVariants as kind
+use Rattle.graphql_typed_operations.specs.in_schema_types.SchemaTree.{same_kind}
+use Rattle.graphql_typed_operations.specs.in_schema_types.Plain.{PlainSchema}
+use Rattle.graphql_typed_operations.specs.in_schema_types.Looks.{Looks, looks}
+use Rattle.graphql_typed_operations.specs.in_schema_types.declared.type_kind.TypeKind.{TypeKind}
+use Rattle.graphql_typed_operations.specs.in_schema_types.declared.type_kind.TypeKind.TheVariants as kind
 use Rattle.graphql_document_faults.specs.in_schema.FieldLooks.{field_named}
 use Rattle.graphql_typing.specs.MeantTree.{Definition}
 

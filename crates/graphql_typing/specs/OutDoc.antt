@@ -3,7 +3,7 @@ use Rattle.std.specs.Prelude.{Bool, true, false, not, List, ◌++◌, map, optio
 use Rattle.std.specs.List.{filter}
 use Rattle.graphql_operations.specs.OperationLayout.{is_none}
 use Rattle.graphql_operations.specs.SelectionTree.{SelectionTree, FieldTree, SpreadTree, InlineTree, SelectionTrees, no_selections, selection_then}
-use Rattle.graphql_definitions.specs.DefinitionTree.{DefinitionTree, Operation, Fragment}
+use Rattle.graphql_typed_selections.specs.in_definitions.DefinitionTree.{DefinitionTree, Operation, Fragment}
 use Rattle.graphql_typing.specs.MeantTree.{MeantSelection, MeantField, MeantSpread, MeantInline, MeantSet, meant_set, MeantSelections, no_meant, meant_then, MeantOperation, MeantFragment, MeantDocument}
 
 module _ {P : Type 0} where

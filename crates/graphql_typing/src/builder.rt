@@ -1,7 +1,7 @@
 //! The builder of documents.
 ghost use Rattle.std.specs.Prelude.{◌≡◌, ◌↔◌, ◌++◌, [], ◌∷◌, map, true, false, IfOk, IfErr, OnOk, Contains};
-ghost use Rattle.graphql_definitions.specs.DefinitionTree.{definition_tree, document_tree};
-ghost use Rattle.graphql_definitions.specs.Sources.{sources_of};
+ghost use Rattle.graphql_typed_selections.specs.in_definitions.DefinitionTree.{definition_tree, document_tree};
+ghost use Rattle.graphql_typed_selections.specs.in_definitions.Sources.{sources_of};
 ghost use Rattle.graphql_document_faults.specs.in_schema.SourcesView.{sources_view, with_sources};
 ghost use Rattle.graphql_typed_operations.specs.TypedDocument.{typed_document_tree};
 ghost use Rattle.graphql_typing.specs.KeptDocument.{kept_document};
@@ -17,8 +17,7 @@ ghost use Rattle.graphql_typing.specs.BuilderView.{builder_value, IsAddRefusal, 
 use crate::document::type_document;
 use crate::refusal::BuilderRefusal;
 use crate::sources::add_sources;
-use graphql_definitions::{Definition, Document, SourceFile};
-use graphql_document_faults::{BuildError, Schema};
+use graphql_document_faults::{BuildError, Definition, Document, Schema, SourceFile};
 use graphql_names::{FileId, SourceSpan};
 use graphql_typed_operations::ExecutableDocument;
 use indexmap::IndexMap;

@@ -5,7 +5,7 @@ ghost use Rattle.std.specs.Option.{option_map};
 ghost use Rattle.graphql_names.specs.Node.{content, place};
 ghost use Rattle.graphql_names.specs.Placed.{name_tree};
 ghost use Rattle.graphql_operations.specs.OperationTree.{operation_tree, fragment_tree};
-ghost use Rattle.graphql_definitions.specs.DefinitionTree.{definition_tree};
+ghost use Rattle.graphql_typed_selections.specs.in_definitions.DefinitionTree.{definition_tree};
 ghost use Rattle.graphql_typing.specs.KeptDocument.{meant_operation, meant_fragment};
 ghost use Rattle.graphql_typing.specs.SetFaults.{set_faults};
 ghost use Rattle.graphql_typing.specs.TypingFaults.{is_operation, At, OperationNameCollision};
@@ -22,8 +22,7 @@ use crate::definition_rules::{
 use crate::keep::{keep_fragment, keep_operation, set_on};
 use crate::look_ups::{has_type, root_of};
 use crate::selections::type_selections;
-use graphql_definitions::Definition;
-use graphql_document_faults::{BuildError, Schema};
+use graphql_document_faults::{BuildError, Definition, Schema};
 use graphql_names::{Name, Node, SourceSpan};
 use graphql_operations::{FragmentDefinition, OperationDefinition};
 use graphql_typed_operations::{Fragment, FragmentMap, Operation, OperationMap};

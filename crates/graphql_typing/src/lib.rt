@@ -23,7 +23,9 @@ pub use builder::ExecutableDocumentBuilder;
 pub use field_set::field_set_from_ast;
 pub use graphql_document_faults::{
     BuildError, ConflictingFieldArgument, ConflictingFieldName, ConflictingFieldType,
-    FieldLookupError, Schema,
+    DirectiveArgumentCoordinate, DirectiveCoordinate, ExtendedType, FieldArgumentCoordinate,
+    FieldLookupError, Schema, SchemaCoordinate, SchemaCoordinateLookup, SchemaCoordinateParseError,
+    SchemaLookupError, TypeAttributeCoordinate, TypeCoordinate,
 };
 pub use graphql_typed_operations::{
     ExecutableDocument, FieldSet, Fragment, FragmentMap, Operation, OperationMap, Operations,

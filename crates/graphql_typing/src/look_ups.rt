@@ -4,8 +4,8 @@ ghost use Rattle.std.specs.FinMap as fin;
 ghost use Rattle.std.specs.Option.{option_map};
 ghost use Rattle.graphql_names.specs.Node.{content};
 ghost use Rattle.graphql_type_members.specs.TypeSystemTree.{field_definition_tree, unplaced_field_definition};
-ghost use Rattle.graphql_schema_types.specs.Plain.{plain, plain_type};
-ghost use Rattle.graphql_schema_types.specs.TypeView.{extended_type};
+ghost use Rattle.graphql_typed_operations.specs.in_schema_types.Plain.{plain, plain_type};
+ghost use Rattle.graphql_typed_operations.specs.in_schema_types.TypeView.{extended_type};
 ghost use Rattle.graphql_document_faults.specs.in_schema.SchemaOf.{schema_tree};
 ghost use Rattle.graphql_operations.specs.OperationQueries.{default_root_name};
 ghost use Rattle.graphql_typing.specs.Meanings.{inner_type, unknown_definition, meanings};
@@ -13,11 +13,10 @@ ghost use Rattle.graphql_typing.specs.DefinedField.{definition_view};
 ghost use Rattle.graphql_typing.specs.MeaningView.{meanings_under};
 
 use graphql_directives::DirectiveList;
-use graphql_document_faults::Schema;
+use graphql_document_faults::{ExtendedType, Schema};
 use graphql_literals::Type;
 use graphql_names::{Name, Node};
 use graphql_operations::OperationType;
-use graphql_schema_types::ExtendedType;
 use graphql_type_members::FieldDefinition;
 use std::alloc::{AllocError, Global};
 

@@ -1,10 +1,10 @@
 //! The sources of several documents.
 ghost use Rattle.std.specs.Prelude.{◌≡◌, nat_eq, OnOk};
-ghost use Rattle.graphql_definitions.specs.Sources.{source_of};
+ghost use Rattle.graphql_typed_selections.specs.in_definitions.Sources.{source_of};
 ghost use Rattle.indexmap.specs.IndexMap.{insert_entry};
 ghost use Rattle.graphql_document_faults.specs.in_schema.SourcesView.{sources_view, with_sources};
 
-use graphql_definitions::SourceFile;
+use graphql_document_faults::SourceFile;
 use graphql_names::FileId;
 use indexmap::IndexMap;
 use std::alloc::AllocError;

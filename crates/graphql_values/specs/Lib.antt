@@ -10,13 +10,13 @@ pub use Rattle.graphql_operations.specs.in_printing.EscapeRuns
 pub use Rattle.graphql_operations.specs.in_printing.LineLayout
 pub use Rattle.graphql_operations.specs.in_printing.StringLayout
 pub use Rattle.graphql_operations.specs.in_printing.Serialized
-pub use Rattle.graphql_operations.specs.in_literals.NumberSyntax
-pub use Rattle.graphql_operations.specs.in_literals.NumberValue
-pub use Rattle.graphql_operations.specs.in_literals.TypeTree
-pub use Rattle.graphql_operations.specs.in_literals.ValueTree
-pub use Rattle.graphql_operations.specs.in_literals.TypeQueries
-pub use Rattle.graphql_operations.specs.in_literals.ValueQueries
-pub use Rattle.graphql_operations.specs.in_literals.ValueWritable
+pub use Rattle.graphql_literals.specs.NumberSyntax
+pub use Rattle.graphql_literals.specs.NumberValue
+pub use Rattle.graphql_literals.specs.TypeTree
+pub use Rattle.graphql_literals.specs.ValueTree
+pub use Rattle.graphql_literals.specs.TypeQueries
+pub use Rattle.graphql_literals.specs.ValueQueries
+pub use Rattle.graphql_literals.specs.ValueWritable
 pub use Rattle.graphql_operations.specs.in_directives.DirectiveTree
 pub use Rattle.graphql_operations.specs.in_directives.DirectiveQueries
 pub use Rattle.graphql_operations.specs.in_directives.DirectiveNodes
@@ -31,7 +31,6 @@ pub use Rattle.graphql_operations.specs.OperationTree
 pub use Rattle.graphql_operations.specs.OperationLayout
 pub use Rattle.graphql_operations.specs.OperationWritable
 pub use Rattle.graphql_operations.specs.in_directives as in_directives
-pub use Rattle.graphql_operations.specs.in_literals as in_literals
+pub use Rattle.graphql_literals.specs as in_literals
 pub use Rattle.graphql_names.specs as in_names
 pub use Rattle.graphql_operations.specs as in_operations
-pub use Rattle.graphql_operations.specs.in_printing as in_printing

@@ -3,19 +3,20 @@
 ghost use Rattle.std.specs.Prelude.{◌≡◌, ◌↔◌, IsTrue, IfOk, None, Some, if◌then◌else◌, filter, is_some, slice_get, slice_set};
 ghost use Rattle.graphql_operations.specs.in_directives.DirectiveNodes.{node_has_name};
 ghost use Rattle.graphql_operations.specs.in_directives.NamedNodes.{nth_place};
-ghost use Rattle.graphql_operations.specs.in_literals.TypeTree.{type_tree, unplaced_type};
-ghost use Rattle.graphql_operations.specs.in_literals.TypeQueries.{AreTypesCompatible};
-ghost use Rattle.graphql_operations.specs.in_literals.ValueTree.{value_tree, unplaced_value};
+ghost use Rattle.graphql_literals.specs.TypeTree.{type_tree, unplaced_type};
+ghost use Rattle.graphql_literals.specs.TypeQueries.{AreTypesCompatible};
+ghost use Rattle.graphql_literals.specs.ValueTree.{value_tree, unplaced_value};
 ghost use Rattle.graphql_operations.specs.in_directives.DirectiveTree.{argument_tree, directive_tree, directives_tree, input_value_tree, directive_definition_tree, unplaced_argument, unplaced_directive, unplaced_directives, unplaced_input_value, unplaced_directive_definition};
 ghost use Rattle.graphql_operations.specs.SelectionTree.{selection_tree, unplaced_selection};
 ghost use Rattle.graphql_operations.specs.SelectionParts.{field_tree, spread_tree, inline_tree};
 ghost use Rattle.graphql_operations.specs.OperationTree.{variable_definition_tree, operation_tree, fragment_tree, unplaced_variable_definition, unplaced_operation, unplaced_fragment};
 
+use graphql_literals::{IntValue, Type, Value};
 use graphql_names::Node;
 use graphql_operations::{
     Argument, Directive, DirectiveDefinition, DirectiveList, Field, FragmentDefinition,
-    FragmentSpread, InlineFragment, InputValueDefinition, IntValue, OperationDefinition, Selection,
-    Type, Value, VariableDefinition, get_named_mut,
+    FragmentSpread, InlineFragment, InputValueDefinition, OperationDefinition, Selection,
+    VariableDefinition, get_named_mut,
 };
 use std::alloc::{AllocError, Global};
 

@@ -14,13 +14,14 @@
 pub mod laws;
 mod ty_macro;
 
+pub use graphql_literals::{FloatValue, IntValue, NamedType, Type, Value, can_be_enum, put_type};
 pub use graphql_names::{FileId, Name, Node, NodeStr, SourceSpan};
 pub use graphql_operations::{
     Argument, ArgumentByNameError, Cause, Directive, DirectiveDefinition, DirectiveList,
-    DirectiveLocation, Field, FloatValue, FragmentDefinition, FragmentSpread, InlineFragment,
-    InputValueDefinition, IntValue, Level, Named, NamedDirectives, NamedType, OperationDefinition,
-    OperationType, Selection, Serialize, Sink, Tree, Type, Value, VariableDefinition, WriteFault,
-    begins_output, can_be_enum, directives_are_writable, get_named_mut, input_values_are_writable,
-    put_argument_definitions, put_break, put_description, put_directive_definition, put_directives,
-    put_fragment, put_input_members, put_keyword, put_operation, put_start, put_type,
+    DirectiveLocation, Field, FragmentDefinition, FragmentSpread, InlineFragment,
+    InputValueDefinition, Level, Named, NamedDirectives, OperationDefinition, OperationType,
+    Selection, Serialize, Sink, Tree, VariableDefinition, WriteFault, begins_output,
+    directives_are_writable, get_named_mut, input_values_are_writable, put_argument_definitions,
+    put_break, put_description, put_directive_definition, put_directives, put_fragment,
+    put_input_members, put_keyword, put_operation, put_start,
 };

@@ -1,6 +1,6 @@
 use Rattle.std.proofs.Common.{◌≡◌, map, take}
 use Rattle.graphql_names.specs.Placed.{node_tree}
-use Rattle.graphql_type_members.specs.TypeSystemTree.{field_definition_tree}
+use Rattle.graphql_folding.specs.in_type_members.TypeSystemTree.{field_definition_tree}
 use Rattle.graphql_built_in.specs.Rows.{row_field}
 use Rattle.graphql_built_in.proofs.members.fields_of.Given as goal
 

@@ -1,6 +1,6 @@
 use Rattle.std.proofs.Common.{◌≡◌, map, take}
 use Rattle.graphql_names.specs.Placed.{node_tree}
-use Rattle.graphql_type_members.specs.TypeSystemTree.{enum_value_tree}
+use Rattle.graphql_folding.specs.in_type_members.TypeSystemTree.{enum_value_tree}
 use Rattle.graphql_folding.specs.BuiltIn.{value}
 use Rattle.graphql_built_in.proofs.members.values_of.Given as goal
 

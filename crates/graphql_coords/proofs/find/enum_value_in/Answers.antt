@@ -3,8 +3,8 @@ use Rattle.graphql_coords.specs.LookUpView.{answer}
 use Rattle.graphql_coords.specs.declared.lookup_answers.SchemaLookupError.TheVariants as error
 use Rattle.graphql_schema.proofs.Lookups.{got}
 use Rattle.graphql_coords.proofs.Answering.{answer_ok_or}
-use Rattle.graphql_type_members.specs.TypeSystemTree.{enum_value_tree}
-use Rattle.graphql_type_members.specs.declared.enum_value.EnumValueDefinition.{EnumValueDefinition}
+use Rattle.graphql_schema.specs.in_type_members.TypeSystemTree.{enum_value_tree}
+use Rattle.graphql_schema.specs.in_type_members.declared.enum_value.EnumValueDefinition.{EnumValueDefinition}
 use Rattle.graphql_components.specs.Names.{entries_of}
 use Rattle.graphql_components.specs.Given.{component_tree}
 use Rattle.graphql_components.specs.declared.component.Component.{Component}

@@ -2,9 +2,9 @@ use Rattle.std.proofs.Common.{map, take, codes}
 use Rattle.std.specs.Option.{option_copied}
 use Rattle.graphql_names.specs.Placed.{node_tree}
 use Rattle.graphql_directives.specs.DirectiveTree.{input_value_tree}
-use Rattle.graphql_literals.specs.in_printing.Joined.{further_text}
-use Rattle.graphql_literals.specs.in_printing.Levels.{level_depth}
-use Rattle.graphql_literals.specs.in_printing.LineLayout.{texts_of}
+use Rattle.graphql_printing.specs.Joined.{further_text}
+use Rattle.graphql_printing.specs.Levels.{level_depth}
+use Rattle.graphql_printing.specs.LineLayout.{texts_of}
 use Rattle.graphql_directives.specs.InputLayout.{input_value_text}
 use Rattle.graphql_directives.proofs.print_input.put_further_inputs.Given as goal
 

@@ -1,5 +1,5 @@
 use Rattle.std.proofs.Common.{map, take, codes}
-use Rattle.graphql_literals.specs.in_printing.Joined.{further_text}
+use Rattle.graphql_printing.specs.Joined.{further_text}
 use Rattle.graphql_directives.specs.DirectivePlaces.{location_keyword}
 use Rattle.graphql_directives.proofs.print_input.put_further_locations.Given as goal
 

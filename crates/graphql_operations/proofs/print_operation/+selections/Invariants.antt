@@ -1,8 +1,8 @@
 use Rattle.std.proofs.Common.{map, take}
 use Rattle.std.specs.Option.{option_copied}
 use Rattle.graphql_operations.specs.SelectionTree.{selection_tree}
-use Rattle.graphql_directives.specs.in_printing.Levels.{level_depth}
-use Rattle.graphql_directives.specs.in_printing.LineLayout.{members_text}
+use Rattle.graphql_printing.specs.Levels.{level_depth}
+use Rattle.graphql_printing.specs.LineLayout.{members_text}
 use Rattle.graphql_operations.specs.OperationLayout.{selection_text}
 use Rattle.graphql_operations.proofs.print_operation.+selections.Given as goal
 

@@ -1,7 +1,7 @@
 use Rattle.std.proofs.Common.{arith, rules, ◌<◌, length}
 use Rattle.std.proofs.lemmas.Grind.{common_steps}
 use Rattle.std.specs.Option.{option_copied}
-use Rattle.graphql_directives.specs.in_printing.Levels.{level_depth}
+use Rattle.graphql_printing.specs.Levels.{level_depth}
 use Rattle.graphql_operations.proofs.PrintedSelections.{braced-some}
 use Rattle.graphql_operations.proofs.print_operation.put_braced.Goals as goal
 

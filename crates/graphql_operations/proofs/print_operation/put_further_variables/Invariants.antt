@@ -1,8 +1,8 @@
 use Rattle.std.proofs.Common.{map, take, codes}
 use Rattle.graphql_names.specs.Placed.{node_tree}
 use Rattle.graphql_operations.specs.OperationTree.{variable_definition_tree}
-use Rattle.graphql_directives.specs.in_printing.Joined.{further_text}
-use Rattle.graphql_directives.specs.in_printing.LineLayout.{texts_of}
+use Rattle.graphql_printing.specs.Joined.{further_text}
+use Rattle.graphql_printing.specs.LineLayout.{texts_of}
 use Rattle.graphql_operations.specs.OperationLayout.{variable_text}
 use Rattle.graphql_operations.proofs.print_operation.put_further_variables.Given as goal
 

@@ -3,7 +3,7 @@ use Rattle.std.proofs.lemmas.Result.{err_from_is_err_and}
 use Rattle.std.specs.Prelude.{map}
 use Rattle.graphql_names.specs.declared.span.FileId.{FileId}
 use Rattle.graphql_names.specs.Placed.{node_tree}
-use Rattle.graphql_type_members.specs.TypeSystemTree.{enum_value_tree}
+use Rattle.graphql_parse_values.specs.in_type_members.TypeSystemTree.{enum_value_tree}
 use Rattle.graphql_lexer.specs.Input.{next}
 use Rattle.graphql_grammar.specs.Begins as begins
 use Rattle.graphql_grammar.specs.Kinds.{next_is}

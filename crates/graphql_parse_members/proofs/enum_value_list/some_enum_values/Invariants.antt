@@ -1,7 +1,7 @@
 use Rattle.std.proofs.Common.{◌≡◌, length}
 use Rattle.std.specs.Prelude.{map}
 use Rattle.graphql_names.specs.Placed.{node_tree}
-use Rattle.graphql_type_members.specs.TypeSystemTree.{enum_value_tree}
+use Rattle.graphql_parse_values.specs.in_type_members.TypeSystemTree.{enum_value_tree}
 use Rattle.graphql_grammar.specs.Begins as begins
 use Rattle.graphql_grammar.specs.Reading as read
 use Rattle.graphql_grammar.specs.TypeSystemReading as reading

@@ -1,7 +1,7 @@
 use Rattle.std.proofs.Common.{sym, ap, ◌∙◌}
-use Rattle.graphql_type_members.specs.TypeSystemTree.{field_definition_tree}
-use Rattle.graphql_components.specs.Names.{entries_of}
-use Rattle.graphql_components.specs.Given.{component_tree}
+use Rattle.graphql_schema_writing.specs.in_type_members.TypeSystemTree.{field_definition_tree}
+use Rattle.graphql_schema_writing.specs.in_components.Names.{entries_of}
+use Rattle.graphql_schema_writing.specs.in_components.Given.{component_tree}
 use Rattle.graphql_schema_building.specs.in_schema_types.TypeView.{name_text, extended_type}
 use Rattle.graphql_schema_building.specs.in_schema_types.Addresses.{under}
 use Rattle.graphql_schema_building.specs.in_schema_types.declared.kinds.ObjectType.{ObjectType}

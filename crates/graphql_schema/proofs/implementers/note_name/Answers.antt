@@ -3,8 +3,8 @@ use Rattle.std.specs.Option.{option_copied_mut}
 use Rattle.std.proofs.lemmas.Result.{IfOk-weaker}
 use Rattle.indexmap.specs.IndexMap.{get}
 use Rattle.graphql_names.specs.NameValue.{NameValue}
-use Rattle.graphql_components.specs.Names.{same_text}
-use Rattle.graphql_components.specs.Given.{component_name_tree}
+use Rattle.graphql_schema_writing.specs.in_components.Names.{same_text}
+use Rattle.graphql_schema_writing.specs.in_components.Given.{component_name_tree}
 use Rattle.graphql_schema_building.specs.in_schema_types.TypeView.{name_text}
 use Rattle.graphql_schema.specs.Noting.{and_type, naming}
 use Rattle.graphql_schema.proofs.Implementing.{noted}

@@ -1,5 +1,5 @@
 use Rattle.std.proofs.Common.{◌≡◌, drop, map}
-use Rattle.graphql_components.specs.Lists.{is_among}
+use Rattle.graphql_schema_folding.specs.in_components.Lists.{is_among}
 use Rattle.graphql_schema_building.proofs.built_in_types.is_among.Given as goal
 
 abbrev pub invariant-loop-other : goal.invariant-loop-other

@@ -1,5 +1,5 @@
 use Rattle.std.proofs.Common.{sym, ap, ◌∙◌}
-use Rattle.graphql_components.specs.Lists.{is_among}
+use Rattle.graphql_schema_folding.specs.in_components.Lists.{is_among}
 use Rattle.graphql_built_in.specs.Table.{built_in_definitions}
 use Rattle.graphql_schema_building.proofs.Awaited.{some_named}
 use Rattle.graphql_schema_building.proofs.Schemas.{built_in_names}

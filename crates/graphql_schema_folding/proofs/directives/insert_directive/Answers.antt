@@ -3,7 +3,7 @@ use Rattle.std.proofs.lemmas.List.{map-append}
 use Rattle.indexmap.specs.IndexMap.{insert_entry}
 use Rattle.indexmap.proofs.CallerLemmas.{insert_entry-new}
 use Rattle.graphql_directives.specs.DirectiveTree.{directive_definition_tree}
-use Rattle.graphql_components.specs.Names.{same_text}
+use Rattle.graphql_folding.specs.in_components.Names.{same_text}
 use Rattle.graphql_folding.specs.in_schema_types.TypeView.{name_text}
 use Rattle.graphql_schema_folding.proofs.Choosing.{entry_view}
 use Rattle.graphql_schema_folding.proofs.directives.insert_directive.Goals as goal

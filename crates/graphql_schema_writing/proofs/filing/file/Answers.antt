@@ -2,8 +2,8 @@ use Rattle.std.proofs.Common.{◌∷◌, [], ◌++◌, refl, sym, ap, ◌∙◌,
 use Rattle.std.specs.Option.{option_copied_mut}
 use Rattle.indexmap.specs.IndexMap.{insert_entry}
 use Rattle.indexmap.proofs.CallerLemmas.{insert_entry-new}
-use Rattle.graphql_components.specs.Given.{origin_tree}
-use Rattle.graphql_components.specs.contracts.component.ComponentOriginPartialEq.TheImpl as origin
+use Rattle.graphql_schema_types.specs.in_components.Given.{origin_tree}
+use Rattle.graphql_schema_types.specs.in_components.contracts.component.ComponentOriginPartialEq.TheImpl as origin
 use Rattle.graphql_schema_types.specs.Out.{same_giver}
 use Rattle.graphql_schema_writing.specs.Filed.{filed_under}
 use Rattle.graphql_schema_writing.proofs.Givers.{filed_new, filed_more, origins_say}

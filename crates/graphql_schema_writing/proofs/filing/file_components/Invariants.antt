@@ -1,6 +1,6 @@
 use Rattle.std.proofs.Common.{◌≡◌, map, take, Option}
 use Rattle.graphql_names.specs.Placed.{Place}
-use Rattle.graphql_components.specs.Given.{ExtensionTree}
+use Rattle.graphql_schema_types.specs.in_components.Given.{ExtensionTree}
 use Rattle.graphql_schema_types.specs.Out.{given_by}
 use Rattle.graphql_schema_writing.specs.Filed.{filed_under, given_contents, lent_node}
 use Rattle.graphql_schema_writing.proofs.filing.file_components.Given as goal

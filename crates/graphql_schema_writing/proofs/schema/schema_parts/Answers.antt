@@ -1,5 +1,5 @@
 use Rattle.graphql_directives.specs.DirectiveTree.{directive_tree}
-use Rattle.graphql_components.specs.Given.{origin_tree}
+use Rattle.graphql_schema_types.specs.in_components.Given.{origin_tree}
 use Rattle.graphql_schema_writing.specs.Filed.{filed_under}
 use Rattle.graphql_schema_writing.proofs.Growing.{shared_grown}
 use Rattle.graphql_schema_writing.proofs.schema.schema_parts.Goals as goal

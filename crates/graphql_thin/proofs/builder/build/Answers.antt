@@ -1,5 +1,5 @@
 use Rattle.std.proofs.Common.{[], ◌++◌, map, ap, ◌∙◌}
-use Rattle.graphql_definitions.specs.DefinitionTree.{document_tree}
+use Rattle.graphql_read.specs.in_definitions.DefinitionTree.{document_tree}
 use Rattle.graphql_thin.specs.Lists.{each_place}
 use Rattle.graphql_thin.specs.Fold.{built_in_definitions, fold}
 use Rattle.graphql_thin.specs.FaultView.{faults_of}

@@ -1,5 +1,5 @@
 use Rattle.std.proofs.Common.{◌<◌, length, sym, arith}
-use Rattle.graphql_definitions.specs.DefinitionTree.{definition_tree}
+use Rattle.graphql_read.specs.in_definitions.DefinitionTree.{definition_tree}
 use Rattle.graphql_thin.specs.FaultView.{faults_of}
 use Rattle.graphql_thin.proofs.FoldSteps.{folds_nothing, folds_more}
 use Rattle.graphql_thin.proofs.builder.fold_definitions.Goals as goal

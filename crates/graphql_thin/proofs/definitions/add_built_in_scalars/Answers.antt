@@ -1,7 +1,7 @@
 use Rattle.std.proofs.Common.{List, [], ◌∷◌, ◌++◌, codes, map, ap, ◌∙◌}
 use Rattle.graphql_names.specs.Placed.{Place}
 use Rattle.graphql_read.proofs.in_lexer.LineSteps.{on_ok_then}
-use Rattle.graphql_definitions.specs.DefinitionTree.{DefinitionTree, definition_tree}
+use Rattle.graphql_read.specs.in_definitions.DefinitionTree.{DefinitionTree, definition_tree}
 use Rattle.graphql_thin.specs.Fold.{built_in_scalar}
 use Rattle.graphql_thin.proofs.Appended.{five_appended}
 use Rattle.graphql_thin.proofs.definitions.add_built_in_scalars.Goals as goal

@@ -3,7 +3,7 @@ use Rattle.std.specs.Option.{option_map}
 use Rattle.std.specs.Coded.{le_prop}
 use Rattle.graphql_names.specs.Placed.{Place, node_tree, text_tree}
 use Rattle.graphql_directives.specs.DirectiveTree.{directive_tree}
-use Rattle.graphql_definitions.specs.DefinitionTree.{ScalarType, scalar_parts}
+use Rattle.graphql_read.specs.in_definitions.DefinitionTree.{ScalarType, scalar_parts}
 use Rattle.graphql_names.specs.declared.span.SourceSpan.{SourceSpan}
 use Rattle.graphql_thin.proofs.definitions.built_in_scalar.Goals as goal
 

@@ -1,5 +1,5 @@
 use Rattle.std.proofs.Common.{◌≡◌, ℕ, subst}
-use Rattle.graphql_definitions.specs.DefinitionTree.{document_tree}
+use Rattle.graphql_read.specs.in_definitions.DefinitionTree.{document_tree}
 use Rattle.graphql_read.specs.Reads.{IsDue}
 use Rattle.graphql_read.specs.ReadFaults.{fault_view}
 use Rattle.graphql_read.specs.declared.fault.ReadFault.{ReadFault}

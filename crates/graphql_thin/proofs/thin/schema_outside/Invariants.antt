@@ -1,5 +1,5 @@
 use Rattle.std.proofs.Common.{◌≡◌, map, drop}
-use Rattle.graphql_definitions.specs.DefinitionTree.{definition_tree, document_tree}
+use Rattle.graphql_read.specs.in_definitions.DefinitionTree.{definition_tree, document_tree}
 use Rattle.graphql_thin.specs.Thin.{schema_outside}
 use Rattle.graphql_thin.proofs.thin.schema_outside.Given as goal
 

@@ -3,7 +3,7 @@ use Rattle.std.specs.List.{flat_map}
 use Rattle.std.proofs.lemmas.Result.{IfOk-equal}
 use Rattle.graphql_names.specs.Node.{content}
 use Rattle.graphql_operations.specs.SelectionTree.{selection_tree}
-use Rattle.graphql_definitions.specs.DefinitionTree.{definition_tree}
+use Rattle.graphql_read.specs.in_definitions.DefinitionTree.{definition_tree}
 use Rattle.graphql_thin.specs.FaultView.{faults_of}
 use Rattle.graphql_thin.specs.SchemaView.{fields_of}
 use Rattle.graphql_thin.specs.FaultList.{selection_faults, operation_faults}

@@ -1,6 +1,6 @@
 use Rattle.std.proofs.Common.{◌≡◌, ◌++◌, map, take}
 use Rattle.std.specs.List.{flat_map}
-use Rattle.graphql_definitions.specs.DefinitionTree.{definition_tree}
+use Rattle.graphql_read.specs.in_definitions.DefinitionTree.{definition_tree}
 use Rattle.graphql_thin.specs.FaultView.{faults_of}
 use Rattle.graphql_thin.specs.SchemaView.{fields_of}
 use Rattle.graphql_thin.specs.FaultList.{operation_faults}

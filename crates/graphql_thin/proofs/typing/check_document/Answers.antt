@@ -1,7 +1,7 @@
 use Rattle.std.proofs.Common.{[], ◌++◌, map, ap, ◌∙◌}
 use Rattle.std.specs.Option.{option_map_or}
 use Rattle.std.specs.List.{flat_map}
-use Rattle.graphql_definitions.specs.DefinitionTree.{definition_tree, document_tree}
+use Rattle.graphql_read.specs.in_definitions.DefinitionTree.{definition_tree, document_tree}
 use Rattle.graphql_thin.specs.FaultView.{faults_of}
 use Rattle.graphql_thin.specs.SchemaView.{fields_of, types_of}
 use Rattle.graphql_thin.specs.FaultList.{operation_faults}

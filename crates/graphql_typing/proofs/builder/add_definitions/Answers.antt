@@ -1,6 +1,6 @@
 use Rattle.std.proofs.Common.{◌<◌, [], ◌∷◌, ◌++◌, map, take, length, arith, sym, ap, ◌∙◌}
 use Rattle.std.proofs.lemmas.List.{append_assoc}
-use Rattle.graphql_definitions.specs.DefinitionTree.{definition_tree}
+use Rattle.graphql_typed_selections.specs.in_definitions.DefinitionTree.{definition_tree}
 use Rattle.graphql_document_faults.proofs.in_schema.in_schema_building.Growing.{front}
 use Rattle.graphql_typing.proofs.builder.add_definitions.Goals as goal
 

@@ -1,5 +1,5 @@
 use Rattle.std.proofs.Common.{◌≡◌, ◌++◌, map, take}
-use Rattle.graphql_definitions.specs.DefinitionTree.{definition_tree}
+use Rattle.graphql_typed_selections.specs.in_definitions.DefinitionTree.{definition_tree}
 use Rattle.graphql_typing.proofs.builder.add_definitions.Given as goal
 
 abbrev pub invariant-loop-definition : goal.invariant-loop-definition

@@ -1,6 +1,6 @@
 use Rattle.std.proofs.Common.{◌≡◌, ◌+◌, length, map, drop, if◌then◌else◌}
 use Rattle.std.specs.List.{filter}
-use Rattle.graphql_definitions.specs.DefinitionTree.{definition_tree}
+use Rattle.graphql_typed_selections.specs.in_definitions.DefinitionTree.{definition_tree}
 use Rattle.graphql_typing.specs.TypingFaults.{is_operation}
 use Rattle.graphql_typing.proofs.document.has_two_operations.Given as goal
 

@@ -1,6 +1,6 @@
 use Rattle.std.proofs.Common.{◌≡◌, map, drop}
 use Rattle.std.specs.Prelude.{fold}
-use Rattle.graphql_definitions.specs.DefinitionTree.{definition_tree}
+use Rattle.graphql_typed_selections.specs.in_definitions.DefinitionTree.{definition_tree}
 use Rattle.graphql_typing.specs.MeaningView.{meanings_under}
 use Rattle.graphql_typing.specs.Steps.{and_definition, typed_in}
 use Rattle.graphql_typing.specs.StepsView.{typed_view}

@@ -1,8 +1,8 @@
 use Rattle.std.proofs.Common.{◌≡◌, Option, None, Some, refl, sym, ap, ◌∙◌, Bor}
 use Rattle.std.specs.Option.{option_map, option_copied}
-use Rattle.graphql_schema_types.proofs.in_components.NamedLookups.{get-named}
-use Rattle.graphql_schema_types.specs.Plain.{plain_type}
-use Rattle.graphql_schema_types.specs.TypeView.{extended_type, name_text}
+use Rattle.graphql_document_faults.proofs.in_components.NamedLookups.{get-named}
+use Rattle.graphql_typed_operations.specs.in_schema_types.Plain.{plain_type}
+use Rattle.graphql_typed_operations.specs.in_schema_types.TypeView.{extended_type, name_text}
 use Rattle.graphql_typing.proofs.look_ups.type_named.Goals as goal
 
 copied : {X A : Type 0} (f : X → A) (r : Option (Bor X)) → option_map (λ x. f x.now) r ≡ option_map f (option_copied r)

@@ -1,5 +1,5 @@
 use Rattle.std.proofs.Common.{◌≡◌, map, length}
-use Rattle.graphql_definitions.specs.Sources.{numbered_source}
+use Rattle.graphql_typed_selections.specs.in_definitions.Sources.{numbered_source}
 use Rattle.graphql_document_faults.specs.in_schema.SourcesView.{sources_view, with_sources}
 use Rattle.graphql_typing.proofs.sources.add_sources.Given as goal
 

@@ -1,5 +1,5 @@
 use Rattle.std.proofs.Common.{map}
-use Rattle.graphql_type_members.specs.in_names.Placed.{name_tree}
+use Rattle.graphql_printing.specs.in_names.Placed.{name_tree}
 use Rattle.graphql_type_members.proofs.in_values.Trees.{equal-copies}
 use Rattle.graphql_composite_types.proofs.union_type.UnionTypeDefinitionClone.clone.Goals as goal
 

@@ -3,10 +3,10 @@ use Rattle.std.specs.Prelude.{option_and_then}
 use Rattle.std.specs.Option.{option_map, option_or}
 use Rattle.graphql_names.specs.NameValue.{NameValue}
 use Rattle.graphql_names.specs.Placed.{Place}
-use Rattle.graphql_type_members.specs.TypeSystemTree.{field_definition_tree}
-use Rattle.graphql_type_members.specs.declared.field_definition.FieldDefinition.{FieldDefinition}
-use Rattle.graphql_components.specs.Given.{component_tree}
-use Rattle.graphql_components.specs.declared.component.Component.{Component}
+use Rattle.graphql_schema_writing.specs.in_type_members.TypeSystemTree.{field_definition_tree}
+use Rattle.graphql_schema_writing.specs.in_type_members.declared.field_definition.FieldDefinition.{FieldDefinition}
+use Rattle.graphql_schema_writing.specs.in_components.Given.{component_tree}
+use Rattle.graphql_schema_writing.specs.in_components.declared.component.Component.{Component}
 use Rattle.graphql_schema_building.specs.in_schema_types.SchemaTree.{SchemaType, SchemaTree}
 use Rattle.graphql_schema_building.specs.in_schema_types.Addresses.{under, type_at}
 use Rattle.graphql_schema_building.specs.in_schema_types.TypeView.{extended_type}

@@ -2,7 +2,7 @@ use Rattle.std.proofs.Common.{◌≡◌, false, [], ◌∷◌, map, is_some, sym
 use Rattle.std.proofs.lemmas.List.{map-append}
 use Rattle.indexmap.specs.IndexMap.{get, insert_entry}
 use Rattle.indexmap.proofs.CallerLemmas.{insert_entry-new}
-use Rattle.graphql_components.specs.Names.{same_text}
+use Rattle.graphql_folding.specs.in_components.Names.{same_text}
 use Rattle.graphql_folding.specs.in_schema_types.TypeView.{name_text}
 use Rattle.graphql_schema_folding.proofs.Seeing.{kind_entry, type_seen, type_new, is_absent}
 use Rattle.graphql_schema_folding.proofs.seen.Seen.add_type.Goals as goal

@@ -1,5 +1,5 @@
 use Rattle.std.proofs.lemmas.Result.{IfOk-weaker}
-use Rattle.graphql_components.specs.Given.{origin_tree}
+use Rattle.graphql_schema_types.specs.in_components.Given.{origin_tree}
 use Rattle.graphql_schema_writing.proofs.Growing.{all_given}
 use Rattle.graphql_schema_writing.proofs.parts.Parts.take_given.Goals as goal
 

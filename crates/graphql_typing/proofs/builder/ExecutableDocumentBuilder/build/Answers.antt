@@ -1,13 +1,13 @@
 use Rattle.std.proofs.Common.{◌≡◌, ◌↔◌, [], map, ap, sym, subst, ◌∙◌, Contains}
 use Rattle.graphql_names.specs.Placed.{Place}
-use Rattle.graphql_definitions.specs.DefinitionTree.{definition_tree}
+use Rattle.graphql_typed_selections.specs.in_definitions.DefinitionTree.{definition_tree}
 use Rattle.graphql_typed_operations.specs.declared.document.ExecutableDocument.{ExecutableDocument}
 use Rattle.graphql_typing.specs.MeaningView.{meanings_under}
 use Rattle.graphql_typing.specs.TypingFaults.{TypingFails}
 use Rattle.graphql_typing.specs.FaultView.{faults_of}
 use Rattle.graphql_typing.specs.Steps.{Typed, typed_in}
 use Rattle.graphql_typing.specs.StepsView.{typed_view}
-use Rattle.graphql_schema_types.proofs.in_components.Places.{not_in_nil}
+use Rattle.graphql_document_faults.proofs.in_components.Places.{not_in_nil}
 use Rattle.graphql_typing.specs.OutDoc.{written_document}
 use Rattle.graphql_typing.specs.TypedByPlace.{IsTypedDocument}
 use Rattle.graphql_typing.proofs.DocumentMeant.{document-meant}
