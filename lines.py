@@ -163,6 +163,11 @@ class Crate:
         self.macros = {it for code in self.texts.values() if "#[macro_export]" in code for it in MACROS.findall(code)}
         for it in self.macros:
             self.own[it] = (it,)
+        # An item that the root gives cannot have the name of a file of specs/ or proofs/.
+        self.nodes = set()
+        for part in ("specs", "proofs"):
+            at = f"{ROOT}/crates/{name}/{part}"
+            self.nodes |= {it.partition(".")[0] for it in os.listdir(at)} if os.path.isdir(at) else set()
         self.kinds = {}
         for code in self.texts.values():
             for kind, it in re.findall(r"^\s*pub (?:const )?(fn|struct|enum|trait|type|const) (\w+)", code, re.M):
@@ -383,7 +388,7 @@ class Plan:
     def taken(self, name, shown, origin):
         """Whether the crate's root has another item of that name, or of one that differs in case alone."""
         of = self.tree.crates[name]
-        if shown in of.modules or shown in of.private or len(origin[1]) > 2:
+        if shown in of.modules | of.private | of.nodes or len(origin[1]) > 2:
             return True
         lower = shown.lower()
         if any(it.lower() == lower for it in of.own):

@@ -18,8 +18,10 @@ ghost use Rattle.graphql_schema.specs.SchemaOf.{schema_tree};
 use crate::meta_fields::MetaFields;
 use crate::schema::Schema;
 use graphql_names::SourceSpan;
-use graphql_schema_building::{BuildError, BuilderRefusal, Building, Built, OrphanExtensionTypes};
-use graphql_schema_writing::{Document, Extensions};
+use graphql_schema_building::{
+    BuildError, BuilderRefusal, Building, Built, Extensions, OrphanExtensionTypes,
+};
+use graphql_schema_writing::Document;
 use std::alloc::{AllocError, Global};
 
 /// Takes the definitions of documents, and builds the schema of them all behind what is built in.

@@ -24,10 +24,10 @@ mod types_by_name;
 
 pub use builder::SchemaBuilder;
 pub use field_lookup::FieldLookupError;
-pub use graphql_schema_building::{BuildError, BuilderRefusal, OrphanExtensionTypes};
+pub use graphql_schema_building::{BuildError, BuilderRefusal, Extensions, OrphanExtensionTypes};
 pub use graphql_schema_writing::{
     Component, ComponentName, ComponentOrigin, Definition, DirectiveList, Document, EnumType,
-    EnumValueDefinition, ExtendedType, ExtensionId, Extensions, FieldDefinition, InputObjectType,
+    EnumValueDefinition, ExtendedType, ExtensionId, FieldDefinition, InputObjectType,
     InterfaceType, NamedComponents, ObjectType, Origins, RootOperations, ScalarType,
     SchemaDefinition, SourceFile, TypeKind, UnionType,
 };

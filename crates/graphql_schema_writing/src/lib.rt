@@ -21,7 +21,7 @@ mod write;
 
 pub use graphql_schema_types::{
     Component, ComponentName, ComponentOrigin, Definition, DirectiveList, Document, EnumType,
-    EnumValueDefinition, ExtendedType, ExtensionId, Extensions, FieldDefinition, InputObjectType,
+    EnumValueDefinition, ExtendedType, ExtensionId, FieldDefinition, InputObjectType,
     InterfaceType, NamedComponents, ObjectType, Origins, RootOperations, ScalarType,
     SchemaDefinition, SourceFile, TypeKind, UnionType,
 };
