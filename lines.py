@@ -1,12 +1,21 @@
 #!/usr/bin/env python3
-"""Makes each crate's line in crates.txt short: a crate lists only what it does not reach through what it lists.
+"""Makes each crate's line in crates.txt short: a crate lists what it does not reach through what it lists.
 
 usage: lines.py [--plan] [--limit N] [--also CRATE:DEP].. [--no-fmt]
 
 Run at the top of the repository. What a crate then needs of a crate that it no longer lists, it takes through one that
 it lists, which gives it again: items by `pub use` in lib.rt, definitions and lemmas by `pub use .. as in_NAME` in
-specs/Lib.antt and proofs/Lib.antt. --limit N keeps an entry that adds at most N
-steps to the walk over all lines (400). --plan prints what would change. Safe to run twice.
+specs/Lib.antt and proofs/Lib.antt. Edits in must-fail/ and planted/ change alike. Safe to run twice.
+
+Stays listed, though it is reached: what a #[tactic(..)] names; what defines a macro that is called; what is taken whole
+(`use x as y`, `use x::*`); what defines a recursive type that code or a contract names (the check says of its module that
+it is not at hand); what has an item whose name the crate between has for another (its items, modules, or the files of its
+specs/ and proofs/).
+
+--plan    prints what would change, and changes nothing
+--limit   keeps an entry that adds at most so many steps to the tool's walk over all lines (400)
+--also    keeps this entry
+--no-fmt  leaves out `rt fmt` in each crate that changed ($RT, or /work/bin/rtm)
 """
 
 import os
