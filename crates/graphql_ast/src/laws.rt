@@ -1,20 +1,18 @@
 //! What equality of each tree means: exactly that the trees are the same, places and sources aside.
 ghost use Rattle.std.specs.Prelude.{◌≡◌, ◌↔◌, IsTrue};
 ghost use Rattle.graphql_definitions.specs.Descriptions.{AreSameDescriptions};
-ghost use Rattle.graphql_type_members.specs.TypeSystemTree.{enum_value_tree, field_definition_tree, unplaced_enum, unplaced_enum_value, unplaced_field_definition, unplaced_fields, unplaced_input_object, unplaced_scalar, unplaced_schema, unplaced_union};
-ghost use Rattle.graphql_composite_types.specs.CompositeTree.{object_parts, object_extension_parts, interface_parts, interface_extension_parts, union_parts, union_extension_parts};
-ghost use Rattle.graphql_input_types.specs.InputTypeTree.{schema_parts, schema_extension_parts, scalar_parts, scalar_extension_parts, enum_parts, enum_extension_parts, input_object_parts, input_object_extension_parts};
+ghost use Rattle.graphql_definitions.specs.in_type_members.TypeSystemTree.{enum_value_tree, field_definition_tree, unplaced_enum, unplaced_enum_value, unplaced_field_definition, unplaced_fields, unplaced_input_object, unplaced_scalar, unplaced_schema, unplaced_union};
+ghost use Rattle.graphql_definitions.specs.in_composite_types.CompositeTree.{object_parts, object_extension_parts, interface_parts, interface_extension_parts, union_parts, union_extension_parts};
+ghost use Rattle.graphql_definitions.specs.in_input_types.InputTypeTree.{schema_parts, schema_extension_parts, scalar_parts, scalar_extension_parts, enum_parts, enum_extension_parts, input_object_parts, input_object_extension_parts};
 
-use graphql_composite_types::{
-    InterfaceTypeDefinition, InterfaceTypeExtension, ObjectTypeDefinition, ObjectTypeExtension,
-    UnionTypeDefinition, UnionTypeExtension,
-};
 pub use graphql_definitions::laws::{equal_definitions, equal_documents};
-use graphql_input_types::{
-    EnumTypeDefinition, EnumTypeExtension, InputObjectTypeDefinition, InputObjectTypeExtension,
-    ScalarTypeDefinition, ScalarTypeExtension, SchemaDefinition, SchemaExtension,
+use graphql_definitions::{
+    EnumTypeDefinition, EnumTypeExtension, EnumValueDefinition, FieldDefinition,
+    InputObjectTypeDefinition, InputObjectTypeExtension, InterfaceTypeDefinition,
+    InterfaceTypeExtension, ObjectTypeDefinition, ObjectTypeExtension, ScalarTypeDefinition,
+    ScalarTypeExtension, SchemaDefinition, SchemaExtension, UnionTypeDefinition,
+    UnionTypeExtension,
 };
-use graphql_type_members::{EnumValueDefinition, FieldDefinition};
 
 /// Whether two field definitions are equal.
 #[tactic(auto, using(graphql_definitions::proofs::TreeEquality::equality))]

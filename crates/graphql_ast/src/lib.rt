@@ -10,19 +10,16 @@
 
 pub mod laws;
 
-pub use graphql_composite_types::{
-    InterfaceTypeDefinition, InterfaceTypeExtension, ObjectTypeDefinition, ObjectTypeExtension,
-    UnionTypeDefinition, UnionTypeExtension,
-};
-pub use graphql_definitions::{Definition, Document, SourceFile};
-pub use graphql_input_types::{
-    EnumTypeDefinition, EnumTypeExtension, InputObjectTypeDefinition, InputObjectTypeExtension,
-    ScalarTypeDefinition, ScalarTypeExtension, SchemaDefinition, SchemaExtension,
+pub use graphql_definitions::{
+    Definition, Document, EnumTypeDefinition, EnumTypeExtension, EnumValueDefinition,
+    FieldDefinition, InputObjectTypeDefinition, InputObjectTypeExtension, InterfaceTypeDefinition,
+    InterfaceTypeExtension, ObjectTypeDefinition, ObjectTypeExtension, ScalarTypeDefinition,
+    ScalarTypeExtension, SchemaDefinition, SchemaExtension, SourceFile, UnionTypeDefinition,
+    UnionTypeExtension,
 };
 pub use graphql_names::{
     Cut, Device, Ending, Files, InvalidNameError, NameError, Spent, name, recompose,
 };
-pub use graphql_type_members::{EnumValueDefinition, FieldDefinition};
 pub use graphql_values::{
     Argument, ArgumentByNameError, Cause, Directive, DirectiveDefinition, DirectiveList,
     DirectiveLocation, Field, FileId, FloatValue, FragmentDefinition, FragmentSpread,

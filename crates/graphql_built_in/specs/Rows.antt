@@ -8,7 +8,7 @@ use Rattle.graphql_literals.specs.TypeTree.{TypeTree}
 use Rattle.graphql_literals.specs.ValueTree.{ValueTree, StringTree, BooleanTree}
 use Rattle.graphql_directives.specs.DirectiveTree.{InputValueTree}
 use Rattle.graphql_type_members.specs.TypeSystemTree.{FieldDefinitionTree}
-use Rattle.graphql_definitions.specs.DefinitionTree.{DefinitionTree}
+use Rattle.graphql_folding.specs.in_definitions.DefinitionTree.{DefinitionTree}
 use Rattle.graphql_folding.specs.BuiltIn.{a, one, some, all, argument, field_with, directive, scalar, object, enum}
 use Rattle.graphql_built_in.specs.declared.table.Row.{Row}
 use Rattle.graphql_built_in.specs.declared.table.Row.TheVariants as row

@@ -4,7 +4,7 @@ ghost use Rattle.std.specs.List.{list_all, list_any};
 ghost use Rattle.graphql_names.specs.NameSyntax.{IsName, is_name};
 ghost use Rattle.graphql_names.specs.Placed.{node_tree};
 ghost use Rattle.graphql_directives.specs.DirectiveTree.{input_value_tree};
-ghost use Rattle.graphql_definitions.specs.DefinitionTree.{definition_tree};
+ghost use Rattle.graphql_folding.specs.in_definitions.DefinitionTree.{definition_tree};
 ghost use Rattle.graphql_folding.specs.BuiltIn.{directive, scalar, object, enum};
 ghost use Rattle.graphql_folding.specs.BuildErrors.{is_built_in_scalar};
 ghost use Rattle.graphql_built_in.specs.Table.{built_in_definitions};
@@ -14,10 +14,10 @@ use crate::members::{fields_of, values_of};
 use crate::parts::{arguments_of, node_here};
 use crate::table::{ArgumentRow, FieldRow, ROWS, Row};
 use graphql_composite_types::ObjectTypeDefinition;
-use graphql_definitions::Definition;
 use graphql_directives::{
     DirectiveDefinition, DirectiveList, DirectiveLocation, InputValueDefinition,
 };
+use graphql_folding::Definition;
 use graphql_input_types::{EnumTypeDefinition, ScalarTypeDefinition};
 use graphql_names::{Name, Node};
 use std::alloc::{AllocError, Global};

@@ -1,14 +1,14 @@
 -- The text's tokens, read by the reference parser.
 use Rattle.std.proofs.Common.{◌≡◌, List, [], ◌++◌, Bool, true, false, Ok, Err, refl}
-use Rattle.graphql_definitions.specs.DefinitionTree.{DefinitionTree, unplaced_document}
+use Rattle.graphql_parse_values.specs.in_definitions.DefinitionTree.{DefinitionTree, unplaced_document}
 use Rattle.graphql_names.specs.Placed.{Place}
 use Rattle.graphql_names.specs.declared.span.FileId.{FileId}
-use Rattle.graphql_lexer.specs.Input.{Token, Input}
-use Rattle.graphql_lexer.specs.Terminals.{words}
-use Rattle.graphql_lexer.specs.Bytes.{run_len, replaced}
-use Rattle.graphql_lexer.specs.Tokens.{ignored_at, string_at, token_at}
-use Rattle.graphql_lexer.specs.Lex.{piece_at, tokens_among}
-use Rattle.graphql_lexer.specs.Strings.{unicode_at, escape_at, part_len, part_at, quoted_len, string_value}
+use Rattle.graphql_parse_values.specs.in_lexer.Input.{Token, Input}
+use Rattle.graphql_parse_values.specs.in_lexer.Terminals.{words}
+use Rattle.graphql_parse_values.specs.in_lexer.Bytes.{run_len, replaced}
+use Rattle.graphql_parse_values.specs.in_lexer.Tokens.{ignored_at, string_at, token_at}
+use Rattle.graphql_parse_values.specs.in_lexer.Lex.{piece_at, tokens_among}
+use Rattle.graphql_parse_values.specs.in_lexer.Strings.{unicode_at, escape_at, part_len, part_at, quoted_len, string_value}
 use Rattle.graphql_built_in.specs.in_folding.BuiltIn.{built_in_directives, built_in_scalars, introspection_types}
 use Rattle.graphql_parse_values.specs.in_grammar.Meaning.{start}
 use Rattle.graphql_parse_values.specs.in_grammar.Locations.{location_of}

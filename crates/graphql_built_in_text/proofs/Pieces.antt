@@ -1,9 +1,9 @@
 -- The pieces of the text, definition by definition.
 use Rattle.std.proofs.Common.{ℕ, List, [], ◌∷◌, ◌++◌, refl}
-use Rattle.graphql_lexer.specs.Bytes.{run_len}
-use Rattle.graphql_lexer.specs.Strings.{quoted_len, part_len}
-use Rattle.graphql_lexer.specs.Tokens.{ignored_at, string_at, token_at}
-use Rattle.graphql_lexer.specs.Lex.{Piece, piece_at, ArePieces}
+use Rattle.graphql_parse_values.specs.in_lexer.Bytes.{run_len}
+use Rattle.graphql_parse_values.specs.in_lexer.Strings.{quoted_len, part_len}
+use Rattle.graphql_parse_values.specs.in_lexer.Tokens.{ignored_at, string_at, token_at}
+use Rattle.graphql_parse_values.specs.in_lexer.Lex.{Piece, piece_at, ArePieces}
 use Rattle.graphql_built_in_text.specs.Text.{skip_text, include_text, deprecated_text, specified_by_text, scalars_text, schema_text, type_text, type_kind_text, field_text, input_value_text, enum_value_text, directive_text, directive_location_text, built_in_text}
 use Rattle.graphql_built_in_text.proofs.Cutting.{cut, cut_are, join}
 

@@ -2,9 +2,9 @@
 use Rattle.std.specs.Prelude.{◌≡◌, ◌≤◌, List}
 use Rattle.graphql_names.specs.declared.span.FileId.{FileId}
 use Rattle.graphql_names.specs.Placed.{Place}
-use Rattle.graphql_definitions.specs.DefinitionTree.{DefinitionTree, unplaced_document}
-use Rattle.graphql_lexer.specs.Input.{Token}
-use Rattle.graphql_lexer.specs.Lex.{Lex}
+use Rattle.graphql_parse_values.specs.in_definitions.DefinitionTree.{DefinitionTree, unplaced_document}
+use Rattle.graphql_parse_values.specs.in_lexer.Input.{Token}
+use Rattle.graphql_parse_values.specs.in_lexer.Lex.{Lex}
 use Rattle.graphql_parse_values.specs.in_grammar.Grammar.{Derives}
 use Rattle.graphql_parse_values.specs.in_grammar.Depth.{depth}
 use Rattle.graphql_parse_values.specs.Meanings.{in_file}

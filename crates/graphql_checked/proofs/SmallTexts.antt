@@ -2,20 +2,20 @@
 use Rattle.std.proofs.Common.{◌≡◌, ℕ, ◌+◌, ◌<◌, ◌≤◌, ◌^◌, List, [], ◌∷◌, length, codes, None, Err, refl, subst, arith, lit<, lit≤}
 use Rattle.std.proofs.Math.Nat.{lt_irrefl}
 use Rattle.graphql_names.specs.Placed.{Placed, Place, Text}
-use Rattle.graphql_literals.specs.TypeTree.{NamedTree, NonNullNamedTree}
-use Rattle.graphql_operations.specs.SelectionTree.{SelectionTree, SelectionTrees, FieldTree, selection_then, no_selections}
-use Rattle.graphql_operations.specs.declared.operation.OperationType.TheVariants.{Query}
-use Rattle.graphql_type_members.specs.TypeSystemTree.{FieldDefinitionTree}
+use Rattle.graphql_thin.specs.in_literals.TypeTree.{NamedTree, NonNullNamedTree}
+use Rattle.graphql_thin.specs.in_operations.SelectionTree.{SelectionTree, SelectionTrees, FieldTree, selection_then, no_selections}
+use Rattle.graphql_thin.specs.in_operations.declared.operation.OperationType.TheVariants.{Query}
+use Rattle.graphql_definitions.specs.in_type_members.TypeSystemTree.{FieldDefinitionTree}
 use Rattle.graphql_definitions.specs.DefinitionTree.{DefinitionTree, Operation, ObjectType}
-use Rattle.graphql_lexer.specs.Bytes.{run_len}
-use Rattle.graphql_lexer.specs.Tokens.{ignored_at, token_at}
-use Rattle.graphql_lexer.specs.Terminals.{words}
-use Rattle.graphql_lexer.specs.Input.{Token, Input, Ending, Ended, NoTokenAt}
-use Rattle.graphql_lexer.specs.Lex.{piece_at}
-use Rattle.graphql_lexer.specs.Cursor.{Rest, rest_from, EndsAs}
-use Rattle.graphql_lexer.specs.declared.terminal.Terminal.{Terminal}
-use Rattle.graphql_lexer.specs.declared.terminal.Terminal.TheVariants as k
-use Rattle.graphql_lexer.proofs.Lexed.{ends_as}
+use Rattle.graphql_thin.specs.in_lexer.Bytes.{run_len}
+use Rattle.graphql_thin.specs.in_lexer.Tokens.{ignored_at, token_at}
+use Rattle.graphql_thin.specs.in_lexer.Terminals.{words}
+use Rattle.graphql_thin.specs.in_lexer.Input.{Token, Input, Ending, Ended, NoTokenAt}
+use Rattle.graphql_thin.specs.in_lexer.Lex.{piece_at}
+use Rattle.graphql_thin.specs.in_lexer.Cursor.{Rest, rest_from, EndsAs}
+use Rattle.graphql_thin.specs.in_lexer.declared.terminal.Terminal.{Terminal}
+use Rattle.graphql_thin.specs.in_lexer.declared.terminal.Terminal.TheVariants as k
+use Rattle.graphql_thin.proofs.in_lexer.Lexed.{ends_as}
 use Rattle.graphql_thin.specs.in_grammar.declared.stop.Stop.{Stop}
 use Rattle.graphql_thin.specs.in_grammar.declared.stop.Stop.TheVariants.{Unexpected, Nesting}
 use Rattle.graphql_thin.specs.in_grammar.Depth.{depth}

@@ -4,7 +4,7 @@ use Rattle.std.specs.List.{filter}
 use Rattle.graphql_names.specs.Places.{is_built_in}
 use Rattle.graphql_names.specs.Placed.{Place}
 use Rattle.graphql_definitions.specs.DefinitionTree.{DefinitionTree, Operation, Fragment}
-use Rattle.graphql_operations.specs.OperationTree.{OperationTree}
+use Rattle.graphql_thin.specs.in_operations.OperationTree.{OperationTree}
 use Rattle.graphql_thin.specs.Lists.{firsts}
 use Rattle.graphql_thin.specs.Fold.{Defined, defined_types, definition_place}
 

@@ -3,7 +3,7 @@ use Rattle.std.specs.Prelude.{ℕ, Bool, List, map, bytes_eq}
 use Rattle.graphql_names.specs.Node.{content}
 use Rattle.graphql_values.specs.Placed.{Placed, Place}
 use Rattle.graphql_values.specs.DirectiveTree.{DirectiveTree, directive_tree, unplaced_directive}
-use Rattle.graphql_directives.specs.declared.directive.Directive.{Directive}
+use Rattle.graphql_values.specs.in_directives.declared.directive.Directive.{Directive}
 use Rattle.graphql_components.specs.Given.{Given, component_tree, plain_given}
 use Rattle.graphql_components.specs.declared.component.Component.{Component}
 use Rattle.graphql_components.specs.declared.directive_list.DirectiveList.{DirectiveList}

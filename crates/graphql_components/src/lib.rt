@@ -16,3 +16,4 @@ pub use component::{Component, ComponentOrigin};
 pub use component_name::ComponentName;
 pub use directive_list::{DirectiveList, NamedComponents};
 pub use extension::{ExtensionId, Extensions};
+pub use graphql_values::OperationType;

@@ -1,7 +1,7 @@
 -- The parts of definitions and extensions of composite types (GraphQL, October 2021, sections 3.6 to 3.8).
 use Rattle.std.specs.Prelude.{map}
-use Rattle.graphql_values.specs.Placed.{Place, name_tree, node_tree}
-use Rattle.graphql_values.specs.DirectiveTree.{directives_tree}
+use Rattle.graphql_printing.specs.in_names.Placed.{Place, name_tree, node_tree}
+use Rattle.graphql_type_members.specs.in_directives.DirectiveTree.{directives_tree}
 use Rattle.graphql_type_members.specs.TypeSystemTree.{FieldsParts, UnionParts, field_definition_tree}
 use Rattle.graphql_composite_types.specs.declared.object_type.ObjectTypeDefinition.{ObjectTypeDefinition}
 use Rattle.graphql_composite_types.specs.declared.object_type.ObjectTypeExtension.{ObjectTypeExtension}

@@ -1,1 +1,2 @@
 pub mod CompositeTree
+pub use Rattle.graphql_type_members.specs as in_type_members

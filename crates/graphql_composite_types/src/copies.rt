@@ -1,10 +1,9 @@
 //! Copies of the parts that objects and interfaces share.
 ghost use Rattle.std.specs.Prelude.{◌≡◌, map, IfOk};
-ghost use Rattle.graphql_values.specs.Placed.{node_tree, name_tree};
+ghost use Rattle.graphql_printing.specs.in_names.Placed.{node_tree, name_tree};
 ghost use Rattle.graphql_type_members.specs.TypeSystemTree.{field_definition_tree};
 
-use graphql_type_members::FieldDefinition;
-use graphql_values::{NamedType, Node};
+use graphql_type_members::{FieldDefinition, NamedType, Node};
 use std::alloc::AllocError;
 
 /// The same interfaces and fields.

@@ -15,6 +15,7 @@ mod serialize_union;
 mod union_type;
 mod writable;
 
+pub use graphql_type_members::{EnumValueDefinition, FieldDefinition};
 pub use interface_type::{InterfaceTypeDefinition, InterfaceTypeExtension};
 pub use object_type::{ObjectTypeDefinition, ObjectTypeExtension};
 pub use print_composite::{

@@ -1,12 +1,13 @@
 //! Object types.
 ghost use Rattle.std.specs.Prelude.{◌≡◌};
 ghost use Rattle.std.specs.Option.{option_map};
-ghost use Rattle.graphql_values.specs.Placed.{text_tree};
+ghost use Rattle.graphql_printing.specs.in_names.Placed.{text_tree};
 ghost use Rattle.graphql_composite_types.specs.CompositeTree.{object_parts, object_extension_parts};
 
 use crate::copies::clone_members;
-use graphql_type_members::{FieldDefinition, clone_described, clone_head};
-use graphql_values::{DirectiveList, Name, NamedType, Node, NodeStr};
+use graphql_type_members::{
+    DirectiveList, FieldDefinition, Name, NamedType, Node, NodeStr, clone_described, clone_head,
+};
 use std::alloc::AllocError;
 
 /// `type name implements interfaces @directives { fields }` (section 3.6).

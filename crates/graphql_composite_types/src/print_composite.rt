@@ -1,17 +1,17 @@
 //! Definitions and extensions of composite types.
 ghost use Rattle.std.specs.Prelude.{codes};
 ghost use Rattle.std.specs.Option.{option_copied, option_map};
-ghost use Rattle.graphql_values.specs.Placed.{text_tree};
-ghost use Rattle.graphql_values.specs.Levels.{level_depth};
-ghost use Rattle.graphql_values.specs.StringLayout.{description_text};
+ghost use Rattle.graphql_printing.specs.in_names.Placed.{text_tree};
+ghost use Rattle.graphql_printing.specs.Levels.{level_depth};
+ghost use Rattle.graphql_printing.specs.StringLayout.{description_text};
 ghost use Rattle.graphql_type_members.specs.TypeSystemLayout.{extend, fields_text, union_text};
 ghost use Rattle.graphql_composite_types.specs.CompositeTree.{object_parts, object_extension_parts, interface_parts, interface_extension_parts, union_parts, union_extension_parts};
 
 use crate::interface_type::{InterfaceTypeDefinition, InterfaceTypeExtension};
 use crate::object_type::{ObjectTypeDefinition, ObjectTypeExtension};
 use crate::union_type::{UnionTypeDefinition, UnionTypeExtension};
+use graphql_printing::{Level, Sink, put_description};
 use graphql_type_members::{put_field_set, put_head, put_names};
-use graphql_values::{Level, Sink, put_description};
 
 /// The definition of an object type. For the crate of definitions above.
 pub fn put_object_definition<S: Sink>(

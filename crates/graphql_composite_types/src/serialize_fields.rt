@@ -1,9 +1,9 @@
 //! The texts of objects and interfaces by themselves.
 ghost use Rattle.std.specs.Prelude.{codes, Some};
 ghost use Rattle.std.specs.Option.{option_map};
-ghost use Rattle.graphql_values.specs.Placed.{text_tree};
-ghost use Rattle.graphql_values.specs.LineLayout.{default_prefix, standing};
-ghost use Rattle.graphql_values.specs.StringLayout.{description_text};
+ghost use Rattle.graphql_printing.specs.in_names.Placed.{text_tree};
+ghost use Rattle.graphql_printing.specs.LineLayout.{default_prefix, standing};
+ghost use Rattle.graphql_printing.specs.StringLayout.{description_text};
 ghost use Rattle.graphql_type_members.specs.TypeSystemLayout.{extend, fields_text};
 ghost use Rattle.graphql_composite_types.specs.CompositeTree.{object_parts, object_extension_parts, interface_parts, interface_extension_parts};
 
@@ -12,7 +12,7 @@ use crate::object_type::{ObjectTypeDefinition, ObjectTypeExtension};
 use crate::print_composite::{
     put_interface_definition, put_interface_extension, put_object_definition, put_object_extension,
 };
-use graphql_values::{Level, Sink, Tree, put_start};
+use graphql_printing::{Level, Sink, Tree, put_start};
 use std::fmt;
 
 impl Tree for ObjectTypeDefinition {

@@ -1,15 +1,15 @@
 //! The texts of unions by themselves.
 ghost use Rattle.std.specs.Prelude.{Some};
 ghost use Rattle.std.specs.Option.{option_map};
-ghost use Rattle.graphql_values.specs.Placed.{text_tree};
-ghost use Rattle.graphql_values.specs.LineLayout.{default_prefix, standing};
-ghost use Rattle.graphql_values.specs.StringLayout.{description_text};
+ghost use Rattle.graphql_printing.specs.in_names.Placed.{text_tree};
+ghost use Rattle.graphql_printing.specs.LineLayout.{default_prefix, standing};
+ghost use Rattle.graphql_printing.specs.StringLayout.{description_text};
 ghost use Rattle.graphql_type_members.specs.TypeSystemLayout.{extend, union_text};
 ghost use Rattle.graphql_composite_types.specs.CompositeTree.{union_parts, union_extension_parts};
 
 use crate::print_composite::{put_union_definition, put_union_extension};
 use crate::union_type::{UnionTypeDefinition, UnionTypeExtension};
-use graphql_values::{Level, Sink, Tree, put_start};
+use graphql_printing::{Level, Sink, Tree, put_start};
 use std::fmt;
 
 impl Tree for UnionTypeDefinition {

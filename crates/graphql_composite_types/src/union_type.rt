@@ -1,11 +1,10 @@
 //! Union types.
 ghost use Rattle.std.specs.Prelude.{◌≡◌};
 ghost use Rattle.std.specs.Option.{option_map};
-ghost use Rattle.graphql_values.specs.Placed.{text_tree};
+ghost use Rattle.graphql_printing.specs.in_names.Placed.{text_tree};
 ghost use Rattle.graphql_composite_types.specs.CompositeTree.{union_parts, union_extension_parts};
 
-use graphql_type_members::{clone_described, clone_head};
-use graphql_values::{DirectiveList, Name, NamedType, NodeStr};
+use graphql_type_members::{DirectiveList, Name, NamedType, NodeStr, clone_described, clone_head};
 use std::alloc::AllocError;
 
 /// `union name @directives = members` (section 3.8).

@@ -1,15 +1,14 @@
 //! Whether the grammar can write definitions and extensions of composite types.
 ghost use Rattle.std.specs.Prelude.{◌≡◌, true};
-ghost use Rattle.graphql_values.specs.DirectiveTree.{directives_tree};
-ghost use Rattle.graphql_values.specs.Writable.{directives_writable};
+ghost use Rattle.graphql_type_members.specs.in_directives.DirectiveTree.{directives_tree};
+ghost use Rattle.graphql_type_members.specs.in_values.Writable.{directives_writable};
 ghost use Rattle.graphql_type_members.specs.PartsWritable.{fields_writable, fields_extension_writable, union_extension_writable};
 ghost use Rattle.graphql_composite_types.specs.CompositeTree.{object_parts, object_extension_parts, interface_parts, interface_extension_parts, union_extension_parts};
 
 use crate::interface_type::{InterfaceTypeDefinition, InterfaceTypeExtension};
 use crate::object_type::{ObjectTypeDefinition, ObjectTypeExtension};
 use crate::union_type::{UnionTypeDefinition, UnionTypeExtension};
-use graphql_type_members::fields_are_writable;
-use graphql_values::directives_are_writable;
+use graphql_type_members::{directives_are_writable, fields_are_writable};
 
 impl ObjectTypeDefinition {
     /// Whether the grammar can write it.

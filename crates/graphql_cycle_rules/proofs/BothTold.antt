@@ -3,7 +3,7 @@ use Rattle.std.proofs.Common.{List, ◌++◌, ap, ◌∙◌, inl, inr, append_as
 use Rattle.std.proofs.lemmas.List.Elements.{Contains-append_cases, Contains-append_left, Contains-append_right}
 use Rattle.graphql_names.specs.Placed.{Place}
 use Rattle.graphql_schema_types.specs.SchemaTree.{SchemaTree}
-use Rattle.graphql_rule_definitions.specs.Told.{PlacedFault}
+use Rattle.graphql_fault_data.specs.in_rule_definitions.Told.{PlacedFault}
 use Rattle.graphql_cycle_rules.specs.Told.{InputsTold, DirectivesTold, CyclesTold}
 
 pub both_told : (s : SchemaTree Place) (old middle new : List PlacedFault) → InputsTold s old middle → DirectivesTold s middle new → CyclesTold s old new

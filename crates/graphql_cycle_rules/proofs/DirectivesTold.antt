@@ -8,15 +8,15 @@ use Rattle.graphql_names.specs.Places.{Recomposes}
 use Rattle.graphql_directives.specs.DirectiveTree.{DirectiveDefinitionTree}
 use Rattle.graphql_schema_types.specs.SchemaTree.{SchemaTree}
 use Rattle.graphql_schema_types.specs.Addresses.{under, or_nothing, place_of}
-use Rattle.graphql_rule_definitions.specs.Diagnostics.{Diagnostic, RecursiveDirectiveDefinition, DeeplyNestedType, map_place}
-use Rattle.graphql_rule_definitions.specs.Faults.{wrong}
-use Rattle.graphql_rule_definitions.specs.Spots.{HeadAt, StandsAt, spot_place}
-use Rattle.graphql_rule_definitions.specs.Judged.{judged}
-use Rattle.graphql_rule_definitions.specs.Cycles.{Leads, IsWay, HasNoRepeat, Thing, ADirective, Refers, trace_of, reference_bound}
-use Rattle.graphql_rule_definitions.specs.Cycles as cycles
-use Rattle.graphql_rule_definitions.specs.Distinct.{AreAllDistinct}
-use Rattle.graphql_rule_definitions.specs.Told.{PlacedFault, Told}
-use Rattle.graphql_rule_definitions.proofs.Lists.{only, Contains-first, not_in_nil}
+use Rattle.graphql_fault_data.specs.in_rule_definitions.Diagnostics.{Diagnostic, RecursiveDirectiveDefinition, DeeplyNestedType, map_place}
+use Rattle.graphql_fault_data.specs.in_rule_definitions.Faults.{wrong}
+use Rattle.graphql_fault_data.specs.in_rule_definitions.Spots.{HeadAt, StandsAt, spot_place}
+use Rattle.graphql_fault_data.specs.in_rule_definitions.Judged.{judged}
+use Rattle.graphql_fault_data.specs.in_rule_definitions.Cycles.{Leads, IsWay, HasNoRepeat, Thing, ADirective, Refers, trace_of, reference_bound}
+use Rattle.graphql_fault_data.specs.in_rule_definitions.Cycles as cycles
+use Rattle.graphql_schema_types.specs.Distinct.{AreAllDistinct}
+use Rattle.graphql_fault_data.specs.in_rule_definitions.Told.{PlacedFault, Told}
+use Rattle.graphql_fault_data.proofs.in_rule_definitions.Lists.{only, Contains-first, not_in_nil}
 use Rattle.graphql_cycle_rules.specs.declared.graph.Graph.{Graph}
 use Rattle.graphql_cycle_rules.specs.Graph.{RefersTo, is_directive, is_type, IsWayBack, IsDeep}
 use Rattle.graphql_cycle_rules.specs.Labels.{labels}

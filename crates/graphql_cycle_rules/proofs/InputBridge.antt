@@ -12,14 +12,14 @@ use Rattle.graphql_schema_types.specs.Looks.{TypeLooks}
 use Rattle.graphql_schema_types.specs.Addresses.{under, or_nothing, place_of, place_at, InputAt}
 use Rattle.graphql_schema_types.specs.declared.type_kind.TypeKind.{TypeKind}
 use Rattle.graphql_schema_types.specs.declared.type_kind.TypeKind.TheVariants as kind
-use Rattle.graphql_rule_definitions.specs.Diagnostics.{map_place}
-use Rattle.graphql_rule_definitions.specs.Spots.{At, spot_place}
-use Rattle.graphql_rule_definitions.specs.Judged.{judged}
-use Rattle.graphql_rule_definitions.specs.Cycles.{Referring, RefersToInput}
-use Rattle.graphql_rule_definitions.specs.Distinct.{AreAllDistinct}
+use Rattle.graphql_fault_data.specs.in_rule_definitions.Diagnostics.{map_place}
+use Rattle.graphql_fault_data.specs.in_rule_definitions.Spots.{At, spot_place}
+use Rattle.graphql_fault_data.specs.in_rule_definitions.Judged.{judged}
+use Rattle.graphql_fault_data.specs.in_rule_definitions.Cycles.{Referring, RefersToInput}
+use Rattle.graphql_schema_types.specs.Distinct.{AreAllDistinct}
 use Rattle.graphql_cycle_rules.specs.Numbers.{number_of, at_number, each_value, is_input_object_at, input_if, input_object_number, required_input, Field, referred, field_references, input_references}
 use Rattle.graphql_cycle_rules.specs.Labels.{Labelled, targets}
-use Rattle.graphql_rule_definitions.proofs.Lists.{only, index_given, mapped_some, not_in_nil}
+use Rattle.graphql_fault_data.proofs.in_rule_definitions.Lists.{only, index_given, mapped_some, not_in_nil}
 use Rattle.graphql_fault_data.proofs.Judgings.{type_seen, type_look, input_look}
 use Rattle.graphql_cycle_rules.proofs.Ways.{Contains-last}
 use Rattle.graphql_cycle_rules.proofs.Transport.{IsSoundView, target_there}

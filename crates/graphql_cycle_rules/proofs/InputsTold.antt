@@ -10,12 +10,12 @@ use Rattle.graphql_names.specs.Placed.{Place}
 use Rattle.graphql_directives.specs.DirectiveTree.{InputValueTree}
 use Rattle.graphql_schema_types.specs.SchemaTree.{SchemaType, SchemaTree}
 use Rattle.graphql_schema_types.specs.Addresses.{TypeAt, or_nothing, place_at}
-use Rattle.graphql_rule_definitions.specs.Diagnostics.{RecursiveInputObjectDefinition, DeeplyNestedType}
-use Rattle.graphql_rule_definitions.specs.Faults.{wrong}
-use Rattle.graphql_rule_definitions.specs.Spots.{At}
-use Rattle.graphql_rule_definitions.specs.Judged.{judged}
-use Rattle.graphql_rule_definitions.specs.Cycles.{Leads, IsWay, HasNoRepeat, Referring, RefersToInput, reference_bound}
-use Rattle.graphql_rule_definitions.specs.Distinct.{AreAllDistinct}
+use Rattle.graphql_fault_data.specs.in_rule_definitions.Diagnostics.{RecursiveInputObjectDefinition, DeeplyNestedType}
+use Rattle.graphql_fault_data.specs.in_rule_definitions.Faults.{wrong}
+use Rattle.graphql_fault_data.specs.in_rule_definitions.Spots.{At}
+use Rattle.graphql_fault_data.specs.in_rule_definitions.Judged.{judged}
+use Rattle.graphql_fault_data.specs.in_rule_definitions.Cycles.{Leads, IsWay, HasNoRepeat, Referring, RefersToInput, reference_bound}
+use Rattle.graphql_schema_types.specs.Distinct.{AreAllDistinct}
 use Rattle.graphql_cycle_rules.specs.declared.graph.Graph.{Graph}
 use Rattle.graphql_cycle_rules.specs.Graph.{RefersTo, is_directive, is_type, IsWayBack, IsDeep}
 use Rattle.graphql_cycle_rules.specs.declared.marks.Mark.{Mark}
@@ -24,9 +24,9 @@ use Rattle.graphql_cycle_rules.specs.Labels.{labels}
 use Rattle.graphql_cycle_rules.specs.InputGraph.{IsInputGraph}
 use Rattle.graphql_cycle_rules.specs.FaultLists.{recursive_input_object_definition, deeply_nested_input_object, TellsInput, TellsDeepInput}
 use Rattle.graphql_cycle_rules.specs.Telling.{IsOfRoot, TellsRoots}
-use Rattle.graphql_rule_definitions.specs.Told.{PlacedFault, Told}
+use Rattle.graphql_fault_data.specs.in_rule_definitions.Told.{PlacedFault, Told}
 use Rattle.graphql_cycle_rules.specs.Told.{CyclesFail, IsInputCycle, AnswersInput, InputsTold}
-use Rattle.graphql_rule_definitions.proofs.Lists.{only, Contains-first, not_in_nil}
+use Rattle.graphql_fault_data.proofs.in_rule_definitions.Lists.{only, Contains-first, not_in_nil}
 use Rattle.graphql_cycle_rules.proofs.Entries.{number_given, under_at}
 use Rattle.graphql_cycle_rules.proofs.Transport.{Goes, AreNamed, Leads-named-on, IsWay-named, HasNoRepeat-named, Leads-numbered, Leads-same, IsWay-same, count_by-none}
 use Rattle.graphql_cycle_rules.proofs.InputBridge.{Refs, name_at, number_at, tells, says, input_sound, input_full, input_defined, input_one}

@@ -15,11 +15,11 @@ use Rattle.graphql_cycle_rules.specs.declared.graph.Graph.{Graph}
 use Rattle.graphql_cycle_rules.specs.declared.marks.Mark.{Mark}
 use Rattle.graphql_cycle_rules.specs.declared.marks.Mark.TheVariants.{New, Seen, Settled}
 use Rattle.graphql_cycle_rules.specs.declared.marks.Room.{Room}
-use Rattle.graphql_rule_definitions.specs.Cycles.{IsWay, HasNoRepeat}
+use Rattle.graphql_fault_data.specs.in_rule_definitions.Cycles.{IsWay, HasNoRepeat}
 use Rattle.graphql_cycle_rules.specs.Graph.{references, RefersTo, LeadsTo, is_directive, is_type, IsWayBack, IsDeep}
 use Rattle.graphql_cycle_rules.specs.Marks.{mark_at, passes, is_passed, settles, is_settled, are_settled, directive_less, type_less, room_after, first_room}
 use Rattle.graphql_cycle_rules.specs.Search.{nodes, IsOff, IsSound, IsReady, IsTrail, IsPassed, WentAlong, IsFinished, Grows}
-use Rattle.graphql_rule_definitions.proofs.Lists.{only, not_in_nil}
+use Rattle.graphql_fault_data.proofs.in_rule_definitions.Lists.{only, not_in_nil}
 use Rattle.graphql_cycle_rules.proofs.Ways.{Leads-append, Leads-push, Contains-push_cases, HasNoRepeat-push, HasNoRepeat-single}
 
 -- ---- marks

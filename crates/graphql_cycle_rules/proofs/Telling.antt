@@ -11,7 +11,7 @@ use Rattle.graphql_cycle_rules.specs.declared.search.Found.{Found}
 use Rattle.graphql_cycle_rules.specs.declared.search.Found.TheVariants.{Nothing, WayBack, Deep}
 use Rattle.graphql_cycle_rules.specs.Search.{IsSound, RootAnswers}
 use Rattle.graphql_cycle_rules.specs.Telling.{TellsFound, IsOfRoot, TellsRoot, TellsRoots}
-use Rattle.graphql_rule_definitions.proofs.Lists.{not_in_nil}
+use Rattle.graphql_fault_data.proofs.in_rule_definitions.Lists.{not_in_nil}
 
 -- whatever was found, the marks are sound
 pub root_sound : (g : Graph) (root : ℕ) (path : List ℕ) (marks : List Mark) (found : Found) → RootAnswers g root path marks found → IsSound g root marks

@@ -17,15 +17,15 @@ use Rattle.graphql_schema_types.specs.SchemaTree.{SchemaType, SchemaTree}
 use Rattle.graphql_schema_types.specs.Plain.{plain_directive_definition}
 use Rattle.graphql_schema_types.specs.Looks.{TypeLooks}
 use Rattle.graphql_schema_types.specs.Addresses.{Address, TypeAt, ValueAt, InputAt, ArgumentAt, DirectiveDefinitionAt, DirectiveAt, under, applied, place_at, place_of, directives_at}
-use Rattle.graphql_rule_definitions.specs.Diagnostics.{map_place}
-use Rattle.graphql_rule_definitions.specs.Spots.{At, spot_place}
-use Rattle.graphql_rule_definitions.specs.Words.{Present, Somewhere, AtSomeIndex}
-use Rattle.graphql_rule_definitions.specs.Judged.{judged, bare}
-use Rattle.graphql_rule_definitions.specs.Distinct.{AreUnder, ArePartsDistinct, AreAllDistinct}
-use Rattle.graphql_rule_definitions.specs.TypesUsed.{named_in}
-use Rattle.graphql_rule_definitions.specs.Cycles.{Referring, Thing, ADirective, AType, is_directive, is_type, RefersByUse, RefersByInput, Refers}
-use Rattle.graphql_rule_definitions.proofs.Lists.{found_in, given_in, index_found, index_given, mapped_some, slice_get-map, only, Contains-first, not_in_nil}
-use Rattle.graphql_rule_definitions.proofs.Lookups.{under_found, under_given}
+use Rattle.graphql_fault_data.specs.in_rule_definitions.Diagnostics.{map_place}
+use Rattle.graphql_fault_data.specs.in_rule_definitions.Spots.{At, spot_place}
+use Rattle.graphql_fault_data.specs.in_rule_definitions.Words.{Present, Somewhere, AtSomeIndex}
+use Rattle.graphql_fault_data.specs.in_rule_definitions.Judged.{judged, bare}
+use Rattle.graphql_schema_types.specs.Distinct.{AreUnder, ArePartsDistinct, AreAllDistinct}
+use Rattle.graphql_fault_data.specs.in_rule_definitions.TypesUsed.{named_in}
+use Rattle.graphql_fault_data.specs.in_rule_definitions.Cycles.{Referring, Thing, ADirective, AType, is_directive, is_type, RefersByUse, RefersByInput, Refers}
+use Rattle.graphql_fault_data.proofs.in_rule_definitions.Lists.{found_in, given_in, index_found, index_given, mapped_some, slice_get-map, only, Contains-first, not_in_nil}
+use Rattle.graphql_fault_data.proofs.in_rule_definitions.Lookups.{under_found, under_given}
 use Rattle.graphql_fault_data.proofs.Judgings.{type_seen, type_look, directive_look, value_look, input_look, named_unplaced, value_there, input_there}
 use Rattle.graphql_cycle_rules.specs.Labels.{Labelled, targets}
 use Rattle.graphql_cycle_rules.specs.Numbers.{number_of, at_number, each_value}

@@ -4,9 +4,9 @@ use Rattle.graphql_names.specs.Placed.{Placed, Place}
 use Rattle.graphql_names.specs.Places.{Recomposes}
 use Rattle.graphql_directives.specs.DirectiveTree.{DirectiveTree, DirectiveDefinitionTree, unplaced_directive}
 use Rattle.graphql_schema_types.specs.SchemaTree.{SchemaTree}
-use Rattle.graphql_rule_definitions.specs.Diagnostics.{Diagnostic, RecursiveDirectiveDefinition, DeeplyNestedType}
-use Rattle.graphql_rule_definitions.specs.Faults.{wrong}
-use Rattle.graphql_rule_definitions.specs.Told.{PlacedFault}
+use Rattle.graphql_fault_data.specs.in_rule_definitions.Diagnostics.{Diagnostic, RecursiveDirectiveDefinition, DeeplyNestedType}
+use Rattle.graphql_fault_data.specs.in_rule_definitions.Faults.{wrong}
+use Rattle.graphql_fault_data.specs.in_rule_definitions.Told.{PlacedFault}
 use Rattle.graphql_cycle_rules.specs.Labels.{labels}
 use Rattle.graphql_cycle_rules.specs.UseNumbers.{Use, uses_at}
 

@@ -4,11 +4,11 @@ use Rattle.std.specs.Option.{option_map_or}
 use Rattle.graphql_names.specs.Placed.{Placed, Place}
 use Rattle.graphql_directives.specs.DirectiveTree.{InputValueTree, unplaced_input_value}
 use Rattle.graphql_schema_types.specs.SchemaTree.{SchemaTree}
-use Rattle.graphql_rule_definitions.specs.Diagnostics.{RecursiveInputObjectDefinition, DeeplyNestedType}
-use Rattle.graphql_rule_definitions.specs.Faults.{wrong}
+use Rattle.graphql_fault_data.specs.in_rule_definitions.Diagnostics.{RecursiveInputObjectDefinition, DeeplyNestedType}
+use Rattle.graphql_fault_data.specs.in_rule_definitions.Faults.{wrong}
 use Rattle.graphql_cycle_rules.specs.Labels.{Labelled, labels}
 use Rattle.graphql_cycle_rules.specs.Numbers.{Field, at_number, input_references}
-use Rattle.graphql_rule_definitions.specs.Told.{PlacedFault}
+use Rattle.graphql_fault_data.specs.in_rule_definitions.Told.{PlacedFault}
 
 module _ (s : SchemaTree Place) where
   abbrev pub input_fields_at : ℕ → Labelled Field

@@ -2,7 +2,7 @@
 use Rattle.std.specs.Prelude.{◌≡◌, ℕ, ◌<◌, Bool, not, List, [], ◌∷◌, Contains, slice_get, nat_lt, count_by, ◌⊎◌}
 use Rattle.std.specs.Option.{option_map_or}
 use Rattle.graphql_cycle_rules.specs.declared.graph.Graph.{Graph}
-use Rattle.graphql_rule_definitions.specs.Cycles.{Leads, IsWay, HasNoRepeat}
+use Rattle.graphql_fault_data.specs.in_rule_definitions.Cycles.{Leads, IsWay, HasNoRepeat}
 
 abbrev pub references : Graph → ℕ → List ℕ
 references g n = option_map_or (λ v. v.items) (slice_get g.references.items n) []

@@ -1,6 +1,6 @@
 -- What a search for a way back keeps.
 use Rattle.std.specs.Prelude.{◌≡◌, ℕ, ◌+◌, ◌<◌, ◌≤◌, ◌⊎◌, List, ◌∷◌, Contains, count_by}
-use Rattle.graphql_rule_definitions.specs.Cycles.{HasNoRepeat}
+use Rattle.graphql_fault_data.specs.in_rule_definitions.Cycles.{HasNoRepeat}
 use Rattle.graphql_cycle_rules.specs.declared.graph.Graph.{Graph}
 use Rattle.graphql_cycle_rules.specs.declared.marks.Mark.{Mark}
 use Rattle.graphql_cycle_rules.specs.declared.marks.Mark.TheVariants.{Seen, Settled}

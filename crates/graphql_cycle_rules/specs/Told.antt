@@ -3,12 +3,12 @@ use Rattle.std.specs.Prelude.{◌≡◌, ℕ, List, ◌∷◌, ◌++◌, codes, 
 use Rattle.graphql_names.specs.Placed.{Placed, Place}
 use Rattle.graphql_directives.specs.DirectiveTree.{DirectiveTree, InputValueTree}
 use Rattle.graphql_schema_types.specs.SchemaTree.{SchemaTree}
-use Rattle.graphql_rule_definitions.specs.Diagnostics.{RecursiveInputObjectDefinition, RecursiveDirectiveDefinition, DeeplyNestedType}
-use Rattle.graphql_rule_definitions.specs.Faults.{SchemaFault}
-use Rattle.graphql_rule_definitions.specs.Judged.{Judged, judged}
-use Rattle.graphql_rule_definitions.specs.Cycles.{Leads, Referring, ADirective, RefersToInput, Refers, PassesReferenceBound}
-use Rattle.graphql_rule_definitions.specs.Rules.{CyclesBreak}
-use Rattle.graphql_rule_definitions.specs.Told.{PlacedFault, Told}
+use Rattle.graphql_fault_data.specs.in_rule_definitions.Diagnostics.{RecursiveInputObjectDefinition, RecursiveDirectiveDefinition, DeeplyNestedType}
+use Rattle.graphql_fault_data.specs.in_rule_definitions.Faults.{SchemaFault}
+use Rattle.graphql_fault_data.specs.in_rule_definitions.Judged.{Judged, judged}
+use Rattle.graphql_fault_data.specs.in_rule_definitions.Cycles.{Leads, Referring, ADirective, RefersToInput, Refers, PassesReferenceBound}
+use Rattle.graphql_fault_data.specs.in_rule_definitions.Rules.{CyclesBreak}
+use Rattle.graphql_fault_data.specs.in_rule_definitions.Told.{PlacedFault, Told}
 
 -- a definition leads back to itself, or the bound on references is passed
 abbrev pub CyclesFail : Judged → SchemaFault → Type 0

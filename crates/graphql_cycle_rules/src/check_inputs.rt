@@ -1,7 +1,7 @@
 //! Tells which input objects lead back to themselves.
 ghost use Rattle.std.specs.Prelude.{◌<◌, map, OnOk, IfOk, option_to_list};
 ghost use Rattle.graphql_fault_data.specs.in_schema.SchemaOf.{schema_tree};
-ghost use Rattle.graphql_rule_definitions.specs.Distinct.{AreAllDistinct};
+ghost use Rattle.graphql_schema_types.specs.Distinct.{AreAllDistinct};
 ghost use Rattle.graphql_fault_data.specs.FaultView.{fault_of, faults_of};
 ghost use Rattle.graphql_cycle_rules.specs.Search.{IsSound, IsReady};
 ghost use Rattle.graphql_cycle_rules.specs.InputGraph.{IsInputGraph};

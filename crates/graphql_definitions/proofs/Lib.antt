@@ -3,3 +3,4 @@ pub mod DocumentExamples
 pub mod PrefixExamples
 pub mod TreeEquality
 pub mod DefinitionEquality
+pub use Rattle.graphql_values.proofs as in_values

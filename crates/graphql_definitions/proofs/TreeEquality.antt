@@ -6,12 +6,12 @@ use Rattle.std.specs.Cmp.Lexicographic.{pointwise}
 use Rattle.graphql_names.specs.NameValue.{NameValue}
 use Rattle.graphql_values.specs.Placed.{name_tree, text_tree, unplaced_text}
 use Rattle.graphql_values.specs.DirectiveTree.{input_value_tree, unplaced_input_value}
-use Rattle.graphql_operations.specs.declared.operation.OperationType.{OperationType}
-use Rattle.graphql_type_members.specs.TypeSystemTree.{enum_value_tree, field_definition_tree, unplaced_enum, unplaced_enum_value, unplaced_field_definition, unplaced_fields, unplaced_input_object, unplaced_root, unplaced_scalar, unplaced_schema, unplaced_union}
+use Rattle.graphql_values.specs.in_operations.declared.operation.OperationType.{OperationType}
+use Rattle.graphql_composite_types.specs.in_type_members.TypeSystemTree.{enum_value_tree, field_definition_tree, unplaced_enum, unplaced_enum_value, unplaced_field_definition, unplaced_fields, unplaced_input_object, unplaced_root, unplaced_scalar, unplaced_schema, unplaced_union}
 use Rattle.graphql_composite_types.specs.CompositeTree.{object_parts, object_extension_parts, interface_parts, interface_extension_parts, union_parts, union_extension_parts}
 use Rattle.graphql_input_types.specs.InputTypeTree.{schema_parts, schema_extension_parts, scalar_parts, scalar_extension_parts, enum_parts, enum_extension_parts, input_object_parts, input_object_extension_parts, root_tree}
-use Rattle.graphql_type_members.specs.declared.field_definition.FieldDefinition.{FieldDefinition}
-use Rattle.graphql_type_members.specs.declared.enum_value.EnumValueDefinition.{EnumValueDefinition}
+use Rattle.graphql_composite_types.specs.in_type_members.declared.field_definition.FieldDefinition.{FieldDefinition}
+use Rattle.graphql_composite_types.specs.in_type_members.declared.enum_value.EnumValueDefinition.{EnumValueDefinition}
 use Rattle.graphql_input_types.specs.declared.schema.SchemaDefinition.{SchemaDefinition}
 use Rattle.graphql_input_types.specs.declared.schema.SchemaExtension.{SchemaExtension}
 use Rattle.graphql_input_types.specs.declared.scalar_type.ScalarTypeDefinition.{ScalarTypeDefinition}
@@ -26,8 +26,8 @@ use Rattle.graphql_input_types.specs.declared.enum_type.EnumTypeDefinition.{Enum
 use Rattle.graphql_input_types.specs.declared.enum_type.EnumTypeExtension.{EnumTypeExtension}
 use Rattle.graphql_input_types.specs.declared.input_object_type.InputObjectTypeDefinition.{InputObjectTypeDefinition}
 use Rattle.graphql_input_types.specs.declared.input_object_type.InputObjectTypeExtension.{InputObjectTypeExtension}
-use Rattle.graphql_type_members.specs.contracts.field_definition.FieldDefinitionPartialEq.TheImpl as field_definition_impl
-use Rattle.graphql_type_members.specs.contracts.enum_value.EnumValueDefinitionPartialEq.TheImpl as enum_value_impl
+use Rattle.graphql_composite_types.specs.in_type_members.contracts.field_definition.FieldDefinitionPartialEq.TheImpl as field_definition_impl
+use Rattle.graphql_composite_types.specs.in_type_members.contracts.enum_value.EnumValueDefinitionPartialEq.TheImpl as enum_value_impl
 use Rattle.graphql_input_types.specs.contracts.schema.SchemaDefinitionPartialEq.TheImpl as schema_impl
 use Rattle.graphql_input_types.specs.contracts.schema.SchemaExtensionPartialEq.TheImpl as schema_extension_impl
 use Rattle.graphql_input_types.specs.contracts.scalar_type.ScalarTypeDefinitionPartialEq.TheImpl as scalar_impl

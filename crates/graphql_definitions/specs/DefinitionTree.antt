@@ -5,7 +5,7 @@ use Rattle.graphql_names.specs.Node.{content, place}
 use Rattle.graphql_values.specs.Placed.{Place, Text, text_tree, unplaced_text}
 use Rattle.graphql_values.specs.DirectiveTree.{DirectiveDefinitionTree, directive_definition_tree, unplaced_directive_definition}
 use Rattle.graphql_values.specs.OperationTree.{OperationTree, FragmentTree, operation_tree, fragment_tree, unplaced_operation, unplaced_fragment}
-use Rattle.graphql_type_members.specs.TypeSystemTree.{SchemaParts, ScalarParts, FieldsParts, UnionParts, EnumParts, InputObjectParts, unplaced_schema, unplaced_scalar, unplaced_fields, unplaced_union, unplaced_enum, unplaced_input_object}
+use Rattle.graphql_composite_types.specs.in_type_members.TypeSystemTree.{SchemaParts, ScalarParts, FieldsParts, UnionParts, EnumParts, InputObjectParts, unplaced_schema, unplaced_scalar, unplaced_fields, unplaced_union, unplaced_enum, unplaced_input_object}
 pub use Rattle.graphql_composite_types.specs.CompositeTree.{object_parts, object_extension_parts, interface_parts, interface_extension_parts, union_parts, union_extension_parts}
 pub use Rattle.graphql_input_types.specs.InputTypeTree.{root_tree, schema_parts, schema_extension_parts, scalar_parts, scalar_extension_parts, enum_parts, enum_extension_parts, input_object_parts, input_object_extension_parts}
 use Rattle.graphql_definitions.specs.declared.definition.Definition.{Definition}

@@ -5,8 +5,8 @@ use Rattle.graphql_values.specs.LineLayout.{Prefix, Leveled, start_text}
 use Rattle.graphql_values.specs.StringLayout.{description_text}
 use Rattle.graphql_values.specs.InputLayout.{directive_definition_text}
 use Rattle.graphql_values.specs.OperationLayout.{operation_text, fragment_text, begins_output}
-use Rattle.graphql_type_members.specs.TypeSystemLayout.{schema_text, scalar_text, fields_text, union_text, enum_text, input_object_text}
-pub use Rattle.graphql_type_members.specs.TypeSystemLayout.{extend}
+use Rattle.graphql_composite_types.specs.in_type_members.TypeSystemLayout.{schema_text, scalar_text, fields_text, union_text, enum_text, input_object_text}
+pub use Rattle.graphql_composite_types.specs.in_type_members.TypeSystemLayout.{extend}
 use Rattle.graphql_definitions.specs.DefinitionTree.{DefinitionTree, Operation, Fragment, DirectiveDefinition, Schema, ScalarType, ObjectType, InterfaceType, UnionType, EnumType, InputObjectType, ExtendSchema, ExtendScalar, ExtendObject, ExtendInterface, ExtendUnion, ExtendEnum, ExtendInputObject}
 
 abbrev pub definition_text : {P : Type 0} → Bool → Prefix → DefinitionTree P → Leveled

@@ -4,3 +4,6 @@ pub mod Queries
 pub mod Sources
 pub mod DocumentLayout
 pub mod Writable
+pub use Rattle.graphql_composite_types.specs as in_composite_types
+pub use Rattle.graphql_input_types.specs as in_input_types
+pub use Rattle.graphql_composite_types.specs.in_type_members as in_type_members

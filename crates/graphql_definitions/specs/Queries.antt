@@ -3,7 +3,7 @@ use Rattle.std.specs.Prelude.{◌≡◌, ◌≢◌, Bool, true, false, Option, S
 use Rattle.std.specs.Borrow.{Bor}
 use Rattle.graphql_values.specs.Placed.{Text}
 use Rattle.graphql_values.specs.DirectiveTree.{Directives}
-pub use Rattle.graphql_type_members.specs.ArgumentQueries.{argument_named}
+pub use Rattle.graphql_composite_types.specs.in_type_members.ArgumentQueries.{argument_named}
 use Rattle.graphql_definitions.specs.DefinitionTree.{DefinitionTree, Operation, Fragment, DirectiveDefinition, Schema, ScalarType, ObjectType, InterfaceType, UnionType, EnumType, InputObjectType, ExtendSchema, ExtendScalar, ExtendObject, ExtendInterface, ExtendUnion, ExtendEnum, ExtendInputObject}
 
 -- what a borrowed enum holds in the variant that `make` makes: nothing exactly where it is of another variant

@@ -19,3 +19,11 @@ mod writable;
 
 pub use definition::Definition;
 pub use document::{Document, SourceFile};
+pub use graphql_composite_types::{
+    EnumValueDefinition, FieldDefinition, InterfaceTypeDefinition, InterfaceTypeExtension,
+    ObjectTypeDefinition, ObjectTypeExtension, UnionTypeDefinition, UnionTypeExtension,
+};
+pub use graphql_input_types::{
+    EnumTypeDefinition, EnumTypeExtension, InputObjectTypeDefinition, InputObjectTypeExtension,
+    ScalarTypeDefinition, ScalarTypeExtension, SchemaDefinition, SchemaExtension,
+};

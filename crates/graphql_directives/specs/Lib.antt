@@ -16,3 +16,4 @@ pub use Rattle.graphql_literals.specs.ValueTree
 pub use Rattle.graphql_literals.specs.TypeQueries
 pub use Rattle.graphql_literals.specs.ValueLayout
 pub use Rattle.graphql_literals.specs.ValueWritable
+pub use Rattle.graphql_literals.specs as in_literals

@@ -1,8 +1,8 @@
 -- Fields that a selection set makes: of a name, with the definition on the type of the set (GraphQL, October 2021, sections 2.5 and 5.3.1).
 use Rattle.std.specs.Prelude.{ℕ, List, [], None}
 use Rattle.graphql_names.specs.Placed.{Placed, Place, Text}
-use Rattle.graphql_literals.specs.TypeQueries.{inner_name}
-use Rattle.graphql_type_members.specs.TypeSystemTree.{FieldDefinitionTree}
+use Rattle.graphql_typing.specs.in_literals.TypeQueries.{inner_name}
+use Rattle.graphql_schema_types.specs.in_type_members.TypeSystemTree.{FieldDefinitionTree}
 use Rattle.graphql_schema_types.specs.SchemaTree.{SchemaTree}
 use Rattle.graphql_typing.specs.in_schema.LookUps.{FieldIsMissing}
 use Rattle.graphql_typed_selections.specs.TypedTree.{TypedSelection, TypedField, typed_set, no_typed}

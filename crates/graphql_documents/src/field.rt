@@ -2,8 +2,8 @@
 ghost use Rattle.std.specs.Prelude.{◌≡◌};
 ghost use Rattle.std.specs.Option.{option_map};
 ghost use Rattle.graphql_names.specs.Placed.{node_tree};
-ghost use Rattle.graphql_literals.specs.TypeQueries.{inner_name};
-ghost use Rattle.graphql_type_members.specs.TypeSystemTree.{field_definition_tree};
+ghost use Rattle.graphql_typing.specs.in_literals.TypeQueries.{inner_name};
+ghost use Rattle.graphql_schema_types.specs.in_type_members.TypeSystemTree.{field_definition_tree};
 ghost use Rattle.graphql_schema_types.specs.TypeView.{extended_type};
 ghost use Rattle.graphql_schema_types.specs.Addresses.{type_at};
 ghost use Rattle.graphql_typing.specs.in_schema.SchemaOf.{schema_tree};

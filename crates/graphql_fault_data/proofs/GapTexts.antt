@@ -1,8 +1,8 @@
 -- The texts of gaps: of a type that stands alone, and of types and values without their places.
 use Rattle.std.proofs.Common.{◌≡◌, ℕ, List, [], ◌∷◌, refl, ap, append-nil}
 use Rattle.std.specs.Prelude.{codes}
-use Rattle.graphql_printing.specs.Joined.{joined}
-use Rattle.graphql_printing.specs.LineLayout.{standing, default_prefix}
+use Rattle.graphql_operations.specs.in_printing.Joined.{joined}
+use Rattle.graphql_operations.specs.in_printing.LineLayout.{standing, default_prefix}
 use Rattle.graphql_literals.specs.TypeTree.{TypeTree, NamedTree, NonNullNamedTree, ListTree, NonNullListTree, unplaced_type}
 use Rattle.graphql_literals.specs.ValueTree.{ValueTree, NullTree, EnumTree, VariableTree, StringTree, FloatTree, IntTree, BooleanTree, ObjectTree, unplaced_value}
 use Rattle.graphql_literals.specs.ValueTree as value

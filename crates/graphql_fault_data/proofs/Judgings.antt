@@ -9,14 +9,14 @@ use Rattle.graphql_names.specs.Placed.{Placed, Place, Text}
 use Rattle.graphql_literals.specs.TypeTree.{TypeTree, NamedTree, NonNullNamedTree, ListTree, NonNullListTree, unplaced_type}
 use Rattle.graphql_literals.specs.TypeQueries.{inner_name}
 use Rattle.graphql_directives.specs.DirectiveTree.{InputValueTree, unplaced_input_value}
-use Rattle.graphql_type_members.specs.TypeSystemTree.{FieldDefinitionTree, EnumValueTree, unplaced_field_definition, unplaced_enum_value}
-use Rattle.graphql_components.specs.Lists.{is_among}
-use Rattle.graphql_components.specs.Names.{names}
-use Rattle.graphql_components.specs.Given.{Given, given_name, plain_given}
-use Rattle.graphql_schema_types.specs.SchemaTree.{SchemaType, SchemaTree}
-use Rattle.graphql_schema_types.specs.Plain.{plain_type, plain_directive_definition}
-use Rattle.graphql_schema_types.specs.Looks.{TypeLooks, type_looks}
-use Rattle.graphql_schema_types.specs.Addresses.{under, or_nothing, inner_name_place, field_at, value_at, input_at, listed}
+use Rattle.graphql_typed_selections.specs.in_type_members.TypeSystemTree.{FieldDefinitionTree, EnumValueTree, unplaced_field_definition, unplaced_enum_value}
+use Rattle.graphql_rule_definitions.specs.in_components.Lists.{is_among}
+use Rattle.graphql_rule_definitions.specs.in_components.Names.{names}
+use Rattle.graphql_rule_definitions.specs.in_components.Given.{Given, given_name, plain_given}
+use Rattle.graphql_rule_definitions.specs.in_schema_types.SchemaTree.{SchemaType, SchemaTree}
+use Rattle.graphql_rule_definitions.specs.in_schema_types.Plain.{plain_type, plain_directive_definition}
+use Rattle.graphql_rule_definitions.specs.in_schema_types.Looks.{TypeLooks, type_looks}
+use Rattle.graphql_rule_definitions.specs.in_schema_types.Addresses.{under, or_nothing, inner_name_place, field_at, value_at, input_at, listed}
 use Rattle.graphql_coords.proofs.in_schema.FieldLooks.{get_under}
 use Rattle.graphql_rule_definitions.specs.Judged.{judged}
 use Rattle.graphql_rule_definitions.specs.TypesUsed.{named_in}

@@ -4,10 +4,10 @@ use Rattle.std.proofs.lemmas.List.{map-append}
 use Rattle.indexmap.specs.IndexMap.{IndexMap}
 use Rattle.graphql_names.specs.NameValue.{NameValue}
 use Rattle.graphql_names.specs.Placed.{Placed, Place}
-use Rattle.graphql_components.specs.Lists.{each_place_after, firsts, repeats, has_name, is_among}
-use Rattle.graphql_components.specs.Names.{entries_of}
-use Rattle.graphql_components.specs.Given.{Given, component_tree}
-use Rattle.graphql_components.specs.declared.component.Component.{Component}
+use Rattle.graphql_schema_types.specs.in_components.Lists.{each_place_after, firsts, repeats, has_name, is_among}
+use Rattle.graphql_schema_types.specs.in_components.Names.{entries_of}
+use Rattle.graphql_schema_types.specs.in_components.Given.{Given, component_tree}
+use Rattle.graphql_schema_types.specs.in_components.declared.component.Component.{Component}
 use Rattle.graphql_schema_types.specs.TypeView.{name_text}
 use Rattle.graphql_folding.specs.Components.{keyed_firsts}
 use Rattle.graphql_folding.specs.BuildErrors.{Fault}

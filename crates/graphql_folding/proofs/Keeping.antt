@@ -5,10 +5,10 @@ use Rattle.std.specs.Str.{bytes_eq}
 use Rattle.std.specs.Map.{lookup}
 use Rattle.std.proofs.lemmas.List.{append_assoc, append-nil, map-append}
 use Rattle.graphql_names.specs.NameValue.{NameValue}
-use Rattle.graphql_components.specs.Lists.{firsts, repeats, has_name}
-use Rattle.graphql_components.specs.Names.{Entries}
-use Rattle.graphql_components.proofs.Places.{each_place-push}
-use Rattle.graphql_components.proofs.Firsts.{kept_seen, kept_new, is_some-firsts, has_name-firsts, firsts-push_new, firsts-push_seen}
+use Rattle.graphql_schema_types.specs.in_components.Lists.{firsts, repeats, has_name}
+use Rattle.graphql_schema_types.specs.in_components.Names.{Entries}
+use Rattle.graphql_schema_types.proofs.in_components.Places.{each_place-push}
+use Rattle.graphql_schema_types.proofs.in_components.Firsts.{kept_seen, kept_new, is_some-firsts, has_name-firsts, firsts-push_new, firsts-push_seen}
 use Rattle.graphql_folding.specs.Components.{keyed_firsts}
 use Rattle.graphql_folding.specs.BuildErrors.{Fault}
 use Rattle.graphql_folding.specs.Keeping.{told_behind, KeepsOn, KeepsNames}

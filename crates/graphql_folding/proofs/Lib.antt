@@ -7,3 +7,5 @@ pub mod Collecting
 pub mod Grown
 pub mod OfKind
 pub use Rattle.graphql_schema_types.proofs as in_schema_types
+pub use Rattle.graphql_schema_types.proofs.in_components as in_components
+pub use Rattle.graphql_schema_types.proofs.in_values as in_values

@@ -8,10 +8,10 @@ use Rattle.std.proofs.lemmas.List.{append-nil}
 use Rattle.std.proofs.lemmas.Grind.{flat_map-append}
 use Rattle.std.proofs.lemmas.Option.{same_Some}
 use Rattle.graphql_names.specs.Placed.{Place}
-use Rattle.graphql_definitions.specs.DefinitionTree as tree
-use Rattle.graphql_definitions.specs.DefinitionTree.{DefinitionTree}
-use Rattle.graphql_components.specs.Lists.{firsts}
-use Rattle.graphql_components.specs.Given.{ExtensionTree, given_name}
+use Rattle.graphql_schema_types.specs.in_definitions.DefinitionTree as tree
+use Rattle.graphql_schema_types.specs.in_definitions.DefinitionTree.{DefinitionTree}
+use Rattle.graphql_schema_types.specs.in_components.Lists.{firsts}
+use Rattle.graphql_schema_types.specs.in_components.Given.{ExtensionTree, given_name}
 use Rattle.graphql_schema_types.specs.SchemaTree.{same_kind}
 use Rattle.graphql_schema_types.specs.TypeParts.{TypeParts, TypeDefinition, type_here, type_extension_here, scalar, with_fields, union, enum, input_object}
 use Rattle.graphql_schema_types.specs.declared.type_kind.TypeKind.{TypeKind}

@@ -1,12 +1,12 @@
 -- Definitions to compute with, without places.
 use Rattle.std.proofs.Common.{ℕ, false, List, [], map, None}
 use Rattle.graphql_names.specs.Placed.{Placed, Place, Text}
-use Rattle.graphql_literals.specs.TypeTree.{NamedTree}
+use Rattle.graphql_directives.specs.in_literals.TypeTree.{NamedTree}
 use Rattle.graphql_directives.specs.DirectiveTree.{DirectiveTree, Directives}
 use Rattle.graphql_directives.specs.declared.directive_location.DirectiveLocation.{DirectiveLocation}
 use Rattle.graphql_operations.specs.declared.operation.OperationType.{OperationType}
-use Rattle.graphql_type_members.specs.TypeSystemTree.{FieldDefinitionTree, RootOperationTree, FieldsParts}
-use Rattle.graphql_definitions.specs.DefinitionTree.{DefinitionTree, DirectiveDefinition, Schema, ScalarType, ObjectType, InterfaceType, ExtendSchema, ExtendScalar, ExtendObject}
+use Rattle.graphql_schema_types.specs.in_type_members.TypeSystemTree.{FieldDefinitionTree, RootOperationTree, FieldsParts}
+use Rattle.graphql_schema_types.specs.in_definitions.DefinitionTree.{DefinitionTree, DirectiveDefinition, Schema, ScalarType, ObjectType, InterfaceType, ExtendSchema, ExtendScalar, ExtendObject}
 
 abbrev pub word : List ℕ → Text Place
 word n = record { it = n; place = None }

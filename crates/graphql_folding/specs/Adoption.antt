@@ -3,8 +3,8 @@ use Rattle.std.specs.Prelude.{ℕ, Bool, false, not, ◌&&◌, List, [], ◌∷�
 use Rattle.std.specs.List.{flat_map, filter, list_any}
 use Rattle.std.specs.Option.{option_map_or}
 use Rattle.graphql_names.specs.Placed.{Place}
-use Rattle.graphql_definitions.specs.DefinitionTree.{DefinitionTree, Schema}
-use Rattle.graphql_components.specs.Lists.{firsts}
+use Rattle.graphql_schema_types.specs.in_definitions.DefinitionTree.{DefinitionTree, Schema}
+use Rattle.graphql_schema_types.specs.in_components.Lists.{firsts}
 use Rattle.graphql_schema_types.specs.TypeParts.{TypeParts, type_here, type_extension_here, bare, definition_by}
 use Rattle.graphql_folding.specs.Listed.{Definitions, type_name, type_named}
 use Rattle.graphql_folding.specs.SchemaFold.{schema_extension_here, schema_is_defined}

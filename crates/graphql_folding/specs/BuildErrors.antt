@@ -4,10 +4,10 @@ use Rattle.std.specs.Option.{option_map_or}
 use Rattle.graphql_names.specs.Placed.{Placed, Place}
 use Rattle.graphql_operations.specs.declared.operation.OperationType.{OperationType}
 use Rattle.graphql_directives.specs.DirectiveTree.{DirectiveDefinitionTree}
-use Rattle.graphql_definitions.specs.DefinitionTree.{DefinitionTree}
-use Rattle.graphql_definitions.specs.Queries.{is_executable, definition_place}
-use Rattle.graphql_components.specs.Lists.{AtSomePlace, IsRepeated, firsts, has_name}
-use Rattle.graphql_components.specs.Given.{Given, given_name}
+use Rattle.graphql_schema_types.specs.in_definitions.DefinitionTree.{DefinitionTree}
+use Rattle.graphql_schema_types.specs.in_definitions.Queries.{is_executable, definition_place}
+use Rattle.graphql_schema_types.specs.in_components.Lists.{AtSomePlace, IsRepeated, firsts, has_name}
+use Rattle.graphql_schema_types.specs.in_components.Given.{Given, given_name}
 use Rattle.graphql_schema_types.specs.SchemaTree.{same_kind}
 use Rattle.graphql_schema_types.specs.TypeParts.{TypeParts, TypeDefinition, type_here, type_extension_here}
 use Rattle.graphql_schema_types.specs.declared.type_kind.TypeKind.{TypeKind}

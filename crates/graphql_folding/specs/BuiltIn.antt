@@ -4,13 +4,13 @@ use Rattle.std.specs.Prelude.{ℕ, false, List, [], ◌∷◌, ◌++◌, map, co
 use Rattle.std.specs.Option.{option_map}
 use Rattle.std.proofs.Common.{lit<}
 use Rattle.graphql_names.specs.Placed.{Placed, Place, Text}
-use Rattle.graphql_literals.specs.TypeTree.{TypeTree, NamedTree, NonNullNamedTree, ListTree, NonNullListTree}
-use Rattle.graphql_literals.specs.ValueTree.{ValueTree, StringTree, BooleanTree}
+use Rattle.graphql_directives.specs.in_literals.TypeTree.{TypeTree, NamedTree, NonNullNamedTree, ListTree, NonNullListTree}
+use Rattle.graphql_directives.specs.in_literals.ValueTree.{ValueTree, StringTree, BooleanTree}
 use Rattle.graphql_directives.specs.DirectiveTree.{InputValueTree}
 use Rattle.graphql_directives.specs.declared.directive_location.DirectiveLocation.{DirectiveLocation}
 use Rattle.graphql_directives.specs.declared.directive_location.DirectiveLocation.TheVariants as at
-use Rattle.graphql_type_members.specs.TypeSystemTree.{FieldDefinitionTree, EnumValueTree}
-use Rattle.graphql_definitions.specs.DefinitionTree.{DefinitionTree, DirectiveDefinition, ScalarType, ObjectType, EnumType}
+use Rattle.graphql_schema_types.specs.in_type_members.TypeSystemTree.{FieldDefinitionTree, EnumValueTree}
+use Rattle.graphql_schema_types.specs.in_definitions.DefinitionTree.{DefinitionTree, DirectiveDefinition, ScalarType, ObjectType, EnumType}
 
 -- the place of what is built in: file 0, offset 0, length 0
 abbrev pub built_in : Place

@@ -3,8 +3,8 @@ use Rattle.std.specs.Prelude.{◌≡◌, List, ◌++◌, map}
 use Rattle.std.specs.List.{flat_map}
 use Rattle.graphql_names.specs.Placed.{Placed, Place, Text}
 use Rattle.graphql_directives.specs.DirectiveTree.{DirectiveTree, InputValueTree, directive_tree, input_value_tree}
-use Rattle.graphql_type_members.specs.TypeSystemTree.{FieldDefinitionTree, EnumValueTree, field_definition_tree, enum_value_tree}
-use Rattle.graphql_components.specs.Given.{Given, component_tree, component_name_tree}
+use Rattle.graphql_schema_types.specs.in_type_members.TypeSystemTree.{FieldDefinitionTree, EnumValueTree, field_definition_tree, enum_value_tree}
+use Rattle.graphql_schema_types.specs.in_components.Given.{Given, component_tree, component_name_tree}
 use Rattle.graphql_schema_types.specs.TypeParts.{TypeParts}
 use Rattle.graphql_folding.specs.Components.{all_given}
 use Rattle.graphql_folding.specs.declared.collected.Collected.{Collected}

@@ -5,9 +5,9 @@ use Rattle.std.specs.Option.{option_map_or}
 use Rattle.std.specs.Str.{bytes_eq}
 use Rattle.graphql_names.specs.Placed.{Placed, Place}
 use Rattle.graphql_directives.specs.DirectiveTree.{InputValueTree}
-use Rattle.graphql_type_members.specs.TypeSystemTree.{FieldDefinitionTree, EnumValueTree}
-use Rattle.graphql_components.specs.Given.{Given, ExtensionTree}
-use Rattle.graphql_components.specs.Lists.{firsts}
+use Rattle.graphql_schema_types.specs.in_type_members.TypeSystemTree.{FieldDefinitionTree, EnumValueTree}
+use Rattle.graphql_schema_types.specs.in_components.Given.{Given, ExtensionTree}
+use Rattle.graphql_schema_types.specs.in_components.Lists.{firsts}
 use Rattle.graphql_schema_types.specs.SchemaTree.{same_kind}
 use Rattle.graphql_schema_types.specs.TypeParts.{TypeParts, TypeDefinition, type_extension_here}
 use Rattle.graphql_folding.specs.Listed.{Listed}

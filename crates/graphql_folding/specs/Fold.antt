@@ -5,9 +5,9 @@ use Rattle.std.specs.Option.{option_map_or}
 use Rattle.std.specs.Str.{bytes_eq}
 use Rattle.graphql_names.specs.Placed.{Placed, Place}
 use Rattle.graphql_directives.specs.DirectiveTree.{DirectiveDefinitionTree}
-use Rattle.graphql_components.specs.Lists.{firsts}
-use Rattle.graphql_components.specs.Names.{Entries}
-use Rattle.graphql_components.specs.Given.{given_name}
+use Rattle.graphql_schema_types.specs.in_components.Lists.{firsts}
+use Rattle.graphql_schema_types.specs.in_components.Names.{Entries}
+use Rattle.graphql_schema_types.specs.in_components.Given.{given_name}
 use Rattle.graphql_schema_types.specs.SchemaTree.{SchemaType, SchemaTree}
 use Rattle.graphql_schema_types.specs.TypeParts.{TypeDefinition}
 use Rattle.graphql_folding.specs.Listed.{Definitions, Listed, numbered, type_name, types_in, directive_name, directives_in}

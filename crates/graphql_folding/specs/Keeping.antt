@@ -2,9 +2,9 @@
 use Rattle.std.specs.Prelude.{◌≡◌, ℕ, List, [], ◌∷◌, ◌++◌, map, if◌then◌else◌}
 use Rattle.graphql_names.specs.NameValue.{NameValue}
 use Rattle.graphql_names.specs.Placed.{Placed, Place, Text}
-use Rattle.graphql_components.specs.Lists.{firsts, has_name}
-use Rattle.graphql_components.specs.Names.{Entries}
-use Rattle.graphql_components.specs.Given.{Given, given_name}
+use Rattle.graphql_schema_types.specs.in_components.Lists.{firsts, has_name}
+use Rattle.graphql_schema_types.specs.in_components.Names.{Entries}
+use Rattle.graphql_schema_types.specs.in_components.Given.{Given, given_name}
 use Rattle.graphql_folding.specs.Components.{keyed_firsts}
 use Rattle.graphql_folding.specs.BuildErrors.{Fault}
 use Rattle.graphql_folding.specs.FaultView.{repeat_breach}

@@ -2,10 +2,10 @@
 use Rattle.std.specs.Prelude.{◌≡◌, ℕ, List, [], ◌++◌, map}
 use Rattle.graphql_names.specs.Placed.{Placed, Place, Text}
 use Rattle.graphql_directives.specs.DirectiveTree.{DirectiveTree, InputValueTree, directive_tree, input_value_tree}
-use Rattle.graphql_type_members.specs.TypeSystemTree.{FieldDefinitionTree, EnumValueTree, field_definition_tree, enum_value_tree}
-use Rattle.graphql_components.specs.Lists.{firsts, repeats}
-use Rattle.graphql_components.specs.Names.{Entries, entries_of}
-use Rattle.graphql_components.specs.Given.{Given, component_tree, component_name_tree, given_name}
+use Rattle.graphql_schema_types.specs.in_type_members.TypeSystemTree.{FieldDefinitionTree, EnumValueTree, field_definition_tree, enum_value_tree}
+use Rattle.graphql_schema_types.specs.in_components.Lists.{firsts, repeats}
+use Rattle.graphql_schema_types.specs.in_components.Names.{Entries, entries_of}
+use Rattle.graphql_schema_types.specs.in_components.Given.{Given, component_tree, component_name_tree, given_name}
 use Rattle.graphql_schema_types.specs.TypeView.{name_text}
 use Rattle.graphql_schema_types.specs.declared.type_kind.TypeKind.{TypeKind}
 use Rattle.graphql_schema_types.specs.declared.type_kind.TypeKind.TheVariants as kind

@@ -15,3 +15,9 @@ pub mod ListedView
 pub mod Kept
 pub mod Made
 pub use Rattle.graphql_schema_types.specs as in_schema_types
+pub use Rattle.graphql_schema_types.specs.in_components as in_components
+pub use Rattle.graphql_schema_types.specs.in_definitions as in_definitions
+pub use Rattle.graphql_directives.specs as in_directives
+pub use Rattle.graphql_directives.specs.in_literals as in_literals
+pub use Rattle.graphql_operations.specs as in_operations
+pub use Rattle.graphql_schema_types.specs.in_type_members as in_type_members

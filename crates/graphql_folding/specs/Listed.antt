@@ -4,10 +4,10 @@ use Rattle.std.specs.List.{flat_map, filter, find}
 use Rattle.std.specs.Str.{bytes_eq}
 use Rattle.graphql_names.specs.Placed.{Placed, Place}
 use Rattle.graphql_directives.specs.DirectiveTree.{DirectiveDefinitionTree}
-use Rattle.graphql_definitions.specs.DefinitionTree.{DefinitionTree, DirectiveDefinition}
-use Rattle.graphql_definitions.specs.Queries.{is_extension, definition_place}
-use Rattle.graphql_components.specs.Lists.{each_place}
-use Rattle.graphql_components.specs.Given.{ExtensionTree}
+use Rattle.graphql_schema_types.specs.in_definitions.DefinitionTree.{DefinitionTree, DirectiveDefinition}
+use Rattle.graphql_schema_types.specs.in_definitions.Queries.{is_extension, definition_place}
+use Rattle.graphql_schema_types.specs.in_components.Lists.{each_place}
+use Rattle.graphql_schema_types.specs.in_components.Given.{ExtensionTree}
 use Rattle.graphql_schema_types.specs.TypeParts.{TypeDefinition, type_here}
 
 abbrev pub Definitions : Type 0

@@ -1,7 +1,7 @@
 -- What contracts see of a definition of the list.
 use Rattle.std.specs.Option.{option_map}
-use Rattle.graphql_definitions.specs.DefinitionTree.{definition_tree}
-use Rattle.graphql_components.specs.Given.{extension_tree}
+use Rattle.graphql_schema_types.specs.in_definitions.DefinitionTree.{definition_tree}
+use Rattle.graphql_schema_types.specs.in_components.Given.{extension_tree}
 use Rattle.graphql_folding.specs.Listed.{Listed}
 use Rattle.graphql_folding.specs.declared.listed.Listed.{Listed as Rust}
 

@@ -1,6 +1,6 @@
 -- The text of each breach of a folding rule: its template, filled with the names that it tells.
 use Rattle.std.specs.Prelude.{ℕ, List, ◌++◌, codes}
-use Rattle.graphql_values.specs.OperationQueries.{operation_keyword}
+use Rattle.graphql_schema_types.specs.in_values.OperationQueries.{operation_keyword}
 use Rattle.graphql_folding.specs.BuildErrors as breach
 use Rattle.graphql_folding.specs.BuildErrors.{Breach}
 

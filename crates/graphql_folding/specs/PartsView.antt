@@ -2,9 +2,9 @@
 use Rattle.std.specs.Prelude.{List, map}
 use Rattle.graphql_names.specs.Placed.{Placed, Place, name_tree, node_tree}
 use Rattle.graphql_directives.specs.DirectiveTree.{directives_tree, input_value_tree}
-use Rattle.graphql_type_members.specs.TypeSystemTree.{field_definition_tree, enum_value_tree}
-use Rattle.graphql_components.specs.Given.{Given, component_tree}
-use Rattle.graphql_components.specs.declared.component.Component.{Component}
+use Rattle.graphql_schema_types.specs.in_type_members.TypeSystemTree.{field_definition_tree, enum_value_tree}
+use Rattle.graphql_schema_types.specs.in_components.Given.{Given, component_tree}
+use Rattle.graphql_schema_types.specs.in_components.declared.component.Component.{Component}
 use Rattle.graphql_schema_types.specs.TypeParts.{TypeParts}
 use Rattle.graphql_folding.specs.declared.parts.Parts.{Parts}
 

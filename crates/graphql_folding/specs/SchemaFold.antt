@@ -4,12 +4,12 @@ use Rattle.std.specs.List.{flat_map, find}
 use Rattle.std.specs.Option.{option_map, option_map_or}
 use Rattle.std.specs.Str.{bytes_eq}
 use Rattle.graphql_names.specs.Placed.{Placed, Place, Text}
-use Rattle.graphql_values.specs.OperationQueries.{operation_keyword, default_root_name}
+use Rattle.graphql_schema_types.specs.in_values.OperationQueries.{operation_keyword, default_root_name}
 use Rattle.graphql_operations.specs.declared.operation.OperationType.{OperationType}
 use Rattle.graphql_operations.specs.declared.operation.OperationType.TheVariants as operation
-use Rattle.graphql_type_members.specs.TypeSystemTree.{RootOperationTree, SchemaParts}
-use Rattle.graphql_definitions.specs.DefinitionTree.{DefinitionTree, Schema, ExtendSchema}
-use Rattle.graphql_components.specs.Given.{Given}
+use Rattle.graphql_schema_types.specs.in_type_members.TypeSystemTree.{RootOperationTree, SchemaParts}
+use Rattle.graphql_schema_types.specs.in_definitions.DefinitionTree.{DefinitionTree, Schema, ExtendSchema}
+use Rattle.graphql_schema_types.specs.in_components.Given.{Given}
 use Rattle.graphql_schema_types.specs.SchemaTree.{SchemaRoots, same_kind}
 use Rattle.graphql_schema_types.specs.declared.type_kind.TypeKind.TheVariants.{Object}
 use Rattle.graphql_folding.specs.Listed.{Definitions, Listed, numbered, type_named}

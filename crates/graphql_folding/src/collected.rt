@@ -1,16 +1,17 @@
 //! All that a type is given, repeated components too.
 ghost use Rattle.std.specs.Prelude.{◌≡◌, ◌++◌, [], map, IfOk, OnOk};
 ghost use Rattle.graphql_names.specs.Placed.{name_tree, node_tree};
-ghost use Rattle.graphql_components.specs.Given.{origin_tree, component_tree, component_name_tree};
+ghost use Rattle.graphql_schema_types.specs.in_components.Given.{origin_tree, component_tree, component_name_tree};
 ghost use Rattle.graphql_folding.specs.Components.{all_given};
 ghost use Rattle.graphql_folding.specs.PartsView.{itself, given_contents, parts_view};
 ghost use Rattle.graphql_folding.specs.Collected.{collected, collected_from, collected_and};
 
 use crate::parts::Parts;
-use graphql_components::{Component, ComponentName, ComponentOrigin};
 use graphql_directives::{Directive, InputValueDefinition};
 use graphql_names::{Name, Node};
-use graphql_type_members::{EnumValueDefinition, FieldDefinition};
+use graphql_schema_types::{
+    Component, ComponentName, ComponentOrigin, EnumValueDefinition, FieldDefinition,
+};
 use std::alloc::{AllocError, Global};
 
 /// The node, shared, from that origin.

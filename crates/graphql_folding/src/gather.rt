@@ -9,7 +9,7 @@ ghost use Rattle.graphql_folding.specs.Collected.{collected, collected_from, Col
 use crate::collected::Collected;
 use crate::listed::Listed;
 use crate::parts::{Parts, extension_parts};
-use graphql_components::ComponentOrigin;
+use graphql_schema_types::ComponentOrigin;
 use std::alloc::AllocError;
 
 /// Collects all components of a type, where nothing was: those of its definition, and then those of each of these that

@@ -3,9 +3,9 @@ ghost use Rattle.std.specs.Prelude.{◌≡◌, ◌++◌, [], ◌∷◌, map, IfO
 ghost use Rattle.indexmap.specs.IndexMap.{get};
 ghost use Rattle.graphql_names.specs.NameValue.{NameValue};
 ghost use Rattle.graphql_names.specs.Node.{content};
-ghost use Rattle.graphql_components.specs.Lists.{firsts, repeats};
-ghost use Rattle.graphql_components.specs.Names.{entries_of, same_text};
-ghost use Rattle.graphql_components.specs.Given.{component_tree, component_name_tree, given_name};
+ghost use Rattle.graphql_schema_types.specs.in_components.Lists.{firsts, repeats};
+ghost use Rattle.graphql_schema_types.specs.in_components.Names.{entries_of, same_text};
+ghost use Rattle.graphql_schema_types.specs.in_components.Given.{component_tree, component_name_tree, given_name};
 ghost use Rattle.graphql_schema_types.specs.TypeView.{name_text};
 ghost use Rattle.graphql_folding.specs.Components.{keyed_firsts};
 ghost use Rattle.graphql_folding.specs.FaultView.{faults_of};
@@ -13,10 +13,9 @@ ghost use Rattle.graphql_folding.specs.PartsView.{itself, given_contents};
 ghost use Rattle.graphql_folding.specs.Keeping.{content_key, component_fault, name_fault, KeepsOn, KeepsNames};
 
 use crate::build_error::{BuildError, Repeat, note_repeat};
-use graphql_components::{Component, ComponentName};
 use graphql_directives::InputValueDefinition;
 use graphql_names::{Name, SourceSpan};
-use graphql_type_members::{EnumValueDefinition, FieldDefinition};
+use graphql_schema_types::{Component, ComponentName, EnumValueDefinition, FieldDefinition};
 use indexmap::{IndexMap, IndexSet};
 use std::alloc::AllocError;
 

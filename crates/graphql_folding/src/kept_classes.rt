@@ -7,11 +7,11 @@ ghost use Rattle.graphql_folding.specs.Kept.{KeepsNothing, kept, kept_from, inte
 use crate::build_error::{BuildError, Repeat};
 use crate::collected::Collected;
 use crate::keep::{keep_components, keep_names};
-use graphql_components::{Component, ComponentName};
 use graphql_directives::{Directive, InputValueDefinition};
 use graphql_names::{Name, SourceSpan};
-use graphql_schema_types::TypeKind;
-use graphql_type_members::{EnumValueDefinition, FieldDefinition};
+use graphql_schema_types::{
+    Component, ComponentName, EnumValueDefinition, FieldDefinition, TypeKind,
+};
 use indexmap::{IndexMap, IndexSet};
 use std::alloc::{AllocError, Global};
 use std::mem;

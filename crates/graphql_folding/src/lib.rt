@@ -19,5 +19,8 @@ mod parts;
 
 pub use build_error::{BuildError, Repeat};
 pub use fold::fold_type;
+pub use graphql_schema_types::{
+    Definition, Document, ExtendedType, SchemaDefinition, SourceFile, TypeKind,
+};
 pub use listed::Listed;
 pub use parts::{Defined, Parts, extension_parts, type_definition};

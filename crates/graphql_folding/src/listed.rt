@@ -1,10 +1,9 @@
 //! The list of definitions, each extension with its number.
 ghost use Rattle.std.specs.Prelude.{◌≡◌};
 ghost use Rattle.std.specs.Option.{option_map};
-ghost use Rattle.graphql_components.specs.Given.{extension_tree, origin_tree};
+ghost use Rattle.graphql_schema_types.specs.in_components.Given.{extension_tree, origin_tree};
 
-use graphql_components::{ComponentOrigin, ExtensionId};
-use graphql_definitions::Definition;
+use graphql_schema_types::{ComponentOrigin, Definition, ExtensionId};
 
 /// A definition of the list, and its number if it is an extension.
 pub struct Listed {

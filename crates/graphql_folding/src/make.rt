@@ -9,11 +9,10 @@ ghost use Rattle.graphql_folding.specs.Made.{defined_view, made, headed, IsOfKin
 
 use crate::kept_classes::Kept;
 use crate::parts::Defined;
-use graphql_components::DirectiveList;
 use graphql_names::{Name, NodeStr};
 use graphql_schema_types::{
-    EnumType, ExtendedType, InputObjectType, InterfaceType, ObjectType, ScalarType, TypeKind,
-    UnionType, node_at, shared_description,
+    DirectiveList, EnumType, ExtendedType, InputObjectType, InterfaceType, ObjectType, ScalarType,
+    TypeKind, UnionType, node_at, shared_description,
 };
 use indexmap::{IndexMap, IndexSet};
 use std::alloc::{AllocError, Global};

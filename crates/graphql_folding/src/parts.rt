@@ -3,17 +3,15 @@ ghost use Rattle.std.specs.Prelude.{◌≡◌, [], map};
 ghost use Rattle.std.specs.Option.{option_map};
 ghost use Rattle.graphql_names.specs.Placed.{name_tree, node_tree};
 ghost use Rattle.graphql_directives.specs.DirectiveTree.{directives_tree, input_value_tree};
-ghost use Rattle.graphql_type_members.specs.TypeSystemTree.{field_definition_tree, enum_value_tree};
-ghost use Rattle.graphql_definitions.specs.DefinitionTree.{definition_tree};
+ghost use Rattle.graphql_schema_types.specs.in_type_members.TypeSystemTree.{field_definition_tree, enum_value_tree};
+ghost use Rattle.graphql_schema_types.specs.in_definitions.DefinitionTree.{definition_tree};
 ghost use Rattle.graphql_schema_types.specs.TypeParts.{type_here, type_extension_here};
 ghost use Rattle.graphql_folding.specs.PartsView.{parts_view};
 ghost use Rattle.graphql_folding.specs.Made.{defined_view};
 
-use graphql_definitions::Definition;
 use graphql_directives::{DirectiveList, InputValueDefinition};
 use graphql_names::{Name, Node, NodeStr, SourceSpan};
-use graphql_schema_types::TypeKind;
-use graphql_type_members::{EnumValueDefinition, FieldDefinition};
+use graphql_schema_types::{Definition, EnumValueDefinition, FieldDefinition, TypeKind};
 
 /// What a definition or an extension gives to its type. Interfaces, fields, members, values and input fields
 /// are empty where the kind has none.

@@ -1,6 +1,6 @@
 -- What a value is read as, by the next token.
 use Rattle.std.proofs.Common.{◌≡◌, ℕ, zero, suc, Bool, true, false, Err, refl}
-use Rattle.graphql_literals.specs.ValueTree.{ValueTree, EnumTree, VariableTree}
+use Rattle.graphql_ast.specs.in_literals.ValueTree.{ValueTree, EnumTree, VariableTree}
 use Rattle.graphql_lexer.specs.Input.{Input, next}
 use Rattle.graphql_grammar.specs.declared.stop.Stop.TheVariants.{Unexpected}
 use Rattle.graphql_grammar.specs.Meaning.{Meaning}

@@ -1,6 +1,6 @@
 -- Documents are read exactly, steadily, and within the limit.
 use Rattle.std.proofs.Common.{ℕ, ◌≤◌, refl, inl, inr, ◌⊎◌}
-use Rattle.graphql_definitions.specs.DefinitionTree.{Operation, Fragment}
+use Rattle.graphql_ast.specs.in_definitions.DefinitionTree.{Operation, Fragment}
 use Rattle.graphql_grammar.specs.Meaning.{Meaning}
 use Rattle.graphql_grammar.specs.Kinds.{next_is, is_string, is_schema, is_directive, is_fragment, is_extend}
 use Rattle.graphql_grammar.specs.Begins.{begins_kind, begins_operation, begins_type_system, begins_definition}
@@ -8,7 +8,7 @@ use Rattle.graphql_grammar.specs.Rules as rule
 use Rattle.graphql_grammar.specs.Rules.{Rule, ◌<$>◌, ◌∣◌}
 use Rattle.graphql_grammar.specs.TypeSystemGrammar as tg
 use Rattle.graphql_grammar.specs.TypeSystemGrammar.{KindTree, SchemaKind}
-use Rattle.graphql_directives.specs.DirectiveTree.{DirectiveDefinitionTree}
+use Rattle.graphql_ast.specs.in_directives.DirectiveTree.{DirectiveDefinitionTree}
 use Rattle.graphql_grammar.specs.Grammar as g
 use Rattle.graphql_grammar.specs.Grammar.{type_system_of, extension_of, has_part}
 use Rattle.graphql_grammar.specs.DocumentReading as d

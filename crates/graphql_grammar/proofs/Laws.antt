@@ -1,8 +1,8 @@
 -- The three symbols of calls: what the reading of all tokens says of each, and that tokens derive one tree.
 use Rattle.std.proofs.Common.{◌≡◌, ◌≢◌, ℕ, ◌≤◌, List, Ok, Err, refl}
-use Rattle.graphql_literals.specs.TypeTree.{TypeTree}
-use Rattle.graphql_operations.specs.SelectionTree.{SelectionTrees}
-use Rattle.graphql_definitions.specs.DefinitionTree.{DefinitionTree}
+use Rattle.graphql_ast.specs.in_literals.TypeTree.{TypeTree}
+use Rattle.graphql_ast.specs.in_operations.SelectionTree.{SelectionTrees}
+use Rattle.graphql_ast.specs.in_definitions.DefinitionTree.{DefinitionTree}
 use Rattle.graphql_lexer.specs.Input.{Token, Input}
 use Rattle.graphql_grammar.specs.declared.stop.Stop.{Stop}
 use Rattle.graphql_grammar.specs.declared.stop.Stop.TheVariants.{Memory}

@@ -1,8 +1,8 @@
 -- Values, arguments, directives and types are read exactly, steadily, and within the limit.
 use Rattle.std.proofs.Common.{ℕ, zero, suc, ◌≤◌, Bool, true, false, cond, refl, arith}
-use Rattle.graphql_literals.specs.ValueTree.{ValueTree, NullTree, EnumTree, VariableTree, StringTree, FloatTree, IntTree, BooleanTree, ListTree, ObjectTree}
-use Rattle.graphql_literals.specs.TypeTree.{TypeTree, NamedTree}
-use Rattle.graphql_literals.specs.TypeTree as types
+use Rattle.graphql_ast.specs.in_literals.ValueTree.{ValueTree, NullTree, EnumTree, VariableTree, StringTree, FloatTree, IntTree, BooleanTree, ListTree, ObjectTree}
+use Rattle.graphql_ast.specs.in_literals.TypeTree.{TypeTree, NamedTree}
+use Rattle.graphql_ast.specs.in_literals.TypeTree as types
 use Rattle.graphql_lexer.specs.declared.terminal.Terminal.{Terminal}
 use Rattle.graphql_grammar.specs.Meaning.{Meaning, name_of}
 use Rattle.graphql_grammar.specs.Kinds.{next_is, is_name, is_enum_value, is_string, is_int, is_float, is_true, is_false, is_boolean, is_null, is_dollar, is_colon, is_at, is_equals, is_bang, is_open_bracket, is_close_bracket, is_open_brace, is_close_brace, is_open_paren, is_close_paren}

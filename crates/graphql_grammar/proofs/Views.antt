@@ -5,10 +5,10 @@ use Rattle.graphql_names.specs.Node.{content, place}
 use Rattle.graphql_names.specs.declared.name.Name.{Name}
 use Rattle.graphql_names.specs.declared.node.Node.{Node}
 use Rattle.graphql_names.specs.Placed.{Placed, Place, Text, name_tree, node_tree}
-use Rattle.graphql_literals.specs.ValueTree.{ValueTree, item_then, entry_then, item_trees, entry_trees, value_tree}
-use Rattle.graphql_operations.specs.SelectionTree.{selection_then, selection_trees, selection_tree}
-use Rattle.graphql_literals.specs.declared.value.Value.{Value}
-use Rattle.graphql_operations.specs.declared.selection.Selection.{Selection}
+use Rattle.graphql_ast.specs.in_literals.ValueTree.{ValueTree, item_then, entry_then, item_trees, entry_trees, value_tree}
+use Rattle.graphql_ast.specs.in_operations.SelectionTree.{selection_then, selection_trees, selection_tree}
+use Rattle.graphql_ast.specs.in_literals.declared.value.Value.{Value}
+use Rattle.graphql_ast.specs.in_operations.declared.selection.Selection.{Selection}
 use Rattle.graphql_grammar.specs.ValueGrammar.{items_of, entries_of}
 use Rattle.graphql_grammar.specs.OperationGrammar.{selections_of}
 

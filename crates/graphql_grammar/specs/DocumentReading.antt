@@ -1,8 +1,8 @@
 -- Private layer: how documents are read. No public clause cites it.
 use Rattle.std.specs.Prelude.{ℕ, List, ◌⊎◌}
 use Rattle.std.proofs.Common.{inl, inr}
-use Rattle.graphql_directives.specs.DirectiveTree.{DirectiveDefinitionTree}
-use Rattle.graphql_definitions.specs.DefinitionTree.{DefinitionTree, Operation, Fragment}
+use Rattle.graphql_ast.specs.in_directives.DirectiveTree.{DirectiveDefinitionTree}
+use Rattle.graphql_ast.specs.in_definitions.DefinitionTree.{DefinitionTree, Operation, Fragment}
 use Rattle.graphql_grammar.specs.Meaning.{Meaning}
 use Rattle.graphql_grammar.specs.Kinds.{is_string, is_schema, is_directive, is_fragment, is_extend}
 use Rattle.graphql_grammar.specs.Begins.{begins_kind, begins_operation, begins_type_system, begins_definition}

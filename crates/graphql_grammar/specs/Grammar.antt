@@ -2,10 +2,10 @@
 use Rattle.std.specs.Prelude.{◌≡◌, ℕ, Bool, true, false, ◌&&◌, not, List, [], ◌∷◌, Option, ◌⊎◌}
 use Rattle.std.proofs.Common.{inl, inr}
 use Rattle.graphql_names.specs.Placed.{Placed, Text}
-use Rattle.graphql_literals.specs.TypeTree.{TypeTree}
-use Rattle.graphql_operations.specs.SelectionTree.{SelectionTrees}
-use Rattle.graphql_directives.specs.DirectiveTree.{DirectiveDefinitionTree}
-use Rattle.graphql_definitions.specs.DefinitionTree.{DefinitionTree, Operation, Fragment, DirectiveDefinition, Schema, ScalarType, ObjectType, InterfaceType, UnionType, EnumType, InputObjectType, ExtendSchema, ExtendScalar, ExtendObject, ExtendInterface, ExtendUnion, ExtendEnum, ExtendInputObject}
+use Rattle.graphql_ast.specs.in_literals.TypeTree.{TypeTree}
+use Rattle.graphql_ast.specs.in_operations.SelectionTree.{SelectionTrees}
+use Rattle.graphql_ast.specs.in_directives.DirectiveTree.{DirectiveDefinitionTree}
+use Rattle.graphql_ast.specs.in_definitions.DefinitionTree.{DefinitionTree, Operation, Fragment, DirectiveDefinition, Schema, ScalarType, ObjectType, InterfaceType, UnionType, EnumType, InputObjectType, ExtendSchema, ExtendScalar, ExtendObject, ExtendInterface, ExtendUnion, ExtendEnum, ExtendInputObject}
 use Rattle.graphql_lexer.specs.Input.{Token, Input}
 use Rattle.graphql_grammar.specs.Meaning.{Meaning, start}
 use Rattle.graphql_grammar.specs.Kinds.{is_extend}

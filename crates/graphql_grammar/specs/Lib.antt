@@ -17,3 +17,8 @@ pub mod OperationReading
 pub mod TypeSystemReading
 pub mod DocumentReading
 pub mod Stops
+pub use Rattle.graphql_ast.specs.in_definitions as in_definitions
+pub use Rattle.graphql_ast.specs.in_input_types as in_input_types
+pub use Rattle.graphql_ast.specs.in_operations as in_operations
+pub use Rattle.graphql_ast.specs.in_type_members as in_type_members
+pub use Rattle.graphql_ast.specs.in_values as in_values

@@ -1,8 +1,8 @@
 -- The names of directive locations (GraphQL, October 2021, section 3.13).
 use Rattle.std.specs.Prelude.{ℕ, List, [], ◌∷◌, if◌then◌else◌, bytes_eq}
-use Rattle.graphql_values.specs.OperationQueries.{location_keyword}
-use Rattle.graphql_directives.specs.declared.directive_location.DirectiveLocation.{DirectiveLocation}
-use Rattle.graphql_directives.specs.declared.directive_location.DirectiveLocation.TheVariants as location
+use Rattle.graphql_ast.specs.in_values.OperationQueries.{location_keyword}
+use Rattle.graphql_ast.specs.in_directives.declared.directive_location.DirectiveLocation.{DirectiveLocation}
+use Rattle.graphql_ast.specs.in_directives.declared.directive_location.DirectiveLocation.TheVariants as location
 
 abbrev pub locations : List DirectiveLocation
 locations =

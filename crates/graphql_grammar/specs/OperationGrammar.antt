@@ -1,13 +1,13 @@
 -- The grammar of selections, operations and fragments (GraphQL, October 2021, appendix B): a rule for each symbol.
 use Rattle.std.specs.Prelude.{ℕ, zero, suc, List, [], ◌∷◌, Option, None, unwrap_or}
 use Rattle.graphql_names.specs.Placed.{Placed, Text}
-use Rattle.graphql_literals.specs.ValueTree.{ValueTree}
-use Rattle.graphql_literals.specs.TypeTree.{TypeTree}
-use Rattle.graphql_directives.specs.DirectiveTree.{Arguments, Directives}
-use Rattle.graphql_operations.specs.SelectionTree.{SelectionTree, SelectionTrees, FieldTree, SpreadTree, InlineTree, no_selections, selection_then}
-use Rattle.graphql_operations.specs.OperationTree.{VariableDefinitionTree, OperationTree, FragmentTree}
-use Rattle.graphql_operations.specs.declared.operation.OperationType.{OperationType}
-use Rattle.graphql_operations.specs.declared.operation.OperationType.TheVariants.{Query, Mutation, Subscription}
+use Rattle.graphql_ast.specs.in_literals.ValueTree.{ValueTree}
+use Rattle.graphql_ast.specs.in_literals.TypeTree.{TypeTree}
+use Rattle.graphql_ast.specs.in_directives.DirectiveTree.{Arguments, Directives}
+use Rattle.graphql_ast.specs.in_operations.SelectionTree.{SelectionTree, SelectionTrees, FieldTree, SpreadTree, InlineTree, no_selections, selection_then}
+use Rattle.graphql_ast.specs.in_operations.OperationTree.{VariableDefinitionTree, OperationTree, FragmentTree}
+use Rattle.graphql_ast.specs.in_operations.declared.operation.OperationType.{OperationType}
+use Rattle.graphql_ast.specs.in_operations.declared.operation.OperationType.TheVariants.{Query, Mutation, Subscription}
 use Rattle.graphql_grammar.specs.Meaning.{Meaning, name_of}
 use Rattle.graphql_grammar.specs.Kinds.{is_fragment_name, is_colon, is_spread, is_on, is_fragment, is_query, is_mutation, is_subscription, is_open_brace, is_close_brace, is_open_paren, is_close_paren}
 use Rattle.graphql_grammar.specs.Rules.{Rule, one, mark, ◌·◌, ◌<$>◌, ◌∣◌, nothing, optional, some, between, placed}

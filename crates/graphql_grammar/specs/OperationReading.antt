@@ -2,11 +2,11 @@
 use Rattle.std.specs.Prelude.{ℕ, zero, suc, List, Option, Some, None, ◌⊎◌}
 use Rattle.std.proofs.Common.{inl, inr}
 use Rattle.graphql_names.specs.Placed.{Placed, Text}
-use Rattle.graphql_directives.specs.DirectiveTree.{Directives}
-use Rattle.graphql_operations.specs.SelectionTree.{SelectionTree, SelectionTrees}
-use Rattle.graphql_operations.specs.OperationTree.{VariableDefinitionTree, OperationTree, FragmentTree}
-use Rattle.graphql_operations.specs.declared.operation.OperationType.{OperationType}
-use Rattle.graphql_operations.specs.declared.operation.OperationType.TheVariants.{Query, Mutation, Subscription}
+use Rattle.graphql_ast.specs.in_directives.DirectiveTree.{Directives}
+use Rattle.graphql_ast.specs.in_operations.SelectionTree.{SelectionTree, SelectionTrees}
+use Rattle.graphql_ast.specs.in_operations.OperationTree.{VariableDefinitionTree, OperationTree, FragmentTree}
+use Rattle.graphql_ast.specs.in_operations.declared.operation.OperationType.{OperationType}
+use Rattle.graphql_ast.specs.in_operations.declared.operation.OperationType.TheVariants.{Query, Mutation, Subscription}
 use Rattle.graphql_grammar.specs.Meaning.{Meaning, name_of}
 use Rattle.graphql_grammar.specs.Kinds.{is_name, is_fragment_name, is_colon, is_spread, is_on, is_at, is_equals, is_dollar, is_fragment, is_query, is_mutation, is_subscription, is_open_brace, is_close_brace, is_open_paren, is_close_paren}
 use Rattle.graphql_grammar.specs.Begins.{begins_selection}

@@ -1,9 +1,9 @@
 -- Private layer: how the type system is read. No public clause cites it.
 use Rattle.std.specs.Prelude.{ℕ, zero, suc, List}
 use Rattle.graphql_names.specs.Placed.{Placed, Text}
-use Rattle.graphql_directives.specs.DirectiveTree.{InputValueTree, InputValues, DirectiveDefinitionTree}
-use Rattle.graphql_directives.specs.declared.directive_location.DirectiveLocation.{DirectiveLocation}
-use Rattle.graphql_type_members.specs.TypeSystemTree.{FieldDefinitionTree, EnumValueTree, RootOperationTree, SchemaParts, ScalarParts, FieldsParts, UnionParts, EnumParts, InputObjectParts}
+use Rattle.graphql_ast.specs.in_directives.DirectiveTree.{InputValueTree, InputValues, DirectiveDefinitionTree}
+use Rattle.graphql_ast.specs.in_directives.declared.directive_location.DirectiveLocation.{DirectiveLocation}
+use Rattle.graphql_ast.specs.in_type_members.TypeSystemTree.{FieldDefinitionTree, EnumValueTree, RootOperationTree, SchemaParts, ScalarParts, FieldsParts, UnionParts, EnumParts, InputObjectParts}
 use Rattle.graphql_grammar.specs.Meaning.{Meaning, text_of}
 use Rattle.graphql_grammar.specs.Kinds.{is_string, is_colon, is_at, is_equals, is_ampersand, is_pipe, is_on, is_location, is_repeatable, is_implements, is_schema, is_scalar, is_type, is_interface, is_union, is_enum, is_input, is_directive, is_operation_type, is_open_brace, is_close_brace, is_open_paren, is_close_paren}
 use Rattle.graphql_grammar.specs.Begins.{begins_described_name}

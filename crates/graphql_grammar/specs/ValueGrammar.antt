@@ -2,10 +2,10 @@
 -- how deep brackets may nest.
 use Rattle.std.specs.Prelude.{ℕ, zero, suc, Bool, true, false, List, [], ◌∷◌, Option, Some, None, unwrap_or}
 use Rattle.graphql_names.specs.Placed.{Placed, Text}
-use Rattle.graphql_literals.specs.ValueTree.{ValueTree, NullTree, EnumTree, VariableTree, StringTree, FloatTree, IntTree, BooleanTree, ListTree, ObjectTree, ItemTrees, no_items, item_then, EntryTrees, no_entries, entry_then}
-use Rattle.graphql_directives.specs.DirectiveTree.{ArgumentTree, Arguments, DirectiveTree, Directives}
-use Rattle.graphql_literals.specs.TypeTree.{TypeTree, NamedTree, NonNullNamedTree, NonNullListTree}
-use Rattle.graphql_literals.specs.TypeTree as types
+use Rattle.graphql_ast.specs.in_literals.ValueTree.{ValueTree, NullTree, EnumTree, VariableTree, StringTree, FloatTree, IntTree, BooleanTree, ListTree, ObjectTree, ItemTrees, no_items, item_then, EntryTrees, no_entries, entry_then}
+use Rattle.graphql_ast.specs.in_directives.DirectiveTree.{ArgumentTree, Arguments, DirectiveTree, Directives}
+use Rattle.graphql_ast.specs.in_literals.TypeTree.{TypeTree, NamedTree, NonNullNamedTree, NonNullListTree}
+use Rattle.graphql_ast.specs.in_literals.TypeTree as types
 use Rattle.graphql_grammar.specs.Meaning.{Meaning, name_of}
 use Rattle.graphql_grammar.specs.Kinds.{is_name, is_enum_value, is_string, is_int, is_float, is_true, is_false, is_null, is_dollar, is_colon, is_at, is_equals, is_bang, is_open_bracket, is_close_bracket, is_open_brace, is_close_brace, is_open_paren, is_close_paren}
 use Rattle.graphql_grammar.specs.Rules.{Rule, one, mark, ◌·◌, ◌<$>◌, ◌∣◌, nothing, unless, optional, many, some, between, placed}

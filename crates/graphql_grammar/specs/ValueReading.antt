@@ -1,10 +1,10 @@
 -- Private layer: how values, arguments, directives and types are read. No public clause cites it.
 use Rattle.std.specs.Prelude.{ℕ, zero, suc, true, false}
 use Rattle.graphql_names.specs.Placed.{Placed, Text}
-use Rattle.graphql_literals.specs.ValueTree.{ValueTree, NullTree, EnumTree, VariableTree, StringTree, FloatTree, IntTree, BooleanTree, ListTree, ObjectTree}
-use Rattle.graphql_directives.specs.DirectiveTree.{ArgumentTree, Arguments, DirectiveTree, Directives}
-use Rattle.graphql_literals.specs.TypeTree.{TypeTree, NamedTree}
-use Rattle.graphql_literals.specs.TypeTree as types
+use Rattle.graphql_ast.specs.in_literals.ValueTree.{ValueTree, NullTree, EnumTree, VariableTree, StringTree, FloatTree, IntTree, BooleanTree, ListTree, ObjectTree}
+use Rattle.graphql_ast.specs.in_directives.DirectiveTree.{ArgumentTree, Arguments, DirectiveTree, Directives}
+use Rattle.graphql_ast.specs.in_literals.TypeTree.{TypeTree, NamedTree}
+use Rattle.graphql_ast.specs.in_literals.TypeTree as types
 use Rattle.graphql_grammar.specs.Meaning.{Meaning, name_of}
 use Rattle.graphql_grammar.specs.Kinds.{is_name, is_enum_value, is_string, is_int, is_float, is_true, is_false, is_boolean, is_null, is_dollar, is_colon, is_at, is_equals, is_bang, is_open_bracket, is_close_bracket, is_open_brace, is_close_brace, is_open_paren, is_close_paren}
 use Rattle.graphql_grammar.specs.Begins.{begins_value}

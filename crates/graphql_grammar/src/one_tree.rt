@@ -1,9 +1,9 @@
 //! Laws of the grammar, each the contract of a function.
 ghost use Rattle.std.specs.Prelude.{◌≡◌, List};
 ghost use Rattle.graphql_names.specs.Placed.{Place};
-ghost use Rattle.graphql_literals.specs.TypeTree.{TypeTree};
-ghost use Rattle.graphql_operations.specs.SelectionTree.{SelectionTrees};
-ghost use Rattle.graphql_definitions.specs.DefinitionTree.{DefinitionTree};
+ghost use Rattle.graphql_ast.specs.in_literals.TypeTree.{TypeTree};
+ghost use Rattle.graphql_ast.specs.in_operations.SelectionTree.{SelectionTrees};
+ghost use Rattle.graphql_ast.specs.in_definitions.DefinitionTree.{DefinitionTree};
 ghost use Rattle.graphql_lexer.specs.Input.{Token};
 ghost use Rattle.graphql_grammar.specs.Meaning.{Meaning};
 ghost use Rattle.graphql_grammar.specs.Grammar.{Derives, DerivesType, DerivesSelections};

@@ -1,10 +1,10 @@
 -- The parts of definitions and extensions of the schema (GraphQL, October 2021, section 3.3) and of the types that
 -- input can have (sections 3.5, 3.9 and 3.10).
 use Rattle.std.specs.Prelude.{map}
-use Rattle.graphql_values.specs.Placed.{Place, name_tree, node_tree}
-use Rattle.graphql_values.specs.DirectiveTree.{directives_tree, input_value_tree}
+use Rattle.graphql_names.specs.Placed.{Place, name_tree, node_tree}
+use Rattle.graphql_type_members.specs.in_directives.DirectiveTree.{directives_tree, input_value_tree}
 use Rattle.graphql_type_members.specs.TypeSystemTree.{SchemaParts, RootOperationTree, ScalarParts, EnumParts, InputObjectParts, enum_value_tree}
-use Rattle.graphql_operations.specs.declared.operation.OperationType.{OperationType}
+use Rattle.graphql_type_members.specs.in_operations.declared.operation.OperationType.{OperationType}
 use Rattle.graphql_names.specs.declared.name.Name.{Name}
 use Rattle.graphql_input_types.specs.declared.scalar_type.ScalarTypeDefinition.{ScalarTypeDefinition}
 use Rattle.graphql_input_types.specs.declared.scalar_type.ScalarTypeExtension.{ScalarTypeExtension}

@@ -1,11 +1,11 @@
 //! Enum types.
 ghost use Rattle.std.specs.Prelude.{◌≡◌};
 ghost use Rattle.std.specs.Option.{option_map};
-ghost use Rattle.graphql_values.specs.Placed.{text_tree};
+ghost use Rattle.graphql_names.specs.Placed.{text_tree};
 ghost use Rattle.graphql_input_types.specs.InputTypeTree.{enum_parts, enum_extension_parts};
 
-use graphql_type_members::{EnumValueDefinition, clone_described, clone_head};
-use graphql_values::{DirectiveList, Name, Node, NodeStr};
+use graphql_names::{Name, Node, NodeStr};
+use graphql_type_members::{DirectiveList, EnumValueDefinition, clone_described, clone_head};
 use std::alloc::AllocError;
 
 /// `enum name @directives { values }` (section 3.9).

@@ -1,11 +1,11 @@
 //! Input object types.
 ghost use Rattle.std.specs.Prelude.{◌≡◌};
 ghost use Rattle.std.specs.Option.{option_map};
-ghost use Rattle.graphql_values.specs.Placed.{text_tree};
+ghost use Rattle.graphql_names.specs.Placed.{text_tree};
 ghost use Rattle.graphql_input_types.specs.InputTypeTree.{input_object_parts, input_object_extension_parts};
 
-use graphql_type_members::{clone_described, clone_head};
-use graphql_values::{DirectiveList, InputValueDefinition, Name, Node, NodeStr};
+use graphql_names::{Name, Node, NodeStr};
+use graphql_type_members::{DirectiveList, InputValueDefinition, clone_described, clone_head};
 use std::alloc::AllocError;
 
 /// `input name @directives { fields }` (section 3.10).

@@ -1,19 +1,18 @@
 //! Definitions and extensions of the schema.
 ghost use Rattle.std.specs.Prelude.{map};
 ghost use Rattle.std.specs.Option.{option_copied, option_map};
-ghost use Rattle.graphql_values.specs.Placed.{node_tree, name_tree, text_tree};
-ghost use Rattle.graphql_values.specs.Levels.{level_depth};
-ghost use Rattle.graphql_values.specs.LineLayout.{member_text, members_text, set_text};
-ghost use Rattle.graphql_values.specs.StringLayout.{description_text};
-ghost use Rattle.graphql_values.specs.ValueLayout.{texts_of};
+ghost use Rattle.graphql_names.specs.Placed.{node_tree, name_tree, text_tree};
+ghost use Rattle.graphql_printing.specs.Levels.{level_depth};
+ghost use Rattle.graphql_printing.specs.LineLayout.{member_text, members_text, set_text};
+ghost use Rattle.graphql_printing.specs.StringLayout.{description_text};
+ghost use Rattle.graphql_type_members.specs.in_values.ValueLayout.{texts_of};
 ghost use Rattle.graphql_type_members.specs.TypeSystemLayout.{extend, root_text, schema_text};
 ghost use Rattle.graphql_input_types.specs.InputTypeTree.{root_tree, schema_parts, schema_extension_parts};
 
 use crate::schema::{SchemaDefinition, SchemaExtension};
-use graphql_values::{
-    Level, NamedType, Node, OperationType, Sink, put_break, put_description, put_directives,
-    put_keyword,
-};
+use graphql_names::Node;
+use graphql_printing::{Level, Sink, put_break, put_description};
+use graphql_type_members::{NamedType, OperationType, put_directives, put_keyword};
 
 fn put_root<S: Sink>(sink: &mut S, operation: OperationType, name: &NamedType)
     ensures { S.puts sink.old (root_text (record { operation_type = operation; name = name_tree name.now }) 0) sink.new }

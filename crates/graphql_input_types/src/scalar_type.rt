@@ -1,11 +1,11 @@
 //! Scalar types.
 ghost use Rattle.std.specs.Prelude.{◌≡◌};
 ghost use Rattle.std.specs.Option.{option_map};
-ghost use Rattle.graphql_values.specs.Placed.{text_tree};
+ghost use Rattle.graphql_names.specs.Placed.{text_tree};
 ghost use Rattle.graphql_input_types.specs.InputTypeTree.{scalar_parts, scalar_extension_parts};
 
-use graphql_type_members::{clone_described, clone_head};
-use graphql_values::{DirectiveList, Name, NodeStr};
+use graphql_names::{Name, NodeStr};
+use graphql_type_members::{DirectiveList, clone_described, clone_head};
 use std::alloc::AllocError;
 
 /// `scalar name @directives` (section 3.5).

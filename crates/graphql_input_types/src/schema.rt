@@ -1,11 +1,11 @@
 //! Schema definitions: the root operation types.
 ghost use Rattle.std.specs.Prelude.{◌≡◌};
 ghost use Rattle.std.specs.Option.{option_map};
-ghost use Rattle.graphql_values.specs.Placed.{text_tree};
+ghost use Rattle.graphql_names.specs.Placed.{text_tree};
 ghost use Rattle.graphql_input_types.specs.InputTypeTree.{schema_parts, schema_extension_parts};
 
-use graphql_type_members::clone_description;
-use graphql_values::{DirectiveList, NamedType, Node, NodeStr, OperationType};
+use graphql_names::{Node, NodeStr};
+use graphql_type_members::{DirectiveList, NamedType, OperationType, clone_description};
 use std::alloc::AllocError;
 
 /// `schema @directives { root operation types }` (section 3.3).

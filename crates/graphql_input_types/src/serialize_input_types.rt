@@ -1,9 +1,9 @@
 //! The texts of scalars, enums and input objects by themselves.
 ghost use Rattle.std.specs.Prelude.{Some};
 ghost use Rattle.std.specs.Option.{option_map};
-ghost use Rattle.graphql_values.specs.Placed.{text_tree};
-ghost use Rattle.graphql_values.specs.LineLayout.{default_prefix, standing};
-ghost use Rattle.graphql_values.specs.StringLayout.{description_text};
+ghost use Rattle.graphql_names.specs.Placed.{text_tree};
+ghost use Rattle.graphql_printing.specs.LineLayout.{default_prefix, standing};
+ghost use Rattle.graphql_printing.specs.StringLayout.{description_text};
 ghost use Rattle.graphql_type_members.specs.TypeSystemLayout.{extend, scalar_text, enum_text, input_object_text};
 ghost use Rattle.graphql_input_types.specs.InputTypeTree.{scalar_parts, scalar_extension_parts, enum_parts, enum_extension_parts, input_object_parts, input_object_extension_parts};
 
@@ -14,7 +14,7 @@ use crate::print_input_types::{
     put_input_object_extension, put_scalar_definition, put_scalar_extension,
 };
 use crate::scalar_type::{ScalarTypeDefinition, ScalarTypeExtension};
-use graphql_values::{Level, Sink, Tree, put_start};
+use graphql_printing::{Level, Sink, Tree, put_start};
 use std::fmt;
 
 impl Tree for ScalarTypeDefinition {

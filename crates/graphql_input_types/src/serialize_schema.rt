@@ -1,15 +1,15 @@
 //! The texts of schema definitions and extensions by themselves.
 ghost use Rattle.std.specs.Prelude.{Some};
 ghost use Rattle.std.specs.Option.{option_map};
-ghost use Rattle.graphql_values.specs.Placed.{text_tree};
-ghost use Rattle.graphql_values.specs.LineLayout.{default_prefix, standing};
-ghost use Rattle.graphql_values.specs.StringLayout.{description_text};
+ghost use Rattle.graphql_names.specs.Placed.{text_tree};
+ghost use Rattle.graphql_printing.specs.LineLayout.{default_prefix, standing};
+ghost use Rattle.graphql_printing.specs.StringLayout.{description_text};
 ghost use Rattle.graphql_type_members.specs.TypeSystemLayout.{extend, schema_text};
 ghost use Rattle.graphql_input_types.specs.InputTypeTree.{schema_parts, schema_extension_parts};
 
 use crate::print_schema::{put_schema_definition, put_schema_extension};
 use crate::schema::{SchemaDefinition, SchemaExtension};
-use graphql_values::{Level, Sink, Tree, put_start};
+use graphql_printing::{Level, Sink, Tree, put_start};
 use std::fmt;
 
 impl Tree for SchemaDefinition {

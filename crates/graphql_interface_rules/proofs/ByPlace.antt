@@ -7,12 +7,12 @@ use Rattle.graphql_type_members.specs.TypeSystemTree.{FieldDefinitionTree}
 use Rattle.graphql_schema_types.specs.Looks.{TypeLooks}
 use Rattle.graphql_schema_types.specs.Addresses.{TypeAt, FieldAt, ImplementsAt, ArgumentAt}
 use Rattle.graphql_schema_types.specs.declared.type_kind.TypeKind.TheVariants as kind
-use Rattle.graphql_rule_definitions.specs.Diagnostics.{UndefinedDefinition, RecursiveInterfaceDefinition, TransitiveImplementedInterfaces, MissingInterfaceField, InvalidImplementationFieldType, MissingInterfaceFieldArgument, InvalidImplementationFieldArgumentType, ExtraRequiredImplementationFieldArgument}
-use Rattle.graphql_rule_definitions.specs.Words.{Present, Somewhere, Among, AtSomeIndex, FirstNamed, Lacks}
-use Rattle.graphql_rule_definitions.specs.Faults.{SchemaFault, told}
-use Rattle.graphql_rule_definitions.specs.Judged.{Judged, AtType}
-use Rattle.graphql_rule_definitions.specs.Interfaces.{is_valid_type, AtImplemented, AtImplementation}
-use Rattle.graphql_rule_definitions.specs.Rules.{InterfacesBreak}
+use Rattle.graphql_fault_data.specs.in_rule_definitions.Diagnostics.{UndefinedDefinition, RecursiveInterfaceDefinition, TransitiveImplementedInterfaces, MissingInterfaceField, InvalidImplementationFieldType, MissingInterfaceFieldArgument, InvalidImplementationFieldArgumentType, ExtraRequiredImplementationFieldArgument}
+use Rattle.graphql_fault_data.specs.in_rule_definitions.Words.{Present, Somewhere, Among, AtSomeIndex, FirstNamed, Lacks}
+use Rattle.graphql_fault_data.specs.in_rule_definitions.Faults.{SchemaFault, told}
+use Rattle.graphql_fault_data.specs.in_rule_definitions.Judged.{Judged, AtType}
+use Rattle.graphql_fault_data.specs.in_rule_definitions.Interfaces.{is_valid_type, AtImplemented, AtImplementation}
+use Rattle.graphql_fault_data.specs.in_rule_definitions.Rules.{InterfacesBreak}
 
 abbrev pub Argument : Type 0
 Argument = Placed (Unit {0}) (InputValueTree (Unit {0}))

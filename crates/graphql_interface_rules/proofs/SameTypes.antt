@@ -5,8 +5,8 @@ use Rattle.std.proofs.lemmas.Slice.Eq.{bytes_eq-Decides}
 use Rattle.graphql_names.specs.Placed.{Text}
 use Rattle.graphql_literals.specs.TypeTree.{TypeTree, NamedTree, NonNullNamedTree, ListTree, NonNullListTree, type_tree, unplaced_type}
 use Rattle.graphql_literals.specs.declared.ty.«Type».{«Type»}
-use Rattle.graphql_values.proofs.Decided.{through}
-use Rattle.graphql_values.proofs.TypeEquality.{type_eq, type_eq-Decides}
+use Rattle.graphql_schema_types.proofs.in_values.Decided.{through}
+use Rattle.graphql_schema_types.proofs.in_values.TypeEquality.{type_eq, type_eq-Decides}
 use Rattle.graphql_interface_rules.specs.InterfaceFaults.{same_type}
 
 named : (a b : Text (Unit {0})) → a.it ≡ b.it → a ≡ b

@@ -20,16 +20,16 @@ use Rattle.graphql_schema_types.specs.Looks.{TypeLooks}
 use Rattle.graphql_schema_types.specs.Addresses.{Address, TypeAt, FieldAt, ImplementsAt, ArgumentAt, under, or_nothing, place_of, field_at, arguments_at, place_at}
 use Rattle.graphql_schema_types.specs.declared.type_kind.TypeKind.{TypeKind}
 use Rattle.graphql_schema_types.specs.declared.type_kind.TypeKind.TheVariants as kind
-use Rattle.graphql_rule_definitions.specs.Diagnostics.{Diagnostic, map_places, UndefinedDefinition, RecursiveInterfaceDefinition, TransitiveImplementedInterfaces, MissingInterfaceField, InvalidImplementationFieldType, MissingInterfaceFieldArgument, InvalidImplementationFieldArgumentType, ExtraRequiredImplementationFieldArgument}
-use Rattle.graphql_rule_definitions.specs.Spots.{At, spot_place}
-use Rattle.graphql_rule_definitions.specs.Faults.{SchemaFault, wrong, told}
-use Rattle.graphql_rule_definitions.specs.Judged.{judged}
-use Rattle.graphql_rule_definitions.specs.Interfaces.{is_valid_type}
-use Rattle.graphql_rule_definitions.specs.Rules.{IsToldAs, extension_places_at}
-use Rattle.graphql_rule_definitions.specs.Words.{Present, Among, Lacks, FirstNamed}
-use Rattle.graphql_rule_definitions.specs.Told.{PlacedFault}
-use Rattle.graphql_rule_definitions.specs.Distinct.{ArePartsDistinct}
-use Rattle.graphql_rule_definitions.proofs.Tells.{Tells, Says, tells_same, tells_both, tells_nothing, tells_one, tells_when, tells_unless, tells_names, tells_entries, tells_index}
+use Rattle.graphql_fault_data.specs.in_rule_definitions.Diagnostics.{Diagnostic, map_places, UndefinedDefinition, RecursiveInterfaceDefinition, TransitiveImplementedInterfaces, MissingInterfaceField, InvalidImplementationFieldType, MissingInterfaceFieldArgument, InvalidImplementationFieldArgumentType, ExtraRequiredImplementationFieldArgument}
+use Rattle.graphql_fault_data.specs.in_rule_definitions.Spots.{At, spot_place}
+use Rattle.graphql_fault_data.specs.in_rule_definitions.Faults.{SchemaFault, wrong, told}
+use Rattle.graphql_fault_data.specs.in_rule_definitions.Judged.{judged}
+use Rattle.graphql_fault_data.specs.in_rule_definitions.Interfaces.{is_valid_type}
+use Rattle.graphql_fault_data.specs.in_rule_definitions.Rules.{IsToldAs, extension_places_at}
+use Rattle.graphql_fault_data.specs.in_rule_definitions.Words.{Present, Among, Lacks, FirstNamed}
+use Rattle.graphql_fault_data.specs.in_rule_definitions.Told.{PlacedFault}
+use Rattle.graphql_schema_types.specs.Distinct.{ArePartsDistinct}
+use Rattle.graphql_fault_data.proofs.in_rule_definitions.Tells.{Tells, Says, tells_same, tells_both, tells_nothing, tells_one, tells_when, tells_unless, tells_names, tells_entries, tells_index}
 use Rattle.graphql_fault_data.proofs.Judgings.{type_seen, type_look, interface_look, field_look, field_there, listed_there}
 use Rattle.graphql_interface_rules.specs.InterfaceFaults.{Field, Input, plain, same_type, recursive_interface_definition, undefined_interface, transitive_implemented_interfaces, missing_interface_field, invalid_implementation_field_type, missing_interface_field_argument, extra_required_argument, invalid_implementation_field_argument_type, wanted_argument_faults, own_argument_faults, arguments_faults, implementation_faults, field_faults, fields_faults, over_faults, interface_faults, type_faults}
 use Rattle.graphql_interface_rules.proofs.SameTypes.{same_type-Decides}

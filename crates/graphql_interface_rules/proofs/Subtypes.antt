@@ -9,8 +9,8 @@ use Rattle.graphql_schema_types.specs.Looks.{TypeLooks}
 use Rattle.graphql_schema_types.specs.Addresses.{under}
 use Rattle.graphql_schema_types.specs.declared.type_kind.TypeKind.TheVariants as kind
 use Rattle.graphql_fault_data.specs.in_schema.LookUps as look
-use Rattle.graphql_rule_definitions.specs.Judged.{judged}
-use Rattle.graphql_rule_definitions.specs.Interfaces.{is_subtype}
+use Rattle.graphql_fault_data.specs.in_rule_definitions.Judged.{judged}
+use Rattle.graphql_fault_data.specs.in_rule_definitions.Interfaces.{is_subtype}
 use Rattle.graphql_fault_data.proofs.Judgings.{type_seen, type_look, member_look, interface_look}
 
 module _ (s : SchemaTree Place) (n m : List ℕ) where

@@ -6,10 +6,10 @@ use Rattle.std.specs.Str.{bytes_eq}
 use Rattle.std.proofs.lemmas.List.{take_all}
 use Rattle.std.proofs.lemmas.Option.{same_Some}
 use Rattle.std.proofs.lemmas.Slice.Eq.{bytes_eq-Decides}
-use Rattle.graphql_rule_definitions.specs.Words.{Lacks, IsFirst, FirstNamed}
-use Rattle.graphql_rule_definitions.proofs.Lists.{slice_get-map, mapped_some}
-use Rattle.graphql_rule_definitions.proofs.Lookups.{first_found}
-use Rattle.graphql_rule_definitions.proofs.Tells.{Tells, tells_same}
+use Rattle.graphql_fault_data.specs.in_rule_definitions.Words.{Lacks, IsFirst, FirstNamed}
+use Rattle.graphql_fault_data.proofs.in_rule_definitions.Lists.{slice_get-map, mapped_some}
+use Rattle.graphql_fault_data.proofs.in_rule_definitions.Lookups.{first_found}
+use Rattle.graphql_fault_data.proofs.in_rule_definitions.Tells.{Tells, tells_same}
 
 same_index : (a b : ℕ) → (a < b → ⊥) → (b < a → ⊥) → a ≡ b
 same_index zero zero h k = refl

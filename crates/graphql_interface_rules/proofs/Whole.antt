@@ -12,13 +12,13 @@ use Rattle.graphql_components.specs.declared.component.Component.{Component}
 use Rattle.graphql_schema_types.specs.SchemaTree.{SchemaType, SchemaTree}
 use Rattle.graphql_schema_types.specs.TypeView.{name_text, extended_type}
 use Rattle.graphql_schema_types.specs.declared.extended_type.ExtendedType.{ExtendedType}
-use Rattle.graphql_rule_definitions.specs.Judged.{judged}
-use Rattle.graphql_rule_definitions.specs.Rules.{InterfacesBreak}
-use Rattle.graphql_rule_definitions.specs.Told.{PlacedFault, Told}
-use Rattle.graphql_rule_definitions.specs.Distinct.{AreAllDistinct}
-use Rattle.graphql_rule_definitions.specs.Words.{Among}
-use Rattle.graphql_rule_definitions.proofs.Lookups.{under_given}
-use Rattle.graphql_rule_definitions.proofs.Tells.{Tells, tells_same, tells_list, tells_entries}
+use Rattle.graphql_fault_data.specs.in_rule_definitions.Judged.{judged}
+use Rattle.graphql_fault_data.specs.in_rule_definitions.Rules.{InterfacesBreak}
+use Rattle.graphql_fault_data.specs.in_rule_definitions.Told.{PlacedFault, Told}
+use Rattle.graphql_schema_types.specs.Distinct.{AreAllDistinct}
+use Rattle.graphql_fault_data.specs.in_rule_definitions.Words.{Among}
+use Rattle.graphql_fault_data.proofs.in_rule_definitions.Lookups.{under_given}
+use Rattle.graphql_fault_data.proofs.in_rule_definitions.Tells.{Tells, tells_same, tells_list, tells_entries}
 use Rattle.graphql_fault_data.proofs.Judgings.{type_seen, type_look}
 use Rattle.graphql_interface_rules.specs.InterfaceFaults.{Field, field_faults, fields_faults, each_field_faults, type_faults, types_faults}
 use Rattle.graphql_interface_rules.proofs.ByPlace.{InterfaceBreaks, PlacesBreak, to_places, from_places}

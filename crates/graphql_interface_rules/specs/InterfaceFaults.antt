@@ -19,11 +19,11 @@ use Rattle.graphql_schema_types.specs.SchemaTree.{SchemaType, SchemaTree, same_k
 use Rattle.graphql_schema_types.specs.Addresses.{under}
 use Rattle.graphql_schema_types.specs.declared.type_kind.TypeKind.TheVariants as kind
 use Rattle.graphql_fault_data.specs.in_schema.LookUps.{type_of_kind}
-use Rattle.graphql_rule_definitions.specs.Diagnostics.{UndefinedDefinition, RecursiveInterfaceDefinition, TransitiveImplementedInterfaces, MissingInterfaceField, InvalidImplementationFieldType, MissingInterfaceFieldArgument, InvalidImplementationFieldArgumentType, ExtraRequiredImplementationFieldArgument}
-use Rattle.graphql_rule_definitions.specs.Faults.{wrong}
-use Rattle.graphql_rule_definitions.specs.Judged.{judged}
-use Rattle.graphql_rule_definitions.specs.Interfaces.{is_valid_type}
-use Rattle.graphql_rule_definitions.specs.Told.{PlacedFault}
+use Rattle.graphql_fault_data.specs.in_rule_definitions.Diagnostics.{UndefinedDefinition, RecursiveInterfaceDefinition, TransitiveImplementedInterfaces, MissingInterfaceField, InvalidImplementationFieldType, MissingInterfaceFieldArgument, InvalidImplementationFieldArgumentType, ExtraRequiredImplementationFieldArgument}
+use Rattle.graphql_fault_data.specs.in_rule_definitions.Faults.{wrong}
+use Rattle.graphql_fault_data.specs.in_rule_definitions.Judged.{judged}
+use Rattle.graphql_fault_data.specs.in_rule_definitions.Interfaces.{is_valid_type}
+use Rattle.graphql_fault_data.specs.in_rule_definitions.Told.{PlacedFault}
 
 abbrev pub Field : Type 0
 Field = Placed Place (FieldDefinitionTree Place)

@@ -7,9 +7,9 @@ ghost use Rattle.graphql_schema_types.specs.TypeView.{extended_type, interface_t
 ghost use Rattle.graphql_fault_data.specs.in_schema.SchemaOf.{schema_tree};
 ghost use Rattle.graphql_fault_data.specs.Adds.{Adds};
 ghost use Rattle.graphql_fault_data.specs.FaultView.{faults_of};
-ghost use Rattle.graphql_rule_definitions.specs.Distinct.{AreAllDistinct};
-ghost use Rattle.graphql_rule_definitions.specs.Rules.{InterfacesBreak};
-ghost use Rattle.graphql_rule_definitions.specs.Told.{Told};
+ghost use Rattle.graphql_schema_types.specs.Distinct.{AreAllDistinct};
+ghost use Rattle.graphql_fault_data.specs.in_rule_definitions.Rules.{InterfacesBreak};
+ghost use Rattle.graphql_fault_data.specs.in_rule_definitions.Told.{Told};
 ghost use Rattle.graphql_interface_rules.specs.InterfaceFaults.{type_faults, interface_faults, listed_faults, over_faults, types_faults};
 
 use crate::fields::check_each_field;

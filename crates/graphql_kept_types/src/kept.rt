@@ -5,7 +5,7 @@ ghost use Rattle.graphql_names.specs.Placed.{name_tree};
 ghost use Rattle.graphql_schema_types.specs.SchemaView.{types_view};
 ghost use Rattle.graphql_schema_types.specs.TypeView.{extended_type};
 ghost use Rattle.graphql_schema.specs.SchemaOf.{schema_tree};
-ghost use Rattle.graphql_folding.specs.BuiltIn.{built_in, name as bare_name};
+ghost use Rattle.graphql_rule_definitions.specs.in_folding.BuiltIn.{built_in, name as bare_name};
 ghost use Rattle.graphql_rule_definitions.specs.TypesUsed.{scalar_names};
 ghost use Rattle.graphql_rule_definitions.specs.Kept.{is_dropped, is_missing, built_in_scalar, validated};
 ghost use Rattle.graphql_kept_types.specs.Putting.{put_under, and_kept, and_missing};

@@ -18,3 +18,5 @@ pub use Rattle.graphql_directives.specs.DirectiveTree
 pub use Rattle.graphql_directives.specs.DirectivePlaces
 pub use Rattle.graphql_directives.specs.DirectiveLayout
 pub use Rattle.graphql_directives.specs.DirectiveWritable
+pub use Rattle.graphql_directives.specs as in_directives
+pub use Rattle.graphql_printing.specs as in_printing

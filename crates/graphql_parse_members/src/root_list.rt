@@ -3,7 +3,7 @@ ghost use Rattle.std.specs.Prelude.{◌≡◌, [], map, unwrap_or};
 ghost use Rattle.std.specs.Option.{option_map};
 ghost use Rattle.graphql_lexer.specs.Input as input;
 ghost use Rattle.graphql_names.specs.Placed.{node_tree};
-ghost use Rattle.graphql_input_types.specs.InputTypeTree.{root_tree};
+ghost use Rattle.graphql_grammar.specs.in_input_types.InputTypeTree.{root_tree};
 ghost use Rattle.graphql_grammar.specs.Kinds as kinds;
 ghost use Rattle.graphql_grammar.specs.OperationReading as operations;
 ghost use Rattle.graphql_grammar.specs.Reading as read;

@@ -5,3 +5,4 @@ pub mod Numbers
 pub mod Tokens
 pub mod Types
 pub use Rattle.graphql_grammar.proofs as in_grammar
+pub use Rattle.graphql_lexer.proofs as in_lexer

@@ -1,18 +1,18 @@
 -- Types, values, operations, fragments, selections and documents: what is printed of each is a text of its symbol, of one tree alone.
 use Rattle.std.proofs.Common.{◌≡◌, ℕ, Bool, true, List, ◌∷◌, refl, le_refl}
 use Rattle.std.specs.List.{list_all}
-use Rattle.graphql_printing.specs.LineLayout.{Prefix}
-use Rattle.graphql_literals.specs.ValueLayout.{type_text, value_text}
-use Rattle.graphql_operations.specs.OperationLayout.{operation_text, fragment_text}
+use Rattle.graphql_printed_strings.specs.in_printing.LineLayout.{Prefix}
+use Rattle.graphql_parse_values.specs.in_literals.ValueLayout.{type_text, value_text}
+use Rattle.graphql_parse_values.specs.in_operations.OperationLayout.{operation_text, fragment_text}
 use Rattle.graphql_names.specs.Placed.{Place}
-use Rattle.graphql_values.specs.Writable.{value_writable, has_selection, selections_writable, operation_writable, fragment_writable}
-use Rattle.graphql_literals.specs.TypeTree.{TypeTree, unplaced_type}
-use Rattle.graphql_literals.specs.ValueTree.{ValueTree, unplaced_value}
-use Rattle.graphql_operations.specs.SelectionTree.{SelectionTrees, unplaced_selections}
-use Rattle.graphql_operations.specs.OperationTree.{OperationTree, FragmentTree, unplaced_operation, unplaced_fragment}
-use Rattle.graphql_definitions.specs.DefinitionTree.{DefinitionTree, unplaced_document}
-use Rattle.graphql_definitions.specs.DocumentLayout.{document_text}
-use Rattle.graphql_definitions.specs.Writable.{definition_writable}
+use Rattle.graphql_parse_values.specs.in_values.Writable.{value_writable, has_selection, selections_writable, operation_writable, fragment_writable}
+use Rattle.graphql_parse_values.specs.in_literals.TypeTree.{TypeTree, unplaced_type}
+use Rattle.graphql_parse_values.specs.in_literals.ValueTree.{ValueTree, unplaced_value}
+use Rattle.graphql_parse_values.specs.in_operations.SelectionTree.{SelectionTrees, unplaced_selections}
+use Rattle.graphql_parse_values.specs.in_operations.OperationTree.{OperationTree, FragmentTree, unplaced_operation, unplaced_fragment}
+use Rattle.graphql_parse_values.specs.in_definitions.DefinitionTree.{DefinitionTree, unplaced_document}
+use Rattle.graphql_parse_values.specs.in_definitions.DocumentLayout.{document_text}
+use Rattle.graphql_parse_values.specs.in_definitions.Writable.{definition_writable}
 use Rattle.graphql_parse_values.specs.in_grammar.Meaning.{Meaning}
 use Rattle.graphql_parse_values.specs.in_grammar.Grammar.{DerivesAs, Derives, DerivesType, DerivesSelections, document}
 use Rattle.graphql_parse_values.specs.in_grammar.ValueGrammar.{Const, value, type}

@@ -2,21 +2,21 @@
 use Rattle.std.proofs.Common.{◌≡◌, ◌≤◌, ◌⊎◌, inl, inr, ℕ, Bool, true, not, ◌&&◌, ◌||◌, List, [], ◌∷◌, ◌++◌, map, codes, Option, option_map, refl, sym, ap, ◌∙◌}
 use Rattle.std.proofs.lemmas.Bool.{and_parts}
 use Rattle.graphql_names.specs.NameSyntax as names
-use Rattle.graphql_printing.specs.Joined.{joined}
-use Rattle.graphql_printing.specs.LineLayout.{Prefix, set_text, texts_of}
-use Rattle.graphql_printing.specs.StringLayout.{description_text}
-use Rattle.graphql_directives.specs.InputLayout.{input_value_text, argument_definitions_text, repeatable_text, locations_text, directive_definition_text}
-use Rattle.graphql_directives.specs.declared.directive_location.DirectiveLocation.{DirectiveLocation}
-use Rattle.graphql_type_members.specs.TypeSystemLayout.{names_text, head_text, field_definition_text, enum_value_text, schema_text, extend}
-use Rattle.graphql_type_members.specs.PartsWritable.{has_some, schema_writable, fields_writable, enum_writable, input_object_writable, schema_extension_writable}
+use Rattle.graphql_printed_strings.specs.in_printing.Joined.{joined}
+use Rattle.graphql_printed_strings.specs.in_printing.LineLayout.{Prefix, set_text, texts_of}
+use Rattle.graphql_printed_strings.specs.in_printing.StringLayout.{description_text}
+use Rattle.graphql_parse_values.specs.in_directives.InputLayout.{input_value_text, argument_definitions_text, repeatable_text, locations_text, directive_definition_text}
+use Rattle.graphql_parse_values.specs.in_directives.declared.directive_location.DirectiveLocation.{DirectiveLocation}
+use Rattle.graphql_parse_values.specs.in_type_members.TypeSystemLayout.{names_text, head_text, field_definition_text, enum_value_text, schema_text, extend}
+use Rattle.graphql_parse_values.specs.in_type_members.PartsWritable.{has_some, schema_writable, fields_writable, enum_writable, input_object_writable, schema_extension_writable}
 use Rattle.graphql_names.specs.Placed.{Text, unplaced_text, unplaced_node}
-use Rattle.graphql_values.specs.Writable.{directives_writable, input_values_writable, is_none_of, directive_definition_writable}
-use Rattle.graphql_directives.specs.DirectiveTree.{InputValues, DirectiveDefinitionTree, unplaced_input_value, unplaced_directive_definition}
-use Rattle.graphql_type_members.specs.TypeSystemTree.{SchemaParts, ScalarParts, FieldsParts, UnionParts, EnumParts, InputObjectParts, unplaced_schema, unplaced_scalar, unplaced_fields, unplaced_union, unplaced_enum, unplaced_input_object}
-use Rattle.graphql_definitions.specs.DefinitionTree.{DefinitionTree, Operation, Fragment, DirectiveDefinition, Schema, ScalarType, ObjectType, InterfaceType, UnionType, EnumType, InputObjectType, ExtendSchema, ExtendScalar, ExtendObject, ExtendInterface, ExtendUnion, ExtendEnum, ExtendInputObject, unplaced_definition}
-use Rattle.graphql_definitions.specs.DocumentLayout.{definition_text}
-use Rattle.graphql_definitions.specs.Writable.{definition_writable}
-use Rattle.graphql_lexer.specs.Terminals.{words}
+use Rattle.graphql_parse_values.specs.in_values.Writable.{directives_writable, input_values_writable, is_none_of, directive_definition_writable}
+use Rattle.graphql_parse_values.specs.in_directives.DirectiveTree.{InputValues, DirectiveDefinitionTree, unplaced_input_value, unplaced_directive_definition}
+use Rattle.graphql_parse_values.specs.in_type_members.TypeSystemTree.{SchemaParts, ScalarParts, FieldsParts, UnionParts, EnumParts, InputObjectParts, unplaced_schema, unplaced_scalar, unplaced_fields, unplaced_union, unplaced_enum, unplaced_input_object}
+use Rattle.graphql_parse_values.specs.in_definitions.DefinitionTree.{DefinitionTree, Operation, Fragment, DirectiveDefinition, Schema, ScalarType, ObjectType, InterfaceType, UnionType, EnumType, InputObjectType, ExtendSchema, ExtendScalar, ExtendObject, ExtendInterface, ExtendUnion, ExtendEnum, ExtendInputObject, unplaced_definition}
+use Rattle.graphql_parse_values.specs.in_definitions.DocumentLayout.{definition_text}
+use Rattle.graphql_parse_values.specs.in_definitions.Writable.{definition_writable}
+use Rattle.graphql_parse_values.specs.in_lexer.Terminals.{words}
 use Rattle.graphql_parse_values.specs.in_grammar.Meaning.{Meaning}
 use Rattle.graphql_parse_values.specs.in_grammar.Kinds.{is_extend}
 use Rattle.graphql_parse_values.specs.in_grammar.Rules as rule

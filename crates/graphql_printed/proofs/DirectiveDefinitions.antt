@@ -1,18 +1,18 @@
 -- Definitions of directives, behind their descriptions, are read as they are printed, under both kinds of layout.
 use Rattle.std.proofs.Common.{◌≡◌, ◌≤◌, ℕ, Bool, true, false, List, [], ◌∷◌, ◌++◌, map, codes, Option, None, is_some, refl, sym, ap, ◌∙◌, append-nil}
 use Rattle.graphql_names.specs.NameSyntax as names
-use Rattle.graphql_printing.specs.Joined.{joined, further_text}
-use Rattle.graphql_printing.specs.LineLayout.{Prefix}
-use Rattle.graphql_directives.specs.DirectivePlaces.{location_keyword}
-use Rattle.graphql_directives.specs.InputLayout.{argument_definitions_text, repeatable_text, locations_text}
+use Rattle.graphql_printed_strings.specs.in_printing.Joined.{joined, further_text}
+use Rattle.graphql_printed_strings.specs.in_printing.LineLayout.{Prefix}
+use Rattle.graphql_parse_values.specs.in_directives.DirectivePlaces.{location_keyword}
+use Rattle.graphql_parse_values.specs.in_directives.InputLayout.{argument_definitions_text, repeatable_text, locations_text}
 use Rattle.graphql_names.specs.Placed.{unplaced_node}
-use Rattle.graphql_values.specs.Writable.{input_values_writable}
-use Rattle.graphql_directives.specs.DirectiveTree.{InputValues, DirectiveDefinitionTree, unplaced_input_value, unplaced_directive_definition}
-use Rattle.graphql_directives.specs.declared.directive_location.DirectiveLocation.{DirectiveLocation}
-use Rattle.graphql_directives.specs.declared.directive_location.DirectiveLocation.TheVariants as location
-use Rattle.graphql_lexer.specs.declared.token.TokenKind.TheVariants as t
-use Rattle.graphql_lexer.specs.Input.{Token}
-use Rattle.graphql_lexer.specs.Terminals.{words, terminal_of}
+use Rattle.graphql_parse_values.specs.in_values.Writable.{input_values_writable}
+use Rattle.graphql_parse_values.specs.in_directives.DirectiveTree.{InputValues, DirectiveDefinitionTree, unplaced_input_value, unplaced_directive_definition}
+use Rattle.graphql_parse_values.specs.in_directives.declared.directive_location.DirectiveLocation.{DirectiveLocation}
+use Rattle.graphql_parse_values.specs.in_directives.declared.directive_location.DirectiveLocation.TheVariants as location
+use Rattle.graphql_parse_values.specs.in_lexer.declared.token.TokenKind.TheVariants as t
+use Rattle.graphql_parse_values.specs.in_lexer.Input.{Token}
+use Rattle.graphql_parse_values.specs.in_lexer.Terminals.{words, terminal_of}
 use Rattle.graphql_parse_values.specs.in_grammar.Meaning.{Meaning}
 use Rattle.graphql_parse_values.specs.in_grammar.Kinds.{is_location, is_pipe, is_directive, is_repeatable, is_on}
 use Rattle.graphql_parse_values.specs.in_grammar.Locations.{location_of}

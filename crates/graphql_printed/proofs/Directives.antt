@@ -1,14 +1,14 @@
 -- Default values, arguments and directives are read as they are printed.
 use Rattle.std.proofs.Common.{◌≡◌, ◌≤◌, ℕ, zero, suc, true, List, [], ◌∷◌, ◌++◌, Option, Some, None, option_map, refl, ap, arith}
 use Rattle.std.proofs.lemmas.Bool.{and_parts}
-use Rattle.graphql_printing.specs.Joined.{joined}
-use Rattle.graphql_printing.specs.LineLayout.{texts_of}
-use Rattle.graphql_literals.specs.ValueLayout.{value_text, default_text}
-use Rattle.graphql_directives.specs.DirectiveLayout.{argument_text, arguments_text, directive_text, directives_text}
+use Rattle.graphql_printed_strings.specs.in_printing.Joined.{joined}
+use Rattle.graphql_printed_strings.specs.in_printing.LineLayout.{texts_of}
+use Rattle.graphql_parse_values.specs.in_literals.ValueLayout.{value_text, default_text}
+use Rattle.graphql_parse_values.specs.in_directives.DirectiveLayout.{argument_text, arguments_text, directive_text, directives_text}
 use Rattle.graphql_names.specs.Placed.{Placed, unplaced_node}
-use Rattle.graphql_values.specs.Writable.{default_writable, argument_writable, arguments_writable, directive_writable, directives_writable}
-use Rattle.graphql_literals.specs.ValueTree.{ValueTree, unplaced_value}
-use Rattle.graphql_directives.specs.DirectiveTree.{ArgumentTree, Arguments, DirectiveTree, Directives, unplaced_argument, unplaced_arguments, unplaced_directive, unplaced_directives}
+use Rattle.graphql_parse_values.specs.in_values.Writable.{default_writable, argument_writable, arguments_writable, directive_writable, directives_writable}
+use Rattle.graphql_parse_values.specs.in_literals.ValueTree.{ValueTree, unplaced_value}
+use Rattle.graphql_parse_values.specs.in_directives.DirectiveTree.{ArgumentTree, Arguments, DirectiveTree, Directives, unplaced_argument, unplaced_arguments, unplaced_directive, unplaced_directives}
 use Rattle.graphql_parse_values.specs.in_grammar.Meaning.{Meaning}
 use Rattle.graphql_parse_values.specs.in_grammar.Rules.{optional}
 use Rattle.graphql_parse_values.specs.in_grammar.ValueGrammar.{Const, constant, argument_of, directive_of, value, default_value, argument, arguments, directive, directives}

@@ -2,18 +2,18 @@
 use Rattle.std.proofs.Common.{◌≡◌, ◌≤◌, ℕ, Bool, true, false, cond, ◌&&◌, List, [], ◌∷◌, ◌++◌, map, Some, None, Option, refl, sym, ap, ◌∙◌, subst, arith, append-nil, append_assoc}
 use Rattle.std.specs.List.{list_all}
 use Rattle.std.proofs.lemmas.Bool.{and_parts}
-use Rattle.graphql_printing.specs.Joined.{joined}
-use Rattle.graphql_printing.specs.LineLayout.{Prefix, line_start, start_text}
-use Rattle.graphql_printing.specs.StringLayout.{has_byte, can_be_block_string, quoted_text, block_text, description_text}
-use Rattle.graphql_operations.specs.OperationLayout.{begins_output}
-use Rattle.graphql_operations.specs.OperationQueries.{operation_keyword}
-use Rattle.graphql_operations.specs.declared.operation.OperationType.{OperationType}
-use Rattle.graphql_operations.specs.declared.operation.OperationType.TheVariants.{Query, Mutation, Subscription}
+use Rattle.graphql_printed_strings.specs.in_printing.Joined.{joined}
+use Rattle.graphql_printed_strings.specs.in_printing.LineLayout.{Prefix, line_start, start_text}
+use Rattle.graphql_printed_strings.specs.in_printing.StringLayout.{has_byte, can_be_block_string, quoted_text, block_text, description_text}
+use Rattle.graphql_parse_values.specs.in_operations.OperationLayout.{begins_output}
+use Rattle.graphql_parse_values.specs.in_operations.OperationQueries.{operation_keyword}
+use Rattle.graphql_parse_values.specs.in_operations.declared.operation.OperationType.{OperationType}
+use Rattle.graphql_parse_values.specs.in_operations.declared.operation.OperationType.TheVariants.{Query, Mutation, Subscription}
 use Rattle.graphql_names.specs.Placed.{Text}
-use Rattle.graphql_definitions.specs.DefinitionTree.{DefinitionTree, Operation, Fragment, DirectiveDefinition, Schema, ScalarType, ObjectType, InterfaceType, UnionType, EnumType, InputObjectType, ExtendSchema, ExtendScalar, ExtendObject, ExtendInterface, ExtendUnion, ExtendEnum, ExtendInputObject, unplaced_definition, unplaced_document}
-use Rattle.graphql_definitions.specs.DocumentLayout.{definition_text, between_text, next_definition_text, end_text, document_text}
-use Rattle.graphql_definitions.specs.Writable.{definition_writable}
-use Rattle.graphql_lexer.specs.Tokens.{is_ignored_byte}
+use Rattle.graphql_parse_values.specs.in_definitions.DefinitionTree.{DefinitionTree, Operation, Fragment, DirectiveDefinition, Schema, ScalarType, ObjectType, InterfaceType, UnionType, EnumType, InputObjectType, ExtendSchema, ExtendScalar, ExtendObject, ExtendInterface, ExtendUnion, ExtendEnum, ExtendInputObject, unplaced_definition, unplaced_document}
+use Rattle.graphql_parse_values.specs.in_definitions.DocumentLayout.{definition_text, between_text, next_definition_text, end_text, document_text}
+use Rattle.graphql_parse_values.specs.in_definitions.Writable.{definition_writable}
+use Rattle.graphql_parse_values.specs.in_lexer.Tokens.{is_ignored_byte}
 use Rattle.graphql_parse_values.specs.in_grammar.Meaning.{Meaning}
 use Rattle.graphql_parse_values.specs.in_grammar.Rules.{many}
 use Rattle.graphql_parse_values.specs.in_grammar.Grammar.{definition, document}

@@ -3,18 +3,18 @@ use Rattle.std.proofs.Common.{◌≡◌, ◌⊎◌, ℕ, ◌+◌, ◌==◌, Bool
 use Rattle.std.specs.List.{prefix_len}
 use Rattle.std.proofs.lemmas.Bool.{and_parts, or_cases}
 use Rattle.graphql_names.specs.NameSyntax.{is_name_start, is_name_continue}
-use Rattle.graphql_printing.specs.LineLayout.{Prefix, Leveled, set_text, texts_of}
+use Rattle.graphql_printed_strings.specs.in_printing.LineLayout.{Prefix, Leveled, set_text, texts_of}
 use Rattle.graphql_names.specs.Placed.{Placed, unplaced_node}
-use Rattle.graphql_lexer.specs.declared.terminal.Terminal.{Terminal}
-use Rattle.graphql_lexer.specs.declared.token.TokenKind.{TokenKind}
-use Rattle.graphql_lexer.specs.declared.token.TokenKind.TheVariants as t
-use Rattle.graphql_lexer.specs.Bytes.{begins_with}
-use Rattle.graphql_lexer.specs.Strings.{quoted_len}
-use Rattle.graphql_lexer.specs.Blocks.{quotes, block_len}
-use Rattle.graphql_lexer.specs.Input.{Token, next_of}
-use Rattle.graphql_lexer.specs.Tokens.{is_ignored_byte, of_kind, ignored_at, string_at, token_at}
-use Rattle.graphql_lexer.specs.Terminals.{words, terminal_of}
-use Rattle.graphql_lexer.specs.Lex.{Piece, piece_of, piece_at, ArePieces, with_token, tokens_among}
+use Rattle.graphql_parse_values.specs.in_lexer.declared.terminal.Terminal.{Terminal}
+use Rattle.graphql_parse_values.specs.in_lexer.declared.token.TokenKind.{TokenKind}
+use Rattle.graphql_parse_values.specs.in_lexer.declared.token.TokenKind.TheVariants as t
+use Rattle.graphql_parse_values.specs.in_lexer.Bytes.{begins_with}
+use Rattle.graphql_parse_values.specs.in_lexer.Strings.{quoted_len}
+use Rattle.graphql_parse_values.specs.in_lexer.Blocks.{quotes, block_len}
+use Rattle.graphql_parse_values.specs.in_lexer.Input.{Token, next_of}
+use Rattle.graphql_parse_values.specs.in_lexer.Tokens.{is_ignored_byte, of_kind, ignored_at, string_at, token_at}
+use Rattle.graphql_parse_values.specs.in_lexer.Terminals.{words, terminal_of}
+use Rattle.graphql_parse_values.specs.in_lexer.Lex.{Piece, piece_of, piece_at, ArePieces, with_token, tokens_among}
 use Rattle.graphql_parse_values.specs.in_grammar.Meaning.{Meaning}
 use Rattle.graphql_parse_values.specs.in_grammar.Kinds.{is_open_brace, is_close_brace}
 use Rattle.graphql_parse_values.specs.in_grammar.Rules as rule

@@ -1,17 +1,17 @@
 -- Descriptions and definitions of input values are read as they are printed, under both kinds of layout.
 use Rattle.std.proofs.Common.{◌≡◌, ◌≤◌, ◌+◌, ℕ, zero, suc, Bool, true, false, cond, List, [], ◌∷◌, ◌++◌, map, Option, Some, None, option_map, refl, sym, ap, subst, ◌∙◌, append_assoc, append-nil, arith}
 use Rattle.std.proofs.lemmas.Bool.{and_parts}
-use Rattle.graphql_printing.specs.Joined.{joined}
-use Rattle.graphql_printing.specs.LineLayout.{Prefix, break_text}
-use Rattle.graphql_printing.specs.StringLayout.{description_string, description_text}
-use Rattle.graphql_literals.specs.ValueLayout.{default_text}
-use Rattle.graphql_directives.specs.DirectiveLayout.{directives_text}
-use Rattle.graphql_directives.specs.InputLayout.{input_value_text, stand_on_lines, arguments_in_line, arguments_on_lines, argument_definitions_text}
+use Rattle.graphql_printed_strings.specs.in_printing.Joined.{joined}
+use Rattle.graphql_printed_strings.specs.in_printing.LineLayout.{Prefix, break_text}
+use Rattle.graphql_printed_strings.specs.in_printing.StringLayout.{description_string, description_text}
+use Rattle.graphql_parse_values.specs.in_literals.ValueLayout.{default_text}
+use Rattle.graphql_parse_values.specs.in_directives.DirectiveLayout.{directives_text}
+use Rattle.graphql_parse_values.specs.in_directives.InputLayout.{input_value_text, stand_on_lines, arguments_in_line, arguments_on_lines, argument_definitions_text}
 use Rattle.graphql_names.specs.Placed.{Placed, Text, unplaced_text, unplaced_node}
-use Rattle.graphql_values.specs.Writable.{input_value_writable, input_values_writable}
-use Rattle.graphql_literals.specs.TypeTree.{TypeTree}
-use Rattle.graphql_literals.specs.ValueTree.{ValueTree}
-use Rattle.graphql_directives.specs.DirectiveTree.{Directives, InputValueTree, InputValues, unplaced_input_value}
+use Rattle.graphql_parse_values.specs.in_values.Writable.{input_value_writable, input_values_writable}
+use Rattle.graphql_parse_values.specs.in_literals.TypeTree.{TypeTree}
+use Rattle.graphql_parse_values.specs.in_literals.ValueTree.{ValueTree}
+use Rattle.graphql_parse_values.specs.in_directives.DirectiveTree.{Directives, InputValueTree, InputValues, unplaced_input_value}
 use Rattle.graphql_parse_values.specs.in_grammar.Meaning.{Meaning, text_of}
 use Rattle.graphql_parse_values.specs.in_grammar.Kinds.{is_string}
 use Rattle.graphql_parse_values.specs.in_grammar.Rules.{Rule, ◌·◌, optional}

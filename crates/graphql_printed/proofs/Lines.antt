@@ -2,11 +2,11 @@
 use Rattle.std.proofs.Common.{◌≡◌, ℕ, zero, suc, ◌+◌, ◌==◌, Bool, true, false, ◌||◌, subst, List, [], ◌∷◌, ◌++◌, Some, None, refl, sym, ap, ◌∙◌, append_assoc, append-nil}
 use Rattle.std.specs.List.{list_all}
 use Rattle.std.proofs.lemmas.Bool.{and_parts}
-use Rattle.graphql_printing.specs.Joined.{joined}
-use Rattle.graphql_printing.specs.StringLayout.{is_tab_or_space}
-use Rattle.graphql_printing.specs.LineLayout.{Prefix, Leveled, line_start, start_text, break_text, members_text, braced_text, set_text}
-use Rattle.graphql_lexer.specs.Tokens.{is_ignored_byte}
-use Rattle.graphql_lexer.specs.Input.{Token, Ending}
+use Rattle.graphql_printed_strings.specs.in_printing.Joined.{joined}
+use Rattle.graphql_printed_strings.specs.in_printing.StringLayout.{is_tab_or_space}
+use Rattle.graphql_printed_strings.specs.in_printing.LineLayout.{Prefix, Leveled, line_start, start_text, break_text, members_text, braced_text, set_text}
+use Rattle.graphql_parse_values.specs.in_lexer.Tokens.{is_ignored_byte}
+use Rattle.graphql_parse_values.specs.in_lexer.Input.{Token, Ending}
 use Rattle.graphql_parse_values.specs.in_grammar.Kinds.{is_open_brace, is_close_brace}
 use Rattle.graphql_parse_values.specs.in_grammar.Rules.{Rule, many, some, between}
 use Rattle.graphql_printed.specs.Printed.{Follow, any, ends_word, before, ReadsUpTo, Printed}

@@ -4,15 +4,15 @@ use Rattle.std.specs.Str.{bytes_eq}
 use lib.Pointwise.{bytes_decides}
 use Rattle.std.proofs.lemmas.Bool.{and_parts}
 use Rattle.graphql_names.specs.NameSyntax as names
-use Rattle.graphql_printing.specs.StringLayout.{quoted_text}
-use Rattle.graphql_literals.specs.NumberSyntax.{is_int_value, is_float_value}
-use Rattle.graphql_literals.specs.ValueLayout.{boolean_text}
+use Rattle.graphql_printed_strings.specs.in_printing.StringLayout.{quoted_text}
+use Rattle.graphql_parse_values.specs.in_literals.NumberSyntax.{is_int_value, is_float_value}
+use Rattle.graphql_parse_values.specs.in_literals.ValueLayout.{boolean_text}
 use Rattle.graphql_names.specs.Placed.{Text}
-use Rattle.graphql_values.specs.Writable.{is_text, can_be_enum}
-use Rattle.graphql_literals.specs.ValueTree.{ValueTree, NullTree, EnumTree, VariableTree, StringTree, FloatTree, IntTree, BooleanTree, unplaced_value}
-use Rattle.graphql_lexer.specs.declared.token.TokenKind.TheVariants as t
-use Rattle.graphql_lexer.specs.Input.{Token}
-use Rattle.graphql_lexer.specs.Terminals.{words, terminal_of}
+use Rattle.graphql_parse_values.specs.in_values.Writable.{is_text, can_be_enum}
+use Rattle.graphql_parse_values.specs.in_literals.ValueTree.{ValueTree, NullTree, EnumTree, VariableTree, StringTree, FloatTree, IntTree, BooleanTree, unplaced_value}
+use Rattle.graphql_parse_values.specs.in_lexer.declared.token.TokenKind.TheVariants as t
+use Rattle.graphql_parse_values.specs.in_lexer.Input.{Token}
+use Rattle.graphql_parse_values.specs.in_lexer.Terminals.{words, terminal_of}
 use Rattle.graphql_parse_values.specs.in_grammar.Meaning.{Meaning}
 use Rattle.graphql_parse_values.specs.in_grammar.Kinds.{is_enum_value, is_string, is_int, is_float, is_true, is_false, is_null}
 use Rattle.graphql_parse_values.specs.in_grammar.Rules.{Rule, mark, ◌<$>◌, ◌∣◌, unless}

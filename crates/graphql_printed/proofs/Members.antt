@@ -1,7 +1,7 @@
 -- Lists of nodes on lines of their own.
 use Rattle.std.proofs.Common.{◌≡◌, ℕ, ◌+◌, true, List, [], ◌∷◌, ◌++◌, map, refl, sym, ap, subst, append_assoc}
-use Rattle.graphql_printing.specs.Joined.{joined}
-use Rattle.graphql_printing.specs.LineLayout.{Prefix, Leveled, break_text, members_text, texts_of}
+use Rattle.graphql_printed_strings.specs.in_printing.Joined.{joined}
+use Rattle.graphql_printed_strings.specs.in_printing.LineLayout.{Prefix, Leveled, break_text, members_text, texts_of}
 use Rattle.graphql_names.specs.Placed.{Placed, unplaced_node}
 use Rattle.graphql_parse_values.specs.in_grammar.Meaning.{Meaning}
 use Rattle.graphql_parse_values.specs.in_grammar.Kinds.{is_open_paren, is_close_paren}

@@ -3,11 +3,11 @@ use Rattle.std.proofs.Common.{◌≡◌, ℕ, Bool, true, List, [], ◌∷◌, �
 use Rattle.std.specs.List.{list_all}
 use Rattle.std.proofs.lemmas.Bool.{and_parts}
 use Rattle.graphql_names.specs.NameSyntax as names
-use Rattle.graphql_printing.specs.Joined.{joined, further_text}
-use Rattle.graphql_type_members.specs.TypeSystemLayout.{name_text, names_text}
+use Rattle.graphql_printed_strings.specs.in_printing.Joined.{joined, further_text}
+use Rattle.graphql_parse_values.specs.in_type_members.TypeSystemLayout.{name_text, names_text}
 use Rattle.graphql_names.specs.Placed.{Text, unplaced_text}
-use Rattle.graphql_lexer.specs.declared.terminal.Terminal.{Terminal}
-use Rattle.graphql_lexer.specs.Terminals.{words}
+use Rattle.graphql_parse_values.specs.in_lexer.declared.terminal.Terminal.{Terminal}
+use Rattle.graphql_parse_values.specs.in_lexer.Terminals.{words}
 use Rattle.graphql_parse_values.specs.in_grammar.Meaning.{Meaning}
 use Rattle.graphql_parse_values.specs.in_grammar.Kinds.{is_implements, is_ampersand, is_pipe}
 use Rattle.graphql_parse_values.specs.in_grammar.Rules.{mark, ◌·◌, ◌<$>◌, optional, many, separated}

@@ -2,10 +2,10 @@
 use Rattle.std.proofs.Common.{◌≡◌, ◌≤◌, ℕ, Bool, true, List, [], ◌∷◌, ◌++◌, map, codes, Option, unwrap_or, refl, ap, ◌∙◌, append_assoc, arith}
 use Rattle.std.specs.List.{list_all}
 use Rattle.std.proofs.lemmas.Bool.{and_parts}
-use Rattle.graphql_printing.specs.Joined.{joined, further_text}
-use Rattle.graphql_printing.specs.LineLayout.{parenthesized_text, texts_of}
+use Rattle.graphql_printed_strings.specs.in_printing.Joined.{joined, further_text}
+use Rattle.graphql_printed_strings.specs.in_printing.LineLayout.{parenthesized_text, texts_of}
 use Rattle.graphql_names.specs.Placed.{Placed, unplaced_node}
-use Rattle.graphql_lexer.specs.Tokens.{is_ignored_byte}
+use Rattle.graphql_parse_values.specs.in_lexer.Tokens.{is_ignored_byte}
 use Rattle.graphql_parse_values.specs.in_grammar.Meaning.{Meaning}
 use Rattle.graphql_parse_values.specs.in_grammar.Kinds.{is_open_paren, is_close_paren}
 use Rattle.graphql_parse_values.specs.in_grammar.Rules as rule

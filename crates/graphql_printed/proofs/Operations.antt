@@ -2,22 +2,22 @@
 use Rattle.std.proofs.Common.{◌≡◌, ◌≤◌, ◌+◌, ℕ, zero, suc, Bool, true, false, cond, ◌&&◌, List, [], ◌∷◌, ◌++◌, map, codes, Option, Some, None, option_map, refl, ap, arith}
 use Rattle.std.proofs.lemmas.Bool.{and_parts}
 use Rattle.graphql_names.specs.NameSyntax as names
-use Rattle.graphql_printing.specs.Joined.{joined}
-use Rattle.graphql_printing.specs.LineLayout.{Prefix, braced_text, set_text, texts_of}
-use Rattle.graphql_literals.specs.ValueLayout.{default_text}
-use Rattle.graphql_directives.specs.DirectiveLayout.{directives_text}
-use Rattle.graphql_operations.specs.OperationQueries.{operation_keyword}
-use Rattle.graphql_operations.specs.OperationLayout.{selection_texts, is_query, variable_text, variables_text, is_none, is_empty, is_bare_query, operation_name_text, full_operation_text, operation_text, fragment_text}
-use Rattle.graphql_operations.specs.declared.operation.OperationType.{OperationType}
-use Rattle.graphql_operations.specs.declared.operation.OperationType.TheVariants.{Query, Mutation, Subscription}
+use Rattle.graphql_printed_strings.specs.in_printing.Joined.{joined}
+use Rattle.graphql_printed_strings.specs.in_printing.LineLayout.{Prefix, braced_text, set_text, texts_of}
+use Rattle.graphql_parse_values.specs.in_literals.ValueLayout.{default_text}
+use Rattle.graphql_parse_values.specs.in_directives.DirectiveLayout.{directives_text}
+use Rattle.graphql_parse_values.specs.in_operations.OperationQueries.{operation_keyword}
+use Rattle.graphql_parse_values.specs.in_operations.OperationLayout.{selection_texts, is_query, variable_text, variables_text, is_none, is_empty, is_bare_query, operation_name_text, full_operation_text, operation_text, fragment_text}
+use Rattle.graphql_parse_values.specs.in_operations.declared.operation.OperationType.{OperationType}
+use Rattle.graphql_parse_values.specs.in_operations.declared.operation.OperationType.TheVariants.{Query, Mutation, Subscription}
 use Rattle.graphql_names.specs.Placed.{Placed, Text, unplaced_text, unplaced_node}
-use Rattle.graphql_values.specs.Writable.{directives_writable, has_selection, selections_writable, variable_writable, variables_writable, operation_writable, fragment_writable}
-use Rattle.graphql_literals.specs.TypeTree.{TypeTree}
-use Rattle.graphql_literals.specs.ValueTree.{ValueTree}
-use Rattle.graphql_directives.specs.DirectiveTree.{Directives, unplaced_directives}
-use Rattle.graphql_operations.specs.SelectionTree.{SelectionTrees}
-use Rattle.graphql_operations.specs.OperationTree.{VariableDefinitionTree, OperationTree, FragmentTree, unplaced_variable_definition, unplaced_operation, unplaced_fragment}
-use Rattle.graphql_lexer.specs.Terminals.{words}
+use Rattle.graphql_parse_values.specs.in_values.Writable.{directives_writable, has_selection, selections_writable, variable_writable, variables_writable, operation_writable, fragment_writable}
+use Rattle.graphql_parse_values.specs.in_literals.TypeTree.{TypeTree}
+use Rattle.graphql_parse_values.specs.in_literals.ValueTree.{ValueTree}
+use Rattle.graphql_parse_values.specs.in_directives.DirectiveTree.{Directives, unplaced_directives}
+use Rattle.graphql_parse_values.specs.in_operations.SelectionTree.{SelectionTrees}
+use Rattle.graphql_parse_values.specs.in_operations.OperationTree.{VariableDefinitionTree, OperationTree, FragmentTree, unplaced_variable_definition, unplaced_operation, unplaced_fragment}
+use Rattle.graphql_parse_values.specs.in_lexer.Terminals.{words}
 use Rattle.graphql_parse_values.specs.in_grammar.Meaning.{Meaning}
 use Rattle.graphql_parse_values.specs.in_grammar.Kinds as kind
 use Rattle.graphql_parse_values.specs.in_grammar.Rules.{mark, ◌·◌, ◌<$>◌, ◌∣◌, optional}

@@ -2,17 +2,17 @@
 use Rattle.std.specs.Prelude.{◌≡◌, ℕ, true, List, [], ◌∷◌, codes, None, Some}
 use Rattle.std.specs.List.{list_all}
 use Rattle.std.proofs.Common.{refl}
-use Rattle.graphql_printing.specs.Joined.{joined}
-use Rattle.graphql_literals.specs.ValueLayout.{value_text}
-use Rattle.graphql_operations.specs.declared.operation.OperationType.TheVariants.{Query}
+use Rattle.graphql_printed_strings.specs.in_printing.Joined.{joined}
+use Rattle.graphql_parse_values.specs.in_literals.ValueLayout.{value_text}
+use Rattle.graphql_parse_values.specs.in_operations.declared.operation.OperationType.TheVariants.{Query}
 use Rattle.graphql_names.specs.Placed.{Text}
-use Rattle.graphql_values.specs.Writable.{value_writable, selections_writable}
-use Rattle.graphql_literals.specs.TypeTree.{NamedTree}
-use Rattle.graphql_literals.specs.ValueTree.{ValueTree, StringTree, FloatTree, IntTree, ListTree, no_items, item_then}
-use Rattle.graphql_operations.specs.SelectionTree.{SelectionTrees, FieldTree, SpreadTree, no_selections, selection_then}
-use Rattle.graphql_definitions.specs.DefinitionTree.{DefinitionTree, Operation, UnionType, ObjectType, ExtendInterface}
-use Rattle.graphql_definitions.specs.DocumentLayout.{document_text}
-use Rattle.graphql_definitions.specs.Writable.{definition_writable}
+use Rattle.graphql_parse_values.specs.in_values.Writable.{value_writable, selections_writable}
+use Rattle.graphql_parse_values.specs.in_literals.TypeTree.{NamedTree}
+use Rattle.graphql_parse_values.specs.in_literals.ValueTree.{ValueTree, StringTree, FloatTree, IntTree, ListTree, no_items, item_then}
+use Rattle.graphql_parse_values.specs.in_operations.SelectionTree.{SelectionTrees, FieldTree, SpreadTree, no_selections, selection_then}
+use Rattle.graphql_parse_values.specs.in_definitions.DefinitionTree.{DefinitionTree, Operation, UnionType, ObjectType, ExtendInterface}
+use Rattle.graphql_parse_values.specs.in_definitions.DocumentLayout.{document_text}
+use Rattle.graphql_parse_values.specs.in_definitions.Writable.{definition_writable}
 use Rattle.graphql_printed.specs.WellFormed.{value_well_formed, selections_well_formed}
 use Rattle.graphql_printed.specs.SelectionsLayout.{selections_text}
 use Rattle.graphql_printed.specs.Definitions.{definition_well_formed}

@@ -2,16 +2,16 @@
 use Rattle.std.proofs.Common.{◌≡◌, ◌≤◌, ◌+◌, ℕ, zero, suc, true, List, [], ◌∷◌, ◌++◌, map, codes, refl, arith}
 use Rattle.std.specs.List.{list_all}
 use Rattle.std.proofs.lemmas.Bool.{and_parts}
-use Rattle.graphql_printing.specs.Joined.{joined}
-use Rattle.graphql_printing.specs.LineLayout.{Prefix, set_text, texts_of}
-use Rattle.graphql_directives.specs.DirectiveLayout.{directives_text}
-use Rattle.graphql_type_members.specs.TypeSystemLayout.{root_text}
-use Rattle.graphql_type_members.specs.PartsWritable.{has_some}
+use Rattle.graphql_printed_strings.specs.in_printing.Joined.{joined}
+use Rattle.graphql_printed_strings.specs.in_printing.LineLayout.{Prefix, set_text, texts_of}
+use Rattle.graphql_parse_values.specs.in_directives.DirectiveLayout.{directives_text}
+use Rattle.graphql_parse_values.specs.in_type_members.TypeSystemLayout.{root_text}
+use Rattle.graphql_parse_values.specs.in_type_members.PartsWritable.{has_some}
 use Rattle.graphql_names.specs.Placed.{Placed, unplaced_node}
-use Rattle.graphql_values.specs.Writable.{directives_writable}
-use Rattle.graphql_directives.specs.DirectiveTree.{Directives}
-use Rattle.graphql_type_members.specs.TypeSystemTree.{RootOperationTree, SchemaParts, unplaced_root, unplaced_schema}
-use Rattle.graphql_lexer.specs.Terminals.{words}
+use Rattle.graphql_parse_values.specs.in_values.Writable.{directives_writable}
+use Rattle.graphql_parse_values.specs.in_directives.DirectiveTree.{Directives}
+use Rattle.graphql_parse_values.specs.in_type_members.TypeSystemTree.{RootOperationTree, SchemaParts, unplaced_root, unplaced_schema}
+use Rattle.graphql_parse_values.specs.in_lexer.Terminals.{words}
 use Rattle.graphql_parse_values.specs.in_grammar.Meaning.{Meaning}
 use Rattle.graphql_parse_values.specs.in_grammar.Kinds.{is_schema, is_open_brace}
 use Rattle.graphql_parse_values.specs.in_grammar.Rules.{optional_unless}

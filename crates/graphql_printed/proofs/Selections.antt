@@ -2,16 +2,16 @@
 use Rattle.std.proofs.Common.{◌≡◌, ◌≤◌, ◌+◌, ℕ, zero, suc, true, ◌&&◌, List, [], ◌∷◌, ◌++◌, codes, Option, Some, None, unwrap_or, option_map, refl, sym, ap, ◌∙◌, append_assoc, append-nil, arith}
 use Rattle.std.proofs.lemmas.Bool.{and_parts}
 use Rattle.graphql_names.specs.NameSyntax as names
-use Rattle.graphql_printing.specs.Joined.{joined}
-use Rattle.graphql_printing.specs.LineLayout.{Prefix, start_text, members_text, braced_text, set_text, texts_of}
-use Rattle.graphql_directives.specs.DirectiveLayout.{argument_text, arguments_text, directives_text}
-use Rattle.graphql_operations.specs.OperationLayout.{alias_text, condition_text, spread_text, selection_text, selection_texts}
+use Rattle.graphql_printed_strings.specs.in_printing.Joined.{joined}
+use Rattle.graphql_printed_strings.specs.in_printing.LineLayout.{Prefix, start_text, members_text, braced_text, set_text, texts_of}
+use Rattle.graphql_parse_values.specs.in_directives.DirectiveLayout.{argument_text, arguments_text, directives_text}
+use Rattle.graphql_parse_values.specs.in_operations.OperationLayout.{alias_text, condition_text, spread_text, selection_text, selection_texts}
 use Rattle.graphql_names.specs.Placed.{Text, unplaced_text}
-use Rattle.graphql_values.specs.Writable.{directives_writable, can_be_fragment, head_writable, has_selection, selection_writable, selections_writable}
-use Rattle.graphql_directives.specs.DirectiveTree.{Arguments, Directives}
-use Rattle.graphql_operations.specs.SelectionTree.{FieldHead, SelectionTree, FieldTree, SpreadTree, InlineTree, SelectionTrees, no_selections, selection_then, unplaced_selection, unplaced_selections}
-use Rattle.graphql_lexer.specs.declared.token.TokenKind.TheVariants as t
-use Rattle.graphql_lexer.specs.Terminals.{words, terminal_of}
+use Rattle.graphql_parse_values.specs.in_values.Writable.{directives_writable, can_be_fragment, head_writable, has_selection, selection_writable, selections_writable}
+use Rattle.graphql_parse_values.specs.in_directives.DirectiveTree.{Arguments, Directives}
+use Rattle.graphql_parse_values.specs.in_operations.SelectionTree.{FieldHead, SelectionTree, FieldTree, SpreadTree, InlineTree, SelectionTrees, no_selections, selection_then, unplaced_selection, unplaced_selections}
+use Rattle.graphql_parse_values.specs.in_lexer.declared.token.TokenKind.TheVariants as t
+use Rattle.graphql_parse_values.specs.in_lexer.Terminals.{words, terminal_of}
 use Rattle.graphql_parse_values.specs.in_grammar.Meaning.{Meaning}
 use Rattle.graphql_parse_values.specs.in_grammar.Kinds.{is_fragment_name, is_on}
 use Rattle.graphql_parse_values.specs.in_grammar.Rules.{Rule, ◌·◌, ◌∣◌, optional, many}

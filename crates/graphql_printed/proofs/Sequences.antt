@@ -2,9 +2,9 @@
 use Rattle.std.proofs.Common.{◌≡◌, ℕ, ◌+◌, true, List, [], ◌∷◌, ◌++◌, length, Some, None, refl, sym, subst, inl, inr, append_assoc, append-nil, length-append, arith}
 use Rattle.std.specs.List.{list_all}
 use Rattle.std.proofs.lemmas.Bool.{and_parts}
-use Rattle.graphql_lexer.specs.Input.{Token}
-use Rattle.graphql_lexer.specs.Tokens.{is_ignored_byte, ignored_at}
-use Rattle.graphql_lexer.specs.Lex.{piece_at}
+use Rattle.graphql_parse_values.specs.in_lexer.Input.{Token}
+use Rattle.graphql_parse_values.specs.in_lexer.Tokens.{is_ignored_byte, ignored_at}
+use Rattle.graphql_parse_values.specs.in_lexer.Lex.{piece_at}
 use Rattle.graphql_parse_values.specs.in_grammar.Meaning.{Meaning, place_between}
 use Rattle.graphql_parse_values.specs.in_grammar.Rules as rule
 use Rattle.graphql_parse_values.specs.in_grammar.Rules.{Rule, one, ◌·◌, ◌<$>◌, ◌∣◌, optional, many, some}

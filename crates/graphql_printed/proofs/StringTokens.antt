@@ -1,15 +1,15 @@
 -- Strings are read as they are printed.
 use Rattle.std.proofs.Common.{◌≡◌, ℕ, Bool, true, false, not, ◌==◌, ◌&&◌, ◌||◌, List, [], ◌∷◌, Some, None, refl, ap, ◌∙◌, inl, inr}
-use Rattle.graphql_printing.specs.LineLayout.{Prefix}
-use Rattle.graphql_printing.specs.StringLayout.{quoted_text, description_string}
-use Rattle.graphql_lexer.specs.Bytes.{begins_with}
-use Rattle.graphql_lexer.specs.Strings.{string_value}
-use Rattle.graphql_lexer.specs.Blocks.{block_value}
-use Rattle.graphql_lexer.specs.Numbers.{goes_on}
-use Rattle.graphql_lexer.specs.Input.{Token}
-use Rattle.graphql_lexer.specs.declared.terminal.Terminal.{Terminal}
-use Rattle.graphql_lexer.specs.declared.terminal.Terminal.TheVariants as k
-use Rattle.graphql_lexer.specs.declared.token.TokenKind.TheVariants as t
+use Rattle.graphql_printed_strings.specs.in_printing.LineLayout.{Prefix}
+use Rattle.graphql_printed_strings.specs.in_printing.StringLayout.{quoted_text, description_string}
+use Rattle.graphql_parse_values.specs.in_lexer.Bytes.{begins_with}
+use Rattle.graphql_parse_values.specs.in_lexer.Strings.{string_value}
+use Rattle.graphql_parse_values.specs.in_lexer.Blocks.{block_value}
+use Rattle.graphql_parse_values.specs.in_lexer.Numbers.{goes_on}
+use Rattle.graphql_parse_values.specs.in_lexer.Input.{Token}
+use Rattle.graphql_parse_values.specs.in_lexer.declared.terminal.Terminal.{Terminal}
+use Rattle.graphql_parse_values.specs.in_lexer.declared.terminal.Terminal.TheVariants as k
+use Rattle.graphql_parse_values.specs.in_lexer.declared.token.TokenKind.TheVariants as t
 use Rattle.graphql_parse_values.specs.Meanings.{string_by, string_of}
 use Rattle.graphql_printed_strings.specs.Readings.{IsReadAs, MayFollow, IsWhitePrefix}
 use Rattle.graphql_printed_strings.proofs.Quoted.{quoted_value, quoted_is_token}

@@ -2,18 +2,18 @@
 use Rattle.std.proofs.Common.{◌≡◌, ◌≤◌, ◌+◌, ℕ, zero, suc, Bool, true, List, [], ◌∷◌, ◌++◌, map, codes, refl, sym, ap, ◌∙◌, append_assoc, append-nil, arith}
 use Rattle.std.specs.List.{list_all}
 use Rattle.std.proofs.lemmas.Bool.{and_parts}
-use Rattle.graphql_printing.specs.Joined.{joined}
-use Rattle.graphql_printing.specs.LineLayout.{Prefix, set_text, texts_of}
-use Rattle.graphql_directives.specs.DirectiveLayout.{directives_text}
-use Rattle.graphql_directives.specs.InputLayout.{input_value_text}
-use Rattle.graphql_type_members.specs.TypeSystemLayout.{names_text, head_text, field_definition_text, enum_value_text}
-use Rattle.graphql_type_members.specs.PartsWritable.{field_definition_writable, field_definitions_writable, enum_value_writable, enum_values_writable, fields_writable, enum_writable, input_object_writable}
+use Rattle.graphql_printed_strings.specs.in_printing.Joined.{joined}
+use Rattle.graphql_printed_strings.specs.in_printing.LineLayout.{Prefix, set_text, texts_of}
+use Rattle.graphql_parse_values.specs.in_directives.DirectiveLayout.{directives_text}
+use Rattle.graphql_parse_values.specs.in_directives.InputLayout.{input_value_text}
+use Rattle.graphql_parse_values.specs.in_type_members.TypeSystemLayout.{names_text, head_text, field_definition_text, enum_value_text}
+use Rattle.graphql_parse_values.specs.in_type_members.PartsWritable.{field_definition_writable, field_definitions_writable, enum_value_writable, enum_values_writable, fields_writable, enum_writable, input_object_writable}
 use Rattle.graphql_names.specs.Placed.{Placed, Text, unplaced_node}
-use Rattle.graphql_values.specs.Writable.{directives_writable, input_values_writable}
-use Rattle.graphql_directives.specs.DirectiveTree.{Directives, InputValues, unplaced_input_value}
-use Rattle.graphql_type_members.specs.TypeSystemTree.{FieldDefinitionTree, EnumValueTree, ScalarParts, FieldsParts, UnionParts, EnumParts, InputObjectParts, unplaced_input_object, unplaced_field_definition, unplaced_enum_value, unplaced_scalar, unplaced_fields, unplaced_union, unplaced_enum}
-use Rattle.graphql_lexer.specs.declared.terminal.Terminal.{Terminal}
-use Rattle.graphql_lexer.specs.Terminals.{words}
+use Rattle.graphql_parse_values.specs.in_values.Writable.{directives_writable, input_values_writable}
+use Rattle.graphql_parse_values.specs.in_directives.DirectiveTree.{Directives, InputValues, unplaced_input_value}
+use Rattle.graphql_parse_values.specs.in_type_members.TypeSystemTree.{FieldDefinitionTree, EnumValueTree, ScalarParts, FieldsParts, UnionParts, EnumParts, InputObjectParts, unplaced_input_object, unplaced_field_definition, unplaced_enum_value, unplaced_scalar, unplaced_fields, unplaced_union, unplaced_enum}
+use Rattle.graphql_parse_values.specs.in_lexer.declared.terminal.Terminal.{Terminal}
+use Rattle.graphql_parse_values.specs.in_lexer.Terminals.{words}
 use Rattle.graphql_parse_values.specs.in_grammar.Meaning.{Meaning}
 use Rattle.graphql_parse_values.specs.in_grammar.Kinds.{is_scalar, is_input, is_union, is_enum, is_type, is_interface, is_open_brace}
 use Rattle.graphql_parse_values.specs.in_grammar.Rules.{Rule, mark, ◌·◌, ◌<$>◌, optional, optional_unless}

@@ -1,18 +1,18 @@
 -- Definitions of fields, enum values and root operations are read as they are printed, under both kinds of layout.
 use Rattle.std.proofs.Common.{◌≡◌, ◌≤◌, ℕ, true, List, [], ◌∷◌, ◌++◌, Option, refl, arith}
 use Rattle.std.proofs.lemmas.Bool.{and_parts}
-use Rattle.graphql_printing.specs.Joined.{joined}
-use Rattle.graphql_printing.specs.LineLayout.{Prefix}
-use Rattle.graphql_literals.specs.ValueLayout.{type_text}
-use Rattle.graphql_directives.specs.DirectiveLayout.{directives_text}
-use Rattle.graphql_directives.specs.InputLayout.{argument_definitions_text}
-use Rattle.graphql_operations.specs.declared.operation.OperationType.{OperationType}
-use Rattle.graphql_type_members.specs.TypeSystemLayout.{field_definition_text, enum_value_text, root_text}
-use Rattle.graphql_type_members.specs.PartsWritable.{field_definition_writable, enum_value_writable}
+use Rattle.graphql_printed_strings.specs.in_printing.Joined.{joined}
+use Rattle.graphql_printed_strings.specs.in_printing.LineLayout.{Prefix}
+use Rattle.graphql_parse_values.specs.in_literals.ValueLayout.{type_text}
+use Rattle.graphql_parse_values.specs.in_directives.DirectiveLayout.{directives_text}
+use Rattle.graphql_parse_values.specs.in_directives.InputLayout.{argument_definitions_text}
+use Rattle.graphql_parse_values.specs.in_operations.declared.operation.OperationType.{OperationType}
+use Rattle.graphql_parse_values.specs.in_type_members.TypeSystemLayout.{field_definition_text, enum_value_text, root_text}
+use Rattle.graphql_parse_values.specs.in_type_members.PartsWritable.{field_definition_writable, enum_value_writable}
 use Rattle.graphql_names.specs.Placed.{Placed, Text}
-use Rattle.graphql_literals.specs.TypeTree.{TypeTree}
-use Rattle.graphql_directives.specs.DirectiveTree.{Directives, InputValues}
-use Rattle.graphql_type_members.specs.TypeSystemTree.{FieldDefinitionTree, EnumValueTree, RootOperationTree, unplaced_field_definition, unplaced_enum_value, unplaced_root}
+use Rattle.graphql_parse_values.specs.in_literals.TypeTree.{TypeTree}
+use Rattle.graphql_parse_values.specs.in_directives.DirectiveTree.{Directives, InputValues}
+use Rattle.graphql_parse_values.specs.in_type_members.TypeSystemTree.{FieldDefinitionTree, EnumValueTree, RootOperationTree, unplaced_field_definition, unplaced_enum_value, unplaced_root}
 use Rattle.graphql_parse_values.specs.in_grammar.Meaning.{Meaning}
 use Rattle.graphql_parse_values.specs.in_grammar.Kinds.{is_enum_value}
 use Rattle.graphql_parse_values.specs.in_grammar.ValueGrammar.{constant}

@@ -1,9 +1,9 @@
 -- References to types are read as they are printed.
 use Rattle.std.proofs.Common.{◌≡◌, ◌≤◌, ℕ, zero, suc, true, List, [], ◌∷◌, ◌++◌, Option, refl, sym, ap, subst, ◌∙◌, append_assoc, arith}
 use Rattle.graphql_names.specs.NameSyntax as names
-use Rattle.graphql_printing.specs.Joined.{joined}
-use Rattle.graphql_literals.specs.ValueLayout.{type_text}
-use Rattle.graphql_literals.specs.TypeTree.{TypeTree, NamedTree, NonNullNamedTree, ListTree, NonNullListTree, unplaced_type}
+use Rattle.graphql_printed_strings.specs.in_printing.Joined.{joined}
+use Rattle.graphql_parse_values.specs.in_literals.ValueLayout.{type_text}
+use Rattle.graphql_parse_values.specs.in_literals.TypeTree.{TypeTree, NamedTree, NonNullNamedTree, ListTree, NonNullListTree, unplaced_type}
 use Rattle.graphql_parse_values.specs.in_grammar.Meaning.{Meaning}
 use Rattle.graphql_parse_values.specs.in_grammar.Kinds.{is_bang, is_open_bracket, is_close_bracket}
 use Rattle.graphql_parse_values.specs.in_grammar.Rules.{Rule, mark, ◌<$>◌, ◌∣◌, nothing, between}

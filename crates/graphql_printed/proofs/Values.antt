@@ -2,11 +2,11 @@
 use Rattle.std.proofs.Common.{◌≡◌, ◌≤◌, ℕ, zero, suc, true, false, ◌&&◌, List, [], ◌∷◌, ◌++◌, codes, refl, sym, ap, true≢false, arith}
 use Rattle.std.proofs.lemmas.Bool.{and_parts}
 use Rattle.graphql_names.specs.NameSyntax as names
-use Rattle.graphql_printing.specs.Joined.{joined, further_text, separated}
-use Rattle.graphql_literals.specs.ValueLayout.{value_text, item_texts, entry_texts, named_value_text}
+use Rattle.graphql_printed_strings.specs.in_printing.Joined.{joined, further_text, separated}
+use Rattle.graphql_parse_values.specs.in_literals.ValueLayout.{value_text, item_texts, entry_texts, named_value_text}
 use Rattle.graphql_names.specs.Placed.{Placed, Text}
-use Rattle.graphql_values.specs.Writable.{value_writable, items_writable, entries_writable}
-use Rattle.graphql_literals.specs.ValueTree.{ValueTree, NullTree, EnumTree, VariableTree, StringTree, FloatTree, IntTree, BooleanTree, ListTree, ObjectTree, ItemTrees, no_items, item_then, EntryTrees, no_entries, entry_then, unplaced_value, unplaced_items, unplaced_entries}
+use Rattle.graphql_parse_values.specs.in_values.Writable.{value_writable, items_writable, entries_writable}
+use Rattle.graphql_parse_values.specs.in_literals.ValueTree.{ValueTree, NullTree, EnumTree, VariableTree, StringTree, FloatTree, IntTree, BooleanTree, ListTree, ObjectTree, ItemTrees, no_items, item_then, EntryTrees, no_entries, entry_then, unplaced_value, unplaced_items, unplaced_entries}
 use Rattle.graphql_parse_values.specs.in_grammar.Meaning.{Meaning}
 use Rattle.graphql_parse_values.specs.in_grammar.Rules as rule
 use Rattle.graphql_parse_values.specs.in_grammar.Rules.{Rule, mark, ◌·◌, ◌<$>◌, ◌∣◌, nothing, many, between}

@@ -1,8 +1,8 @@
 -- A printed text with nothing behind it is a text of its symbol, and of one tree alone.
 use Rattle.std.proofs.Common.{◌≡◌, ℕ, true, List, [], refl, subst, append-nil}
-use Rattle.graphql_lexer.specs.Input.{Token, Ended}
-use Rattle.graphql_lexer.specs.Lex.{Lex}
-use Rattle.graphql_lexer.proofs.Lexed.{lex_unique}
+use Rattle.graphql_parse_values.specs.in_lexer.Input.{Token, Ended}
+use Rattle.graphql_parse_values.specs.in_lexer.Lex.{Lex}
+use Rattle.graphql_parse_values.proofs.in_lexer.Lexed.{lex_unique}
 use Rattle.graphql_parse_values.specs.in_grammar.Faults.{Symbol}
 use Rattle.graphql_parse_values.specs.in_grammar.Rules.{Rule}
 use Rattle.graphql_parse_values.specs.in_grammar.Grammar.{DerivesAs}

@@ -1,15 +1,15 @@
 -- That numbers and strings are read as they are printed: what the laws of values rest on. Private to the proofs.
 use Rattle.std.specs.Prelude.{◌≡◌, ℕ, true, List, ◌++◌, length, Some}
-use Rattle.graphql_printing.specs.StringLayout.{quoted_text, description_string}
-use Rattle.graphql_printing.specs.LineLayout.{Prefix}
-use Rattle.graphql_literals.specs.NumberSyntax.{is_int_value, is_float_value}
-use Rattle.graphql_lexer.specs.declared.terminal.Terminal.TheVariants as k
-use Rattle.graphql_lexer.specs.declared.token.TokenKind.TheVariants as t
-use Rattle.graphql_lexer.specs.declared.token.TokenKind.{TokenKind}
-use Rattle.graphql_lexer.specs.Input.{Token}
-use Rattle.graphql_lexer.specs.Terminals.{terminal_of}
+use Rattle.graphql_printed_strings.specs.in_printing.StringLayout.{quoted_text, description_string}
+use Rattle.graphql_printed_strings.specs.in_printing.LineLayout.{Prefix}
+use Rattle.graphql_parse_values.specs.in_literals.NumberSyntax.{is_int_value, is_float_value}
+use Rattle.graphql_parse_values.specs.in_lexer.declared.terminal.Terminal.TheVariants as k
+use Rattle.graphql_parse_values.specs.in_lexer.declared.token.TokenKind.TheVariants as t
+use Rattle.graphql_parse_values.specs.in_lexer.declared.token.TokenKind.{TokenKind}
+use Rattle.graphql_parse_values.specs.in_lexer.Input.{Token}
+use Rattle.graphql_parse_values.specs.in_lexer.Terminals.{terminal_of}
 use Rattle.graphql_parse_values.specs.in_grammar.Kinds.{is_string}
-use Rattle.graphql_lexer.specs.Tokens.{token_at}
+use Rattle.graphql_parse_values.specs.in_lexer.Tokens.{token_at}
 use Rattle.graphql_printed.specs.Printed.{ends_word}
 use Rattle.graphql_printed.specs.WellFormed.{is_white_prefix}
 

@@ -1,9 +1,9 @@
 -- Selections (GraphQL, October 2021, section 2.4) by themselves: as they stand in a set, without its braces.
 use Rattle.std.specs.Prelude.{ℕ, List, [], ◌∷◌}
-use Rattle.graphql_printing.specs.Joined.{joined}
-use Rattle.graphql_printing.specs.LineLayout.{Prefix, start_text, members_text}
-use Rattle.graphql_operations.specs.OperationLayout.{selection_text, selection_texts}
-use Rattle.graphql_operations.specs.SelectionTree.{SelectionTrees, no_selections, selection_then}
+use Rattle.graphql_printed_strings.specs.in_printing.Joined.{joined}
+use Rattle.graphql_printed_strings.specs.in_printing.LineLayout.{Prefix, start_text, members_text}
+use Rattle.graphql_parse_values.specs.in_operations.OperationLayout.{selection_text, selection_texts}
+use Rattle.graphql_parse_values.specs.in_operations.SelectionTree.{SelectionTrees, no_selections, selection_then}
 
 -- each on a line at the level, or a space between each two where all stands on one line
 abbrev pub selections_text : {P : Type 0} → Prefix → SelectionTrees P → ℕ → List ℕ

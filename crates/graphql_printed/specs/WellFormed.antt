@@ -3,16 +3,16 @@
 use Rattle.std.specs.Prelude.{ℕ, suc, ◌+◌, Bool, true, ◌&&◌, List, [], ◌∷◌, Option, None, Some}
 use Rattle.std.specs.List.{list_all}
 use Rattle.graphql_names.specs.NameSyntax.{is_name}
-use Rattle.graphql_printing.specs.LineLayout.{Prefix}
-use Rattle.graphql_printing.specs.StringLayout.{is_tab_or_space}
-use Rattle.graphql_literals.specs.NumberSyntax.{is_int_value, is_float_value}
+use Rattle.graphql_printed_strings.specs.in_printing.LineLayout.{Prefix}
+use Rattle.graphql_printed_strings.specs.in_printing.StringLayout.{is_tab_or_space}
+use Rattle.graphql_parse_values.specs.in_literals.NumberSyntax.{is_int_value, is_float_value}
 use Rattle.graphql_names.specs.Placed.{Placed, Text}
-use Rattle.graphql_literals.specs.TypeTree.{TypeTree, NamedTree, NonNullNamedTree, ListTree as ListTypeTree, NonNullListTree}
-use Rattle.graphql_literals.specs.ValueTree.{ValueTree, NullTree, EnumTree, VariableTree, StringTree, FloatTree, IntTree, BooleanTree, ListTree, ObjectTree, ItemTrees, no_items, item_then, EntryTrees, no_entries, entry_then}
-use Rattle.graphql_directives.specs.DirectiveTree.{ArgumentTree, Arguments, DirectiveTree, Directives, InputValueTree, InputValues}
-use Rattle.graphql_operations.specs.SelectionTree.{FieldHead, SelectionTree, FieldTree, SpreadTree, InlineTree, SelectionTrees, no_selections, selection_then}
-use Rattle.graphql_type_members.specs.TypeSystemTree.{FieldDefinitionTree, EnumValueTree, RootOperationTree, SchemaParts, ScalarParts, FieldsParts, UnionParts, EnumParts, InputObjectParts}
-use Rattle.graphql_operations.specs.OperationTree.{VariableDefinitionTree, OperationTree, FragmentTree}
+use Rattle.graphql_parse_values.specs.in_literals.TypeTree.{TypeTree, NamedTree, NonNullNamedTree, ListTree as ListTypeTree, NonNullListTree}
+use Rattle.graphql_parse_values.specs.in_literals.ValueTree.{ValueTree, NullTree, EnumTree, VariableTree, StringTree, FloatTree, IntTree, BooleanTree, ListTree, ObjectTree, ItemTrees, no_items, item_then, EntryTrees, no_entries, entry_then}
+use Rattle.graphql_parse_values.specs.in_directives.DirectiveTree.{ArgumentTree, Arguments, DirectiveTree, Directives, InputValueTree, InputValues}
+use Rattle.graphql_parse_values.specs.in_operations.SelectionTree.{FieldHead, SelectionTree, FieldTree, SpreadTree, InlineTree, SelectionTrees, no_selections, selection_then}
+use Rattle.graphql_parse_values.specs.in_type_members.TypeSystemTree.{FieldDefinitionTree, EnumValueTree, RootOperationTree, SchemaParts, ScalarParts, FieldsParts, UnionParts, EnumParts, InputObjectParts}
+use Rattle.graphql_parse_values.specs.in_operations.OperationTree.{VariableDefinitionTree, OperationTree, FragmentTree}
 
 -- of something that may be left out
 abbrev pub if_any : {A : Type 0} → (A → Bool) → Option A → Bool

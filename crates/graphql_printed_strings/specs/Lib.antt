@@ -1,1 +1,2 @@
 pub mod Readings
+pub use Rattle.graphql_printing.specs as in_printing

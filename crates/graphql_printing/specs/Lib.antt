@@ -7,3 +7,4 @@ pub mod StringLayout
 pub mod EscapeRuns
 pub mod Serialized
 pub use Rattle.graphql_names.specs.Placed
+pub use Rattle.graphql_names.specs as in_names

@@ -14,3 +14,5 @@ pub mod Endings
 pub mod Texts
 pub mod Symbols
 pub use Rattle.graphql_grammar.proofs as in_grammar
+pub use Rattle.graphql_lexer.proofs as in_lexer
+pub use Rattle.graphql_operations.proofs as in_operations

@@ -4,8 +4,8 @@ use Rattle.std.specs.List.{list_all}
 use Rattle.std.proofs.lemmas.Bool.{and_from, and_parts}
 use Rattle.graphql_names.specs.Placed.{Text}
 use Rattle.graphql_operations.specs.SelectionTree.{SelectionTrees}
-use Rattle.graphql_directives.specs.DirectiveTree.{DirectiveDefinitionTree}
-use Rattle.graphql_values.specs.Writable.{has_selection, selections_writable, directives_writable, directive_definition_writable}
+use Rattle.graphql_parse_values.specs.in_directives.DirectiveTree.{DirectiveDefinitionTree}
+use Rattle.graphql_parse_values.specs.in_values.Writable.{has_selection, selections_writable, directives_writable, directive_definition_writable}
 use Rattle.graphql_definitions.specs.DefinitionTree.{DefinitionTree, Operation, Fragment, DirectiveDefinition, Schema, ScalarType, ObjectType, InterfaceType, UnionType, EnumType, InputObjectType, ExtendSchema, ExtendScalar, ExtendObject, ExtendInterface, ExtendUnion, ExtendEnum, ExtendInputObject}
 use Rattle.graphql_definitions.specs.Writable.{has_some, schema_writable, fields_writable, enum_writable, input_object_writable, definition_writable, document_writable}
 use Rattle.graphql_lexer.specs.Input.{Token}

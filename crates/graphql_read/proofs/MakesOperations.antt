@@ -3,7 +3,7 @@ use Rattle.std.proofs.Common.{◌≡◌, ℕ, zero, suc, Bool, true, ◌&&◌, L
 use Rattle.std.specs.List.{list_all}
 use Rattle.std.proofs.lemmas.Bool.{and_from, and_parts}
 use Rattle.graphql_operations.specs.SelectionTree.{SelectionTree, SelectionTrees, no_selections}
-use Rattle.graphql_values.specs.Writable.{arguments_writable, directives_writable, default_writable, can_be_fragment, has_selection, selection_writable, selections_writable, variable_writable, variables_writable, operation_writable, fragment_writable}
+use Rattle.graphql_parse_values.specs.in_values.Writable.{arguments_writable, directives_writable, default_writable, can_be_fragment, has_selection, selection_writable, selections_writable, variable_writable, variables_writable, operation_writable, fragment_writable}
 use Rattle.graphql_definitions.specs.Writable.{has_some}
 use Rattle.graphql_operations.specs.declared.operation.OperationType.TheVariants.{Query, Mutation, Subscription}
 use Rattle.graphql_grammar.specs.Meaning.{Meaning, name_of}

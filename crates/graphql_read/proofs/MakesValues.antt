@@ -7,7 +7,7 @@ use Rattle.graphql_names.specs.Placed.{Placed, Text}
 use Rattle.graphql_literals.specs.ValueTree.{ValueTree, NullTree, EnumTree, VariableTree, StringTree, FloatTree, IntTree, BooleanTree, ListTree, ObjectTree}
 use Rattle.graphql_literals.specs.TypeTree.{TypeTree, NamedTree, NonNullNamedTree, NonNullListTree}
 use Rattle.graphql_literals.specs.TypeTree as types
-use Rattle.graphql_values.specs.Writable.{is_text, type_writable, can_be_enum, can_be_fragment, value_writable, items_writable, entries_writable, arguments_writable, directive_writable, directives_writable}
+use Rattle.graphql_parse_values.specs.in_values.Writable.{is_text, type_writable, can_be_enum, can_be_fragment, value_writable, items_writable, entries_writable, arguments_writable, directive_writable, directives_writable}
 use Rattle.graphql_lexer.specs.declared.terminal.Terminal.{Terminal}
 use Rattle.graphql_lexer.specs.declared.token.TokenKind.{TokenKind}
 use Rattle.graphql_lexer.specs.declared.token.TokenKind.TheVariants.{Bang, Dollar, Ampersand, OpenParen, CloseParen, Spread, Colon, Equals, At, OpenBracket, CloseBracket, OpenBrace, Pipe, CloseBrace, Int, Float, String, BlockString, Name}

@@ -5,10 +5,10 @@ use Rattle.graphql_operations.specs.declared.operation.OperationType.TheVariants
 use Rattle.graphql_names.specs.Placed.{Placed, Text}
 use Rattle.graphql_literals.specs.TypeTree.{TypeTree, NamedTree, NonNullNamedTree, ListTree as ListTypeTree, NonNullListTree}
 use Rattle.graphql_literals.specs.ValueTree.{ValueTree, EnumTree, VariableTree, ListTree, ObjectTree, no_items, item_then, no_entries, entry_then}
-use Rattle.graphql_directives.specs.DirectiveTree.{Directives, InputValueTree}
+use Rattle.graphql_parse_values.specs.in_directives.DirectiveTree.{Directives, InputValueTree}
 use Rattle.graphql_operations.specs.SelectionTree.{FieldHead, SelectionTrees, FieldTree, SpreadTree, InlineTree, no_selections, selection_then}
 use Rattle.graphql_operations.specs.OperationTree.{VariableDefinitionTree}
-use Rattle.graphql_type_members.specs.TypeSystemTree.{FieldDefinitionTree, SchemaParts, ScalarParts, FieldsParts, UnionParts, EnumParts, InputObjectParts}
+use Rattle.graphql_parse_values.specs.in_type_members.TypeSystemTree.{FieldDefinitionTree, SchemaParts, ScalarParts, FieldsParts, UnionParts, EnumParts, InputObjectParts}
 use Rattle.graphql_definitions.specs.DefinitionTree.{DefinitionTree, Operation, Fragment, DirectiveDefinition, Schema, ScalarType, ObjectType, InterfaceType, UnionType, EnumType, InputObjectType, ExtendSchema, ExtendScalar, ExtendObject, ExtendInterface, ExtendUnion, ExtendEnum, ExtendInputObject}
 use Rattle.graphql_read.specs.EachPlace.{all_in_type, all_in_selections, all_in_definition}
 

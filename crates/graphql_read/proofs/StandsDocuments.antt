@@ -4,7 +4,7 @@ use Rattle.std.proofs.Common.{◌≡◌, ◌≢◌, ℕ, ◌+◌, ◌-◌, ◌^�
 use Rattle.graphql_names.specs.Placed.{Place, Text}
 use Rattle.graphql_literals.specs.TypeTree.{TypeTree}
 use Rattle.graphql_operations.specs.SelectionTree.{SelectionTrees}
-use Rattle.graphql_directives.specs.DirectiveTree.{DirectiveDefinitionTree}
+use Rattle.graphql_parse_values.specs.in_directives.DirectiveTree.{DirectiveDefinitionTree}
 use Rattle.graphql_definitions.specs.DefinitionTree.{DefinitionTree, Operation, Fragment}
 use Rattle.graphql_lexer.specs.Input.{Token}
 use Rattle.graphql_grammar.specs.Meaning.{Meaning, start}

@@ -5,7 +5,7 @@ use Rattle.graphql_names.specs.Places.{is_built_in}
 use Rattle.graphql_names.specs.Placed.{Place}
 use Rattle.graphql_literals.specs.TypeTree.{TypeTree}
 use Rattle.graphql_operations.specs.SelectionTree.{SelectionTrees}
-use Rattle.graphql_values.specs.Writable.{type_writable, has_selection, selections_writable}
+use Rattle.graphql_parse_values.specs.in_values.Writable.{type_writable, has_selection, selections_writable}
 use Rattle.graphql_definitions.specs.DefinitionTree.{DefinitionTree, Schema}
 use Rattle.graphql_definitions.specs.Writable.{has_some, document_writable}
 use Rattle.graphql_read.specs.EachPlace.{all_in_type, all_in_selections, all_in_document}

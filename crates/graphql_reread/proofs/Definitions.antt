@@ -6,12 +6,12 @@ use Rattle.graphql_names.specs.declared.name.Name.{Name}
 use Rattle.graphql_names.specs.declared.node.Node.{Node}
 use Rattle.graphql_names.specs.NameSyntax.{is_name}
 use Rattle.graphql_names.specs.Placed.{name_tree, node_tree}
-use Rattle.graphql_directives.specs.DirectiveTree.{input_value_tree}
-use Rattle.graphql_directives.specs.declared.input_value.InputValueDefinition.{InputValueDefinition}
-use Rattle.graphql_operations.specs.declared.operation.OperationType.{OperationType}
-use Rattle.graphql_type_members.specs.TypeSystemTree.{field_definition_tree, enum_value_tree}
-use Rattle.graphql_type_members.specs.declared.field_definition.FieldDefinition.{FieldDefinition}
-use Rattle.graphql_type_members.specs.declared.enum_value.EnumValueDefinition.{EnumValueDefinition}
+use Rattle.graphql_read.specs.in_directives.DirectiveTree.{input_value_tree}
+use Rattle.graphql_read.specs.in_directives.declared.input_value.InputValueDefinition.{InputValueDefinition}
+use Rattle.graphql_read.specs.in_operations.declared.operation.OperationType.{OperationType}
+use Rattle.graphql_definitions.specs.in_type_members.TypeSystemTree.{field_definition_tree, enum_value_tree}
+use Rattle.graphql_definitions.specs.in_type_members.declared.field_definition.FieldDefinition.{FieldDefinition}
+use Rattle.graphql_definitions.specs.in_type_members.declared.enum_value.EnumValueDefinition.{EnumValueDefinition}
 use Rattle.graphql_definitions.specs.DefinitionTree.{definition_tree, root_tree}
 use Rattle.graphql_definitions.specs.declared.definition.Definition.{Definition}
 use Rattle.graphql_definitions.specs.declared.definition.Definition.TheVariants as rust

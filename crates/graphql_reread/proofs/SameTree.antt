@@ -9,16 +9,16 @@ use Rattle.graphql_printing.specs.LineLayout.{Prefix, standing}
 use Rattle.graphql_literals.specs.ValueLayout.{type_text}
 use Rattle.graphql_literals.specs.TypeTree.{type_tree, unplaced_type}
 use Rattle.graphql_literals.specs.declared.ty.«Type».{«Type»}
-use Rattle.graphql_lexer.specs.Input.{Token, Ended, NoTokenAt}
-use Rattle.graphql_lexer.proofs.Lexed.{lex_unique}
+use Rattle.graphql_read.specs.in_lexer.Input.{Token, Ended, NoTokenAt}
+use Rattle.graphql_read.proofs.in_lexer.Lexed.{lex_unique}
 use Rattle.graphql_definitions.specs.DefinitionTree.{definition_tree, unplaced_document}
 use Rattle.graphql_definitions.specs.DocumentLayout.{document_text}
 use Rattle.graphql_definitions.specs.Writable.{has_some, definition_writable, document_writable}
 use Rattle.graphql_definitions.specs.declared.definition.Definition.{Definition}
-use Rattle.graphql_grammar.specs.Faults as faults
-use Rattle.graphql_grammar.specs.Faults.{Symbol, IsTooDeep}
-use Rattle.graphql_grammar.specs.Grammar.{Derives, DerivesType}
-use Rattle.graphql_parse_values.specs.Meanings.{in_file}
+use Rattle.graphql_read.specs.in_grammar.Faults as faults
+use Rattle.graphql_read.specs.in_grammar.Faults.{Symbol, IsTooDeep}
+use Rattle.graphql_read.specs.in_grammar.Grammar.{Derives, DerivesType}
+use Rattle.graphql_read.specs.in_parse_values.Meanings.{in_file}
 use Rattle.graphql_read.specs.declared.fault.SyntaxFaultKind.{SyntaxFaultKind}
 use Rattle.graphql_read.specs.declared.fault.SyntaxFaultKind.TheVariants.{NoToken, Unexpected, End}
 use Rattle.graphql_read.specs.declared.fault.ReadFault.{ReadFault}

@@ -18,24 +18,24 @@ use Rattle.graphql_literals.specs.declared.value.Value.{Value}
 use Rattle.graphql_literals.specs.declared.value.Value.TheOpen.{Value-F, Null, Enum, Variable, String, Float, Int, Boolean, List as ListOf, Object}
 use Rattle.graphql_literals.specs.declared.value.Value.TheViews.{roll-Value, out-roll-Value}
 use Rattle.graphql_literals.specs.declared.value.Value.TheFolds.{map-Value, fold_out-Value, ind-Value}
-use Rattle.graphql_directives.specs.DirectiveTree.{argument_tree, directive_tree, directives_tree, input_value_tree, directive_definition_tree}
-use Rattle.graphql_directives.specs.declared.directive.Argument.{Argument}
-use Rattle.graphql_directives.specs.declared.directive.Directive.{Directive}
-use Rattle.graphql_directives.specs.declared.directive.DirectiveList.{DirectiveList}
-use Rattle.graphql_directives.specs.declared.directive.DirectiveDefinition.{DirectiveDefinition}
-use Rattle.graphql_directives.specs.declared.input_value.InputValueDefinition.{InputValueDefinition}
-use Rattle.graphql_operations.specs.SelectionTree.{SelectionTree, selection_trees, selection_tree, AtPlace, selection_step, field_step, inline_step}
-use Rattle.graphql_operations.proofs.SelectionTrees.{selection_trees-map, field_at, inline_at}
-use Rattle.graphql_operations.specs.OperationTree.{variable_definition_tree, operation_tree, fragment_tree}
-use Rattle.graphql_operations.specs.declared.selection.Selection.{Selection}
-use Rattle.graphql_operations.specs.declared.selection.Field.{Field}
-use Rattle.graphql_operations.specs.declared.selection.InlineFragment.{InlineFragment}
-use Rattle.graphql_operations.specs.declared.selection.Selection.TheOpen.{Selection-F, Field-F, InlineFragment-F, Field as FieldOf, FragmentSpread as SpreadOf, InlineFragment as InlineOf}
-use Rattle.graphql_operations.specs.declared.selection.Selection.TheViews.{roll-Selection, out-roll-Selection, roll-Field, out-roll-Field, roll-InlineFragment, out-roll-InlineFragment}
-use Rattle.graphql_operations.specs.declared.selection.Selection.TheFolds.{map-Selection, map-Field, map-InlineFragment, fold_out-Selection, fold_out-Field, fold_out-InlineFragment, ind-Selection}
-use Rattle.graphql_operations.specs.declared.operation.VariableDefinition.{VariableDefinition}
-use Rattle.graphql_operations.specs.declared.operation.OperationDefinition.{OperationDefinition}
-use Rattle.graphql_operations.specs.declared.operation.FragmentDefinition.{FragmentDefinition}
+use Rattle.graphql_read.specs.in_directives.DirectiveTree.{argument_tree, directive_tree, directives_tree, input_value_tree, directive_definition_tree}
+use Rattle.graphql_read.specs.in_directives.declared.directive.Argument.{Argument}
+use Rattle.graphql_read.specs.in_directives.declared.directive.Directive.{Directive}
+use Rattle.graphql_read.specs.in_directives.declared.directive.DirectiveList.{DirectiveList}
+use Rattle.graphql_read.specs.in_directives.declared.directive.DirectiveDefinition.{DirectiveDefinition}
+use Rattle.graphql_read.specs.in_directives.declared.input_value.InputValueDefinition.{InputValueDefinition}
+use Rattle.graphql_read.specs.in_operations.SelectionTree.{SelectionTree, selection_trees, selection_tree, AtPlace, selection_step, field_step, inline_step}
+use Rattle.graphql_read.proofs.in_operations.SelectionTrees.{selection_trees-map, field_at, inline_at}
+use Rattle.graphql_read.specs.in_operations.OperationTree.{variable_definition_tree, operation_tree, fragment_tree}
+use Rattle.graphql_read.specs.in_operations.declared.selection.Selection.{Selection}
+use Rattle.graphql_read.specs.in_operations.declared.selection.Field.{Field}
+use Rattle.graphql_read.specs.in_operations.declared.selection.InlineFragment.{InlineFragment}
+use Rattle.graphql_read.specs.in_operations.declared.selection.Selection.TheOpen.{Selection-F, Field-F, InlineFragment-F, Field as FieldOf, FragmentSpread as SpreadOf, InlineFragment as InlineOf}
+use Rattle.graphql_read.specs.in_operations.declared.selection.Selection.TheViews.{roll-Selection, out-roll-Selection, roll-Field, out-roll-Field, roll-InlineFragment, out-roll-InlineFragment}
+use Rattle.graphql_read.specs.in_operations.declared.selection.Selection.TheFolds.{map-Selection, map-Field, map-InlineFragment, fold_out-Selection, fold_out-Field, fold_out-InlineFragment, ind-Selection}
+use Rattle.graphql_read.specs.in_operations.declared.operation.VariableDefinition.{VariableDefinition}
+use Rattle.graphql_read.specs.in_operations.declared.operation.OperationDefinition.{OperationDefinition}
+use Rattle.graphql_read.specs.in_operations.declared.operation.FragmentDefinition.{FragmentDefinition}
 use Rattle.graphql_printed.specs.WellFormed.{if_any, type_well_formed, value_well_formed, items_well_formed, entries_well_formed, argument_well_formed, directive_well_formed, directives_well_formed, selection_well_formed, selections_well_formed, variable_well_formed, operation_well_formed, fragment_well_formed, input_value_well_formed}
 use Rattle.graphql_printed.specs.Definitions.{directive_definition_well_formed}
 

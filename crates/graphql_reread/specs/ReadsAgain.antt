@@ -3,14 +3,14 @@ use Rattle.std.specs.Prelude.{◌≡◌, ℕ, ◌≤◌, true, List, Result, Ok,
 use Rattle.std.specs.Option.{option_copied}
 use Rattle.graphql_printing.specs.Serialized.{serialized}
 use Rattle.graphql_printing.specs.declared.serialize.Serialize.{Serialize}
-use Rattle.graphql_lexer.specs.Input.{Token}
-use Rattle.graphql_lexer.specs.Lex.{Lex}
+use Rattle.graphql_read.specs.in_lexer.Input.{Token}
+use Rattle.graphql_read.specs.in_lexer.Lex.{Lex}
 use Rattle.graphql_definitions.specs.DefinitionTree.{document_tree}
 use Rattle.graphql_definitions.specs.DocumentLayout.{document_text}
 use Rattle.graphql_definitions.specs.Writable.{document_writable}
 use Rattle.graphql_definitions.specs.declared.document.Document.{Document}
-use Rattle.graphql_grammar.specs.Depth.{depth}
-use Rattle.graphql_grammar.specs.Faults.{IsTooDeep}
+use Rattle.graphql_read.specs.in_grammar.Depth.{depth}
+use Rattle.graphql_read.specs.in_grammar.Faults.{IsTooDeep}
 use Rattle.graphql_read.specs.declared.fault.ReadFault.{ReadFault}
 use Rattle.graphql_read.specs.declared.fault.ReadFault.TheVariants.{Syntax, Nesting, Memory}
 use Rattle.graphql_printed.specs.WellFormed.{is_white_prefix}

@@ -1,14 +1,14 @@
 -- Small schemas, by computation: what breaks a rule, and what next to it does not.
 use Rattle.std.proofs.Common.{◌≡◌, ℕ, Bool, true, false, List, [], ◌∷◌, codes, if◌then◌else◌, is_some, unwrap_or, bytes_eq, Option, None, Some, refl, sym, ap, subst, ◌∙◌, inl, inr, true≢false}
 use Rattle.graphql_names.specs.Placed.{Placed, Text}
-use Rattle.graphql_literals.specs.TypeTree.{TypeTree, NamedTree, NonNullNamedTree, ListTree, NonNullListTree}
-use Rattle.graphql_literals.specs.TypeQueries.{has_mark}
-use Rattle.graphql_directives.specs.DirectiveTree.{InputValueTree}
-use Rattle.graphql_type_members.specs.TypeSystemTree.{FieldDefinitionTree}
-use Rattle.graphql_schema_types.specs.Looks.{TypeLooks}
-use Rattle.graphql_schema_types.specs.Addresses.{TypeAt, FieldAt, InputAt}
-use Rattle.graphql_schema_types.specs.declared.type_kind.TypeKind.{TypeKind}
-use Rattle.graphql_schema_types.specs.declared.type_kind.TypeKind.TheVariants as kind
+use Rattle.graphql_folding.specs.in_literals.TypeTree.{TypeTree, NamedTree, NonNullNamedTree, ListTree, NonNullListTree}
+use Rattle.graphql_folding.specs.in_literals.TypeQueries.{has_mark}
+use Rattle.graphql_folding.specs.in_directives.DirectiveTree.{InputValueTree}
+use Rattle.graphql_folding.specs.in_type_members.TypeSystemTree.{FieldDefinitionTree}
+use Rattle.graphql_folding.specs.in_schema_types.Looks.{TypeLooks}
+use Rattle.graphql_folding.specs.in_schema_types.Addresses.{TypeAt, FieldAt, InputAt}
+use Rattle.graphql_folding.specs.in_schema_types.declared.type_kind.TypeKind.{TypeKind}
+use Rattle.graphql_folding.specs.in_schema_types.declared.type_kind.TypeKind.TheVariants as kind
 use Rattle.graphql_rule_definitions.specs.Diagnostics.{EmptyFieldSet, InvalidImplementationFieldType, RecursiveInputObjectDefinition}
 use Rattle.graphql_rule_definitions.specs.Spots.{At}
 use Rattle.graphql_rule_definitions.specs.Faults.{SchemaFault, told, wrong}

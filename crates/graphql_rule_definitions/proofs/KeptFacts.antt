@@ -9,19 +9,19 @@ use Rattle.std.specs.Ordering.{eq_by_cmp}
 use Rattle.std.proofs.lemmas.Option.{same_Some}
 use Rattle.std.proofs.lemmas.Slice.Eq.{bytes_eq-Decides}
 use Rattle.graphql_names.specs.Placed.{Placed, Place, unplaced_node}
-use Rattle.graphql_literals.specs.TypeTree.{TypeTree, NamedTree, NonNullNamedTree, ListTree, NonNullListTree, unplaced_type}
-use Rattle.graphql_literals.specs.TypeQueries.{inner_name}
-use Rattle.graphql_directives.specs.DirectiveTree.{InputValueTree, InputValues, DirectiveDefinitionTree, unplaced_input_value}
-use Rattle.graphql_type_members.specs.TypeSystemTree.{FieldDefinitionTree, unplaced_field_definition}
-use Rattle.graphql_values.proofs.Decided.{through}
-use Rattle.graphql_components.specs.Names.{Entries, by_bytes, named}
-use Rattle.graphql_components.specs.Given.{plain_given}
-use Rattle.graphql_components.proofs.NamedLookups.{tied}
-use Rattle.graphql_schema_types.specs.SchemaTree.{SchemaType, SchemaTree, same_kind}
-use Rattle.graphql_schema_types.specs.Plain.{PlainType, plain_type, plain_directive_definition, plain}
-use Rattle.graphql_schema_types.specs.Looks.{TypeLooks, type_looks, looks}
-use Rattle.graphql_schema_types.specs.declared.type_kind.TypeKind.{TypeKind}
-use Rattle.graphql_schema_types.specs.declared.type_kind.TypeKind.TheVariants as kind
+use Rattle.graphql_folding.specs.in_literals.TypeTree.{TypeTree, NamedTree, NonNullNamedTree, ListTree, NonNullListTree, unplaced_type}
+use Rattle.graphql_folding.specs.in_literals.TypeQueries.{inner_name}
+use Rattle.graphql_folding.specs.in_directives.DirectiveTree.{InputValueTree, InputValues, DirectiveDefinitionTree, unplaced_input_value}
+use Rattle.graphql_folding.specs.in_type_members.TypeSystemTree.{FieldDefinitionTree, unplaced_field_definition}
+use Rattle.graphql_folding.proofs.in_values.Decided.{through}
+use Rattle.graphql_folding.specs.in_components.Names.{Entries, by_bytes, named}
+use Rattle.graphql_folding.specs.in_components.Given.{plain_given}
+use Rattle.graphql_folding.proofs.in_components.NamedLookups.{tied}
+use Rattle.graphql_folding.specs.in_schema_types.SchemaTree.{SchemaType, SchemaTree, same_kind}
+use Rattle.graphql_folding.specs.in_schema_types.Plain.{PlainType, plain_type, plain_directive_definition, plain}
+use Rattle.graphql_folding.specs.in_schema_types.Looks.{TypeLooks, type_looks, looks}
+use Rattle.graphql_folding.specs.in_schema_types.declared.type_kind.TypeKind.{TypeKind}
+use Rattle.graphql_folding.specs.in_schema_types.declared.type_kind.TypeKind.TheVariants as kind
 use Rattle.graphql_rule_definitions.specs.Words.{Present, Somewhere, AtSomeIndex}
 use Rattle.graphql_rule_definitions.specs.Judged.{judged}
 use Rattle.graphql_rule_definitions.specs.TypesUsed.{named_in}

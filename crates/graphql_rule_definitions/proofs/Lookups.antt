@@ -7,9 +7,9 @@ use Rattle.std.specs.Str.{bytes_eq}
 use Rattle.std.proofs.lemmas.Slice.Eq.{bytes_eq-Decides}
 use Rattle.std.proofs.lemmas.List.Elements.{Contains-append_right}
 use Rattle.std.proofs.lemmas.Map.Keys.{IsDistinct-head, IsDistinct-tail}
-use Rattle.graphql_components.specs.Lists.{is_among}
-use Rattle.graphql_components.specs.Names.{Entries}
-use Rattle.graphql_schema_types.specs.Addresses.{under}
+use Rattle.graphql_folding.specs.in_components.Lists.{is_among}
+use Rattle.graphql_folding.specs.in_components.Names.{Entries}
+use Rattle.graphql_folding.specs.in_schema_types.Addresses.{under}
 use Rattle.graphql_rule_definitions.proofs.Lists.{not_in_nil, Contains-cons, Contains-first}
 
 pub itself : (n : List ℕ) → bytes_eq n n ≡ true

@@ -2,11 +2,11 @@
 -- A way is a path of references from a name: no order of walking, no set of what was seen.
 use Rattle.std.specs.Prelude.{◌≡◌, ℕ, ◌<◌, Bool, true, false, List, [], ◌∷◌, ◌++◌, codes, reverse, length, count_by, filter_map, Option, None, Some, slice_get, ◌⊎◌}
 use Rattle.graphql_names.specs.Placed.{Placed, Text}
-use Rattle.graphql_literals.specs.TypeTree.{NonNullNamedTree}
-use Rattle.graphql_directives.specs.DirectiveTree.{DirectiveTree, InputValueTree}
-use Rattle.graphql_schema_types.specs.Looks.{TypeLooks}
-use Rattle.graphql_schema_types.specs.Addresses.{Address, TypeAt, ValueAt, InputAt, DirectiveDefinitionAt, ArgumentAt, DirectiveAt}
-use Rattle.graphql_schema_types.specs.declared.type_kind.TypeKind.TheVariants as kind
+use Rattle.graphql_folding.specs.in_literals.TypeTree.{NonNullNamedTree}
+use Rattle.graphql_folding.specs.in_directives.DirectiveTree.{DirectiveTree, InputValueTree}
+use Rattle.graphql_folding.specs.in_schema_types.Looks.{TypeLooks}
+use Rattle.graphql_folding.specs.in_schema_types.Addresses.{Address, TypeAt, ValueAt, InputAt, DirectiveDefinitionAt, ArgumentAt, DirectiveAt}
+use Rattle.graphql_folding.specs.in_schema_types.declared.type_kind.TypeKind.TheVariants as kind
 use Rattle.graphql_rule_definitions.specs.Diagnostics.{RecursiveInputObjectDefinition, RecursiveDirectiveDefinition, DeeplyNestedType}
 use Rattle.graphql_rule_definitions.specs.Words.{Present, Somewhere, AtSomeIndex}
 use Rattle.graphql_rule_definitions.specs.Spots.{Spot, At, HeadAt}

@@ -2,12 +2,12 @@
 -- for each place that belongs to the data (GraphQL, October 2021, sections 3 and 5).
 use Rattle.std.specs.Prelude.{ℕ, List, map, Option}
 use Rattle.graphql_names.specs.Placed.{Placed}
-use Rattle.graphql_literals.specs.TypeTree.{TypeTree}
-use Rattle.graphql_literals.specs.ValueTree.{ValueTree}
-use Rattle.graphql_directives.specs.DirectiveTree.{DirectiveTree, Directives, InputValueTree}
-use Rattle.graphql_directives.specs.declared.directive_location.DirectiveLocation.{DirectiveLocation}
-use Rattle.graphql_operations.specs.declared.operation.OperationType.{OperationType}
-use Rattle.graphql_components.specs.Coordinate.{Coordinate}
+use Rattle.graphql_folding.specs.in_literals.TypeTree.{TypeTree}
+use Rattle.graphql_folding.specs.in_literals.ValueTree.{ValueTree}
+use Rattle.graphql_folding.specs.in_directives.DirectiveTree.{DirectiveTree, Directives, InputValueTree}
+use Rattle.graphql_folding.specs.in_directives.declared.directive_location.DirectiveLocation.{DirectiveLocation}
+use Rattle.graphql_folding.specs.in_operations.declared.operation.OperationType.{OperationType}
+use Rattle.graphql_folding.specs.in_components.Coordinate.{Coordinate}
 
 -- a reference to a type, without places
 abbrev pub PlainType : Type 0

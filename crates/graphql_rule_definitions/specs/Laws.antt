@@ -1,9 +1,9 @@
 -- Equal schemas with equal marks: rules read the same of both, so they keep and break the same rules, at the same addresses.
 use Rattle.std.specs.Prelude.{◌≡◌, ◌↔◌}
 use Rattle.graphql_names.specs.Placed.{Place}
-use Rattle.graphql_schema_types.specs.SchemaTree.{SchemaTree}
-use Rattle.graphql_schema_types.specs.Plain.{plain}
-use Rattle.graphql_schema_types.specs.Addresses.{Address, is_marked}
+use Rattle.graphql_folding.specs.in_schema_types.SchemaTree.{SchemaTree}
+use Rattle.graphql_folding.specs.in_schema_types.Plain.{plain}
+use Rattle.graphql_folding.specs.in_schema_types.Addresses.{Address, is_marked}
 use Rattle.graphql_rule_definitions.specs.Faults.{SchemaFault}
 use Rattle.graphql_rule_definitions.specs.Judged.{judged}
 use Rattle.graphql_rule_definitions.specs.Rules.{Breaks, SchemaRules}

@@ -13,7 +13,9 @@ pub mod Values
 pub mod Uses
 pub mod Rules
 pub mod Told
-pub use Rattle.graphql_schema_types.specs.Distinct
+pub use Rattle.graphql_folding.specs.in_schema_types.Distinct
 pub mod Kept
 pub mod Laws
-pub use Rattle.graphql_components.specs as in_components
+pub use Rattle.graphql_folding.specs.in_components as in_components
+pub use Rattle.graphql_folding.specs as in_folding
+pub use Rattle.graphql_folding.specs.in_schema_types as in_schema_types

@@ -4,18 +4,18 @@ use Rattle.std.specs.Prelude.{◌≡◌, ℕ, ◌<◌, Bool, true, false, List, 
 use Rattle.std.proofs.Common.{w32}
 use Rattle.std.specs.Option.{option_map_or}
 use Rattle.graphql_names.specs.Placed.{Placed, Text}
-use Rattle.graphql_literals.specs.TypeTree.{TypeTree}
-use Rattle.graphql_literals.specs.TypeQueries.{has_mark, is_list_type, item_type_of, inner_name}
-use Rattle.graphql_literals.specs.NumberSyntax.{integer_value}
-use Rattle.graphql_literals.specs.ValueTree.{ValueTree, ItemTrees, EntryTrees, NullTree, EnumTree, VariableTree, StringTree, FloatTree, IntTree, BooleanTree, ListTree, ObjectTree, no_items, item_then, no_entries, entry_then, unplaced_value}
-use Rattle.graphql_literals.specs.ValueQueries.{is_null_value, enum_name, integer_text, object_entries}
-use Rattle.graphql_directives.specs.DirectiveTree.{InputValueTree}
-use Rattle.graphql_directives.specs.DirectiveQueries.{is_required_input}
-use Rattle.graphql_operations.specs.OperationTree.{VariableDefinitionTree}
-use Rattle.graphql_components.specs.Coordinate.{OfAttribute}
-use Rattle.graphql_schema_types.specs.Looks.{TypeLooks}
-use Rattle.graphql_schema_types.specs.Addresses.{Address, TypeAt, InputAt, TypeReferenceAt}
-use Rattle.graphql_schema_types.specs.declared.type_kind.TypeKind.TheVariants as kind
+use Rattle.graphql_folding.specs.in_literals.TypeTree.{TypeTree}
+use Rattle.graphql_folding.specs.in_literals.TypeQueries.{has_mark, is_list_type, item_type_of, inner_name}
+use Rattle.graphql_folding.specs.in_literals.NumberSyntax.{integer_value}
+use Rattle.graphql_folding.specs.in_literals.ValueTree.{ValueTree, ItemTrees, EntryTrees, NullTree, EnumTree, VariableTree, StringTree, FloatTree, IntTree, BooleanTree, ListTree, ObjectTree, no_items, item_then, no_entries, entry_then, unplaced_value}
+use Rattle.graphql_folding.specs.in_literals.ValueQueries.{is_null_value, enum_name, integer_text, object_entries}
+use Rattle.graphql_folding.specs.in_directives.DirectiveTree.{InputValueTree}
+use Rattle.graphql_folding.specs.in_directives.DirectiveQueries.{is_required_input}
+use Rattle.graphql_folding.specs.in_operations.OperationTree.{VariableDefinitionTree}
+use Rattle.graphql_folding.specs.in_components.Coordinate.{OfAttribute}
+use Rattle.graphql_folding.specs.in_schema_types.Looks.{TypeLooks}
+use Rattle.graphql_folding.specs.in_schema_types.Addresses.{Address, TypeAt, InputAt, TypeReferenceAt}
+use Rattle.graphql_folding.specs.in_schema_types.declared.type_kind.TypeKind.TheVariants as kind
 use Rattle.graphql_rule_definitions.specs.Diagnostics.{UnsupportedValueType, IntCoercionError, UndefinedVariable, UndefinedEnumValue, UndefinedInputValue, RequiredField, UniqueInputValue}
 use Rattle.graphql_rule_definitions.specs.Words.{Present, Somewhere, AtSomeIndex, Lacks, Repeats}
 use Rattle.graphql_rule_definitions.specs.Spots.{entry_list}

@@ -7,7 +7,7 @@ use Rattle.graphql_directives.specs.declared.directive.Directive.{Directive}
 use Rattle.graphql_directives.specs.declared.input_value.InputValueDefinition.{InputValueDefinition}
 use Rattle.graphql_names.specs.Node.{content, place}
 use Rattle.graphql_names.specs.declared.node.Node.{Node}
-use Rattle.graphql_components.specs.Lists.{each_place}
+use Rattle.graphql_rule_definitions.specs.in_components.Lists.{each_place}
 use Rattle.graphql_rule_definitions.specs.Diagnostics.{DisallowedVariableUsage}
 use Rattle.graphql_rule_definitions.specs.Faults.{wrong}
 use Rattle.graphql_rule_definitions.specs.Judged.{judged}

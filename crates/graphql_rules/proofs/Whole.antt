@@ -2,7 +2,7 @@
 use Rattle.std.proofs.Common.{◌≡◌, ◌⊎◌, ◌↔◌, List, [], ◌∷◌, refl, sym, subst, inl, inr, Contains}
 use Rattle.std.proofs.lemmas.List.Elements.{Contains-append_left, Contains-append_right, Contains-append_cases}
 use Rattle.graphql_names.specs.Placed.{Place}
-use Rattle.graphql_schema_types.specs.SchemaTree.{SchemaTree}
+use Rattle.graphql_rule_definitions.specs.in_schema_types.SchemaTree.{SchemaTree}
 use Rattle.graphql_rule_definitions.specs.Diagnostics.{map_places}
 use Rattle.graphql_rule_definitions.specs.Spots.{spot_place}
 use Rattle.graphql_rule_definitions.specs.Faults.{SchemaFault}

@@ -1,7 +1,7 @@
 -- What is told of a schema (GraphQL, October 2021, sections 3 and 5).
 use Rattle.std.specs.Prelude.{ℕ, List, Contains, ◌⊎◌}
 use Rattle.graphql_names.specs.Placed.{Place}
-use Rattle.graphql_schema_types.specs.SchemaTree.{SchemaTree}
+use Rattle.graphql_rule_definitions.specs.in_schema_types.SchemaTree.{SchemaTree}
 use Rattle.graphql_rule_definitions.specs.Faults.{SchemaFault}
 use Rattle.graphql_rule_definitions.specs.Judged.{Judged, judged}
 use Rattle.graphql_rule_definitions.specs.Cycles.{PassesReferenceBound}

@@ -4,7 +4,7 @@ ghost use Rattle.std.specs.Iterator.{IsFinite, HoldsAlong, DrainsIf};
 ghost use Rattle.graphql_names.specs.Node.{content};
 ghost use Rattle.graphql_names.specs.Placed.{Place, node_tree};
 ghost use Rattle.graphql_directives.specs.DirectiveTree.{Directives, argument_tree, input_value_tree, unplaced_input_value};
-ghost use Rattle.graphql_schema_types.specs.Addresses.{place_at};
+ghost use Rattle.graphql_rule_definitions.specs.in_schema_types.Addresses.{place_at};
 ghost use Rattle.graphql_fault_data.specs.FaultView.{faults_of};
 ghost use Rattle.graphql_fault_data.specs.Adds.{Adds};
 ghost use Rattle.graphql_rule_definitions.specs.Judged.{judged};

@@ -2,7 +2,7 @@
 ghost use Rattle.std.specs.Prelude.{◌≡◌, ◌↔◌, OnOk, OnErr};
 ghost use Rattle.graphql_names.specs.Node.{content, place};
 ghost use Rattle.graphql_literals.specs.ValueTree.{value_tree};
-ghost use Rattle.graphql_schema_types.specs.Addresses.{place_at};
+ghost use Rattle.graphql_rule_definitions.specs.in_schema_types.Addresses.{place_at};
 ghost use Rattle.graphql_schema.specs.SchemaOf.{schema_tree};
 ghost use Rattle.graphql_rule_definitions.specs.Judged.{judged};
 ghost use Rattle.graphql_rule_definitions.specs.Values.{Accepts, ValueBreaks};

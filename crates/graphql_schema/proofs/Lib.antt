@@ -6,3 +6,4 @@ pub mod Subtyping
 pub mod FieldLooks
 pub mod DistinctFacts
 pub use Rattle.graphql_schema_building.proofs as in_schema_building
+pub use Rattle.graphql_schema_writing.proofs as in_schema_writing

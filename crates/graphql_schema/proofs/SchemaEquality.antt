@@ -4,8 +4,8 @@ use Rattle.std.specs.Bool.{Decides}
 use Rattle.graphql_names.specs.Node.{content}
 use Rattle.graphql_names.specs.Placed.{node_tree}
 use Rattle.graphql_directives.specs.DirectiveTree.{directive_definition_tree}
-use Rattle.graphql_values.proofs.Decided.{through, pair_decides}
-use Rattle.graphql_values.proofs.DirectiveEquality.{directive_definition_eq-Decides}
+use Rattle.graphql_components.proofs.in_values.Decided.{through, pair_decides}
+use Rattle.graphql_components.proofs.in_values.DirectiveEquality.{directive_definition_eq-Decides}
 use Rattle.graphql_components.proofs.NamedEquality.{maps_decide}
 use Rattle.graphql_schema_building.specs.in_schema_types.TypeView.{name_text, extended_type}
 use Rattle.graphql_schema_building.specs.in_schema_types.Plain.{PlainSchema, plain, plain_type, plain_directive_definition}

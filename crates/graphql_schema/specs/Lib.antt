@@ -35,3 +35,5 @@ pub use Rattle.graphql_schema_building.specs.Numbers
 pub use Rattle.graphql_schema_building.specs.SourcesView
 pub use Rattle.graphql_schema_building.specs.Waiting
 pub use Rattle.graphql_schema_building.specs.in_schema_types as in_schema_types
+pub use Rattle.graphql_schema_building.specs.in_built_in as in_built_in
+pub use Rattle.graphql_schema_building.specs as in_schema_building

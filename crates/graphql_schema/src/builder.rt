@@ -1,7 +1,7 @@
 //! The builder of schemas.
 ghost use Rattle.std.specs.Prelude.{◌≡◌, ◌↔◌, ◌++◌, [], true, false, IfOk, IfErr, OnOk, Contains};
-ghost use Rattle.graphql_definitions.specs.DefinitionTree.{document_tree};
-ghost use Rattle.graphql_definitions.specs.Sources.{sources_of};
+ghost use Rattle.graphql_schema_writing.specs.in_definitions.DefinitionTree.{document_tree};
+ghost use Rattle.graphql_schema_writing.specs.in_definitions.Sources.{sources_of};
 ghost use Rattle.graphql_schema_building.specs.in_built_in.Table.{built_in_definitions};
 ghost use Rattle.graphql_schema_building.specs.in_folding.BuildErrors.{FoldingRules};
 ghost use Rattle.graphql_schema_building.specs.in_folding.FaultView.{faults_of};
@@ -18,9 +18,9 @@ ghost use Rattle.graphql_schema.specs.SchemaOf.{schema_tree};
 use crate::meta_fields::MetaFields;
 use crate::schema::Schema;
 use graphql_components::Extensions;
-use graphql_definitions::Document;
 use graphql_names::SourceSpan;
 use graphql_schema_building::{BuildError, BuilderRefusal, Building, Built, OrphanExtensionTypes};
+use graphql_schema_writing::Document;
 use std::alloc::{AllocError, Global};
 
 /// Takes the definitions of documents, and builds the schema of them all behind what is built in.

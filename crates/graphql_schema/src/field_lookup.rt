@@ -12,7 +12,7 @@ use crate::schema::Schema;
 use graphql_components::Component;
 use graphql_names::Name;
 use graphql_operations::OperationType;
-use graphql_schema_types::ExtendedType;
+use graphql_schema_writing::ExtendedType;
 use graphql_type_members::FieldDefinition;
 
 /// Why a type has no field of a name.

@@ -13,7 +13,7 @@ ghost use Rattle.graphql_schema.specs.ImplementersView.{implementers_tree, imple
 use crate::schema::Schema;
 use graphql_components::ComponentName;
 use graphql_names::Name;
-use graphql_schema_types::ExtendedType;
+use graphql_schema_writing::ExtendedType;
 use indexmap::{IndexMap, IndexSet};
 use std::alloc::{AllocError, Global};
 

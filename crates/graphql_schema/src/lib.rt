@@ -29,7 +29,7 @@ pub use graphql_components::{
     NamedComponents,
 };
 pub use graphql_schema_building::{BuildError, BuilderRefusal, OrphanExtensionTypes};
-pub use graphql_schema_types::{
+pub use graphql_schema_writing::{
     EnumType, ExtendedType, InputObjectType, InterfaceType, ObjectType, Origins, RootOperations,
     ScalarType, SchemaDefinition, TypeKind, UnionType,
 };

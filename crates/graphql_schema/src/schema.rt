@@ -7,11 +7,10 @@ ghost use Rattle.graphql_schema.specs.SchemaOf.{schema_tree};
 
 use crate::meta_fields::MetaFields;
 use graphql_components::ComponentName;
-use graphql_definitions::SourceFile;
 use graphql_directives::DirectiveDefinition;
 use graphql_names::{FileId, Name, Node};
 use graphql_operations::OperationType;
-use graphql_schema_types::{ExtendedType, SchemaDefinition};
+use graphql_schema_writing::{ExtendedType, SchemaDefinition, SourceFile};
 use indexmap::IndexMap;
 
 /// A schema (section 3): its schema definition, and its directive definitions and types under their names, in order;

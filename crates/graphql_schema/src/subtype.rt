@@ -9,7 +9,7 @@ ghost use Rattle.graphql_schema.specs.LookUps.{is_subtype, implements};
 use crate::schema::Schema;
 use graphql_components::ComponentName;
 use graphql_names::Name;
-use graphql_schema_types::ExtendedType;
+use graphql_schema_writing::ExtendedType;
 
 impl Schema {
     /// Whether `maybe_subtype` is a member of the union `abstract_type`, or an object or interface that names the

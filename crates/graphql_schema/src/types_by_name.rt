@@ -13,7 +13,7 @@ ghost use Rattle.graphql_schema.specs.LookUps.{type_of_kind, inner_kind_is};
 use crate::schema::Schema;
 use graphql_literals::Type;
 use graphql_names::{Name, Node};
-use graphql_schema_types::{
+use graphql_schema_writing::{
     EnumType, ExtendedType, InputObjectType, InterfaceType, ObjectType, ScalarType, UnionType,
 };
 

@@ -7,9 +7,9 @@ use Rattle.std.proofs.lemmas.List.Folds.{list_any-append}
 use Rattle.std.specs.Str.{bytes_eq}
 use Rattle.std.proofs.lemmas.Slice.Eq.{bytes_eq-Decides}
 use Rattle.graphql_names.specs.Placed.{Place}
-use Rattle.graphql_definitions.specs.DefinitionTree as tree
-use Rattle.graphql_definitions.specs.DefinitionTree.{DefinitionTree}
-use Rattle.graphql_definitions.specs.Queries.{is_extension}
+use Rattle.graphql_schema_folding.specs.in_definitions.DefinitionTree as tree
+use Rattle.graphql_schema_folding.specs.in_definitions.DefinitionTree.{DefinitionTree}
+use Rattle.graphql_schema_folding.specs.in_definitions.Queries.{is_extension}
 use Rattle.graphql_components.specs.Lists.{firsts, has_name}
 use Rattle.graphql_schema_folding.specs.in_schema_types.TypeParts.{TypeParts, TypeDefinition, type_here, type_extension_here}
 use Rattle.graphql_schema_folding.specs.in_schema_types.declared.type_kind.TypeKind.{TypeKind}

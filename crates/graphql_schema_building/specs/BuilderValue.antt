@@ -1,6 +1,6 @@
 -- What contracts see of the state of a schema builder.
 use Rattle.std.specs.Prelude.{ℕ, Bool, List}
-use Rattle.graphql_definitions.specs.Sources.{Source}
+use Rattle.graphql_schema_folding.specs.in_definitions.Sources.{Source}
 use Rattle.graphql_schema_folding.specs.in_folding.Listed.{Definitions}
 use Rattle.graphql_schema_folding.specs.in_folding.Adoption.{Settings}
 

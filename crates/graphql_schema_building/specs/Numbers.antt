@@ -1,7 +1,7 @@
 -- Whether there are numbers for the extensions of a list.
 use Rattle.std.specs.Prelude.{ℕ, ◌+◌, ◌<◌, ◌^◌, length}
 use Rattle.std.specs.List.{filter}
-use Rattle.graphql_definitions.specs.Queries.{is_extension}
+use Rattle.graphql_schema_folding.specs.in_definitions.Queries.{is_extension}
 use Rattle.graphql_schema_folding.specs.in_folding.Listed.{Definitions}
 
 -- how many definitions are extensions

@@ -2,7 +2,7 @@
 use Rattle.std.specs.Prelude.{Bool, not, ◌&&◌, List, [], ◌∷◌, ◌++◌, map, None, is_some, if◌then◌else◌}
 use Rattle.std.specs.List.{filter, list_any}
 use Rattle.graphql_names.specs.Placed.{Place}
-use Rattle.graphql_definitions.specs.DefinitionTree.{DefinitionTree}
+use Rattle.graphql_schema_folding.specs.in_definitions.DefinitionTree.{DefinitionTree}
 use Rattle.graphql_schema_folding.specs.in_schema_types.TypeParts.{bare, definition_by}
 use Rattle.graphql_schema_folding.specs.in_folding.Listed.{Definitions, Listed}
 use Rattle.graphql_schema_folding.specs.in_folding.SchemaFold.{schema_extension_here, schema_is_defined}

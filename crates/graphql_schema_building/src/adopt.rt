@@ -2,7 +2,7 @@
 ghost use Rattle.std.specs.Prelude.{◌≡◌, ◌++◌, ◌&&◌, [], ◌∷◌, not, map, is_some, if◌then◌else◌, OnOk};
 ghost use Rattle.std.specs.List.{list_any};
 ghost use Rattle.graphql_names.specs.Placed.{name_tree};
-ghost use Rattle.graphql_definitions.specs.DefinitionTree.{definition_tree};
+ghost use Rattle.graphql_schema_folding.specs.in_definitions.DefinitionTree.{definition_tree};
 ghost use Rattle.graphql_schema_folding.specs.in_folding.ListedView.{listed_view};
 ghost use Rattle.graphql_schema_folding.specs.ListFold.{definitions_of};
 ghost use Rattle.graphql_schema_building.specs.Settling.{unnumbered, empty_of, adopted_schema};
@@ -12,10 +12,8 @@ use crate::defined::{has_schema_extension, schema_is_defined};
 use crate::empty::{empty_schema, empty_type};
 use crate::orphans::Orphans;
 use crate::waiting::OrphanExtensionTypes;
-use graphql_definitions::Definition;
-use graphql_folding::Listed;
 use graphql_names::Name;
-use graphql_schema_types::TypeKind;
+use graphql_schema_folding::{Definition, Listed, TypeKind};
 use std::alloc::{AllocError, Global};
 
 /// Puts an empty definition at the list's end for each type that is extended and not defined, of the kind of its first

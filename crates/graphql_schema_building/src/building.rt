@@ -1,7 +1,7 @@
 //! What is asked of a schema builder's state.
 ghost use Rattle.std.specs.Prelude.{◌≡◌, ◌↔◌, ◌++◌, [], true, false, IfOk, IfErr, OnOk, Contains};
-ghost use Rattle.graphql_definitions.specs.DefinitionTree.{document_tree};
-ghost use Rattle.graphql_definitions.specs.Sources.{sources_of};
+ghost use Rattle.graphql_schema_folding.specs.in_definitions.DefinitionTree.{document_tree};
+ghost use Rattle.graphql_schema_folding.specs.in_definitions.Sources.{sources_of};
 ghost use Rattle.graphql_built_in.specs.Table.{built_in_definitions};
 ghost use Rattle.graphql_schema_folding.specs.in_folding.BuildErrors.{FoldingRules};
 ghost use Rattle.graphql_schema_folding.specs.in_folding.FaultView.{faults_of};
@@ -24,9 +24,8 @@ use crate::state::{Building, Built};
 use crate::texts::Texts;
 use crate::waiting::OrphanExtensionTypes;
 use graphql_components::Extensions;
-use graphql_definitions::{Document, SourceFile};
-use graphql_folding::BuildError;
 use graphql_names::{FileId, SourceSpan};
+use graphql_schema_folding::{BuildError, Document, SourceFile};
 use indexmap::IndexMap;
 use std::alloc::Global;
 use std::mem;

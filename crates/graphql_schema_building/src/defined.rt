@@ -1,15 +1,13 @@
 //! Whether a list of definitions extends the schema, and whether it defines it.
 ghost use Rattle.std.specs.Prelude.{◌≡◌, map, is_some};
 ghost use Rattle.std.specs.List.{list_any};
-ghost use Rattle.graphql_definitions.specs.DefinitionTree.{definition_tree};
+ghost use Rattle.graphql_schema_folding.specs.in_definitions.DefinitionTree.{definition_tree};
 ghost use Rattle.graphql_schema_folding.specs.in_folding.SchemaFold.{schema_extension_here, schema_definition_in, schema_is_defined};
 ghost use Rattle.graphql_schema_folding.specs.in_folding.ListedView.{listed_view};
 ghost use Rattle.graphql_schema_folding.specs.ListFold.{definitions_of};
 
-use graphql_definitions::Definition;
-use graphql_folding::Listed;
 use graphql_operations::OperationType;
-use graphql_schema_folding::{first_schema, is_object, schema_extension};
+use graphql_schema_folding::{Definition, Listed, first_schema, is_object, schema_extension};
 
 /// Whether the schema is extended.
 pub(crate) fn has_schema_extension(list: &[Listed]) -> bool

@@ -3,19 +3,18 @@ ghost use Rattle.std.specs.Prelude.{◌≡◌, None, IfOk};
 ghost use Rattle.graphql_names.specs.Node.{content, place};
 ghost use Rattle.graphql_names.specs.declared.node.Node.{Node};
 ghost use Rattle.graphql_names.specs.Placed.{name_tree};
-ghost use Rattle.graphql_definitions.specs.DefinitionTree.{definition_tree};
+ghost use Rattle.graphql_schema_folding.specs.in_definitions.DefinitionTree.{definition_tree};
 ghost use Rattle.graphql_schema_folding.specs.in_folding.Adoption.{empty_schema};
 ghost use Rattle.graphql_built_in.specs.Table.{built_in_definitions};
 ghost use Rattle.graphql_schema_building.specs.Settling.{empty_of};
 
 use graphql_composite_types::{InterfaceTypeDefinition, ObjectTypeDefinition, UnionTypeDefinition};
-use graphql_definitions::Definition;
 use graphql_directives::DirectiveList;
 use graphql_input_types::{
     EnumTypeDefinition, InputObjectTypeDefinition, ScalarTypeDefinition, SchemaDefinition,
 };
 use graphql_names::{Name, Node};
-use graphql_schema_types::TypeKind;
+use graphql_schema_folding::{Definition, TypeKind};
 use std::alloc::{AllocError, Global};
 
 /// The definition of a type of that kind and name, with nothing in it and no place.

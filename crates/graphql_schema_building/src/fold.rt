@@ -6,10 +6,11 @@ ghost use Rattle.graphql_schema_building.specs.BuiltView.{folded_view};
 ghost use Rattle.graphql_schema_building.specs.ListBuilt.{Folds, FoldsParts};
 
 use graphql_directives::DirectiveDefinition;
-use graphql_folding::{BuildError, Listed};
 use graphql_names::{Name, Node, SourceSpan};
-use graphql_schema_folding::{fold_directives, fold_schema, fold_types, tell_misplaced};
-use graphql_schema_types::{ExtendedType, SchemaDefinition};
+use graphql_schema_folding::{
+    BuildError, ExtendedType, Listed, SchemaDefinition, fold_directives, fold_schema, fold_types,
+    tell_misplaced,
+};
 use indexmap::IndexMap;
 use std::alloc::{AllocError, Global};
 

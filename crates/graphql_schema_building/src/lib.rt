@@ -22,7 +22,7 @@ mod texts;
 mod waiting;
 
 pub use graphql_built_in::{schema_field, type_field, typename_field};
-pub use graphql_folding::BuildError;
+pub use graphql_schema_folding::BuildError;
 pub use refusal::BuilderRefusal;
 pub use state::{Building, Built};
 pub use waiting::OrphanExtensionTypes;

@@ -1,13 +1,11 @@
 //! The types that are extended, those that are defined, and so those that wait for a definition.
 ghost use Rattle.std.specs.Prelude.{◌≡◌, ◌++◌, [], ◌∷◌, map, OnOk};
-ghost use Rattle.graphql_definitions.specs.DefinitionTree.{definition_tree};
+ghost use Rattle.graphql_schema_folding.specs.in_definitions.DefinitionTree.{definition_tree};
 ghost use Rattle.graphql_schema_folding.specs.in_folding.PartsView.{parts_view};
 ghost use Rattle.graphql_schema_building.specs.Noted.{IsNoteOf, Notes, NotesKind};
 
-use graphql_definitions::Definition;
-use graphql_folding::{Parts, extension_parts, type_definition};
 use graphql_names::Name;
-use graphql_schema_types::TypeKind;
+use graphql_schema_folding::{Definition, Parts, TypeKind, extension_parts, type_definition};
 use indexmap::IndexMap;
 use std::alloc::{AllocError, Global};
 

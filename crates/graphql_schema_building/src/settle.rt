@@ -1,7 +1,7 @@
 //! The list of definitions that counts: what is built in, and what the settings make of the texts.
 ghost use Rattle.std.specs.Prelude.{◌≡◌, ◌≤◌, ◌++◌, [], ◌∷◌, length, map, OnOk, IfOk};
 ghost use Rattle.std.specs.List.{filter};
-ghost use Rattle.graphql_definitions.specs.DefinitionTree.{definition_tree};
+ghost use Rattle.graphql_schema_folding.specs.in_definitions.DefinitionTree.{definition_tree};
 ghost use Rattle.graphql_built_in.specs.Table.{built_in_definitions};
 ghost use Rattle.graphql_schema_folding.specs.in_folding.ListedView.{listed_view};
 ghost use Rattle.graphql_schema_building.specs.Settling.{unnumbered, is_kept, settled_from};
@@ -14,8 +14,7 @@ use crate::built_in_types::is_redefinition;
 use crate::orphans::Orphans;
 use crate::texts::{Texts, push_shared};
 use graphql_built_in::built_in_definitions;
-use graphql_definitions::Definition;
-use graphql_folding::Listed;
+use graphql_schema_folding::{Definition, Listed};
 use std::alloc::{AllocError, Global};
 
 /// Which settings of a builder are on.

@@ -4,10 +4,9 @@ ghost use Rattle.graphql_schema_building.specs.KeptView.{IsKept};
 use crate::orphans::Orphans;
 use crate::settle::Settings;
 use crate::texts::Texts;
-use graphql_definitions::SourceFile;
 use graphql_directives::DirectiveDefinition;
 use graphql_names::{FileId, Name, Node};
-use graphql_schema_types::{ExtendedType, SchemaDefinition};
+use graphql_schema_folding::{ExtendedType, SchemaDefinition, SourceFile};
 use indexmap::IndexMap;
 use std::alloc::Global;
 

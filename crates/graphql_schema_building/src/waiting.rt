@@ -6,7 +6,7 @@ ghost use Rattle.graphql_schema_building.specs.Waiting.{is_orphan_in, orphan_kin
 use crate::built_in_types::is_built_in_type;
 use crate::orphans::Orphans;
 use graphql_names::Name;
-use graphql_schema_types::TypeKind;
+use graphql_schema_folding::TypeKind;
 use indexmap::IndexMap;
 use indexmap::map::Slice;
 

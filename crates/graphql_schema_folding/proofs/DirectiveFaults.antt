@@ -4,9 +4,9 @@ use Rattle.std.specs.List.{flat_map}
 use Rattle.std.proofs.lemmas.List.{append-nil, map-append}
 use Rattle.std.proofs.lemmas.Option.{same_Some}
 use Rattle.graphql_names.specs.Placed.{Place}
-use Rattle.graphql_definitions.specs.DefinitionTree as tree
-use Rattle.graphql_definitions.specs.DefinitionTree.{DefinitionTree}
-use Rattle.graphql_definitions.specs.Queries.{definition_place}
+use Rattle.graphql_folding.specs.in_definitions.DefinitionTree as tree
+use Rattle.graphql_folding.specs.in_definitions.DefinitionTree.{DefinitionTree}
+use Rattle.graphql_folding.specs.in_definitions.Queries.{definition_place}
 use Rattle.graphql_components.specs.Lists.{each_place, each_place_after, has_name}
 use Rattle.graphql_components.proofs.Places.{not_in_nil, found_at, given_at, AtSomePlace-map, only, is_only}
 use Rattle.graphql_folding.specs.Listed.{Definitions, directive_here, directive_name, directives_in}

@@ -8,7 +8,7 @@ use Rattle.graphql_directives.specs.declared.directive.Directive.{Directive}
 use Rattle.graphql_operations.specs.declared.operation.OperationType.{OperationType}
 use Rattle.graphql_names.specs.Placed.{Place, node_tree}
 use Rattle.graphql_directives.specs.DirectiveTree.{directive_tree}
-use Rattle.graphql_definitions.specs.DefinitionTree.{root_tree}
+use Rattle.graphql_folding.specs.in_definitions.DefinitionTree.{root_tree}
 use Rattle.graphql_components.specs.Given.{Given, ExtensionTree}
 use Rattle.graphql_components.specs.declared.component.Component.{Component}
 use Rattle.graphql_folding.specs.Components.{all_given}

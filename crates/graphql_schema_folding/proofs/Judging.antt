@@ -3,8 +3,8 @@ use Rattle.std.proofs.Common.{◌≡◌, ℕ, Bool, true, false, not, ◌&&◌, 
 use Rattle.std.specs.Prelude.{◌↔◌}
 use Rattle.std.specs.Option.{option_map, option_map_or, option_or}
 use Rattle.graphql_names.specs.Placed.{Place}
-use Rattle.graphql_definitions.specs.DefinitionTree.{DefinitionTree}
-use Rattle.graphql_definitions.specs.Queries.{is_executable}
+use Rattle.graphql_folding.specs.in_definitions.DefinitionTree.{DefinitionTree}
+use Rattle.graphql_folding.specs.in_definitions.Queries.{is_executable}
 use Rattle.graphql_components.proofs.Places.{not_in_nil, only, is_only}
 use Rattle.graphql_folding.specs.in_schema_types.SchemaTree.{same_kind}
 use Rattle.graphql_folding.specs.in_schema_types.TypeParts.{TypeDefinition, type_here, type_extension_here}

@@ -4,7 +4,7 @@ use Rattle.std.specs.List.{find}
 use Rattle.std.specs.Option.{option_map}
 use Rattle.std.proofs.lemmas.List.{append-nil}
 use Rattle.graphql_names.specs.Placed.{Place, Text}
-use Rattle.graphql_values.specs.OperationQueries.{operation_keyword}
+use Rattle.graphql_components.specs.in_values.OperationQueries.{operation_keyword}
 use Rattle.graphql_operations.specs.declared.operation.OperationType.{OperationType}
 use Rattle.graphql_operations.specs.declared.operation.OperationType.TheVariants as operation
 use Rattle.graphql_components.specs.Lists.{has_name}

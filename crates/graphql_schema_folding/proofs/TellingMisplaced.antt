@@ -3,7 +3,7 @@ use Rattle.std.proofs.Common.{◌≡◌, List, ◌++◌, inl, inr, Contains}
 use Rattle.std.specs.List.{flat_map}
 use Rattle.std.proofs.lemmas.List.Elements.{Contains-append_left, Contains-append_right, Contains-append_cases}
 use Rattle.graphql_names.specs.Placed.{Place}
-use Rattle.graphql_definitions.specs.DefinitionTree.{DefinitionTree}
+use Rattle.graphql_folding.specs.in_definitions.DefinitionTree.{DefinitionTree}
 use Rattle.graphql_components.specs.Lists.{AtSomePlace}
 use Rattle.graphql_components.proofs.Places.{found_at, given_at, found_among, given_among, AtSomePlace-map}
 use Rattle.graphql_folding.specs.Listed.{Definitions}

@@ -5,7 +5,7 @@ use Rattle.std.specs.List.{flat_map}
 use Rattle.std.proofs.lemmas.List.Elements.{Contains-append_left, Contains-append_right, Contains-append_cases}
 use Rattle.graphql_names.specs.Placed.{Placed, Place, Text}
 use Rattle.graphql_directives.specs.DirectiveTree.{InputValueTree}
-use Rattle.graphql_definitions.specs.DefinitionTree.{DefinitionTree}
+use Rattle.graphql_folding.specs.in_definitions.DefinitionTree.{DefinitionTree}
 use Rattle.graphql_type_members.specs.TypeSystemTree.{FieldDefinitionTree, EnumValueTree}
 use Rattle.graphql_components.specs.Lists.{firsts, has_name, AtSomePlace}
 use Rattle.graphql_components.specs.Given.{Given, given_name}

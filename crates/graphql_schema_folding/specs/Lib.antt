@@ -13,3 +13,4 @@ pub mod OwnNames
 pub mod Misplaced
 pub mod Seen
 pub mod SeenView
+pub use Rattle.graphql_folding.specs.in_definitions as in_definitions

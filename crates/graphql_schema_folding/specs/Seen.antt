@@ -5,11 +5,11 @@ use Rattle.std.specs.Map.{lookup}
 use Rattle.std.specs.Option.{option_map_or, option_or}
 use Rattle.std.specs.Str.{bytes_eq}
 use Rattle.graphql_names.specs.Placed.{Place}
-use Rattle.graphql_values.specs.OperationQueries.{default_root_name}
+use Rattle.graphql_components.specs.in_values.OperationQueries.{default_root_name}
 use Rattle.graphql_operations.specs.declared.operation.OperationType.{OperationType}
 use Rattle.graphql_operations.specs.declared.operation.OperationType.TheVariants as operation
-use Rattle.graphql_definitions.specs.DefinitionTree.{DefinitionTree}
-use Rattle.graphql_definitions.specs.Queries.{is_executable}
+use Rattle.graphql_folding.specs.in_definitions.DefinitionTree.{DefinitionTree}
+use Rattle.graphql_folding.specs.in_definitions.Queries.{is_executable}
 use Rattle.graphql_components.specs.Lists.{each_place, firsts}
 use Rattle.graphql_components.specs.Names.{Entries}
 use Rattle.graphql_folding.specs.in_schema_types.SchemaTree.{same_kind}

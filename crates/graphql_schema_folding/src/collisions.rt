@@ -1,7 +1,7 @@
 //! The rules that are judged by what stands before a definition.
 ghost use Rattle.std.specs.Prelude.{◌≡◌, ◌++◌, map, IfOk, OnOk};
 ghost use Rattle.std.specs.Option.{option_map};
-ghost use Rattle.graphql_definitions.specs.DefinitionTree.{definition_tree};
+ghost use Rattle.graphql_folding.specs.in_definitions.DefinitionTree.{definition_tree};
 ghost use Rattle.graphql_folding.specs.FaultView.{faults_of, breach_of};
 ghost use Rattle.graphql_folding.specs.ListedView.{listed_view};
 ghost use Rattle.graphql_schema_folding.specs.ListFold.{definitions_of};
@@ -10,8 +10,7 @@ ghost use Rattle.graphql_schema_folding.specs.SeenView.{seen_view};
 
 use crate::seen::{Seen, is_schema_definition, kind_of};
 use crate::tell::tell;
-use graphql_definitions::Definition;
-use graphql_folding::{BuildError, Listed, type_definition};
+use graphql_folding::{BuildError, Definition, Listed, type_definition};
 use graphql_names::{Name, SourceSpan};
 use std::alloc::{AllocError, Global};
 

@@ -1,18 +1,16 @@
 //! What a list of definitions says of the schema: its first schema definition, and which objects it defines.
 ghost use Rattle.std.specs.Prelude.{◌≡◌, map, option_copied};
 ghost use Rattle.std.specs.Option.{option_map};
-ghost use Rattle.graphql_definitions.specs.DefinitionTree.{definition_tree, schema_extension_parts};
+ghost use Rattle.graphql_folding.specs.in_definitions.DefinitionTree.{definition_tree, schema_extension_parts};
 ghost use Rattle.graphql_folding.specs.SchemaFold.{schema_here, schema_extension_here, schema_definition_in, is_object_in};
 ghost use Rattle.graphql_folding.specs.ListedView.{listed_view};
 ghost use Rattle.graphql_schema_folding.specs.ListFold.{definitions_of};
 ghost use Rattle.graphql_schema_folding.specs.RootsView.{schema_giver};
 ghost use Rattle.graphql_schema_folding.specs.KindNamed.{kind_here, kind_named};
 
-use graphql_definitions::Definition;
-use graphql_folding::{Listed, type_definition};
+use graphql_folding::{Definition, Listed, TypeKind, type_definition};
 use graphql_input_types::{SchemaDefinition, SchemaExtension};
 use graphql_names::Node;
-use graphql_schema_types::TypeKind;
 
 /// The schema definition, if it is one.
 fn schema_definition(d: &Definition) -> Option<&Node<SchemaDefinition>>

@@ -3,7 +3,7 @@ ghost use Rattle.std.specs.Prelude.{◌≡◌, ◌++◌, [], map, OnOk};
 ghost use Rattle.std.specs.List.{flat_map};
 ghost use Rattle.graphql_names.specs.Placed.{node_tree};
 ghost use Rattle.graphql_directives.specs.DirectiveTree.{directives_tree};
-ghost use Rattle.graphql_definitions.specs.DefinitionTree.{root_tree};
+ghost use Rattle.graphql_folding.specs.in_definitions.DefinitionTree.{root_tree};
 ghost use Rattle.graphql_components.specs.Given.{origin_tree};
 ghost use Rattle.graphql_folding.specs.Components.{all_given};
 ghost use Rattle.graphql_folding.specs.PartsView.{itself, given_contents};

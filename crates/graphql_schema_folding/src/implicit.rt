@@ -1,6 +1,6 @@
 //! The roots of a schema without a schema definition.
 ghost use Rattle.std.specs.Prelude.{◌≡◌, ◌++◌, None, map, OnOk};
-ghost use Rattle.graphql_values.specs.OperationQueries.{default_root_name};
+ghost use Rattle.graphql_components.specs.in_values.OperationQueries.{default_root_name};
 ghost use Rattle.graphql_folding.specs.Components.{all_given};
 ghost use Rattle.graphql_folding.specs.SchemaFold.{implicit_root, implicit_roots};
 ghost use Rattle.graphql_folding.specs.ListedView.{listed_view};

@@ -27,6 +27,10 @@ mod types;
 
 pub use defined::{first_schema, is_object, schema_extension};
 pub use directives::fold_directives;
+pub use graphql_folding::{
+    BuildError, Definition, Document, ExtendedType, Listed, Parts, SchemaDefinition, SourceFile,
+    TypeKind, extension_parts, type_definition,
+};
 pub use misplaced::tell_misplaced;
 pub use schema::fold_schema;
 pub use types::fold_types;

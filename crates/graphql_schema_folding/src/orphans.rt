@@ -2,7 +2,7 @@
 ghost use Rattle.std.specs.Prelude.{◌≡◌, ◌++◌, map, is_some, IfOk, OnOk};
 ghost use Rattle.std.specs.List.{flat_map};
 ghost use Rattle.std.specs.Option.{option_map};
-ghost use Rattle.graphql_definitions.specs.DefinitionTree.{definition_tree};
+ghost use Rattle.graphql_folding.specs.in_definitions.DefinitionTree.{definition_tree};
 ghost use Rattle.graphql_folding.specs.FaultView.{faults_of, breach_of};
 ghost use Rattle.graphql_folding.specs.ListedView.{listed_view};
 ghost use Rattle.graphql_folding.specs.SchemaFold.{schema_extension_here};
@@ -12,10 +12,8 @@ ghost use Rattle.graphql_schema_folding.specs.SeenView.{seen_view};
 
 use crate::seen::{Seen, kind_of, schema_is_defined};
 use crate::tell::tell;
-use graphql_definitions::Definition;
-use graphql_folding::{BuildError, Listed, extension_parts};
+use graphql_folding::{BuildError, Definition, Listed, TypeKind, extension_parts};
 use graphql_names::{Name, SourceSpan};
-use graphql_schema_types::TypeKind;
 use std::alloc::AllocError;
 
 /// Tells each extension of the texts whose schema or type is not defined, or is of another kind.

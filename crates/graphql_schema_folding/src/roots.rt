@@ -1,6 +1,6 @@
 //! The first root of each operation.
 ghost use Rattle.std.specs.Prelude.{◌≡◌, ◌++◌, ◌∷◌, [], IfOk, OnOk, is_some};
-ghost use Rattle.graphql_definitions.specs.DefinitionTree.{root_tree};
+ghost use Rattle.graphql_folding.specs.in_definitions.DefinitionTree.{root_tree};
 ghost use Rattle.graphql_components.specs.Given.{component_tree, component_name_tree};
 ghost use Rattle.graphql_folding.specs.FaultView.{faults_of};
 ghost use Rattle.graphql_folding.specs.BuildErrors.{DuplicateRootOperation};

@@ -1,17 +1,15 @@
 //! What a list of definitions defines.
 ghost use Rattle.std.specs.Prelude.{◌≡◌, ◌||◌, [], map, Option, IfOk, OnOk, is_some};
-ghost use Rattle.graphql_definitions.specs.DefinitionTree.{definition_tree};
+ghost use Rattle.graphql_folding.specs.in_definitions.DefinitionTree.{definition_tree};
 ghost use Rattle.graphql_folding.specs.ListedView.{listed_view};
 ghost use Rattle.graphql_folding.specs.SchemaFold.{schema_here};
 ghost use Rattle.graphql_schema_folding.specs.ListFold.{definitions_of};
 ghost use Rattle.graphql_schema_folding.specs.Seen.{seen_of, Sees, SeesType, kind_in, is_scalar_in, kind_seen, root_seen, schema_seen};
 ghost use Rattle.graphql_schema_folding.specs.SeenView.{seen_view};
 
-use graphql_definitions::Definition;
-use graphql_folding::{Listed, type_definition};
+use graphql_folding::{Definition, Listed, TypeKind, type_definition};
 use graphql_names::Name;
 use graphql_operations::OperationType;
-use graphql_schema_types::TypeKind;
 use indexmap::IndexMap;
 use std::alloc::{AllocError, Global};
 

@@ -1,12 +1,11 @@
 //! Telling what is wrong with a definition.
 ghost use Rattle.std.specs.Prelude.{◌≡◌, ◌++◌, OnOk};
 ghost use Rattle.std.specs.Option.{option_map};
-ghost use Rattle.graphql_definitions.specs.DefinitionTree.{definition_tree};
+ghost use Rattle.graphql_folding.specs.in_definitions.DefinitionTree.{definition_tree};
 ghost use Rattle.graphql_folding.specs.FaultView.{faults_of, breach_of};
 ghost use Rattle.graphql_schema_folding.specs.Seen.{faults_at};
 
-use graphql_definitions::Definition;
-use graphql_folding::BuildError;
+use graphql_folding::{BuildError, Definition};
 use graphql_names::SourceSpan;
 use std::alloc::AllocError;
 

@@ -1,6 +1,6 @@
 //! What the definitions of types fold to.
 ghost use Rattle.std.specs.Prelude.{◌≡◌, ◌++◌, ◌∷◌, [], map, IfOk, OnOk};
-ghost use Rattle.graphql_definitions.specs.DefinitionTree.{definition_tree};
+ghost use Rattle.graphql_folding.specs.in_definitions.DefinitionTree.{definition_tree};
 ghost use Rattle.graphql_folding.specs.in_schema_types.SchemaView.{types_view};
 ghost use Rattle.graphql_folding.specs.FaultView.{faults_of};
 ghost use Rattle.graphql_folding.specs.Listed.{types_in};
@@ -13,10 +13,10 @@ ghost use Rattle.graphql_schema_folding.specs.Filing.{extensions_under, types_by
 
 use crate::extensions::{extensions_of, index_extensions};
 use crate::insert::insert_new;
-use graphql_definitions::Definition;
-use graphql_folding::{BuildError, Defined, Listed, fold_type, type_definition};
+use graphql_folding::{
+    BuildError, Defined, Definition, ExtendedType, Listed, fold_type, type_definition,
+};
 use graphql_names::{Name, SourceSpan};
-use graphql_schema_types::ExtendedType;
 use indexmap::IndexMap;
 use std::alloc::{AllocError, Global};
 

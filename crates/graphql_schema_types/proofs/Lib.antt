@@ -1,2 +1,4 @@
 pub mod TypeEquality
 pub mod Noted
+pub use Rattle.graphql_components.proofs as in_components
+pub use Rattle.graphql_components.proofs.in_values as in_values

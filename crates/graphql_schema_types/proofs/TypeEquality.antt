@@ -5,9 +5,9 @@ use Rattle.graphql_names.specs.Node.{content, place}
 use Rattle.graphql_names.specs.declared.node.Node.{Node}
 use Rattle.graphql_names.specs.Placed.{Place, text_tree, unplaced_text}
 use Rattle.graphql_directives.specs.DirectiveTree.{input_value_tree, unplaced_input_value}
-use Rattle.graphql_values.proofs.Decided.{through, pair_decides, options_decide, name_decides, text_decides}
-use Rattle.graphql_values.proofs.DirectiveEquality.{input_value_eq-Decides}
-use Rattle.graphql_type_members.specs.TypeSystemTree.{field_definition_tree, unplaced_field_definition, enum_value_tree, unplaced_enum_value}
+use Rattle.graphql_components.proofs.in_values.Decided.{through, pair_decides, options_decide, name_decides, text_decides}
+use Rattle.graphql_components.proofs.in_values.DirectiveEquality.{input_value_eq-Decides}
+use Rattle.graphql_definitions.specs.in_type_members.TypeSystemTree.{field_definition_tree, unplaced_field_definition, enum_value_tree, unplaced_enum_value}
 use Rattle.graphql_definitions.proofs.TreeEquality.{field_definition_eq-Decides, enum_value_eq-Decides}
 use Rattle.graphql_components.specs.Given.{component_tree, component_name_tree, plain_given, given_name}
 use Rattle.graphql_components.proofs.NamedEquality.{maps_decide, sets_decide}

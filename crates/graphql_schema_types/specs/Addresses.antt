@@ -5,11 +5,11 @@ use Rattle.std.specs.Option.{option_map, option_map_or}
 use Rattle.std.specs.Str.{bytes_eq}
 use Rattle.graphql_names.specs.Places.{is_built_in}
 use Rattle.graphql_names.specs.Placed.{Placed, Place, Text}
-use Rattle.graphql_literals.specs.TypeTree.{TypeTree, NamedTree, NonNullNamedTree, ListTree, NonNullListTree}
+use Rattle.graphql_directives.specs.in_literals.TypeTree.{TypeTree, NamedTree, NonNullNamedTree, ListTree, NonNullListTree}
 use Rattle.graphql_directives.specs.DirectiveTree.{DirectiveTree, Directives, ArgumentTree, InputValueTree, InputValues, DirectiveDefinitionTree}
-use Rattle.graphql_operations.specs.declared.operation.OperationType.{OperationType}
-use Rattle.graphql_operations.specs.declared.operation.OperationType.TheVariants as operation
-use Rattle.graphql_type_members.specs.TypeSystemTree.{FieldDefinitionTree, EnumValueTree}
+use Rattle.graphql_components.specs.in_operations.declared.operation.OperationType.{OperationType}
+use Rattle.graphql_components.specs.in_operations.declared.operation.OperationType.TheVariants as operation
+use Rattle.graphql_definitions.specs.in_type_members.TypeSystemTree.{FieldDefinitionTree, EnumValueTree}
 use Rattle.graphql_components.specs.Names.{Entries}
 use Rattle.graphql_components.specs.Given.{Given, given_name}
 use Rattle.graphql_components.specs.Applied.{Applied}

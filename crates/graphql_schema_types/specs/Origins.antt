@@ -7,8 +7,8 @@ use Rattle.indexmap.specs.IndexMap.{values}
 use Rattle.graphql_names.specs.Node.{content}
 use Rattle.graphql_directives.specs.declared.directive.Directive.{Directive}
 use Rattle.graphql_directives.specs.declared.input_value.InputValueDefinition.{InputValueDefinition}
-use Rattle.graphql_type_members.specs.declared.field_definition.FieldDefinition.{FieldDefinition}
-use Rattle.graphql_type_members.specs.declared.enum_value.EnumValueDefinition.{EnumValueDefinition}
+use Rattle.graphql_definitions.specs.in_type_members.declared.field_definition.FieldDefinition.{FieldDefinition}
+use Rattle.graphql_definitions.specs.in_type_members.declared.enum_value.EnumValueDefinition.{EnumValueDefinition}
 use Rattle.graphql_components.specs.Lists.{firsts}
 use Rattle.graphql_components.specs.Given.{extension_id, number_of}
 use Rattle.graphql_components.specs.declared.extension.ExtensionId.{ExtensionId}

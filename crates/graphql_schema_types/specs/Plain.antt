@@ -3,7 +3,7 @@ use Rattle.std.specs.Prelude.{ℕ, List, Option}
 use Rattle.std.specs.Option.{option_map}
 use Rattle.graphql_names.specs.Placed.{Text, Placed, unplaced_text}
 use Rattle.graphql_directives.specs.DirectiveTree.{DirectiveTree, InputValueTree, DirectiveDefinitionTree, unplaced_input_value, unplaced_directive_definition}
-use Rattle.graphql_type_members.specs.TypeSystemTree.{FieldDefinitionTree, EnumValueTree, unplaced_field_definition, unplaced_enum_value}
+use Rattle.graphql_definitions.specs.in_type_members.TypeSystemTree.{FieldDefinitionTree, EnumValueTree, unplaced_field_definition, unplaced_enum_value}
 use Rattle.graphql_components.specs.Names.{NamedMap, Names, named, names}
 use Rattle.graphql_components.specs.Given.{plain_given, given_name}
 use Rattle.graphql_components.specs.Applied.{unplaced_applied}

@@ -2,7 +2,7 @@
 use Rattle.std.specs.Prelude.{ℕ, Bool, ◌==◌, ◌||◌, not, List, Option, codes}
 use Rattle.graphql_names.specs.Placed.{Placed, Text}
 use Rattle.graphql_directives.specs.DirectiveTree.{InputValueTree, DirectiveDefinitionTree}
-use Rattle.graphql_type_members.specs.TypeSystemTree.{FieldDefinitionTree, EnumValueTree}
+use Rattle.graphql_definitions.specs.in_type_members.TypeSystemTree.{FieldDefinitionTree, EnumValueTree}
 use Rattle.graphql_components.specs.Names.{Entries}
 use Rattle.graphql_components.specs.Given.{Given}
 use Rattle.graphql_components.specs.Applied.{Applied}

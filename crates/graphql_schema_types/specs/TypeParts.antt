@@ -2,7 +2,7 @@
 use Rattle.std.specs.Prelude.{List, [], Option, None, Some}
 use Rattle.graphql_names.specs.Placed.{Placed, Text}
 use Rattle.graphql_directives.specs.DirectiveTree.{Directives, InputValues}
-use Rattle.graphql_type_members.specs.TypeSystemTree.{FieldDefinitionTree, EnumValueTree, ScalarParts, FieldsParts, UnionParts, EnumParts, InputObjectParts}
+use Rattle.graphql_definitions.specs.in_type_members.TypeSystemTree.{FieldDefinitionTree, EnumValueTree, ScalarParts, FieldsParts, UnionParts, EnumParts, InputObjectParts}
 use Rattle.graphql_definitions.specs.DefinitionTree as tree
 use Rattle.graphql_definitions.specs.DefinitionTree.{DefinitionTree}
 use Rattle.graphql_schema_types.specs.declared.type_kind.TypeKind.{TypeKind}

@@ -4,9 +4,9 @@
 //! lets a schema go. So no field moves out of one of them: it is lent, shared or replaced.
 
 use graphql_components::{Component, ComponentName, DirectiveList};
+use graphql_definitions::{EnumValueDefinition, FieldDefinition};
 use graphql_directives::InputValueDefinition;
 use graphql_names::{Name, NodeStr};
-use graphql_type_members::{EnumValueDefinition, FieldDefinition};
 use indexmap::{IndexMap, IndexSet};
 
 /// A scalar type (section 3.5).

@@ -20,6 +20,12 @@ mod type_kind;
 mod type_origins;
 
 pub use extended_type::ExtendedType;
+pub use graphql_components::{
+    Component, ComponentName, ComponentOrigin, DirectiveList, ExtensionId,
+};
+pub use graphql_definitions::{
+    Definition, Document, EnumValueDefinition, FieldDefinition, SourceFile,
+};
 pub use kinds::{EnumType, InputObjectType, InterfaceType, ObjectType, ScalarType, UnionType};
 pub use origins::Origins;
 pub use roots::RootOperations;

@@ -5,8 +5,8 @@ ghost use Rattle.graphql_schema_types.specs.Origins.{component_origins, extensio
 ghost use Rattle.graphql_schema_types.specs.OriginsLeft.{left_origins, noted};
 
 use graphql_components::{Component, ComponentName, ComponentOrigin, ExtensionId};
+use graphql_definitions::{EnumValueDefinition, FieldDefinition};
 use graphql_directives::{Directive, InputValueDefinition};
-use graphql_type_members::{EnumValueDefinition, FieldDefinition};
 use indexmap::IndexSet;
 use std::alloc::{AllocError, Global};
 

@@ -2,8 +2,7 @@
 ghost use Rattle.std.specs.Iterator.{YieldsFirstBy, item_count};
 ghost use Rattle.graphql_schema_types.specs.OriginsLeft.{left_roots, lent_root};
 
-use graphql_components::ComponentName;
-use graphql_operations::OperationType;
+use graphql_components::{ComponentName, OperationType};
 
 /// The roots that are left, in the order query, mutation, subscription.
 #[derive(Drop)]

@@ -4,7 +4,7 @@ ghost use Rattle.std.specs.Option.{option_map};
 ghost use Rattle.graphql_names.specs.Node.{content, place};
 ghost use Rattle.graphql_names.specs.declared.node.Node.{Node};
 ghost use Rattle.graphql_names.specs.Placed.{name_tree, text_tree};
-ghost use Rattle.graphql_definitions.specs.DefinitionTree.{definition_tree};
+ghost use Rattle.graphql_schema_types.specs.in_definitions.DefinitionTree.{definition_tree};
 ghost use Rattle.graphql_schema_types.specs.TypeParts.{definition_by};
 ghost use Rattle.graphql_schema_writing.specs.Contents.{named_parts};
 ghost use Rattle.graphql_schema_writing.specs.ContentsView.{parts_view};
@@ -14,9 +14,8 @@ use crate::extension_by::{
     scalar_extension, union_extension,
 };
 use crate::parts::Parts;
-use graphql_definitions::Definition;
 use graphql_names::{Name, Node, NodeStr, SourceSpan};
-use graphql_schema_types::{TypeKind, node_at};
+use graphql_schema_types::{Definition, TypeKind, node_at};
 use std::alloc::{AllocError, Global};
 
 /// A definition or an extension of this content, at that place.

@@ -1,12 +1,12 @@
 //! The definitions of directives.
 ghost use Rattle.std.specs.Prelude.{◌≡◌, ◌++◌, map, OnOk};
 ghost use Rattle.std.specs.List.{flat_map};
-ghost use Rattle.graphql_definitions.specs.DefinitionTree.{definition_tree};
+ghost use Rattle.graphql_schema_types.specs.in_definitions.DefinitionTree.{definition_tree};
 ghost use Rattle.graphql_schema_writing.specs.SchemaParts.{written_node};
 
-use graphql_definitions::Definition;
 use graphql_directives::DirectiveDefinition;
 use graphql_names::Node;
+use graphql_schema_types::Definition;
 use std::alloc::AllocError;
 
 /// Writes each definition of a directive that is not built in.

@@ -1,7 +1,7 @@
 //! An extension of a type of each kind.
 ghost use Rattle.std.specs.Prelude.{◌≡◌, IfOk};
 ghost use Rattle.graphql_names.specs.Placed.{name_tree};
-ghost use Rattle.graphql_definitions.specs.DefinitionTree.{definition_tree, scalar_extension_parts, object_extension_parts, interface_extension_parts, union_extension_parts, enum_extension_parts, input_object_extension_parts};
+ghost use Rattle.graphql_schema_types.specs.in_definitions.DefinitionTree.{definition_tree, scalar_extension_parts, object_extension_parts, interface_extension_parts, union_extension_parts, enum_extension_parts, input_object_extension_parts};
 ghost use Rattle.graphql_schema_types.specs.TypeParts.{extension_by, fields_parts};
 ghost use Rattle.graphql_schema_types.specs.declared.type_kind.TypeKind.TheVariants as kind;
 ghost use Rattle.graphql_schema_writing.specs.Contents.{named_parts};
@@ -10,11 +10,10 @@ ghost use Rattle.graphql_schema_writing.specs.ContentsView.{parts_view};
 use crate::definition_by::placed;
 use crate::parts::Parts;
 use graphql_composite_types::{InterfaceTypeExtension, ObjectTypeExtension, UnionTypeExtension};
-use graphql_definitions::Definition;
 use graphql_directives::DirectiveList;
 use graphql_input_types::{EnumTypeExtension, InputObjectTypeExtension, ScalarTypeExtension};
 use graphql_names::{Name, SourceSpan};
-use graphql_schema_types::TypeKind;
+use graphql_schema_types::{Definition, TypeKind};
 use std::alloc::{AllocError, Global};
 use std::mem;
 

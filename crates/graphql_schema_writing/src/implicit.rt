@@ -2,7 +2,7 @@
 ghost use Rattle.std.specs.Prelude.{◌≡◌, ◌&&◌, is_none, is_some};
 ghost use Rattle.std.specs.Option.{option_map};
 ghost use Rattle.graphql_names.specs.Node.{content};
-ghost use Rattle.graphql_values.specs.OperationQueries.{default_root_name};
+ghost use Rattle.graphql_schema_types.specs.in_values.OperationQueries.{default_root_name};
 ghost use Rattle.graphql_components.specs.Given.{component_name_tree};
 ghost use Rattle.graphql_operations.specs.declared.operation.OperationType.TheVariants as operation;
 ghost use Rattle.graphql_schema_types.specs.SchemaView.{types_view};

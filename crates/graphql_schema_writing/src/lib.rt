@@ -19,4 +19,8 @@ mod schema;
 mod types;
 mod write;
 
+pub use graphql_schema_types::{
+    Document, EnumType, ExtendedType, InputObjectType, InterfaceType, ObjectType, Origins,
+    RootOperations, ScalarType, SchemaDefinition, SourceFile, TypeKind, UnionType,
+};
 pub use write::written_definitions;

@@ -2,7 +2,7 @@
 ghost use Rattle.std.specs.Prelude.{◌≡◌, ◌++◌, [], ◌∷◌, map, Option, None, Some, IfOk, OnOk};
 ghost use Rattle.graphql_names.specs.Placed.{Place};
 ghost use Rattle.graphql_directives.specs.DirectiveTree.{directive_tree};
-ghost use Rattle.graphql_definitions.specs.DefinitionTree.{definition_tree, schema_extension_parts};
+ghost use Rattle.graphql_schema_types.specs.in_definitions.DefinitionTree.{definition_tree, schema_extension_parts};
 ghost use Rattle.graphql_components.specs.Given.{ExtensionTree, extension_tree, origin_tree};
 ghost use Rattle.graphql_schema_types.specs.TypeView.{schema_roots};
 ghost use Rattle.graphql_schema_types.specs.Out.{written_schema, given_by, schema_parts_given_by};
@@ -15,11 +15,10 @@ use crate::filing::{file_components, take_nodes};
 use crate::implicit::is_left_out;
 use crate::roots::add_roots;
 use graphql_components::{ComponentOrigin, ExtensionId};
-use graphql_definitions::Definition;
 use graphql_directives::{Directive, DirectiveList};
 use graphql_input_types::SchemaExtension;
 use graphql_names::{Name, Node};
-use graphql_schema_types::{ExtendedType, SchemaDefinition, shared_description};
+use graphql_schema_types::{Definition, ExtendedType, SchemaDefinition, shared_description};
 use indexmap::IndexMap;
 use std::alloc::{AllocError, Global};
 

@@ -2,7 +2,7 @@
 ghost use Rattle.std.specs.Prelude.{◌≡◌, ◌++◌, [], ◌∷◌, map, None, Some, IfOk, OnOk, if◌then◌else◌};
 ghost use Rattle.std.specs.List.{flat_map};
 ghost use Rattle.graphql_names.specs.Places.{is_built_in};
-ghost use Rattle.graphql_definitions.specs.DefinitionTree.{definition_tree};
+ghost use Rattle.graphql_schema_types.specs.in_definitions.DefinitionTree.{definition_tree};
 ghost use Rattle.graphql_components.specs.Given.{extension_tree, place_of};
 ghost use Rattle.graphql_schema_writing.specs.Contents.{type_contents, written_contents, defined_from, extended_from};
 ghost use Rattle.graphql_schema_writing.specs.ContentsView.{HoldsNothing, contents_view, filed_parts};
@@ -12,8 +12,7 @@ use crate::definition_by::definition_by;
 use crate::extension_by::extension_by;
 use crate::parts::{FiledType, Parts};
 use graphql_components::{ComponentOrigin, ExtensionId};
-use graphql_definitions::Definition;
-use graphql_schema_types::{ExtendedType, shared_description};
+use graphql_schema_types::{Definition, ExtendedType, shared_description};
 use std::alloc::{AllocError, Global};
 
 /// Writes each type.

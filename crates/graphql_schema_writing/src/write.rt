@@ -1,16 +1,15 @@
 //! All that is written of a schema.
 ghost use Rattle.std.specs.Prelude.{◌≡◌, map, IfOk};
-ghost use Rattle.graphql_definitions.specs.DefinitionTree.{definition_tree};
+ghost use Rattle.graphql_schema_types.specs.in_definitions.DefinitionTree.{definition_tree};
 ghost use Rattle.graphql_schema_types.specs.Out.{written};
 ghost use Rattle.graphql_schema_types.specs.SchemaView.{schema_view};
 
 use crate::directives::write_directives;
 use crate::schema::write_schema;
 use crate::types::write_types;
-use graphql_definitions::Definition;
 use graphql_directives::DirectiveDefinition;
 use graphql_names::{Name, Node};
-use graphql_schema_types::{ExtendedType, SchemaDefinition};
+use graphql_schema_types::{Definition, ExtendedType, SchemaDefinition};
 use indexmap::IndexMap;
 use std::alloc::{AllocError, Global};
 

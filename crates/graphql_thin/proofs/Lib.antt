@@ -13,3 +13,4 @@ pub mod WholeTexts
 pub mod Reading
 pub mod TextRows
 pub use Rattle.graphql_read.proofs.in_grammar as in_grammar
+pub use Rattle.graphql_read.proofs.in_lexer as in_lexer

@@ -6,15 +6,15 @@ use Rattle.graphql_literals.specs.TypeTree.{NamedTree}
 use Rattle.graphql_operations.specs.SelectionTree.{FieldTree, selection_then, no_selections}
 use Rattle.graphql_operations.specs.declared.operation.OperationType.TheVariants.{Query}
 use Rattle.graphql_definitions.specs.DefinitionTree.{DefinitionTree, Operation, ScalarType, ObjectType}
-use Rattle.graphql_lexer.specs.Bytes.{run_len}
-use Rattle.graphql_lexer.specs.Tokens.{ignored_at, token_at}
-use Rattle.graphql_lexer.specs.Terminals.{words}
-use Rattle.graphql_lexer.specs.Input.{Token, Ended}
-use Rattle.graphql_lexer.specs.Lex.{piece_at, Lex}
-use Rattle.graphql_lexer.specs.Cursor.{Rest, rest_from, EndsAs}
-use Rattle.graphql_lexer.specs.declared.terminal.Terminal.{Terminal}
-use Rattle.graphql_lexer.specs.declared.terminal.Terminal.TheVariants as k
-use Rattle.graphql_lexer.proofs.Lexed.{ends_as}
+use Rattle.graphql_read.specs.in_lexer.Bytes.{run_len}
+use Rattle.graphql_read.specs.in_lexer.Tokens.{ignored_at, token_at}
+use Rattle.graphql_read.specs.in_lexer.Terminals.{words}
+use Rattle.graphql_read.specs.in_lexer.Input.{Token, Ended}
+use Rattle.graphql_read.specs.in_lexer.Lex.{piece_at, Lex}
+use Rattle.graphql_read.specs.in_lexer.Cursor.{Rest, rest_from, EndsAs}
+use Rattle.graphql_read.specs.in_lexer.declared.terminal.Terminal.{Terminal}
+use Rattle.graphql_read.specs.in_lexer.declared.terminal.Terminal.TheVariants as k
+use Rattle.graphql_read.proofs.in_lexer.Lexed.{ends_as}
 use Rattle.graphql_read.specs.in_grammar.Meaning.{Meaning, start}
 use Rattle.graphql_read.specs.in_grammar.Places.{place_in}
 use Rattle.graphql_read.specs.in_grammar.Locations.{location_of}

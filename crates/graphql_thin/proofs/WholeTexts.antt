@@ -7,13 +7,13 @@ use Rattle.graphql_names.specs.declared.span.SourceSpan.{SourceSpan}
 use Rattle.graphql_names.specs.Placed.{Place}
 use Rattle.graphql_definitions.specs.DefinitionTree.{DefinitionTree}
 use Rattle.graphql_definitions.specs.Writable.{has_some}
-use Rattle.graphql_lexer.specs.Input.{Token, Ending, Ended, NoTokenAt}
-use Rattle.graphql_lexer.specs.Tokens.{ignored_at, token_at}
-use Rattle.graphql_lexer.specs.Lex.{Piece, piece_at, ArePieces, with_token, tokens_among, LexesFront, Lex}
-use Rattle.graphql_lexer.specs.Cursor.{EndsAs}
-use Rattle.graphql_lexer.specs.declared.token.TokenKind.{TokenKind}
-use Rattle.graphql_lexer.proofs.Lexed.{lex_unique}
-use Rattle.graphql_lexer.proofs.Takes.{piece_takes}
+use Rattle.graphql_read.specs.in_lexer.Input.{Token, Ending, Ended, NoTokenAt}
+use Rattle.graphql_read.specs.in_lexer.Tokens.{ignored_at, token_at}
+use Rattle.graphql_read.specs.in_lexer.Lex.{Piece, piece_at, ArePieces, with_token, tokens_among, LexesFront, Lex}
+use Rattle.graphql_read.specs.in_lexer.Cursor.{EndsAs}
+use Rattle.graphql_read.specs.in_lexer.declared.token.TokenKind.{TokenKind}
+use Rattle.graphql_read.proofs.in_lexer.Lexed.{lex_unique}
+use Rattle.graphql_read.proofs.in_lexer.Takes.{piece_takes}
 use Rattle.graphql_read.specs.in_grammar.Depth.{depth}
 use Rattle.graphql_read.specs.in_grammar.Faults as read
 use Rattle.graphql_read.specs.in_grammar.Faults.{Says}

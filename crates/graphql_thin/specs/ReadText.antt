@@ -2,8 +2,8 @@
 use Rattle.std.specs.Prelude.{ℕ, ◌+◌, ◌<◌, ◌≤◌, ◌^◌, List}
 use Rattle.graphql_names.specs.Placed.{Place}
 use Rattle.graphql_definitions.specs.DefinitionTree.{DefinitionTree}
-use Rattle.graphql_lexer.specs.Input.{Token}
-use Rattle.graphql_lexer.specs.Lex.{LexesFront, Lex}
+use Rattle.graphql_read.specs.in_lexer.Input.{Token}
+use Rattle.graphql_read.specs.in_lexer.Lex.{LexesFront, Lex}
 use Rattle.graphql_read.specs.in_grammar.Depth.{depth}
 use Rattle.graphql_read.specs.in_grammar.Grammar.{Derives}
 use Rattle.graphql_read.specs.in_parse_values.Meanings.{in_file}

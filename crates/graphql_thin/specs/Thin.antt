@@ -6,7 +6,7 @@ use Rattle.graphql_names.specs.Placed.{Placed, Place}
 use Rattle.graphql_literals.specs.TypeTree.{TypeTree, NamedTree, NonNullNamedTree}
 use Rattle.graphql_operations.specs.SelectionTree.{SelectionTree, SelectionTrees, FieldHead, FieldTree, no_selections, selection_then}
 use Rattle.graphql_operations.specs.OperationTree.{OperationTree}
-use Rattle.graphql_values.specs.Writable.{is_none_of, has_selection}
+use Rattle.graphql_type_members.specs.in_values.Writable.{is_none_of, has_selection}
 use Rattle.graphql_operations.specs.declared.operation.OperationType.{OperationType}
 use Rattle.graphql_operations.specs.declared.operation.OperationType.TheVariants.{Query}
 use Rattle.graphql_type_members.specs.TypeSystemTree.{FieldDefinitionTree, FieldsParts}

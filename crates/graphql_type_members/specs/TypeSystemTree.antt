@@ -4,7 +4,7 @@ use Rattle.std.specs.Option.{option_map}
 use Rattle.graphql_values.specs.Placed.{Placed, Place, Text, name_tree, text_tree, node_tree, unplaced_text, unplaced_node}
 use Rattle.graphql_values.specs.TypeTree.{TypeTree, type_tree, unplaced_type}
 use Rattle.graphql_values.specs.DirectiveTree.{Directives, InputValues, directives_tree, input_value_tree, unplaced_directives, unplaced_input_value}
-use Rattle.graphql_operations.specs.declared.operation.OperationType.{OperationType}
+use Rattle.graphql_values.specs.in_operations.declared.operation.OperationType.{OperationType}
 use Rattle.graphql_type_members.specs.declared.field_definition.FieldDefinition.{FieldDefinition}
 use Rattle.graphql_type_members.specs.declared.enum_value.EnumValueDefinition.{EnumValueDefinition}
 

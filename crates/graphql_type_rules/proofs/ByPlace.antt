@@ -7,13 +7,13 @@ use Rattle.graphql_schema_types.specs.SchemaTree.{kind_words, is_input_kind, is_
 use Rattle.graphql_schema_types.specs.Looks.{TypeLooks}
 use Rattle.graphql_schema_types.specs.Addresses.{Address, TypeAt, MemberAt, FieldAt, ValueAt, InputAt, DirectiveDefinitionAt, ArgumentAt, RootAt, TypeNameAt, TypeReferenceAt}
 use Rattle.graphql_schema_types.specs.declared.type_kind.TypeKind.TheVariants as kind
-use Rattle.graphql_rule_definitions.specs.Diagnostics.{UndefinedDefinition, RootOperationObjectType, OutputType, InputType, EmptyFieldSet, EmptyValueSet, EmptyMemberSet, EmptyInputValueSet, UnionMemberObjectType, UniqueInputValue}
-use Rattle.graphql_rule_definitions.specs.Words.{Present, Somewhere, Among, AtSomeIndex, IsEmpty, Repeats}
-use Rattle.graphql_rule_definitions.specs.Faults.{SchemaFault, told}
-use Rattle.graphql_rule_definitions.specs.Judged.{Judged, AtType, AtField, AtValue, AtInputField, AtDirectiveDefinition, AtArguments, AtArgument}
-use Rattle.graphql_rule_definitions.specs.Roots.{root_of, QueryRootOperationTypeAt, DuplicateRootOperationTypeAt}
-use Rattle.graphql_rule_definitions.specs.ReservedNames.{IsReservedAt, ReservedNameAt}
-use Rattle.graphql_rule_definitions.specs.TypesUsed.{named_in, IsUndefinedAt, UndefinedFieldTypeAt, UndefinedInputTypeAt, UndefinedMemberAt, OutputTypeAt, InputTypeAt, UnionMemberObjectTypeAt, UniqueArgumentDefinitionAt}
+use Rattle.graphql_fault_data.specs.in_rule_definitions.Diagnostics.{UndefinedDefinition, RootOperationObjectType, OutputType, InputType, EmptyFieldSet, EmptyValueSet, EmptyMemberSet, EmptyInputValueSet, UnionMemberObjectType, UniqueInputValue}
+use Rattle.graphql_fault_data.specs.in_rule_definitions.Words.{Present, Somewhere, Among, AtSomeIndex, IsEmpty, Repeats}
+use Rattle.graphql_fault_data.specs.in_rule_definitions.Faults.{SchemaFault, told}
+use Rattle.graphql_fault_data.specs.in_rule_definitions.Judged.{Judged, AtType, AtField, AtValue, AtInputField, AtDirectiveDefinition, AtArguments, AtArgument}
+use Rattle.graphql_fault_data.specs.in_rule_definitions.Roots.{root_of, QueryRootOperationTypeAt, DuplicateRootOperationTypeAt}
+use Rattle.graphql_fault_data.specs.in_rule_definitions.ReservedNames.{IsReservedAt, ReservedNameAt}
+use Rattle.graphql_fault_data.specs.in_rule_definitions.TypesUsed.{named_in, IsUndefinedAt, UndefinedFieldTypeAt, UndefinedInputTypeAt, UndefinedMemberAt, OutputTypeAt, InputTypeAt, UnionMemberObjectTypeAt, UniqueArgumentDefinitionAt}
 use Rattle.graphql_type_rules.specs.TypesBreak.{TypesBreak}
 
 module _ (s : Judged) (fault : SchemaFault) where

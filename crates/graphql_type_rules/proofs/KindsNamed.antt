@@ -6,9 +6,9 @@ use Rattle.graphql_schema_types.specs.SchemaTree.{SchemaType, SchemaTree}
 use Rattle.graphql_schema_types.specs.Looks.{TypeLooks}
 use Rattle.graphql_schema_types.specs.Addresses.{under}
 use Rattle.graphql_schema_types.specs.declared.type_kind.TypeKind.{TypeKind}
-use Rattle.graphql_rule_definitions.specs.Judged.{judged}
-use Rattle.graphql_rule_definitions.specs.Words.{Present}
-use Rattle.graphql_rule_definitions.proofs.Lists.{mapped_some, mapped_none}
+use Rattle.graphql_fault_data.specs.in_rule_definitions.Judged.{judged}
+use Rattle.graphql_fault_data.specs.in_rule_definitions.Words.{Present}
+use Rattle.graphql_fault_data.proofs.in_rule_definitions.Lists.{mapped_some, mapped_none}
 use Rattle.graphql_fault_data.proofs.Judgings.{type_seen, type_look}
 use Rattle.graphql_type_rules.specs.FaultLists.{kind_named}
 

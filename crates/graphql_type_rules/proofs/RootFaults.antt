@@ -11,16 +11,16 @@ use Rattle.graphql_schema_types.specs.SchemaTree.{SchemaTree}
 use Rattle.graphql_schema_types.specs.Addresses.{SchemaAt, RootAt, place_of, root_at, place_at}
 use Rattle.graphql_operations.specs.declared.operation.OperationType.{OperationType}
 use Rattle.graphql_operations.specs.declared.operation.OperationType.TheVariants as operation
-use Rattle.graphql_rule_definitions.specs.Diagnostics.{QueryRootOperationType, DuplicateRootOperationType}
-use Rattle.graphql_rule_definitions.specs.Faults.{SchemaFault, wrong, told}
-use Rattle.graphql_rule_definitions.specs.Judged.{judged}
-use Rattle.graphql_rule_definitions.specs.Words.{Repeats}
-use Rattle.graphql_rule_definitions.specs.Roots.{roots_in, QueryRootOperationTypeAt, DuplicateRootOperationTypeAt}
-use Rattle.graphql_rule_definitions.specs.Told.{PlacedFault}
+use Rattle.graphql_fault_data.specs.in_rule_definitions.Diagnostics.{QueryRootOperationType, DuplicateRootOperationType}
+use Rattle.graphql_fault_data.specs.in_rule_definitions.Faults.{SchemaFault, wrong, told}
+use Rattle.graphql_fault_data.specs.in_rule_definitions.Judged.{judged}
+use Rattle.graphql_fault_data.specs.in_rule_definitions.Words.{Repeats}
+use Rattle.graphql_fault_data.specs.in_rule_definitions.Roots.{roots_in, QueryRootOperationTypeAt, DuplicateRootOperationTypeAt}
+use Rattle.graphql_fault_data.specs.in_rule_definitions.Told.{PlacedFault}
 use Rattle.graphql_type_rules.specs.FaultLists.{query_root_operation_type, same_root, or_else, subscription_again, root_faults, roots_faults}
-use Rattle.graphql_rule_definitions.proofs.Lists.{not_in_nil, only, found_in, index_given}
+use Rattle.graphql_fault_data.proofs.in_rule_definitions.Lists.{not_in_nil, only, found_in, index_given}
 use Rattle.graphql_type_rules.proofs.ByPlace.{RootBreaks, RootsBreak}
-use Rattle.graphql_rule_definitions.proofs.Tells.{Tells, Says, tells_same, tells_list, tells_both, tells_one, tells_no, tells_repeats}
+use Rattle.graphql_fault_data.proofs.in_rule_definitions.Tells.{Tells, Says, tells_same, tells_list, tells_both, tells_one, tells_no, tells_repeats}
 use Rattle.graphql_type_rules.proofs.Says.{Is, says, says_root}
 
 abbrev Root : Type 0

@@ -18,24 +18,24 @@ use Rattle.graphql_schema_types.specs.Addresses.{Address, RootAt, TypeAt, Member
 use Rattle.graphql_schema_types.specs.declared.type_kind.TypeKind.{TypeKind}
 use Rattle.graphql_schema_types.specs.declared.type_kind.TypeKind.TheVariants as kind
 use Rattle.graphql_operations.specs.declared.operation.OperationType.{OperationType}
-use Rattle.graphql_rule_definitions.specs.Diagnostics.{Diagnostic, map_places, UndefinedDefinition, RootOperationObjectType, ReservedName, OutputType, InputType, EmptyFieldSet, EmptyValueSet, EmptyMemberSet, EmptyInputValueSet, UnionMemberObjectType, UniqueInputValue}
-use Rattle.graphql_rule_definitions.specs.Spots.{At, spot_place}
-use Rattle.graphql_rule_definitions.specs.Faults.{SchemaFault, wrong, told}
-use Rattle.graphql_rule_definitions.specs.Judged.{judged}
-use Rattle.graphql_rule_definitions.specs.Roots.{root_of}
-use Rattle.graphql_rule_definitions.specs.ReservedNames.{is_reserved, IsReservedAt}
-use Rattle.graphql_rule_definitions.specs.Rules.{IsToldAs, extension_places, extension_places_at}
-use Rattle.graphql_rule_definitions.specs.TypesUsed.{scalar_names, named_in, IsUndefinedAt}
-use Rattle.graphql_rule_definitions.specs.Words.{Present, IsEmpty}
-use Rattle.graphql_rule_definitions.specs.Told.{PlacedFault}
-use Rattle.graphql_rule_definitions.specs.Distinct.{ArePartsDistinct}
+use Rattle.graphql_fault_data.specs.in_rule_definitions.Diagnostics.{Diagnostic, map_places, UndefinedDefinition, RootOperationObjectType, ReservedName, OutputType, InputType, EmptyFieldSet, EmptyValueSet, EmptyMemberSet, EmptyInputValueSet, UnionMemberObjectType, UniqueInputValue}
+use Rattle.graphql_fault_data.specs.in_rule_definitions.Spots.{At, spot_place}
+use Rattle.graphql_fault_data.specs.in_rule_definitions.Faults.{SchemaFault, wrong, told}
+use Rattle.graphql_fault_data.specs.in_rule_definitions.Judged.{judged}
+use Rattle.graphql_fault_data.specs.in_rule_definitions.Roots.{root_of}
+use Rattle.graphql_fault_data.specs.in_rule_definitions.ReservedNames.{is_reserved, IsReservedAt}
+use Rattle.graphql_fault_data.specs.in_rule_definitions.Rules.{IsToldAs, extension_places, extension_places_at}
+use Rattle.graphql_fault_data.specs.in_rule_definitions.TypesUsed.{scalar_names, named_in, IsUndefinedAt}
+use Rattle.graphql_fault_data.specs.in_rule_definitions.Words.{Present, IsEmpty}
+use Rattle.graphql_fault_data.specs.in_rule_definitions.Told.{PlacedFault}
+use Rattle.graphql_schema_types.specs.Distinct.{ArePartsDistinct}
 use Rattle.graphql_type_rules.specs.FaultLists.{if_none, kind_named, reserved_name, undefined_name, undefined_type, output_type, input_type, union_member_object_type, root_operation_object_type, empty_field_set, empty_member_set, empty_value_set, empty_input_value_set, unique_input_value, value_faults, input_value_faults, argument_faults, arguments_faults, field_faults, member_faults, input_faults, directive_faults, root_faults}
-use Rattle.graphql_rule_definitions.proofs.Lists.{mapped_none}
-use Rattle.graphql_rule_definitions.proofs.Lookups.{text_found, text_given, no_names, no_entries}
+use Rattle.graphql_fault_data.proofs.in_rule_definitions.Lists.{mapped_none}
+use Rattle.graphql_fault_data.proofs.in_rule_definitions.Lookups.{text_found, text_given, no_names, no_entries}
 use Rattle.graphql_fault_data.proofs.Judgings.{type_seen, type_look, field_look, value_look, input_look, member_look, named_unplaced, inner_place, field_there, value_there, input_there, listed_there}
 use Rattle.graphql_type_rules.proofs.KindsNamed.{missing_kind, present_kind}
 use Rattle.graphql_type_rules.proofs.ByPlace.{IsMissingAt, IsNoObjectRootAt, IsNoObjectMemberAt, IsNoOutputAt, IsNoInputAt, HasNoField, HasNoMember, HasNoValue, HasNoInput, InputValueBreaks, ArgumentBreaks, ArgumentsBreak, FieldBreaks, MemberBreaks, ValueBreaks, InputBreaks, FieldsBreak, MembersBreak, ValuesBreak, InputsBreak, PartsBreak, TypeBreaks, DirectiveBreaks, RootBreaks}
-use Rattle.graphql_rule_definitions.proofs.Tells.{Tells, Says, tells_same, tells_both, tells_nothing, tells_one, tells_no, tells_when, tells_unless, tells_present, tells_entries, tells_index, tells_names, tells_repeats}
+use Rattle.graphql_fault_data.proofs.in_rule_definitions.Tells.{Tells, Says, tells_same, tells_both, tells_nothing, tells_one, tells_no, tells_when, tells_unless, tells_present, tells_entries, tells_index, tells_names, tells_repeats}
 
 -- ---- kinds
 

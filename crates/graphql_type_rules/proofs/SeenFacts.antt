@@ -10,9 +10,9 @@ use Rattle.graphql_names.specs.Placed.{Placed, Place}
 use Rattle.graphql_directives.specs.DirectiveTree.{InputValueTree, InputValues}
 use Rattle.graphql_components.specs.Names.{same_text}
 use Rattle.graphql_schema_types.specs.TypeView.{name_text}
-use Rattle.graphql_rule_definitions.specs.Diagnostics.{UniqueInputValue}
-use Rattle.graphql_rule_definitions.specs.Faults.{wrong}
-use Rattle.graphql_rule_definitions.specs.Told.{PlacedFault}
+use Rattle.graphql_fault_data.specs.in_rule_definitions.Diagnostics.{UniqueInputValue}
+use Rattle.graphql_fault_data.specs.in_rule_definitions.Faults.{wrong}
+use Rattle.graphql_fault_data.specs.in_rule_definitions.Told.{PlacedFault}
 use Rattle.graphql_type_rules.specs.FaultLists.{first_named, unique_input_value}
 use Rattle.graphql_type_rules.specs.Seen.{AreSeen}
 

@@ -23,18 +23,18 @@ use Rattle.graphql_schema_types.specs.Plain.{plain_directive_definition}
 use Rattle.graphql_schema_types.specs.TypeView.{name_text, extended_type}
 use Rattle.graphql_schema_types.specs.declared.extended_type.ExtendedType.{ExtendedType}
 use Rattle.graphql_schema_types.specs.declared.extended_type.ExtendedType.TheVariants as rust
-use Rattle.graphql_rule_definitions.specs.Diagnostics.{Diagnostic, EmptyFieldSet, EmptyValueSet, EmptyInputValueSet}
-use Rattle.graphql_rule_definitions.specs.Faults.{wrong}
-use Rattle.graphql_rule_definitions.specs.Judged.{judged}
-use Rattle.graphql_rule_definitions.specs.Rules.{extension_places}
-use Rattle.graphql_rule_definitions.specs.Told.{PlacedFault, Told}
+use Rattle.graphql_fault_data.specs.in_rule_definitions.Diagnostics.{Diagnostic, EmptyFieldSet, EmptyValueSet, EmptyInputValueSet}
+use Rattle.graphql_fault_data.specs.in_rule_definitions.Faults.{wrong}
+use Rattle.graphql_fault_data.specs.in_rule_definitions.Judged.{judged}
+use Rattle.graphql_fault_data.specs.in_rule_definitions.Rules.{extension_places}
+use Rattle.graphql_fault_data.specs.in_rule_definitions.Told.{PlacedFault, Told}
 use Rattle.graphql_type_rules.specs.TypesBreak.{TypesBreak}
-use Rattle.graphql_rule_definitions.specs.Distinct.{AreAllDistinct}
+use Rattle.graphql_schema_types.specs.Distinct.{AreAllDistinct}
 use Rattle.graphql_type_rules.specs.FaultLists.{if_none, reserved_name, value_faults, field_faults, input_faults, parts_faults, types_faults, directive_faults, directives_faults, roots_faults, all_faults}
-use Rattle.graphql_rule_definitions.proofs.Lookups.{under_given}
+use Rattle.graphql_fault_data.proofs.in_rule_definitions.Lookups.{under_given}
 use Rattle.graphql_fault_data.proofs.Judgings.{type_seen, type_look, directive_look}
 use Rattle.graphql_type_rules.proofs.ByPlace.{TypeBreaks, DirectiveBreaks, PlacesBreak, to_places, from_places}
-use Rattle.graphql_rule_definitions.proofs.Tells.{Tells, tells_same, tells_list, tells_both, tells_entries}
+use Rattle.graphql_fault_data.proofs.in_rule_definitions.Tells.{Tells, tells_same, tells_list, tells_both, tells_entries}
 use Rattle.graphql_type_rules.proofs.Says.{Is, all_parts, says_type, says_directive}
 use Rattle.graphql_type_rules.proofs.RootFaults.{says_roots}
 

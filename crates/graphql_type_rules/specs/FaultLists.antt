@@ -26,12 +26,12 @@ use Rattle.graphql_schema_types.specs.declared.extended_type.ExtendedType.{Exten
 use Rattle.graphql_schema_types.specs.declared.extended_type.ExtendedType.TheVariants as rust
 use Rattle.graphql_schema_types.specs.declared.type_kind.TypeKind.{TypeKind}
 use Rattle.graphql_schema_types.specs.declared.type_kind.TypeKind.TheVariants as kind
-use Rattle.graphql_rule_definitions.specs.Diagnostics.{QueryRootOperationType, UndefinedDefinition, RootOperationObjectType, DuplicateRootOperationType, ReservedName, OutputType, InputType, EmptyFieldSet, EmptyValueSet, EmptyMemberSet, EmptyInputValueSet, UnionMemberObjectType, UniqueInputValue}
-use Rattle.graphql_rule_definitions.specs.Faults.{wrong}
-use Rattle.graphql_rule_definitions.specs.ReservedNames.{is_reserved}
-use Rattle.graphql_rule_definitions.specs.Rules.{extension_places}
-use Rattle.graphql_rule_definitions.specs.TypesUsed.{scalar_names}
-use Rattle.graphql_rule_definitions.specs.Told.{PlacedFault}
+use Rattle.graphql_fault_data.specs.in_rule_definitions.Diagnostics.{QueryRootOperationType, UndefinedDefinition, RootOperationObjectType, DuplicateRootOperationType, ReservedName, OutputType, InputType, EmptyFieldSet, EmptyValueSet, EmptyMemberSet, EmptyInputValueSet, UnionMemberObjectType, UniqueInputValue}
+use Rattle.graphql_fault_data.specs.in_rule_definitions.Faults.{wrong}
+use Rattle.graphql_fault_data.specs.in_rule_definitions.ReservedNames.{is_reserved}
+use Rattle.graphql_fault_data.specs.in_rule_definitions.Rules.{extension_places}
+use Rattle.graphql_fault_data.specs.in_rule_definitions.TypesUsed.{scalar_names}
+use Rattle.graphql_fault_data.specs.in_rule_definitions.Told.{PlacedFault}
 
 -- y where there are none
 abbrev pub if_none : {X Y : Type 0} → List X → Y → List Y

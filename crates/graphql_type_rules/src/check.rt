@@ -4,8 +4,8 @@ ghost use Rattle.graphql_names.specs.Placed.{node_tree};
 ghost use Rattle.graphql_directives.specs.DirectiveTree.{directive_definition_tree};
 ghost use Rattle.graphql_fault_data.specs.in_schema.SchemaOf.{schema_tree};
 ghost use Rattle.graphql_fault_data.specs.FaultView.{faults_of};
-ghost use Rattle.graphql_rule_definitions.specs.Distinct.{AreAllDistinct};
-ghost use Rattle.graphql_rule_definitions.specs.Told.{Told};
+ghost use Rattle.graphql_schema_types.specs.Distinct.{AreAllDistinct};
+ghost use Rattle.graphql_fault_data.specs.in_rule_definitions.Told.{Told};
 ghost use Rattle.graphql_type_rules.specs.TypesBreak.{TypesBreak};
 ghost use Rattle.graphql_type_rules.specs.FaultLists.{parts_faults, type_faults, types_faults, directive_faults, directives_faults, all_faults};
 

@@ -1,7 +1,7 @@
 //! A type must have something (sections 3.6 to 3.10).
 ghost use Rattle.std.specs.Prelude.{◌≡◌, ◌++◌, map, IfOk, OnOk};
 ghost use Rattle.graphql_fault_data.specs.FaultView.{faults_of};
-ghost use Rattle.graphql_rule_definitions.specs.Rules.{extension_places};
+ghost use Rattle.graphql_fault_data.specs.in_rule_definitions.Rules.{extension_places};
 ghost use Rattle.graphql_schema_types.specs.TypeView.{extended_type};
 ghost use Rattle.graphql_components.specs.Given.{place_of};
 ghost use Rattle.graphql_type_rules.specs.FaultLists.{empty_field_set, empty_member_set, empty_value_set, empty_input_value_set};

@@ -6,7 +6,7 @@ ghost use Rattle.graphql_directives.specs.DirectiveTree.{input_value_tree};
 ghost use Rattle.graphql_type_members.specs.TypeSystemTree.{field_definition_tree};
 ghost use Rattle.graphql_components.specs.Lists.{is_among};
 ghost use Rattle.graphql_fault_data.specs.FaultView.{faults_of};
-ghost use Rattle.graphql_rule_definitions.specs.TypesUsed.{scalar_names};
+ghost use Rattle.graphql_fault_data.specs.in_rule_definitions.TypesUsed.{scalar_names};
 ghost use Rattle.graphql_type_rules.specs.FaultLists.{undefined_name, undefined_type, output_type, input_type, union_member_object_type};
 
 use graphql_directives::InputValueDefinition;

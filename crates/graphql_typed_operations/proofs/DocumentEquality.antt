@@ -6,10 +6,10 @@ use Rattle.graphql_names.specs.Node.{content}
 use Rattle.graphql_names.specs.declared.node.Node.{Node}
 use Rattle.graphql_names.specs.Placed.{name_tree, node_tree, unplaced_text}
 use Rattle.graphql_operations.specs.OperationTree.{variable_definition_tree, unplaced_variable_definition}
-use Rattle.graphql_values.proofs.Decided.{through, pair_decides, name_decides, nodes_decide, options_decide}
-use Rattle.graphql_values.proofs.DirectiveEquality.{directive_list_eq-Decides}
-use Rattle.graphql_values.proofs.OperationEquality.{operation_type_eq-Decides, variable_definition_eq, variable_definition_eq-Decides}
-use Rattle.graphql_components.proofs.NamedEquality.{maps_decide}
+use Rattle.graphql_definitions.proofs.in_values.Decided.{through, pair_decides, name_decides, nodes_decide, options_decide}
+use Rattle.graphql_definitions.proofs.in_values.DirectiveEquality.{directive_list_eq-Decides}
+use Rattle.graphql_definitions.proofs.in_values.OperationEquality.{operation_type_eq-Decides, variable_definition_eq, variable_definition_eq-Decides}
+use Rattle.graphql_schema_types.proofs.in_components.NamedEquality.{maps_decide}
 use Rattle.graphql_schema_types.specs.TypeView.{name_text}
 use Rattle.graphql_typed_selections.specs.TypedTree.{typed_set_tree, unplaced_typed_set}
 use Rattle.graphql_typed_selections.proofs.TypedEquality.{set_eq-Decides}

@@ -6,7 +6,7 @@ use Rattle.std.specs.Option.{option_map, option_copied, option_copied_mut}
 use Rattle.std.specs.Str.{bytes_eq}
 use Rattle.indexmap.specs.IndexMap.{IndexMap, insert_entry, get}
 use Rattle.graphql_names.specs.NameValue.{NameValue}
-use Rattle.graphql_components.specs.Names.{Entries, same_text, entries_of}
+use Rattle.graphql_schema_types.specs.in_components.Names.{Entries, same_text, entries_of}
 use Rattle.graphql_schema_types.specs.TypeView.{name_text}
 use Rattle.graphql_schema_types.specs.Addresses.{under}
 use Rattle.graphql_typed_operations.specs.OperationsByName.{put_under, only}

@@ -5,7 +5,7 @@ use Rattle.std.specs.Option.{option_copied}
 use Rattle.std.specs.Str.{bytes_eq}
 use Rattle.graphql_names.specs.Placed.{Placed, Text}
 use Rattle.graphql_names.specs.declared.node.Node.{Node}
-use Rattle.graphql_components.specs.Names.{Entries}
+use Rattle.graphql_schema_types.specs.in_components.Names.{Entries}
 use Rattle.graphql_schema_types.specs.Addresses.{under}
 use Rattle.graphql_typed_operations.specs.TypedDocument.{TypedOperation, TypedOperations}
 use Rattle.graphql_typed_operations.specs.declared.operation.Operation.{Operation}

@@ -4,7 +4,7 @@ use Rattle.std.specs.Option.{option_map}
 use Rattle.graphql_names.specs.Placed.{Placed, unplaced_text, unplaced_node}
 use Rattle.graphql_directives.specs.DirectiveTree.{unplaced_directives}
 use Rattle.graphql_operations.specs.OperationTree.{unplaced_variable_definition}
-use Rattle.graphql_components.specs.Names.{NamedMap, named}
+use Rattle.graphql_schema_types.specs.in_components.Names.{NamedMap, named}
 use Rattle.graphql_typed_selections.specs.TypedTree.{unplaced_typed_set}
 use Rattle.graphql_typed_operations.specs.TypedDocument.{TypedOperation, TypedFragment, TypedOperations, TypedDocumentTree}
 

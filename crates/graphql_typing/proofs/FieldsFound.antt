@@ -4,8 +4,8 @@ use Rattle.std.specs.Option.{option_map, option_or}
 use Rattle.graphql_names.specs.Placed.{Place}
 use Rattle.graphql_type_members.specs.TypeSystemTree.{field_definition_tree, unplaced_field_definition}
 use Rattle.graphql_type_members.specs.declared.field_definition.FieldDefinition.{FieldDefinition}
-use Rattle.graphql_components.specs.Given.{component_tree, plain_given}
-use Rattle.graphql_components.specs.declared.component.Component.{Component}
+use Rattle.graphql_schema_types.specs.in_components.Given.{component_tree, plain_given}
+use Rattle.graphql_schema_types.specs.in_components.declared.component.Component.{Component}
 use Rattle.graphql_schema_types.specs.Addresses.{under}
 use Rattle.graphql_schema_types.specs.SchemaTree.{SchemaTree}
 use Rattle.graphql_schema_types.specs.Plain.{plain}

@@ -10,7 +10,7 @@ use Rattle.graphql_operations.specs.OperationWritable.{has_selection}
 use Rattle.graphql_operations.specs.SelectionTree.{FieldHead, SelectionTree, FieldTree, SpreadTree, InlineTree, SelectionTrees}
 use Rattle.graphql_definitions.specs.DefinitionTree.{DefinitionTree, Operation, Fragment}
 use Rattle.graphql_definitions.specs.Queries.{definition_place}
-use Rattle.graphql_components.specs.Lists.{StandsAfter, has_name}
+use Rattle.graphql_schema_types.specs.in_components.Lists.{StandsAfter, has_name}
 use Rattle.graphql_typing.specs.MeantTree.{Definition, MeantField, MeantInline, set_on}
 use Rattle.graphql_typing.specs.Meanings.{Meanings, inner_type}
 use Rattle.graphql_typing.specs.KeptSelections.{is_leaf, may_select, kept, kept_all}

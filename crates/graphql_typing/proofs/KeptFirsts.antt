@@ -4,8 +4,8 @@ use Rattle.std.specs.Prelude.{slice_get}
 use Rattle.std.specs.Str.{bytes_eq}
 use Rattle.std.specs.Option.{option_map}
 use Rattle.std.proofs.lemmas.List.{append-nil}
-use Rattle.graphql_components.specs.Lists.{each_place, each_place_after, firsts, has_name}
-use Rattle.graphql_components.proofs.Firsts.{has_name-firsts, firsts-push_new, firsts-push_seen}
+use Rattle.graphql_schema_types.specs.in_components.Lists.{each_place, each_place_after, firsts, has_name}
+use Rattle.graphql_schema_types.proofs.in_components.Firsts.{has_name-firsts, firsts-push_new, firsts-push_seen}
 use Rattle.graphql_typing.specs.Steps.{is_under}
 
 -- what grows at each place by what `f` gives there is all that `f` gives

@@ -5,7 +5,7 @@ use Rattle.graphql_names.specs.NameValue.{NameValue}
 use Rattle.graphql_names.specs.Placed.{Place, Text, name_tree}
 use Rattle.graphql_operations.specs.declared.operation.OperationType.{OperationType}
 use Rattle.graphql_operations.specs.declared.operation.OperationType.TheVariants.{Query, Mutation, Subscription}
-use Rattle.graphql_components.specs.Given.{Given, given_name}
+use Rattle.graphql_schema_types.specs.in_components.Given.{Given, given_name}
 use Rattle.graphql_schema_types.specs.SchemaTree.{SchemaTree}
 use Rattle.graphql_schema_types.specs.Plain.{plain}
 use Rattle.graphql_schema_types.specs.Addresses.{root_at}

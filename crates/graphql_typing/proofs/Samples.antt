@@ -8,7 +8,7 @@ use Rattle.graphql_literals.specs.TypeTree.{TypeTree}
 use Rattle.graphql_operations.specs.SelectionTree.{FieldHead, SelectionTree, FieldTree, InlineTree, SelectionTrees, no_selections, selection_then}
 use Rattle.graphql_operations.specs.declared.operation.OperationType.{OperationType}
 use Rattle.graphql_definitions.specs.DefinitionTree.{DefinitionTree, Operation, Fragment}
-use Rattle.graphql_components.specs.Lists.{is_among}
+use Rattle.graphql_schema_types.specs.in_components.Lists.{is_among}
 use Rattle.graphql_schema_types.specs.Looks.{Looks, TypeLooks}
 use Rattle.graphql_schema_types.specs.declared.type_kind.TypeKind.{TypeKind}
 use Rattle.graphql_typing.specs.MeantTree.{MeantSelection, MeantField, MeantSpread, MeantInline}

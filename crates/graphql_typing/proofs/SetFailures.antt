@@ -6,7 +6,7 @@ use Rattle.graphql_names.specs.Placed.{Text}
 use Rattle.graphql_directives.specs.DirectiveTree.{Directives}
 use Rattle.graphql_operations.specs.SelectionTree.{FieldHead, SelectionTree, FieldTree, SpreadTree, InlineTree, SelectionTrees, no_selections, selection_then}
 use Rattle.graphql_operations.specs.OperationWritable.{has_selection}
-use Rattle.graphql_components.proofs.Places.{not_in_nil, only, is_only}
+use Rattle.graphql_schema_types.proofs.in_components.Places.{not_in_nil, only, is_only}
 use Rattle.graphql_typing.specs.MeantTree.{Definition}
 use Rattle.graphql_typing.specs.Meanings.{Meanings, inner_type}
 use Rattle.graphql_typing.specs.KeptSelections.{is_leaf, may_select}

@@ -9,8 +9,8 @@ use Rattle.graphql_operations.specs.OperationLayout.{is_none}
 use Rattle.graphql_operations.specs.OperationTree.{OperationTree, FragmentTree}
 use Rattle.graphql_definitions.specs.DefinitionTree.{DefinitionTree, Operation, Fragment}
 use Rattle.graphql_definitions.specs.Queries.{definition_place}
-use Rattle.graphql_components.specs.Lists.{each_place, has_name}
-use Rattle.graphql_components.proofs.Places.{each_place-push}
+use Rattle.graphql_schema_types.specs.in_components.Lists.{each_place, has_name}
+use Rattle.graphql_schema_types.proofs.in_components.Places.{each_place-push}
 use Rattle.graphql_typing.specs.Meanings.{Meanings}
 use Rattle.graphql_typing.specs.KeptDocument.{Based, based_operation, anonymous_here, named_here, fragment_here, text_of, operation_name, fragment_name, kept_anonymous, kept_named, kept_fragments, meant_operation, meant_fragment, named_entry, fragment_entry, kept_document}
 use Rattle.graphql_typing.specs.TypingFaults.{Fault, At, is_operation, TypeSystemDefinition, AmbiguousAnonymousOperation, OperationNameCollision, FragmentNameCollision, UndefinedRootOperation, UndefinedTypeInNamedFragmentTypeCondition}

@@ -6,7 +6,7 @@ use Rattle.graphql_operations.specs.OperationLayout.{is_none}
 use Rattle.graphql_operations.specs.OperationTree.{OperationTree, FragmentTree}
 use Rattle.graphql_operations.specs.SelectionTree.{FieldHead, SelectionTree, FieldTree, SpreadTree, InlineTree, SelectionTrees, no_selections, selection_then}
 use Rattle.graphql_definitions.specs.DefinitionTree.{DefinitionTree, Operation, Fragment}
-use Rattle.graphql_components.proofs.Places.{not_in_nil, only, is_only, Contains-cons, Contains-first, Contains-rest}
+use Rattle.graphql_schema_types.proofs.in_components.Places.{not_in_nil, only, is_only, Contains-cons, Contains-first, Contains-rest}
 use Rattle.graphql_typing.specs.MeantTree.{Definition, MeantSelection, MeantField, MeantInline, meant_set, no_meant, members, set_on}
 use Rattle.graphql_typing.specs.Meanings.{Meanings, inner_type}
 use Rattle.graphql_typing.specs.KeptSelections.{is_leaf, may_select, kept, kept_all}

@@ -10,8 +10,8 @@ use Rattle.graphql_operations.specs.OperationLayout.{is_none}
 use Rattle.graphql_operations.specs.OperationTree.{OperationTree, FragmentTree}
 use Rattle.graphql_operations.specs.SelectionTree.{FieldHead, SelectionTree, FieldTree, SpreadTree, InlineTree, SelectionTrees, no_selections, selection_then}
 use Rattle.graphql_definitions.specs.DefinitionTree.{DefinitionTree, Operation, Fragment}
-use Rattle.graphql_components.specs.Lists.{StandsAfter, each_place, each_place_after, has_name}
-use Rattle.graphql_components.proofs.Places.{is_only}
+use Rattle.graphql_schema_types.specs.in_components.Lists.{StandsAfter, each_place, each_place_after, has_name}
+use Rattle.graphql_schema_types.proofs.in_components.Places.{is_only}
 use Rattle.graphql_typing.specs.MeantTree.{Definition, MeantSelection, MeantField, MeantSpread, MeantInline, members, set_on}
 use Rattle.graphql_typing.specs.Meanings.{Meanings, inner_type}
 use Rattle.graphql_typing.specs.KeptSelections.{may_select, kept, kept_all}

@@ -5,7 +5,7 @@ use Rattle.graphql_operations.specs.OperationLayout.{is_none}
 use Rattle.graphql_operations.specs.OperationTree.{OperationTree}
 use Rattle.graphql_operations.specs.SelectionTree.{SelectionTree, SelectionTrees}
 use Rattle.graphql_definitions.specs.DefinitionTree.{DefinitionTree, Operation, Fragment}
-use Rattle.graphql_components.specs.Lists.{StandsAfter, has_name}
+use Rattle.graphql_schema_types.specs.in_components.Lists.{StandsAfter, has_name}
 use Rattle.graphql_typing.specs.Meanings.{Meanings}
 use Rattle.graphql_typing.specs.KeptSelections.{kept}
 use Rattle.graphql_typing.specs.KeptDocument.{text_of, operation_name, fragment_name, kept_anonymous, kept_named, kept_operations, kept_fragments}

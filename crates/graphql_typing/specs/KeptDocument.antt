@@ -6,7 +6,7 @@ use Rattle.graphql_names.specs.Placed.{Text}
 use Rattle.graphql_operations.specs.OperationLayout.{is_none}
 use Rattle.graphql_operations.specs.OperationTree.{OperationTree, FragmentTree}
 use Rattle.graphql_definitions.specs.DefinitionTree.{DefinitionTree, Operation, Fragment}
-use Rattle.graphql_components.specs.Lists.{firsts}
+use Rattle.graphql_schema_types.specs.in_components.Lists.{firsts}
 use Rattle.graphql_typing.specs.MeantTree.{MeantSet, MeantOperation, MeantFragment, MeantDocument, set_on}
 use Rattle.graphql_typing.specs.Meanings.{Meanings}
 use Rattle.graphql_typing.specs.KeptSelections.{kept_all}

@@ -15,3 +15,5 @@ pub mod DocumentView
 pub mod StepsView
 pub mod BuilderView
 pub use Rattle.graphql_document_faults.specs.in_schema as in_schema
+pub use Rattle.graphql_literals.specs as in_literals
+pub use Rattle.graphql_typed_operations.specs as in_typed_operations

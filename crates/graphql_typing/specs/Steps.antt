@@ -6,8 +6,8 @@ use Rattle.graphql_names.specs.Placed.{Text}
 use Rattle.graphql_operations.specs.OperationTree.{OperationTree, FragmentTree}
 use Rattle.graphql_definitions.specs.DefinitionTree.{DefinitionTree, Operation, Fragment}
 use Rattle.graphql_definitions.specs.Queries.{definition_place}
-use Rattle.graphql_components.specs.Lists.{has_name}
-use Rattle.graphql_components.specs.Names.{Entries}
+use Rattle.graphql_schema_types.specs.in_components.Lists.{has_name}
+use Rattle.graphql_schema_types.specs.in_components.Names.{Entries}
 use Rattle.graphql_typing.specs.MeantTree.{MeantDocument}
 use Rattle.graphql_typing.specs.Meanings.{Meanings}
 use Rattle.graphql_typing.specs.KeptDocument.{Based, meant_operation, meant_fragment}

@@ -4,7 +4,7 @@ use Rattle.indexmap.specs.IndexMap.{IndexMap}
 use Rattle.graphql_names.specs.NameValue.{NameValue}
 use Rattle.graphql_names.specs.Placed.{Place, node_tree}
 use Rattle.graphql_names.specs.declared.node.Node.{Node}
-use Rattle.graphql_components.specs.Names.{Entries, entries_of}
+use Rattle.graphql_schema_types.specs.in_components.Names.{Entries, entries_of}
 use Rattle.graphql_schema_types.specs.TypeView.{name_text}
 use Rattle.graphql_typed_operations.specs.TypedDocument.{typed_operation_tree, typed_fragment_tree}
 use Rattle.graphql_typed_operations.specs.declared.operation.Operation.{Operation}

@@ -7,7 +7,7 @@ use Rattle.graphql_names.specs.Placed.{Text}
 use Rattle.graphql_directives.specs.DirectiveTree.{Directives}
 use Rattle.graphql_definitions.specs.DefinitionTree.{DefinitionTree, Operation, Fragment}
 use Rattle.graphql_definitions.specs.Queries.{is_executable, definition_place}
-use Rattle.graphql_components.specs.Lists.{AtSomePlace, has_name}
+use Rattle.graphql_schema_types.specs.in_components.Lists.{AtSomePlace, has_name}
 pub use Rattle.graphql_document_faults.specs.DocumentBreaches.{DocumentBreach, TypeSystemDefinition, AmbiguousAnonymousOperation, OperationNameCollision, FragmentNameCollision, UndefinedRootOperation, UndefinedTypeInNamedFragmentTypeCondition, UndefinedTypeInInlineFragmentTypeCondition, SubselectionOnScalarType, SubselectionOnEnumType, UndefinedField}
 use Rattle.graphql_typing.specs.MeantTree.{Definition}
 use Rattle.graphql_typing.specs.Meanings.{Meanings, inner_type}

@@ -5,10 +5,10 @@ use Rattle.graphql_names.specs.Placed.{Placed, Place}
 use Rattle.graphql_directives.specs.DirectiveTree.{ArgumentTree, Arguments, DirectiveTree, Directives, DirectiveDefinitionTree}
 use Rattle.graphql_directives.specs.DirectiveQueries.{argument_has_name, directive_has_name}
 use Rattle.graphql_components.specs.Lists.{each_place}
-use Rattle.graphql_rule_definitions.specs.Diagnostics.{UniqueArgument, UniqueDirective}
-use Rattle.graphql_rule_definitions.specs.Faults.{wrong}
-use Rattle.graphql_rule_definitions.specs.Uses.{argument_name, directive_name}
-use Rattle.graphql_rule_definitions.specs.Told.{PlacedFault}
+use Rattle.graphql_value_rules.specs.in_rule_definitions.Diagnostics.{UniqueArgument, UniqueDirective}
+use Rattle.graphql_value_rules.specs.in_rule_definitions.Faults.{wrong}
+use Rattle.graphql_value_rules.specs.in_rule_definitions.Uses.{argument_name, directive_name}
+use Rattle.graphql_value_rules.specs.in_rule_definitions.Told.{PlacedFault}
 use Rattle.graphql_value_rules.specs.Firsts.{first_told}
 use Rattle.graphql_value_rules.proofs.Noted.{told_found}
 use Rattle.graphql_use_rules.specs.UseFaults.{argument_again, repeated_argument, directive_again, found_repeated, repeated_directive}

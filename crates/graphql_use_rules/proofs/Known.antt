@@ -9,12 +9,12 @@ use Rattle.graphql_directives.specs.DirectiveTree.{ArgumentTree, InputValueTree,
 use Rattle.graphql_directives.specs.DirectiveQueries.{input_value_has_name}
 use Rattle.graphql_operations.specs.OperationTree.{VariableDefinitionTree}
 use Rattle.graphql_value_rules.specs.in_schema.in_schema_types.SchemaTree.{SchemaTree}
-use Rattle.graphql_rule_definitions.specs.Diagnostics.{DisallowedVariableUsage}
-use Rattle.graphql_rule_definitions.specs.Words.{Present}
-use Rattle.graphql_rule_definitions.specs.Faults.{wrong}
-use Rattle.graphql_rule_definitions.specs.Values.{Variables, defined_name}
-use Rattle.graphql_rule_definitions.specs.Uses.{argument_name, IsVariableUsageAllowed}
-use Rattle.graphql_rule_definitions.specs.Told.{PlacedFault}
+use Rattle.graphql_value_rules.specs.in_rule_definitions.Diagnostics.{DisallowedVariableUsage}
+use Rattle.graphql_value_rules.specs.in_rule_definitions.Words.{Present}
+use Rattle.graphql_value_rules.specs.in_rule_definitions.Faults.{wrong}
+use Rattle.graphql_value_rules.specs.in_rule_definitions.Values.{Variables, defined_name}
+use Rattle.graphql_value_rules.specs.in_rule_definitions.Uses.{argument_name, IsVariableUsageAllowed}
+use Rattle.graphql_value_rules.specs.in_rule_definitions.Told.{PlacedFault}
 use Rattle.graphql_use_rules.specs.Steps.{DisallowedUsage, GivenArgumentBreaks, DefinedArgumentBreaks}
 use Rattle.graphql_use_rules.proofs.Listing.{Lists, lists_same, lists_nothing, lists_where}
 

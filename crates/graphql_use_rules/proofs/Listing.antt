@@ -6,8 +6,8 @@ use Rattle.std.proofs.lemmas.List.{append-nil, map-append, take_more}
 use Rattle.std.proofs.lemmas.List.Elements.{Contains-append_left, Contains-append_right, Contains-append_cases}
 use Rattle.graphql_components.specs.Lists.{each_place_after, each_place}
 use Rattle.graphql_components.proofs.Places.{each_place-push}
-use Rattle.graphql_rule_definitions.proofs.Lists.{not_in_nil, only, is_only}
-use Rattle.graphql_rule_definitions.specs.Words.{Present, AtSomeIndex}
+use Rattle.graphql_value_rules.proofs.in_rule_definitions.Lists.{not_in_nil, only, is_only}
+use Rattle.graphql_value_rules.specs.in_rule_definitions.Words.{Present, AtSomeIndex}
 
 -- x stands at an index, or behind the others
 module _ {X : Type 0} where

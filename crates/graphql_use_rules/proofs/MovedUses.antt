@@ -6,11 +6,11 @@ use Rattle.graphql_directives.specs.DirectiveTree.{ArgumentTree, Arguments, Dire
 use Rattle.graphql_directives.specs.DirectiveQueries.{given_value, argument_has_name}
 use Rattle.graphql_directives.specs.declared.directive_location.DirectiveLocation.{DirectiveLocation}
 use Rattle.graphql_schema_types.specs.Addresses.{Address, DirectiveDefinitionAt, ArgumentAt, TypeReferenceAt}
-use Rattle.graphql_rule_definitions.specs.Diagnostics.{Diagnostic}
-use Rattle.graphql_rule_definitions.specs.Faults.{FaultAt}
-use Rattle.graphql_rule_definitions.specs.Judged.{Judged}
-use Rattle.graphql_rule_definitions.specs.Values.{is_absent_or_null, TypeBreaks}
-use Rattle.graphql_rule_definitions.specs.Uses.{Taker, argument_name, input_name, directive_name, directive_taker, UniqueArgumentAt, GivenBreaks, AtArgumentGiven, UndefinedArgumentAt, RequiredArgumentAt, DisallowedVariableUsageAt, ArgumentValueBreaks, TakerBreaks, UniqueDirectiveAt, UseBreaks, UsesBreak}
+use Rattle.graphql_value_rules.specs.in_rule_definitions.Diagnostics.{Diagnostic}
+use Rattle.graphql_value_rules.specs.in_rule_definitions.Faults.{FaultAt}
+use Rattle.graphql_value_rules.specs.in_rule_definitions.Judged.{Judged}
+use Rattle.graphql_value_rules.specs.in_rule_definitions.Values.{is_absent_or_null, TypeBreaks}
+use Rattle.graphql_value_rules.specs.in_rule_definitions.Uses.{Taker, argument_name, input_name, directive_name, directive_taker, UniqueArgumentAt, GivenBreaks, AtArgumentGiven, UndefinedArgumentAt, RequiredArgumentAt, DisallowedVariableUsageAt, ArgumentValueBreaks, TakerBreaks, UniqueDirectiveAt, UseBreaks, UsesBreak}
 use Rattle.graphql_use_rules.specs.Moved.{moved_placed, moved_argument, moved_directive, moved_taker}
 use Rattle.graphql_use_rules.proofs.Moves.{Moves, moves_either, moves_where, moves_same, moves_index, moves_repeats, moves_same_index, moves_same_first, moves_nothing, same_first}
 use Rattle.graphql_use_rules.proofs.MovedValues.{Carries, IsMoved, moves_wrong, absent_moved, find_moved, unique_input_value_moved, undefined_variable_moved, type_breaks_moved}

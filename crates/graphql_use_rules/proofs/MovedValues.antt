@@ -12,12 +12,12 @@ use Rattle.graphql_components.specs.Coordinate.{Coordinate, OfAttribute}
 use Rattle.graphql_directives.specs.declared.directive_location.DirectiveLocation.{DirectiveLocation}
 use Rattle.graphql_schema_types.specs.Looks.{TypeLooks}
 use Rattle.graphql_schema_types.specs.Addresses.{Address, TypeAt, InputAt, TypeReferenceAt}
-use Rattle.graphql_rule_definitions.specs.Diagnostics.{Diagnostic, PlainType, UnsupportedValueType, IntCoercionError, UndefinedVariable, UndefinedEnumValue, UndefinedInputValue, RequiredField, UniqueInputValue, UniqueArgument, UndefinedArgument, RequiredArgument, UndefinedDirective, UnsupportedLocation, UniqueDirective}
-use Rattle.graphql_rule_definitions.specs.Words.{Present, Somewhere, AtSomeIndex, Lacks, Repeats}
-use Rattle.graphql_rule_definitions.specs.Spots.{entry_list}
-use Rattle.graphql_rule_definitions.specs.Faults.{FaultAt, wrong}
-use Rattle.graphql_rule_definitions.specs.Judged.{Judged}
-use Rattle.graphql_rule_definitions.specs.Values.{Wanted, wanted_name, wanted_item, defined_name, entry_named, is_absent_or_null, FitsForm, UniqueInputValueIn, UniqueInputValueInItems, UniqueInputValueInEntries, UndefinedVariableIn, UndefinedVariableInItems, UndefinedVariableInEntries, UnsupportedValueTypeAt, IntCoercionErrorAt, UndefinedEnumValueAt, UndefinedInputValueAt, RequiredFieldAt, FormBreaks, TypeBreaks, TypeBreaksItems, TypeBreaksEntries}
+use Rattle.graphql_value_rules.specs.in_rule_definitions.Diagnostics.{Diagnostic, PlainType, UnsupportedValueType, IntCoercionError, UndefinedVariable, UndefinedEnumValue, UndefinedInputValue, RequiredField, UniqueInputValue, UniqueArgument, UndefinedArgument, RequiredArgument, UndefinedDirective, UnsupportedLocation, UniqueDirective}
+use Rattle.graphql_value_rules.specs.in_rule_definitions.Words.{Present, Somewhere, AtSomeIndex, Lacks, Repeats}
+use Rattle.graphql_value_rules.specs.in_rule_definitions.Spots.{entry_list}
+use Rattle.graphql_value_rules.specs.in_rule_definitions.Faults.{FaultAt, wrong}
+use Rattle.graphql_value_rules.specs.in_rule_definitions.Judged.{Judged}
+use Rattle.graphql_value_rules.specs.in_rule_definitions.Values.{Wanted, wanted_name, wanted_item, defined_name, entry_named, is_absent_or_null, FitsForm, UniqueInputValueIn, UniqueInputValueInItems, UniqueInputValueInEntries, UndefinedVariableIn, UndefinedVariableInItems, UndefinedVariableInEntries, UnsupportedValueTypeAt, IntCoercionErrorAt, UndefinedEnumValueAt, UndefinedInputValueAt, RequiredFieldAt, FormBreaks, TypeBreaks, TypeBreaksItems, TypeBreaksEntries}
 use Rattle.graphql_use_rules.specs.Moved.{untold_text, moved_value, moved_items, moved_entries, moved_placed, moved_entry, moved_wanted}
 use Rattle.graphql_use_rules.proofs.Moves.{Moves, moves_no, moves_fault, moves_either, moves_where, moves_same, moves_present, moves_index, moves_repeats, moves_some, neither, same_index}
 

@@ -1,8 +1,8 @@
 -- What rules tell of trees whose places are others is what they tell of the trees, at the other places: piece by piece, for all rules.
 use Rattle.std.proofs.Common.{◌≡◌, ℕ, ◌<◌, ◌⊎◌, ◌↔◌, List, map, refl, sym, ap, subst, ◌∙◌, inl, inr, Option, None, Some, slice_get}
 use Rattle.std.specs.Option.{option_map}
-use Rattle.graphql_rule_definitions.proofs.Lists.{slice_get-map}
-use Rattle.graphql_rule_definitions.specs.Words.{Present, AtSomeIndex, Lacks, IsFirst, FirstNamed, Repeats}
+use Rattle.graphql_value_rules.proofs.in_rule_definitions.Lists.{slice_get-map}
+use Rattle.graphql_value_rules.specs.in_rule_definitions.Words.{Present, AtSomeIndex, Lacks, IsFirst, FirstNamed, Repeats}
 
 -- ---- facts that hold in the same cases
 

@@ -10,9 +10,9 @@ use Rattle.graphql_directives.specs.declared.directive.Argument.{Argument}
 use Rattle.graphql_components.specs.Names.{same_text}
 use Rattle.graphql_value_rules.specs.in_schema.in_schema_types.SchemaTree.{SchemaTree}
 use Rattle.graphql_value_rules.specs.in_schema.in_schema_types.TypeView.{name_text}
-use Rattle.graphql_rule_definitions.specs.Values.{Variables}
-use Rattle.graphql_rule_definitions.specs.Uses.{argument_name}
-use Rattle.graphql_rule_definitions.specs.Told.{PlacedFault}
+use Rattle.graphql_value_rules.specs.in_rule_definitions.Values.{Variables}
+use Rattle.graphql_value_rules.specs.in_rule_definitions.Uses.{argument_name}
+use Rattle.graphql_value_rules.specs.in_rule_definitions.Told.{PlacedFault}
 use Rattle.graphql_value_rules.specs.Firsts.{first_told, AreNumbers}
 use Rattle.graphql_value_rules.proofs.Noted.{number_first, number_here, there, as_long}
 use Rattle.graphql_use_rules.specs.Trees.{arguments_of}

@@ -4,10 +4,10 @@ use Rattle.graphql_names.specs.Placed.{Place}
 use Rattle.graphql_literals.specs.ValueTree.{ValueTree, ItemTrees, EntryTrees, NullTree, EnumTree, VariableTree, StringTree, FloatTree, IntTree, BooleanTree, ListTree, ObjectTree, no_items, item_then, no_entries, entry_then}
 use Rattle.graphql_value_rules.specs.in_schema.in_schema_types.Addresses.{Address, TypeAt, InputAt, TypeReferenceAt}
 use Rattle.graphql_schema_types.specs.Looks.{TypeLooks}
-use Rattle.graphql_rule_definitions.specs.Words.{Present}
-use Rattle.graphql_rule_definitions.specs.Judged.{Judged}
-use Rattle.graphql_rule_definitions.specs.Values.{Wanted, Variables, wanted_name, wanted_item, FitsForm, FormBreaks, TypeBreaks, TypeBreaksItems, TypeBreaksEntries}
-use Rattle.graphql_rule_definitions.specs.Told.{PlacedFault}
+use Rattle.graphql_value_rules.specs.in_rule_definitions.Words.{Present}
+use Rattle.graphql_value_rules.specs.in_rule_definitions.Judged.{Judged}
+use Rattle.graphql_value_rules.specs.in_rule_definitions.Values.{Wanted, Variables, wanted_name, wanted_item, FitsForm, FormBreaks, TypeBreaks, TypeBreaksItems, TypeBreaksEntries}
+use Rattle.graphql_value_rules.specs.in_rule_definitions.Told.{PlacedFault}
 use Rattle.graphql_schema_types.specs.declared.type_kind.TypeKind.TheVariants as kind
 use Rattle.graphql_use_rules.specs.Trees.{AreAlike}
 

@@ -4,9 +4,9 @@ use Rattle.std.proofs.lemmas.List.{map-append}
 use Rattle.graphql_names.specs.Placed.{Place}
 use Rattle.graphql_value_rules.specs.in_schema.in_schema_types.SchemaTree.{SchemaType, SchemaTree}
 use Rattle.graphql_value_rules.specs.in_schema.in_schema_types.Addresses.{applied}
-use Rattle.graphql_rule_definitions.specs.Words.{AtSomeIndex}
-use Rattle.graphql_rule_definitions.specs.Rules.{type_location}
-use Rattle.graphql_rule_definitions.specs.Told.{PlacedFault}
+use Rattle.graphql_value_rules.specs.in_rule_definitions.Words.{AtSomeIndex}
+use Rattle.graphql_value_rules.specs.in_rule_definitions.Rules.{type_location}
+use Rattle.graphql_value_rules.specs.in_rule_definitions.Told.{PlacedFault}
 use Rattle.graphql_use_rules.specs.SchemaUses.{FieldsUses, ValuesUses, InputsUses, OwnUses, PartsUses, UsesAt, is_built_in_scalar}
 
 nowhere : {X A : Type 0} (xs : List X) (R : ℕ → X → Type 0) → xs ≡ [] → AtSomeIndex xs R → A

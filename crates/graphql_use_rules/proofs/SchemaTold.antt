@@ -18,16 +18,16 @@ use Rattle.graphql_schema_types.specs.declared.type_kind.TypeKind.TheVariants as
 use Rattle.graphql_schema_types.specs.Plain.{plain, plain_type, plain_directive_definition}
 use Rattle.graphql_schema_types.specs.Looks.{TypeLooks, type_looks}
 use Rattle.graphql_schema_types.specs.Addresses.{Address, SchemaAt, TypeAt, FieldAt, ValueAt, InputAt, ArgumentAt, DirectiveDefinitionAt, under, type_at, or_nothing, arguments_at, directives_at, applied, is_marked}
-use Rattle.graphql_rule_definitions.specs.Words.{Somewhere, AtSomeIndex}
-use Rattle.graphql_rule_definitions.specs.Spots.{At, spotted_directives}
-use Rattle.graphql_rule_definitions.specs.Faults.{SchemaFault}
-use Rattle.graphql_rule_definitions.specs.Judged.{judged, bare, IsBuiltInScalar}
-use Rattle.graphql_rule_definitions.specs.Uses.{UsesBreak}
-use Rattle.graphql_rule_definitions.specs.Rules.{type_location, SchemaUsesBreak, IsToldAs, extension_places_at}
-use Rattle.graphql_rule_definitions.specs.Told.{PlacedFault, Told}
-use Rattle.graphql_rule_definitions.specs.Distinct.{AreAllDistinct}
-use Rattle.graphql_rule_definitions.proofs.Lists.{index_found, index_given, mapped_some, slice_get-map}
-use Rattle.graphql_rule_definitions.proofs.Lookups.{under_found, under_given}
+use Rattle.graphql_value_rules.specs.in_rule_definitions.Words.{Somewhere, AtSomeIndex}
+use Rattle.graphql_value_rules.specs.in_rule_definitions.Spots.{At, spotted_directives}
+use Rattle.graphql_value_rules.specs.in_rule_definitions.Faults.{SchemaFault}
+use Rattle.graphql_value_rules.specs.in_rule_definitions.Judged.{judged, bare, IsBuiltInScalar}
+use Rattle.graphql_value_rules.specs.in_rule_definitions.Uses.{UsesBreak}
+use Rattle.graphql_value_rules.specs.in_rule_definitions.Rules.{type_location, SchemaUsesBreak, IsToldAs, extension_places_at}
+use Rattle.graphql_value_rules.specs.in_rule_definitions.Told.{PlacedFault, Told}
+use Rattle.graphql_schema_types.specs.Distinct.{AreAllDistinct}
+use Rattle.graphql_value_rules.proofs.in_rule_definitions.Lists.{index_found, index_given, mapped_some, slice_get-map}
+use Rattle.graphql_value_rules.proofs.in_rule_definitions.Lookups.{under_found, under_given}
 use Rattle.graphql_value_rules.proofs.in_fault_data.Judgings.{type_look, directive_look, field_look, value_look, input_look}
 use Rattle.graphql_use_rules.specs.SchemaUses.{is_built_in_scalar, UsesAt, ArgumentUses, FieldUses, FieldsUses, ValuesUses, InputsUses, OwnUses, TypeUses, DefinitionUses, SchemaUses}
 use Rattle.graphql_use_rules.proofs.Moves.{Moves, moves_either, moves_where}

@@ -7,11 +7,11 @@ use Rattle.graphql_directives.specs.DirectiveTree.{ArgumentTree, DirectiveTree, 
 use Rattle.graphql_directives.specs.declared.directive_location.DirectiveLocation.{DirectiveLocation}
 use Rattle.graphql_schema_types.specs.SchemaTree.{SchemaTree}
 use Rattle.graphql_schema_types.specs.Addresses.{Address, SchemaAt, DirectiveAt, GivenAt, GivenValueAt, place_at, directives_at, given_at, or_nothing}
-use Rattle.graphql_rule_definitions.specs.Diagnostics.{Diagnostic, map_places}
-use Rattle.graphql_rule_definitions.specs.Spots.{Spot, At, HeadAt, ItemAt, KeyAt, EntryAt, each_from, spotted_value, spotted_items, spotted_entries, spotted_argument, spotted_directive, spotted_directives, item_of, entry_list, written_at, spot_place, StandsAt}
-use Rattle.graphql_rule_definitions.specs.Faults.{FaultAt, SchemaFault, wrong}
-use Rattle.graphql_rule_definitions.specs.Judged.{Judged}
-use Rattle.graphql_rule_definitions.specs.Uses.{UsesBreak}
+use Rattle.graphql_value_rules.specs.in_rule_definitions.Diagnostics.{Diagnostic, map_places}
+use Rattle.graphql_value_rules.specs.in_rule_definitions.Spots.{Spot, At, HeadAt, ItemAt, KeyAt, EntryAt, each_from, spotted_value, spotted_items, spotted_entries, spotted_argument, spotted_directive, spotted_directives, item_of, entry_list, written_at, spot_place, StandsAt}
+use Rattle.graphql_value_rules.specs.in_rule_definitions.Faults.{FaultAt, SchemaFault, wrong}
+use Rattle.graphql_value_rules.specs.in_rule_definitions.Judged.{Judged}
+use Rattle.graphql_value_rules.specs.in_rule_definitions.Uses.{UsesBreak}
 use Rattle.graphql_use_rules.specs.Moved.{moved_value, moved_items, moved_entries, moved_argument, moved_directive}
 use Rattle.graphql_use_rules.proofs.MovedValues.{Carries, moved_fault}
 use Rattle.graphql_use_rules.proofs.MovedUses.{uses_moved}

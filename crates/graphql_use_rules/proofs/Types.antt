@@ -7,7 +7,7 @@ use Rattle.graphql_literals.specs.TypeQueries.{has_mark, nullable_type, AreTypes
 use Rattle.graphql_literals.specs.ValueTree.{unplaced_value}
 use Rattle.graphql_directives.specs.DirectiveTree.{InputValueTree, unplaced_input_value}
 use Rattle.graphql_operations.specs.OperationTree.{VariableDefinitionTree}
-use Rattle.graphql_rule_definitions.specs.Uses.{IsVariableUsageAllowed}
+use Rattle.graphql_value_rules.specs.in_rule_definitions.Uses.{IsVariableUsageAllowed}
 use Rattle.graphql_use_rules.specs.Steps.{FitsWithDefault}
 
 same_fit : (a b : TypeTree Place) → AreTypesCompatible (unplaced_type a) (unplaced_type b) ↔ AreTypesCompatible a b

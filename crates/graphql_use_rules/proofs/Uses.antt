@@ -14,13 +14,13 @@ use Rattle.graphql_components.specs.Coordinate.{OfDirective, OfDirectiveArgument
 use Rattle.graphql_components.specs.Lists.{each_place}
 use Rattle.graphql_value_rules.specs.in_schema.in_schema_types.SchemaTree.{SchemaTree}
 use Rattle.graphql_value_rules.specs.in_schema.in_schema_types.Addresses.{Address, ArgumentAt, TypeReferenceAt, DirectiveDefinitionAt, place_at, arguments_at, or_nothing, directive_definition_at}
-use Rattle.graphql_rule_definitions.specs.Diagnostics.{UniqueArgument, UndefinedArgument, RequiredArgument, DisallowedVariableUsage, UniqueDirective, UnsupportedLocation}
-use Rattle.graphql_rule_definitions.specs.Words.{Present, AtSomeIndex, Lacks, IsFirst, FirstNamed}
-use Rattle.graphql_rule_definitions.specs.Faults.{wrong}
-use Rattle.graphql_rule_definitions.specs.Judged.{Judged, judged}
-use Rattle.graphql_rule_definitions.specs.Values.{Variables, defined_name, is_absent_or_null, TypeBreaks}
-use Rattle.graphql_rule_definitions.specs.Uses.{Taker, argument_name, input_name, directive_name, directive_taker, IsVariableUsageAllowed, UniqueArgumentAt, GivenBreaks, UndefinedArgumentAt, RequiredArgumentAt, DisallowedVariableUsageAt, ArgumentValueBreaks, TakerBreaks, UnsupportedLocationAt, UniqueDirectiveAt, UseBreaks, UsesBreak}
-use Rattle.graphql_rule_definitions.specs.Told.{PlacedFault}
+use Rattle.graphql_value_rules.specs.in_rule_definitions.Diagnostics.{UniqueArgument, UndefinedArgument, RequiredArgument, DisallowedVariableUsage, UniqueDirective, UnsupportedLocation}
+use Rattle.graphql_value_rules.specs.in_rule_definitions.Words.{Present, AtSomeIndex, Lacks, IsFirst, FirstNamed}
+use Rattle.graphql_value_rules.specs.in_rule_definitions.Faults.{wrong}
+use Rattle.graphql_value_rules.specs.in_rule_definitions.Judged.{Judged, judged}
+use Rattle.graphql_value_rules.specs.in_rule_definitions.Values.{Variables, defined_name, is_absent_or_null, TypeBreaks}
+use Rattle.graphql_value_rules.specs.in_rule_definitions.Uses.{Taker, argument_name, input_name, directive_name, directive_taker, IsVariableUsageAllowed, UniqueArgumentAt, GivenBreaks, UndefinedArgumentAt, RequiredArgumentAt, DisallowedVariableUsageAt, ArgumentValueBreaks, TakerBreaks, UnsupportedLocationAt, UniqueDirectiveAt, UseBreaks, UsesBreak}
+use Rattle.graphql_value_rules.specs.in_rule_definitions.Told.{PlacedFault}
 use Rattle.graphql_value_rules.specs.Wanting.{wanted}
 use Rattle.graphql_use_rules.specs.Trees.{inputs_of, plain_inputs, holder_of, AreAlike, TellsPlaces}
 use Rattle.graphql_use_rules.specs.declared.taker.Taker.{Taker as Rust}

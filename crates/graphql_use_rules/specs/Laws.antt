@@ -5,12 +5,12 @@ use Rattle.graphql_directives.specs.DirectiveTree.{Directives, unplaced_directiv
 use Rattle.graphql_directives.specs.declared.directive_location.DirectiveLocation.{DirectiveLocation}
 use Rattle.graphql_schema_types.specs.SchemaTree.{SchemaTree}
 use Rattle.graphql_schema_types.specs.Addresses.{Address, place_at, directives_at}
-use Rattle.graphql_rule_definitions.specs.Spots.{At, spotted_directives}
-use Rattle.graphql_rule_definitions.specs.Judged.{judged}
-use Rattle.graphql_rule_definitions.specs.Uses.{UsesBreak}
-use Rattle.graphql_rule_definitions.specs.Rules.{SchemaUsesBreak}
-use Rattle.graphql_rule_definitions.specs.Told.{PlacedFault, Told}
-use Rattle.graphql_rule_definitions.specs.Distinct.{AreAllDistinct}
+use Rattle.graphql_value_rules.specs.in_rule_definitions.Spots.{At, spotted_directives}
+use Rattle.graphql_value_rules.specs.in_rule_definitions.Judged.{judged}
+use Rattle.graphql_value_rules.specs.in_rule_definitions.Uses.{UsesBreak}
+use Rattle.graphql_value_rules.specs.in_rule_definitions.Rules.{SchemaUsesBreak}
+use Rattle.graphql_value_rules.specs.in_rule_definitions.Told.{PlacedFault, Told}
+use Rattle.graphql_schema_types.specs.Distinct.{AreAllDistinct}
 use Rattle.graphql_use_rules.specs.SchemaUses.{SchemaUses}
 
 -- at one place

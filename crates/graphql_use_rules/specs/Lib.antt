@@ -5,4 +5,4 @@ pub mod Trees
 pub mod UseFaults
 pub mod Steps
 -- The crates beneath, for those above.
-pub use Rattle.graphql_rule_definitions.specs as in_rule_definitions
+pub use Rattle.graphql_value_rules.specs.in_rule_definitions as in_rule_definitions

@@ -3,8 +3,8 @@ use Rattle.std.specs.Prelude.{map}
 use Rattle.graphql_names.specs.Placed.{Placed, Text}
 use Rattle.graphql_literals.specs.ValueTree.{ValueTree, ItemTrees, EntryTrees, NullTree, EnumTree, VariableTree, StringTree, FloatTree, IntTree, BooleanTree, ListTree, ObjectTree, no_items, item_then, no_entries, entry_then}
 use Rattle.graphql_directives.specs.DirectiveTree.{ArgumentTree, DirectiveTree}
-use Rattle.graphql_rule_definitions.specs.Values.{Wanted}
-use Rattle.graphql_rule_definitions.specs.Uses.{Taker}
+use Rattle.graphql_value_rules.specs.in_rule_definitions.Values.{Wanted}
+use Rattle.graphql_value_rules.specs.in_rule_definitions.Uses.{Taker}
 
 -- p gives each place that a rule can tell; the other names stand at `none`
 module _ {P Q : Type 0} (p : P → Q) (none : Q) where

@@ -11,11 +11,11 @@ use Rattle.graphql_components.specs.Given.{Given}
 use Rattle.graphql_schema_types.specs.SchemaTree.{SchemaType, SchemaTree, same_kind}
 use Rattle.graphql_schema_types.specs.Addresses.{place_at, applied}
 use Rattle.graphql_schema_types.specs.declared.type_kind.TypeKind.TheVariants as kind
-use Rattle.graphql_rule_definitions.specs.Words.{AtSomeIndex}
-use Rattle.graphql_rule_definitions.specs.Judged.{judged}
-use Rattle.graphql_rule_definitions.specs.Uses.{UsesBreak}
-use Rattle.graphql_rule_definitions.specs.Rules.{type_location}
-use Rattle.graphql_rule_definitions.specs.Told.{PlacedFault}
+use Rattle.graphql_value_rules.specs.in_rule_definitions.Words.{AtSomeIndex}
+use Rattle.graphql_value_rules.specs.in_rule_definitions.Judged.{judged}
+use Rattle.graphql_value_rules.specs.in_rule_definitions.Uses.{UsesBreak}
+use Rattle.graphql_value_rules.specs.in_rule_definitions.Rules.{type_location}
+use Rattle.graphql_value_rules.specs.in_rule_definitions.Told.{PlacedFault}
 
 abbrev pub is_built_in_scalar : SchemaType Place → Bool
 is_built_in_scalar t = same_kind t.kind kind.Scalar && is_built_in t.place

@@ -10,13 +10,13 @@ use Rattle.graphql_directives.specs.declared.directive_location.DirectiveLocatio
 use Rattle.graphql_operations.specs.OperationTree.{VariableDefinitionTree}
 use Rattle.graphql_value_rules.specs.in_schema.in_schema_types.SchemaTree.{SchemaTree}
 use Rattle.graphql_value_rules.specs.in_schema.in_schema_types.Addresses.{place_at}
-use Rattle.graphql_rule_definitions.specs.Diagnostics.{DisallowedVariableUsage}
-use Rattle.graphql_rule_definitions.specs.Faults.{wrong}
-use Rattle.graphql_rule_definitions.specs.Words.{Present}
-use Rattle.graphql_rule_definitions.specs.Judged.{judged}
-use Rattle.graphql_rule_definitions.specs.Values.{Variables, defined_name, UniqueInputValueIn, UndefinedVariableIn, TypeBreaks}
-use Rattle.graphql_rule_definitions.specs.Uses.{argument_name, IsVariableUsageAllowed, UnsupportedLocationAt, TakerBreaks, directive_taker}
-use Rattle.graphql_rule_definitions.specs.Told.{PlacedFault}
+use Rattle.graphql_value_rules.specs.in_rule_definitions.Diagnostics.{DisallowedVariableUsage}
+use Rattle.graphql_value_rules.specs.in_rule_definitions.Faults.{wrong}
+use Rattle.graphql_value_rules.specs.in_rule_definitions.Words.{Present}
+use Rattle.graphql_value_rules.specs.in_rule_definitions.Judged.{judged}
+use Rattle.graphql_value_rules.specs.in_rule_definitions.Values.{Variables, defined_name, UniqueInputValueIn, UndefinedVariableIn, TypeBreaks}
+use Rattle.graphql_value_rules.specs.in_rule_definitions.Uses.{argument_name, IsVariableUsageAllowed, UnsupportedLocationAt, TakerBreaks, directive_taker}
+use Rattle.graphql_value_rules.specs.in_rule_definitions.Told.{PlacedFault}
 use Rattle.graphql_value_rules.specs.Wanting.{wanted}
 use Rattle.graphql_use_rules.specs.Trees.{plain_inputs}
 

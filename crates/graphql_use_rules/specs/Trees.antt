@@ -12,7 +12,7 @@ use Rattle.graphql_value_rules.specs.in_schema.in_schema_types.SchemaTree.{Schem
 use Rattle.graphql_value_rules.specs.in_schema.in_schema_types.Addresses.{Address, TypeAt, FieldAt, InputAt, ArgumentAt, TypeReferenceAt, DirectiveDefinitionAt, place_at}
 use Rattle.graphql_value_rules.specs.in_schema.SchemaOf.{schema_tree}
 use Rattle.graphql_value_rules.specs.in_schema.declared.schema.Schema.{Schema}
-use Rattle.graphql_rule_definitions.specs.Uses.{Taker}
+use Rattle.graphql_value_rules.specs.in_rule_definitions.Uses.{Taker}
 use Rattle.graphql_use_rules.specs.declared.taker.Taker.{Taker as Rust}
 use Rattle.graphql_use_rules.specs.declared.taker.TakerName.{TakerName}
 use Rattle.graphql_use_rules.specs.declared.taker.TakerName.TheVariants.{OfDirective as OfDirectiveNamed, OfField}

@@ -6,11 +6,11 @@ use Rattle.graphql_literals.specs.TypeTree.{unplaced_type}
 use Rattle.graphql_directives.specs.DirectiveTree.{ArgumentTree, Arguments, DirectiveTree, Directives, InputValueTree, InputValues, DirectiveDefinitionTree}
 use Rattle.graphql_directives.specs.DirectiveQueries.{argument_has_name, input_value_has_name, directive_has_name, given_value, is_required_input}
 use Rattle.graphql_directives.specs.declared.directive_location.DirectiveLocation.{DirectiveLocation}
-use Rattle.graphql_rule_definitions.specs.Diagnostics.{UniqueArgument, UndefinedArgument, RequiredArgument, UndefinedDirective, UniqueDirective, UnsupportedLocation}
-use Rattle.graphql_rule_definitions.specs.Faults.{wrong}
-use Rattle.graphql_rule_definitions.specs.Values.{is_absent_or_null}
-use Rattle.graphql_rule_definitions.specs.Uses.{Taker, argument_name, input_name, directive_name}
-use Rattle.graphql_rule_definitions.specs.Told.{PlacedFault}
+use Rattle.graphql_value_rules.specs.in_rule_definitions.Diagnostics.{UniqueArgument, UndefinedArgument, RequiredArgument, UndefinedDirective, UniqueDirective, UnsupportedLocation}
+use Rattle.graphql_value_rules.specs.in_rule_definitions.Faults.{wrong}
+use Rattle.graphql_value_rules.specs.in_rule_definitions.Values.{is_absent_or_null}
+use Rattle.graphql_value_rules.specs.in_rule_definitions.Uses.{Taker, argument_name, input_name, directive_name}
+use Rattle.graphql_value_rules.specs.in_rule_definitions.Told.{PlacedFault}
 
 -- an argument behind these
 abbrev pub repeated_argument : Arguments Place → Placed Place (ArgumentTree Place) → List PlacedFault

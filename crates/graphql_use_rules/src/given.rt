@@ -7,15 +7,15 @@ ghost use Rattle.graphql_directives.specs.DirectiveQueries.{argument_has_name};
 ghost use Rattle.graphql_components.specs.Lists.{each_place};
 ghost use Rattle.graphql_value_rules.specs.in_schema.in_schema_types.Addresses.{Address};
 ghost use Rattle.graphql_value_rules.specs.in_fault_data.FaultView.{fault_of, faults_of};
-ghost use Rattle.graphql_rule_definitions.specs.Words.{AtSomeIndex};
-ghost use Rattle.graphql_rule_definitions.specs.Uses.{argument_name, GivenBreaks};
+ghost use Rattle.graphql_value_rules.specs.in_rule_definitions.Words.{AtSomeIndex};
+ghost use Rattle.graphql_value_rules.specs.in_rule_definitions.Uses.{argument_name, GivenBreaks};
 ghost use Rattle.graphql_value_rules.specs.in_fault_data.Adds.{Adds};
 ghost use Rattle.graphql_value_rules.specs.Firsts.{AreNumbers};
 ghost use Rattle.graphql_value_rules.specs.Wanting.{variables_of};
 ghost use Rattle.graphql_use_rules.specs.Trees.{arguments_of};
 ghost use Rattle.graphql_use_rules.specs.UseFaults.{argument_again, repeated_argument};
 ghost use Rattle.graphql_use_rules.specs.Steps.{ValueGivenBreaks};
-ghost use Rattle.graphql_rule_definitions.specs.Judged.{Judged};
+ghost use Rattle.graphql_value_rules.specs.in_rule_definitions.Judged.{Judged};
 
 use graphql_directives::Argument;
 use graphql_names::{Name, Node, SourceSpan};

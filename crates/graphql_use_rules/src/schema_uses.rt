@@ -10,11 +10,11 @@ ghost use Rattle.graphql_components.specs.Applied.{applied_tree};
 ghost use Rattle.graphql_value_rules.specs.in_schema.in_schema_types.TypeView.{name_text, extended_type};
 ghost use Rattle.graphql_value_rules.specs.in_schema.in_schema_types.Addresses.{applied};
 ghost use Rattle.graphql_value_rules.specs.in_schema.SchemaOf.{schema_tree};
-ghost use Rattle.graphql_rule_definitions.specs.Rules.{type_location, SchemaUsesBreak};
+ghost use Rattle.graphql_value_rules.specs.in_rule_definitions.Rules.{type_location, SchemaUsesBreak};
 ghost use Rattle.graphql_value_rules.specs.in_fault_data.Adds.{Adds};
 ghost use Rattle.graphql_use_rules.specs.Trees.{inputs_of, directives_of};
-ghost use Rattle.graphql_rule_definitions.specs.Told.{Told};
-ghost use Rattle.graphql_rule_definitions.specs.Distinct.{AreAllDistinct};
+ghost use Rattle.graphql_value_rules.specs.in_rule_definitions.Told.{Told};
+ghost use Rattle.graphql_schema_types.specs.Distinct.{AreAllDistinct};
 ghost use Rattle.graphql_use_rules.specs.SchemaUses.{UsesAt, ArgumentUses, FieldUses, FieldsUses, ValuesUses, InputsUses, OwnUses, PartsUses, TypesUses, DefinitionUses};
 
 use crate::directives::check_uses;

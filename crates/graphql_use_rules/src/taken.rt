@@ -14,12 +14,12 @@ ghost use Rattle.graphql_value_rules.specs.in_schema.in_schema_types.Addresses.{
 ghost use Rattle.graphql_value_rules.specs.in_schema.SchemaOf.{schema_tree};
 ghost use Rattle.graphql_value_rules.specs.in_fault_data.FaultView.{fault_of, faults_of};
 ghost use Rattle.graphql_value_rules.specs.in_fault_data.DiagnosticView.{plain_type};
-ghost use Rattle.graphql_rule_definitions.specs.Diagnostics.{UndefinedArgument, RequiredArgument};
-ghost use Rattle.graphql_rule_definitions.specs.Faults.{wrong};
-ghost use Rattle.graphql_rule_definitions.specs.Words.{AtSomeIndex};
-ghost use Rattle.graphql_rule_definitions.specs.Judged.{judged};
-ghost use Rattle.graphql_rule_definitions.specs.Values.{is_absent_or_null};
-ghost use Rattle.graphql_rule_definitions.specs.Uses.{argument_name, input_name, TakerBreaks};
+ghost use Rattle.graphql_value_rules.specs.in_rule_definitions.Diagnostics.{UndefinedArgument, RequiredArgument};
+ghost use Rattle.graphql_value_rules.specs.in_rule_definitions.Faults.{wrong};
+ghost use Rattle.graphql_value_rules.specs.in_rule_definitions.Words.{AtSomeIndex};
+ghost use Rattle.graphql_value_rules.specs.in_rule_definitions.Judged.{judged};
+ghost use Rattle.graphql_value_rules.specs.in_rule_definitions.Values.{is_absent_or_null};
+ghost use Rattle.graphql_value_rules.specs.in_rule_definitions.Uses.{argument_name, input_name, TakerBreaks};
 ghost use Rattle.graphql_value_rules.specs.in_fault_data.Adds.{Adds};
 ghost use Rattle.graphql_value_rules.specs.Firsts.{AreNumbers};
 ghost use Rattle.graphql_value_rules.specs.Wanting.{variables_of};

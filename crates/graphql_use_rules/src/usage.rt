@@ -9,10 +9,10 @@ ghost use Rattle.graphql_directives.specs.DirectiveTree.{argument_tree, input_va
 ghost use Rattle.graphql_operations.specs.OperationTree.{variable_definition_tree};
 ghost use Rattle.graphql_value_rules.specs.in_fault_data.FaultView.{fault_of};
 ghost use Rattle.graphql_value_rules.specs.in_fault_data.DiagnosticView.{plain_type};
-ghost use Rattle.graphql_rule_definitions.specs.Diagnostics.{DisallowedVariableUsage};
-ghost use Rattle.graphql_rule_definitions.specs.Faults.{wrong};
-ghost use Rattle.graphql_rule_definitions.specs.Values.{defined_name};
-ghost use Rattle.graphql_rule_definitions.specs.Uses.{IsVariableUsageAllowed};
+ghost use Rattle.graphql_value_rules.specs.in_rule_definitions.Diagnostics.{DisallowedVariableUsage};
+ghost use Rattle.graphql_value_rules.specs.in_rule_definitions.Faults.{wrong};
+ghost use Rattle.graphql_value_rules.specs.in_rule_definitions.Values.{defined_name};
+ghost use Rattle.graphql_value_rules.specs.in_rule_definitions.Uses.{IsVariableUsageAllowed};
 ghost use Rattle.graphql_value_rules.specs.Wanting.{variables_of};
 ghost use Rattle.graphql_use_rules.specs.Steps.{Lists, FitsWithDefault, DisallowedUsage};
 

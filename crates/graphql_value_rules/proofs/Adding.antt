@@ -4,7 +4,7 @@ use Rattle.std.specs.declared.alloc.Global.{Global}
 use Rattle.std.proofs.lemmas.List.Elements.{Contains-append_left, Contains-append_right, Contains-append_cases}
 use Rattle.graphql_fault_data.specs.FaultView.{faults_of}
 use Rattle.graphql_fault_data.specs.declared.fault.Fault.{Fault}
-use Rattle.graphql_rule_definitions.specs.Told.{PlacedFault}
+use Rattle.graphql_fault_data.specs.in_rule_definitions.Told.{PlacedFault}
 use Rattle.graphql_fault_data.specs.Adds.{Adds}
 use Rattle.graphql_value_rules.proofs.Tells.{Tells}
 

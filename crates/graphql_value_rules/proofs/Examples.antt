@@ -6,10 +6,10 @@ use Rattle.graphql_literals.specs.TypeTree.{NamedTree, ListTree as ListOf}
 use Rattle.graphql_literals.specs.ValueTree.{StringTree, IntTree, ListTree, no_items, item_then}
 use Rattle.graphql_fault_data.specs.in_schema.in_schema_types.Looks.{TypeLooks}
 use Rattle.graphql_fault_data.specs.in_schema.in_schema_types.declared.type_kind.TypeKind.TheVariants as kind
-use Rattle.graphql_rule_definitions.specs.Diagnostics.{UnsupportedValueType, IntCoercionError}
-use Rattle.graphql_rule_definitions.specs.Faults.{wrong}
-use Rattle.graphql_rule_definitions.specs.Judged.{Judged}
-use Rattle.graphql_rule_definitions.specs.Values.{Wanted, FitsForm, IntCoercionErrorAt, TypeBreaks}
+use Rattle.graphql_fault_data.specs.in_rule_definitions.Diagnostics.{UnsupportedValueType, IntCoercionError}
+use Rattle.graphql_fault_data.specs.in_rule_definitions.Faults.{wrong}
+use Rattle.graphql_fault_data.specs.in_rule_definitions.Judged.{Judged}
+use Rattle.graphql_fault_data.specs.in_rule_definitions.Values.{Wanted, FitsForm, IntCoercionErrorAt, TypeBreaks}
 use Rattle.graphql_value_rules.proofs.Tells.{no_true}
 use Rattle.graphql_value_rules.proofs.FormsTold.{fits_decides, among_more, among_one}
 

@@ -16,20 +16,20 @@ use Rattle.graphql_directives.specs.DirectiveQueries.{is_required_input}
 use Rattle.graphql_operations.specs.OperationTree.{VariableDefinitionTree}
 use Rattle.graphql_components.specs.Names.{Entries}
 use Rattle.graphql_components.specs.Given.{Given, plain_given}
-use Rattle.graphql_values.proofs.Decided.{through, pair_decides}
+use Rattle.graphql_schema_types.proofs.in_values.Decided.{through, pair_decides}
 use Rattle.graphql_fault_data.specs.in_schema.in_schema_types.SchemaTree.{SchemaType, SchemaTree, same_kind}
 use Rattle.graphql_fault_data.specs.in_schema.in_schema_types.Plain.{plain_type}
 use Rattle.graphql_fault_data.specs.in_schema.in_schema_types.Looks.{TypeLooks, type_looks}
 use Rattle.graphql_fault_data.specs.in_schema.in_schema_types.Addresses.{Address, under, type_at, place_at, TypeAt, InputAt}
 use Rattle.graphql_fault_data.specs.in_schema.in_schema_types.declared.type_kind.TypeKind.TheVariants as kind
 use Rattle.graphql_components.specs.Coordinate.{OfAttribute}
-use Rattle.graphql_rule_definitions.specs.Diagnostics.{UnsupportedValueType, IntCoercionError, UndefinedEnumValue, UndefinedInputValue, RequiredField}
-use Rattle.graphql_rule_definitions.specs.Words.{Present, Somewhere, AtSomeIndex}
-use Rattle.graphql_rule_definitions.specs.Spots.{entry_list}
-use Rattle.graphql_rule_definitions.specs.Faults.{wrong}
-use Rattle.graphql_rule_definitions.specs.Judged.{Judged, judged, IsBuiltInScalar, IsCustomScalar}
-use Rattle.graphql_rule_definitions.specs.Values.{Wanted, Variables, defined_name, wanted_name, entry_named, is_absent_or_null, IsScalarAmong, FitsForm, UnsupportedValueTypeAt, IntCoercionErrorAt, UndefinedEnumValueAt, UndefinedInputValueAt, RequiredFieldAt, FormBreaks}
-use Rattle.graphql_rule_definitions.specs.Told.{PlacedFault}
+use Rattle.graphql_fault_data.specs.in_rule_definitions.Diagnostics.{UnsupportedValueType, IntCoercionError, UndefinedEnumValue, UndefinedInputValue, RequiredField}
+use Rattle.graphql_fault_data.specs.in_rule_definitions.Words.{Present, Somewhere, AtSomeIndex}
+use Rattle.graphql_fault_data.specs.in_rule_definitions.Spots.{entry_list}
+use Rattle.graphql_fault_data.specs.in_rule_definitions.Faults.{wrong}
+use Rattle.graphql_fault_data.specs.in_rule_definitions.Judged.{Judged, judged, IsBuiltInScalar, IsCustomScalar}
+use Rattle.graphql_fault_data.specs.in_rule_definitions.Values.{Wanted, Variables, defined_name, wanted_name, entry_named, is_absent_or_null, IsScalarAmong, FitsForm, UnsupportedValueTypeAt, IntCoercionErrorAt, UndefinedEnumValueAt, UndefinedInputValueAt, RequiredFieldAt, FormBreaks}
+use Rattle.graphql_fault_data.specs.in_rule_definitions.Told.{PlacedFault}
 use Rattle.graphql_value_rules.specs.Wanting.{wanted}
 use Rattle.graphql_value_rules.specs.ValueFaults.{is_key, fits_32_bits, is_built_in_scalar, is_custom_scalar, is_scalar_so, takes_integers, takes_floats, takes_strings, takes_booleans, given_entry, is_missing_entry, each_first, fits_form, unsupported_value_type, int_coercion_error, undefined_enum_value, undefined_key, undefined_input_value, required_field, required_fields, form_faults}
 use Rattle.graphql_value_rules.proofs.Tells.{no_true, no_some, Tells, tells_same, tells_both, tells_nothing, tells_one, tells_one_as, tells_when, tells_unless, tells_present, first_told, tells_first}

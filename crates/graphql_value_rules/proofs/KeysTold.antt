@@ -6,12 +6,12 @@ use Rattle.std.proofs.lemmas.List.{map-append}
 use Rattle.std.proofs.lemmas.Slice.Eq.{bytes_eq-Decides}
 use Rattle.graphql_names.specs.Placed.{Placed, Place, Text}
 use Rattle.graphql_literals.specs.ValueTree.{ValueTree, ItemTrees, EntryTrees, NullTree, EnumTree, VariableTree, StringTree, FloatTree, IntTree, BooleanTree, ListTree, ObjectTree, no_items, item_then, no_entries, entry_then}
-use Rattle.graphql_rule_definitions.specs.Diagnostics.{UniqueInputValue}
-use Rattle.graphql_rule_definitions.specs.Words.{Present, AtSomeIndex, IsFirst, FirstNamed, Repeats}
-use Rattle.graphql_rule_definitions.specs.Spots.{entry_list}
-use Rattle.graphql_rule_definitions.specs.Faults.{wrong}
-use Rattle.graphql_rule_definitions.specs.Values.{UniqueInputValueIn, UniqueInputValueInItems, UniqueInputValueInEntries}
-use Rattle.graphql_rule_definitions.specs.Told.{PlacedFault}
+use Rattle.graphql_fault_data.specs.in_rule_definitions.Diagnostics.{UniqueInputValue}
+use Rattle.graphql_fault_data.specs.in_rule_definitions.Words.{Present, AtSomeIndex, IsFirst, FirstNamed, Repeats}
+use Rattle.graphql_fault_data.specs.in_rule_definitions.Spots.{entry_list}
+use Rattle.graphql_fault_data.specs.in_rule_definitions.Faults.{wrong}
+use Rattle.graphql_fault_data.specs.in_rule_definitions.Values.{UniqueInputValueIn, UniqueInputValueInItems, UniqueInputValueInEntries}
+use Rattle.graphql_fault_data.specs.in_rule_definitions.Told.{PlacedFault}
 use Rattle.graphql_value_rules.specs.KeyFaults.{repeated_key, repeated_keys, key_faults, key_faults_items, key_faults_entries}
 use Rattle.graphql_value_rules.proofs.Tells.{no_true, no_some, Tells, tells_same, tells_both, tells_nothing, tells_one, tells_present}
 

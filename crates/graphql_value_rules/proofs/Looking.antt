@@ -17,8 +17,8 @@ use Rattle.graphql_fault_data.specs.in_schema.in_schema_types.Looks.{TypeLooks, 
 use Rattle.graphql_fault_data.specs.in_schema.in_schema_types.Addresses.{under, type_at, input_at, place_at, or_nothing, TypeAt, InputAt, TypeReferenceAt}
 use Rattle.graphql_fault_data.specs.in_schema.in_schema_types.declared.type_kind.TypeKind.{TypeKind}
 use Rattle.graphql_fault_data.specs.in_schema.in_schema_types.declared.type_kind.TypeKind.TheVariants.{Scalar, Object, Interface, Union, Enum, InputObject}
-use Rattle.graphql_rule_definitions.specs.Words.{Present}
-use Rattle.graphql_rule_definitions.specs.Judged.{judged}
+use Rattle.graphql_fault_data.specs.in_rule_definitions.Words.{Present}
+use Rattle.graphql_fault_data.specs.in_rule_definitions.Judged.{judged}
 use Rattle.graphql_value_rules.proofs.Tells.{no_true}
 
 -- ---- kinds

@@ -10,10 +10,10 @@ use Rattle.graphql_literals.specs.ValueTree.{value_tree, entry_trees}
 use Rattle.graphql_literals.specs.ValueQueries.{is_null_value}
 use Rattle.graphql_literals.specs.declared.value.Value.{Value}
 use Rattle.graphql_fault_data.specs.in_schema.in_schema_types.SchemaTree.{SchemaType, SchemaTree}
-use Rattle.graphql_rule_definitions.specs.Diagnostics.{UniqueInputValue}
-use Rattle.graphql_rule_definitions.specs.Faults.{wrong}
-use Rattle.graphql_rule_definitions.specs.Values.{Variables}
-use Rattle.graphql_rule_definitions.specs.Told.{PlacedFault}
+use Rattle.graphql_fault_data.specs.in_rule_definitions.Diagnostics.{UniqueInputValue}
+use Rattle.graphql_fault_data.specs.in_rule_definitions.Faults.{wrong}
+use Rattle.graphql_fault_data.specs.in_rule_definitions.Values.{Variables}
+use Rattle.graphql_fault_data.specs.in_rule_definitions.Told.{PlacedFault}
 use Rattle.graphql_value_rules.specs.Firsts.{first_told}
 use Rattle.graphql_value_rules.specs.KeyFaults.{key_again, repeated_key, repeated_keys}
 use Rattle.graphql_value_rules.specs.ValueFaults.{is_key, given_entry, is_missing_entry, field_faults, entry_faults}

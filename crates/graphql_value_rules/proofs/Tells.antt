@@ -4,7 +4,7 @@ use Rattle.std.specs.Bool.{Decides}
 use Rattle.std.specs.Option.{option_map_or}
 use Rattle.std.proofs.lemmas.Option.{same_Some}
 use Rattle.std.proofs.lemmas.List.Elements.{Contains-append_left, Contains-append_right, Contains-append_cases}
-use Rattle.graphql_rule_definitions.specs.Words.{Present, AtSomeIndex}
+use Rattle.graphql_fault_data.specs.in_rule_definitions.Words.{Present, AtSomeIndex}
 
 pub no_true : {A : Type 0} → false ≡ true → A
 no_true h = absurd (true≢false (sym h))

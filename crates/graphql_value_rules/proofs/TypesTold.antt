@@ -14,10 +14,10 @@ use Rattle.graphql_fault_data.specs.in_schema.in_schema_types.Plain.{plain_type}
 use Rattle.graphql_fault_data.specs.in_schema.in_schema_types.Looks.{type_looks}
 use Rattle.graphql_fault_data.specs.in_schema.in_schema_types.Addresses.{under, type_at, place_at, TypeReferenceAt, InputAt}
 use Rattle.graphql_fault_data.specs.in_schema.in_schema_types.declared.type_kind.TypeKind.TheVariants as kind
-use Rattle.graphql_rule_definitions.specs.Words.{Present}
-use Rattle.graphql_rule_definitions.specs.Judged.{judged}
-use Rattle.graphql_rule_definitions.specs.Values.{Wanted, Variables, wanted_name, wanted_item, FitsForm, FormBreaks, TypeBreaks, TypeBreaksItems, TypeBreaksEntries}
-use Rattle.graphql_rule_definitions.specs.Told.{PlacedFault}
+use Rattle.graphql_fault_data.specs.in_rule_definitions.Words.{Present}
+use Rattle.graphql_fault_data.specs.in_rule_definitions.Judged.{judged}
+use Rattle.graphql_fault_data.specs.in_rule_definitions.Values.{Wanted, Variables, wanted_name, wanted_item, FitsForm, FormBreaks, TypeBreaks, TypeBreaksItems, TypeBreaksEntries}
+use Rattle.graphql_fault_data.specs.in_rule_definitions.Told.{PlacedFault}
 use Rattle.graphql_value_rules.specs.Wanting.{wanted}
 use Rattle.graphql_value_rules.specs.ValueFaults.{is_key, fits_form, form_faults, faults_with, inner_faults, item_faults, entry_faults, type_faults}
 use Rattle.graphql_value_rules.proofs.Tells.{no_true, not_in_nil, Tells, tells_same, tells_both, tells_nothing, tells_when, tells_unless}

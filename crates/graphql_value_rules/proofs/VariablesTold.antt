@@ -6,10 +6,10 @@ use Rattle.std.proofs.lemmas.Slice.Eq.{bytes_eq-Decides}
 use Rattle.graphql_names.specs.Placed.{Placed, Place}
 use Rattle.graphql_literals.specs.ValueTree.{ValueTree, ItemTrees, EntryTrees, NullTree, EnumTree, VariableTree, StringTree, FloatTree, IntTree, BooleanTree, ListTree, ObjectTree, no_items, item_then, no_entries, entry_then}
 use Rattle.graphql_operations.specs.OperationTree.{VariableDefinitionTree}
-use Rattle.graphql_rule_definitions.specs.Diagnostics.{UndefinedVariable}
-use Rattle.graphql_rule_definitions.specs.Words.{AtSomeIndex}
-use Rattle.graphql_rule_definitions.specs.Faults.{wrong}
-use Rattle.graphql_rule_definitions.specs.Values.{Variables, defined_name, UndefinedVariableIn, UndefinedVariableInItems, UndefinedVariableInEntries}
+use Rattle.graphql_fault_data.specs.in_rule_definitions.Diagnostics.{UndefinedVariable}
+use Rattle.graphql_fault_data.specs.in_rule_definitions.Words.{AtSomeIndex}
+use Rattle.graphql_fault_data.specs.in_rule_definitions.Faults.{wrong}
+use Rattle.graphql_fault_data.specs.in_rule_definitions.Values.{Variables, defined_name, UndefinedVariableIn, UndefinedVariableInItems, UndefinedVariableInEntries}
 use Rattle.graphql_value_rules.specs.VariableFaults.{variable_faults, variable_faults_items, variable_faults_entries}
 use Rattle.graphql_value_rules.proofs.Tells.{no_true, no_some, not_in_nil, only, is_only, Tells, tells_both, tells_nothing}
 

@@ -18,10 +18,10 @@ use Rattle.graphql_fault_data.specs.in_schema.in_schema_types.SchemaTree.{Schema
 use Rattle.graphql_fault_data.specs.in_schema.in_schema_types.Addresses.{under, type_at}
 use Rattle.graphql_fault_data.specs.in_schema.in_schema_types.declared.type_kind.TypeKind.TheVariants as kind
 use Rattle.graphql_components.specs.Coordinate.{OfAttribute}
-use Rattle.graphql_rule_definitions.specs.Diagnostics.{UnsupportedValueType, IntCoercionError, UndefinedEnumValue, UndefinedInputValue, RequiredField}
-use Rattle.graphql_rule_definitions.specs.Faults.{wrong}
-use Rattle.graphql_rule_definitions.specs.Values.{Variables, defined_name}
-use Rattle.graphql_rule_definitions.specs.Told.{PlacedFault}
+use Rattle.graphql_fault_data.specs.in_rule_definitions.Diagnostics.{UnsupportedValueType, IntCoercionError, UndefinedEnumValue, UndefinedInputValue, RequiredField}
+use Rattle.graphql_fault_data.specs.in_rule_definitions.Faults.{wrong}
+use Rattle.graphql_fault_data.specs.in_rule_definitions.Values.{Variables, defined_name}
+use Rattle.graphql_fault_data.specs.in_rule_definitions.Told.{PlacedFault}
 
 -- the name is among these
 abbrev pub is_key : List ℕ → List (List ℕ) → Bool

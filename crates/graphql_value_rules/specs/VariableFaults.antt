@@ -3,10 +3,10 @@ use Rattle.std.specs.Prelude.{List, [], ◌∷◌, ◌++◌, find, bytes_eq}
 use Rattle.std.specs.Option.{option_map_or}
 use Rattle.graphql_names.specs.Placed.{Place, Text}
 use Rattle.graphql_literals.specs.ValueTree.{ValueTree, ItemTrees, EntryTrees, VariableTree, ListTree, ObjectTree, no_items, item_then, no_entries, entry_then}
-use Rattle.graphql_rule_definitions.specs.Diagnostics.{UndefinedVariable}
-use Rattle.graphql_rule_definitions.specs.Faults.{wrong}
-use Rattle.graphql_rule_definitions.specs.Values.{Variables, defined_name}
-use Rattle.graphql_rule_definitions.specs.Told.{PlacedFault}
+use Rattle.graphql_fault_data.specs.in_rule_definitions.Diagnostics.{UndefinedVariable}
+use Rattle.graphql_fault_data.specs.in_rule_definitions.Faults.{wrong}
+use Rattle.graphql_fault_data.specs.in_rule_definitions.Values.{Variables, defined_name}
+use Rattle.graphql_fault_data.specs.in_rule_definitions.Told.{PlacedFault}
 
 module _ (variables : Variables Place) where
   abbrev pub undefined_variable : Place → Text Place → List PlacedFault

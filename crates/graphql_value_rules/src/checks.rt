@@ -4,8 +4,8 @@ ghost use Rattle.graphql_names.specs.Node.{content, place};
 ghost use Rattle.graphql_literals.specs.ValueTree.{value_tree};
 ghost use Rattle.graphql_fault_data.specs.in_schema.SchemaOf.{schema_tree};
 ghost use Rattle.graphql_fault_data.specs.in_schema.in_schema_types.Addresses.{place_at};
-ghost use Rattle.graphql_rule_definitions.specs.Judged.{judged};
-ghost use Rattle.graphql_rule_definitions.specs.Values.{TypeBreaks, UndefinedVariableIn, UniqueInputValueIn, ValueBreaks};
+ghost use Rattle.graphql_fault_data.specs.in_rule_definitions.Judged.{judged};
+ghost use Rattle.graphql_fault_data.specs.in_rule_definitions.Values.{TypeBreaks, UndefinedVariableIn, UniqueInputValueIn, ValueBreaks};
 ghost use Rattle.graphql_fault_data.specs.Adds.{Adds};
 ghost use Rattle.graphql_value_rules.specs.Wanting.{wanted_type, variables_of};
 

@@ -9,7 +9,7 @@ ghost use Rattle.graphql_fault_data.specs.in_schema.SchemaOf.{schema_tree};
 ghost use Rattle.graphql_type_members.specs.TypeSystemTree.{enum_value_tree};
 ghost use Rattle.graphql_fault_data.specs.in_schema.in_schema_types.TypeView.{extended_type};
 ghost use Rattle.graphql_fault_data.specs.in_schema.in_schema_types.Addresses.{under, type_at};
-ghost use Rattle.graphql_rule_definitions.specs.Values.{defined_name};
+ghost use Rattle.graphql_fault_data.specs.in_rule_definitions.Values.{defined_name};
 ghost use Rattle.graphql_value_rules.specs.Wanting.{variables_of};
 
 use graphql_components::Component;

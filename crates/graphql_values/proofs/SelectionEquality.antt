@@ -5,7 +5,7 @@ use Rattle.std.specs.Cmp.Lexicographic.{pointwise}
 use Rattle.std.specs.Option.{option_map}
 use Rattle.graphql_names.specs.Node.{content, place}
 use Rattle.graphql_names.specs.Placed.{Place, name_tree, unplaced_text}
-use Rattle.graphql_directives.specs.DirectiveTree.{argument_tree, directives_tree, unplaced_argument}
+use Rattle.graphql_operations.specs.in_directives.DirectiveTree.{argument_tree, directives_tree, unplaced_argument}
 use Rattle.graphql_operations.specs.SelectionTree.{SelectionTree, FieldTree, SpreadTree, InlineTree, SelectionTrees, FieldHead, selection_then, selection_trees, selection_tree, AtPlace, selection_step, field_step, inline_step, unplaced_selection, unplaced_selections}
 use Rattle.graphql_operations.specs.SelectionParts.{field_head, field_tree, spread_tree, inline_tree}
 use Rattle.graphql_values.proofs.Decided.{Each, through, carried, pair_decides, name_decides, nodes_decide, options_decide}

@@ -2,14 +2,14 @@ pub mod ValueLayout
 pub mod Writable
 pub mod OperationQueries
 pub use Rattle.graphql_names.specs.Placed
-pub use Rattle.graphql_printing.specs.Joined
-pub use Rattle.graphql_printing.specs.Puts
-pub use Rattle.graphql_printing.specs.Shown
-pub use Rattle.graphql_printing.specs.Levels
-pub use Rattle.graphql_printing.specs.EscapeRuns
-pub use Rattle.graphql_printing.specs.LineLayout
-pub use Rattle.graphql_printing.specs.StringLayout
-pub use Rattle.graphql_printing.specs.Serialized
+pub use Rattle.graphql_operations.specs.in_printing.Joined
+pub use Rattle.graphql_operations.specs.in_printing.Puts
+pub use Rattle.graphql_operations.specs.in_printing.Shown
+pub use Rattle.graphql_operations.specs.in_printing.Levels
+pub use Rattle.graphql_operations.specs.in_printing.EscapeRuns
+pub use Rattle.graphql_operations.specs.in_printing.LineLayout
+pub use Rattle.graphql_operations.specs.in_printing.StringLayout
+pub use Rattle.graphql_operations.specs.in_printing.Serialized
 pub use Rattle.graphql_literals.specs.NumberSyntax
 pub use Rattle.graphql_literals.specs.NumberValue
 pub use Rattle.graphql_literals.specs.TypeTree
@@ -17,16 +17,20 @@ pub use Rattle.graphql_literals.specs.ValueTree
 pub use Rattle.graphql_literals.specs.TypeQueries
 pub use Rattle.graphql_literals.specs.ValueQueries
 pub use Rattle.graphql_literals.specs.ValueWritable
-pub use Rattle.graphql_directives.specs.DirectiveTree
-pub use Rattle.graphql_directives.specs.DirectiveQueries
-pub use Rattle.graphql_directives.specs.DirectiveNodes
-pub use Rattle.graphql_directives.specs.DirectivePlaces
-pub use Rattle.graphql_directives.specs.NamedNodes
-pub use Rattle.graphql_directives.specs.DirectiveLayout
-pub use Rattle.graphql_directives.specs.InputLayout
-pub use Rattle.graphql_directives.specs.DirectiveWritable
+pub use Rattle.graphql_operations.specs.in_directives.DirectiveTree
+pub use Rattle.graphql_operations.specs.in_directives.DirectiveQueries
+pub use Rattle.graphql_operations.specs.in_directives.DirectiveNodes
+pub use Rattle.graphql_operations.specs.in_directives.DirectivePlaces
+pub use Rattle.graphql_operations.specs.in_directives.NamedNodes
+pub use Rattle.graphql_operations.specs.in_directives.DirectiveLayout
+pub use Rattle.graphql_operations.specs.in_directives.InputLayout
+pub use Rattle.graphql_operations.specs.in_directives.DirectiveWritable
 pub use Rattle.graphql_operations.specs.SelectionTree
 pub use Rattle.graphql_operations.specs.SelectionParts
 pub use Rattle.graphql_operations.specs.OperationTree
 pub use Rattle.graphql_operations.specs.OperationLayout
 pub use Rattle.graphql_operations.specs.OperationWritable
+pub use Rattle.graphql_operations.specs.in_directives as in_directives
+pub use Rattle.graphql_literals.specs as in_literals
+pub use Rattle.graphql_names.specs as in_names
+pub use Rattle.graphql_operations.specs as in_operations

@@ -14,18 +14,14 @@
 pub mod laws;
 mod ty_macro;
 
-pub use graphql_directives::{
-    Argument, ArgumentByNameError, Directive, DirectiveDefinition, DirectiveList,
-    DirectiveLocation, InputValueDefinition, Named, NamedDirectives, directives_are_writable,
-    get_named_mut, input_values_are_writable, put_argument_definitions, put_directive_definition,
-    put_directives, put_input_members,
-};
 pub use graphql_literals::{FloatValue, IntValue, NamedType, Type, Value, can_be_enum, put_type};
 pub use graphql_names::{FileId, Name, Node, NodeStr, SourceSpan};
 pub use graphql_operations::{
-    Field, FragmentDefinition, FragmentSpread, InlineFragment, OperationDefinition, OperationType,
-    Selection, VariableDefinition, begins_output, put_fragment, put_keyword, put_operation,
-};
-pub use graphql_printing::{
-    Cause, Level, Serialize, Sink, Tree, WriteFault, put_break, put_description, put_start,
+    Argument, ArgumentByNameError, Cause, Directive, DirectiveDefinition, DirectiveList,
+    DirectiveLocation, Field, FragmentDefinition, FragmentSpread, InlineFragment,
+    InputValueDefinition, Level, Named, NamedDirectives, OperationDefinition, OperationType,
+    Selection, Serialize, Sink, Tree, VariableDefinition, WriteFault, begins_output,
+    directives_are_writable, get_named_mut, input_values_are_writable, put_argument_definitions,
+    put_break, put_description, put_directive_definition, put_directives, put_fragment,
+    put_input_members, put_keyword, put_operation, put_start,
 };

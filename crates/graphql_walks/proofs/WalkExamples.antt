@@ -1,7 +1,7 @@
 -- The walks of small documents, computed.
 use Rattle.std.proofs.Common.{◌≡◌, ℕ, List, [], ◌∷◌, codes, true, false, None, refl, subst}
 use Rattle.graphql_names.specs.Placed.{Placed, Text}
-use Rattle.graphql_type_members.specs.TypeSystemTree.{FieldDefinitionTree}
+use Rattle.graphql_typed_selections.specs.in_type_members.TypeSystemTree.{FieldDefinitionTree}
 use Rattle.graphql_typed_selections.specs.TypedTree.{TypedSelection, TypedField, TypedSpread, TypedSet, typed_set, TypedSelections, no_typed, typed_then}
 use Rattle.graphql_walks.specs.Reached.{Fragments, IsWalk}
 use Rattle.graphql_walks.specs.Left.{left_fields, at_start}

@@ -1,5 +1,5 @@
 use Rattle.std.proofs.Common.{ap, ◌∙◌}
-use Rattle.graphql_typed_operations.specs.TypedDocument.{typed_document_tree}
+use Rattle.graphql_typing.specs.in_typed_operations.TypedDocument.{typed_document_tree}
 use Rattle.graphql_typing.specs.OutDoc.{written_document}
 use Rattle.graphql_typing.proofs.WrittenMeant.{document-written}
 use Rattle.graphql_document_laws.proofs.written_and_told.Goals as goal

@@ -1,6 +1,6 @@
 use Rattle.std.proofs.Common.{rules, codes, map, subst}
-use Rattle.graphql_values.specs.Placed.{name_tree}
-use Rattle.graphql_values.specs.DirectiveTree.{directives_tree}
+use Rattle.graphql_printing.specs.in_names.Placed.{name_tree}
+use Rattle.graphql_type_members.specs.in_directives.DirectiveTree.{directives_tree}
 use Rattle.graphql_type_members.specs.TypeSystemLayout.{head_text}
 use Rattle.graphql_composite_types.proofs.print_composite.put_interface_definition.Goals as goal
 

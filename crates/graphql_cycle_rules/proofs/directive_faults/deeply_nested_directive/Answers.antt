@@ -4,8 +4,8 @@ use Rattle.graphql_names.specs.Placed.{node_tree}
 use Rattle.graphql_directives.specs.DirectiveTree.{directive_definition_tree}
 use Rattle.graphql_schema_types.specs.TypeView.{name_text}
 use Rattle.graphql_fault_data.specs.in_schema.SchemaOf.{schema_tree}
-use Rattle.graphql_rule_definitions.specs.Diagnostics.{DeeplyNestedType}
-use Rattle.graphql_rule_definitions.specs.Faults.{wrong}
+use Rattle.graphql_fault_data.specs.in_rule_definitions.Diagnostics.{DeeplyNestedType}
+use Rattle.graphql_fault_data.specs.in_rule_definitions.Faults.{wrong}
 use Rattle.graphql_cycle_rules.specs.DirectiveFaults.{AtHead, deep_directive}
 use Rattle.graphql_cycle_rules.proofs.Numbering.{seen_entry}
 use Rattle.graphql_cycle_rules.proofs.directive_faults.deeply_nested_directive.Goals as goal

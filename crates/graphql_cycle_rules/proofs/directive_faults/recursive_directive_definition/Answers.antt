@@ -5,8 +5,8 @@ use Rattle.graphql_names.specs.Placed.{node_tree}
 use Rattle.graphql_directives.specs.DirectiveTree.{directive_tree, directive_definition_tree}
 use Rattle.graphql_schema_types.specs.TypeView.{name_text}
 use Rattle.graphql_fault_data.specs.in_schema.SchemaOf.{schema_tree}
-use Rattle.graphql_rule_definitions.specs.Diagnostics.{RecursiveDirectiveDefinition}
-use Rattle.graphql_rule_definitions.specs.Faults.{wrong}
+use Rattle.graphql_fault_data.specs.in_rule_definitions.Diagnostics.{RecursiveDirectiveDefinition}
+use Rattle.graphql_fault_data.specs.in_rule_definitions.Faults.{wrong}
 use Rattle.graphql_fault_data.specs.DiagnosticView.{plain_directive}
 use Rattle.graphql_cycle_rules.specs.DirectiveFaults.{AtHead, recursive_directive, use_trace, plain_use}
 use Rattle.graphql_cycle_rules.proofs.Numbering.{seen_entry}

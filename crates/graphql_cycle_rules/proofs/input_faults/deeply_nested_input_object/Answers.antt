@@ -1,8 +1,8 @@
 use Rattle.std.proofs.Common.{[], ◌∷◌, codes, sym, ap, ◌∙◌}
 use Rattle.std.specs.Option.{option_map_or}
 use Rattle.graphql_schema_types.specs.TypeView.{name_text, extended_type}
-use Rattle.graphql_rule_definitions.specs.Diagnostics.{DeeplyNestedType}
-use Rattle.graphql_rule_definitions.specs.Faults.{wrong}
+use Rattle.graphql_fault_data.specs.in_rule_definitions.Diagnostics.{DeeplyNestedType}
+use Rattle.graphql_fault_data.specs.in_rule_definitions.Faults.{wrong}
 use Rattle.graphql_cycle_rules.proofs.Numbering.{found_entry}
 use Rattle.graphql_cycle_rules.proofs.input_faults.deeply_nested_input_object.Goals as goal
 

@@ -5,8 +5,8 @@ use Rattle.graphql_names.specs.Placed.{node_tree}
 use Rattle.graphql_directives.specs.DirectiveTree.{input_value_tree}
 use Rattle.graphql_schema_types.specs.TypeView.{name_text, extended_type}
 use Rattle.graphql_fault_data.specs.in_schema.SchemaOf.{schema_tree}
-use Rattle.graphql_rule_definitions.specs.Diagnostics.{RecursiveInputObjectDefinition}
-use Rattle.graphql_rule_definitions.specs.Faults.{wrong}
+use Rattle.graphql_fault_data.specs.in_rule_definitions.Diagnostics.{RecursiveInputObjectDefinition}
+use Rattle.graphql_fault_data.specs.in_rule_definitions.Faults.{wrong}
 use Rattle.graphql_fault_data.specs.DiagnosticView.{plain_input}
 use Rattle.graphql_cycle_rules.specs.FaultLists.{input_trace, plain_field}
 use Rattle.graphql_cycle_rules.proofs.Numbering.{found_entry}

@@ -1,6 +1,6 @@
 use Rattle.std.proofs.Common.{◌≡◌, ◌++◌, map, take}
 use Rattle.graphql_names.specs.Placed.{node_tree}
-use Rattle.graphql_components.specs.Given.{origin_tree}
+use Rattle.graphql_schema_types.specs.in_components.Given.{origin_tree}
 use Rattle.graphql_folding.specs.Components.{all_given}
 use Rattle.graphql_folding.specs.PartsView.{itself, given_contents}
 use Rattle.graphql_folding.proofs.collected.add_components.Given as goal

@@ -1,6 +1,6 @@
 use Rattle.std.proofs.Common.{◌≡◌, ◌++◌, map, take}
 use Rattle.graphql_names.specs.Placed.{name_tree}
-use Rattle.graphql_components.specs.Given.{origin_tree, component_name_tree}
+use Rattle.graphql_schema_types.specs.in_components.Given.{origin_tree, component_name_tree}
 use Rattle.graphql_folding.specs.Components.{all_given}
 use Rattle.graphql_folding.proofs.collected.add_names.Given as goal
 

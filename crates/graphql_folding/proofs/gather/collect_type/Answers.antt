@@ -2,7 +2,7 @@ use Rattle.std.proofs.Common.{◌<◌, ◌∷◌, [], ◌++◌, None, map, take,
 use Rattle.std.specs.List.{flat_map}
 use Rattle.std.proofs.lemmas.List.{map_more}
 use Rattle.graphql_names.specs.Placed.{Place}
-use Rattle.graphql_components.specs.Given.{Given}
+use Rattle.graphql_schema_types.specs.in_components.Given.{Given}
 use Rattle.graphql_schema_types.specs.TypeParts.{TypeParts}
 use Rattle.graphql_folding.specs.Components.{extension_here}
 use Rattle.graphql_folding.specs.PartsView.{parts_view}

@@ -2,8 +2,8 @@ use Rattle.std.proofs.Common.{◌≡◌, [], ◌∷◌, ◌++◌, map, ap, ◌�
 use Rattle.std.proofs.lemmas.List.{map-append}
 use Rattle.indexmap.specs.IndexMap.{insert_entry}
 use Rattle.indexmap.proofs.CallerLemmas.{insert_entry-new}
-use Rattle.graphql_components.specs.Names.{same_text}
-use Rattle.graphql_components.specs.Given.{component_tree, origin_tree}
+use Rattle.graphql_schema_types.specs.in_components.Names.{same_text}
+use Rattle.graphql_schema_types.specs.in_components.Given.{component_tree, origin_tree}
 use Rattle.graphql_schema_types.specs.TypeView.{name_text}
 use Rattle.graphql_folding.specs.PartsView.{itself}
 use Rattle.graphql_folding.proofs.keep.keep_component.Goals as goal

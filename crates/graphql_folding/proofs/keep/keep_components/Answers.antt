@@ -1,7 +1,7 @@
 use Rattle.std.proofs.Common.{◌<◌, ◌++◌, [], ◌∷◌, map, take, length, sym, ap, ◌∙◌, arith}
 use Rattle.std.proofs.lemmas.List.{map_more, take_all}
-use Rattle.graphql_components.specs.Lists.{repeats}
-use Rattle.graphql_components.specs.Given.{component_tree}
+use Rattle.graphql_schema_types.specs.in_components.Lists.{repeats}
+use Rattle.graphql_schema_types.specs.in_components.Given.{component_tree}
 use Rattle.graphql_folding.specs.FaultView.{faults_of}
 use Rattle.graphql_folding.specs.PartsView.{itself, given_contents}
 use Rattle.graphql_folding.specs.Keeping.{content_key, component_fault}

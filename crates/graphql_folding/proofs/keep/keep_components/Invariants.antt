@@ -1,7 +1,7 @@
 use Rattle.std.proofs.Common.{◌≡◌, ◌++◌, map, take}
-use Rattle.graphql_components.specs.Lists.{repeats}
-use Rattle.graphql_components.specs.Names.{entries_of}
-use Rattle.graphql_components.specs.Given.{component_tree}
+use Rattle.graphql_schema_types.specs.in_components.Lists.{repeats}
+use Rattle.graphql_schema_types.specs.in_components.Names.{entries_of}
+use Rattle.graphql_schema_types.specs.in_components.Given.{component_tree}
 use Rattle.graphql_schema_types.specs.TypeView.{name_text}
 use Rattle.graphql_folding.specs.Components.{keyed_firsts}
 use Rattle.graphql_folding.specs.FaultView.{faults_of}

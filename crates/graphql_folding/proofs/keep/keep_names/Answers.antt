@@ -1,6 +1,6 @@
 use Rattle.std.proofs.Common.{◌<◌, ◌++◌, [], ◌∷◌, map, take, length, sym, ap, ◌∙◌, arith}
 use Rattle.std.proofs.lemmas.List.{map_more}
-use Rattle.graphql_components.specs.Given.{component_name_tree, given_name}
+use Rattle.graphql_schema_types.specs.in_components.Given.{component_name_tree, given_name}
 use Rattle.graphql_folding.specs.Keeping.{name_fault}
 use Rattle.graphql_folding.proofs.Keeping.{names_on, names_told_on}
 use Rattle.graphql_folding.proofs.keep.keep_names.Goals as goal

@@ -1,6 +1,6 @@
 use Rattle.std.proofs.Common.{◌≡◌, ◌++◌, map, take}
-use Rattle.graphql_components.specs.Lists.{firsts, repeats}
-use Rattle.graphql_components.specs.Given.{component_name_tree, given_name}
+use Rattle.graphql_schema_types.specs.in_components.Lists.{firsts, repeats}
+use Rattle.graphql_schema_types.specs.in_components.Given.{component_name_tree, given_name}
 use Rattle.graphql_folding.specs.FaultView.{faults_of}
 use Rattle.graphql_folding.specs.Keeping.{name_fault}
 use Rattle.graphql_folding.proofs.keep.keep_names.Given as goal

@@ -4,8 +4,8 @@ use Rattle.std.specs.Str.{bytes_eq}
 use Rattle.std.proofs.lemmas.Result.{IfOk-weaker}
 use Rattle.graphql_names.specs.NameValue.{NameValue}
 use Rattle.graphql_names.specs.Node.{content}
-use Rattle.graphql_components.specs.Names.{entries_of}
-use Rattle.graphql_components.specs.Given.{component_tree}
+use Rattle.graphql_schema_types.specs.in_components.Names.{entries_of}
+use Rattle.graphql_schema_types.specs.in_components.Given.{component_tree}
 use Rattle.graphql_schema_types.specs.TypeView.{name_text}
 use Rattle.graphql_folding.specs.FaultView.{faults_of, repeat_breach}
 use Rattle.graphql_folding.specs.PartsView.{itself}

@@ -5,7 +5,7 @@ use Rattle.std.specs.List.{list_any}
 use Rattle.std.specs.Str.{bytes_eq}
 use Rattle.graphql_names.specs.NameValue.{NameValue}
 use Rattle.graphql_names.specs.Placed.{name_tree}
-use Rattle.graphql_components.specs.Given.{component_name_tree, given_name, origin_tree}
+use Rattle.graphql_schema_types.specs.in_components.Given.{component_name_tree, given_name, origin_tree}
 use Rattle.graphql_folding.specs.FaultView.{faults_of, repeat_breach}
 use Rattle.graphql_folding.specs.Keeping.{name_fault}
 use Rattle.graphql_folding.proofs.Keeping.{names_seen, names_new}

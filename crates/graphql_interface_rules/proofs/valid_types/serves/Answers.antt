@@ -1,7 +1,7 @@
 use Rattle.std.proofs.Common.{◌≡◌, false, ◌||◌, bytes_eq, sym, ap, ◌∙◌}
 use Rattle.graphql_fault_data.specs.in_schema.SchemaOf.{schema_tree}
-use Rattle.graphql_rule_definitions.specs.Judged.{judged}
-use Rattle.graphql_rule_definitions.specs.Interfaces.{is_subtype}
+use Rattle.graphql_fault_data.specs.in_rule_definitions.Judged.{judged}
+use Rattle.graphql_fault_data.specs.in_rule_definitions.Interfaces.{is_subtype}
 use Rattle.graphql_interface_rules.proofs.Subtypes.{subtype_seen}
 use Rattle.graphql_interface_rules.proofs.valid_types.serves.Goals as goal
 

@@ -3,7 +3,7 @@ use Rattle.std.proofs.lemmas.Result.{err_from_is_err_and}
 use Rattle.std.specs.Prelude.{map}
 use Rattle.graphql_names.specs.declared.span.FileId.{FileId}
 use Rattle.graphql_names.specs.Placed.{node_tree}
-use Rattle.graphql_input_types.specs.InputTypeTree.{root_tree}
+use Rattle.graphql_grammar.specs.in_input_types.InputTypeTree.{root_tree}
 use Rattle.graphql_lexer.specs.Input.{next}
 use Rattle.graphql_grammar.specs.Kinds as kinds
 use Rattle.graphql_grammar.specs.Kinds.{next_is}

@@ -1,7 +1,7 @@
 use Rattle.std.proofs.Common.{◌≡◌, length}
 use Rattle.std.specs.Prelude.{map}
 use Rattle.graphql_names.specs.Placed.{node_tree}
-use Rattle.graphql_input_types.specs.InputTypeTree.{root_tree}
+use Rattle.graphql_grammar.specs.in_input_types.InputTypeTree.{root_tree}
 use Rattle.graphql_grammar.specs.Kinds as kinds
 use Rattle.graphql_grammar.specs.Reading as read
 use Rattle.graphql_grammar.specs.TypeSystemReading as reading

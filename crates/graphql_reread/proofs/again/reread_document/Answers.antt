@@ -1,8 +1,8 @@
 use Rattle.std.proofs.Common.{◌∙◌}
 use Rattle.std.specs.Option.{option_copied}
 use Rattle.graphql_definitions.specs.DefinitionTree.{document_tree, unplaced_document}
-use Rattle.graphql_grammar.specs.Grammar.{Derives}
-use Rattle.graphql_parse_values.specs.Meanings.{in_file}
+use Rattle.graphql_read.specs.in_grammar.Grammar.{Derives}
+use Rattle.graphql_read.specs.in_parse_values.Meanings.{in_file}
 use Rattle.graphql_reread.specs.ReadsAgain.{laid_out}
 use Rattle.graphql_reread.proofs.SameTree.{same_of, within_of, document_reads}
 use Rattle.graphql_reread.proofs.again.reread_document.Goals as goal

@@ -1,8 +1,8 @@
 use Rattle.std.proofs.Common.{◌∙◌}
 use Rattle.graphql_literals.specs.ValueLayout.{type_text}
 use Rattle.graphql_literals.specs.TypeTree.{type_tree, unplaced_type}
-use Rattle.graphql_grammar.specs.Grammar.{DerivesType}
-use Rattle.graphql_parse_values.specs.Meanings.{in_file}
+use Rattle.graphql_read.specs.in_grammar.Grammar.{DerivesType}
+use Rattle.graphql_read.specs.in_parse_values.Meanings.{in_file}
 use Rattle.graphql_reread.proofs.SameTree.{same_of, within_of, type_reads, standing_on_one_line}
 use Rattle.graphql_reread.proofs.again.reread_type.Goals as goal
 

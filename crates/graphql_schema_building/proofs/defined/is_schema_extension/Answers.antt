@@ -1,5 +1,5 @@
 use Rattle.std.proofs.Common.{is_some, ap, ◌∙◌}
-use Rattle.graphql_definitions.specs.DefinitionTree.{schema_extension_parts}
+use Rattle.graphql_schema_folding.specs.in_definitions.DefinitionTree.{schema_extension_parts}
 use Rattle.graphql_schema_building.proofs.Schemas.{is_there}
 use Rattle.graphql_schema_building.proofs.defined.is_schema_extension.Goals as goal
 

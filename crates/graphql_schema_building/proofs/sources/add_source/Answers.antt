@@ -2,7 +2,7 @@ use Rattle.std.proofs.Common.{nat_eq, ap, ◌∙◌}
 use Rattle.graphql_schema_building.specs.SourcesView.{sources_view}
 use Rattle.indexmap.specs.IndexMap.{insert_entry}
 use Rattle.graphql_schema_building.proofs.Sourcing.{insert_viewed}
-use Rattle.graphql_definitions.specs.Sources.{numbered_source}
+use Rattle.graphql_schema_folding.specs.in_definitions.Sources.{numbered_source}
 use Rattle.std.proofs.Common.{map}
 use Rattle.graphql_schema_building.proofs.sources.add_source.Goals as goal
 

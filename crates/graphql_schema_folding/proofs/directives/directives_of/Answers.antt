@@ -1,5 +1,5 @@
 use Rattle.std.proofs.Common.{◌<◌, ◌∷◌, [], ◌++◌, map, take, length, sym, ap, ◌∙◌, arith}
-use Rattle.graphql_definitions.specs.DefinitionTree.{definition_tree}
+use Rattle.graphql_folding.specs.in_definitions.DefinitionTree.{definition_tree}
 use Rattle.graphql_folding.specs.Listed.{directives_in}
 use Rattle.graphql_folding.specs.ListedView.{listed_view}
 use Rattle.graphql_schema_folding.specs.ListFold.{definitions_of}

@@ -1,7 +1,7 @@
 use Rattle.std.proofs.Common.{◌++◌, [], ◌∷◌, is_some, sym, ap, ◌∙◌}
 use Rattle.std.proofs.lemmas.Result.{IfOk-weaker}
 use Rattle.graphql_names.specs.Placed.{name_tree}
-use Rattle.graphql_definitions.specs.DefinitionTree.{root_tree}
+use Rattle.graphql_folding.specs.in_definitions.DefinitionTree.{root_tree}
 use Rattle.graphql_components.specs.Given.{component_tree, origin_tree}
 use Rattle.graphql_folding.specs.BuildErrors.{DuplicateRootOperation}
 use Rattle.graphql_folding.specs.FaultView.{faults_of}

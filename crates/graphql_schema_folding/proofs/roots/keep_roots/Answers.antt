@@ -1,6 +1,6 @@
 use Rattle.std.proofs.Common.{◌<◌, ◌∷◌, [], ◌++◌, take, length, sym, ap, ◌∙◌, arith}
 use Rattle.std.proofs.lemmas.List.{map_more}
-use Rattle.graphql_definitions.specs.DefinitionTree.{root_tree}
+use Rattle.graphql_folding.specs.in_definitions.DefinitionTree.{root_tree}
 use Rattle.graphql_components.specs.Given.{component_tree}
 use Rattle.graphql_folding.specs.FaultView.{faults_of}
 use Rattle.graphql_folding.specs.SchemaFold.{root_key}

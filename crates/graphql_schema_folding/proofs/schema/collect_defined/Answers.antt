@@ -1,7 +1,7 @@
 use Rattle.std.proofs.Common.{[], ◌∷◌, None, map, sym, ◌∙◌}
 use Rattle.graphql_names.specs.Placed.{node_tree}
 use Rattle.graphql_directives.specs.DirectiveTree.{directives_tree}
-use Rattle.graphql_definitions.specs.DefinitionTree.{root_tree, schema_parts}
+use Rattle.graphql_folding.specs.in_definitions.DefinitionTree.{root_tree, schema_parts}
 use Rattle.graphql_schema_folding.specs.ListFold.{Parts}
 use Rattle.graphql_schema_folding.specs.RootFold.{all_and}
 use Rattle.graphql_schema_folding.proofs.Gathering.{all_push}

@@ -3,7 +3,7 @@ use Rattle.std.specs.List.{flat_map}
 use Rattle.std.specs.Option.{option_map}
 use Rattle.graphql_names.specs.Node.{place}
 use Rattle.graphql_names.specs.Placed.{text_tree}
-use Rattle.graphql_definitions.specs.DefinitionTree.{schema_parts}
+use Rattle.graphql_folding.specs.in_definitions.DefinitionTree.{schema_parts}
 use Rattle.graphql_folding.specs.SchemaFold.{extends_schema}
 use Rattle.graphql_folding.specs.ListedView.{listed_view}
 use Rattle.graphql_schema_folding.specs.RootFold.{all_from, made_from}

@@ -1,6 +1,6 @@
 use Rattle.std.proofs.Common.{◌++◌, [], sym, ap, subst, option_to_list}
 use Rattle.std.proofs.lemmas.Result.{IfOk-weaker}
-use Rattle.graphql_definitions.specs.DefinitionTree.{definition_tree}
+use Rattle.graphql_folding.specs.in_definitions.DefinitionTree.{definition_tree}
 use Rattle.graphql_folding.specs.in_schema_types.SchemaView.{types_view}
 use Rattle.graphql_folding.specs.FaultView.{faults_of}
 use Rattle.graphql_schema_folding.specs.Filing.{extensions_under, FoldsOn}

@@ -1,6 +1,6 @@
 use Rattle.std.proofs.Common.{◌≡◌, ◌++◌, map, take, Some}
 use Rattle.graphql_directives.specs.DirectiveTree.{directive_tree}
-use Rattle.graphql_definitions.specs.DefinitionTree.{definition_tree}
+use Rattle.graphql_schema_types.specs.in_definitions.DefinitionTree.{definition_tree}
 use Rattle.graphql_components.specs.Given.{extension_tree}
 use Rattle.graphql_schema_types.specs.TypeView.{schema_roots}
 use Rattle.graphql_schema_writing.specs.Filed.{filed_under}

@@ -1,5 +1,5 @@
 use Rattle.std.proofs.Common.{◌≡◌, ◌++◌, map, take, Some}
-use Rattle.graphql_definitions.specs.DefinitionTree.{definition_tree}
+use Rattle.graphql_schema_types.specs.in_definitions.DefinitionTree.{definition_tree}
 use Rattle.graphql_components.specs.Given.{extension_tree, place_of}
 use Rattle.graphql_schema_writing.specs.Contents.{extended_from}
 use Rattle.graphql_schema_writing.specs.ContentsView.{contents_view, filed_parts}

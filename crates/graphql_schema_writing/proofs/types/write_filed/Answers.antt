@@ -1,6 +1,6 @@
 use Rattle.std.proofs.Common.{map, ◌∙◌}
 use Rattle.std.proofs.lemmas.Result.{IfOk-weaker}
-use Rattle.graphql_definitions.specs.DefinitionTree.{definition_tree}
+use Rattle.graphql_schema_types.specs.in_definitions.DefinitionTree.{definition_tree}
 use Rattle.graphql_schema_writing.specs.ContentsView.{contents_view, filed_parts}
 use Rattle.graphql_schema_writing.proofs.Written.{type_written}
 use Rattle.graphql_schema_writing.proofs.types.write_filed.Goals as goal

@@ -1,6 +1,6 @@
 use Rattle.std.proofs.Common.{List, [], ◌∷◌, ◌++◌, codes, map, ap, ◌∙◌}
 use Rattle.graphql_names.specs.Placed.{Place}
-use Rattle.graphql_lexer.proofs.LineSteps.{on_ok_then}
+use Rattle.graphql_read.proofs.in_lexer.LineSteps.{on_ok_then}
 use Rattle.graphql_definitions.specs.DefinitionTree.{DefinitionTree, definition_tree}
 use Rattle.graphql_thin.specs.Fold.{built_in_scalar}
 use Rattle.graphql_thin.proofs.Appended.{five_appended}

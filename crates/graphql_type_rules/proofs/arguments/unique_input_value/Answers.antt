@@ -6,9 +6,9 @@ use Rattle.graphql_names.specs.Placed.{node_tree}
 use Rattle.graphql_directives.specs.DirectiveTree.{input_value_tree}
 use Rattle.graphql_directives.specs.declared.input_value.InputValueDefinition.{InputValueDefinition}
 use Rattle.graphql_fault_data.specs.FaultView.{faults_of}
-use Rattle.graphql_rule_definitions.specs.Diagnostics.{UniqueInputValue}
-use Rattle.graphql_rule_definitions.specs.Faults.{wrong}
-use Rattle.graphql_rule_definitions.specs.Told.{PlacedFault}
+use Rattle.graphql_fault_data.specs.in_rule_definitions.Diagnostics.{UniqueInputValue}
+use Rattle.graphql_fault_data.specs.in_rule_definitions.Faults.{wrong}
+use Rattle.graphql_fault_data.specs.in_rule_definitions.Told.{PlacedFault}
 use Rattle.graphql_type_rules.specs.FaultLists.{first_named}
 use Rattle.graphql_type_rules.proofs.SeenFacts.{told_seen, place}
 use Rattle.graphql_type_rules.proofs.arguments.unique_input_value.Goals as goal

@@ -2,7 +2,7 @@ use Rattle.std.proofs.Common.{◌≡◌, [], ◌∷◌, map, None, ap, ◌∙◌
 use Rattle.std.proofs.lemmas.List.{map-append}
 use Rattle.indexmap.specs.IndexMap.{get, insert_entry}
 use Rattle.indexmap.proofs.CallerLemmas.{insert_entry-new}
-use Rattle.graphql_components.specs.Names.{same_text}
+use Rattle.graphql_schema_types.specs.in_components.Names.{same_text}
 use Rattle.graphql_schema_types.specs.TypeView.{name_text}
 use Rattle.graphql_typing.specs.StepsView.{fragment_meaning}
 use Rattle.graphql_typing.proofs.KnownNames.{known-under, none-of}

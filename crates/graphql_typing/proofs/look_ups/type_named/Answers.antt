@@ -1,6 +1,6 @@
 use Rattle.std.proofs.Common.{◌≡◌, Option, None, Some, refl, sym, ap, ◌∙◌, Bor}
 use Rattle.std.specs.Option.{option_map, option_copied}
-use Rattle.graphql_components.proofs.NamedLookups.{get-named}
+use Rattle.graphql_schema_types.proofs.in_components.NamedLookups.{get-named}
 use Rattle.graphql_schema_types.specs.Plain.{plain_type}
 use Rattle.graphql_schema_types.specs.TypeView.{extended_type, name_text}
 use Rattle.graphql_typing.proofs.look_ups.type_named.Goals as goal

@@ -5,9 +5,9 @@ use Rattle.graphql_directives.specs.DirectiveTree.{directive_tree}
 use Rattle.graphql_value_rules.specs.in_schema.in_schema_types.Addresses.{place_at}
 use Rattle.graphql_value_rules.specs.in_fault_data.FaultView.{faults_of}
 use Rattle.graphql_value_rules.specs.in_schema.SchemaOf.{schema_tree}
-use Rattle.graphql_rule_definitions.specs.Judged.{judged}
-use Rattle.graphql_rule_definitions.specs.Uses.{UseBreaks}
-use Rattle.graphql_rule_definitions.specs.Words.{AtSomeIndex}
+use Rattle.graphql_value_rules.specs.in_rule_definitions.Judged.{judged}
+use Rattle.graphql_value_rules.specs.in_rule_definitions.Uses.{UseBreaks}
+use Rattle.graphql_value_rules.specs.in_rule_definitions.Words.{AtSomeIndex}
 use Rattle.graphql_value_rules.specs.in_fault_data.Adds.{Adds}
 use Rattle.graphql_value_rules.specs.Wanting.{variables_of}
 use Rattle.graphql_use_rules.specs.Trees.{directives_of}

@@ -6,8 +6,8 @@ use Rattle.graphql_directives.specs.declared.directive.Directive.{Directive}
 use Rattle.graphql_value_rules.specs.in_schema.in_schema_types.Addresses.{place_at, directive_definition_at}
 use Rattle.graphql_value_rules.specs.in_schema.SchemaOf.{schema_tree}
 use Rattle.graphql_value_rules.specs.in_fault_data.FaultView.{faults_of}
-use Rattle.graphql_rule_definitions.specs.Judged.{judged}
-use Rattle.graphql_rule_definitions.specs.Uses.{GivenBreaks}
+use Rattle.graphql_value_rules.specs.in_rule_definitions.Judged.{judged}
+use Rattle.graphql_value_rules.specs.in_rule_definitions.Uses.{GivenBreaks}
 use Rattle.graphql_value_rules.specs.in_fault_data.Adds.{Adds}
 use Rattle.graphql_value_rules.specs.Wanting.{variables_of}
 use Rattle.graphql_use_rules.specs.Trees.{arguments_of}

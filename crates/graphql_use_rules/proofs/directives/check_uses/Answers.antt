@@ -3,7 +3,7 @@ use Rattle.graphql_components.specs.Lists.{each_place}
 use Rattle.graphql_value_rules.specs.in_schema.in_schema_types.Addresses.{directive_definition_at}
 use Rattle.graphql_value_rules.specs.in_fault_data.FaultView.{faults_of}
 use Rattle.graphql_value_rules.specs.in_schema.SchemaOf.{schema_tree}
-use Rattle.graphql_rule_definitions.specs.Uses.{directive_name}
+use Rattle.graphql_value_rules.specs.in_rule_definitions.Uses.{directive_name}
 use Rattle.graphql_value_rules.specs.Wanting.{variables_of}
 use Rattle.graphql_use_rules.specs.Trees.{directives_of}
 use Rattle.graphql_use_rules.specs.UseFaults.{repeated_directive}

@@ -6,8 +6,8 @@ use Rattle.graphql_directives.specs.declared.directive.Directive.{Directive}
 use Rattle.graphql_value_rules.specs.in_schema.in_schema_types.Addresses.{directive_definition_at}
 use Rattle.graphql_value_rules.specs.in_schema.SchemaOf.{schema_tree}
 use Rattle.graphql_value_rules.specs.in_fault_data.FaultView.{faults_of}
-use Rattle.graphql_rule_definitions.specs.Uses.{directive_name}
-use Rattle.graphql_rule_definitions.specs.Told.{PlacedFault}
+use Rattle.graphql_value_rules.specs.in_rule_definitions.Uses.{directive_name}
+use Rattle.graphql_value_rules.specs.in_rule_definitions.Told.{PlacedFault}
 use Rattle.graphql_value_rules.specs.Firsts.{first_told}
 use Rattle.graphql_value_rules.proofs.Noted.{noted_next}
 use Rattle.graphql_use_rules.specs.Trees.{directives_of}

@@ -2,7 +2,7 @@ use Rattle.std.proofs.Common.{◌<◌, length, refl, ap, arith}
 use Rattle.graphql_names.specs.Placed.{node_tree}
 use Rattle.graphql_directives.specs.DirectiveTree.{argument_tree}
 use Rattle.graphql_directives.specs.declared.directive.Argument.{Argument}
-use Rattle.graphql_rule_definitions.specs.Uses.{argument_name}
+use Rattle.graphql_value_rules.specs.in_rule_definitions.Uses.{argument_name}
 use Rattle.graphql_value_rules.proofs.Noted.{noted_next}
 use Rattle.graphql_use_rules.proofs.given.argument_numbers.Goals as goal
 

@@ -1,5 +1,5 @@
 use Rattle.std.proofs.Common.{take}
-use Rattle.graphql_rule_definitions.specs.Uses.{argument_name}
+use Rattle.graphql_value_rules.specs.in_rule_definitions.Uses.{argument_name}
 use Rattle.graphql_value_rules.specs.Firsts.{AreNumbers}
 use Rattle.graphql_use_rules.specs.Trees.{arguments_of}
 use Rattle.graphql_use_rules.proofs.given.argument_numbers.Given as goal

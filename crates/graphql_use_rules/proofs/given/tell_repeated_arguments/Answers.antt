@@ -4,7 +4,7 @@ use Rattle.graphql_names.specs.Placed.{node_tree}
 use Rattle.graphql_directives.specs.DirectiveTree.{argument_tree}
 use Rattle.graphql_directives.specs.declared.directive.Argument.{Argument}
 use Rattle.graphql_value_rules.specs.in_fault_data.FaultView.{faults_of}
-use Rattle.graphql_rule_definitions.specs.Uses.{argument_name}
+use Rattle.graphql_value_rules.specs.in_rule_definitions.Uses.{argument_name}
 use Rattle.graphql_value_rules.specs.Firsts.{first_told}
 use Rattle.graphql_value_rules.proofs.Noted.{noted_next}
 use Rattle.graphql_use_rules.specs.Trees.{arguments_of}

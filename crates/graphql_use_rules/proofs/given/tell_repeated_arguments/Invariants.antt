@@ -1,7 +1,7 @@
 use Rattle.std.proofs.Common.{◌≡◌, ◌++◌, take}
 use Rattle.graphql_components.specs.Lists.{each_place}
 use Rattle.graphql_value_rules.specs.in_fault_data.FaultView.{faults_of}
-use Rattle.graphql_rule_definitions.specs.Uses.{argument_name}
+use Rattle.graphql_value_rules.specs.in_rule_definitions.Uses.{argument_name}
 use Rattle.graphql_value_rules.specs.Firsts.{AreFirsts}
 use Rattle.graphql_use_rules.specs.Trees.{arguments_of}
 use Rattle.graphql_use_rules.specs.UseFaults.{repeated_argument}

@@ -1,5 +1,5 @@
-use Rattle.graphql_rule_definitions.specs.Judged.{judged}
-use Rattle.graphql_rule_definitions.specs.Rules.{extension_places_at}
+use Rattle.graphql_value_rules.specs.in_rule_definitions.Judged.{judged}
+use Rattle.graphql_value_rules.specs.in_rule_definitions.Rules.{extension_places_at}
 use Rattle.graphql_use_rules.proofs.SpottedUses.{uses_told}
 use Rattle.graphql_use_rules.proofs.SchemaTold.{schema_uses_told}
 use Rattle.graphql_use_rules.proofs.laws.uses_are_told_in_place.Goals as goal

@@ -11,7 +11,7 @@ use Rattle.graphql_value_rules.specs.in_schema.in_schema_types.declared.type_kin
 use Rattle.graphql_value_rules.specs.in_schema.SchemaOf.{schema_tree}
 use Rattle.graphql_value_rules.specs.in_fault_data.FaultView.{faults_of}
 use Rattle.graphql_value_rules.specs.in_fault_data.Adds.{Adds}
-use Rattle.graphql_rule_definitions.specs.Rules.{type_location}
+use Rattle.graphql_value_rules.specs.in_rule_definitions.Rules.{type_location}
 use Rattle.graphql_use_rules.specs.SchemaUses.{UsesAt, is_built_in_scalar}
 use Rattle.graphql_use_rules.proofs.Listing.{gains_same}
 use Rattle.graphql_use_rules.proofs.SchemaSteps.{own_judged, first_fails, second_fails}

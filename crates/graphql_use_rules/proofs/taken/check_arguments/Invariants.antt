@@ -1,6 +1,6 @@
 use Rattle.std.proofs.Common.{take}
 use Rattle.graphql_value_rules.specs.in_schema.SchemaOf.{schema_tree}
-use Rattle.graphql_rule_definitions.specs.Words.{AtSomeIndex}
+use Rattle.graphql_value_rules.specs.in_rule_definitions.Words.{AtSomeIndex}
 use Rattle.graphql_value_rules.specs.in_fault_data.Adds.{Adds}
 use Rattle.graphql_value_rules.specs.Wanting.{variables_of}
 use Rattle.graphql_use_rules.specs.Trees.{arguments_of, inputs_of}

@@ -1,5 +1,5 @@
 use Rattle.std.proofs.Common.{take}
-use Rattle.graphql_rule_definitions.specs.Uses.{input_name}
+use Rattle.graphql_value_rules.specs.in_rule_definitions.Uses.{input_name}
 use Rattle.graphql_value_rules.specs.Firsts.{AreNumbers}
 use Rattle.graphql_use_rules.specs.Trees.{inputs_of}
 use Rattle.graphql_use_rules.proofs.taken.definition_numbers.Given as goal

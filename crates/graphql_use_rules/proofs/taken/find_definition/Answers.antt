@@ -1,7 +1,7 @@
 use Rattle.std.proofs.Common.{◌∙◌}
 use Rattle.graphql_names.specs.Placed.{node_tree}
 use Rattle.graphql_directives.specs.DirectiveTree.{input_value_tree}
-use Rattle.graphql_rule_definitions.specs.Uses.{input_name}
+use Rattle.graphql_value_rules.specs.in_rule_definitions.Uses.{input_name}
 use Rattle.graphql_value_rules.proofs.Noted.{taken, number_absent, number_there}
 use Rattle.graphql_use_rules.proofs.taken.find_definition.Goals as goal
 

@@ -8,8 +8,8 @@ use Rattle.graphql_directives.specs.DirectiveTree.{argument_tree, input_value_tr
 use Rattle.graphql_directives.specs.declared.directive.Argument.{Argument}
 use Rattle.graphql_operations.specs.OperationTree.{variable_definition_tree}
 use Rattle.graphql_operations.specs.declared.operation.VariableDefinition.{VariableDefinition}
-use Rattle.graphql_rule_definitions.specs.Told.{PlacedFault}
-use Rattle.graphql_rule_definitions.specs.Uses.{IsVariableUsageAllowed}
+use Rattle.graphql_value_rules.specs.in_rule_definitions.Told.{PlacedFault}
+use Rattle.graphql_value_rules.specs.in_rule_definitions.Uses.{IsVariableUsageAllowed}
 use Rattle.graphql_value_rules.specs.Wanting.{variables_of}
 use Rattle.graphql_use_rules.specs.Steps.{Lists, DisallowedUsage}
 use Rattle.graphql_use_rules.proofs.Known.{usage_unknown, usage_fine, usage_told}

@@ -1,5 +1,5 @@
 use Rattle.std.proofs.Common.{◌≡◌, drop, find, bytes_eq}
-use Rattle.graphql_rule_definitions.specs.Values.{defined_name}
+use Rattle.graphql_value_rules.specs.in_rule_definitions.Values.{defined_name}
 use Rattle.graphql_value_rules.specs.Wanting.{variables_of}
 use Rattle.graphql_use_rules.proofs.usage.find_variable.Given as goal
 

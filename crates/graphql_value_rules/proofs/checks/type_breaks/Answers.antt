@@ -4,8 +4,8 @@ use Rattle.graphql_literals.specs.TypeTree.{type_tree}
 use Rattle.graphql_literals.specs.ValueTree.{value_tree}
 use Rattle.graphql_fault_data.specs.in_schema.SchemaOf.{schema_tree}
 use Rattle.graphql_fault_data.specs.in_schema.in_schema_types.Addresses.{place_at}
-use Rattle.graphql_rule_definitions.specs.Judged.{judged}
-use Rattle.graphql_rule_definitions.specs.Values.{TypeBreaks}
+use Rattle.graphql_fault_data.specs.in_rule_definitions.Judged.{judged}
+use Rattle.graphql_fault_data.specs.in_rule_definitions.Values.{TypeBreaks}
 use Rattle.graphql_value_rules.specs.Wanting.{wanted_type, variables_of}
 use Rattle.graphql_value_rules.specs.ValueFaults.{type_faults}
 use Rattle.graphql_value_rules.proofs.Adding.{adds_told}

@@ -1,7 +1,7 @@
 use Rattle.std.proofs.lemmas.Result.{on_ok_weaker}
 use Rattle.graphql_names.specs.Node.{content, place}
 use Rattle.graphql_literals.specs.ValueTree.{value_tree}
-use Rattle.graphql_rule_definitions.specs.Values.{UndefinedVariableIn}
+use Rattle.graphql_fault_data.specs.in_rule_definitions.Values.{UndefinedVariableIn}
 use Rattle.graphql_value_rules.specs.Wanting.{variables_of}
 use Rattle.graphql_value_rules.specs.VariableFaults.{variable_faults}
 use Rattle.graphql_value_rules.proofs.Adding.{adds_told}

@@ -1,7 +1,7 @@
 use Rattle.std.proofs.lemmas.Result.{on_ok_weaker}
 use Rattle.graphql_names.specs.Node.{content}
 use Rattle.graphql_literals.specs.ValueTree.{value_tree}
-use Rattle.graphql_rule_definitions.specs.Values.{UniqueInputValueIn}
+use Rattle.graphql_fault_data.specs.in_rule_definitions.Values.{UniqueInputValueIn}
 use Rattle.graphql_value_rules.specs.KeyFaults.{key_faults}
 use Rattle.graphql_value_rules.proofs.Adding.{adds_told}
 use Rattle.graphql_value_rules.proofs.KeysTold.{keys_told}

@@ -1,6 +1,6 @@
 use Rattle.std.proofs.Common.{ap, ◌∙◌}
 use Rattle.graphql_names.specs.Placed.{Place, Text}
-use Rattle.graphql_literals.specs.TypeQueries.{inner_name}
+use Rattle.graphql_typing.specs.in_literals.TypeQueries.{inner_name}
 use Rattle.graphql_schema_types.specs.TypeView.{extended_type}
 use Rattle.graphql_schema_types.specs.Addresses.{type_at}
 use Rattle.graphql_typing.specs.in_schema.SchemaOf.{schema_tree}

@@ -1,7 +1,7 @@
 use Rattle.std.proofs.Common.{◌++◌, map, ap, ◌∙◌}
 use Rattle.std.proofs.lemmas.Result.{IfOk-weaker}
 use Rattle.graphql_names.specs.Placed.{node_tree}
-use Rattle.graphql_components.specs.Given.{origin_tree}
+use Rattle.graphql_schema_types.specs.in_components.Given.{origin_tree}
 use Rattle.graphql_folding.specs.Components.{all_given}
 use Rattle.graphql_folding.specs.PartsView.{itself, given_contents}
 use Rattle.graphql_folding.proofs.Collecting.{all_added}

@@ -1,9 +1,9 @@
 use Rattle.std.proofs.Common.{List, ◌++◌, map, refl, ap, ◌∙◌}
 use Rattle.graphql_names.specs.Placed.{Placed, Place, Text}
 use Rattle.graphql_directives.specs.DirectiveTree.{InputValueTree, directive_tree, input_value_tree}
-use Rattle.graphql_type_members.specs.TypeSystemTree.{FieldDefinitionTree, EnumValueTree, field_definition_tree, enum_value_tree}
-use Rattle.graphql_components.specs.Lists.{firsts, repeats}
-use Rattle.graphql_components.specs.Given.{component_tree, component_name_tree, given_name}
+use Rattle.graphql_schema_types.specs.in_type_members.TypeSystemTree.{FieldDefinitionTree, EnumValueTree, field_definition_tree, enum_value_tree}
+use Rattle.graphql_schema_types.specs.in_components.Lists.{firsts, repeats}
+use Rattle.graphql_schema_types.specs.in_components.Given.{component_tree, component_name_tree, given_name}
 use Rattle.graphql_folding.specs.BuildErrors.{Fault}
 use Rattle.graphql_folding.specs.Components.{keyed_firsts, field_key, value_key, input_key}
 use Rattle.graphql_folding.specs.FaultView.{faults_of}

@@ -1,5 +1,5 @@
 use Rattle.std.proofs.Common.{[], ◌∷◌, ◌++◌, map, ap, ◌∙◌}
-use Rattle.graphql_definitions.specs.DefinitionTree.{definition_tree}
+use Rattle.graphql_schema_folding.specs.in_definitions.DefinitionTree.{definition_tree}
 use Rattle.graphql_schema_folding.specs.in_folding.ListedView.{listed_view}
 use Rattle.graphql_schema_building.specs.TextsView.{texts_view}
 use Rattle.graphql_schema_building.proofs.Adding.{adds_one}

@@ -1,6 +1,6 @@
 use Rattle.std.proofs.Common.{◌<◌, ◌+◌, [], ◌∷◌, ◌++◌, map, take, drop, length, sym, subst, arith}
 use Rattle.std.proofs.lemmas.Result.{err_from_is_err_and}
-use Rattle.graphql_definitions.specs.DefinitionTree.{definition_tree}
+use Rattle.graphql_schema_folding.specs.in_definitions.DefinitionTree.{definition_tree}
 use Rattle.graphql_schema_building.specs.TextsView.{texts_view}
 use Rattle.graphql_schema_building.specs.TextsList.{Adds, IsListRefusal}
 use Rattle.graphql_schema_building.proofs.Adding.{adds_then, refusal_more}

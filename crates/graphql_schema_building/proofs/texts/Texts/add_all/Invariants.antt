@@ -1,5 +1,5 @@
 use Rattle.std.proofs.Common.{map, take}
-use Rattle.graphql_definitions.specs.DefinitionTree.{definition_tree}
+use Rattle.graphql_schema_folding.specs.in_definitions.DefinitionTree.{definition_tree}
 use Rattle.graphql_schema_building.specs.TextsView.{texts_view}
 use Rattle.graphql_schema_building.specs.TextsList.{Adds}
 use Rattle.graphql_schema_building.proofs.texts.Texts.add_all.Given as goal

@@ -1,7 +1,7 @@
 use Rattle.std.proofs.Common.{◌||◌, refl, sym, ap, ◌∙◌}
 use Rattle.std.specs.Option.{option_map}
 use Rattle.std.proofs.lemmas.Result.{IfOk-weaker}
-use Rattle.graphql_definitions.specs.DefinitionTree.{definition_tree}
+use Rattle.graphql_folding.specs.in_definitions.DefinitionTree.{definition_tree}
 use Rattle.graphql_folding.specs.Made.{defined_view}
 use Rattle.graphql_schema_folding.specs.Seen.{Seen}
 use Rattle.graphql_schema_folding.specs.SeenView.{seen_view}

@@ -7,7 +7,7 @@ use Rattle.graphql_typing.specs.TypingFaults.{TypingFails}
 use Rattle.graphql_typing.specs.FaultView.{faults_of}
 use Rattle.graphql_typing.specs.Steps.{Typed, typed_in}
 use Rattle.graphql_typing.specs.StepsView.{typed_view}
-use Rattle.graphql_components.proofs.Places.{not_in_nil}
+use Rattle.graphql_schema_types.proofs.in_components.Places.{not_in_nil}
 use Rattle.graphql_typing.specs.OutDoc.{written_document}
 use Rattle.graphql_typing.specs.TypedByPlace.{IsTypedDocument}
 use Rattle.graphql_typing.proofs.DocumentMeant.{document-meant}

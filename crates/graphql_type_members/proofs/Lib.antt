@@ -1,0 +1,1 @@
+pub use Rattle.graphql_values.proofs as in_values
