@@ -1,7 +1,7 @@
 //! What the definition of a type and its extensions give.
 ghost use Rattle.std.specs.Prelude.{◌≡◌, ◌&&◌, ◌++◌, [], ◌∷◌, map, None, OnOk};
 ghost use Rattle.std.specs.List.{flat_map};
-ghost use Rattle.graphql_folding.specs.Components.{go_together, extension_here};
+ghost use Rattle.graphql_folding.specs.Components.{extension_here};
 ghost use Rattle.graphql_folding.specs.PartsView.{parts_view};
 ghost use Rattle.graphql_folding.specs.ListedView.{listed_view};
 ghost use Rattle.graphql_folding.specs.Collected.{collected, collected_from, Collects};
@@ -40,18 +40,11 @@ fn collect_extension(
     match extension_parts(&listed.definition) {
         None => Ok(()),
         Some(parts) => {
-            if is_together(defined, &parts) {
+            if *defined.name == *parts.name && defined.kind.is(parts.kind) {
                 all.add(listed.origin(), &parts)
             } else {
                 Ok(())
             }
         }
     }
-}
-
-/// Whether the parts are of the same name and kind.
-fn is_together(defined: &Parts<'_>, parts: &Parts<'_>) -> bool
-    ensures { result ≡ go_together (parts_view defined.now) (parts_view parts.now) }
-{
-    *defined.name == *parts.name && defined.kind.is(parts.kind)
 }

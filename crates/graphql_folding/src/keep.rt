@@ -1,10 +1,9 @@
 //! The first component of each name.
-ghost use Rattle.std.specs.Prelude.{◌≡◌, ◌++◌, [], ◌∷◌, map, IfOk, OnOk, None};
-ghost use Rattle.indexmap.specs.IndexMap.{get};
+ghost use Rattle.std.specs.Prelude.{◌≡◌, ◌++◌, [], map, OnOk};
 ghost use Rattle.graphql_names.specs.NameValue.{NameValue};
 ghost use Rattle.graphql_names.specs.Node.{content};
 ghost use Rattle.graphql_schema_types.specs.in_components.Lists.{firsts, repeats};
-ghost use Rattle.graphql_schema_types.specs.in_components.Names.{entries_of, same_text};
+ghost use Rattle.graphql_schema_types.specs.in_components.Names.{entries_of};
 ghost use Rattle.graphql_schema_types.specs.in_components.Given.{component_tree, component_name_tree, given_name};
 ghost use Rattle.graphql_schema_types.specs.TypeView.{name_text};
 ghost use Rattle.graphql_folding.specs.Components.{keyed_firsts};
@@ -13,6 +12,7 @@ ghost use Rattle.graphql_folding.specs.PartsView.{itself, given_contents};
 ghost use Rattle.graphql_folding.specs.Keeping.{content_key, component_fault, name_fault, KeepsOn, KeepsNames};
 
 use crate::build_error::{BuildError, Repeat, note_repeat};
+use crate::insert::insert_new;
 use graphql_directives::InputValueDefinition;
 use graphql_names::{Name, SourceSpan};
 use graphql_schema_types::{Component, ComponentName, EnumValueDefinition, FieldDefinition};
@@ -83,25 +83,10 @@ fn keep_or_tell<T: Keyed + Drop>(
 {
     let name = component.node.content().key();
     if kept.contains_key(name) {
-        note_repeat(faults, repeat, type_name, name, component.node.location())
-    } else {
-        keep_component(kept, name, component)
+        return note_repeat(faults, repeat, type_name, name, component.node.location());
     }
-}
-
-/// Keeps a component that no other has the name of.
-fn keep_component<T: Keyed + Drop>(
-    kept: &mut IndexMap<Name, Component<T>>,
-    name: &Name,
-    component: &Component<T>,
-) -> Result<(), AllocError>
-    requires { get (same_text name_text) kept.old name.now ≡ None }
-    ensures { OnOk result (entries_of name_text (component_tree itself) kept.new ≡ entries_of name_text (component_tree itself) kept.old ++ (name.now.text, component_tree itself component.now) ∷ []) }
-{
-    let component = component.clone()?;
-    let name = name.clone()?;
-    kept.insert(name, component)?;
-    Ok(())
+    let shared = component.clone()?;
+    insert_new(kept, name, shared)
 }
 
 /// Keeps the first component of each name, shared, and tells the others.
