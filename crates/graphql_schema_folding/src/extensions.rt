@@ -7,8 +7,7 @@ ghost use Rattle.graphql_folding.specs.in_schema_types.TypeView.{name_text};
 ghost use Rattle.graphql_folding.specs.ListedView.{listed_view};
 ghost use Rattle.graphql_schema_folding.specs.Filing.{items_under, extensions_under, extensions_named, Files};
 
-use crate::insert::insert_new;
-use graphql_folding::{Listed, extension_parts};
+use graphql_folding::{Listed, extension_parts, insert_new};
 use graphql_names::Name;
 use indexmap::IndexMap;
 use std::alloc::{AllocError, Global};

@@ -12,9 +12,8 @@ ghost use Rattle.graphql_schema_folding.specs.OwnNames.{TypesUnderOwnNames};
 ghost use Rattle.graphql_schema_folding.specs.Filing.{extensions_under, types_by, faults_by, FoldsOn};
 
 use crate::extensions::{extensions_of, index_extensions};
-use crate::insert::insert_new;
 use graphql_folding::{
-    BuildError, Defined, Definition, ExtendedType, Listed, fold_type, type_definition,
+    BuildError, Defined, Definition, ExtendedType, Listed, fold_type, insert_new, type_definition,
 };
 use graphql_names::{Name, SourceSpan};
 use indexmap::IndexMap;
