@@ -15,7 +15,7 @@ use graphql_schema_types::{Definition, EnumValueDefinition, FieldDefinition, Typ
 
 /// What a definition or an extension gives to its type. Interfaces, fields, members, values and input fields
 /// are empty where the kind has none.
-#[derive(Clone, Copy)]
+#[derive(Drop)]
 pub struct Parts<'a> {
     pub kind: TypeKind,
     pub name: &'a Name,
@@ -28,7 +28,7 @@ pub struct Parts<'a> {
 }
 
 /// The definition of a type: where it stands, its description, and what it gives.
-#[derive(Clone, Copy)]
+#[derive(Drop)]
 pub struct Defined<'a> {
     pub location: Option<SourceSpan>,
     pub description: Option<&'a NodeStr>,

@@ -64,18 +64,10 @@ impl SchemaComponents {
         ensures { OnOk result (CollectsParts (all_of_schema self.old) (flat_map extends_schema (map listed_view list.now)) (all_of_schema self.new)) }
     {
         for listed in list {
-            self.add_extension(listed)?;
+            if let Some(parts) = schema_extension(&listed.definition) {
+                self.add(listed.origin(), &parts.directives, &parts.root_operations)?;
+            }
         }
         Ok(())
-    }
-
-    /// Adds what is given here, if it is an extension of the schema.
-    fn add_extension(&mut self, listed: &Listed) -> Result<(), AllocError>
-        ensures { OnOk result (CollectsParts (all_of_schema self.old) (extends_schema (listed_view listed.now)) (all_of_schema self.new)) }
-    {
-        match schema_extension(&listed.definition) {
-            None => Ok(()),
-            Some(parts) => self.add(listed.origin(), &parts.directives, &parts.root_operations),
-        }
     }
 }
