@@ -11,8 +11,7 @@ use Rattle.graphql_schema_types.specs.in_components.declared.component.Component
 use Rattle.graphql_schema_types.specs.TypeParts.{TypeParts}
 use Rattle.graphql_folding.specs.Components.{all_given}
 use Rattle.graphql_folding.specs.PartsView.{itself, given_contents, parts_view}
-use Rattle.graphql_folding.specs.Collected.{AllComponents, class_from, collected, collected_from, collected_and, Collects}
-use Rattle.graphql_folding.specs.Listed.{Listed}
+use Rattle.graphql_folding.specs.Collected.{AllComponents, class_from, collected, collected_from, collected_and}
 use Rattle.graphql_folding.specs.declared.collected.Collected.{Collected}
 use Rattle.graphql_folding.specs.declared.parts.Parts.{Parts as PartsRef}
 
@@ -74,14 +73,3 @@ all_added old new e p directives interfaces fields members values inputs = λ i.
   values = added_grown enum_value_tree new.values.items old.values.items e p.values.now values i;
   inputs = added_grown input_value_tree new.inputs.items old.inputs.items e p.inputs.now inputs i;
 }
-
--- nothing more, and one more
-pub collects_none : (all : AllComponents) → Collects all [] all
-collects_none all gs is = is ∙ ap collected_from (sym (append-nil gs))
-
-pub collects_one : (all all' : AllComponents) (g : Parts) → all' ≡ collected_and all g → Collects all (g ∷ []) all'
-collects_one all all' g step gs is = step ∙ ap (λ a. collected_and a g) is ∙ sym (collected_push gs g)
-
--- a turn of the loop over extensions
-pub collects_more : (first : Parts) (f : Listed → List Parts) (ls : List Listed) (l : Listed) (all all' : AllComponents) → all ≡ collected_from (first ∷ flat_map f ls) → Collects all (f l) all' → all' ≡ collected_from (first ∷ flat_map f (ls ++ l ∷ []))
-collects_more first f ls l all all' is step = step (first ∷ flat_map f ls) is ∙ ap (λ gs. collected_from (first ∷ gs)) (sym (flat_map-push f ls l))

@@ -52,7 +52,3 @@ collected_and all g = record {
   values = all.values ++ all_given g.extension g.it.values;
   inputs = all.inputs ++ all_given g.extension g.it.inputs;
 }
-
--- where all components were those of some parts, they now are those of these parts too
-abbrev pub Collects : AllComponents → List (Given Place (TypeParts Place)) → AllComponents → Type 0
-Collects all more all' = (gs : List (Given Place (TypeParts Place))) → all ≡ collected_from gs → all' ≡ collected_from (gs ++ more)

@@ -121,6 +121,18 @@ impl Repeat {
     }
 }
 
+/// Tells what is wrong at that place.
+pub fn tell(
+    faults: &mut Vec<(Option<SourceSpan>, BuildError)>,
+    location: Option<SourceSpan>,
+    error: BuildError,
+) -> Result<(), AllocError>
+    ensures { OnOk result (faults_of faults.new ≡ faults_of faults.old ++ record { place = location; breach = breach_of error } ∷ []) }
+{
+    faults.push((location, error))?;
+    Ok(())
+}
+
 /// Tells that an earlier component of the type has the name of the one at that place.
 pub(crate) fn note_repeat(
     faults: &mut Vec<(Option<SourceSpan>, BuildError)>,
@@ -133,6 +145,5 @@ pub(crate) fn note_repeat(
 {
     let type_name = type_name.clone()?;
     let name = name.clone()?;
-    faults.push((location, repeat.error(type_name, name)))?;
-    Ok(())
+    tell(faults, location, repeat.error(type_name, name))
 }

@@ -1,7 +1,7 @@
 //! All that a type is given, repeated components too.
-ghost use Rattle.std.specs.Prelude.{◌≡◌, ◌++◌, [], map, IfOk, OnOk};
+ghost use Rattle.std.specs.Prelude.{◌≡◌, ◌++◌, [], map, OnOk};
 ghost use Rattle.graphql_names.specs.Placed.{name_tree, node_tree};
-ghost use Rattle.graphql_schema_types.specs.in_components.Given.{origin_tree, component_tree, component_name_tree};
+ghost use Rattle.graphql_schema_types.specs.in_components.Given.{origin_tree, component_name_tree};
 ghost use Rattle.graphql_folding.specs.Components.{all_given};
 ghost use Rattle.graphql_folding.specs.PartsView.{itself, given_contents, parts_view};
 ghost use Rattle.graphql_folding.specs.Collected.{collected, collected_from, collected_and};
@@ -14,21 +14,8 @@ use graphql_schema_types::{
 };
 use std::alloc::{AllocError, Global};
 
-/// The node, shared, from that origin.
-fn shared_component<T: Drop>(
-    origin: ComponentOrigin,
-    node: &Node<T>,
-) -> Result<Component<T>, AllocError>
-    ensures { IfOk result (λ c. component_tree itself c ≡ record { extension = origin_tree origin; it = node_tree itself node.now }) }
-{
-    Ok(Component {
-        origin,
-        node: node.clone()?,
-    })
-}
-
-/// Adds these nodes, from that origin.
-pub(crate) fn add_components<T: Drop>(
+/// Adds these nodes, shared, from that origin.
+pub fn add_components<T: Drop>(
     all: &mut Vec<Component<T>>,
     origin: ComponentOrigin,
     nodes: &[Node<T>],
@@ -36,8 +23,8 @@ pub(crate) fn add_components<T: Drop>(
     ensures { OnOk result (given_contents all.new.items ≡ given_contents all.old.items ++ all_given (origin_tree origin) (map (node_tree itself) nodes.now)) }
 {
     for node in nodes {
-        let component = shared_component(origin, node)?;
-        all.push(component)?;
+        let node = node.clone()?;
+        all.push(Component::new(origin, node))?;
     }
     Ok(())
 }

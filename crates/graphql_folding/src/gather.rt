@@ -1,10 +1,10 @@
 //! What the definition of a type and its extensions give.
 ghost use Rattle.std.specs.Prelude.{◌≡◌, ◌&&◌, ◌++◌, [], ◌∷◌, map, None, OnOk};
 ghost use Rattle.std.specs.List.{flat_map};
-ghost use Rattle.graphql_folding.specs.Components.{go_together, extension_here};
+ghost use Rattle.graphql_folding.specs.Components.{extension_here};
 ghost use Rattle.graphql_folding.specs.PartsView.{parts_view};
 ghost use Rattle.graphql_folding.specs.ListedView.{listed_view};
-ghost use Rattle.graphql_folding.specs.Collected.{collected, collected_from, Collects};
+ghost use Rattle.graphql_folding.specs.Collected.{collected, collected_from};
 
 use crate::collected::Collected;
 use crate::listed::Listed;
@@ -13,7 +13,7 @@ use graphql_schema_types::ComponentOrigin;
 use std::alloc::AllocError;
 
 /// Collects all components of a type, where nothing was: those of its definition, and then those of each of these that
-/// extends it, in order.
+/// extends it and is of its kind, in order.
 pub(crate) fn collect_type(
     defined: &Parts<'_>,
     list: &[Listed],
@@ -24,34 +24,11 @@ pub(crate) fn collect_type(
 {
     all.add(ComponentOrigin::Definition, defined)?;
     for listed in list {
-        collect_extension(defined, listed, all)?;
-    }
-    Ok(())
-}
-
-/// Adds what is given here, if it is an extension of that type and of its kind.
-fn collect_extension(
-    defined: &Parts<'_>,
-    listed: &Listed,
-    all: &mut Collected,
-) -> Result<(), AllocError>
-    ensures { OnOk result (Collects (collected all.old) (extension_here (parts_view defined.now) (listed_view listed.now)) (collected all.new)) }
-{
-    match extension_parts(&listed.definition) {
-        None => Ok(()),
-        Some(parts) => {
-            if is_together(defined, &parts) {
-                all.add(listed.origin(), &parts)
-            } else {
-                Ok(())
+        if let Some(parts) = extension_parts(&listed.definition) {
+            if *defined.name == *parts.name && defined.kind.is(parts.kind) {
+                all.add(listed.origin(), &parts)?;
             }
         }
     }
-}
-
-/// Whether the parts are of the same name and kind.
-fn is_together(defined: &Parts<'_>, parts: &Parts<'_>) -> bool
-    ensures { result ≡ go_together (parts_view defined.now) (parts_view parts.now) }
-{
-    *defined.name == *parts.name && defined.kind.is(parts.kind)
+    Ok(())
 }

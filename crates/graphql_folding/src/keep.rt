@@ -1,18 +1,17 @@
 //! The first component of each name.
-ghost use Rattle.std.specs.Prelude.{◌≡◌, ◌++◌, [], ◌∷◌, map, IfOk, OnOk, None};
-ghost use Rattle.indexmap.specs.IndexMap.{get};
+ghost use Rattle.std.specs.Prelude.{◌≡◌, ◌++◌, [], map, OnOk};
 ghost use Rattle.graphql_names.specs.NameValue.{NameValue};
-ghost use Rattle.graphql_names.specs.Node.{content};
 ghost use Rattle.graphql_schema_types.specs.in_components.Lists.{firsts, repeats};
-ghost use Rattle.graphql_schema_types.specs.in_components.Names.{entries_of, same_text};
+ghost use Rattle.graphql_schema_types.specs.in_components.Names.{entries_of};
 ghost use Rattle.graphql_schema_types.specs.in_components.Given.{component_tree, component_name_tree, given_name};
 ghost use Rattle.graphql_schema_types.specs.TypeView.{name_text};
 ghost use Rattle.graphql_folding.specs.Components.{keyed_firsts};
 ghost use Rattle.graphql_folding.specs.FaultView.{faults_of};
 ghost use Rattle.graphql_folding.specs.PartsView.{itself, given_contents};
-ghost use Rattle.graphql_folding.specs.Keeping.{content_key, component_fault, name_fault, KeepsOn, KeepsNames};
+ghost use Rattle.graphql_folding.specs.Keeping.{content_key, component_fault, name_fault};
 
 use crate::build_error::{BuildError, Repeat, note_repeat};
+use crate::insert::insert_new;
 use graphql_directives::InputValueDefinition;
 use graphql_names::{Name, SourceSpan};
 use graphql_schema_types::{Component, ComponentName, EnumValueDefinition, FieldDefinition};
@@ -66,41 +65,14 @@ pub(crate) fn keep_components<T: Keyed + Drop>(
     ensures faults { OnOk result (faults_of faults.new ≡ faults_of faults.old ++ map (component_fault T.key_of repeat type_name.now.text) (repeats (content_key T.key_of) (given_contents all.now))) }
 {
     for component in all {
-        keep_or_tell(type_name, repeat, component, kept, faults)?;
+        let name = component.node.content().key();
+        if kept.contains_key(name) {
+            note_repeat(faults, repeat, type_name, name, component.node.location())?;
+        } else {
+            let shared = component.clone()?;
+            insert_new(kept, name, shared)?;
+        }
     }
-    Ok(())
-}
-
-/// Keeps a component behind those before it, or tells that an earlier one has its name.
-fn keep_or_tell<T: Keyed + Drop>(
-    type_name: &Name,
-    repeat: Repeat,
-    component: &Component<T>,
-    kept: &mut IndexMap<Name, Component<T>>,
-    faults: &mut Vec<(Option<SourceSpan>, BuildError)>,
-) -> Result<(), AllocError>
-    ensures { OnOk result (KeepsOn (content_key T.key_of) (component_fault T.key_of repeat type_name.now.text) (component_tree itself component.now) (entries_of name_text (component_tree itself) kept.old) (faults_of faults.old) (entries_of name_text (component_tree itself) kept.new) (faults_of faults.new)) }
-{
-    let name = component.node.content().key();
-    if kept.contains_key(name) {
-        note_repeat(faults, repeat, type_name, name, component.node.location())
-    } else {
-        keep_component(kept, name, component)
-    }
-}
-
-/// Keeps a component that no other has the name of.
-fn keep_component<T: Keyed + Drop>(
-    kept: &mut IndexMap<Name, Component<T>>,
-    name: &Name,
-    component: &Component<T>,
-) -> Result<(), AllocError>
-    requires { get (same_text name_text) kept.old name.now ≡ None }
-    ensures { OnOk result (entries_of name_text (component_tree itself) kept.new ≡ entries_of name_text (component_tree itself) kept.old ++ (name.now.text, component_tree itself component.now) ∷ []) }
-{
-    let component = component.clone()?;
-    let name = name.clone()?;
-    kept.insert(name, component)?;
     Ok(())
 }
 
@@ -117,31 +89,12 @@ pub(crate) fn keep_names(
     ensures faults { OnOk result (faults_of faults.new ≡ faults_of faults.old ++ map (name_fault repeat type_name.now.text) (repeats given_name (map component_name_tree all.now))) }
 {
     for component in all {
-        keep_or_tell_name(type_name, repeat, component, kept, faults)?;
+        if kept.contains(component) {
+            let name = &component.name;
+            note_repeat(faults, repeat, type_name, name, name.location())?;
+        } else {
+            kept.insert(component.clone()?)?;
+        }
     }
     Ok(())
-}
-
-/// Keeps a name behind those before it, or tells that it is among them.
-fn keep_or_tell_name(
-    type_name: &Name,
-    repeat: Repeat,
-    component: &ComponentName,
-    kept: &mut IndexSet<ComponentName>,
-    faults: &mut Vec<(Option<SourceSpan>, BuildError)>,
-) -> Result<(), AllocError>
-    ensures { OnOk result (KeepsNames given_name (name_fault repeat type_name.now.text) (component_name_tree component.now) (map component_name_tree kept.old.keys) (faults_of faults.old) (map component_name_tree kept.new.keys) (faults_of faults.new)) }
-{
-    if kept.contains(component) {
-        note_repeat(
-            faults,
-            repeat,
-            type_name,
-            &component.name,
-            component.name.location(),
-        )
-    } else {
-        kept.insert(component.clone()?)?;
-        Ok(())
-    }
 }

@@ -11,16 +11,19 @@ mod build_error_text;
 mod collected;
 mod fold;
 mod gather;
+mod insert;
 mod keep;
 mod kept_classes;
 mod listed;
 mod make;
 mod parts;
 
-pub use build_error::{BuildError, Repeat};
+pub use build_error::{BuildError, Repeat, tell};
+pub use collected::add_components;
 pub use fold::fold_type;
 pub use graphql_schema_types::{
-    Definition, Document, ExtendedType, SchemaDefinition, SourceFile, TypeKind,
+    Definition, Document, ExtendedType, SchemaDefinition, SourceFile, TypeKind, node_at,
 };
+pub use insert::insert_new;
 pub use listed::Listed;
 pub use parts::{Defined, Parts, extension_parts, type_definition};

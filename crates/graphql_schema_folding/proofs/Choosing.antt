@@ -32,6 +32,15 @@ definitions_more xs i d h = ap definitions_of (map_more listed_view xs i d h) �
 pub directives_append : (xs ys : Definitions) → directives_in (xs ++ ys) ≡ directives_in xs ++ directives_in ys
 directives_append xs ys = flat_map-append (λ d. option_to_list (directive_here d)) xs ys
 
+-- the directives of one more of a list
+pub directives_more : (xs : List RustListed) (i : ℕ) (x : RustListed) (o : Option Directive) → i < length xs → x ≡ get_or xs i x → o ≡ directive_here (definition_tree x.definition)
+    → directives_in (definitions_of (map listed_view (take (i + 1) xs))) ≡ directives_in (definitions_of (map listed_view (take i xs))) ++ (option_to_list o ++ [])
+directives_more xs i x o h is here =
+    let before = definitions_of (map listed_view (take i xs)) in
+    ap directives_in (definitions_more xs i x h ∙ ap (λ y. before ++ definition_tree y.definition ∷ []) (sym is))
+    ∙ directives_append before (definition_tree x.definition ∷ [])
+    ∙ ap (λ p. directives_in before ++ (option_to_list p ++ [])) (sym here)
+
 -- the first of a name is the first of it among the firsts
 module _ {X : Type 0} (key : X → List ℕ) where
   abbrev first_here : List X → X → List X

@@ -1,5 +1,4 @@
 -- What contracts see of directive definitions (private: it leads to `specs/DirectiveFold.antt`).
-use Rattle.std.specs.Prelude.{List, map}
 use Rattle.graphql_names.specs.NameValue.{NameValue}
 use Rattle.graphql_names.specs.declared.node.Node.{Node}
 use Rattle.graphql_names.specs.Placed.{node_tree}
@@ -12,9 +11,6 @@ use Rattle.indexmap.specs.IndexMap.{IndexMap}
 
 abbrev pub directive_view : Node DirectiveDefinition → Directive
 directive_view n = node_tree directive_definition_tree n
-
-abbrev pub directives_view : List (Node DirectiveDefinition) → List Directive
-directives_view ns = map directive_view ns
 
 -- a map of definitions, in order
 abbrev pub entries_view : {S : Type 0} → IndexMap NameValue (Node DirectiveDefinition) S → Entries Directive

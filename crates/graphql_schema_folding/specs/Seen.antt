@@ -113,7 +113,18 @@ orphan_schema_told schema_is_defined d = told_where (is_some (schema_extension_h
 abbrev pub faults_at : DefinitionTree Place → Option Breach → List Fault
 faults_at d told = map (At d) (option_to_list told)
 
+abbrev pub faults_where : Place → Option Breach → List Fault
+faults_where place told = map (λ breach. record { place = place; breach = breach }) (option_to_list told)
+
 module _ (built_in own : Seen) where
+  -- the faults of a type that is defined at that place, by its name
+  abbrev pub type_faults : Place → List ℕ → List Fault
+  type_faults place n = faults_where place (collision_told built_in own n) ++ faults_where place (redefinition_told built_in n)
+
+  -- those of one that is extended there
+  abbrev pub type_extension_faults : Place → List ℕ → TypeKind → List Fault
+  type_extension_faults place n kind = faults_where place (orphan_told built_in own n) ++ faults_where place (mismatch_told built_in own n kind)
+
   -- the faults of a definition, where these are seen before it
   abbrev pub definition_faults : DefinitionTree Place → List Fault
   definition_faults d =

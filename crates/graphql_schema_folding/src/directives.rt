@@ -1,23 +1,22 @@
 //! What the definitions of directives fold to.
-ghost use Rattle.std.specs.Prelude.{◌≡◌, ◌++◌, ◌∷◌, [], None, Some, map, IfOk, OnOk};
+ghost use Rattle.std.specs.Prelude.{◌≡◌, ◌++◌, ◌∷◌, [], None, map, option_copied, IfOk, OnOk};
+ghost use Rattle.std.specs.Option.{option_map};
 ghost use Rattle.indexmap.specs.IndexMap.{get};
-ghost use Rattle.graphql_names.specs.Node.{content};
 ghost use Rattle.graphql_components.specs.Names.{same_text};
 ghost use Rattle.graphql_folding.specs.in_schema_types.TypeView.{name_text};
 ghost use Rattle.graphql_folding.specs.in_definitions.DefinitionTree.{definition_tree};
-ghost use Rattle.graphql_folding.specs.Listed.{directive_name, directives_in};
+ghost use Rattle.graphql_folding.specs.Listed.{directive_here, directive_name, directives_in};
 ghost use Rattle.graphql_folding.specs.Components.{keyed_firsts};
 ghost use Rattle.graphql_folding.specs.Fold.{folded_directives};
 ghost use Rattle.graphql_folding.specs.FaultView.{faults_of};
-ghost use Rattle.graphql_folding.specs.BuildErrors.{DirectiveDefinitionCollision};
 ghost use Rattle.graphql_folding.specs.Keeping.{KeepsOn};
 ghost use Rattle.graphql_folding.specs.ListedView.{listed_view};
 ghost use Rattle.graphql_schema_folding.specs.ListFold.{definitions_of};
 ghost use Rattle.graphql_schema_folding.specs.DirectiveFold.{directive_fault, directive_faults, chosen_of, chosen_firsts, Chooses, TellsDirectives};
-ghost use Rattle.graphql_schema_folding.specs.DirectivesView.{directive_view, directives_view, entries_view};
+ghost use Rattle.graphql_schema_folding.specs.DirectivesView.{directive_view, entries_view};
 
 use graphql_directives::DirectiveDefinition;
-use graphql_folding::{BuildError, Definition, Listed};
+use graphql_folding::{BuildError, Definition, Listed, insert_new, tell};
 use graphql_names::{Name, Node, SourceSpan};
 use indexmap::IndexMap;
 use std::alloc::{AllocError, Global};
@@ -34,9 +33,8 @@ pub fn fold_directives(
     ensures faults { OnOk result (faults_of faults.new ≡ faults_of faults.old ++ directive_faults (directives_in (definitions_of (map listed_view texts.now)))) }
     ensures tells { OnOk result (TellsDirectives (definitions_of (map listed_view built_in.now)) (definitions_of (map listed_view texts.now)) (faults_of faults.old) (faults_of faults.new)) }
 {
-    let own = directives_of(alloc, texts)?;
-    let named = keep_directives(alloc, &own, faults)?;
-    choose_directives(alloc, &named, built_in, &own)
+    let own = keep_directives(alloc, texts, faults)?;
+    choose_directives(alloc, &own, built_in, texts)
 }
 
 /// Chooses a definition for each name of what is built in and of the texts.
@@ -44,69 +42,40 @@ fn choose_directives(
     alloc: Global,
     own: &IndexMap<Name, Node<DirectiveDefinition>>,
     built_in: &[Listed],
-    texts: &[Node<DirectiveDefinition>],
+    texts: &[Listed],
 ) -> Result<IndexMap<Name, Node<DirectiveDefinition>>, AllocError>
-    ensures { IfOk result (λ m. entries_view m ≡ chosen_firsts (entries_view own.now) (directives_in (definitions_of (map listed_view built_in.now)) ++ directives_view texts.now)) }
+    ensures { IfOk result (λ m. entries_view m ≡ chosen_firsts (entries_view own.now) (directives_in (definitions_of (map listed_view built_in.now)) ++ directives_in (definitions_of (map listed_view texts.now)))) }
 {
     let mut chosen = IndexMap::new(alloc);
-    choose_built_in(alloc, own, built_in, &mut chosen)?;
+    choose_all(own, built_in, &mut chosen)?;
     choose_all(own, texts, &mut chosen)?;
     Ok(chosen)
 }
 
-/// Chooses a definition for each new name of the list.
-fn choose_built_in(
-    alloc: Global,
-    own: &IndexMap<Name, Node<DirectiveDefinition>>,
-    list: &[Listed],
-    chosen: &mut IndexMap<Name, Node<DirectiveDefinition>>,
-) -> Result<(), AllocError>
-    ensures { OnOk result (Chooses (entries_view own.now) (directives_in (definitions_of (map listed_view list.now))) (entries_view chosen.old) (entries_view chosen.new)) }
-{
-    let nodes = directives_of(alloc, list)?;
-    choose_all(own, &nodes, chosen)
-}
-
-/// The definitions of directives of the list, shared, in order.
-fn directives_of(
-    alloc: Global,
-    list: &[Listed],
-) -> Result<Vec<Node<DirectiveDefinition>>, AllocError>
-    ensures { IfOk result (λ v. directives_view v.items ≡ directives_in (definitions_of (map listed_view list.now))) }
-{
-    let mut all = Vec::new(alloc);
-    for listed in list {
-        add_directive(&mut all, &listed.definition)?;
-    }
-    Ok(all)
-}
-
-/// Adds the definition, if it is one of a directive.
-fn add_directive(all: &mut Vec<Node<DirectiveDefinition>>, d: &Definition) -> Result<(), AllocError>
-    ensures { OnOk result (directives_view all.new.items ≡ directives_view all.old.items ++ directives_in (definition_tree d.now ∷ [])) }
+/// The definition of a directive, if it is one.
+fn directive_definition(d: &Definition) -> Option<&Node<DirectiveDefinition>>
+    ensures { option_map directive_view (option_copied result) ≡ directive_here (definition_tree d.now) }
 {
     match d {
-        Definition::DirectiveDefinition(node) => {
-            let node = node.clone()?;
-            all.push(node)?;
-            Ok(())
-        }
-        _ => Ok(()),
+        Definition::DirectiveDefinition(node) => Some(node),
+        _ => None,
     }
 }
 
 /// Keeps the first definition of each name, and tells the others.
 fn keep_directives(
     alloc: Global,
-    own: &[Node<DirectiveDefinition>],
+    list: &[Listed],
     faults: &mut Vec<(Option<SourceSpan>, BuildError)>,
 ) -> Result<IndexMap<Name, Node<DirectiveDefinition>>, AllocError>
-    ensures kept { IfOk result (λ m. entries_view m ≡ keyed_firsts directive_name (directives_view own.now)) }
-    ensures faults { OnOk result (faults_of faults.new ≡ faults_of faults.old ++ directive_faults (directives_view own.now)) }
+    ensures kept { IfOk result (λ m. entries_view m ≡ keyed_firsts directive_name (directives_in (definitions_of (map listed_view list.now)))) }
+    ensures faults { OnOk result (faults_of faults.new ≡ faults_of faults.old ++ directive_faults (directives_in (definitions_of (map listed_view list.now)))) }
 {
     let mut kept = IndexMap::new(alloc);
-    for node in own {
-        keep_directive(&mut kept, node, faults)?;
+    for listed in list {
+        if let Some(node) = directive_definition(&listed.definition) {
+            keep_directive(&mut kept, node, faults)?;
+        }
     }
     Ok(kept)
 }
@@ -121,23 +90,14 @@ fn keep_directive(
 {
     let name = &node.content().name;
     if kept.contains_key(name) {
-        directive_definition_collision(faults, name, node.location())
-    } else {
-        insert_directive(kept, name, node)
+        let name = name.clone()?;
+        return tell(
+            faults,
+            node.location(),
+            BuildError::DirectiveDefinitionCollision { name },
+        );
     }
-}
-
-/// Tells that an earlier definition has the name.
-fn directive_definition_collision(
-    faults: &mut Vec<(Option<SourceSpan>, BuildError)>,
-    name: &Name,
-    location: Option<SourceSpan>,
-) -> Result<(), AllocError>
-    ensures { OnOk result (faults_of faults.new ≡ faults_of faults.old ++ record { place = location; breach = DirectiveDefinitionCollision name.now.text } ∷ []) }
-{
-    let name = name.clone()?;
-    faults.push((location, BuildError::DirectiveDefinitionCollision { name }))?;
-    Ok(())
+    insert_directive(kept, name, node)
 }
 
 /// Inserts a definition, shared, under a name that no other has.
@@ -149,22 +109,22 @@ fn insert_directive(
     requires { get (same_text name_text) kept.old name.now ≡ None }
     ensures { OnOk result (entries_view kept.new ≡ entries_view kept.old ++ (name.now.text, directive_view node.now) ∷ []) }
 {
-    let name = name.clone()?;
-    let node = node.clone()?;
-    kept.insert(name, node)?;
-    Ok(())
+    let shared = node.clone()?;
+    insert_new(kept, name, shared)
 }
 
-/// Chooses a definition for each new name of these.
+/// Chooses a definition for each new name of the list.
 fn choose_all(
     own: &IndexMap<Name, Node<DirectiveDefinition>>,
-    nodes: &[Node<DirectiveDefinition>],
+    list: &[Listed],
     chosen: &mut IndexMap<Name, Node<DirectiveDefinition>>,
 ) -> Result<(), AllocError>
-    ensures { OnOk result (Chooses (entries_view own.now) (directives_view nodes.now) (entries_view chosen.old) (entries_view chosen.new)) }
+    ensures { OnOk result (Chooses (entries_view own.now) (directives_in (definitions_of (map listed_view list.now))) (entries_view chosen.old) (entries_view chosen.new)) }
 {
-    for node in nodes {
-        choose(own, node, chosen)?;
+    for listed in list {
+        if let Some(node) = directive_definition(&listed.definition) {
+            choose(own, node, chosen)?;
+        }
     }
     Ok(())
 }

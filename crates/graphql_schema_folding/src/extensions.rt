@@ -5,15 +5,14 @@ ghost use Rattle.indexmap.specs.IndexMap.{get};
 ghost use Rattle.graphql_components.specs.Names.{same_text};
 ghost use Rattle.graphql_folding.specs.in_schema_types.TypeView.{name_text};
 ghost use Rattle.graphql_folding.specs.ListedView.{listed_view};
-ghost use Rattle.graphql_schema_folding.specs.Filing.{items_under, extensions_under, extensions_named, Files};
+ghost use Rattle.graphql_schema_folding.specs.Filing.{items_under, extensions_under, extensions_named};
 
-use crate::insert::insert_new;
-use graphql_folding::{Listed, extension_parts};
+use graphql_folding::{Listed, extension_parts, insert_new};
 use graphql_names::Name;
 use indexmap::IndexMap;
 use std::alloc::{AllocError, Global};
 
-/// The extensions of types of the list, shared, under the names of their types, in order.
+/// The extensions of types of the list, shared, with their numbers, under the names of their types, in order.
 pub(crate) fn index_extensions(
     alloc: Global,
     list: &[Listed],
@@ -22,36 +21,15 @@ pub(crate) fn index_extensions(
 {
     let mut index = IndexMap::new(alloc);
     for listed in list {
-        file_extension(alloc, &mut index, listed)?;
-    }
-    Ok(index)
-}
-
-/// Adds the definition behind those of its name, if it is an extension of a type.
-fn file_extension(
-    alloc: Global,
-    index: &mut IndexMap<Name, Vec<Listed>>,
-    listed: &Listed,
-) -> Result<(), AllocError>
-    ensures { OnOk result (Files (extensions_under index.old) (listed_view listed.now ∷ []) (extensions_under index.new)) }
-{
-    match extension_parts(&listed.definition) {
-        None => Ok(()),
-        Some(parts) => {
-            let shared = share(listed)?;
-            push_under(alloc, index, parts.name, shared)
+        if let Some(parts) = extension_parts(&listed.definition) {
+            let shared = Listed {
+                definition: listed.definition.clone()?,
+                extension: listed.extension,
+            };
+            push_under(alloc, &mut index, parts.name, shared)?;
         }
     }
-}
-
-/// The definition, shared, with its number.
-fn share(listed: &Listed) -> Result<Listed, AllocError>
-    ensures { IfOk result (λ l. listed_view l ≡ listed_view listed.now) }
-{
-    Ok(Listed {
-        definition: listed.definition.clone()?,
-        extension: listed.extension,
-    })
+    Ok(index)
 }
 
 /// Adds an item behind those under the name.

@@ -5,8 +5,6 @@ ghost use Rattle.graphql_names.specs.Placed.{node_tree};
 ghost use Rattle.graphql_directives.specs.DirectiveTree.{directives_tree};
 ghost use Rattle.graphql_folding.specs.in_definitions.DefinitionTree.{root_tree};
 ghost use Rattle.graphql_components.specs.Given.{origin_tree};
-ghost use Rattle.graphql_folding.specs.Components.{all_given};
-ghost use Rattle.graphql_folding.specs.PartsView.{itself, given_contents};
 ghost use Rattle.graphql_folding.specs.ListedView.{listed_view};
 ghost use Rattle.graphql_folding.specs.SchemaFold.{extends_schema};
 ghost use Rattle.graphql_schema_folding.specs.RootFold.{all_from, all_and, CollectsParts};
@@ -15,26 +13,11 @@ ghost use Rattle.graphql_schema_folding.specs.RootsView.{all_of_schema};
 use crate::defined::schema_extension;
 use graphql_components::{Component, ComponentOrigin};
 use graphql_directives::{Directive, DirectiveList};
-use graphql_folding::Listed;
+use graphql_folding::{Listed, add_components};
 use graphql_literals::NamedType;
 use graphql_names::Node;
 use graphql_operations::OperationType;
 use std::alloc::{AllocError, Global};
-
-/// Adds these nodes, shared, from that origin.
-fn add_given<T: Drop>(
-    all: &mut Vec<Component<T>>,
-    origin: ComponentOrigin,
-    nodes: &[Node<T>],
-) -> Result<(), AllocError>
-    ensures { OnOk result (given_contents all.new.items ≡ given_contents all.old.items ++ all_given (origin_tree origin) (map (node_tree itself) nodes.now)) }
-{
-    for node in nodes {
-        let node = node.clone()?;
-        all.push(Component::new(origin, node))?;
-    }
-    Ok(())
-}
 
 /// All that the schema definition is given, in order, repeated roots too.
 pub(crate) struct SchemaComponents {
@@ -72,8 +55,8 @@ impl SchemaComponents {
     ) -> Result<(), AllocError>
         ensures { OnOk result (all_of_schema self.new ≡ all_and (all_of_schema self.old) (record { extension = origin_tree origin; it = record { directives = directives_tree directives.now; roots = map (node_tree root_tree) roots.now } })) }
     {
-        add_given(&mut self.directives, origin, &directives.0)?;
-        add_given(&mut self.roots, origin, roots)
+        add_components(&mut self.directives, origin, &directives.0)?;
+        add_components(&mut self.roots, origin, roots)
     }
 
     /// Adds what each schema extension of the list gives, in order.
@@ -81,18 +64,10 @@ impl SchemaComponents {
         ensures { OnOk result (CollectsParts (all_of_schema self.old) (flat_map extends_schema (map listed_view list.now)) (all_of_schema self.new)) }
     {
         for listed in list {
-            self.add_extension(listed)?;
+            if let Some(parts) = schema_extension(&listed.definition) {
+                self.add(listed.origin(), &parts.directives, &parts.root_operations)?;
+            }
         }
         Ok(())
-    }
-
-    /// Adds what is given here, if it is an extension of the schema.
-    fn add_extension(&mut self, listed: &Listed) -> Result<(), AllocError>
-        ensures { OnOk result (CollectsParts (all_of_schema self.old) (extends_schema (listed_view listed.now)) (all_of_schema self.new)) }
-    {
-        match schema_extension(&listed.definition) {
-            None => Ok(()),
-            Some(parts) => self.add(listed.origin(), &parts.directives, &parts.root_operations),
-        }
     }
 }

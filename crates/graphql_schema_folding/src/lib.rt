@@ -16,13 +16,11 @@ mod directives;
 mod extensions;
 mod given;
 mod implicit;
-mod insert;
 mod misplaced;
 mod orphans;
 mod roots;
 mod schema;
 mod seen;
-mod tell;
 mod types;
 
 pub use defined::{first_schema, is_object, schema_extension};

@@ -1,19 +1,17 @@
 //! The rules that are judged by what the whole list defines.
-ghost use Rattle.std.specs.Prelude.{◌≡◌, ◌++◌, map, is_some, IfOk, OnOk};
+ghost use Rattle.std.specs.Prelude.{◌≡◌, ◌++◌, map, is_some, OnOk};
 ghost use Rattle.std.specs.List.{flat_map};
-ghost use Rattle.std.specs.Option.{option_map};
 ghost use Rattle.graphql_folding.specs.in_definitions.DefinitionTree.{definition_tree};
-ghost use Rattle.graphql_folding.specs.FaultView.{faults_of, breach_of};
+ghost use Rattle.graphql_folding.specs.FaultView.{faults_of};
 ghost use Rattle.graphql_folding.specs.ListedView.{listed_view};
 ghost use Rattle.graphql_folding.specs.SchemaFold.{schema_extension_here};
 ghost use Rattle.graphql_schema_folding.specs.ListFold.{definitions_of};
-ghost use Rattle.graphql_schema_folding.specs.Seen.{orphan_schema_told, orphan_told, mismatch_told, orphan_type_told, kind_mismatch_told, extension_faults, schema_seen};
+ghost use Rattle.graphql_schema_folding.specs.Seen.{type_extension_faults, extension_faults};
 ghost use Rattle.graphql_schema_folding.specs.SeenView.{seen_view};
 
 use crate::seen::{Seen, kind_of, schema_is_defined};
-use crate::tell::tell;
-use graphql_folding::{BuildError, Definition, Listed, TypeKind, extension_parts};
-use graphql_names::{Name, SourceSpan};
+use graphql_folding::{BuildError, Definition, Listed, Parts, extension_parts, tell};
+use graphql_names::SourceSpan;
 use std::alloc::AllocError;
 
 /// Tells each extension of the texts whose schema or type is not defined, or is of another kind.
@@ -31,7 +29,8 @@ pub(crate) fn tell_extensions(
     Ok(())
 }
 
-/// Tells what is wrong with an extension, where these are all that are defined.
+/// Tells what is wrong with an extension, where these are all that are defined: a schema that is extended is defined
+/// (section 3.3.2), and so is a type (section 3.4.3).
 fn tell_extension(
     built_in: &Seen,
     own: &Seen,
@@ -40,19 +39,12 @@ fn tell_extension(
 ) -> Result<(), AllocError>
     ensures { OnOk result (faults_of faults.new ≡ faults_of faults.old ++ extension_faults (seen_view built_in.now) (seen_view own.now) (definition_tree d.now)) }
 {
-    tell(faults, d, orphan_schema_extension(built_in, own, d))?;
-    tell(faults, d, orphan_type_extension(built_in, own, d)?)?;
-    tell(faults, d, type_extension_kind_mismatch(built_in, own, d)?)
-}
-
-/// A schema that is extended is defined (section 3.3.2).
-fn orphan_schema_extension(built_in: &Seen, own: &Seen, d: &Definition) -> Option<BuildError>
-    ensures { option_map breach_of result ≡ orphan_schema_told (schema_seen (seen_view built_in.now) (seen_view own.now)) (definition_tree d.now) }
-{
     if is_schema_extension(d) && !schema_is_defined(built_in, own) {
-        Some(BuildError::OrphanSchemaExtension)
-    } else {
-        None
+        return tell(faults, d.location(), BuildError::OrphanSchemaExtension);
+    }
+    match extension_parts(d) {
+        None => Ok(()),
+        Some(parts) => tell_type_extension(built_in, own, &parts, d.location(), faults),
     }
 }
 
@@ -63,67 +55,31 @@ fn is_schema_extension(d: &Definition) -> bool
     matches!(d, Definition::SchemaExtension(_))
 }
 
-/// A type that is extended is defined (section 3.4.3).
-fn orphan_type_extension(
+/// Tells that no type of that name is defined, or one of another kind (sections 3.5 to 3.10).
+fn tell_type_extension(
     built_in: &Seen,
     own: &Seen,
-    d: &Definition,
-) -> Result<Option<BuildError>, AllocError>
-    ensures { IfOk result (λ e. option_map breach_of e ≡ orphan_type_told (seen_view built_in.now) (seen_view own.now) (definition_tree d.now)) }
+    parts: &Parts<'_>,
+    location: Option<SourceSpan>,
+    faults: &mut Vec<(Option<SourceSpan>, BuildError)>,
+) -> Result<(), AllocError>
+    ensures { OnOk result (faults_of faults.new ≡ faults_of faults.old ++ type_extension_faults (seen_view built_in.now) (seen_view own.now) location parts.now.name.now.text parts.now.kind) }
 {
-    match extension_parts(d) {
-        None => Ok(None),
-        Some(parts) => orphan_of_name(built_in, own, parts.name),
-    }
-}
-
-/// What is wrong with an extension of the type of that name, if none is defined.
-fn orphan_of_name(
-    built_in: &Seen,
-    own: &Seen,
-    name: &Name,
-) -> Result<Option<BuildError>, AllocError>
-    ensures { IfOk result (λ e. option_map breach_of e ≡ orphan_told (seen_view built_in.now) (seen_view own.now) name.now.text) }
-{
-    if kind_of(built_in, own, name).is_some() {
-        Ok(None)
-    } else {
-        let name = name.clone()?;
-        Ok(Some(BuildError::OrphanTypeExtension { name }))
-    }
-}
-
-/// An extension is of the kind of its type (sections 3.5 to 3.10).
-fn type_extension_kind_mismatch(
-    built_in: &Seen,
-    own: &Seen,
-    d: &Definition,
-) -> Result<Option<BuildError>, AllocError>
-    ensures { IfOk result (λ e. option_map breach_of e ≡ kind_mismatch_told (seen_view built_in.now) (seen_view own.now) (definition_tree d.now)) }
-{
-    match extension_parts(d) {
-        None => Ok(None),
-        Some(parts) => mismatch_of_name(built_in, own, parts.name, parts.kind),
-    }
-}
-
-/// What is wrong with an extension of that kind of the type of that name, if that is of another kind.
-fn mismatch_of_name(
-    built_in: &Seen,
-    own: &Seen,
-    name: &Name,
-    kind: TypeKind,
-) -> Result<Option<BuildError>, AllocError>
-    ensures { IfOk result (λ e. option_map breach_of e ≡ mismatch_told (seen_view built_in.now) (seen_view own.now) name.now.text kind) }
-{
-    match kind_of(built_in, own, name) {
-        None => Ok(None),
+    match kind_of(built_in, own, parts.name) {
+        None => {
+            let name = parts.name.clone()?;
+            tell(faults, location, BuildError::OrphanTypeExtension { name })
+        }
         Some(defined) => {
-            if defined.is(kind) {
-                return Ok(None);
+            if defined.is(parts.kind) {
+                return Ok(());
             }
-            let name = name.clone()?;
-            Ok(Some(BuildError::TypeExtensionKindMismatch { name }))
+            let name = parts.name.clone()?;
+            tell(
+                faults,
+                location,
+                BuildError::TypeExtensionKindMismatch { name },
+            )
         }
     }
 }

@@ -1,15 +1,14 @@
 //! The first root of each operation.
-ghost use Rattle.std.specs.Prelude.{◌≡◌, ◌++◌, ◌∷◌, [], IfOk, OnOk, is_some};
+ghost use Rattle.std.specs.Prelude.{◌≡◌, ◌++◌, IfOk, OnOk, is_some};
 ghost use Rattle.graphql_folding.specs.in_definitions.DefinitionTree.{root_tree};
 ghost use Rattle.graphql_components.specs.Given.{component_tree, component_name_tree};
 ghost use Rattle.graphql_folding.specs.FaultView.{faults_of};
-ghost use Rattle.graphql_folding.specs.BuildErrors.{DuplicateRootOperation};
 ghost use Rattle.graphql_schema_folding.specs.ListFold.{root_faults};
 ghost use Rattle.graphql_schema_folding.specs.RootFold.{root_for, with_root, first_roots, KeepsRoot};
 ghost use Rattle.graphql_schema_folding.specs.RootsView.{root_names, roots_given_by};
 
 use graphql_components::{Component, ComponentName};
-use graphql_folding::BuildError;
+use graphql_folding::{BuildError, tell};
 use graphql_literals::NamedType;
 use graphql_names::SourceSpan;
 use graphql_operations::OperationType;
@@ -66,7 +65,7 @@ pub(crate) fn keep_roots(
     Ok(kept)
 }
 
-/// Keeps a root behind those before it, or tells that its operation has one.
+/// Keeps a root behind those before it, or tells that its operation has one (section 3.3.1).
 fn keep_root(
     kept: &mut Roots,
     root: &Component<(OperationType, NamedType)>,
@@ -76,24 +75,15 @@ fn keep_root(
 {
     let (operation, name) = root.node.content();
     if kept.has(*operation) {
-        return duplicate_root_operation(faults, *operation, root.node.location());
+        return tell(
+            faults,
+            root.node.location(),
+            BuildError::DuplicateRootOperation {
+                operation_type: *operation,
+            },
+        );
     }
     let name = name.clone()?;
     kept.set(*operation, ComponentName::new(root.origin, name));
-    Ok(())
-}
-
-/// Tells that the operation has a root already (section 3.3.1).
-fn duplicate_root_operation(
-    faults: &mut Vec<(Option<SourceSpan>, BuildError)>,
-    operation_type: OperationType,
-    location: Option<SourceSpan>,
-) -> Result<(), AllocError>
-    ensures { OnOk result (faults_of faults.new ≡ faults_of faults.old ++ record { place = location; breach = DuplicateRootOperation operation_type } ∷ []) }
-{
-    faults.push((
-        location,
-        BuildError::DuplicateRootOperation { operation_type },
-    ))?;
     Ok(())
 }

@@ -11,14 +11,14 @@ ghost use Rattle.graphql_folding.specs.FaultView.{faults_of};
 ghost use Rattle.graphql_folding.specs.ListedView.{listed_view};
 ghost use Rattle.graphql_schema_folding.specs.ListFold.{parts_given, roots_from, implicit_parts, schema_from, schema_of, root_faults, IsFoldOf, TellsRoots};
 ghost use Rattle.graphql_schema_folding.specs.RootFold.{all_from, made_from};
-ghost use Rattle.graphql_schema_folding.specs.RootsView.{all_of_schema, schema_made};
+ghost use Rattle.graphql_schema_folding.specs.RootsView.{all_of_schema};
 
 use crate::defined::first_schema;
 use crate::given::SchemaComponents;
 use crate::implicit::add_implicit_roots;
 use crate::roots::keep_roots;
 use graphql_components::{ComponentOrigin, DirectiveList};
-use graphql_folding::{BuildError, Listed, SchemaDefinition};
+use graphql_folding::{BuildError, Listed, SchemaDefinition, node_at};
 use graphql_input_types::SchemaDefinition as SchemaNode;
 use graphql_names::{Node, NodeStr, SourceSpan};
 use graphql_type_members::clone_description;
@@ -55,8 +55,7 @@ fn fold_defined(
 {
     let mut all = collect_defined(alloc, defined.content(), list)?;
     let description = clone_description(&defined.content().description)?;
-    let made = make_schema(alloc, description, &mut all, faults)?;
-    Ok(defined.same_location(alloc, made)?)
+    make_schema(alloc, defined.location(), description, &mut all, faults)
 }
 
 /// Folds the implicit roots and, where there is one, each schema extension of the list.
@@ -69,8 +68,7 @@ fn fold_implicit(
     ensures faults { OnOk result (faults_of faults.new ≡ faults_of faults.old ++ root_faults (roots_from (implicit_parts (map listed_view list.now)))) }
 {
     let mut all = collect_implicit(alloc, list)?;
-    let made = make_schema(alloc, None, &mut all, faults)?;
-    Ok(Node::new(alloc, made)?)
+    make_schema(alloc, None, None, &mut all, faults)
 }
 
 /// What a schema definition and each schema extension of the list gives.
@@ -104,23 +102,25 @@ fn collect_implicit(alloc: Global, list: &[Listed]) -> Result<SchemaComponents, 
     Ok(all)
 }
 
-/// The schema definition that is made of these: the first root of each operation, and all applied directives, which
-/// are taken.
+/// The schema definition at that place that is made of these: the first root of each operation, and all applied
+/// directives, which are taken.
 fn make_schema(
     alloc: Global,
+    location: Option<SourceSpan>,
     description: Option<NodeStr>,
     all: &mut SchemaComponents,
     faults: &mut Vec<(Option<SourceSpan>, BuildError)>,
-) -> Result<SchemaDefinition, AllocError>
-    ensures made { IfOk result (λ s. (p : _) → schema_made p s ≡ made_from p (option_map text_tree description) (all_of_schema all.old)) }
+) -> Result<Node<SchemaDefinition>, AllocError>
+    ensures made { IfOk result (λ n. schema_roots n ≡ made_from location (option_map text_tree description) (all_of_schema all.old)) }
     ensures faults { OnOk result (faults_of faults.new ≡ faults_of faults.old ++ root_faults (all_of_schema all.old).roots) }
 {
     let roots = keep_roots(&all.roots, faults)?;
-    Ok(SchemaDefinition {
+    let made = SchemaDefinition {
         description,
         directives: DirectiveList(mem::replace(&mut all.directives, Vec::new(alloc))),
         query: roots.query,
         mutation: roots.mutation,
         subscription: roots.subscription,
-    })
+    };
+    Ok(node_at(alloc, location, made)?)
 }

@@ -7,7 +7,7 @@ ghost use Rattle.graphql_schema_folding.specs.ListFold.{definitions_of};
 ghost use Rattle.graphql_schema_folding.specs.Seen.{seen_of, Sees, SeesType, kind_in, is_scalar_in, kind_seen, root_seen, schema_seen};
 ghost use Rattle.graphql_schema_folding.specs.SeenView.{seen_view};
 
-use graphql_folding::{Definition, Listed, TypeKind, type_definition};
+use graphql_folding::{Definition, Listed, TypeKind, insert_new, type_definition};
 use graphql_names::Name;
 use graphql_operations::OperationType;
 use indexmap::IndexMap;
@@ -70,9 +70,7 @@ impl Seen {
         if self.kinds.contains_key(name) {
             return Ok(());
         }
-        let name = name.clone()?;
-        self.kinds.insert(name, kind)?;
-        Ok(())
+        insert_new(&mut self.kinds, name, kind)
     }
 
     /// The kind of the first type of that name, if there is one.

@@ -1,6 +1,5 @@
 //! What the definitions of types fold to.
 ghost use Rattle.std.specs.Prelude.{◌≡◌, ◌++◌, ◌∷◌, [], map, IfOk, OnOk};
-ghost use Rattle.graphql_folding.specs.in_definitions.DefinitionTree.{definition_tree};
 ghost use Rattle.graphql_folding.specs.in_schema_types.SchemaView.{types_view};
 ghost use Rattle.graphql_folding.specs.FaultView.{faults_of};
 ghost use Rattle.graphql_folding.specs.Listed.{types_in};
@@ -12,9 +11,8 @@ ghost use Rattle.graphql_schema_folding.specs.OwnNames.{TypesUnderOwnNames};
 ghost use Rattle.graphql_schema_folding.specs.Filing.{extensions_under, types_by, faults_by, FoldsOn};
 
 use crate::extensions::{extensions_of, index_extensions};
-use crate::insert::insert_new;
 use graphql_folding::{
-    BuildError, Defined, Definition, ExtendedType, Listed, fold_type, type_definition,
+    BuildError, Defined, ExtendedType, Listed, fold_type, insert_new, type_definition,
 };
 use graphql_names::{Name, SourceSpan};
 use indexmap::IndexMap;
@@ -49,25 +47,11 @@ fn fold_each(
 {
     let mut types = IndexMap::new(alloc);
     for listed in list {
-        fold_definition(alloc, &listed.definition, extensions, &mut types, faults)?;
+        if let Some(defined) = type_definition(&listed.definition) {
+            fold_first(alloc, &defined, extensions, &mut types, faults)?;
+        }
     }
     Ok(types)
-}
-
-/// Folds the type that is defined here, if one is and no earlier one has its name.
-fn fold_definition(
-    alloc: Global,
-    d: &Definition,
-    extensions: &IndexMap<Name, Vec<Listed>>,
-    types: &mut IndexMap<Name, ExtendedType>,
-    faults: &mut Vec<(Option<SourceSpan>, BuildError)>,
-) -> Result<(), AllocError>
-    ensures { OnOk result (FoldsOn (extensions_under extensions.now) (types_in (definition_tree d.now ∷ [])) (types_view types.old) (faults_of faults.old) (types_view types.new) (faults_of faults.new)) }
-{
-    match type_definition(d) {
-        None => Ok(()),
-        Some(defined) => fold_first(alloc, &defined, extensions, types, faults),
-    }
 }
 
 /// Folds a type, if no earlier one has its name.

@@ -1,21 +1,34 @@
-use Rattle.std.proofs.Common.{◌<◌, ◌∷◌, [], ◌++◌, take, length, sym, ap, ◌∙◌, arith, subst}
-use Rattle.std.proofs.lemmas.List.{map_more}
+use Rattle.std.proofs.Common.{◌<◌, ◌+◌, [], ◌∷◌, None, Some, map, take, length, sym, ap, ◌∙◌, arith, subst}
+use Rattle.std.proofs.lemmas.List.{append-nil}
+use Rattle.graphql_folding.specs.Listed.{directives_in}
+use Rattle.graphql_folding.specs.ListedView.{listed_view}
+use Rattle.graphql_schema_folding.specs.ListFold.{definitions_of}
 use Rattle.graphql_schema_folding.specs.DirectiveFold.{Chooses}
-use Rattle.graphql_schema_folding.specs.DirectivesView.{directive_view, directives_view, entries_view}
-use Rattle.graphql_schema_folding.proofs.Choosing.{chooses_none, chooses_then}
+use Rattle.graphql_schema_folding.specs.DirectivesView.{directive_view, entries_view}
+use Rattle.graphql_schema_folding.proofs.Choosing.{directives_more, chooses_none, chooses_then}
 use Rattle.graphql_schema_folding.proofs.directives.choose_all.Goals as goal
+use Rattle.graphql_schema_folding.proofs.directives.choose_all.Goals.{in-Some+in_ok-choose, in_default}
 
-pub loop-node-init : goal.loop-node-init
-loop-node-init c = chooses_none (entries_view c.args.own.now) (entries_view c.args.chosen.now)
+pub loop-listed-init : goal.loop-listed-init
+loop-listed-init c = chooses_none (entries_view c.args.own.now) (entries_view c.args.chosen.now)
 
-pub loop-node-preserved : goal.loop-node-preserved
-loop-node-preserved c =
-    let xs = c.args.nodes.now in
-    let i = c.loop-node.node-index in
-    let x = c.node-item.result in
+pub loop-listed-preserved : goal.loop-listed-preserved
+loop-listed-preserved c =
+    let xs = c.args.list.now in
+    let i = c.loop-listed.listed-index in
+    let x = c.listed-item.result in
     let h : i < length xs = omega arith in
     let own = entries_view c.args.own.now in
-    let before = directives_view (take i xs) in
-    let front = map_more directive_view xs i x h ∙ ap (λ y. before ++ directive_view y ∷ []) (sym c.node-item.is) in
-    subst (λ ds. Chooses own ds (entries_view c.args.chosen.now) (entries_view c.choose.new.chosen)) (sym front)
-    (chooses_then own (entries_view c.args.chosen.now) (entries_view c.loop-node.chosen) (entries_view c.choose.new.chosen) before (directive_view x ∷ []) c.loop-node.invariant c.in_ok-choose.ensures)
+    let start = entries_view c.args.chosen.now in
+    let so_far = entries_view c.loop-listed.chosen in
+    let before = directives_in (definitions_of (map listed_view (take i xs))) in
+    elim c.match-directive_definition.branch [
+      | in-Some+in_ok-choose w ↦
+          let d = directive_view w.in-Some.node.now in
+          let front = directives_more xs i x (Some d) h c.listed-item.is w.in-Some.ensures in
+          let step = chooses_then own start so_far (entries_view w.choose.new.chosen) before (d ∷ []) c.loop-listed.invariant w.in_ok-choose.ensures in
+          subst (λ m. Chooses own (directives_in (definitions_of (map listed_view (take (i + 1) xs)))) start (entries_view m)) (sym w.chosen-is) (subst (λ ds. Chooses own ds start (entries_view w.choose.new.chosen)) (sym front) step)
+      | in_default w ↦
+          let front = directives_more xs i x None h c.listed-item.is w.in_default.ensures ∙ append-nil before in
+          subst (λ m. Chooses own (directives_in (definitions_of (map listed_view (take (i + 1) xs)))) start (entries_view m)) (sym w.chosen-is) (subst (λ ds. Chooses own ds start so_far) (sym front) c.loop-listed.invariant)
+    ]

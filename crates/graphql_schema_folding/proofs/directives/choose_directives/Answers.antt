@@ -7,5 +7,5 @@ use Rattle.graphql_schema_folding.proofs.directives.choose_directives.Goals as g
 
 pub returns : goal.returns
 returns c =
-    c.in_ok-choose_all.ensures (directives_in (definitions_of (map listed_view c.args.built_in.now)))
-    (c.in_ok-choose_built_in.ensures [] (ap (map entry_view) c.new-chosen.ensures.empty))
+    c.in_ok-choose_all-2.ensures (directives_in (definitions_of (map listed_view c.args.built_in.now)))
+    (c.in_ok-choose_all.ensures [] (ap (map entry_view) c.new-chosen.ensures.empty))

@@ -1,18 +1,18 @@
-use Rattle.std.proofs.Common.{◌++◌, [], ◌∷◌, map, ap, ◌∙◌}
+use Rattle.std.proofs.Common.{◌≡◌, ◌++◌, [], ◌∷◌, map, ap, ◌∙◌}
 use Rattle.std.proofs.lemmas.List.{map-append}
-use Rattle.indexmap.specs.IndexMap.{insert_entry}
-use Rattle.indexmap.proofs.CallerLemmas.{insert_entry-new}
+use Rattle.std.proofs.lemmas.Result.{IfOk-weaker}
 use Rattle.graphql_directives.specs.DirectiveTree.{directive_definition_tree}
-use Rattle.graphql_components.specs.Names.{same_text}
-use Rattle.graphql_folding.specs.in_schema_types.TypeView.{name_text}
+use Rattle.graphql_schema_folding.specs.DirectivesView.{directive_view, entries_view}
 use Rattle.graphql_schema_folding.proofs.Choosing.{entry_view}
 use Rattle.graphql_schema_folding.proofs.directives.insert_directive.Goals as goal
 
 pub returns : goal.returns
 returns c =
-    let kept = c.args.kept.now in
+    let es = c.args.kept.now.entries in
     let name = c.args.name.now in
-    let node = c.in_ok-node.node in
-    ap (map entry_view) (c.in_ok-insert.ensures.entries ∙ ap (λ n. insert_entry (same_text name_text) kept.entries n node) c.in_ok-name.ensures.same ∙ insert_entry-new (same_text name_text) kept name node c.requires)
-    ∙ map-append entry_view kept.entries ((name, node) ∷ [])
-    ∙ (λ i. map entry_view kept.entries ++ (name.text, record { it = directive_definition_tree (c.in_ok-node.ensures.cases.0 i); place = c.in_ok-node.ensures.cases.1 i }) ∷ [])
+    let shared = c.in_ok-shared.shared in
+    let clone = c.in_ok-shared.ensures.cases in
+    IfOk-weaker c.insert_new.result (λ _. c.insert_new.new.map.entries ≡ es ++ (name, shared) ∷ [])
+    (λ _. entries_view c.insert_new.new.map ≡ map entry_view es ++ (name.text, directive_view c.args.node.now) ∷ [])
+    (λ _ h. ap (map entry_view) h ∙ map-append entry_view es ((name, shared) ∷ [])
+    ∙ (λ i. map entry_view es ++ (name.text, record { it = directive_definition_tree (clone.0 i); place = clone.1 i }) ∷ [])) c.insert_new.ensures

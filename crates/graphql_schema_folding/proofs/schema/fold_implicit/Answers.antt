@@ -1,8 +1,13 @@
-use Rattle.std.proofs.Common.{None, ap, ◌∙◌}
+use Rattle.std.proofs.Common.{◌≡◌, None, map, ap, ◌∙◌}
+use Rattle.std.proofs.lemmas.Result.{IfOk-weaker}
+use Rattle.graphql_folding.specs.in_schema_types.TypeView.{schema_roots}
+use Rattle.graphql_folding.specs.ListedView.{listed_view}
+use Rattle.graphql_schema_folding.specs.ListFold.{implicit_parts, schema_from}
 use Rattle.graphql_schema_folding.specs.RootFold.{made_from}
-use Rattle.graphql_schema_folding.specs.RootsView.{schema_made}
+use Rattle.graphql_schema_folding.specs.RootsView.{all_of_schema}
 use Rattle.graphql_schema_folding.proofs.schema.fold_implicit.Goals as goal
 
 pub returns-clause-folded : goal.returns-clause-folded
 returns-clause-folded c =
-    (λ i. schema_made (c.in_ok-new.ensures.place i) (c.in_ok-new.ensures.content i)) ∙ c.in_ok-made.ensures.made None ∙ ap (made_from None None) c.in_ok-all.ensures
+    IfOk-weaker c.make_schema.result (λ n. schema_roots n ≡ made_from None None (all_of_schema c.in_ok-all.all)) (λ n. schema_roots n ≡ schema_from None None (implicit_parts (map listed_view c.args.list.now)))
+    (λ n h. h ∙ ap (made_from None None) c.in_ok-all.ensures) c.make_schema.ensures.made

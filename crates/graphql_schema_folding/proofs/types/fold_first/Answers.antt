@@ -1,12 +1,16 @@
 use Rattle.std.proofs.Common.{◌++◌, [], ◌∷◌, map, sym, ap, ◌∙◌}
 use Rattle.std.proofs.lemmas.List.{map-append}
 use Rattle.std.proofs.lemmas.Result.{IfOk-weaker}
+use Rattle.indexmap.specs.IndexMap.{get}
+use Rattle.graphql_components.specs.Names.{same_text}
+use Rattle.graphql_folding.specs.in_schema_types.TypeView.{name_text}
 use Rattle.graphql_folding.specs.in_schema_types.SchemaView.{types_view}
 use Rattle.graphql_folding.specs.FaultView.{faults_of}
 use Rattle.graphql_folding.specs.Fold.{folded_type}
 use Rattle.graphql_folding.specs.Made.{defined_view}
 use Rattle.graphql_schema_folding.specs.TypeFaults.{faults_of_type}
 use Rattle.graphql_schema_folding.specs.Filing.{extensions_under}
+use Rattle.graphql_schema_folding.proofs.Seeing.{is_absent}
 use Rattle.graphql_schema_folding.proofs.Folding.{entry_view, folds_seen, folds_new}
 use Rattle.graphql_schema_folding.proofs.types.fold_first.Goals as goal
 
@@ -14,6 +18,9 @@ pub returns-then-contains_key : goal.returns-then-contains_key
 returns-then-contains_key c =
     folds_seen (extensions_under c.args.extensions.now) c.args.types.now.entries (defined_view c.args.defined.now) (faults_of c.args.faults.now)
     (sym c.contains_key.ensures ∙ c.if-contains_key.true)
+
+pub insert_new-requires : goal.insert_new-requires
+insert_new-requires c = is_absent (get (same_text name_text) c.args.types.now c.args.defined.now.parts.name.now) (sym c.contains_key.ensures ∙ c.if-contains_key.false)
 
 pub returns : goal.returns
 returns c =

@@ -11,5 +11,5 @@ pub returns : goal.returns
 returns c =
     let old = c.args.self.now in
     let e = origin_tree c.args.origin in
-    let first = c.in_ok-add_given.ensures ∙ ap (λ ns. given_contents old.directives.items ++ all_given e (map (node_tree itself) ns)) c.deref.ensures.value in
-    IfOk-weaker _ _ _ (λ _ h. all_added old (record { directives = c.add_given.new.all; roots = c.add_given-2.new.all }) e c.args.directives.now.0.items c.args.roots.now first h) c.add_given-2.ensures
+    let first = c.in_ok-add_components.ensures ∙ ap (λ ns. given_contents old.directives.items ++ all_given e (map (node_tree itself) ns)) c.deref.ensures.value in
+    IfOk-weaker _ _ _ (λ _ h. all_added old (record { directives = c.add_components.new.all; roots = c.add_components-2.new.all }) e c.args.directives.now.0.items c.args.roots.now first h) c.add_components-2.ensures

@@ -1,9 +1,9 @@
 use Rattle.std.proofs.Common.{ap, ◌∙◌}
 use Rattle.indexmap.specs.IndexMap.{insert_entry}
 use Rattle.indexmap.proofs.CallerLemmas.{insert_entry-new}
-use Rattle.graphql_components.specs.Names.{same_text}
-use Rattle.graphql_folding.specs.in_schema_types.TypeView.{name_text}
-use Rattle.graphql_schema_folding.proofs.insert.insert_new.Goals as goal
+use Rattle.graphql_schema_types.specs.in_components.Names.{same_text}
+use Rattle.graphql_schema_types.specs.TypeView.{name_text}
+use Rattle.graphql_folding.proofs.insert.insert_new.Goals as goal
 
 pub returns : goal.returns
 returns g c =

@@ -1,15 +1,15 @@
 //! What is new under its name.
 ghost use Rattle.std.specs.Prelude.{◌≡◌, ◌++◌, ◌∷◌, [], None, OnOk};
 ghost use Rattle.indexmap.specs.IndexMap.{get};
-ghost use Rattle.graphql_components.specs.Names.{same_text};
-ghost use Rattle.graphql_folding.specs.in_schema_types.TypeView.{name_text};
+ghost use Rattle.graphql_schema_types.specs.in_components.Names.{same_text};
+ghost use Rattle.graphql_schema_types.specs.TypeView.{name_text};
 
 use graphql_names::Name;
 use indexmap::IndexMap;
 use std::alloc::AllocError;
 
 /// Inserts a value under a name that nothing stands under.
-pub(crate) fn insert_new<T: Drop>(
+pub fn insert_new<T: Drop>(
     map: &mut IndexMap<Name, T>,
     name: &Name,
     value: T,
