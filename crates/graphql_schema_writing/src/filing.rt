@@ -1,23 +1,23 @@
 //! Components filed under the definition or extension that gave them.
-ghost use Rattle.std.specs.Prelude.{◌≡◌, [], map, IfOk, OnOk};
-ghost use Rattle.graphql_names.specs.Placed.{name_tree, node_tree};
+ghost use Rattle.std.specs.Prelude.{◌≡◌, [], map, OnOk};
+ghost use Rattle.std.specs.List.{AllZip};
 ghost use Rattle.graphql_components.specs.Given.{origin_tree, component_name_tree};
 ghost use Rattle.graphql_schema_types.specs.Out.{given_by};
-ghost use Rattle.graphql_schema_writing.specs.Filed.{filed_under, FilesOn, itself, given_contents, lent_node, lent_name};
+ghost use Rattle.graphql_schema_writing.specs.Filed.{filed_under, FilesOn, given_contents, lent_node, lent_name};
 
 use graphql_components::{Component, ComponentName, ComponentOrigin};
 use graphql_names::{Name, Node};
 use indexmap::IndexMap;
 use std::alloc::{AllocError, Global};
 
-/// Files something behind what its giver gave before.
-fn file<X: Drop>(
+/// Files an item behind what its giver gave before.
+fn file<'a, X>(
     alloc: Global,
-    filed: &mut IndexMap<ComponentOrigin, Vec<X>>,
+    filed: &mut IndexMap<ComponentOrigin, Vec<&'a X>>,
     giver: ComponentOrigin,
-    item: X,
+    item: &'a X,
 ) -> Result<(), AllocError>
-    ensures { OnOk result (FilesOn filed.old.entries giver item filed.new.entries) }
+    ensures { OnOk result (FilesOn filed.old.entries giver item.entry filed.new.entries) }
 {
     if let Some(items) = filed.get_mut(&giver) {
         items.push(item)?;
@@ -59,68 +59,28 @@ pub(crate) fn file_names<'a>(
     Ok(())
 }
 
-/// Takes the nodes that this giver gave, shared.
-pub(crate) fn take_nodes<T: Drop>(
-    filed: &IndexMap<ComponentOrigin, Vec<&Node<T>>>,
+/// Takes what this giver gave, shared.
+pub(crate) fn take<X: Clone>(
+    filed: &IndexMap<ComponentOrigin, Vec<&X>>,
     giver: ComponentOrigin,
-    out: &mut Vec<Node<T>>,
+    out: &mut Vec<X>,
 ) -> Result<(), AllocError>
     requires { out.old.items ≡ [] }
-    ensures { OnOk result (map (node_tree itself) out.new.items ≡ map lent_node (filed_under (origin_tree giver) filed.now.entries)) }
+    ensures { OnOk result (AllZip (λ x copy. X.is_clone x.now copy) (filed_under (origin_tree giver) filed.now.entries) out.new.items) }
 {
     match filed.get(&giver) {
         None => Ok(()),
-        Some(nodes) => share_nodes(nodes, out),
+        Some(items) => share(items, out),
     }
 }
 
-/// Takes the names that this giver gave.
-pub(crate) fn take_names(
-    filed: &IndexMap<ComponentOrigin, Vec<&Name>>,
-    giver: ComponentOrigin,
-    out: &mut Vec<Name>,
-) -> Result<(), AllocError>
+/// Takes the same items: what they hold is shared.
+fn share<X: Clone>(items: &[&X], out: &mut Vec<X>) -> Result<(), AllocError>
     requires { out.old.items ≡ [] }
-    ensures { OnOk result (map name_tree out.new.items ≡ map lent_name (filed_under (origin_tree giver) filed.now.entries)) }
+    ensures { OnOk result (AllZip (λ x copy. X.is_clone x.now copy) items.now out.new.items) }
 {
-    match filed.get(&giver) {
-        None => Ok(()),
-        Some(names) => share_names(names, out),
-    }
-}
-
-/// Takes the same nodes: what they hold is shared.
-fn share_nodes<T: Drop>(nodes: &[&Node<T>], out: &mut Vec<Node<T>>) -> Result<(), AllocError>
-    requires { out.old.items ≡ [] }
-    ensures { OnOk result (map (node_tree itself) out.new.items ≡ map lent_node nodes.now) }
-{
-    for node in nodes {
-        out.push(shared_node(node)?)?;
+    for item in items {
+        out.push(X::clone(item)?)?;
     }
     Ok(())
-}
-
-/// The same node: what it holds is shared.
-fn shared_node<T: Drop>(node: &Node<T>) -> Result<Node<T>, AllocError>
-    ensures { IfOk result (λ n. node_tree itself n ≡ node_tree itself node.now) }
-{
-    node.clone()
-}
-
-/// Takes the same names: no text is copied.
-fn share_names(names: &[&Name], out: &mut Vec<Name>) -> Result<(), AllocError>
-    requires { out.old.items ≡ [] }
-    ensures { OnOk result (map name_tree out.new.items ≡ map lent_name names.now) }
-{
-    for name in names {
-        out.push(shared_name(name)?)?;
-    }
-    Ok(())
-}
-
-/// The same name: no text is copied.
-fn shared_name(name: &Name) -> Result<Name, AllocError>
-    ensures { IfOk result (λ n. name_tree n ≡ name_tree name.now) }
-{
-    name.clone()
 }

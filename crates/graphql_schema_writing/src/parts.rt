@@ -1,20 +1,20 @@
 //! What each giver gave to a type.
-ghost use Rattle.std.specs.Prelude.{◌≡◌, OnOk};
+ghost use Rattle.std.specs.Prelude.{◌≡◌, [], OnOk};
+ghost use Rattle.indexmap.specs.IndexMap.{values};
 ghost use Rattle.graphql_components.specs.Given.{origin_tree};
-ghost use Rattle.graphql_schema_writing.specs.Contents.{parts_given_by};
-ghost use Rattle.graphql_schema_writing.specs.ContentsView.{GivesNothing, HoldsNothing, contents_view, filed_parts, parts_view};
+ghost use Rattle.graphql_schema_writing.specs.Contents.{parts_given_by, type_contents};
+ghost use Rattle.graphql_schema_writing.specs.ContentsView.{FilesFields, GivesNothing, HoldsNothing, filed_parts, parts_view};
 
-use crate::contents::Contents;
-use crate::filing::{file_components, file_names, take_names, take_nodes};
-use graphql_components::ComponentOrigin;
+use crate::filing::{file_components, file_names, take};
+use graphql_components::{Component, ComponentName, ComponentOrigin};
 use graphql_directives::{Directive, DirectiveList, InputValueDefinition};
 use graphql_names::{Name, Node};
+use graphql_schema_types::ExtendedType;
 use graphql_type_members::{EnumValueDefinition, FieldDefinition};
-use indexmap::IndexMap;
+use indexmap::{IndexMap, IndexSet};
 use std::alloc::{AllocError, Global};
 
 /// What a type has, filed under the definition and the extensions that gave it.
-#[derive(Drop)]
 pub(crate) struct FiledType<'a> {
     directives: IndexMap<ComponentOrigin, Vec<&'a Node<Directive>>>,
     interfaces: IndexMap<ComponentOrigin, Vec<&'a Name>>,
@@ -22,6 +22,20 @@ pub(crate) struct FiledType<'a> {
     members: IndexMap<ComponentOrigin, Vec<&'a Name>>,
     values: IndexMap<ComponentOrigin, Vec<&'a Node<EnumValueDefinition>>>,
     inputs: IndexMap<ComponentOrigin, Vec<&'a Node<InputValueDefinition>>>,
+}
+
+/// Lets each class go, here and not wherever a filed type goes.
+impl Drop for FiledType<'_> {
+    fn drop(self) {
+        let FiledType {
+            directives: _,
+            interfaces: _,
+            fields: _,
+            members: _,
+            values: _,
+            inputs: _,
+        } = self;
+    }
 }
 
 impl<'a> FiledType<'a> {
@@ -40,16 +54,46 @@ impl<'a> FiledType<'a> {
     }
 
     /// Files what a type has, each component once.
-    pub(crate) fn file(&mut self, alloc: Global, contents: &Contents<'a>) -> Result<(), AllocError>
+    pub(crate) fn file(&mut self, alloc: Global, t: &'a ExtendedType) -> Result<(), AllocError>
         requires { HoldsNothing self.old }
-        ensures { OnOk result ((giver : _) → filed_parts giver self.new ≡ parts_given_by giver (contents_view contents.now)) }
+        ensures { OnOk result ((giver : _) → filed_parts giver self.new ≡ parts_given_by giver (type_contents t.now)) }
     {
-        file_components(alloc, contents.directives, &mut self.directives)?;
-        file_names(alloc, contents.interfaces, &mut self.interfaces)?;
-        file_components(alloc, contents.fields, &mut self.fields)?;
-        file_names(alloc, contents.members, &mut self.members)?;
-        file_components(alloc, contents.values, &mut self.values)?;
-        file_components(alloc, contents.inputs, &mut self.inputs)
+        file_components(alloc, &t.directives().0, &mut self.directives)?;
+        match t {
+            ExtendedType::Scalar(_) => Ok(()),
+            ExtendedType::Object(node) => {
+                let t = node.content();
+                self.file_fields(alloc, &t.implements_interfaces, &t.fields)
+            }
+            ExtendedType::Interface(node) => {
+                let t = node.content();
+                self.file_fields(alloc, &t.implements_interfaces, &t.fields)
+            }
+            ExtendedType::Union(node) => {
+                file_names(alloc, node.content().members.as_slice(), &mut self.members)
+            }
+            ExtendedType::Enum(node) => {
+                file_components(alloc, node.content().values.values().as_slice(), &mut self.values)
+            }
+            ExtendedType::InputObject(node) => {
+                file_components(alloc, node.content().fields.values().as_slice(), &mut self.inputs)
+            }
+        }
+    }
+
+    /// Files the interfaces and the fields of an object or interface type.
+    fn file_fields(
+        &mut self,
+        alloc: Global,
+        interfaces: &'a IndexSet<ComponentName>,
+        fields: &'a IndexMap<Name, Component<FieldDefinition>>,
+    ) -> Result<(), AllocError>
+        requires interfaces { self.old.interfaces.entries ≡ [] }
+        requires fields { self.old.fields.entries ≡ [] }
+        ensures { OnOk result (FilesFields interfaces.now.keys (values fields.now) self.old self.new) }
+    {
+        file_names(alloc, interfaces.as_slice(), &mut self.interfaces)?;
+        file_components(alloc, fields.values().as_slice(), &mut self.fields)
     }
 }
 
@@ -101,11 +145,11 @@ impl Parts {
         requires { GivesNothing self.old }
         ensures { OnOk result (parts_view self.new ≡ filed_parts (origin_tree giver) filed.now) }
     {
-        take_nodes(&filed.directives, giver, &mut self.directives.0)?;
-        take_names(&filed.interfaces, giver, &mut self.interfaces)?;
-        take_nodes(&filed.fields, giver, &mut self.fields)?;
-        take_names(&filed.members, giver, &mut self.members)?;
-        take_nodes(&filed.values, giver, &mut self.values)?;
-        take_nodes(&filed.inputs, giver, &mut self.inputs)
+        take(&filed.directives, giver, &mut self.directives.0)?;
+        take(&filed.interfaces, giver, &mut self.interfaces)?;
+        take(&filed.fields, giver, &mut self.fields)?;
+        take(&filed.members, giver, &mut self.members)?;
+        take(&filed.values, giver, &mut self.values)?;
+        take(&filed.inputs, giver, &mut self.inputs)
     }
 }
