@@ -10,7 +10,6 @@ ghost use Rattle.graphql_schema_building.specs.TextsList.{Adds, IsListRefusal};
 
 use crate::refusal::BuilderRefusal;
 use graphql_components::{ExtensionId, Extensions};
-use graphql_names::Spent;
 use graphql_schema_folding::{Definition, Listed};
 use std::alloc::{AllocError, Global};
 
@@ -43,32 +42,17 @@ impl Texts {
         Ok(())
     }
 
-    /// Puts a definition behind the others.
+    /// Puts a definition behind the others, with a number if it is an extension.
     fn add(&mut self, definition: &Definition) -> Result<(), BuilderRefusal>
         ensures added { OnOk result (Adds (definition_tree definition.now ∷ []) (texts_view self.old) (texts_view self.new)) }
         ensures refused { IfErr result (IsListRefusal (definition_tree definition.now ∷ []) (texts_view self.old)) }
     {
-        let extension = number(&mut self.extensions, definition)?;
-        push_shared(&mut self.list, definition, extension)?;
-        Ok(())
+        if !definition.is_extension_definition() {
+            return Ok(push_shared(&mut self.list, definition, None)?);
+        }
+        let id = self.extensions.next(definition.location())?;
+        Ok(push_shared(&mut self.list, definition, Some(id))?)
     }
-}
-
-/// The number of the definition, if it is an extension.
-fn number(
-    extensions: &mut Extensions,
-    definition: &Definition,
-) -> Result<Option<ExtensionId>, Spent>
-    ensures given { IfOk result (λ id. option_map extension_tree id ≡ (if is_extension (definition_tree definition.now) then Some (record { number = extensions.old; place = definition_place (definition_tree definition.now) }) else None)) }
-    ensures goes_on { OnOk result (extensions.new ≡ (if is_extension (definition_tree definition.now) then extensions.old + 1 else extensions.old)) }
-    ensures not_spent { OnOk result (is_extension (definition_tree definition.now) ≡ true → extensions.old + 1 < 2 ^ 64) }
-    ensures spent { OnErr result ((is_extension (definition_tree definition.now) ≡ true) × (extensions.old + 1 ≡ 2 ^ 64)) }
-{
-    if !definition.is_extension_definition() {
-        return Ok(None);
-    }
-    let id = extensions.next(definition.location())?;
-    Ok(Some(id))
 }
 
 /// Puts a definition, shared, behind the others of a list.
