@@ -6,7 +6,7 @@ use Rattle.graphql_names.specs.Node.{content}
 use Rattle.graphql_names.specs.NameValue.{NameValue}
 use Rattle.graphql_names.specs.Places.{is_built_in}
 use Rattle.graphql_names.specs.declared.node.Node.{Node}
-use Rattle.graphql_names.specs.Placed.{Place, Text, node_tree}
+use Rattle.graphql_names.specs.Placed.{Place, node_tree}
 use Rattle.graphql_directives.specs.DirectiveTree.{Directives, directive_definition_tree}
 use Rattle.graphql_directives.specs.declared.directive.DirectiveDefinition.{DirectiveDefinition}
 use Rattle.graphql_schema_types.specs.in_definitions.DefinitionTree.{DefinitionTree}
@@ -14,16 +14,14 @@ use Rattle.graphql_operations.specs.declared.operation.OperationType.TheVariants
 use Rattle.graphql_components.specs.Given.{ExtensionTree, extension_tree, place_of}
 use Rattle.graphql_components.specs.declared.extension.ExtensionId.{ExtensionId}
 use Rattle.graphql_schema_types.specs.SchemaTree.{SchemaRoots, SchemaTree}
-use Rattle.graphql_schema_types.specs.TypeParts.{definition_by, extension_by}
-use Rattle.graphql_schema_types.specs.declared.type_kind.TypeKind.{TypeKind}
 use Rattle.graphql_schema_types.specs.TypeView.{name_text, extended_type, schema_roots}
 use Rattle.graphql_schema_types.specs.Origins.{type_origins, schema_origins, extensions_in}
 use Rattle.graphql_schema_types.specs.Out.{is_empty, is_implicit_root, is_left_out, extensions_of_schema, schema_parts_given_by, written_schema, written_directive, written_type}
 use Rattle.graphql_schema_types.specs.declared.extended_type.ExtendedType.{ExtendedType}
 use Rattle.graphql_schema_types.specs.declared.schema_definition.SchemaDefinition.{SchemaDefinition}
-use Rattle.graphql_schema_writing.specs.Contents.{TypeContents, GivenParts, type_contents, named_parts, parts_given_by, extensions_of_contents, defined_from, extended_from, written_contents}
+use Rattle.graphql_schema_writing.specs.Contents.{TypeContents, GivenParts, type_contents, parts_given_by, extensions_of_contents, defined_from, extended_from, written_contents}
 use Rattle.graphql_schema_writing.specs.SchemaParts.{written_node, schema_from, schema_extended_from, whole_schema}
-use Rattle.graphql_schema_writing.proofs.Keyless.{contents_keyless, written_same}
+use Rattle.graphql_schema_writing.proofs.Keyless.{written_same}
 use Rattle.graphql_schema_writing.proofs.Extensions.{type_extensions, schema_extensions}
 
 abbrev Giver : Type 0
@@ -52,30 +50,6 @@ type_written t c filed ids old mid new same given are first second =
   where
     extensions : map extension_tree ids ≡ extensions_of_contents c
     extensions = ap (map extension_tree) are ∙ type_extensions t ∙ sym (ap extensions_of_contents same)
-
--- the definition of a type, and an extension of it, of what is given out
-pub definition_said : (t : ExtendedType) (kind : TypeKind) (place : Place) (description : Option (Text Place)) (name : Text Place) (parts given : GivenParts)
-    → kind ≡ (extended_type t).kind → place ≡ (extended_type t).place → description ≡ (extended_type t).description → name ≡ (extended_type t).name → parts ≡ given
-    → definition_by kind place description (named_parts kind name parts) ≡ defined_from (type_contents t) given
-definition_said t kind place description name parts given k p d n g =
-    (λ i. definition_by (k i) (p i) (d i) (named_parts (k i) (n i) (g i))) ∙ sym (ap (λ c. defined_from c given) (contents_keyless t))
-
-pub extension_said : (t : ExtendedType) (kind : TypeKind) (place : Place) (name : Text Place) (parts given : GivenParts)
-    → kind ≡ (extended_type t).kind → name ≡ (extended_type t).name → parts ≡ given
-    → extension_by kind place (named_parts kind name parts) ≡ extended_from (type_contents t) place given
-extension_said t kind place name parts given k n g =
-    (λ i. extension_by (k i) place (named_parts (k i) (n i) (g i))) ∙ sym (ap (λ c. extended_from c place given) (contents_keyless t))
-
--- where the type is built in its definition is not written, and otherwise it is
-module _ (t : ExtendedType) (given : GivenParts) (built_in : Bool) (is : built_in ≡ is_built_in (extended_type t).place) (old : Trees) where
-  decided : (b : Bool) → built_in ≡ b → (if b then [] else defined_from (type_contents t) given ∷ []) ≡ (if is_built_in (type_contents t).place then [] else defined_from (type_contents t) given ∷ [])
-  decided b h = ap (λ b. if b then [] else defined_from (type_contents t) given ∷ []) (sym (ap (λ c. is_built_in c.place) (contents_keyless t) ∙ sym is ∙ h))
-
-  pub not_defined : built_in ≡ true → old ≡ old ++ (if is_built_in (type_contents t).place then [] else defined_from (type_contents t) given ∷ [])
-  not_defined h = sym (append-nil old) ∙ ap (λ l. old ++ l) (decided true h)
-
-  pub is_defined : built_in ≡ false → (d : DefinitionTree Place) (new : Trees) → d ≡ defined_from (type_contents t) given → new ≡ old ++ d ∷ [] → new ≡ old ++ (if is_built_in (type_contents t).place then [] else defined_from (type_contents t) given ∷ [])
-  is_defined h d new same more = more ∙ ap (λ d. old ++ d ∷ []) same ∙ ap (λ l. old ++ l) (decided false h)
 
 -- the schema definition and its extensions, of which the directives are filed
 pub schema_written : (s : SchemaRoots Place) (filed : Giver → Directives Place) (ids : List ExtensionId) (old mid new : Trees)

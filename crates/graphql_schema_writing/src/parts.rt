@@ -15,17 +15,17 @@ use indexmap::{IndexMap, IndexSet};
 use std::alloc::{AllocError, Global};
 
 /// What a type has, filed under the definition and the extensions that gave it.
-pub(crate) struct FiledType<'a> {
-    directives: IndexMap<ComponentOrigin, Vec<&'a Node<Directive>>>,
-    interfaces: IndexMap<ComponentOrigin, Vec<&'a Name>>,
-    fields: IndexMap<ComponentOrigin, Vec<&'a Node<FieldDefinition>>>,
-    members: IndexMap<ComponentOrigin, Vec<&'a Name>>,
-    values: IndexMap<ComponentOrigin, Vec<&'a Node<EnumValueDefinition>>>,
-    inputs: IndexMap<ComponentOrigin, Vec<&'a Node<InputValueDefinition>>>,
+pub(crate) struct FiledType {
+    directives: IndexMap<ComponentOrigin, Vec<Node<Directive>>>,
+    interfaces: IndexMap<ComponentOrigin, Vec<Name>>,
+    fields: IndexMap<ComponentOrigin, Vec<Node<FieldDefinition>>>,
+    members: IndexMap<ComponentOrigin, Vec<Name>>,
+    values: IndexMap<ComponentOrigin, Vec<Node<EnumValueDefinition>>>,
+    inputs: IndexMap<ComponentOrigin, Vec<Node<InputValueDefinition>>>,
 }
 
 /// Lets each class go, here and not wherever a filed type goes.
-impl Drop for FiledType<'_> {
+impl Drop for FiledType {
     fn drop(self) {
         let FiledType {
             directives: _,
@@ -38,9 +38,9 @@ impl Drop for FiledType<'_> {
     }
 }
 
-impl<'a> FiledType<'a> {
+impl FiledType {
     /// Nothing.
-    pub(crate) fn new(alloc: Global) -> FiledType<'a>
+    pub(crate) fn new(alloc: Global) -> FiledType
         ensures { HoldsNothing result }
     {
         FiledType {
@@ -54,7 +54,7 @@ impl<'a> FiledType<'a> {
     }
 
     /// Files what a type has, each component once.
-    pub(crate) fn file(&mut self, alloc: Global, t: &'a ExtendedType) -> Result<(), AllocError>
+    pub(crate) fn file(&mut self, alloc: Global, t: &ExtendedType) -> Result<(), AllocError>
         requires { HoldsNothing self.old }
         ensures { OnOk result ((giver : _) → filed_parts giver self.new ≡ parts_given_by giver (type_contents t.now)) }
     {
@@ -85,8 +85,8 @@ impl<'a> FiledType<'a> {
     fn file_fields(
         &mut self,
         alloc: Global,
-        interfaces: &'a IndexSet<ComponentName>,
-        fields: &'a IndexMap<Name, Component<FieldDefinition>>,
+        interfaces: &IndexSet<ComponentName>,
+        fields: &IndexMap<Name, Component<FieldDefinition>>,
     ) -> Result<(), AllocError>
         requires interfaces { self.old.interfaces.entries ≡ [] }
         requires fields { self.old.fields.entries ≡ [] }
@@ -139,7 +139,7 @@ impl Parts {
     /// Takes, shared, what this giver gave to the type.
     pub(crate) fn take_given(
         &mut self,
-        filed: &FiledType<'_>,
+        filed: &FiledType,
         giver: ComponentOrigin,
     ) -> Result<(), AllocError>
         requires { GivesNothing self.old }

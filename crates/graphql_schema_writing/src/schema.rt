@@ -1,12 +1,12 @@
 //! The schema definition and its extensions.
 ghost use Rattle.std.specs.Prelude.{◌≡◌, ◌++◌, [], ◌∷◌, map, None, Some, IfOk, OnOk};
+ghost use Rattle.graphql_names.specs.Placed.{node_tree};
 ghost use Rattle.graphql_directives.specs.DirectiveTree.{directive_tree};
 ghost use Rattle.graphql_schema_types.specs.in_definitions.DefinitionTree.{definition_tree, schema_extension_parts};
 ghost use Rattle.graphql_components.specs.Given.{extension_tree, origin_tree};
 ghost use Rattle.graphql_schema_types.specs.TypeView.{schema_roots};
 ghost use Rattle.graphql_schema_types.specs.Out.{written_schema, schema_parts_given_by};
 ghost use Rattle.graphql_schema_writing.specs.Filed.{filed_under};
-ghost use Rattle.graphql_schema_writing.specs.ContentsView.{lent_trees};
 ghost use Rattle.graphql_schema_writing.specs.SchemaParts.{schema_and_types, schema_from, schema_extended_from, whole_schema};
 
 use crate::definition_by::write_placed;
@@ -22,9 +22,9 @@ use indexmap::IndexMap;
 use std::alloc::{AllocError, Global};
 
 /// Writes the schema definition and its extensions, unless they are left out.
-pub(crate) fn write_schema<'a>(
+pub(crate) fn write_schema(
     alloc: Global,
-    definition: &'a Node<SchemaDefinition>,
+    definition: &Node<SchemaDefinition>,
     types: &IndexMap<Name, ExtendedType>,
     out: &mut Vec<Definition>,
 ) -> Result<(), AllocError>
@@ -34,7 +34,7 @@ pub(crate) fn write_schema<'a>(
     if is_left_out(definition, extensions.as_slice(), types) {
         return Ok(());
     }
-    let mut directives: IndexMap<ComponentOrigin, Vec<&'a Node<Directive>>> = IndexMap::new(alloc);
+    let mut directives = IndexMap::new(alloc);
     write_whole_schema(
         alloc,
         definition,
@@ -45,11 +45,11 @@ pub(crate) fn write_schema<'a>(
 }
 
 /// Files the applied directives, and writes the schema definition and these extensions of it.
-fn write_whole_schema<'a>(
+fn write_whole_schema(
     alloc: Global,
-    definition: &'a Node<SchemaDefinition>,
+    definition: &Node<SchemaDefinition>,
     extensions: &[ExtensionId],
-    directives: &mut IndexMap<ComponentOrigin, Vec<&'a Node<Directive>>>,
+    directives: &mut IndexMap<ComponentOrigin, Vec<Node<Directive>>>,
     out: &mut Vec<Definition>,
 ) -> Result<(), AllocError>
     requires { directives.old.entries ≡ [] }
@@ -64,10 +64,10 @@ fn write_whole_schema<'a>(
 fn write_definition(
     alloc: Global,
     definition: &Node<SchemaDefinition>,
-    directives: &IndexMap<ComponentOrigin, Vec<&Node<Directive>>>,
+    directives: &IndexMap<ComponentOrigin, Vec<Node<Directive>>>,
     out: &mut Vec<Definition>,
 ) -> Result<(), AllocError>
-    ensures { OnOk result (map definition_tree out.new.items ≡ map definition_tree out.old.items ++ schema_from (schema_roots definition.now) (lent_trees directive_tree (filed_under None directives.now.entries)) ∷ []) }
+    ensures { OnOk result (map definition_tree out.new.items ≡ map definition_tree out.old.items ++ schema_from (schema_roots definition.now) (map (node_tree directive_tree) (filed_under None directives.now.entries)) ∷ []) }
 {
     let description = shared_description(definition.content().description.as_ref())?;
     let said = schema_parts(alloc, definition, directives, ComponentOrigin::Definition)?;
@@ -83,11 +83,11 @@ fn write_definition(
 fn write_schema_extensions(
     alloc: Global,
     definition: &Node<SchemaDefinition>,
-    directives: &IndexMap<ComponentOrigin, Vec<&Node<Directive>>>,
+    directives: &IndexMap<ComponentOrigin, Vec<Node<Directive>>>,
     extensions: &[ExtensionId],
     out: &mut Vec<Definition>,
 ) -> Result<(), AllocError>
-    ensures { OnOk result (map definition_tree out.new.items ≡ map definition_tree out.old.items ++ map (λ id. schema_extended_from (schema_roots definition.now) (extension_tree id) (lent_trees directive_tree (filed_under (Some (extension_tree id)) directives.now.entries))) extensions.now) }
+    ensures { OnOk result (map definition_tree out.new.items ≡ map definition_tree out.old.items ++ map (λ id. schema_extended_from (schema_roots definition.now) (extension_tree id) (map (node_tree directive_tree) (filed_under (Some (extension_tree id)) directives.now.entries))) extensions.now) }
 {
     for id in extensions {
         write_extension(alloc, definition, directives, *id, out)?;
@@ -99,11 +99,11 @@ fn write_schema_extensions(
 fn write_extension(
     alloc: Global,
     definition: &Node<SchemaDefinition>,
-    directives: &IndexMap<ComponentOrigin, Vec<&Node<Directive>>>,
+    directives: &IndexMap<ComponentOrigin, Vec<Node<Directive>>>,
     id: ExtensionId,
     out: &mut Vec<Definition>,
 ) -> Result<(), AllocError>
-    ensures { OnOk result (map definition_tree out.new.items ≡ map definition_tree out.old.items ++ schema_extended_from (schema_roots definition.now) (extension_tree id) (lent_trees directive_tree (filed_under (Some (extension_tree id)) directives.now.entries)) ∷ []) }
+    ensures { OnOk result (map definition_tree out.new.items ≡ map definition_tree out.old.items ++ schema_extended_from (schema_roots definition.now) (extension_tree id) (map (node_tree directive_tree) (filed_under (Some (extension_tree id)) directives.now.entries)) ∷ []) }
 {
     let said = schema_parts(
         alloc,
@@ -118,10 +118,10 @@ fn write_extension(
 fn schema_parts(
     alloc: Global,
     definition: &Node<SchemaDefinition>,
-    directives: &IndexMap<ComponentOrigin, Vec<&Node<Directive>>>,
+    directives: &IndexMap<ComponentOrigin, Vec<Node<Directive>>>,
     giver: ComponentOrigin,
 ) -> Result<SchemaExtension, AllocError>
-    ensures { IfOk result (λ s. schema_extension_parts s ≡ record { directives = lent_trees directive_tree (filed_under (origin_tree giver) directives.now.entries); roots = (schema_parts_given_by None (origin_tree giver) (schema_roots definition.now)).roots }) }
+    ensures { IfOk result (λ s. schema_extension_parts s ≡ record { directives = map (node_tree directive_tree) (filed_under (origin_tree giver) directives.now.entries); roots = (schema_parts_given_by None (origin_tree giver) (schema_roots definition.now)).roots }) }
 {
     let mut said = SchemaExtension {
         directives: DirectiveList(Vec::new(alloc)),

@@ -29,22 +29,22 @@ pub(crate) fn write_types(
 }
 
 /// Writes a type: its definition, if it is not built in, and then its extensions.
-fn write_type<'a>(
+fn write_type(
     alloc: Global,
-    t: &'a ExtendedType,
+    t: &ExtendedType,
     out: &mut Vec<Definition>,
 ) -> Result<(), AllocError>
     ensures { OnOk result (map definition_tree out.new.items ≡ map definition_tree out.old.items ++ written_contents (type_contents t.now)) }
 {
-    let mut filed: FiledType<'a> = FiledType::new(alloc);
+    let mut filed = FiledType::new(alloc);
     write_filed(alloc, t, &mut filed, out)
 }
 
 /// Files what a type has, and writes its definition, if it is not built in, and then its extensions.
-fn write_filed<'a>(
+fn write_filed(
     alloc: Global,
-    t: &'a ExtendedType,
-    filed: &mut FiledType<'a>,
+    t: &ExtendedType,
+    filed: &mut FiledType,
     out: &mut Vec<Definition>,
 ) -> Result<(), AllocError>
     requires { HoldsNothing filed.old }
@@ -60,7 +60,7 @@ fn write_filed<'a>(
 fn write_definition(
     alloc: Global,
     t: &ExtendedType,
-    filed: &FiledType<'_>,
+    filed: &FiledType,
     out: &mut Vec<Definition>,
 ) -> Result<(), AllocError>
     ensures { OnOk result (map definition_tree out.new.items ≡ map definition_tree out.old.items ++ (if is_built_in (type_contents t.now).place then [] else defined_from (type_contents t.now) (filed_parts None filed.now) ∷ [])) }
@@ -87,7 +87,7 @@ fn write_definition(
 fn write_extensions(
     alloc: Global,
     t: &ExtendedType,
-    filed: &FiledType<'_>,
+    filed: &FiledType,
     extensions: &[ExtensionId],
     out: &mut Vec<Definition>,
 ) -> Result<(), AllocError>
@@ -103,7 +103,7 @@ fn write_extensions(
 fn write_extension(
     alloc: Global,
     t: &ExtendedType,
-    filed: &FiledType<'_>,
+    filed: &FiledType,
     id: ExtensionId,
     out: &mut Vec<Definition>,
 ) -> Result<(), AllocError>

@@ -5,7 +5,7 @@ use Rattle.graphql_schema_types.specs.in_definitions.DefinitionTree.{definition_
 use Rattle.graphql_schema_types.specs.Out.{given_by}
 use Rattle.graphql_schema_types.specs.TypeView.{schema_roots}
 use Rattle.graphql_schema_writing.specs.Filed.{filed_under, given_contents}
-use Rattle.graphql_schema_writing.specs.ContentsView.{lent_trees}
+use Rattle.graphql_names.specs.Placed.{node_tree}
 use Rattle.graphql_schema_writing.proofs.Growing.{filed_grown}
 use Rattle.graphql_schema_writing.proofs.Written.{schema_written}
 use Rattle.graphql_schema_writing.proofs.schema.write_whole_schema.Goals as goal
@@ -17,5 +17,5 @@ returns c =
     let old = map definition_tree c.args.out.now.items in
     let mid = map definition_tree c.write_definition.new.out.items in
     let new = map definition_tree c.write_schema_extensions.new.out.items in
-    IfOk-weaker _ _ _ (λ _ h. schema_written (schema_roots c.args.definition.now) (λ giver. lent_trees directive_tree (filed_under giver filed)) c.args.extensions.now old mid new
+    IfOk-weaker _ _ _ (λ _ h. schema_written (schema_roots c.args.definition.now) (λ giver. map (node_tree directive_tree) (filed_under giver filed)) c.args.extensions.now old mid new
     (λ giver. filed_grown directive_tree giver (filed_under giver filed) _ (c.in_ok-file_components.ensures giver ∙ ap (λ cs. given_by giver (given_contents cs)) lists)) c.in_ok-write_definition.ensures h) c.write_schema_extensions.ensures
