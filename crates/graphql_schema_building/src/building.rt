@@ -157,8 +157,10 @@ fn add_document(
     ensures sources { OnOk result (sources_view sources.new ≡ with_sources (sources_view sources.old) (sources_of document.now)) }
     ensures refused { IfErr result (IsListRefusal (document_tree document.now) (texts_view texts.old)) }
 {
-    texts.add_all(&document.definitions)?;
-    orphans.note_all(&document.definitions)?;
+    for definition in &document.definitions {
+        texts.add(definition)?;
+        orphans.note(definition)?;
+    }
     add_sources(sources, &document.sources)?;
     Ok(())
 }

@@ -28,18 +28,8 @@ impl Orphans {
         }
     }
 
-    /// Notes the types that these define and extend.
-    pub(crate) fn note_all(&mut self, definitions: &[Definition]) -> Result<(), AllocError>
-        ensures { OnOk result (Notes (map definition_tree definitions.now) self.old self.new) }
-    {
-        for definition in definitions {
-            self.note(definition)?;
-        }
-        Ok(())
-    }
-
     /// Notes the type that this defines or extends.
-    fn note(&mut self, definition: &Definition) -> Result<(), AllocError>
+    pub(crate) fn note(&mut self, definition: &Definition) -> Result<(), AllocError>
         ensures { OnOk result (Notes (definition_tree definition.now ∷ []) self.old self.new) }
     {
         if let Some(defined) = type_definition(definition) {

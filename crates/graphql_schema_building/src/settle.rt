@@ -65,17 +65,10 @@ fn keep_texts(ignores: bool, texts: &[Listed], list: &mut Vec<Listed>) -> Result
     ensures { OnOk result (map listed_view list.new.items ≡ map listed_view list.old.items ++ filter (is_kept ignores) (map listed_view texts.now)) }
 {
     for listed in texts {
-        keep(ignores, listed, list)?;
+        if ignores && is_redefinition(&listed.definition) {
+            continue;
+        }
+        push_shared(list, &listed.definition, listed.extension)?;
     }
     Ok(())
-}
-
-/// Puts a definition behind the others of the list, if it is not passed over.
-fn keep(ignores: bool, listed: &Listed, list: &mut Vec<Listed>) -> Result<(), AllocError>
-    ensures { OnOk result (map listed_view list.new.items ≡ map listed_view list.old.items ++ filter (is_kept ignores) (listed_view listed.now ∷ [])) }
-{
-    if ignores && is_redefinition(&listed.definition) {
-        return Ok(());
-    }
-    push_shared(list, &listed.definition, listed.extension)
 }

@@ -31,19 +31,8 @@ impl Texts {
         }
     }
 
-    /// Puts definitions behind the others.
-    pub(crate) fn add_all(&mut self, definitions: &[Definition]) -> Result<(), BuilderRefusal>
-        ensures added { OnOk result (Adds (map definition_tree definitions.now) (texts_view self.old) (texts_view self.new)) }
-        ensures refused { IfErr result (IsListRefusal (map definition_tree definitions.now) (texts_view self.old)) }
-    {
-        for definition in definitions {
-            self.add(definition)?;
-        }
-        Ok(())
-    }
-
     /// Puts a definition behind the others, with a number if it is an extension.
-    fn add(&mut self, definition: &Definition) -> Result<(), BuilderRefusal>
+    pub(crate) fn add(&mut self, definition: &Definition) -> Result<(), BuilderRefusal>
         ensures added { OnOk result (Adds (definition_tree definition.now ∷ []) (texts_view self.old) (texts_view self.new)) }
         ensures refused { IfErr result (IsListRefusal (definition_tree definition.now ∷ []) (texts_view self.old)) }
     {
