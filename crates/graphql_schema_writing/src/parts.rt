@@ -15,6 +15,7 @@ use indexmap::{IndexMap, IndexSet};
 use std::alloc::{AllocError, Global};
 
 /// What a type has, filed under the definition and the extensions that gave it.
+#[derive(Drop)]
 pub(crate) struct FiledType {
     directives: IndexMap<ComponentOrigin, Vec<Node<Directive>>>,
     interfaces: IndexMap<ComponentOrigin, Vec<Name>>,
@@ -22,20 +23,6 @@ pub(crate) struct FiledType {
     members: IndexMap<ComponentOrigin, Vec<Name>>,
     values: IndexMap<ComponentOrigin, Vec<Node<EnumValueDefinition>>>,
     inputs: IndexMap<ComponentOrigin, Vec<Node<InputValueDefinition>>>,
-}
-
-/// Lets each class go, here and not wherever a filed type goes.
-impl Drop for FiledType {
-    fn drop(self) {
-        let FiledType {
-            directives: _,
-            interfaces: _,
-            fields: _,
-            members: _,
-            values: _,
-            inputs: _,
-        } = self;
-    }
 }
 
 impl FiledType {
