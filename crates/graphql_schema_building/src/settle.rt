@@ -41,11 +41,10 @@ pub(crate) fn settle(
     list_all(&built_in_definitions(alloc)?, list)?;
     let built_in = list.len();
     keep_texts(settings.ignores, &texts.list, list)?;
-    if !settings.adopts {
-        return Ok(built_in);
+    if settings.adopts {
+        adopt_types(alloc, orphans, list)?;
+        adopt_schema(alloc, list)?;
     }
-    adopt_types(alloc, orphans, list)?;
-    adopt_schema(alloc, list)?;
     Ok(built_in)
 }
 
