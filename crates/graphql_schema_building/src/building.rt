@@ -48,8 +48,14 @@ impl Building {
                 adopts: false,
                 ignores: false,
             },
-            texts: Texts::new(alloc, extensions),
-            orphans: Orphans::new(alloc),
+            texts: Texts {
+                extensions,
+                list: Vec::new(alloc),
+            },
+            orphans: Orphans {
+                extended: IndexMap::new(alloc),
+                defined: IndexMap::new(alloc),
+            },
             sources: IndexMap::new(alloc),
             failed: false,
         }

@@ -11,7 +11,7 @@ ghost use Rattle.graphql_schema_building.specs.TextsList.{Adds, IsListRefusal};
 use crate::refusal::BuilderRefusal;
 use graphql_components::{ExtensionId, Extensions};
 use graphql_schema_folding::{Definition, Listed};
-use std::alloc::{AllocError, Global};
+use std::alloc::AllocError;
 
 /// The definitions of the texts in order, each extension with its number, folded or not.
 #[derive(Drop)]
@@ -21,16 +21,6 @@ pub(crate) struct Texts {
 }
 
 impl Texts {
-    /// No definitions. Extensions will be counted so.
-    pub(crate) fn new(alloc: Global, extensions: Extensions) -> Texts
-        ensures { texts_view result ≡ record { next = extensions; list = [] } }
-    {
-        Texts {
-            extensions,
-            list: Vec::new(alloc),
-        }
-    }
-
     /// Puts a definition behind the others, with a number if it is an extension.
     pub(crate) fn add(&mut self, definition: &Definition) -> Result<(), BuilderRefusal>
         ensures added { OnOk result (Adds (definition_tree definition.now ∷ []) (texts_view self.old) (texts_view self.new)) }
