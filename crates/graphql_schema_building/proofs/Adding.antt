@@ -1,5 +1,5 @@
 -- Lemmas on definitions that are added to a list.
-use Rattle.std.proofs.Common.{◌≡◌, ℕ, ◌+◌, ◌<◌, ◌≤◌, ◌^◌, Bool, true, false, List, [], ◌∷◌, ◌++◌, map, length, Option, None, Some, refl, sym, ap, subst, ◌∙◌, cond, if◌then◌else◌, arith}
+use Rattle.std.proofs.Common.{◌≡◌, ℕ, ◌+◌, ◌<◌, ◌≤◌, ◌^◌, Bool, true, false, List, [], ◌∷◌, ◌++◌, map, length, Option, None, Some, refl, sym, ap, subst, ◌∙◌, cond, if◌then◌else◌, true≢false, arith}
 use Rattle.std.proofs.lemmas.List.{append_assoc, append-nil}
 use Rattle.graphql_names.specs.Placed.{Place}
 use Rattle.graphql_schema_folding.specs.in_definitions.DefinitionTree.{DefinitionTree}
@@ -31,7 +31,7 @@ module _ (d : DefinitionTree Place) (old new : TextsView) where
       let count : extension_count (ds ++ d ∷ []) ≡ extension_count ds = count_append ds (d ∷ []) ∙ ap (λ k. extension_count ds + k) (count_none d e) ∙ omega arith in
       (step ∙ is ∙ ap (λ k. first + k) (sym count), λ some. subst (λ k. first + k < 2 ^ 64) (sym count) (have (subst (λ k. 0 < k) count some)))
 
-  pub adds_one : new.list ≡ old.list ++ added_here ∷ [] → new.next ≡ next_number → (is_extension d ≡ true → old.next + 1 < 2 ^ 64) → Adds (d ∷ []) old new
+  adds_one : new.list ≡ old.list ++ added_here ∷ [] → new.next ≡ next_number → (is_extension d ≡ true → old.next + 1 < 2 ^ 64) → Adds (d ∷ []) old new
   adds_one list next within first ds is =
       let numbers = numbers_more (is_extension d) first old.next new.next ds refl is.next is.numbers within next in
       record {
@@ -40,6 +40,17 @@ module _ (d : DefinitionTree Place) (old new : TextsView) where
         next = numbers.0;
         numbers = numbers.1;
       }
+
+  -- a definition that is no extension, and one that is
+  pub adds_unnumbered : is_extension d ≡ false → new.list ≡ old.list ++ record { definition = d; extension = None } ∷ [] → new.next ≡ old.next → Adds (d ∷ []) old new
+  adds_unnumbered unnumbered list next =
+      adds_one (list ∙ ap (λ b. old.list ++ record { definition = d; extension = if b then Some (record { number = old.next; place = definition_place d }) else None } ∷ []) (sym unnumbered))
+      (next ∙ ap (λ b. if b then old.next + 1 else old.next) (sym unnumbered)) (λ h. absurd (true≢false (sym h ∙ unnumbered)))
+
+  pub adds_numbered : is_extension d ≡ true → new.list ≡ old.list ++ record { definition = d; extension = Some (record { number = old.next; place = definition_place d }) } ∷ [] → new.next ≡ old.next + 1 → old.next + 1 < 2 ^ 64 → Adds (d ∷ []) old new
+  adds_numbered extends list next within =
+      adds_one (list ∙ ap (λ b. old.list ++ record { definition = d; extension = if b then Some (record { number = old.next; place = definition_place d }) else None } ∷ []) (sym extends))
+      (next ∙ ap (λ b. if b then old.next + 1 else old.next) (sym extends)) (λ _. within)
 
 -- ---- in a loop
 

@@ -1,8 +1,6 @@
 -- Lemmas on lists that grow by one in each turn of a loop.
-use Rattle.std.proofs.Common.{◌≡◌, ℕ, ◌+◌, ◌<◌, Bool, List, [], ◌∷◌, ◌++◌, map, take, drop, get_or, length, refl, sym, ap, ◌∙◌}
-use Rattle.std.specs.List.{filter}
+use Rattle.std.proofs.Common.{◌≡◌, ℕ, ◌+◌, ◌<◌, List, [], ◌∷◌, ◌++◌, map, take, drop, get_or, length, refl, sym, ap, ◌∙◌}
 use Rattle.std.proofs.lemmas.List.{append_assoc, append-nil, map-append, map_more, take-append-drop, at_drop_more}
-use Rattle.std.proofs.lemmas.List.Elements.{filter-append}
 
 module _ {X Y : Type 0} (view : X → Y) (xs : List X) (i : ℕ) (x : X) (h : i < length xs) (is : x ≡ get_or xs i x) where
   -- the views of one more
@@ -20,11 +18,6 @@ module _ {X Y : Type 0} (view : X → Y) (xs : List X) (i : ℕ) (x : X) (h : i 
     mapped f before step =
         step ∙ ap (λ l. l ++ f (view x) ∷ []) before ∙ append_assoc old (map f (map view (take i xs))) (f (view x) ∷ [])
         ∙ ap (λ l. old ++ l) (sym (ap (map f) front ∙ map-append f (map view (take i xs)) (view x ∷ [])))
-
-  pub filtered : (p : Y → Bool) (old now new : List Y) → now ≡ old ++ filter p (map view (take i xs)) → new ≡ now ++ filter p (view x ∷ []) → new ≡ old ++ filter p (map view (take (i + 1) xs))
-  filtered p old now new before step =
-      step ∙ ap (λ l. l ++ filter p (view x ∷ [])) before ∙ append_assoc old (filter p (map view (take i xs))) (filter p (view x ∷ []))
-      ∙ ap (λ l. old ++ l) (sym (ap (filter p) front ∙ filter-append p (map view (take i xs)) (view x ∷ [])))
 
 -- one that is taken off what is left stands behind what there is
 pub handed_on : {A B : Type 0} (f : A → B) (old now new : List B) (all left rest : List A) (a : A) → now ++ map f left ≡ old ++ map f all → left ≡ a ∷ rest → new ≡ now ++ f a ∷ [] → new ++ map f rest ≡ old ++ map f all

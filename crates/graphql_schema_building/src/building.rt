@@ -6,7 +6,7 @@ ghost use Rattle.graphql_built_in.specs.Table.{built_in_definitions};
 ghost use Rattle.graphql_schema_folding.specs.in_folding.BuildErrors.{FoldingRules};
 ghost use Rattle.graphql_schema_folding.specs.in_folding.FaultView.{faults_of};
 ghost use Rattle.graphql_schema_building.specs.Building.{plain_settings, folded, FailsIn, counted, lent_names, IsAddRefusal, IsBuildRefusal};
-ghost use Rattle.graphql_schema_building.specs.BuiltView.{built_view, folded_view};
+ghost use Rattle.graphql_schema_building.specs.BuiltView.{built_view};
 ghost use Rattle.graphql_schema_building.specs.BuildingView.{builder_view};
 ghost use Rattle.graphql_schema_building.specs.Noted.{Notes};
 ghost use Rattle.graphql_schema_building.specs.TextsList.{Adds, IsListRefusal};
@@ -15,7 +15,7 @@ ghost use Rattle.graphql_schema_building.specs.Numbers.{HaveNumbers};
 ghost use Rattle.graphql_schema_building.specs.SourcesView.{sources_view, with_sources};
 ghost use Rattle.graphql_schema_building.specs.Waiting.{left_names};
 
-use crate::fold::{Folded, fold_list};
+use crate::fold::fold_list;
 use crate::orphans::Orphans;
 use crate::refusal::BuilderRefusal;
 use crate::settle::{Settings, settle};
@@ -48,8 +48,14 @@ impl Building {
                 adopts: false,
                 ignores: false,
             },
-            texts: Texts::new(alloc, extensions),
-            orphans: Orphans::new(alloc),
+            texts: Texts {
+                extensions,
+                list: Vec::new(alloc),
+            },
+            orphans: Orphans {
+                extended: IndexMap::new(alloc),
+                defined: IndexMap::new(alloc),
+            },
             sources: IndexMap::new(alloc),
             failed: false,
         }
@@ -119,8 +125,20 @@ impl Building {
         ensures faultless { IfOk result (λ r. (faults_of r.1 ≡ []) ↔ FoldingRules built_in_definitions (builder_view self).first (counted (builder_view self))) }
         ensures refused { IfErr result (IsBuildRefusal (builder_view self)) }
     {
+        if self.failed {
+            return Err(BuilderRefusal::Failed);
+        }
         let mut building = self;
-        let (folded, faults) = building.fold()?;
+        let mut list = Vec::new(building.alloc);
+        let built_in = settle(
+            building.alloc,
+            building.settings,
+            &building.texts,
+            &building.orphans,
+            &mut list,
+        )?;
+        let mut faults = Vec::new(building.alloc);
+        let folded = fold_list(building.alloc, &list, built_in, &mut faults)?;
         let none = IndexMap::new(building.alloc);
         let sources = mem::replace(&mut building.sources, none);
         let built = Built {
@@ -130,22 +148,6 @@ impl Building {
             types: folded.types,
         };
         Ok((built, faults))
-    }
-
-    /// What the definitions that count fold to, behind what is built in, and each rule that is broken.
-    fn fold(&self) -> Result<(Folded, Vec<(Option<SourceSpan>, BuildError)>), BuilderRefusal>
-        ensures running { OnOk result ((builder_view self.now).failed ≡ false) }
-        ensures schema { IfOk result (λ r. folded_view r.0 ≡ folded (builder_view self.now)) }
-        ensures faults { IfOk result (λ r. (f : _) → Contains (faults_of r.1) f ↔ FailsIn (builder_view self.now) f) }
-        ensures faultless { IfOk result (λ r. (faults_of r.1 ≡ []) ↔ FoldingRules built_in_definitions (builder_view self.now).first (counted (builder_view self.now))) }
-        ensures refused { IfErr result (IsBuildRefusal (builder_view self.now)) }
-    {
-        if self.failed {
-            return Err(BuilderRefusal::Failed);
-        }
-        let settled = settle(self.alloc, self.settings, &self.texts, &self.orphans)?;
-        let (folded, faults) = fold_list(self.alloc, &settled.list, settled.built_in)?;
-        Ok((folded, faults))
     }
 }
 
@@ -161,8 +163,10 @@ fn add_document(
     ensures sources { OnOk result (sources_view sources.new ≡ with_sources (sources_view sources.old) (sources_of document.now)) }
     ensures refused { IfErr result (IsListRefusal (document_tree document.now) (texts_view texts.old)) }
 {
-    texts.add_all(&document.definitions)?;
-    orphans.note_all(&document.definitions)?;
+    for definition in &document.definitions {
+        texts.add(definition)?;
+        orphans.note(definition)?;
+    }
     add_sources(sources, &document.sources)?;
     Ok(())
 }

@@ -1,12 +1,12 @@
 //! Definitions with nothing in them.
-ghost use Rattle.std.specs.Prelude.{◌≡◌, None, IfOk};
+ghost use Rattle.std.specs.Prelude.{◌≡◌, ◌++◌, [], ◌∷◌, map, None, OnOk};
 ghost use Rattle.graphql_names.specs.Node.{content, place};
 ghost use Rattle.graphql_names.specs.declared.node.Node.{Node};
 ghost use Rattle.graphql_names.specs.Placed.{name_tree};
-ghost use Rattle.graphql_schema_folding.specs.in_definitions.DefinitionTree.{definition_tree};
 ghost use Rattle.graphql_schema_folding.specs.in_folding.Adoption.{empty_schema};
+ghost use Rattle.graphql_schema_folding.specs.in_folding.ListedView.{listed_view};
 ghost use Rattle.graphql_built_in.specs.Table.{built_in_definitions};
-ghost use Rattle.graphql_schema_building.specs.Settling.{empty_of};
+ghost use Rattle.graphql_schema_building.specs.Settling.{unnumbered, empty_of};
 
 use graphql_composite_types::{InterfaceTypeDefinition, ObjectTypeDefinition, UnionTypeDefinition};
 use graphql_directives::DirectiveList;
@@ -14,27 +14,29 @@ use graphql_input_types::{
     EnumTypeDefinition, InputObjectTypeDefinition, ScalarTypeDefinition, SchemaDefinition,
 };
 use graphql_names::{Name, Node};
-use graphql_schema_folding::{Definition, TypeKind};
+use graphql_schema_folding::{Definition, Listed, TypeKind};
 use std::alloc::{AllocError, Global};
 
-/// The definition of a type of that kind and name, with nothing in it and no place.
-pub(crate) fn empty_type(
+/// Puts the definition of a type of that kind and name, with nothing in it and no place, behind the others of a list.
+pub(crate) fn push_empty_type(
     alloc: Global,
     kind: TypeKind,
     name: Name,
-) -> Result<Definition, AllocError>
-    ensures { IfOk result (λ d. definition_tree d ≡ empty_of (name_tree name, kind)) }
+    list: &mut Vec<Listed>,
+) -> Result<(), AllocError>
+    ensures { OnOk result (map listed_view list.new.items ≡ map listed_view list.old.items ++ unnumbered (empty_of (name_tree name, kind)) ∷ []) }
 {
     match kind {
-        TypeKind::Scalar => unplaced(
+        TypeKind::Scalar => push_unplaced(
             alloc,
             ScalarTypeDefinition {
                 description: None,
                 name,
                 directives: DirectiveList::new(alloc),
             },
+            list,
         ),
-        TypeKind::Object => unplaced(
+        TypeKind::Object => push_unplaced(
             alloc,
             ObjectTypeDefinition {
                 description: None,
@@ -43,8 +45,9 @@ pub(crate) fn empty_type(
                 directives: DirectiveList::new(alloc),
                 fields: Vec::new(alloc),
             },
+            list,
         ),
-        TypeKind::Interface => unplaced(
+        TypeKind::Interface => push_unplaced(
             alloc,
             InterfaceTypeDefinition {
                 description: None,
@@ -53,8 +56,9 @@ pub(crate) fn empty_type(
                 directives: DirectiveList::new(alloc),
                 fields: Vec::new(alloc),
             },
+            list,
         ),
-        TypeKind::Union => unplaced(
+        TypeKind::Union => push_unplaced(
             alloc,
             UnionTypeDefinition {
                 description: None,
@@ -62,8 +66,9 @@ pub(crate) fn empty_type(
                 directives: DirectiveList::new(alloc),
                 members: Vec::new(alloc),
             },
+            list,
         ),
-        TypeKind::Enum => unplaced(
+        TypeKind::Enum => push_unplaced(
             alloc,
             EnumTypeDefinition {
                 description: None,
@@ -71,8 +76,9 @@ pub(crate) fn empty_type(
                 directives: DirectiveList::new(alloc),
                 values: Vec::new(alloc),
             },
+            list,
         ),
-        TypeKind::InputObject => unplaced(
+        TypeKind::InputObject => push_unplaced(
             alloc,
             InputObjectTypeDefinition {
                 description: None,
@@ -80,29 +86,40 @@ pub(crate) fn empty_type(
                 directives: DirectiveList::new(alloc),
                 fields: Vec::new(alloc),
             },
+            list,
         ),
     }
 }
 
-/// The definition of a schema with nothing in it and no place.
-pub(crate) fn empty_schema(alloc: Global) -> Result<Definition, AllocError>
-    ensures { IfOk result (λ d. definition_tree d ≡ empty_schema built_in_definitions) }
+/// Puts the definition of a schema with nothing in it and no place behind the others of a list.
+pub(crate) fn push_empty_schema(alloc: Global, list: &mut Vec<Listed>) -> Result<(), AllocError>
+    ensures { OnOk result (map listed_view list.new.items ≡ map listed_view list.old.items ++ unnumbered (empty_schema built_in_definitions) ∷ []) }
 {
-    unplaced(
+    push_unplaced(
         alloc,
         SchemaDefinition {
             description: None,
             directives: DirectiveList::new(alloc),
             root_operations: Vec::new(alloc),
         },
+        list,
     )
 }
 
-/// A definition of this content and no place.
-fn unplaced<T: Drop>(alloc: Global, value: T) -> Result<Definition, AllocError>
+/// Puts a definition of this content and no place, which is no extension, behind the others of a list.
+fn push_unplaced<T: Drop>(
+    alloc: Global,
+    value: T,
+    list: &mut Vec<Listed>,
+) -> Result<(), AllocError>
 where
     Definition: From<Node<T>>,
-    ensures { IfOk result (λ d. (n : Node T) × ((content n ≡ value) × ((place n ≡ None) × ⟦<Definition as From<Node<T>>>⟧.from_gives n d))) }
+    ensures { OnOk result ((n : Node T) × (d : Definition) × ((content n ≡ value) × (place n ≡ None) × ⟦<Definition as From<Node<T>>>⟧.from_gives n d × (list.new.items ≡ list.old.items ++ record { definition = d; extension = None } ∷ []))) }
 {
-    Ok(Definition::from(Node::new(alloc, value)?))
+    let node = Node::new(alloc, value)?;
+    list.push(Listed {
+        definition: Definition::from(node),
+        extension: None,
+    })?;
+    Ok(())
 }

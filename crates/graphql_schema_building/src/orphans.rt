@@ -2,12 +2,12 @@
 ghost use Rattle.std.specs.Prelude.{◌≡◌, ◌++◌, [], ◌∷◌, map, OnOk};
 ghost use Rattle.graphql_schema_folding.specs.in_definitions.DefinitionTree.{definition_tree};
 ghost use Rattle.graphql_schema_folding.specs.in_folding.PartsView.{parts_view};
-ghost use Rattle.graphql_schema_building.specs.Noted.{IsNoteOf, Notes, NotesKind};
+ghost use Rattle.graphql_schema_building.specs.Noted.{Notes, NotesKind};
 
 use graphql_names::Name;
 use graphql_schema_folding::{Definition, Parts, TypeKind, extension_parts, type_definition};
 use indexmap::IndexMap;
-use std::alloc::{AllocError, Global};
+use std::alloc::AllocError;
 
 /// The queue of the types that are extended, with the kind of the first extension, in the order of their first
 /// extensions; and the types that are defined, so that their extensions are orphans no more.
@@ -18,28 +18,8 @@ pub(crate) struct Orphans {
 }
 
 impl Orphans {
-    /// No types.
-    pub(crate) fn new(alloc: Global) -> Orphans
-        ensures { IsNoteOf [] result }
-    {
-        Orphans {
-            extended: IndexMap::new(alloc),
-            defined: IndexMap::new(alloc),
-        }
-    }
-
-    /// Notes the types that these define and extend.
-    pub(crate) fn note_all(&mut self, definitions: &[Definition]) -> Result<(), AllocError>
-        ensures { OnOk result (Notes (map definition_tree definitions.now) self.old self.new) }
-    {
-        for definition in definitions {
-            self.note(definition)?;
-        }
-        Ok(())
-    }
-
     /// Notes the type that this defines or extends.
-    fn note(&mut self, definition: &Definition) -> Result<(), AllocError>
+    pub(crate) fn note(&mut self, definition: &Definition) -> Result<(), AllocError>
         ensures { OnOk result (Notes (definition_tree definition.now ∷ []) self.old self.new) }
     {
         if let Some(defined) = type_definition(definition) {

@@ -24,55 +24,28 @@ pub(crate) struct Settings {
     pub(crate) ignores: bool,
 }
 
-/// A list of definitions, and how many of the first are built in.
-#[derive(Drop)]
-pub(crate) struct Settled {
-    pub(crate) list: Vec<Listed>,
-    pub(crate) built_in: usize,
-}
-
-/// The list of definitions that counts, what is built in before the texts.
+/// Puts the definitions that count into an empty list, what is built in before the texts, and tells how many of the
+/// first are built in.
 pub(crate) fn settle(
     alloc: Global,
     settings: Settings,
     texts: &Texts,
     orphans: &Orphans,
-) -> Result<Settled, AllocError>
-    ensures settles { IfOk result (λ s. map listed_view s.list.items ≡ settled_from (settings_view settings) (texts_view texts.now).list (orphan_kinds orphans.now) (map unnumbered built_in_definitions)) }
-    ensures built_in { IfOk result (λ s. s.built_in ≡ length built_in_definitions) }
-    ensures within { IfOk result (λ s. s.built_in ≤ length s.list.items) }
-{
-    let mut list = Vec::new(alloc);
-    list_built_in(alloc, &mut list)?;
-    let built_in = list.len();
-    settle_texts(alloc, settings, texts, orphans, &mut list)?;
-    Ok(Settled { list, built_in })
-}
-
-/// Puts what the settings make of the texts behind what is built in.
-fn settle_texts(
-    alloc: Global,
-    settings: Settings,
-    texts: &Texts,
-    orphans: &Orphans,
     list: &mut Vec<Listed>,
-) -> Result<(), AllocError>
-    ensures { OnOk result (map listed_view list.new.items ≡ settled_from (settings_view settings) (texts_view texts.now).list (orphan_kinds orphans.now) (map listed_view list.old.items)) }
+) -> Result<usize, AllocError>
+    requires { list.old.items ≡ [] }
+    ensures settles { OnOk result (map listed_view list.new.items ≡ settled_from (settings_view settings) (texts_view texts.now).list (orphan_kinds orphans.now) (map unnumbered built_in_definitions)) }
+    ensures built_in { IfOk result (λ n. n ≡ length built_in_definitions) }
+    ensures within { IfOk result (λ n. n ≤ length list.new.items) }
 {
+    list_all(&built_in_definitions(alloc)?, list)?;
+    let built_in = list.len();
     keep_texts(settings.ignores, &texts.list, list)?;
-    if !settings.adopts {
-        return Ok(());
+    if settings.adopts {
+        adopt_types(alloc, orphans, list)?;
+        adopt_schema(alloc, list)?;
     }
-    adopt_types(alloc, orphans, list)?;
-    adopt_schema(alloc, list)
-}
-
-/// Puts what is built in behind the others of the list.
-fn list_built_in(alloc: Global, list: &mut Vec<Listed>) -> Result<(), AllocError>
-    ensures { OnOk result (map listed_view list.new.items ≡ map listed_view list.old.items ++ map unnumbered built_in_definitions) }
-{
-    let definitions = built_in_definitions(alloc)?;
-    list_all(&definitions, list)
+    Ok(built_in)
 }
 
 /// Puts definitions that are no extensions behind the others of the list.
@@ -91,17 +64,10 @@ fn keep_texts(ignores: bool, texts: &[Listed], list: &mut Vec<Listed>) -> Result
     ensures { OnOk result (map listed_view list.new.items ≡ map listed_view list.old.items ++ filter (is_kept ignores) (map listed_view texts.now)) }
 {
     for listed in texts {
-        keep(ignores, listed, list)?;
+        if ignores && is_redefinition(&listed.definition) {
+            continue;
+        }
+        push_shared(list, &listed.definition, listed.extension)?;
     }
     Ok(())
-}
-
-/// Puts a definition behind the others of the list, if it is not passed over.
-fn keep(ignores: bool, listed: &Listed, list: &mut Vec<Listed>) -> Result<(), AllocError>
-    ensures { OnOk result (map listed_view list.new.items ≡ map listed_view list.old.items ++ filter (is_kept ignores) (listed_view listed.now ∷ [])) }
-{
-    if ignores && is_redefinition(&listed.definition) {
-        return Ok(());
-    }
-    push_shared(list, &listed.definition, listed.extension)
 }

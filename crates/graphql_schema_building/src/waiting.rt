@@ -1,7 +1,7 @@
 //! The types that are extended and not defined.
 ghost use Rattle.std.specs.Prelude.{◌≡◌, []};
 ghost use Rattle.std.specs.Iterator.{YieldsFirstBy, item_count};
-ghost use Rattle.graphql_schema_building.specs.Waiting.{is_orphan_in, orphan_kinds, left_kinds, lent_kind, left_names, lent_name};
+ghost use Rattle.graphql_schema_building.specs.Waiting.{orphan_kinds, left_kinds, lent_kind, left_names, lent_name};
 
 use crate::built_in_types::is_built_in_type;
 use crate::orphans::Orphans;
@@ -44,7 +44,7 @@ impl<'a> OrphanExtensionTypes<'a> {
     {
         while let Some(((name, kind), others)) = self.extended.split_first() {
             self.extended = others;
-            if is_orphan(self.defined, name) {
+            if !self.defined.contains_key(name) && !is_built_in_type(name.as_str()) {
                 return Some((name, *kind));
             }
         }
@@ -63,11 +63,4 @@ impl<'a> Iterator for OrphanExtensionTypes<'a> {
         let (name, _) = self.next_orphan()?;
         Some(name)
     }
-}
-
-/// Whether no type of that name is defined, here or built in.
-fn is_orphan(defined: &IndexMap<Name, TypeKind>, name: &Name) -> bool
-    ensures { result ≡ is_orphan_in defined.now name.now.text }
-{
-    !defined.contains_key(name) && !is_built_in_type(name.as_str())
 }

@@ -1,30 +1,31 @@
 -- What is filed and given out by contents is so by trees.
-use Rattle.std.proofs.Common.{◌≡◌, Bool, true, false, cond, List, [], ◌∷◌, map, filter, Option, None, Some, option_copied, refl, ap, ◌∙◌}
-use Rattle.std.specs.Borrow.{Bor}
-use Rattle.std.specs.Option.{option_map}
-use Rattle.graphql_names.specs.NodeStrValue.{NodeStrValue}
+use Rattle.std.proofs.Common.{◌≡◌, Bool, true, false, cond, List, [], ◌∷◌, map, filter, Option, Vec, refl, ap, ◌∙◌}
+use Rattle.std.specs.List.{AllZip}
+use Rattle.std.specs.Global.{Global}
+use Rattle.graphql_names.specs.NameValue.{NameValue}
+use Rattle.graphql_names.specs.Node.{content, place}
 use Rattle.graphql_names.specs.declared.node.Node.{Node}
-use Rattle.graphql_names.specs.Placed.{Place, name_tree, node_tree, text_tree}
+use Rattle.graphql_names.specs.Placed.{Placed, Place, name_tree, node_tree}
 use Rattle.graphql_directives.specs.DirectiveTree.{directive_tree, input_value_tree}
 use Rattle.graphql_type_members.specs.TypeSystemTree.{field_definition_tree, enum_value_tree}
-use Rattle.graphql_components.specs.Given.{ExtensionTree, origin_tree, component_tree, component_name_tree}
+use Rattle.graphql_components.specs.Given.{ExtensionTree, origin_tree, component_tree}
 use Rattle.graphql_components.specs.declared.component.Component.{Component}
+use Rattle.graphql_components.specs.declared.component.ComponentOrigin.{ComponentOrigin}
 use Rattle.graphql_schema_types.specs.Out.{same_giver, given_by}
-use Rattle.graphql_schema_writing.specs.Filed.{itself, given_contents, filed_under, lent_node, lent_name}
-use Rattle.graphql_schema_writing.specs.Contents.{parts_given_by}
-use Rattle.graphql_schema_writing.specs.ContentsView.{contents_view, parts_view, filed_parts, grown, lent_trees}
-use Rattle.graphql_schema_writing.specs.declared.contents.Contents.{Contents}
+use Rattle.graphql_schema_writing.specs.Filed.{itself, given_contents, filed_under}
+use Rattle.graphql_schema_writing.specs.Contents.{TypeContents, parts_given_by}
+use Rattle.graphql_schema_writing.specs.ContentsView.{parts_view, filed_parts}
 use Rattle.graphql_schema_writing.specs.declared.parts.FiledType.{FiledType}
 use Rattle.graphql_schema_writing.specs.declared.parts.Parts.{Parts}
+
+-- a tree in the place of a content
+abbrev grown : {A B : Type 0} → (A → B) → Placed Place A → Placed Place B
+grown f p = record { it = f p.it; place = p.place }
 
 module _ {A B : Type 0} (f : A → B) where
   trees_grown : (ns : List (Node A)) → map (node_tree f) ns ≡ map (grown f) (map (node_tree itself) ns)
   trees_grown [] = refl
   trees_grown (n ∷ ns) = ap (λ l. node_tree f n ∷ l) (trees_grown ns)
-
-  -- nodes that are given out
-  pub shared_grown : (vs : List (Node A)) (ns : List (Bor (Node A))) → map (node_tree itself) vs ≡ map lent_node ns → map (node_tree f) vs ≡ lent_trees f ns
-  shared_grown vs ns same = trees_grown vs ∙ ap (map (grown f)) same
 
   given_grown : (giver : Option (ExtensionTree Place)) (cs : List (Component A)) → map (grown f) (given_by giver (given_contents cs)) ≡ given_by giver (map (component_tree f) cs)
   given_grown giver [] = refl
@@ -37,46 +38,71 @@ module _ {A B : Type 0} (f : A → B) where
       by false rest = rest
 
   -- nodes that are filed
-  pub filed_grown : (giver : Option (ExtensionTree Place)) (ns : List (Bor (Node A))) (cs : List (Component A)) → map lent_node ns ≡ given_by giver (given_contents cs) → lent_trees f ns ≡ given_by giver (map (component_tree f) cs)
-  filed_grown giver ns cs same = ap (map (grown f)) same ∙ given_grown giver cs
+  pub filed_grown : (giver : Option (ExtensionTree Place)) (ns : List (Node A)) (cs : List (Component A)) → map (node_tree itself) ns ≡ given_by giver (given_contents cs) → map (node_tree f) ns ≡ given_by giver (map (component_tree f) cs)
+  filed_grown giver ns cs same = trees_grown ns ∙ ap (map (grown f)) same ∙ given_grown giver cs
 
--- a description that is lent
-pub lent_description : (d : Option (Bor NodeStrValue)) → option_map (λ t. text_tree t.now) d ≡ option_map text_tree (option_copied d)
-lent_description None = refl
-lent_description (Some t) = refl
+abbrev Giver : Type 0
+Giver = Option (ExtensionTree Place)
+
+abbrev Nodes : Type 0 → Type 0
+Nodes A = List (ComponentOrigin × Vec (Node A) Global)
+
+abbrev Names : Type 0
+Names = List (ComponentOrigin × Vec NameValue Global)
+
+-- of nothing, nothing is filed
+pub no_nodes : {A B : Type 0} (f : A → B) (es : Nodes A) → es ≡ [] → (giver : Giver) → map (node_tree f) (filed_under giver es) ≡ []
+no_nodes f es none giver = ap (λ l. map (node_tree f) (filed_under giver l)) none
+
+pub no_names : (es : Names) → es ≡ [] → (giver : Giver) → map name_tree (filed_under giver es) ≡ []
+no_names es none giver = ap (λ l. map name_tree (filed_under giver l)) none
 
 -- six classes are filed
-pub all_filed : (f : FiledType) (c : Contents)
-    → ((giver : Option (ExtensionTree Place)) → map lent_node (filed_under giver f.directives.entries) ≡ given_by giver (given_contents c.directives.now))
-    → ((giver : Option (ExtensionTree Place)) → map lent_name (filed_under giver f.interfaces.entries) ≡ given_by giver (map component_name_tree c.interfaces.now))
-    → ((giver : Option (ExtensionTree Place)) → map lent_node (filed_under giver f.fields.entries) ≡ given_by giver (given_contents c.fields.now))
-    → ((giver : Option (ExtensionTree Place)) → map lent_name (filed_under giver f.members.entries) ≡ given_by giver (map component_name_tree c.members.now))
-    → ((giver : Option (ExtensionTree Place)) → map lent_node (filed_under giver f.values.entries) ≡ given_by giver (given_contents c.values.now))
-    → ((giver : Option (ExtensionTree Place)) → map lent_node (filed_under giver f.inputs.entries) ≡ given_by giver (given_contents c.inputs.now))
-    → (giver : Option (ExtensionTree Place)) → filed_parts giver f ≡ parts_given_by giver (contents_view c)
+pub all_filed : (f : FiledType) (c : TypeContents)
+    → ((giver : Giver) → map (node_tree directive_tree) (filed_under giver f.directives.entries) ≡ given_by giver c.directives)
+    → ((giver : Giver) → map name_tree (filed_under giver f.interfaces.entries) ≡ given_by giver c.interfaces)
+    → ((giver : Giver) → map (node_tree field_definition_tree) (filed_under giver f.fields.entries) ≡ given_by giver c.fields)
+    → ((giver : Giver) → map name_tree (filed_under giver f.members.entries) ≡ given_by giver c.members)
+    → ((giver : Giver) → map (node_tree enum_value_tree) (filed_under giver f.values.entries) ≡ given_by giver c.values)
+    → ((giver : Giver) → map (node_tree input_value_tree) (filed_under giver f.inputs.entries) ≡ given_by giver c.inputs)
+    → (giver : Giver) → filed_parts giver f ≡ parts_given_by giver c
 all_filed f c directives interfaces fields members values inputs giver = λ i. record {
-  directives = filed_grown directive_tree giver (filed_under giver f.directives.entries) c.directives.now (directives giver) i;
+  directives = directives giver i;
   interfaces = interfaces giver i;
-  fields = filed_grown field_definition_tree giver (filed_under giver f.fields.entries) c.fields.now (fields giver) i;
+  fields = fields giver i;
   members = members giver i;
-  values = filed_grown enum_value_tree giver (filed_under giver f.values.entries) c.values.now (values giver) i;
-  inputs = filed_grown input_value_tree giver (filed_under giver f.inputs.entries) c.inputs.now (inputs giver) i;
+  values = values giver i;
+  inputs = inputs giver i;
 }
+
+-- clones of nodes are the same nodes
+pub nodes_taken : {A B : Type 0} (f : A → B) (ns vs : List (Node A)) → AllZip (λ n v. (content v ≡ content n) × (place v ≡ place n)) ns vs → map (node_tree f) vs ≡ map (node_tree f) ns
+nodes_taken f [] [] same = refl
+nodes_taken f [] (v ∷ vs) same = absurd same
+nodes_taken f (n ∷ ns) [] same = absurd same
+nodes_taken f (n ∷ ns) (v ∷ vs) same = λ i. record { it = f (same.0.0 i); place = same.0.1 i } ∷ nodes_taken f ns vs same.1 i
+
+-- and those of names the same names
+pub names_taken : (ns vs : List NameValue) → AllZip (λ n v. v ≡ n) ns vs → map name_tree vs ≡ map name_tree ns
+names_taken [] [] same = refl
+names_taken [] (v ∷ vs) same = absurd same
+names_taken (n ∷ ns) [] same = absurd same
+names_taken (n ∷ ns) (v ∷ vs) same = λ i. name_tree (same.0 i) ∷ names_taken ns vs same.1 i
 
 -- six classes are given out
 pub all_given : (giver : Option (ExtensionTree Place)) (p : Parts) (f : FiledType)
-    → map (node_tree itself) p.directives.0.items ≡ map lent_node (filed_under giver f.directives.entries)
-    → map name_tree p.interfaces.items ≡ map lent_name (filed_under giver f.interfaces.entries)
-    → map (node_tree itself) p.fields.items ≡ map lent_node (filed_under giver f.fields.entries)
-    → map name_tree p.members.items ≡ map lent_name (filed_under giver f.members.entries)
-    → map (node_tree itself) p.values.items ≡ map lent_node (filed_under giver f.values.entries)
-    → map (node_tree itself) p.inputs.items ≡ map lent_node (filed_under giver f.inputs.entries)
+    → AllZip (λ n v. (content v ≡ content n) × (place v ≡ place n)) (filed_under giver f.directives.entries) p.directives.0.items
+    → AllZip (λ n v. v ≡ n) (filed_under giver f.interfaces.entries) p.interfaces.items
+    → AllZip (λ n v. (content v ≡ content n) × (place v ≡ place n)) (filed_under giver f.fields.entries) p.fields.items
+    → AllZip (λ n v. v ≡ n) (filed_under giver f.members.entries) p.members.items
+    → AllZip (λ n v. (content v ≡ content n) × (place v ≡ place n)) (filed_under giver f.values.entries) p.values.items
+    → AllZip (λ n v. (content v ≡ content n) × (place v ≡ place n)) (filed_under giver f.inputs.entries) p.inputs.items
     → parts_view p ≡ filed_parts giver f
 all_given giver p f directives interfaces fields members values inputs = λ i. record {
-  directives = shared_grown directive_tree p.directives.0.items (filed_under giver f.directives.entries) directives i;
-  interfaces = interfaces i;
-  fields = shared_grown field_definition_tree p.fields.items (filed_under giver f.fields.entries) fields i;
-  members = members i;
-  values = shared_grown enum_value_tree p.values.items (filed_under giver f.values.entries) values i;
-  inputs = shared_grown input_value_tree p.inputs.items (filed_under giver f.inputs.entries) inputs i;
+  directives = nodes_taken directive_tree (filed_under giver f.directives.entries) p.directives.0.items directives i;
+  interfaces = names_taken (filed_under giver f.interfaces.entries) p.interfaces.items interfaces i;
+  fields = nodes_taken field_definition_tree (filed_under giver f.fields.entries) p.fields.items fields i;
+  members = names_taken (filed_under giver f.members.entries) p.members.items members i;
+  values = nodes_taken enum_value_tree (filed_under giver f.values.entries) p.values.items values i;
+  inputs = nodes_taken input_value_tree (filed_under giver f.inputs.entries) p.inputs.items inputs i;
 }

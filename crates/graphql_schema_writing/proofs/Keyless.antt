@@ -41,7 +41,8 @@ module _ {A B : Type 0} (f : A → B) where
   values_keyless [] = refl
   values_keyless (e ∷ es) = ap (λ l. component_tree f e.1 ∷ l) (values_keyless es)
 
-contents_keyless : (t : ExtendedType) → type_contents t ≡ keyless (extended_type t)
+-- the contents of a type are those of its tree
+pub contents_keyless : (t : ExtendedType) → type_contents t ≡ keyless (extended_type t)
 contents_keyless (rust.Scalar n) = refl
 contents_keyless (rust.Object n) = λ i. record (type_contents (rust.Object n)) { fields = values_keyless field_definition_tree (content n).fields.entries i }
 contents_keyless (rust.Interface n) = λ i. record (type_contents (rust.Interface n)) { fields = values_keyless field_definition_tree (content n).fields.entries i }

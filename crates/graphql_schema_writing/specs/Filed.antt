@@ -2,11 +2,8 @@
 use Rattle.std.specs.Prelude.{◌≡◌, List, [], ◌∷◌, ◌++◌, map, Option, Vec, if◌then◌else◌}
 use Rattle.std.specs.Option.{option_map_or}
 use Rattle.std.specs.Map.{lookup}
-use Rattle.std.specs.Borrow.{Bor}
 use Rattle.std.specs.Global.{Global}
-use Rattle.graphql_names.specs.NameValue.{NameValue}
-use Rattle.graphql_names.specs.declared.node.Node.{Node}
-use Rattle.graphql_names.specs.Placed.{Placed, Place, Text, name_tree, node_tree}
+use Rattle.graphql_names.specs.Placed.{Placed, Place}
 use Rattle.graphql_components.specs.Given.{Given, ExtensionTree, origin_tree, component_tree}
 use Rattle.graphql_components.specs.declared.component.Component.{Component}
 use Rattle.graphql_components.specs.declared.component.ComponentOrigin.{ComponentOrigin}
@@ -27,11 +24,3 @@ itself x = x
 -- components as what was given, with the contents of their nodes
 abbrev pub given_contents : {A : Type 0} → List (Component A) → List (Given Place (Placed Place A))
 given_contents cs = map (component_tree itself) cs
-
--- a node that is lent, with its content
-abbrev pub lent_node : {A : Type 0} → Bor (Node A) → Placed Place A
-lent_node n = node_tree itself n.now
-
--- a name that is lent
-abbrev pub lent_name : Bor NameValue → Text Place
-lent_name n = name_tree n.now

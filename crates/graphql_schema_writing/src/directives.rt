@@ -17,22 +17,10 @@ pub(crate) fn write_directives(
     ensures { OnOk result (map definition_tree out.new.items ≡ map definition_tree out.old.items ++ flat_map written_node directives.now) }
 {
     for directive in directives {
-        write_directive(directive, out)?;
+        if directive.is_built_in() {
+            continue;
+        }
+        out.push(Definition::DirectiveDefinition(directive.clone()?))?;
     }
-    Ok(())
-}
-
-/// Writes the definition of a directive, if it is not built in.
-fn write_directive(
-    directive: &Node<DirectiveDefinition>,
-    out: &mut Vec<Definition>,
-) -> Result<(), AllocError>
-    ensures { OnOk result (map definition_tree out.new.items ≡ map definition_tree out.old.items ++ written_node directive.now) }
-{
-    if directive.is_built_in() {
-        return Ok(());
-    }
-    let definition = Definition::DirectiveDefinition(directive.clone()?);
-    out.push(definition)?;
     Ok(())
 }

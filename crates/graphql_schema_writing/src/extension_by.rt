@@ -1,5 +1,5 @@
 //! An extension of a type of each kind.
-ghost use Rattle.std.specs.Prelude.{◌≡◌, IfOk};
+ghost use Rattle.std.specs.Prelude.{◌≡◌, ◌++◌, [], ◌∷◌, map, OnOk};
 ghost use Rattle.graphql_names.specs.Placed.{name_tree};
 ghost use Rattle.graphql_schema_types.specs.in_definitions.DefinitionTree.{definition_tree, scalar_extension_parts, object_extension_parts, interface_extension_parts, union_extension_parts, enum_extension_parts, input_object_extension_parts};
 ghost use Rattle.graphql_schema_types.specs.TypeParts.{extension_by, fields_parts};
@@ -7,7 +7,7 @@ ghost use Rattle.graphql_schema_types.specs.declared.type_kind.TypeKind.TheVaria
 ghost use Rattle.graphql_schema_writing.specs.Contents.{named_parts};
 ghost use Rattle.graphql_schema_writing.specs.ContentsView.{parts_view};
 
-use crate::definition_by::placed;
+use crate::definition_by::write_placed;
 use crate::parts::Parts;
 use graphql_composite_types::{InterfaceTypeExtension, ObjectTypeExtension, UnionTypeExtension};
 use graphql_directives::DirectiveList;
@@ -17,27 +17,24 @@ use graphql_schema_types::{Definition, TypeKind};
 use std::alloc::{AllocError, Global};
 use std::mem;
 
-/// An extension of a type of that kind. The parts are taken.
-pub(crate) fn extension_by(
+/// Writes an extension of a type of that kind. The parts are taken.
+pub(crate) fn write_extension_by(
     alloc: Global,
     kind: TypeKind,
     location: Option<SourceSpan>,
     name: Name,
     parts: &mut Parts,
-) -> Result<Definition, AllocError>
-    ensures { IfOk result (λ d. definition_tree d ≡ extension_by kind location (named_parts kind (name_tree name) (parts_view parts.old))) }
+    out: &mut Vec<Definition>,
+) -> Result<(), AllocError>
+    ensures { OnOk result (map definition_tree out.new.items ≡ map definition_tree out.old.items ++ extension_by kind location (named_parts kind (name_tree name) (parts_view parts.old)) ∷ []) }
 {
     match kind {
-        TypeKind::Scalar => placed(alloc, location, scalar_extension(alloc, name, parts)),
-        TypeKind::Object => placed(alloc, location, object_extension(alloc, name, parts)),
-        TypeKind::Interface => placed(alloc, location, interface_extension(alloc, name, parts)),
-        TypeKind::Union => placed(alloc, location, union_extension(alloc, name, parts)),
-        TypeKind::Enum => placed(alloc, location, enum_extension(alloc, name, parts)),
-        TypeKind::InputObject => placed(
-            alloc,
-            location,
-            input_object_extension(alloc, name, parts),
-        ),
+        TypeKind::Scalar => write_placed(alloc, location, scalar_extension(alloc, name, parts), out),
+        TypeKind::Object => write_placed(alloc, location, object_extension(alloc, name, parts), out),
+        TypeKind::Interface => write_placed(alloc, location, interface_extension(alloc, name, parts), out),
+        TypeKind::Union => write_placed(alloc, location, union_extension(alloc, name, parts), out),
+        TypeKind::Enum => write_placed(alloc, location, enum_extension(alloc, name, parts), out),
+        TypeKind::InputObject => write_placed(alloc, location, input_object_extension(alloc, name, parts), out),
     }
 }
 

@@ -1,16 +1,17 @@
 //! Components filed under the definition or extension that gave them.
-ghost use Rattle.std.specs.Prelude.{◌≡◌, [], map, IfOk, OnOk};
+ghost use Rattle.std.specs.Prelude.{◌≡◌, [], map, OnOk};
+ghost use Rattle.std.specs.List.{AllZip};
 ghost use Rattle.graphql_names.specs.Placed.{name_tree, node_tree};
 ghost use Rattle.graphql_components.specs.Given.{origin_tree, component_name_tree};
 ghost use Rattle.graphql_schema_types.specs.Out.{given_by};
-ghost use Rattle.graphql_schema_writing.specs.Filed.{filed_under, FilesOn, itself, given_contents, lent_node, lent_name};
+ghost use Rattle.graphql_schema_writing.specs.Filed.{filed_under, FilesOn, given_contents, itself};
 
 use graphql_components::{Component, ComponentName, ComponentOrigin};
 use graphql_names::{Name, Node};
 use indexmap::IndexMap;
 use std::alloc::{AllocError, Global};
 
-/// Files something behind what its giver gave before.
+/// Files an item behind what its giver gave before.
 fn file<X: Drop>(
     alloc: Global,
     filed: &mut IndexMap<ComponentOrigin, Vec<X>>,
@@ -29,98 +30,47 @@ fn file<X: Drop>(
     Ok(())
 }
 
-/// Files nodes under their givers. No node is copied.
-pub(crate) fn file_components<'a, T>(
+/// Files nodes under their givers, shared: what they hold is not copied.
+pub(crate) fn file_components<T: Drop>(
     alloc: Global,
-    components: &'a [Component<T>],
-    filed: &mut IndexMap<ComponentOrigin, Vec<&'a Node<T>>>,
+    components: &[Component<T>],
+    filed: &mut IndexMap<ComponentOrigin, Vec<Node<T>>>,
 ) -> Result<(), AllocError>
     requires { filed.old.entries ≡ [] }
-    ensures { OnOk result ((giver : _) → map lent_node (filed_under giver filed.new.entries) ≡ given_by giver (given_contents components.now)) }
+    ensures { OnOk result ((giver : _) → map (node_tree itself) (filed_under giver filed.new.entries) ≡ given_by giver (given_contents components.now)) }
 {
     for component in components {
-        file(alloc, filed, component.origin, &component.node)?;
+        file(alloc, filed, component.origin, component.node.clone()?)?;
     }
     Ok(())
 }
 
-/// Files names under their givers. No name is copied.
-pub(crate) fn file_names<'a>(
+/// Files names under their givers, shared: no text is copied.
+pub(crate) fn file_names(
     alloc: Global,
-    components: &'a [ComponentName],
-    filed: &mut IndexMap<ComponentOrigin, Vec<&'a Name>>,
+    components: &[ComponentName],
+    filed: &mut IndexMap<ComponentOrigin, Vec<Name>>,
 ) -> Result<(), AllocError>
     requires { filed.old.entries ≡ [] }
-    ensures { OnOk result ((giver : _) → map lent_name (filed_under giver filed.new.entries) ≡ given_by giver (map component_name_tree components.now)) }
+    ensures { OnOk result ((giver : _) → map name_tree (filed_under giver filed.new.entries) ≡ given_by giver (map component_name_tree components.now)) }
 {
     for component in components {
-        file(alloc, filed, component.origin, &component.name)?;
+        file(alloc, filed, component.origin, component.name.clone()?)?;
     }
     Ok(())
 }
 
-/// Takes the nodes that this giver gave, shared.
-pub(crate) fn take_nodes<T: Drop>(
-    filed: &IndexMap<ComponentOrigin, Vec<&Node<T>>>,
+/// Takes what this giver gave, shared.
+pub(crate) fn take<X: Clone>(
+    filed: &IndexMap<ComponentOrigin, Vec<X>>,
     giver: ComponentOrigin,
-    out: &mut Vec<Node<T>>,
+    out: &mut Vec<X>,
 ) -> Result<(), AllocError>
     requires { out.old.items ≡ [] }
-    ensures { OnOk result (map (node_tree itself) out.new.items ≡ map lent_node (filed_under (origin_tree giver) filed.now.entries)) }
+    ensures { OnOk result (AllZip X.is_clone (filed_under (origin_tree giver) filed.now.entries) out.new.items) }
 {
     match filed.get(&giver) {
         None => Ok(()),
-        Some(nodes) => share_nodes(nodes, out),
+        Some(items) => out.extend_from_slice(items),
     }
-}
-
-/// Takes the names that this giver gave.
-pub(crate) fn take_names(
-    filed: &IndexMap<ComponentOrigin, Vec<&Name>>,
-    giver: ComponentOrigin,
-    out: &mut Vec<Name>,
-) -> Result<(), AllocError>
-    requires { out.old.items ≡ [] }
-    ensures { OnOk result (map name_tree out.new.items ≡ map lent_name (filed_under (origin_tree giver) filed.now.entries)) }
-{
-    match filed.get(&giver) {
-        None => Ok(()),
-        Some(names) => share_names(names, out),
-    }
-}
-
-/// Takes the same nodes: what they hold is shared.
-fn share_nodes<T: Drop>(nodes: &[&Node<T>], out: &mut Vec<Node<T>>) -> Result<(), AllocError>
-    requires { out.old.items ≡ [] }
-    ensures { OnOk result (map (node_tree itself) out.new.items ≡ map lent_node nodes.now) }
-{
-    for node in nodes {
-        out.push(shared_node(node)?)?;
-    }
-    Ok(())
-}
-
-/// The same node: what it holds is shared.
-fn shared_node<T: Drop>(node: &Node<T>) -> Result<Node<T>, AllocError>
-    ensures { IfOk result (λ n. node_tree itself n ≡ node_tree itself node.now) }
-{
-    node.clone()
-}
-
-/// Takes the same names: no text is copied.
-fn share_names(names: &[&Name], out: &mut Vec<Name>) -> Result<(), AllocError>
-    requires { out.old.items ≡ [] }
-    ensures { OnOk result (map name_tree out.new.items ≡ map lent_name names.now) }
-{
-    for name in names {
-        out.push(shared_name(name)?)?;
-    }
-    Ok(())
-}
-
-/// The same name: no text is copied.
-fn shared_name(name: &Name) -> Result<Name, AllocError>
-    ensures { IfOk result (λ n. name_tree n ≡ name_tree name.now) }
-{
-    name.clone()
 }

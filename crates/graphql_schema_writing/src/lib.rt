@@ -7,7 +7,6 @@
 //! takes time linear in what the schema holds.
 #![tactic(auto)]
 
-mod contents;
 mod definition_by;
 mod directives;
 mod extension_by;

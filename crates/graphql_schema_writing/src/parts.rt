@@ -1,32 +1,33 @@
 //! What each giver gave to a type.
-ghost use Rattle.std.specs.Prelude.{◌≡◌, OnOk};
+ghost use Rattle.std.specs.Prelude.{◌≡◌, [], OnOk};
+ghost use Rattle.indexmap.specs.IndexMap.{values};
 ghost use Rattle.graphql_components.specs.Given.{origin_tree};
-ghost use Rattle.graphql_schema_writing.specs.Contents.{parts_given_by};
-ghost use Rattle.graphql_schema_writing.specs.ContentsView.{GivesNothing, HoldsNothing, contents_view, filed_parts, parts_view};
+ghost use Rattle.graphql_schema_writing.specs.Contents.{parts_given_by, type_contents};
+ghost use Rattle.graphql_schema_writing.specs.ContentsView.{FilesFields, GivesNothing, HoldsNothing, filed_parts, parts_view};
 
-use crate::contents::Contents;
-use crate::filing::{file_components, file_names, take_names, take_nodes};
-use graphql_components::ComponentOrigin;
+use crate::filing::{file_components, file_names, take};
+use graphql_components::{Component, ComponentName, ComponentOrigin};
 use graphql_directives::{Directive, DirectiveList, InputValueDefinition};
 use graphql_names::{Name, Node};
+use graphql_schema_types::ExtendedType;
 use graphql_type_members::{EnumValueDefinition, FieldDefinition};
-use indexmap::IndexMap;
+use indexmap::{IndexMap, IndexSet};
 use std::alloc::{AllocError, Global};
 
 /// What a type has, filed under the definition and the extensions that gave it.
 #[derive(Drop)]
-pub(crate) struct FiledType<'a> {
-    directives: IndexMap<ComponentOrigin, Vec<&'a Node<Directive>>>,
-    interfaces: IndexMap<ComponentOrigin, Vec<&'a Name>>,
-    fields: IndexMap<ComponentOrigin, Vec<&'a Node<FieldDefinition>>>,
-    members: IndexMap<ComponentOrigin, Vec<&'a Name>>,
-    values: IndexMap<ComponentOrigin, Vec<&'a Node<EnumValueDefinition>>>,
-    inputs: IndexMap<ComponentOrigin, Vec<&'a Node<InputValueDefinition>>>,
+pub(crate) struct FiledType {
+    directives: IndexMap<ComponentOrigin, Vec<Node<Directive>>>,
+    interfaces: IndexMap<ComponentOrigin, Vec<Name>>,
+    fields: IndexMap<ComponentOrigin, Vec<Node<FieldDefinition>>>,
+    members: IndexMap<ComponentOrigin, Vec<Name>>,
+    values: IndexMap<ComponentOrigin, Vec<Node<EnumValueDefinition>>>,
+    inputs: IndexMap<ComponentOrigin, Vec<Node<InputValueDefinition>>>,
 }
 
-impl<'a> FiledType<'a> {
+impl FiledType {
     /// Nothing.
-    pub(crate) fn new(alloc: Global) -> FiledType<'a>
+    pub(crate) fn new(alloc: Global) -> FiledType
         ensures { HoldsNothing result }
     {
         FiledType {
@@ -40,16 +41,46 @@ impl<'a> FiledType<'a> {
     }
 
     /// Files what a type has, each component once.
-    pub(crate) fn file(&mut self, alloc: Global, contents: &Contents<'a>) -> Result<(), AllocError>
+    pub(crate) fn file(&mut self, alloc: Global, t: &ExtendedType) -> Result<(), AllocError>
         requires { HoldsNothing self.old }
-        ensures { OnOk result ((giver : _) → filed_parts giver self.new ≡ parts_given_by giver (contents_view contents.now)) }
+        ensures { OnOk result ((giver : _) → filed_parts giver self.new ≡ parts_given_by giver (type_contents t.now)) }
     {
-        file_components(alloc, contents.directives, &mut self.directives)?;
-        file_names(alloc, contents.interfaces, &mut self.interfaces)?;
-        file_components(alloc, contents.fields, &mut self.fields)?;
-        file_names(alloc, contents.members, &mut self.members)?;
-        file_components(alloc, contents.values, &mut self.values)?;
-        file_components(alloc, contents.inputs, &mut self.inputs)
+        file_components(alloc, &t.directives().0, &mut self.directives)?;
+        match t {
+            ExtendedType::Scalar(_) => Ok(()),
+            ExtendedType::Object(node) => {
+                let t = node.content();
+                self.file_fields(alloc, &t.implements_interfaces, &t.fields)
+            }
+            ExtendedType::Interface(node) => {
+                let t = node.content();
+                self.file_fields(alloc, &t.implements_interfaces, &t.fields)
+            }
+            ExtendedType::Union(node) => {
+                file_names(alloc, node.content().members.as_slice(), &mut self.members)
+            }
+            ExtendedType::Enum(node) => {
+                file_components(alloc, node.content().values.values().as_slice(), &mut self.values)
+            }
+            ExtendedType::InputObject(node) => {
+                file_components(alloc, node.content().fields.values().as_slice(), &mut self.inputs)
+            }
+        }
+    }
+
+    /// Files the interfaces and the fields of an object or interface type.
+    fn file_fields(
+        &mut self,
+        alloc: Global,
+        interfaces: &IndexSet<ComponentName>,
+        fields: &IndexMap<Name, Component<FieldDefinition>>,
+    ) -> Result<(), AllocError>
+        requires interfaces { self.old.interfaces.entries ≡ [] }
+        requires fields { self.old.fields.entries ≡ [] }
+        ensures { OnOk result (FilesFields interfaces.now.keys (values fields.now) self.old self.new) }
+    {
+        file_names(alloc, interfaces.as_slice(), &mut self.interfaces)?;
+        file_components(alloc, fields.values().as_slice(), &mut self.fields)
     }
 }
 
@@ -95,17 +126,17 @@ impl Parts {
     /// Takes, shared, what this giver gave to the type.
     pub(crate) fn take_given(
         &mut self,
-        filed: &FiledType<'_>,
+        filed: &FiledType,
         giver: ComponentOrigin,
     ) -> Result<(), AllocError>
         requires { GivesNothing self.old }
         ensures { OnOk result (parts_view self.new ≡ filed_parts (origin_tree giver) filed.now) }
     {
-        take_nodes(&filed.directives, giver, &mut self.directives.0)?;
-        take_names(&filed.interfaces, giver, &mut self.interfaces)?;
-        take_nodes(&filed.fields, giver, &mut self.fields)?;
-        take_names(&filed.members, giver, &mut self.members)?;
-        take_nodes(&filed.values, giver, &mut self.values)?;
-        take_nodes(&filed.inputs, giver, &mut self.inputs)
+        take(&filed.directives, giver, &mut self.directives.0)?;
+        take(&filed.interfaces, giver, &mut self.interfaces)?;
+        take(&filed.fields, giver, &mut self.fields)?;
+        take(&filed.members, giver, &mut self.members)?;
+        take(&filed.values, giver, &mut self.values)?;
+        take(&filed.inputs, giver, &mut self.inputs)
     }
 }

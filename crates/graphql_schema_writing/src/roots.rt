@@ -1,5 +1,5 @@
 //! The roots that each giver gave to the schema.
-ghost use Rattle.std.specs.Prelude.{◌≡◌, ◌++◌, [], map, None, Some, OnOk};
+ghost use Rattle.std.specs.Prelude.{◌≡◌, ◌++◌, [], map, None, OnOk};
 ghost use Rattle.std.specs.Option.{option_map};
 ghost use Rattle.graphql_names.specs.Placed.{node_tree};
 ghost use Rattle.graphql_schema_types.specs.in_definitions.DefinitionTree.{root_tree};
@@ -42,7 +42,7 @@ pub(crate) fn add_roots(
     )
 }
 
-/// Adds the root of an operation, if it is there and this giver gave it.
+/// Adds the root of an operation, if it is there and this giver gave it. Of the pair no place was kept.
 fn add_root(
     alloc: Global,
     giver: ComponentOrigin,
@@ -52,22 +52,9 @@ fn add_root(
 ) -> Result<(), AllocError>
     ensures { OnOk result (map (node_tree root_tree) roots.new.items ≡ map (node_tree root_tree) roots.old.items ++ root_given_by None (origin_tree giver) operation (option_map component_name_tree root.now)) }
 {
-    match root {
-        None => Ok(()),
-        Some(root) => add_given_root(alloc, giver, operation, root, roots),
-    }
-}
-
-/// Adds the root of an operation, if this giver gave it. Of the pair no place was kept.
-fn add_given_root(
-    alloc: Global,
-    giver: ComponentOrigin,
-    operation: OperationType,
-    root: &ComponentName,
-    roots: &mut Vec<Node<(OperationType, NamedType)>>,
-) -> Result<(), AllocError>
-    ensures { OnOk result (map (node_tree root_tree) roots.new.items ≡ map (node_tree root_tree) roots.old.items ++ root_given_by None (origin_tree giver) operation (Some (component_name_tree root.now))) }
-{
+    let Some(root) = root else {
+        return Ok(());
+    };
     if !is_same_giver(giver, root.origin) {
         return Ok(());
     }

@@ -1,16 +1,23 @@
-use Rattle.std.proofs.Common.{map}
-use Rattle.std.specs.Prelude.{Vec}
-use Rattle.std.specs.declared.alloc.Global.{Global}
-use Rattle.std.proofs.lemmas.Result.{IfOk-weaker}
-use Rattle.graphql_names.specs.Placed.{Place}
-use Rattle.graphql_schema_folding.specs.in_folding.FaultView.{faults_of}
+use Rattle.std.proofs.Common.{map, subst}
+use Rattle.graphql_schema_folding.specs.in_schema_types.SchemaView.{schema_view}
+use Rattle.graphql_schema_folding.specs.in_folding.FaultView.{fault_of, faults_of}
 use Rattle.graphql_schema_folding.specs.in_folding.ListedView.{listed_view}
-use Rattle.graphql_schema_folding.specs.in_folding.declared.build_error.BuildError.{BuildError}
-use Rattle.graphql_schema_building.specs.BuiltView.{folded_view}
-use Rattle.graphql_schema_building.specs.declared.fold.Folded.{Folded}
-use Rattle.graphql_schema_building.proofs.Folding.{folds_split}
+use Rattle.graphql_schema_folding.specs.Misplaced.{TellsMisplaced}
+use Rattle.graphql_schema_folding.specs.ListFold.{definitions_of}
+use Rattle.graphql_schema_building.proofs.Folding.{folds_parts, folds_split}
 use Rattle.graphql_schema_building.proofs.fold.fold_list.Goals as goal
 
 pub returns : goal.returns
-returns c = IfOk-weaker _ _ _ (λ (r : Folded × Vec (Place × BuildError) Global). λ h.
-    folds_split listed_view c.args.list.now c.split_at.result.0.now c.split_at.result.1.now c.args.built_in c.split_at.ensures.front c.split_at.ensures.back (folded_view r.0) (faults_of r.1) h) c.fold_parts.ensures
+returns c =
+    let xs = c.args.list.now in
+    let front = c.split_at.result.0.now in
+    let back = c.split_at.result.1.now in
+    let built_in = map listed_view front in
+    let texts = map listed_view back in
+    let schema = schema_view c.in_ok-schema_definition.schema_definition c.in_ok-directive_definitions.directive_definitions c.in_ok-types.types in
+    folds_split listed_view xs front back c.args.built_in c.split_at.ensures.front c.split_at.ensures.back schema (faults_of c.fold_types.new.faults)
+    (folds_parts (map listed_view xs) built_in texts schema
+    (faults_of c.tell_misplaced.new.faults) (faults_of c.fold_schema.new.faults) (faults_of c.fold_directives.new.faults) (faults_of c.fold_types.new.faults)
+    (subst (λ l. TellsMisplaced (definitions_of built_in) (definitions_of texts) (map fault_of l) (faults_of c.tell_misplaced.new.faults)) c.requires.faultless c.in_ok-tell_misplaced.ensures.tells)
+    c.in_ok-schema_definition.ensures.tells c.in_ok-directive_definitions.ensures.tells c.in_ok-types.ensures.tells
+    c.in_ok-schema_definition.ensures.is_fold c.in_ok-directive_definitions.ensures.folded c.in_ok-types.ensures.folded)

@@ -1,14 +1,19 @@
-use Rattle.std.proofs.Common.{[], ◌∷◌, ◌++◌, map, ap, ◌∙◌}
+use Rattle.std.proofs.Common.{[], ◌∷◌, ◌++◌, map, Some, sym, ◌∙◌}
 use Rattle.graphql_schema_folding.specs.in_definitions.DefinitionTree.{definition_tree}
 use Rattle.graphql_schema_folding.specs.in_folding.ListedView.{listed_view}
 use Rattle.graphql_schema_building.specs.TextsView.{texts_view}
-use Rattle.graphql_schema_building.proofs.Adding.{adds_one}
+use Rattle.graphql_schema_building.proofs.Adding.{adds_unnumbered, adds_numbered}
 use Rattle.graphql_schema_building.proofs.texts.Texts.add.Goals as goal
+
+pub returns-then-not-is_extension_definition-clause-added : goal.returns-then-not-is_extension_definition-clause-added
+returns-then-not-is_extension_definition-clause-added c =
+    adds_unnumbered (definition_tree c.args.definition.now) (texts_view c.args.self.now) _ (sym c.is_extension_definition.ensures ∙ c.if-not-is_extension_definition.true) c.in_ok-push_shared.ensures (λ _. c.args.self.now.extensions)
 
 pub returns-clause-added : goal.returns-clause-added
 returns-clause-added c =
     let d = definition_tree c.args.definition.now in
+    let id = c.in_ok-id.ensures in
+    let place = id.location ∙ c.location.ensures in
     let before = map listed_view c.args.self.now.list.items in
-    adds_one d (texts_view c.args.self.now) _
-    (c.in_ok-push_shared.ensures ∙ ap (λ e. before ++ record { definition = d; extension = e } ∷ []) c.in_ok-extension.ensures.given)
-    c.in_ok-extension.ensures.goes_on c.in_ok-extension.ensures.not_spent
+    adds_numbered d (texts_view c.args.self.now) _ (sym c.is_extension_definition.ensures ∙ c.if-not-is_extension_definition.false)
+    (c.in_ok-push_shared-2.ensures ∙ (λ i. before ++ record { definition = d; extension = Some (record { number = id.given i; place = place i }) } ∷ [])) id.goes_on id.not_spent
