@@ -4,9 +4,8 @@ pub mod Noting
 pub mod Sourcing
 pub mod Awaited
 pub mod Settled
-pub mod Folding
 pub mod Growing
 pub mod Keeping
 pub mod Schemas
-pub use Rattle.graphql_schema_folding.proofs.in_schema_types as in_schema_types
-pub use Rattle.graphql_schema_folding.proofs as in_schema_folding
+pub use Rattle.graphql_list_folding.proofs.in_schema_types as in_schema_types
+pub use Rattle.graphql_list_folding.proofs.in_schema_folding as in_schema_folding

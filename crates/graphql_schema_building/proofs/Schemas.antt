@@ -2,8 +2,8 @@
 use Rattle.std.proofs.Common.{◌≡◌, [], ◌∷◌, map, Option, None, Some, refl, is_some, option_copied, codes}
 use Rattle.std.specs.Borrow.{Bor}
 use Rattle.std.specs.Option.{option_map}
-use Rattle.graphql_schema_folding.specs.in_folding.Listed.{type_name, types_in}
-use Rattle.graphql_built_in.specs.Table.{built_in_definitions}
+use Rattle.graphql_list_folding.specs.in_folding.Listed.{type_name, types_in}
+use Rattle.graphql_list_folding.specs.in_built_in.Table.{built_in_definitions}
 
 pub is_there : {X Y : Type 0} (f : X → Y) (o : Option (Bor X)) → is_some o ≡ is_some (option_map f (option_copied o))
 is_there f None = refl

@@ -11,8 +11,7 @@ pub mod Noted
 pub mod Waiting
 pub mod SettingsView
 pub mod Settling
-pub mod ListBuilt
-pub use Rattle.graphql_built_in.specs as in_built_in
-pub use Rattle.graphql_schema_folding.specs.in_folding as in_folding
-pub use Rattle.graphql_schema_folding.specs.in_schema_types as in_schema_types
-pub use Rattle.graphql_schema_folding.specs as in_schema_folding
+pub use Rattle.graphql_list_folding.specs.in_built_in as in_built_in
+pub use Rattle.graphql_list_folding.specs.in_folding as in_folding
+pub use Rattle.graphql_list_folding.specs.in_schema_types as in_schema_types
+pub use Rattle.graphql_list_folding.specs.in_schema_folding as in_schema_folding

@@ -1,8 +1,8 @@
 //! Adoption: empty definitions for what is extended and not defined.
 ghost use Rattle.std.specs.Prelude.{◌≡◌, ◌++◌, ◌&&◌, [], ◌∷◌, not, map, is_some, if◌then◌else◌, OnOk};
 ghost use Rattle.std.specs.List.{list_any};
-ghost use Rattle.graphql_schema_folding.specs.in_folding.ListedView.{listed_view};
-ghost use Rattle.graphql_schema_folding.specs.ListFold.{definitions_of};
+ghost use Rattle.graphql_list_folding.specs.in_folding.ListedView.{listed_view};
+ghost use Rattle.graphql_list_folding.specs.in_schema_folding.ListFold.{definitions_of};
 ghost use Rattle.graphql_schema_building.specs.Settling.{unnumbered, empty_of, adopted_schema};
 ghost use Rattle.graphql_schema_building.specs.Waiting.{orphan_kinds};
 
@@ -10,7 +10,7 @@ use crate::defined::{has_schema_extension, schema_is_defined};
 use crate::empty::{push_empty_schema, push_empty_type};
 use crate::orphans::Orphans;
 use crate::waiting::OrphanExtensionTypes;
-use graphql_schema_folding::Listed;
+use graphql_list_folding::Listed;
 use std::alloc::{AllocError, Global};
 
 /// Puts an empty definition at the list's end for each type that is extended and not defined, of the kind of its first

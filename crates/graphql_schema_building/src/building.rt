@@ -1,10 +1,10 @@
 //! What is asked of a schema builder's state.
 ghost use Rattle.std.specs.Prelude.{◌≡◌, ◌↔◌, ◌++◌, [], true, false, IfOk, IfErr, OnOk, Contains};
-ghost use Rattle.graphql_schema_folding.specs.in_definitions.DefinitionTree.{document_tree};
-ghost use Rattle.graphql_schema_folding.specs.in_definitions.Sources.{sources_of};
-ghost use Rattle.graphql_built_in.specs.Table.{built_in_definitions};
-ghost use Rattle.graphql_schema_folding.specs.in_folding.BuildErrors.{FoldingRules};
-ghost use Rattle.graphql_schema_folding.specs.in_folding.FaultView.{faults_of};
+ghost use Rattle.graphql_list_folding.specs.in_definitions.DefinitionTree.{document_tree};
+ghost use Rattle.graphql_list_folding.specs.in_definitions.Sources.{sources_of};
+ghost use Rattle.graphql_list_folding.specs.in_built_in.Table.{built_in_definitions};
+ghost use Rattle.graphql_list_folding.specs.in_folding.BuildErrors.{FoldingRules};
+ghost use Rattle.graphql_list_folding.specs.in_folding.FaultView.{faults_of};
 ghost use Rattle.graphql_schema_building.specs.Building.{plain_settings, folded, FailsIn, counted, lent_names, IsAddRefusal, IsBuildRefusal};
 ghost use Rattle.graphql_schema_building.specs.BuiltView.{built_view};
 ghost use Rattle.graphql_schema_building.specs.BuildingView.{builder_view};
@@ -15,7 +15,6 @@ ghost use Rattle.graphql_schema_building.specs.Numbers.{HaveNumbers};
 ghost use Rattle.graphql_schema_building.specs.SourcesView.{sources_view, with_sources};
 ghost use Rattle.graphql_schema_building.specs.Waiting.{left_names};
 
-use crate::fold::fold_list;
 use crate::orphans::Orphans;
 use crate::refusal::BuilderRefusal;
 use crate::settle::{Settings, settle};
@@ -24,8 +23,8 @@ use crate::state::{Building, Built};
 use crate::texts::Texts;
 use crate::waiting::OrphanExtensionTypes;
 use graphql_components::Extensions;
+use graphql_list_folding::{BuildError, Document, SourceFile, fold_list};
 use graphql_names::{FileId, SourceSpan};
-use graphql_schema_folding::{BuildError, Document, SourceFile};
 use indexmap::IndexMap;
 use std::alloc::Global;
 use std::mem;

@@ -1,12 +1,12 @@
 //! Whether a list of definitions extends the schema, and whether it defines it.
 ghost use Rattle.std.specs.Prelude.{◌≡◌, map, is_some};
 ghost use Rattle.std.specs.List.{list_any};
-ghost use Rattle.graphql_schema_folding.specs.in_folding.SchemaFold.{schema_extension_here, schema_is_defined};
-ghost use Rattle.graphql_schema_folding.specs.in_folding.ListedView.{listed_view};
-ghost use Rattle.graphql_schema_folding.specs.ListFold.{definitions_of};
+ghost use Rattle.graphql_list_folding.specs.in_folding.SchemaFold.{schema_extension_here, schema_is_defined};
+ghost use Rattle.graphql_list_folding.specs.in_folding.ListedView.{listed_view};
+ghost use Rattle.graphql_list_folding.specs.in_schema_folding.ListFold.{definitions_of};
 
+use graphql_list_folding::{Listed, first_schema, is_object, schema_extension};
 use graphql_operations::OperationType;
-use graphql_schema_folding::{Listed, first_schema, is_object, schema_extension};
 
 /// Whether the schema is extended.
 #[tactic(auto, using(crate::proofs::Schemas::is_there))]

@@ -12,7 +12,6 @@ mod building;
 mod built_in_types;
 mod defined;
 mod empty;
-mod fold;
 mod orphans;
 mod refusal;
 mod settle;
@@ -21,8 +20,7 @@ mod state;
 mod texts;
 mod waiting;
 
-pub use graphql_built_in::{schema_field, type_field, typename_field};
-pub use graphql_schema_folding::BuildError;
+pub use graphql_list_folding::{BuildError, schema_field, type_field, typename_field};
 pub use refusal::BuilderRefusal;
 pub use state::{Building, Built};
 pub use waiting::OrphanExtensionTypes;

@@ -5,8 +5,8 @@ use crate::orphans::Orphans;
 use crate::settle::Settings;
 use crate::texts::Texts;
 use graphql_directives::DirectiveDefinition;
+use graphql_list_folding::{ExtendedType, SchemaDefinition, SourceFile};
 use graphql_names::{FileId, Name, Node};
-use graphql_schema_folding::{ExtendedType, SchemaDefinition, SourceFile};
 use indexmap::IndexMap;
 use std::alloc::Global;
 

@@ -21,3 +21,4 @@ pub mod Judging
 pub mod TellingMisplaced
 pub mod Turns
 pub mod MisplacedRows
+pub use Rattle.graphql_components.proofs as in_components

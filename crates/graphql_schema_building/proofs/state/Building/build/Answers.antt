@@ -1,13 +1,13 @@
 use Rattle.std.proofs.Common.{map, ap, ◌∙◌}
-use Rattle.graphql_built_in.specs.Table.{built_in_definitions}
-use Rattle.graphql_schema_folding.specs.in_folding.FaultView.{faults_of}
-use Rattle.graphql_schema_folding.specs.in_folding.ListedView.{listed_view}
+use Rattle.graphql_list_folding.specs.in_built_in.Table.{built_in_definitions}
+use Rattle.graphql_list_folding.specs.in_folding.FaultView.{faults_of}
+use Rattle.graphql_list_folding.specs.in_folding.ListedView.{listed_view}
 use Rattle.graphql_schema_building.specs.Building.{counted}
 use Rattle.graphql_schema_building.specs.BuildingView.{builder_view}
 use Rattle.graphql_schema_building.specs.KeptView.{first_number}
 use Rattle.graphql_schema_building.specs.SettingsView.{settings_view}
 use Rattle.graphql_schema_building.specs.SourcesView.{sources_view}
-use Rattle.graphql_schema_building.proofs.Folding.{faultless}
+use Rattle.graphql_list_folding.proofs.Folding.{faultless}
 use Rattle.graphql_schema_building.proofs.Keeping.{from_kept, list_is}
 use Rattle.graphql_schema_building.proofs.state.Building.build.Goals as goal
 

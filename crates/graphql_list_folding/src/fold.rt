@@ -2,8 +2,8 @@
 ghost use Rattle.std.specs.Prelude.{◌≡◌, ◌≤◌, [], length, map, IfOk};
 ghost use Rattle.graphql_schema_folding.specs.in_folding.FaultView.{faults_of};
 ghost use Rattle.graphql_schema_folding.specs.in_folding.ListedView.{listed_view};
-ghost use Rattle.graphql_schema_building.specs.BuiltView.{folded_view};
-ghost use Rattle.graphql_schema_building.specs.ListBuilt.{Folds};
+ghost use Rattle.graphql_list_folding.specs.FoldedView.{folded_view};
+ghost use Rattle.graphql_list_folding.specs.ListBuilt.{Folds};
 
 use graphql_directives::DirectiveDefinition;
 use graphql_names::{Name, Node, SourceSpan};
@@ -16,14 +16,14 @@ use std::alloc::{AllocError, Global};
 
 /// What the definitions of a list fold to.
 #[derive(Drop)]
-pub(crate) struct Folded {
-    pub(crate) schema_definition: Node<SchemaDefinition>,
-    pub(crate) directive_definitions: IndexMap<Name, Node<DirectiveDefinition>>,
-    pub(crate) types: IndexMap<Name, ExtendedType>,
+pub struct Folded {
+    pub schema_definition: Node<SchemaDefinition>,
+    pub directive_definitions: IndexMap<Name, Node<DirectiveDefinition>>,
+    pub types: IndexMap<Name, ExtendedType>,
 }
 
 /// Folds a list, of which the first `built_in` definitions are what is built in, and tells each rule that is broken.
-pub(crate) fn fold_list(
+pub fn fold_list(
     alloc: Global,
     list: &[Listed],
     built_in: usize,

@@ -4,8 +4,8 @@ use Rattle.graphql_schema_folding.specs.in_folding.FaultView.{fault_of, faults_o
 use Rattle.graphql_schema_folding.specs.in_folding.ListedView.{listed_view}
 use Rattle.graphql_schema_folding.specs.Misplaced.{TellsMisplaced}
 use Rattle.graphql_schema_folding.specs.ListFold.{definitions_of}
-use Rattle.graphql_schema_building.proofs.Folding.{folds_parts, folds_split}
-use Rattle.graphql_schema_building.proofs.fold.fold_list.Goals as goal
+use Rattle.graphql_list_folding.proofs.Folding.{folds_parts, folds_split}
+use Rattle.graphql_list_folding.proofs.fold.fold_list.Goals as goal
 
 pub returns : goal.returns
 returns c =

@@ -1,0 +1,14 @@
+//! What a whole list of definitions folds to, and all that is told of it: the parts of the fold, put together.
+//!
+//! For the layer above: `fold_list` folds a list with what is built in at its front; `specs/ListBuilt.antt` says what it
+//! gives, over the definitions of the fold (`graphql_folding`).
+#![tactic(auto)]
+
+mod fold;
+
+pub use fold::{Folded, fold_list};
+pub use graphql_built_in::{built_in_definitions, schema_field, type_field, typename_field};
+pub use graphql_schema_folding::{
+    BuildError, Definition, Document, ExtendedType, Listed, Parts, SchemaDefinition, SourceFile,
+    TypeKind, extension_parts, first_schema, is_object, schema_extension, type_definition,
+};
