@@ -1,6 +1,7 @@
 //! The rules that are judged by what stands before a definition.
-ghost use Rattle.std.specs.Prelude.{◌≡◌, ◌++◌, map, IfOk, OnOk};
+ghost use Rattle.std.specs.Prelude.{◌≡◌, ◌++◌, [], ◌∷◌, map, IfOk, OnOk};
 ghost use Rattle.graphql_folding.specs.in_definitions.DefinitionTree.{definition_tree};
+ghost use Rattle.graphql_folding.specs.BuildErrors.{ExecutableDefinition, SchemaDefinitionCollision, TypeDefinitionCollision, BuiltInScalarTypeRedefinition};
 ghost use Rattle.graphql_folding.specs.FaultView.{faults_of};
 ghost use Rattle.graphql_folding.specs.ListedView.{listed_view};
 ghost use Rattle.graphql_schema_folding.specs.ListFold.{definitions_of};
@@ -31,8 +32,7 @@ pub(crate) fn tell_collisions(
     Ok(own)
 }
 
-/// Tells what is wrong with a definition behind those that are seen: it is none of a schema (section 3), or there is a
-/// schema definition already (section 3.3), or a type of its name.
+/// Tells what is wrong with a definition behind those that are seen.
 fn tell_definition(
     built_in: &Seen,
     own: &Seen,
@@ -42,10 +42,10 @@ fn tell_definition(
     ensures { OnOk result (faults_of faults.new ≡ faults_of faults.old ++ definition_faults (seen_view built_in.now) (seen_view own.now) (definition_tree d.now)) }
 {
     if d.is_executable_definition() {
-        return tell(faults, d.location(), BuildError::ExecutableDefinition);
+        return executable_definition(d.location(), faults);
     }
     if own.schema && is_schema_definition(d) {
-        return tell(faults, d.location(), BuildError::SchemaDefinitionCollision);
+        return schema_definition_collision(d.location(), faults);
     }
     match type_definition(d) {
         None => Ok(()),
@@ -53,7 +53,7 @@ fn tell_definition(
     }
 }
 
-/// Tells that there is another type of that name: of a built-in scalar (section 3.5), or any other (section 3.4).
+/// Tells what is wrong with a type of that name behind those that are seen.
 fn tell_type(
     built_in: &Seen,
     own: &Seen,
@@ -64,20 +64,62 @@ fn tell_type(
     ensures { OnOk result (faults_of faults.new ≡ faults_of faults.old ++ type_faults (seen_view built_in.now) (seen_view own.now) location name.now.text) }
 {
     if built_in.has_scalar(name) {
-        let name = name.clone()?;
-        return tell(
-            faults,
-            location,
-            BuildError::BuiltInScalarTypeRedefinition { name },
-        );
+        return built_in_scalar_type_redefinition(name, location, faults);
     }
     if kind_of(built_in, own, name).is_some() {
-        let name = name.clone()?;
-        return tell(
-            faults,
-            location,
-            BuildError::TypeDefinitionCollision { name },
-        );
+        return type_definition_collision(name, location, faults);
     }
     Ok(())
+}
+
+/// An operation or a fragment is no definition of a schema (section 3): this one is told.
+fn executable_definition(
+    location: Option<SourceSpan>,
+    faults: &mut Vec<(Option<SourceSpan>, BuildError)>,
+) -> Result<(), AllocError>
+    ensures { OnOk result (faults_of faults.new ≡ faults_of faults.old ++ record { place = location; breach = ExecutableDefinition } ∷ []) }
+{
+    tell(faults, location, BuildError::ExecutableDefinition)
+}
+
+/// There is one schema definition at most (section 3.3): this one is told, which stands behind another.
+fn schema_definition_collision(
+    location: Option<SourceSpan>,
+    faults: &mut Vec<(Option<SourceSpan>, BuildError)>,
+) -> Result<(), AllocError>
+    ensures { OnOk result (faults_of faults.new ≡ faults_of faults.old ++ record { place = location; breach = SchemaDefinitionCollision } ∷ []) }
+{
+    tell(faults, location, BuildError::SchemaDefinitionCollision)
+}
+
+/// Types have names of their own (section 3.4): this one is told, which has that of an earlier one.
+fn type_definition_collision(
+    name: &Name,
+    location: Option<SourceSpan>,
+    faults: &mut Vec<(Option<SourceSpan>, BuildError)>,
+) -> Result<(), AllocError>
+    ensures { OnOk result (faults_of faults.new ≡ faults_of faults.old ++ record { place = location; breach = TypeDefinitionCollision name.now.text } ∷ []) }
+{
+    let name = name.clone()?;
+    tell(
+        faults,
+        location,
+        BuildError::TypeDefinitionCollision { name },
+    )
+}
+
+/// Built-in scalars are not defined again (section 3.5): this definition of one is told.
+fn built_in_scalar_type_redefinition(
+    name: &Name,
+    location: Option<SourceSpan>,
+    faults: &mut Vec<(Option<SourceSpan>, BuildError)>,
+) -> Result<(), AllocError>
+    ensures { OnOk result (faults_of faults.new ≡ faults_of faults.old ++ record { place = location; breach = BuiltInScalarTypeRedefinition name.now.text } ∷ []) }
+{
+    let name = name.clone()?;
+    tell(
+        faults,
+        location,
+        BuildError::BuiltInScalarTypeRedefinition { name },
+    )
 }

@@ -9,6 +9,7 @@ ghost use Rattle.graphql_folding.specs.Listed.{directive_here, directive_name, d
 ghost use Rattle.graphql_folding.specs.Components.{keyed_firsts};
 ghost use Rattle.graphql_folding.specs.Fold.{folded_directives};
 ghost use Rattle.graphql_folding.specs.FaultView.{faults_of};
+ghost use Rattle.graphql_folding.specs.BuildErrors.{DirectiveDefinitionCollision};
 ghost use Rattle.graphql_folding.specs.Keeping.{KeepsOn};
 ghost use Rattle.graphql_folding.specs.ListedView.{listed_view};
 ghost use Rattle.graphql_schema_folding.specs.ListFold.{definitions_of};
@@ -90,14 +91,25 @@ fn keep_directive(
 {
     let name = &node.content().name;
     if kept.contains_key(name) {
-        let name = name.clone()?;
-        return tell(
-            faults,
-            node.location(),
-            BuildError::DirectiveDefinitionCollision { name },
-        );
+        return directive_definition_collision(name, node.location(), faults);
     }
     insert_directive(kept, name, node)
+}
+
+/// Directives have names of their own (section 3.13): this definition is told, which has that of an earlier one.
+fn directive_definition_collision(
+    name: &Name,
+    location: Option<SourceSpan>,
+    faults: &mut Vec<(Option<SourceSpan>, BuildError)>,
+) -> Result<(), AllocError>
+    ensures { OnOk result (faults_of faults.new ≡ faults_of faults.old ++ record { place = location; breach = DirectiveDefinitionCollision name.now.text } ∷ []) }
+{
+    let name = name.clone()?;
+    tell(
+        faults,
+        location,
+        BuildError::DirectiveDefinitionCollision { name },
+    )
 }
 
 /// Inserts a definition, shared, under a name that no other has.

@@ -1,7 +1,8 @@
 //! The rules that are judged by what the whole list defines.
-ghost use Rattle.std.specs.Prelude.{◌≡◌, ◌++◌, map, is_some, OnOk};
+ghost use Rattle.std.specs.Prelude.{◌≡◌, ◌++◌, [], ◌∷◌, map, is_some, OnOk};
 ghost use Rattle.std.specs.List.{flat_map};
 ghost use Rattle.graphql_folding.specs.in_definitions.DefinitionTree.{definition_tree};
+ghost use Rattle.graphql_folding.specs.BuildErrors.{OrphanSchemaExtension, OrphanTypeExtension, TypeExtensionKindMismatch};
 ghost use Rattle.graphql_folding.specs.FaultView.{faults_of};
 ghost use Rattle.graphql_folding.specs.ListedView.{listed_view};
 ghost use Rattle.graphql_folding.specs.SchemaFold.{schema_extension_here};
@@ -11,7 +12,7 @@ ghost use Rattle.graphql_schema_folding.specs.SeenView.{seen_view};
 
 use crate::seen::{Seen, kind_of, schema_is_defined};
 use graphql_folding::{BuildError, Definition, Listed, Parts, extension_parts, tell};
-use graphql_names::SourceSpan;
+use graphql_names::{Name, SourceSpan};
 use std::alloc::AllocError;
 
 /// Tells each extension of the texts whose schema or type is not defined, or is of another kind.
@@ -29,8 +30,7 @@ pub(crate) fn tell_extensions(
     Ok(())
 }
 
-/// Tells what is wrong with an extension, where these are all that are defined: a schema that is extended is defined
-/// (section 3.3.2), and so is a type (section 3.4.3).
+/// Tells what is wrong with an extension, where these are all that are defined.
 fn tell_extension(
     built_in: &Seen,
     own: &Seen,
@@ -40,7 +40,7 @@ fn tell_extension(
     ensures { OnOk result (faults_of faults.new ≡ faults_of faults.old ++ extension_faults (seen_view built_in.now) (seen_view own.now) (definition_tree d.now)) }
 {
     if is_schema_extension(d) && !schema_is_defined(built_in, own) {
-        return tell(faults, d.location(), BuildError::OrphanSchemaExtension);
+        return orphan_schema_extension(d.location(), faults);
     }
     match extension_parts(d) {
         None => Ok(()),
@@ -55,7 +55,7 @@ fn is_schema_extension(d: &Definition) -> bool
     matches!(d, Definition::SchemaExtension(_))
 }
 
-/// Tells that no type of that name is defined, or one of another kind (sections 3.5 to 3.10).
+/// Tells what is wrong with the extension of a type, where these are all that are defined.
 fn tell_type_extension(
     built_in: &Seen,
     own: &Seen,
@@ -66,20 +66,50 @@ fn tell_type_extension(
     ensures { OnOk result (faults_of faults.new ≡ faults_of faults.old ++ type_extension_faults (seen_view built_in.now) (seen_view own.now) location parts.now.name.now.text parts.now.kind) }
 {
     match kind_of(built_in, own, parts.name) {
-        None => {
-            let name = parts.name.clone()?;
-            tell(faults, location, BuildError::OrphanTypeExtension { name })
-        }
+        None => orphan_type_extension(parts.name, location, faults),
         Some(defined) => {
             if defined.is(parts.kind) {
                 return Ok(());
             }
-            let name = parts.name.clone()?;
-            tell(
-                faults,
-                location,
-                BuildError::TypeExtensionKindMismatch { name },
-            )
+            type_extension_kind_mismatch(parts.name, location, faults)
         }
     }
+}
+
+/// A schema that is extended is defined (section 3.3.2): this extension is told, whose schema is not.
+fn orphan_schema_extension(
+    location: Option<SourceSpan>,
+    faults: &mut Vec<(Option<SourceSpan>, BuildError)>,
+) -> Result<(), AllocError>
+    ensures { OnOk result (faults_of faults.new ≡ faults_of faults.old ++ record { place = location; breach = OrphanSchemaExtension } ∷ []) }
+{
+    tell(faults, location, BuildError::OrphanSchemaExtension)
+}
+
+/// A type that is extended is defined (section 3.4.3): this extension is told, whose type is not.
+fn orphan_type_extension(
+    name: &Name,
+    location: Option<SourceSpan>,
+    faults: &mut Vec<(Option<SourceSpan>, BuildError)>,
+) -> Result<(), AllocError>
+    ensures { OnOk result (faults_of faults.new ≡ faults_of faults.old ++ record { place = location; breach = OrphanTypeExtension name.now.text } ∷ []) }
+{
+    let name = name.clone()?;
+    tell(faults, location, BuildError::OrphanTypeExtension { name })
+}
+
+/// An extension is of the kind of its type (sections 3.5 to 3.10): this one is told, which is of another.
+fn type_extension_kind_mismatch(
+    name: &Name,
+    location: Option<SourceSpan>,
+    faults: &mut Vec<(Option<SourceSpan>, BuildError)>,
+) -> Result<(), AllocError>
+    ensures { OnOk result (faults_of faults.new ≡ faults_of faults.old ++ record { place = location; breach = TypeExtensionKindMismatch name.now.text } ∷ []) }
+{
+    let name = name.clone()?;
+    tell(
+        faults,
+        location,
+        BuildError::TypeExtensionKindMismatch { name },
+    )
 }
