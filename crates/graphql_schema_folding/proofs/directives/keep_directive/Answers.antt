@@ -16,9 +16,8 @@ returns-then-contains_key c =
     let es = c.args.kept.now.entries in
     let faults = faults_of c.args.faults.now in
     let there = ap (λ d. is_some (lookup (λ k. bytes_eq d.name.text k.text) es)) (sym c.content.ensures) ∙ sym c.contains_key.ensures ∙ c.if-contains_key.true in
-    let named = c.in_ok-name.ensures.same ∙ ap (λ d. d.name) c.content.ensures in
-    IfOk-weaker _ _ _ (λ _ h. keeps_seen directive_name directive_fault directive_view es (directive_view c.args.node.now) faults (faults_of c.tell.new.faults) there
-    (h ∙ (λ i. faults ++ record { place = c.location.ensures i; breach = DirectiveDefinitionCollision (named i).text } ∷ []))) c.tell.ensures
+    IfOk-weaker _ _ _ (λ _ h. keeps_seen directive_name directive_fault directive_view es (directive_view c.args.node.now) faults (faults_of c.directive_definition_collision.new.faults) there
+    (h ∙ (λ i. faults ++ record { place = c.location.ensures i; breach = DirectiveDefinitionCollision (c.content.ensures i).name.text } ∷ []))) c.directive_definition_collision.ensures
 
 pub returns : goal.returns
 returns c =
