@@ -107,11 +107,7 @@ pub(crate) fn push_empty_schema(alloc: Global, list: &mut Vec<Listed>) -> Result
 }
 
 /// Puts a definition of this content and no place, which is no extension, behind the others of a list.
-fn push_unplaced<T: Drop>(
-    alloc: Global,
-    value: T,
-    list: &mut Vec<Listed>,
-) -> Result<(), AllocError>
+fn push_unplaced<T: Drop>(alloc: Global, value: T, list: &mut Vec<Listed>) -> Result<(), AllocError>
 where
     Definition: From<Node<T>>,
     ensures { OnOk result ((n : Node T) × (d : Definition) × ((content n ≡ value) × (place n ≡ None) × ⟦<Definition as From<Node<T>>>⟧.from_gives n d × (list.new.items ≡ list.old.items ++ record { definition = d; extension = None } ∷ []))) }

@@ -1,4 +1,4 @@
-use Rattle.std.proofs.Common.{◌<◌, ◌+◌, [], ◌∷◌, ◌++◌, map, take, drop, get_or, length, sym, ap, subst, ◌∙◌, arith}
+use Rattle.std.proofs.Common.{◌<◌, ◌+◌, [], ◌∷◌, map, take, drop, get_or, length, sym, ap, subst, ◌∙◌, arith}
 use Rattle.std.proofs.lemmas.Result.{err_from_is_err_and}
 use Rattle.graphql_schema_folding.specs.in_definitions.DefinitionTree.{definition_tree}
 use Rattle.graphql_schema_building.specs.Noted.{Notes}
@@ -18,11 +18,12 @@ loop-definition-preserved c =
     let here : i < length c.deref-definition-items.result.now = omega arith in
     let h = subst (λ l. i < length l) same here in
     let is = c.definition-item.is ∙ ap (λ l. get_or l i x) same in
-    let more = sym (front definition_tree xs i x h is) in
-    (subst (λ l. Adds l (texts_view c.args.texts.now) (texts_view c.add.new.self)) more
-    (adds_then (texts_view c.args.texts.now) (texts_view c.loop-definition.texts) (texts_view c.add.new.self) (map definition_tree (take i xs)) (definition_tree x ∷ []) c.loop-definition.invariant.0 c.in_ok-add.ensures.added),
-    subst (λ l. Notes l c.args.orphans.now c.note.new.self) more
-    (notes_then c.args.orphans.now c.loop-definition.orphans c.note.new.self (map definition_tree (take i xs)) (definition_tree x ∷ []) c.loop-definition.invariant.1 c.in_ok-note.ensures))
+    let more = sym (front definition_tree xs i x h is) in (
+      subst (λ l. Adds l (texts_view c.args.texts.now) (texts_view c.add.new.self)) more
+          (adds_then (texts_view c.args.texts.now) (texts_view c.loop-definition.texts) (texts_view c.add.new.self) (map definition_tree (take i xs)) (definition_tree x ∷ []) c.loop-definition.invariant.0 c.in_ok-add.ensures.added),
+      subst (λ l. Notes l c.args.orphans.now c.note.new.self) more
+          (notes_then c.args.orphans.now c.loop-definition.orphans c.note.new.self (map definition_tree (take i xs)) (definition_tree x ∷ []) c.loop-definition.invariant.1 c.in_ok-note.ensures),
+    )
 
 pub returns-in_err-add-clause-refused : goal.returns-in_err-add-clause-refused
 returns-in_err-add-clause-refused c =

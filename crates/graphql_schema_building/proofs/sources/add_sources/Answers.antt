@@ -10,6 +10,6 @@ loop-file-preserved c =
     let old = c.loop-file.sources in
     let file = c.in-Some.file.now in
     let inserted =
-        ap (map numbered_source) c.in_ok-insert.ensures.entries ∙ insert_viewed old.entries file c.in_ok-clone.field-0
-        ∙ ap (insert_entry nat_eq (sources_view old) file.0) c.in_ok-clone.ensures.cases in
+    ap (map numbered_source) c.in_ok-insert.ensures.entries ∙ insert_viewed old.entries file c.in_ok-clone.field-0
+    ∙ ap (insert_entry nat_eq (sources_view old) file.0) c.in_ok-clone.ensures.cases in
     ap (λ s. with_sources s (map numbered_source c.in-Some.others)) inserted ∙ sym (ap (λ l. with_sources (sources_view old) (map numbered_source l)) c.in-Some.ensures.parts) ∙ c.loop-file.invariant
