@@ -8,7 +8,7 @@ use Rattle.graphql_schema_folding.specs.in_schema_types.SchemaTree.{SchemaTree}
 use Rattle.graphql_schema_folding.specs.in_folding.Listed.{Definitions, Listed, numbered}
 use Rattle.graphql_built_in.specs.Table.{built_in_definitions}
 use Rattle.graphql_schema_folding.specs.in_folding.BuildErrors.{Fault, Fails, FoldingRules, Somewhere, DirectiveDefinitionCollisionAt, DuplicateRootOperationIn}
-use Rattle.graphql_schema_folding.specs.in_folding.Fold.{fold, folded_directives, folded_types}
+use Rattle.graphql_schema_folding.specs.in_folding.Fold.{folded_directives, folded_types}
 use Rattle.graphql_schema_folding.specs.ListFold.{definitions_of, IsFoldOf, TellsRoots}
 use Rattle.graphql_schema_folding.proofs.Listing.{definitions_numbered}
 use Rattle.graphql_schema_folding.specs.DirectiveFold.{TellsDirectives}

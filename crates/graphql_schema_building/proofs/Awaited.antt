@@ -1,7 +1,6 @@
 -- Lemmas on the types that are extended and not defined.
-use Rattle.std.proofs.Common.{◌≡◌, ℕ, Bool, true, false, not, ◌&&◌, ◌||◌, List, [], ◌∷◌, ◌++◌, map, Option, None, Some, refl, sym, ap, subst, ◌∙◌, cond, if◌then◌else◌, is_none, is_some, option_to_list}
-use Rattle.std.specs.List.{filter, find, list_any, flat_map}
-use Rattle.std.specs.Map.{lookup}
+use Rattle.std.proofs.Common.{◌≡◌, ℕ, Bool, true, false, not, ◌&&◌, ◌||◌, List, [], ◌∷◌, ◌++◌, map, Some, refl, sym, ap, ◌∙◌, cond, if◌then◌else◌, is_none, is_some, option_to_list}
+use Rattle.std.specs.List.{filter, find}
 use Rattle.std.specs.Str.{bytes_eq}
 use Rattle.std.proofs.lemmas.List.{map-append, append-nil}
 use Rattle.std.proofs.lemmas.List.Folds.{list_any-append}
@@ -10,11 +9,11 @@ use Rattle.std.proofs.lemmas.Slice.Eq.{bytes_eq-Decides}
 use Rattle.graphql_names.specs.Placed.{Place}
 use Rattle.graphql_components.specs.Lists.{each_place_after, firsts, has_name, is_among}
 use Rattle.graphql_components.proofs.Firsts.{is_some-firsts}
-use Rattle.graphql_list_folding.specs.in_schema_types.TypeParts.{TypeParts, TypeDefinition, type_here}
+use Rattle.graphql_list_folding.specs.in_schema_types.TypeParts.{TypeDefinition, type_here}
 use Rattle.graphql_list_folding.specs.in_folding.Listed.{Definitions, type_name, types_in, type_named}
 use Rattle.graphql_list_folding.specs.in_folding.Adoption.{orphans}
 use Rattle.graphql_list_folding.specs.in_built_in.Table.{built_in_definitions}
-use Rattle.graphql_schema_building.specs.Noted.{NamedKind, named_kind, kind_view, kinds_view, parts_key, first_kinds, extended_in, defined_in, IsNoteOf}
+use Rattle.graphql_schema_building.specs.Noted.{named_kind, kind_view, parts_key, first_kinds, extended_in, defined_in, IsNoteOf}
 use Rattle.graphql_schema_building.specs.Waiting.{is_orphan_in, orphan_kinds}
 use Rattle.graphql_schema_building.specs.declared.orphans.Orphans.{Orphans}
 

@@ -1,6 +1,6 @@
 -- Lemmas on lists that grow by one in each turn of a loop.
-use Rattle.std.proofs.Common.{◌≡◌, ℕ, ◌+◌, ◌<◌, List, [], ◌∷◌, ◌++◌, map, take, drop, get_or, length, refl, sym, ap, ◌∙◌}
-use Rattle.std.proofs.lemmas.List.{append_assoc, append-nil, map-append, map_more, take-append-drop, at_drop_more}
+use Rattle.std.proofs.Common.{◌≡◌, ℕ, ◌+◌, ◌<◌, List, [], ◌∷◌, ◌++◌, map, take, drop, get_or, length, sym, ap, ◌∙◌}
+use Rattle.std.proofs.lemmas.List.{append_assoc, map-append, map_more, take-append-drop, at_drop_more}
 
 module _ {X Y : Type 0} (view : X → Y) (xs : List X) (i : ℕ) (x : X) (h : i < length xs) (is : x ≡ get_or xs i x) where
   -- the views of one more
@@ -18,11 +18,3 @@ module _ {X Y : Type 0} (view : X → Y) (xs : List X) (i : ℕ) (x : X) (h : i 
     mapped f before step =
         step ∙ ap (λ l. l ++ f (view x) ∷ []) before ∙ append_assoc old (map f (map view (take i xs))) (f (view x) ∷ [])
         ∙ ap (λ l. old ++ l) (sym (ap (map f) front ∙ map-append f (map view (take i xs)) (view x ∷ [])))
-
--- one that is taken off what is left stands behind what there is
-pub handed_on : {A B : Type 0} (f : A → B) (old now new : List B) (all left rest : List A) (a : A) → now ++ map f left ≡ old ++ map f all → left ≡ a ∷ rest → new ≡ now ++ f a ∷ [] → new ++ map f rest ≡ old ++ map f all
-handed_on f old now new all left rest a before taken step =
-    ap (λ l. l ++ map f rest) step ∙ append_assoc now (f a ∷ []) (map f rest) ∙ ap (λ l. now ++ map f l) (sym taken) ∙ before
-
-pub all_handed_on : {A B : Type 0} (f : A → B) (old now : List B) (all left : List A) → now ++ map f left ≡ old ++ map f all → left ≡ [] → now ≡ old ++ map f all
-all_handed_on f old now all left before none = sym (append-nil now) ∙ ap (λ l. now ++ map f l) (sym none) ∙ before

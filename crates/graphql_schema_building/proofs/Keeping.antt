@@ -1,6 +1,6 @@
 -- Lemmas on what a builder keeps.
-use Rattle.std.proofs.Common.{◌≡◌, ℕ, ◌+◌, ◌-◌, Bool, true, false, List, [], ◌∷◌, ◌++◌, map, refl, sym, ap, subst, ◌∙◌, arith}
-use Rattle.graphql_names.specs.Placed.{Place, Text}
+use Rattle.std.proofs.Common.{◌≡◌, ℕ, true, false, List, [], ◌∷◌, ◌++◌, map, refl, sym, ap, subst, ◌∙◌, arith}
+use Rattle.graphql_names.specs.Placed.{Place}
 use Rattle.graphql_components.specs.Lists.{firsts}
 use Rattle.graphql_list_folding.specs.in_schema_types.TypeParts.{TypeParts}
 use Rattle.graphql_list_folding.specs.in_folding.Adoption.{orphans, settled, Settings}
@@ -12,11 +12,11 @@ use Rattle.graphql_schema_building.specs.Building.{orphan_names, IsAddRefusal}
 use Rattle.graphql_schema_building.specs.BuilderValue.{BuilderValue}
 use Rattle.graphql_schema_building.specs.BuildingView.{builder_view}
 use Rattle.graphql_schema_building.specs.KeptView.{definitions, first_number, numbers_of, AreNumbered, AreNoted}
-use Rattle.graphql_schema_building.specs.Noted.{IsNoteOf, Notes, NamedKind, named_kind, parts_key, first_kinds}
+use Rattle.graphql_schema_building.specs.Noted.{IsNoteOf, Notes, NamedKind, named_kind, parts_key}
 use Rattle.graphql_schema_building.specs.Numbers.{extension_count}
 use Rattle.graphql_schema_building.specs.Settling.{unnumbered, settled_from}
 use Rattle.graphql_schema_building.specs.TextsList.{IsListOf, Adds, IsListRefusal}
-use Rattle.graphql_schema_building.specs.TextsView.{TextsView, texts_view}
+use Rattle.graphql_schema_building.specs.TextsView.{texts_view}
 use Rattle.graphql_schema_building.specs.Waiting.{orphan_kinds}
 use Rattle.graphql_schema_building.specs.declared.orphans.Orphans.{Orphans}
 use Rattle.graphql_schema_building.specs.declared.refusal.BuilderRefusal.{BuilderRefusal}

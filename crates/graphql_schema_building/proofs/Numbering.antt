@@ -1,12 +1,12 @@
 -- Lemmas on the numbers of extensions.
-use Rattle.std.proofs.Common.{◌≡◌, ℕ, ◌+◌, ◌<◌, ◌^◌, Bool, true, false, ◌||◌, List, [], ◌∷◌, ◌++◌, map, length, Option, None, Some, refl, sym, ap, ◌∙◌, cond, if◌then◌else◌, suc, arith}
+use Rattle.std.proofs.Common.{◌≡◌, ℕ, ◌+◌, Bool, true, false, ◌||◌, List, [], ◌∷◌, ◌++◌, map, length, None, Some, refl, sym, ap, ◌∙◌, cond, if◌then◌else◌, arith}
 use Rattle.std.specs.List.{filter, list_any}
 use Rattle.std.proofs.lemmas.List.{append_assoc, append-nil}
 use Rattle.graphql_names.specs.Placed.{Place}
 use Rattle.graphql_list_folding.specs.in_definitions.DefinitionTree.{DefinitionTree}
 use Rattle.graphql_list_folding.specs.in_definitions.Queries.{is_extension, definition_place}
 use Rattle.graphql_components.specs.Lists.{each_place_after}
-use Rattle.graphql_list_folding.specs.in_folding.Listed.{Definitions, Listed, listed, numbered}
+use Rattle.graphql_list_folding.specs.in_folding.Listed.{Definitions, Listed, listed}
 use Rattle.graphql_schema_building.specs.Numbers.{extension_count}
 use Rattle.graphql_schema_building.specs.Settling.{unnumbered}
 

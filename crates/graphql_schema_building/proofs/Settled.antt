@@ -1,6 +1,6 @@
 -- What the settings make of a list, with its numbers.
-use Rattle.std.proofs.Common.{◌≡◌, ◌≤◌, ℕ, Bool, true, false, not, ◌&&◌, ◌||◌, length, arith, List, [], ◌∷◌, ◌++◌, map, Option, None, Some, refl, sym, ap, subst, ◌∙◌, cond, if◌then◌else◌, is_none, is_some, option_to_list}
-use Rattle.std.specs.List.{filter, list_any, flat_map}
+use Rattle.std.proofs.Common.{◌≡◌, ◌≤◌, ℕ, Bool, true, false, not, ◌&&◌, ◌||◌, length, arith, List, [], ◌∷◌, ◌++◌, map, Option, None, Some, refl, sym, ap, ◌∙◌, cond, if◌then◌else◌, is_none, is_some, option_to_list}
+use Rattle.std.specs.List.{filter, list_any}
 use Rattle.std.specs.Option.{option_map_or}
 use Rattle.std.proofs.lemmas.List.{append_assoc, length-append}
 use Rattle.std.proofs.lemmas.List.Folds.{list_any-append}
@@ -21,7 +21,7 @@ use Rattle.graphql_list_folding.specs.in_folding.Adoption.{Settings, settled, is
 use Rattle.graphql_list_folding.specs.in_schema_folding.ListFold.{definitions_of}
 use Rattle.graphql_list_folding.proofs.in_schema_folding.Listing.{definitions_numbered}
 use Rattle.graphql_schema_building.specs.Noted.{NamedKind, named_kind, parts_key, first_kinds, extended_in}
-use Rattle.graphql_schema_building.specs.Settling.{unnumbered, empty_of, is_kept, adopted_types, adopted_schema, settled_from}
+use Rattle.graphql_schema_building.specs.Settling.{unnumbered, empty_of, is_kept, adopted_schema, settled_from}
 use Rattle.graphql_schema_building.proofs.Numbering.{after_append, after_same, after_none, after_filter, count_zero}
 use Rattle.graphql_schema_building.proofs.Awaited.{none_named, some_named, defines}
 

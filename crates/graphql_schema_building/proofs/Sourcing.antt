@@ -1,5 +1,5 @@
 -- Lemmas on sources.
-use Rattle.std.proofs.Common.{◌≡◌, ℕ, Bool, true, false, List, [], ◌∷◌, map, refl, ap, cond, if◌then◌else◌, nat_eq}
+use Rattle.std.proofs.Common.{◌≡◌, Bool, true, false, List, [], ◌∷◌, map, refl, ap, cond, nat_eq}
 use Rattle.graphql_names.specs.declared.span.FileId.{FileId}
 use Rattle.graphql_list_folding.specs.in_definitions.Sources.{source_of, numbered_source}
 use Rattle.graphql_list_folding.specs.in_definitions.declared.document.SourceFile.{SourceFile}

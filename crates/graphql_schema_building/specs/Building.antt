@@ -1,5 +1,5 @@
 -- What a schema builder answers (GraphQL, October 2021, section 3).
-use Rattle.std.specs.Prelude.{◌≡◌, ◌↔◌, Bool, true, false, List, [], ◌++◌, map, if◌then◌else◌, Contains}
+use Rattle.std.specs.Prelude.{◌≡◌, true, false, List, [], ◌++◌, map, if◌then◌else◌}
 use Rattle.graphql_names.specs.Placed.{Place, Text}
 use Rattle.graphql_components.specs.Lists.{firsts}
 use Rattle.graphql_list_folding.specs.in_schema_types.SchemaTree.{SchemaTree}

@@ -1,14 +1,12 @@
 -- The types that are extended and those that are defined, by name (private: it leads to `specs/Building.antt`).
-use Rattle.std.specs.Prelude.{◌≡◌, ℕ, Bool, not, List, [], ◌∷◌, ◌++◌, map, is_none, option_to_list}
-use Rattle.std.specs.List.{flat_map, filter}
+use Rattle.std.specs.Prelude.{◌≡◌, ℕ, List, [], ◌∷◌, ◌++◌, map, option_to_list}
+use Rattle.std.specs.List.{flat_map}
 use Rattle.graphql_names.specs.NameValue.{NameValue}
 use Rattle.graphql_names.specs.Placed.{Place, Text, name_tree}
 use Rattle.graphql_components.specs.Lists.{firsts}
-use Rattle.graphql_list_folding.specs.in_schema_types.TypeParts.{TypeParts, type_extension_here, bare, definition_by}
+use Rattle.graphql_list_folding.specs.in_schema_types.TypeParts.{TypeParts, type_extension_here}
 use Rattle.graphql_list_folding.specs.in_schema_types.declared.type_kind.TypeKind.{TypeKind}
-use Rattle.graphql_list_folding.specs.in_definitions.DefinitionTree.{DefinitionTree}
-use Rattle.graphql_list_folding.specs.in_folding.Listed.{Definitions, types_in, type_named}
-use Rattle.graphql_list_folding.specs.in_built_in.Table.{built_in_definitions}
+use Rattle.graphql_list_folding.specs.in_folding.Listed.{Definitions, types_in}
 use Rattle.graphql_schema_building.specs.declared.orphans.Orphans.{Orphans}
 use Rattle.indexmap.specs.IndexMap.{IndexMap}
 

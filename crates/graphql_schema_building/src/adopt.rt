@@ -7,9 +7,11 @@ ghost use Rattle.graphql_schema_building.specs.Settling.{unnumbered, empty_of, a
 ghost use Rattle.graphql_schema_building.specs.Waiting.{orphan_kinds};
 
 use crate::defined::{has_schema_extension, schema_is_defined};
-use crate::empty::{push_empty_schema, push_empty_type};
+use crate::empty::{push_empty_type, push_unplaced};
 use crate::orphans::Orphans;
 use crate::waiting::OrphanExtensionTypes;
+use graphql_directives::DirectiveList;
+use graphql_input_types::SchemaDefinition;
 use graphql_list_folding::Listed;
 use std::alloc::{AllocError, Global};
 
@@ -39,5 +41,13 @@ pub(crate) fn adopt_schema(alloc: Global, list: &mut Vec<Listed>) -> Result<(), 
     if schema_is_defined(list) {
         return Ok(());
     }
-    push_empty_schema(alloc, list)
+    push_unplaced(
+        alloc,
+        SchemaDefinition {
+            description: None,
+            directives: DirectiveList::new(alloc),
+            root_operations: Vec::new(alloc),
+        },
+        list,
+    )
 }

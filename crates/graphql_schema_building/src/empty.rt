@@ -3,16 +3,12 @@ ghost use Rattle.std.specs.Prelude.{◌≡◌, ◌++◌, [], ◌∷◌, map, Non
 ghost use Rattle.graphql_names.specs.Node.{content, place};
 ghost use Rattle.graphql_names.specs.declared.node.Node.{Node};
 ghost use Rattle.graphql_names.specs.Placed.{name_tree};
-ghost use Rattle.graphql_list_folding.specs.in_folding.Adoption.{empty_schema};
 ghost use Rattle.graphql_list_folding.specs.in_folding.ListedView.{listed_view};
-ghost use Rattle.graphql_list_folding.specs.in_built_in.Table.{built_in_definitions};
 ghost use Rattle.graphql_schema_building.specs.Settling.{unnumbered, empty_of};
 
 use graphql_composite_types::{InterfaceTypeDefinition, ObjectTypeDefinition, UnionTypeDefinition};
 use graphql_directives::DirectiveList;
-use graphql_input_types::{
-    EnumTypeDefinition, InputObjectTypeDefinition, ScalarTypeDefinition, SchemaDefinition,
-};
+use graphql_input_types::{EnumTypeDefinition, InputObjectTypeDefinition, ScalarTypeDefinition};
 use graphql_list_folding::{Definition, Listed, TypeKind};
 use graphql_names::{Name, Node};
 use std::alloc::{AllocError, Global};
@@ -91,23 +87,12 @@ pub(crate) fn push_empty_type(
     }
 }
 
-/// Puts the definition of a schema with nothing in it and no place behind the others of a list.
-pub(crate) fn push_empty_schema(alloc: Global, list: &mut Vec<Listed>) -> Result<(), AllocError>
-    ensures { OnOk result (map listed_view list.new.items ≡ map listed_view list.old.items ++ unnumbered (empty_schema built_in_definitions) ∷ []) }
-{
-    push_unplaced(
-        alloc,
-        SchemaDefinition {
-            description: None,
-            directives: DirectiveList::new(alloc),
-            root_operations: Vec::new(alloc),
-        },
-        list,
-    )
-}
-
 /// Puts a definition of this content and no place, which is no extension, behind the others of a list.
-fn push_unplaced<T: Drop>(alloc: Global, value: T, list: &mut Vec<Listed>) -> Result<(), AllocError>
+pub(crate) fn push_unplaced<T: Drop>(
+    alloc: Global,
+    value: T,
+    list: &mut Vec<Listed>,
+) -> Result<(), AllocError>
 where
     Definition: From<Node<T>>,
     ensures { OnOk result ((n : Node T) × (d : Definition) × ((content n ≡ value) × (place n ≡ None) × ⟦<Definition as From<Node<T>>>⟧.from_gives n d × (list.new.items ≡ list.old.items ++ record { definition = d; extension = None } ∷ []))) }

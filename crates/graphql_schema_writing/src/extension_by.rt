@@ -29,12 +29,32 @@ pub(crate) fn write_extension_by(
     ensures { OnOk result (map definition_tree out.new.items ≡ map definition_tree out.old.items ++ extension_by kind location (named_parts kind (name_tree name) (parts_view parts.old)) ∷ []) }
 {
     match kind {
-        TypeKind::Scalar => write_placed(alloc, location, scalar_extension(alloc, name, parts), out),
-        TypeKind::Object => write_placed(alloc, location, object_extension(alloc, name, parts), out),
-        TypeKind::Interface => write_placed(alloc, location, interface_extension(alloc, name, parts), out),
+        TypeKind::Scalar => write_placed(
+            alloc,
+            location,
+            scalar_extension(alloc, name, parts),
+            out,
+        ),
+        TypeKind::Object => write_placed(
+            alloc,
+            location,
+            object_extension(alloc, name, parts),
+            out,
+        ),
+        TypeKind::Interface => write_placed(
+            alloc,
+            location,
+            interface_extension(alloc, name, parts),
+            out,
+        ),
         TypeKind::Union => write_placed(alloc, location, union_extension(alloc, name, parts), out),
         TypeKind::Enum => write_placed(alloc, location, enum_extension(alloc, name, parts), out),
-        TypeKind::InputObject => write_placed(alloc, location, input_object_extension(alloc, name, parts), out),
+        TypeKind::InputObject => write_placed(
+            alloc,
+            location,
+            input_object_extension(alloc, name, parts),
+            out,
+        ),
     }
 }
 

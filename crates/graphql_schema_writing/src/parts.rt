@@ -60,10 +60,18 @@ impl FiledType {
                 file_names(alloc, node.content().members.as_slice(), &mut self.members)
             }
             ExtendedType::Enum(node) => {
-                file_components(alloc, node.content().values.values().as_slice(), &mut self.values)
+                file_components(
+                    alloc,
+                    node.content().values.values().as_slice(),
+                    &mut self.values,
+                )
             }
             ExtendedType::InputObject(node) => {
-                file_components(alloc, node.content().fields.values().as_slice(), &mut self.inputs)
+                file_components(
+                    alloc,
+                    node.content().fields.values().as_slice(),
+                    &mut self.inputs,
+                )
             }
         }
     }

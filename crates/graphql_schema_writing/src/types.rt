@@ -29,11 +29,7 @@ pub(crate) fn write_types(
 }
 
 /// Writes a type: its definition, if it is not built in, and then its extensions.
-fn write_type(
-    alloc: Global,
-    t: &ExtendedType,
-    out: &mut Vec<Definition>,
-) -> Result<(), AllocError>
+fn write_type(alloc: Global, t: &ExtendedType, out: &mut Vec<Definition>) -> Result<(), AllocError>
     ensures { OnOk result (map definition_tree out.new.items ≡ map definition_tree out.old.items ++ written_contents (type_contents t.now)) }
 {
     let mut filed = FiledType::new(alloc);

@@ -1,4 +1,4 @@
-use Rattle.std.proofs.Common.{◌<◌, ◌+◌, [], ◌∷◌, ◌++◌, map, take, drop, get_or, length, sym, ap, subst, ◌∙◌, arith}
+use Rattle.std.proofs.Common.{◌<◌, ◌+◌, [], ◌∷◌, map, take, drop, get_or, length, sym, ap, subst, ◌∙◌, arith}
 use Rattle.std.proofs.lemmas.Result.{err_from_is_err_and}
 use Rattle.graphql_list_folding.specs.in_definitions.DefinitionTree.{definition_tree}
 use Rattle.graphql_schema_building.specs.Noted.{Notes}

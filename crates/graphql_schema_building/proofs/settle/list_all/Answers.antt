@@ -1,4 +1,4 @@
-use Rattle.std.proofs.Common.{◌<◌, map, take, length, arith}
+use Rattle.std.proofs.Common.{◌<◌, map, length, arith}
 use Rattle.graphql_list_folding.specs.in_definitions.DefinitionTree.{definition_tree}
 use Rattle.graphql_list_folding.specs.in_folding.ListedView.{listed_view}
 use Rattle.graphql_schema_building.specs.Settling.{unnumbered}
