@@ -111,11 +111,20 @@ fn attribute_in<'coord, 'schema>(
     ensures { answer attribute_of result ≡ attribute_in name.now.text (extended_type ty.now) }
 {
     if ty.is_input_object() {
-        input_field_in(name, ty).map(TypeAttributeLookup::InputField)
+        match input_field_in(name, ty) {
+            Err(error) => Err(error),
+            Ok(field) => Ok(TypeAttributeLookup::InputField(field)),
+        }
     } else if ty.is_enum() {
-        enum_value_in(name, ty).map(TypeAttributeLookup::EnumValue)
+        match enum_value_in(name, ty) {
+            Err(error) => Err(error),
+            Ok(value) => Ok(TypeAttributeLookup::EnumValue(value)),
+        }
     } else {
-        field_in(name, ty).map(TypeAttributeLookup::Field)
+        match field_in(name, ty) {
+            Err(error) => Err(error),
+            Ok(field) => Ok(TypeAttributeLookup::Field(field)),
+        }
     }
 }
 

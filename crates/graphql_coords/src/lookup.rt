@@ -140,19 +140,26 @@ impl SchemaCoordinate {
         ensures { answer named_of result ≡ lookup_of (schema_tree schema.now) (schema_coordinate self.now) }
     {
         match self {
-            SchemaCoordinate::Named(own) => own.lookup(schema).map(SchemaCoordinateLookup::Named),
-            SchemaCoordinate::TypeAttribute(own) => {
-                own.lookup(schema).map(SchemaCoordinateLookup::from)
-            }
-            SchemaCoordinate::FieldArgument(own) => {
-                own.lookup(schema).map(SchemaCoordinateLookup::Argument)
-            }
-            SchemaCoordinate::Directive(own) => {
-                own.lookup(schema).map(SchemaCoordinateLookup::Directive)
-            }
-            SchemaCoordinate::DirectiveArgument(own) => {
-                own.lookup(schema).map(SchemaCoordinateLookup::Argument)
-            }
+            SchemaCoordinate::Named(own) => match own.lookup(schema) {
+                Err(error) => Err(error),
+                Ok(ty) => Ok(SchemaCoordinateLookup::Named(ty)),
+            },
+            SchemaCoordinate::TypeAttribute(own) => match own.lookup(schema) {
+                Err(error) => Err(error),
+                Ok(attribute) => Ok(SchemaCoordinateLookup::from(attribute)),
+            },
+            SchemaCoordinate::FieldArgument(own) => match own.lookup(schema) {
+                Err(error) => Err(error),
+                Ok(argument) => Ok(SchemaCoordinateLookup::Argument(argument)),
+            },
+            SchemaCoordinate::Directive(own) => match own.lookup(schema) {
+                Err(error) => Err(error),
+                Ok(directive) => Ok(SchemaCoordinateLookup::Directive(directive)),
+            },
+            SchemaCoordinate::DirectiveArgument(own) => match own.lookup(schema) {
+                Err(error) => Err(error),
+                Ok(argument) => Ok(SchemaCoordinateLookup::Argument(argument)),
+            },
         }
     }
 }
