@@ -8,8 +8,10 @@ use Rattle.std.proofs.lemmas.Option.{same_Some}
 use Rattle.std.proofs.lemmas.Slice.Eq.{bytes_eq-Decides}
 use Rattle.std.proofs.lemmas.Bool.{ne_eqb}
 use Rattle.graphql_components.specs.Coordinate.{Coordinate, OfType, OfAttribute, OfArgument, OfDirective, OfDirectiveArgument, printed, parts, is_sign, has_no_sign, is_signless, HasForm}
-use Rattle.graphql_coords.specs.CoordinateView.{any_form}
-use Rattle.graphql_coords.specs.Reading.{cut_at, argument_cut, type_cut, directive_cut, all_cut, read, of_form}
+use Rattle.graphql_coords.specs.CoordinateView.{type_form, attribute_form, argument_form, directive_form, directive_argument_form}
+use Rattle.graphql_coords.specs.declared.parts.Parts.{Parts}
+use Rattle.graphql_coords.specs.declared.parts.Parts.TheVariants as rust
+use Rattle.graphql_coords.specs.Reading.{parts_view, cut_at, argument_cut, type_cut, directive_cut, all_cut, read}
 use Rattle.graphql_coords.specs.ParseErrors.{ParseErrorIsDue, PartsErrorIsDue}
 use Rattle.graphql_coords.specs.declared.parse_error.SchemaCoordinateParseError.{SchemaCoordinateParseError}
 use Rattle.graphql_coords.specs.declared.parse_error.SchemaCoordinateParseError.TheVariants.{InvalidFormat, InvalidName, Memory}
@@ -193,25 +195,49 @@ parts_error form text c InvalidFormat f h due = absurd due
 parts_error form text c (InvalidName e) f h due = (c, (f, (h, due)))
 parts_error form text c Memory f h due = (c, (f, (h, due)))
 
--- what is found among those of a form
-pub found : (form : Coordinate → Bool) (text : List ℕ) (c : Coordinate) → option_and_then (of_form form) (read text) ≡ Some c → (form c ≡ true) × HasForm text c
-found form text c h = by (read text) refl h
-  where
-    tested : (d : Coordinate) (b : Bool) → read text ≡ Some d → form d ≡ b → (if b then Some d else None) ≡ Some c → (form c ≡ true) × HasForm text c
-    tested d true e f k = subst (λ x. (form x ≡ true) × HasForm text x) (same_Some _ _ k) (f, read_sound text d e)
-    tested d false e f k = absurd (none_is_none c k)
+-- parts of another form
+pub not_type_form : (p : Parts) → ((t : Bor (List ℕ)) → p ≡ rust.Type t → ⊥) → type_form (parts_view p) ≡ false
+not_type_form (rust.Type t) n = absurd (n t refl)
+not_type_form (rust.TypeAttribute t a) n = refl
+not_type_form (rust.FieldArgument t f a) n = refl
+not_type_form (rust.Directive d) n = refl
+not_type_form (rust.DirectiveArgument d a) n = refl
 
-    by : (o : Option Coordinate) → read text ≡ o → option_and_then (of_form form) o ≡ Some c → (form c ≡ true) × HasForm text c
-    by None e k = absurd (none_is_none c k)
-    by (Some d) e k = tested d (form d) e refl k
+pub not_attribute_form : (p : Parts) → ((t a : Bor (List ℕ)) → p ≡ rust.TypeAttribute t a → ⊥) → attribute_form (parts_view p) ≡ false
+not_attribute_form (rust.Type t) n = refl
+not_attribute_form (rust.TypeAttribute t a) n = absurd (n t a refl)
+not_attribute_form (rust.FieldArgument t f a) n = refl
+not_attribute_form (rust.Directive d) n = refl
+not_attribute_form (rust.DirectiveArgument d a) n = refl
 
--- where nothing is found, no coordinate of the form is written so
-pub missing : (form : Coordinate → Bool) (text : List ℕ) → option_and_then (of_form form) (read text) ≡ None → ParseErrorIsDue form text InvalidFormat
-missing form text h c f has = none_is_none c (sym h ∙ ap (option_and_then (of_form form)) (read_complete text c has) ∙ ap (λ b. if b then Some c else None) f)
+pub not_argument_form : (p : Parts) → ((t f a : Bor (List ℕ)) → p ≡ rust.FieldArgument t f a → ⊥) → argument_form (parts_view p) ≡ false
+not_argument_form (rust.Type t) n = refl
+not_argument_form (rust.TypeAttribute t a) n = refl
+not_argument_form (rust.FieldArgument t f a) n = absurd (n t f a refl)
+not_argument_form (rust.Directive d) n = refl
+not_argument_form (rust.DirectiveArgument d a) n = refl
 
--- where nothing is read, no coordinate of any form is written so
-pub unread : (text : List ℕ) → read text ≡ None → ParseErrorIsDue any_form text InvalidFormat
-unread text h c f has = none_is_none c (sym h ∙ read_complete text c has)
+pub not_directive_form : (p : Parts) → ((d : Bor (List ℕ)) → p ≡ rust.Directive d → ⊥) → directive_form (parts_view p) ≡ false
+not_directive_form (rust.Type t) n = refl
+not_directive_form (rust.TypeAttribute t a) n = refl
+not_directive_form (rust.FieldArgument t f a) n = refl
+not_directive_form (rust.Directive d) n = absurd (n d refl)
+not_directive_form (rust.DirectiveArgument d a) n = refl
+
+pub not_directive_argument_form : (p : Parts) → ((d a : Bor (List ℕ)) → p ≡ rust.DirectiveArgument d a → ⊥) → directive_argument_form (parts_view p) ≡ false
+not_directive_argument_form (rust.Type t) n = refl
+not_directive_argument_form (rust.TypeAttribute t a) n = refl
+not_directive_argument_form (rust.FieldArgument t f a) n = refl
+not_directive_argument_form (rust.Directive d) n = refl
+not_directive_argument_form (rust.DirectiveArgument d a) n = absurd (n d a refl)
+
+-- where a coordinate of another form is written, none of the form is
+pub missing : (form : Coordinate → Bool) (text : List ℕ) (c : Coordinate) → read text ≡ Some c → form c ≡ false → ParseErrorIsDue form text InvalidFormat
+missing form text c h f d g has = true≢false (sym g ∙ ap form (same_Some _ _ (sym (read_complete text d has) ∙ h)) ∙ f)
+
+-- where none is written, none of the form is
+pub unread : (form : Coordinate → Bool) (text : List ℕ) → read text ≡ None → ParseErrorIsDue form text InvalidFormat
+unread form text h c f has = none_is_none c (sym h ∙ read_complete text c has)
 
 -- a text that does not begin with `@`
 pub all_cut-type : (t : List ℕ) → ((rest : List ℕ) → t ≢ 64 ∷ rest) → all_cut t ≡ type_cut t

@@ -6,7 +6,7 @@ ghost use Rattle.graphql_type_members.specs.TypeSystemTree.{field_definition_tre
 ghost use Rattle.graphql_components.specs.Given.{component_tree};
 ghost use Rattle.graphql_schema.specs.in_schema_types.TypeView.{extended_type};
 ghost use Rattle.graphql_schema.specs.SchemaOf.{schema_tree};
-ghost use Rattle.graphql_coords.specs.LookUps.{OfField, OfInputField, OfEnumValue, found_as, field_in, input_field_in, enum_value_in, attribute_in, argument_in, argument_of, type_lookup, attribute_lookup, directive_lookup};
+ghost use Rattle.graphql_coords.specs.LookUps.{field_in, input_field_in, enum_value_in, attribute_in, argument_in, type_lookup, attribute_lookup, directive_lookup};
 ghost use Rattle.graphql_coords.specs.LookUpView.{answer, attribute_of};
 
 use crate::lookup_answers::{SchemaLookupError, TypeAttributeLookup};
@@ -111,50 +111,20 @@ fn attribute_in<'coord, 'schema>(
     ensures { answer attribute_of result ≡ attribute_in name.now.text (extended_type ty.now) }
 {
     if ty.is_input_object() {
-        input_field_attribute(name, ty)
+        match input_field_in(name, ty) {
+            Err(error) => Err(error),
+            Ok(field) => Ok(TypeAttributeLookup::InputField(field)),
+        }
     } else if ty.is_enum() {
-        enum_value_attribute(name, ty)
+        match enum_value_in(name, ty) {
+            Err(error) => Err(error),
+            Ok(value) => Ok(TypeAttributeLookup::EnumValue(value)),
+        }
     } else {
-        field_attribute(name, ty)
-    }
-}
-
-/// The field of that name as an attribute.
-fn field_attribute<'coord, 'schema>(
-    name: &'coord Name,
-    ty: &'schema ExtendedType,
-) -> Result<TypeAttributeLookup<'schema>, SchemaLookupError<'coord, 'schema>>
-    ensures { answer attribute_of result ≡ found_as OfField (field_in name.now.text (extended_type ty.now)) }
-{
-    match field_in(name, ty) {
-        Err(error) => Err(error),
-        Ok(field) => Ok(TypeAttributeLookup::Field(field)),
-    }
-}
-
-/// The input field of that name as an attribute.
-fn input_field_attribute<'coord, 'schema>(
-    name: &'coord Name,
-    ty: &'schema ExtendedType,
-) -> Result<TypeAttributeLookup<'schema>, SchemaLookupError<'coord, 'schema>>
-    ensures { answer attribute_of result ≡ found_as OfInputField (input_field_in name.now.text (extended_type ty.now)) }
-{
-    match input_field_in(name, ty) {
-        Err(error) => Err(error),
-        Ok(field) => Ok(TypeAttributeLookup::InputField(field)),
-    }
-}
-
-/// The enum value of that name as an attribute.
-fn enum_value_attribute<'coord, 'schema>(
-    name: &'coord Name,
-    ty: &'schema ExtendedType,
-) -> Result<TypeAttributeLookup<'schema>, SchemaLookupError<'coord, 'schema>>
-    ensures { answer attribute_of result ≡ found_as OfEnumValue (enum_value_in name.now.text (extended_type ty.now)) }
-{
-    match enum_value_in(name, ty) {
-        Err(error) => Err(error),
-        Ok(value) => Ok(TypeAttributeLookup::EnumValue(value)),
+        match field_in(name, ty) {
+            Err(error) => Err(error),
+            Ok(field) => Ok(TypeAttributeLookup::Field(field)),
+        }
     }
 }
 
@@ -173,15 +143,4 @@ pub(crate) fn argument_in<'coord, 'schema>(
         }
         _ => Err(SchemaLookupError::InvalidArgumentAttribute(field)),
     }
-}
-
-/// The argument of that name of a directive.
-pub(crate) fn argument_of<'coord, 'schema>(
-    argument: &'coord Name,
-    directive: &'schema DirectiveDefinition,
-) -> Result<&'schema Node<InputValueDefinition>, SchemaLookupError<'coord, 'schema>>
-    ensures { answer (λ a. node_tree input_value_tree a.now) result ≡ argument_of argument.now.text (directive_definition_tree directive.now) }
-{
-    let found = directive.argument_by_name(argument.as_str());
-    found.ok_or(SchemaLookupError::MissingArgument(argument))
 }

@@ -11,10 +11,7 @@ use crate::coordinate::{
     TypeAttributeCoordinate, TypeCoordinate,
 };
 use crate::parse_error::SchemaCoordinateParseError;
-use crate::parts::{
-    Parts, argument_parts_of, attribute_parts_of, directive_argument_parts_of, directive_parts_of,
-    parts_of, type_parts_of,
-};
+use crate::parts::{Parts, parts_of};
 use graphql_names::{InvalidNameError, Name};
 use std::alloc::Global;
 
@@ -37,10 +34,11 @@ impl TypeCoordinate {
         ensures read { IfOk result (λ c. printed (type_coordinate c) ≡ text.now) }
         ensures error { IfErr result (ParseErrorIsDue type_form text.now) }
     {
-        let Some(ty) = type_parts_of(text) else {
-            return Err(SchemaCoordinateParseError::InvalidFormat);
-        };
-        TypeCoordinate::named(alloc, ty)
+        let parts = parts_of(text)?;
+        match parts {
+            Parts::Type(ty) => { TypeCoordinate::named(alloc, ty) }
+            _ => Err(SchemaCoordinateParseError::InvalidFormat),
+        }
     }
 
     /// The coordinate of these names.
@@ -63,10 +61,13 @@ impl TypeAttributeCoordinate {
         ensures read { IfOk result (λ c. printed (attribute_coordinate c) ≡ text.now) }
         ensures error { IfErr result (ParseErrorIsDue attribute_form text.now) }
     {
-        let Some((ty, attribute)) = attribute_parts_of(text) else {
-            return Err(SchemaCoordinateParseError::InvalidFormat);
-        };
-        TypeAttributeCoordinate::named(alloc, ty, attribute)
+        let parts = parts_of(text)?;
+        match parts {
+            Parts::TypeAttribute(ty, attribute) => {
+                TypeAttributeCoordinate::named(alloc, ty, attribute)
+            }
+            _ => Err(SchemaCoordinateParseError::InvalidFormat),
+        }
     }
 
     /// The coordinate of these names.
@@ -95,10 +96,13 @@ impl FieldArgumentCoordinate {
         ensures read { IfOk result (λ c. printed (argument_coordinate c) ≡ text.now) }
         ensures error { IfErr result (ParseErrorIsDue argument_form text.now) }
     {
-        let Some((ty, field, argument)) = argument_parts_of(text) else {
-            return Err(SchemaCoordinateParseError::InvalidFormat);
-        };
-        FieldArgumentCoordinate::named(alloc, ty, field, argument)
+        let parts = parts_of(text)?;
+        match parts {
+            Parts::FieldArgument(ty, field, argument) => {
+                FieldArgumentCoordinate::named(alloc, ty, field, argument)
+            }
+            _ => Err(SchemaCoordinateParseError::InvalidFormat),
+        }
     }
 
     /// The coordinate of these names.
@@ -134,10 +138,11 @@ impl DirectiveCoordinate {
         ensures read { IfOk result (λ c. printed (directive_coordinate c) ≡ text.now) }
         ensures error { IfErr result (ParseErrorIsDue directive_form text.now) }
     {
-        let Some(directive) = directive_parts_of(text) else {
-            return Err(SchemaCoordinateParseError::InvalidFormat);
-        };
-        DirectiveCoordinate::named(alloc, directive)
+        let parts = parts_of(text)?;
+        match parts {
+            Parts::Directive(directive) => { DirectiveCoordinate::named(alloc, directive) }
+            _ => Err(SchemaCoordinateParseError::InvalidFormat),
+        }
     }
 
     /// The coordinate of these names.
@@ -163,10 +168,13 @@ impl DirectiveArgumentCoordinate {
         ensures read { IfOk result (λ c. printed (directive_argument_coordinate c) ≡ text.now) }
         ensures error { IfErr result (ParseErrorIsDue directive_argument_form text.now) }
     {
-        let Some((directive, argument)) = directive_argument_parts_of(text) else {
-            return Err(SchemaCoordinateParseError::InvalidFormat);
-        };
-        DirectiveArgumentCoordinate::named(alloc, directive, argument)
+        let parts = parts_of(text)?;
+        match parts {
+            Parts::DirectiveArgument(directive, argument) => {
+                DirectiveArgumentCoordinate::named(alloc, directive, argument)
+            }
+            _ => Err(SchemaCoordinateParseError::InvalidFormat),
+        }
     }
 
     /// The coordinate of these names.
@@ -198,10 +206,8 @@ impl SchemaCoordinate {
         ensures read { IfOk result (λ c. printed (schema_coordinate c) ≡ text.now) }
         ensures error { IfErr result (ParseErrorIsDue any_form text.now) }
     {
-        match parts_of(text) {
-            None => Err(SchemaCoordinateParseError::InvalidFormat),
-            Some(parts) => SchemaCoordinate::named(alloc, parts),
-        }
+        let parts = parts_of(text)?;
+        SchemaCoordinate::named(alloc, parts)
     }
 
     /// The coordinate of these names.

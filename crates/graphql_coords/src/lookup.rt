@@ -15,8 +15,7 @@ use crate::coordinate::{
     TypeAttributeCoordinate, TypeCoordinate,
 };
 use crate::find::{
-    argument_in, argument_of, enum_value_in, field_in, find_attribute, find_directive, find_type,
-    input_field_in,
+    argument_in, enum_value_in, field_in, find_attribute, find_directive, find_type, input_field_in,
 };
 use crate::lookup_answers::{SchemaCoordinateLookup, SchemaLookupError, TypeAttributeLookup};
 use graphql_directives::{DirectiveDefinition, InputValueDefinition};
@@ -124,7 +123,10 @@ impl DirectiveArgumentCoordinate {
     {
         match find_directive(&self.directive, schema) {
             Err(error) => Err(error),
-            Ok(directive) => argument_of(&self.argument, directive.content()),
+            Ok(directive) => {
+                let found = directive.content().argument_by_name(self.argument.as_str());
+                found.ok_or(SchemaLookupError::MissingArgument(&self.argument))
+            }
         }
     }
 }
@@ -138,86 +140,26 @@ impl SchemaCoordinate {
         ensures { answer named_of result ≡ lookup_of (schema_tree schema.now) (schema_coordinate self.now) }
     {
         match self {
-            SchemaCoordinate::Named(own) => own.find(schema),
-            SchemaCoordinate::TypeAttribute(own) => own.find(schema),
-            SchemaCoordinate::FieldArgument(own) => own.find(schema),
-            SchemaCoordinate::Directive(own) => own.find(schema),
-            SchemaCoordinate::DirectiveArgument(own) => own.find(schema),
-        }
-    }
-}
-
-impl TypeCoordinate {
-    /// What it names.
-    fn find<'coord, 'schema>(
-        &'coord self,
-        schema: &'schema Schema,
-    ) -> Result<SchemaCoordinateLookup<'schema>, SchemaLookupError<'coord, 'schema>>
-        ensures { answer named_of result ≡ lookup_of (schema_tree schema.now) (type_coordinate self.now) }
-    {
-        match self.lookup(schema) {
-            Err(error) => Err(error),
-            Ok(ty) => Ok(SchemaCoordinateLookup::Named(ty)),
-        }
-    }
-}
-
-impl TypeAttributeCoordinate {
-    /// What it names.
-    fn find<'coord, 'schema>(
-        &'coord self,
-        schema: &'schema Schema,
-    ) -> Result<SchemaCoordinateLookup<'schema>, SchemaLookupError<'coord, 'schema>>
-        ensures { answer named_of result ≡ lookup_of (schema_tree schema.now) (attribute_coordinate self.now) }
-    {
-        match self.lookup(schema) {
-            Err(error) => Err(error),
-            Ok(attribute) => Ok(SchemaCoordinateLookup::from(attribute)),
-        }
-    }
-}
-
-impl FieldArgumentCoordinate {
-    /// What it names.
-    fn find<'coord, 'schema>(
-        &'coord self,
-        schema: &'schema Schema,
-    ) -> Result<SchemaCoordinateLookup<'schema>, SchemaLookupError<'coord, 'schema>>
-        ensures { answer named_of result ≡ lookup_of (schema_tree schema.now) (argument_coordinate self.now) }
-    {
-        match self.lookup(schema) {
-            Err(error) => Err(error),
-            Ok(argument) => Ok(SchemaCoordinateLookup::Argument(argument)),
-        }
-    }
-}
-
-impl DirectiveCoordinate {
-    /// What it names.
-    fn find<'coord, 'schema>(
-        &'coord self,
-        schema: &'schema Schema,
-    ) -> Result<SchemaCoordinateLookup<'schema>, SchemaLookupError<'coord, 'schema>>
-        ensures { answer named_of result ≡ lookup_of (schema_tree schema.now) (directive_coordinate self.now) }
-    {
-        match self.lookup(schema) {
-            Err(error) => Err(error),
-            Ok(directive) => Ok(SchemaCoordinateLookup::Directive(directive)),
-        }
-    }
-}
-
-impl DirectiveArgumentCoordinate {
-    /// What it names.
-    fn find<'coord, 'schema>(
-        &'coord self,
-        schema: &'schema Schema,
-    ) -> Result<SchemaCoordinateLookup<'schema>, SchemaLookupError<'coord, 'schema>>
-        ensures { answer named_of result ≡ lookup_of (schema_tree schema.now) (directive_argument_coordinate self.now) }
-    {
-        match self.lookup(schema) {
-            Err(error) => Err(error),
-            Ok(argument) => Ok(SchemaCoordinateLookup::Argument(argument)),
+            SchemaCoordinate::Named(own) => match own.lookup(schema) {
+                Err(error) => Err(error),
+                Ok(ty) => Ok(SchemaCoordinateLookup::Named(ty)),
+            },
+            SchemaCoordinate::TypeAttribute(own) => match own.lookup(schema) {
+                Err(error) => Err(error),
+                Ok(attribute) => Ok(SchemaCoordinateLookup::from(attribute)),
+            },
+            SchemaCoordinate::FieldArgument(own) => match own.lookup(schema) {
+                Err(error) => Err(error),
+                Ok(argument) => Ok(SchemaCoordinateLookup::Argument(argument)),
+            },
+            SchemaCoordinate::Directive(own) => match own.lookup(schema) {
+                Err(error) => Err(error),
+                Ok(directive) => Ok(SchemaCoordinateLookup::Directive(directive)),
+            },
+            SchemaCoordinate::DirectiveArgument(own) => match own.lookup(schema) {
+                Err(error) => Err(error),
+                Ok(argument) => Ok(SchemaCoordinateLookup::Argument(argument)),
+            },
         }
     }
 }

@@ -1,9 +1,11 @@
 //! The parts of a text that is written in the form of a coordinate.
-ghost use Rattle.std.specs.Prelude.{◌≡◌, ◌<◌};
-ghost use Rattle.std.specs.Option.{option_map, option_and_then};
-ghost use Rattle.graphql_components.specs.Coordinate.{OfType, OfAttribute, OfArgument, OfDirective, OfDirectiveArgument, is_sign, has_no_sign, is_signless};
-ghost use Rattle.graphql_coords.specs.CoordinateView.{type_form, attribute_form, argument_form, directive_form, directive_argument_form};
-ghost use Rattle.graphql_coords.specs.Reading.{parts_view, cut_at, argument_cut, directive_cut, type_cut, all_cut, read, of_form};
+ghost use Rattle.std.specs.Prelude.{◌≡◌, ◌<◌, Bool, Some, IfOk, IfErr};
+ghost use Rattle.std.specs.Option.{option_map};
+ghost use Rattle.graphql_components.specs.Coordinate.{Coordinate, has_no_sign, is_signless};
+ghost use Rattle.graphql_coords.specs.ParseErrors.{ParseErrorIsDue};
+ghost use Rattle.graphql_coords.specs.Reading.{parts_view, cut_at, argument_cut, directive_cut, type_cut, all_cut, read};
+
+use crate::parse_error::SchemaCoordinateParseError;
 
 /// The texts that stand where a coordinate of one of the forms has its names.
 #[derive(Clone, Copy)]
@@ -34,65 +36,14 @@ impl Parts<'_> {
     }
 }
 
-/// The parts of the text, if it is written in one of the forms: its signs are those of the form.
-pub(crate) fn parts_of(text: &str) -> Option<Parts<'_>>
-    ensures { option_map parts_view result ≡ read text.now }
+/// The parts of the text. `InvalidFormat`, if it is written in none of the forms: its signs have to be those of one.
+pub(crate) fn parts_of(text: &str) -> Result<Parts<'_>, SchemaCoordinateParseError>
+    ensures read { IfOk result (λ p. read text.now ≡ Some (parts_view p)) }
+    ensures error { IfErr result (λ e. (form : Coordinate → Bool) → ParseErrorIsDue form text.now e) }
 {
-    let parts = cut_parts(text)?;
-    if parts.are_signless() {
-        Some(parts)
-    } else {
-        None
-    }
-}
-
-/// The parts of `T`, if the text is written in that form.
-pub(crate) fn type_parts_of(text: &str) -> Option<&str>
-    ensures { option_map (λ p. OfType p.now) result ≡ option_and_then (of_form type_form) (read text.now) }
-{
-    match parts_of(text)? {
-        Parts::Type(ty) => Some(ty),
-        _ => None,
-    }
-}
-
-/// The parts of `T.a`, if the text is written in that form.
-pub(crate) fn attribute_parts_of(text: &str) -> Option<(&str, &str)>
-    ensures { option_map (λ p. OfAttribute p.0.now p.1.now) result ≡ option_and_then (of_form attribute_form) (read text.now) }
-{
-    match parts_of(text)? {
-        Parts::TypeAttribute(ty, attribute) => Some((ty, attribute)),
-        _ => None,
-    }
-}
-
-/// The parts of `T.f(a:)`, if the text is written in that form.
-pub(crate) fn argument_parts_of(text: &str) -> Option<(&str, &str, &str)>
-    ensures { option_map (λ p. OfArgument p.0.now p.1.now p.2.now) result ≡ option_and_then (of_form argument_form) (read text.now) }
-{
-    match parts_of(text)? {
-        Parts::FieldArgument(ty, field, argument) => Some((ty, field, argument)),
-        _ => None,
-    }
-}
-
-/// The parts of `@d`, if the text is written in that form.
-pub(crate) fn directive_parts_of(text: &str) -> Option<&str>
-    ensures { option_map (λ p. OfDirective p.now) result ≡ option_and_then (of_form directive_form) (read text.now) }
-{
-    match parts_of(text)? {
-        Parts::Directive(directive) => Some(directive),
-        _ => None,
-    }
-}
-
-/// The parts of `@d(a:)`, if the text is written in that form.
-pub(crate) fn directive_argument_parts_of(text: &str) -> Option<(&str, &str)>
-    ensures { option_map (λ p. OfDirectiveArgument p.0.now p.1.now) result ≡ option_and_then (of_form directive_argument_form) (read text.now) }
-{
-    match parts_of(text)? {
-        Parts::DirectiveArgument(directive, argument) => Some((directive, argument)),
-        _ => None,
+    match cut_parts(text) {
+        Some(parts) if parts.are_signless() => Ok(parts),
+        _ => Err(SchemaCoordinateParseError::InvalidFormat),
     }
 }
 
@@ -100,14 +51,9 @@ pub(crate) fn directive_argument_parts_of(text: &str) -> Option<(&str, &str)>
 fn has_no_sign(text: &str) -> bool
     ensures { result ≡ has_no_sign text.now }
 {
-    text.as_bytes().iter().all(|byte| !is_sign(*byte))
-}
-
-/// Whether the byte is a sign.
-fn is_sign(byte: u8) -> bool
-    ensures { result ≡ is_sign byte }
-{
-    matches!(byte, b'@' | b'.' | b'(' | b':' | b')')
+    text.as_bytes()
+        .iter()
+        .all(|byte| !matches!(byte, b'@' | b'.' | b'(' | b':' | b')'))
 }
 
 /// Cuts the text at the first of each sign in turn.

@@ -1,6 +1,6 @@
 -- Implementers that are noted one after another.
-use Rattle.std.proofs.Common.{◌≡◌, ℕ, zero, suc, ◌+◌, take, add-one, Bool, true, false, ◌||◌, List, [], ◌∷◌, ◌++◌, map, Option, Some, refl, sym, ap, ◌∙◌, cond, if◌then◌else◌}
-use Rattle.std.specs.Prelude.{unwrap_or, slice_get}
+use Rattle.std.proofs.Common.{◌≡◌, Bool, true, false, ◌||◌, List, [], ◌∷◌, ◌++◌, map, Option, None, Some, refl, sym, ap, ◌∙◌, cond, if◌then◌else◌}
+use Rattle.std.specs.Prelude.{unwrap_or}
 use Rattle.std.specs.List.{list_any, flat_map}
 use Rattle.std.specs.Option.{option_map}
 use Rattle.std.specs.Map.{lookup}
@@ -15,7 +15,7 @@ use Rattle.graphql_components.specs.Names.{same_text}
 use Rattle.graphql_schema_building.specs.in_schema_types.TypeView.{name_text, extended_type}
 use Rattle.graphql_schema_building.specs.in_schema_types.declared.extended_type.ExtendedType.{ExtendedType}
 use Rattle.graphql_schema.specs.Noting.{Naming, nobody, with_name, and_type, and_naming, namings_of}
-use Rattle.graphql_schema.specs.ImplementersView.{implementers_tree, implementers_at, entry_namings}
+use Rattle.graphql_schema.specs.ImplementersView.{implementers_tree, implementers_at}
 use Rattle.graphql_schema.specs.declared.implementers.Implementers.{Implementers}
 
 any_text : (n : NameValue) (ks : List NameValue) → list_any (same_text name_text n) ks ≡ is_among n.text (map name_text ks)
@@ -52,17 +52,15 @@ noted m n k x o new named was is writes i = by (bytes_eq k.text i.text) refl
         ap (option_map implementers_tree) (writes i ∙ ap (λ b. cond b (Some new) (get (same_text name_text) m i)) t)
         ∙ sym (ap (λ b. if b then Some (and_type x.is_object x.type (unwrap_or (implementers_at m i) nobody)) else implementers_at m i) (ap (λ t. bytes_eq t i.text) named ∙ t))
 
-abbrev pub listed : List (NameValue × ExtendedType) → List Naming
-listed es = flat_map namings_of (map (λ e. (name_text e.0, extended_type e.1)) es)
+-- the implementers that stand there, or nobody
+pub or_nobody : (o : Option Implementers) (d : Implementers) → implementers_tree d ≡ nobody → implementers_tree (unwrap_or o d) ≡ unwrap_or (option_map implementers_tree o) nobody
+or_nobody None d e = e
+or_nobody (Some x) d e = refl
 
-listed_suc : (es : List (NameValue × ExtendedType)) (k : ℕ) → listed (take (suc k) es) ≡ listed (take k es) ++ entry_namings (slice_get es k)
-listed_suc [] zero = refl
-listed_suc [] (suc k) = refl
-listed_suc (e ∷ es) zero = append-nil (namings_of (name_text e.0, extended_type e.1))
-listed_suc (e ∷ es) (suc k) =
-    ap (λ l. namings_of (name_text e.0, extended_type e.1) ++ l) (listed_suc es k)
-    ∙ sym (append_assoc (namings_of (name_text e.0, extended_type e.1)) (listed (take k es)) (entry_namings (slice_get es k)))
-
--- the namings of one entry more
-pub listed_more : (es : List (NameValue × ExtendedType)) (k : ℕ) → listed (take (k + 1) es) ≡ listed (take k es) ++ entry_namings (slice_get es k)
-listed_more es k = ap (λ n. listed (take n es)) (add-one k) ∙ listed_suc es k
+-- the namings of one type more
+pub namings_push : (es : List (NameValue × ExtendedType)) (e : NameValue × ExtendedType)
+    → flat_map namings_of (map (λ e. (name_text e.0, extended_type e.1)) (es ++ e ∷ [])) ≡ flat_map namings_of (map (λ e. (name_text e.0, extended_type e.1)) es) ++ namings_of (name_text e.0, extended_type e.1)
+namings_push [] e = append-nil (namings_of (name_text e.0, extended_type e.1))
+namings_push (x ∷ xs) e =
+    ap (λ l. namings_of (name_text x.0, extended_type x.1) ++ l) (namings_push xs e)
+    ∙ sym (append_assoc (namings_of (name_text x.0, extended_type x.1)) (flat_map namings_of (map (λ e. (name_text e.0, extended_type e.1)) xs)) (namings_of (name_text e.0, extended_type e.1)))

@@ -1,14 +1,12 @@
 -- What contracts see of implementers.
-use Rattle.std.specs.Prelude.{List, [], map, Option, ◌++◌}
-use Rattle.std.specs.Option.{option_map, option_map_or}
-pub use Rattle.std.specs.Map.Iter.{deref_pair}
+use Rattle.std.specs.Prelude.{List, map, Option, ◌++◌}
+use Rattle.std.specs.Option.{option_map}
+use Rattle.std.specs.Slice.Iter.{iter_rest}
 use Rattle.indexmap.specs.IndexMap.{IndexMap, get}
 use Rattle.graphql_names.specs.NameValue.{NameValue}
 use Rattle.graphql_components.specs.Names.{same_text}
-use Rattle.graphql_schema_building.specs.in_schema_types.TypeView.{name_text, extended_type}
-use Rattle.graphql_schema_building.specs.in_schema_types.declared.extended_type.ExtendedType.{ExtendedType}
+use Rattle.graphql_schema_building.specs.in_schema_types.TypeView.{name_text}
 use Rattle.graphql_schema.specs.Implementers.{ImplementersTree}
-use Rattle.graphql_schema.specs.Noting.{Naming, namings_of}
 use Rattle.graphql_schema.specs.declared.implementers.Implementers.{Implementers}
 use Rattle.graphql_schema.specs.declared.implementers.ImplementersNames.{ImplementersNames}
 
@@ -21,8 +19,4 @@ implementers_at m i = option_map implementers_tree (get (same_text name_text) m 
 
 -- the names that an iterator has still to give: of objects, then of interfaces
 abbrev pub left_implementers : ImplementersNames → List NameValue
-left_implementers s = s.objects.now ++ s.interfaces.now
-
--- what the type of an entry names
-abbrev pub entry_namings : Option (NameValue × ExtendedType) → List Naming
-entry_namings o = option_map_or (λ e. namings_of (name_text e.0, extended_type e.1)) o []
+left_implementers s = iter_rest s.objects ++ iter_rest s.interfaces

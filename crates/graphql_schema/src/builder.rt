@@ -7,7 +7,6 @@ ghost use Rattle.graphql_schema_building.specs.in_folding.BuildErrors.{FoldingRu
 ghost use Rattle.graphql_schema_building.specs.in_folding.FaultView.{faults_of};
 ghost use Rattle.graphql_schema_building.specs.in_folding.Fold.{fold};
 ghost use Rattle.graphql_schema_building.specs.Building.{plain_settings, counted, folded, FailsIn, lent_names, IsAddRefusal, IsBuildRefusal};
-ghost use Rattle.graphql_schema_building.specs.BuiltView.{built_view};
 ghost use Rattle.graphql_schema_building.specs.Numbers.{HaveNumbers};
 ghost use Rattle.graphql_schema_building.specs.SourcesView.{sources_view, with_sources};
 ghost use Rattle.graphql_schema_building.specs.Waiting.{left_names};
@@ -19,7 +18,7 @@ use crate::meta_fields::MetaFields;
 use crate::schema::Schema;
 use graphql_components::Extensions;
 use graphql_names::SourceSpan;
-use graphql_schema_building::{BuildError, BuilderRefusal, Building, Built, OrphanExtensionTypes};
+use graphql_schema_building::{BuildError, BuilderRefusal, Building, OrphanExtensionTypes};
 use graphql_schema_writing::Document;
 use std::alloc::{AllocError, Global};
 
@@ -107,21 +106,14 @@ impl SchemaBuilder {
     {
         let (built, faults) = self.building.build()?;
         let meta_fields = MetaFields::new(self.alloc)?;
-        Ok((schema_of(built, meta_fields), faults))
-    }
-}
-
-/// What is built, with the meta-fields, as a schema.
-fn schema_of(built: Built, meta_fields: MetaFields) -> Schema
-    ensures schema { schema_tree result ≡ built_view built }
-    ensures sources { result.sources ≡ built.sources }
-{
-    Schema {
-        sources: built.sources,
-        schema_definition: built.schema_definition,
-        directive_definitions: built.directive_definitions,
-        types: built.types,
-        meta_fields,
+        let schema = Schema {
+            sources: built.sources,
+            schema_definition: built.schema_definition,
+            directive_definitions: built.directive_definitions,
+            types: built.types,
+            meta_fields,
+        };
+        Ok((schema, faults))
     }
 }
 

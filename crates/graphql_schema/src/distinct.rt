@@ -31,12 +31,14 @@ fn parts_differ(ty: &ExtendedType)
     match ty {
         ExtendedType::Scalar(_) => {}
         ExtendedType::Object(own) => {
-            let _ = own.content().implements_interfaces.len();
-            let _ = own.content().fields.len();
+            let own = own.content();
+            let _ = own.implements_interfaces.len();
+            let _ = own.fields.len();
         }
         ExtendedType::Interface(own) => {
-            let _ = own.content().implements_interfaces.len();
-            let _ = own.content().fields.len();
+            let own = own.content();
+            let _ = own.implements_interfaces.len();
+            let _ = own.fields.len();
         }
         ExtendedType::Union(own) => {
             let _ = own.content().members.len();

@@ -6,12 +6,11 @@ ghost use Rattle.graphql_components.specs.Given.{component_tree};
 ghost use Rattle.graphql_schema_building.specs.in_schema_types.Addresses.{under};
 ghost use Rattle.graphql_schema_building.specs.in_schema_types.TypeView.{extended_type};
 ghost use Rattle.graphql_schema.specs.SchemaOf.{schema_tree};
-ghost use Rattle.graphql_schema.specs.LookUps.{is_composite_kind, is_query_root, field_on, field_named, FieldIsMissing};
+ghost use Rattle.graphql_schema.specs.LookUps.{is_query_root, field_on, field_named, FieldIsMissing};
 
 use crate::schema::Schema;
 use graphql_components::Component;
 use graphql_names::Name;
-use graphql_operations::OperationType;
 use graphql_schema_writing::ExtendedType;
 use graphql_type_members::FieldDefinition;
 
@@ -54,12 +53,15 @@ impl Schema {
     ) -> Option<&'schema Component<FieldDefinition>>
         ensures { option_map (λ f. component_tree field_definition_tree f.now) result ≡ field_on (schema_tree self.now) type_name.now.text (extended_type ty.now) name.now.text }
     {
-        let composite = is_composite(ty);
+        let is_composite = matches!(
+            ty,
+            ExtendedType::Object(_) | ExtendedType::Interface(_) | ExtendedType::Union(_)
+        );
         match field_of(ty, name) {
             Some(field) => Some(field),
             None => self.meta_fields.get(
-                composite,
-                composite && self.is_query_root(type_name),
+                is_composite,
+                is_composite && self.is_query_root(type_name),
                 name,
             ),
         }
@@ -69,21 +71,11 @@ impl Schema {
     fn is_query_root(&self, type_name: &Name) -> bool
         ensures { result ≡ is_query_root (schema_tree self.now) type_name.now.text }
     {
-        match self.root_operation(OperationType::Query) {
+        match &self.schema_definition.content().query {
             None => false,
-            Some(root) => type_name.as_str() == root.as_str(),
+            Some(root) => *type_name == root.name,
         }
     }
-}
-
-/// Whether it is a composite type (section 2.5): an object, an interface or a union.
-fn is_composite(ty: &ExtendedType) -> bool
-    ensures { result ≡ is_composite_kind (extended_type ty.now).kind }
-{
-    matches!(
-        ty,
-        ExtendedType::Object(_) | ExtendedType::Interface(_) | ExtendedType::Union(_)
-    )
 }
 
 /// The field of that name of an object or an interface.

@@ -1,21 +1,22 @@
 //! Which types implement each interface.
-ghost use Rattle.std.specs.Prelude.{◌≡◌, ◌++◌, map, fold, IfOk, OnOk};
-ghost use Rattle.std.specs.Option.{option_map};
+ghost use Rattle.std.specs.Prelude.{◌≡◌, ◌++◌, fold, IfOk, OnOk};
 ghost use Rattle.std.specs.Iterator.{YieldsFirstRef, item_count};
 ghost use Rattle.graphql_names.specs.NameValue.{NameValue};
 ghost use Rattle.graphql_components.specs.Given.{component_name_tree};
 ghost use Rattle.graphql_schema_building.specs.in_schema_types.TypeView.{extended_type};
 ghost use Rattle.graphql_schema.specs.SchemaOf.{schema_tree};
 ghost use Rattle.graphql_schema.specs.Implementers.{implementers_in};
-ghost use Rattle.graphql_schema.specs.Noting.{nobody, and_type, and_naming, naming, namings_of, namings, noted_in};
-ghost use Rattle.graphql_schema.specs.ImplementersView.{implementers_tree, implementers_at, left_implementers, entry_namings, deref_pair};
+ghost use Rattle.graphql_schema.specs.Noting.{nobody, and_type, and_naming, naming, namings_of};
+ghost use Rattle.graphql_schema.specs.ImplementersView.{implementers_tree, implementers_at, left_implementers};
 
 use crate::schema::Schema;
+use crate::subtype::interfaces_of;
 use graphql_components::ComponentName;
 use graphql_names::Name;
 use graphql_schema_writing::ExtendedType;
 use indexmap::{IndexMap, IndexSet};
 use std::alloc::{AllocError, Global};
+use std::slice;
 
 /// The names of the objects and of the interfaces that implement one interface.
 #[derive(PartialEq, Eq, Drop)]
@@ -53,8 +54,8 @@ impl Implementers {
         ensures { left_implementers result ≡ self.now.objects.keys ++ self.now.interfaces.keys }
     {
         ImplementersNames {
-            objects: self.objects.as_slice(),
-            interfaces: self.interfaces.as_slice(),
+            objects: self.objects.as_slice().iter(),
+            interfaces: self.interfaces.as_slice().iter(),
         }
     }
 }
@@ -62,8 +63,8 @@ impl Implementers {
 /// The implementers that are left: objects, then interfaces.
 #[derive(Drop)]
 pub struct ImplementersNames<'a> {
-    objects: &'a [Name],
-    interfaces: &'a [Name],
+    objects: slice::Iter<'a, Name>,
+    interfaces: slice::Iter<'a, Name>,
 }
 
 impl<'a> Iterator for ImplementersNames<'a> {
@@ -74,13 +75,10 @@ impl<'a> Iterator for ImplementersNames<'a> {
     ghost remaining = { item_count left_implementers };
 
     fn next(&mut self) -> Option<&'a Name> {
-        if let Some((first, others)) = self.objects.split_first() {
-            self.objects = others;
-            return Some(first);
+        match self.objects.next() {
+            Some(name) => Some(name),
+            None => self.interfaces.next(),
         }
-        let (first, others) = self.interfaces.split_first()?;
-        self.interfaces = others;
-        Some(first)
     }
 }
 
@@ -93,32 +91,11 @@ impl Schema {
     ) -> Result<IndexMap<Name, Implementers>, AllocError>
         ensures { IfOk result (λ m. (i : NameValue) → implementers_at m i ≡ implementers_in (schema_tree self.now) i.text) }
     {
-        self.note_types(alloc)
-    }
-
-    /// Notes the interfaces that each type names.
-    fn note_types(&self, alloc: Global) -> Result<IndexMap<Name, Implementers>, AllocError>
-        ensures { IfOk result (λ m. (i : NameValue) → implementers_at m i ≡ noted_in (namings (schema_tree self.now)) i.text) }
-    {
         let mut noted = IndexMap::new(alloc);
-        for index in 0..self.types.len() {
-            note_entry(alloc, &mut noted, self.types.get_index(index))?;
+        for (name, ty) in &self.types {
+            note_type(alloc, &mut noted, name, ty)?;
         }
         Ok(noted)
-    }
-}
-
-/// Notes the interfaces that the type of an entry names, if there is one.
-fn note_entry(
-    alloc: Global,
-    noted: &mut IndexMap<Name, Implementers>,
-    entry: Option<(&Name, &ExtendedType)>,
-) -> Result<(), AllocError>
-    ensures { OnOk result ((i : NameValue) → implementers_at noted.new i ≡ fold (and_naming i.text) (implementers_at noted.old i) (entry_namings (option_map deref_pair entry.entry))) }
-{
-    match entry {
-        None => Ok(()),
-        Some((name, ty)) => note_type(alloc, noted, name, ty),
     }
 }
 
@@ -131,39 +108,8 @@ fn note_type(
 ) -> Result<(), AllocError>
     ensures { OnOk result ((i : NameValue) → implementers_at noted.new i ≡ fold (and_naming i.text) (implementers_at noted.old i) (namings_of (name.now.text, extended_type ty.now))) }
 {
-    match ty {
-        ExtendedType::Object(object) => {
-            note_names(
-                alloc,
-                noted,
-                object.content().implements_interfaces.as_slice(),
-                true,
-                name,
-            )
-        }
-        ExtendedType::Interface(own) => {
-            note_names(
-                alloc,
-                noted,
-                own.content().implements_interfaces.as_slice(),
-                false,
-                name,
-            )
-        }
-        _ => Ok(()),
-    }
-}
-
-/// Notes that the type names these interfaces.
-fn note_names(
-    alloc: Global,
-    noted: &mut IndexMap<Name, Implementers>,
-    interfaces: &[ComponentName],
-    is_object: bool,
-    name: &Name,
-) -> Result<(), AllocError>
-    ensures { OnOk result ((i : NameValue) → implementers_at noted.new i ≡ fold (and_naming i.text) (implementers_at noted.old i) (map (naming is_object name.now.text) (map component_name_tree interfaces.now))) }
-{
+    let is_object = ty.is_object();
+    let interfaces = interfaces_of(ty);
     for interface in interfaces {
         note_name(alloc, noted, interface, is_object, name)?;
     }
@@ -180,12 +126,7 @@ fn note_name(
 ) -> Result<(), AllocError>
     ensures { OnOk result ((i : NameValue) → implementers_at noted.new i ≡ and_naming i.text (implementers_at noted.old i) (naming is_object name.now.text (component_name_tree interface.now))) }
 {
-    if let Some(implementers) = noted.get_mut(&interface.name) {
-        return implementers.add(is_object, name);
-    }
-    let mut implementers = Implementers::new(alloc);
-    implementers.add(is_object, name)?;
     let interface = interface.name.clone()?;
-    noted.insert(interface, implementers)?;
-    Ok(())
+    let implementers = noted.entry(interface)?.or_insert(Implementers::new(alloc));
+    implementers.add(is_object, name)
 }

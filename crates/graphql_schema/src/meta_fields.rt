@@ -3,12 +3,11 @@ ghost use Rattle.std.specs.Prelude.{◌≡◌};
 ghost use Rattle.std.specs.Option.{option_map};
 ghost use Rattle.graphql_type_members.specs.TypeSystemTree.{field_definition_tree};
 ghost use Rattle.graphql_schema_building.specs.in_built_in.MetaFields.{typename_field, schema_field, type_field, meta_field_of};
-ghost use Rattle.graphql_names.specs.Placed.{node_tree};
 ghost use Rattle.graphql_components.specs.Given.{component_tree};
 ghost use Rattle.graphql_schema.specs.MetaField.{by_definition};
 
 use graphql_components::{Component, ComponentOrigin};
-use graphql_names::{Name, Node};
+use graphql_names::Name;
 use graphql_schema_building::{schema_field, type_field, typename_field};
 use graphql_type_members::FieldDefinition;
 use std::alloc::{AllocError, Global};
@@ -34,13 +33,10 @@ impl Model for MetaFields {
 impl MetaFields {
     /// The definitions of the meta-fields.
     pub(crate) fn new(alloc: Global) -> Result<MetaFields, AllocError> {
-        let typename = defined(typename_field(alloc)?);
-        let schema = defined(schema_field(alloc)?);
-        let type_by_name = defined(type_field(alloc)?);
         Ok(MetaFields {
-            typename,
-            schema,
-            type_by_name,
+            typename: Component::new(ComponentOrigin::Definition, typename_field(alloc)?),
+            schema: Component::new(ComponentOrigin::Definition, schema_field(alloc)?),
+            type_by_name: Component::new(ComponentOrigin::Definition, type_field(alloc)?),
         })
     }
 
@@ -53,22 +49,11 @@ impl MetaFields {
     ) -> Option<&Component<FieldDefinition>>
         ensures { option_map (λ f. component_tree field_definition_tree f.now) result ≡ option_map by_definition (meta_field_of is_composite is_query_root name.now.text) }
     {
-        if is_composite && name.as_str() == "__typename" {
-            return Some(&self.typename);
+        match name.as_str() {
+            "__typename" if is_composite => Some(&self.typename),
+            "__schema" if is_query_root => Some(&self.schema),
+            "__type" if is_query_root => Some(&self.type_by_name),
+            _ => None,
         }
-        if is_query_root && name.as_str() == "__schema" {
-            return Some(&self.schema);
-        }
-        if is_query_root && name.as_str() == "__type" {
-            return Some(&self.type_by_name);
-        }
-        None
     }
-}
-
-/// A field that the definition of a type gives.
-fn defined(field: Node<FieldDefinition>) -> Component<FieldDefinition>
-    ensures { component_tree field_definition_tree result ≡ by_definition (node_tree field_definition_tree field) }
-{
-    Component::new(ComponentOrigin::Definition, field)
 }

@@ -6,7 +6,6 @@ ghost use Rattle.graphql_schema_building.specs.in_schema_types.Addresses.{root_a
 ghost use Rattle.graphql_schema.specs.SchemaOf.{schema_tree};
 
 use crate::meta_fields::MetaFields;
-use graphql_components::ComponentName;
 use graphql_directives::DirectiveDefinition;
 use graphql_names::{FileId, Name, Node};
 use graphql_operations::OperationType;
@@ -34,20 +33,14 @@ impl Schema {
         ensures { option_map (λ n. name_tree n.now) result ≡ root_at (schema_tree self.now) operation_type }
     {
         let definition = self.schema_definition.content();
-        match operation_type {
-            OperationType::Query => name_of(&definition.query),
-            OperationType::Mutation => name_of(&definition.mutation),
-            OperationType::Subscription => name_of(&definition.subscription),
+        let root = match operation_type {
+            OperationType::Query => &definition.query,
+            OperationType::Mutation => &definition.mutation,
+            OperationType::Subscription => &definition.subscription,
+        };
+        match root {
+            None => None,
+            Some(component) => Some(&component.name),
         }
-    }
-}
-
-/// The name, if there is one.
-fn name_of(root: &Option<ComponentName>) -> Option<&Name>
-    ensures { option_map (λ n. n.now) result ≡ option_map (λ c. c.name) root.now }
-{
-    match root {
-        None => None,
-        Some(component) => Some(&component.name),
     }
 }

@@ -23,25 +23,21 @@ impl Schema {
             }
             Some(ExtendedType::Interface(_)) => match self.type_named(maybe_subtype) {
                 None => false,
-                Some(ty) => implements(ty, abstract_type),
+                Some(ty) => has_name(interfaces_of(ty), abstract_type),
             },
             _ => false,
         }
     }
 }
 
-/// Whether the type names the interface.
-fn implements(ty: &ExtendedType, interface: &Name) -> bool
-    ensures { result ≡ is_among interface.now.text (map given_name (extended_type ty.now).interfaces) }
+/// The interfaces that an object or an interface names; no other type names any.
+pub(crate) fn interfaces_of(ty: &ExtendedType) -> &[ComponentName]
+    ensures { map component_name_tree result.now ≡ (extended_type ty.now).interfaces }
 {
     match ty {
-        ExtendedType::Object(object) => {
-            has_name(object.content().implements_interfaces.as_slice(), interface)
-        }
-        ExtendedType::Interface(own) => {
-            has_name(own.content().implements_interfaces.as_slice(), interface)
-        }
-        _ => false,
+        ExtendedType::Object(object) => object.content().implements_interfaces.as_slice(),
+        ExtendedType::Interface(own) => own.content().implements_interfaces.as_slice(),
+        _ => &[],
     }
 }
 
@@ -50,7 +46,7 @@ fn has_name(names: &[ComponentName], name: &Name) -> bool
     ensures { result ≡ is_among name.now.text (map given_name (map component_name_tree names.now)) }
 {
     for component in names {
-        if name.as_str() == component.name.as_str() {
+        if *name == component.name {
             return true;
         }
     }

@@ -29,42 +29,60 @@ impl Schema {
     pub fn get_scalar(&self, name: &Name) -> Option<&Node<ScalarType>>
         ensures { option_map (λ n. scalar_type (place n.now) (content n.now)) result ≡ type_of_kind (schema_tree self.now) kind.Scalar name.now.text }
     {
-        self.type_named(name)?.as_scalar()
+        match self.type_named(name) {
+            Some(ty) => ty.as_scalar(),
+            None => None,
+        }
     }
 
     /// The object type of that name, if there is one.
     pub fn get_object(&self, name: &Name) -> Option<&Node<ObjectType>>
         ensures { option_map (λ n. object_type (place n.now) (content n.now)) result ≡ type_of_kind (schema_tree self.now) kind.Object name.now.text }
     {
-        self.type_named(name)?.as_object()
+        match self.type_named(name) {
+            Some(ty) => ty.as_object(),
+            None => None,
+        }
     }
 
     /// The interface type of that name, if there is one.
     pub fn get_interface(&self, name: &Name) -> Option<&Node<InterfaceType>>
         ensures { option_map (λ n. interface_type (place n.now) (content n.now)) result ≡ type_of_kind (schema_tree self.now) kind.Interface name.now.text }
     {
-        self.type_named(name)?.as_interface()
+        match self.type_named(name) {
+            Some(ty) => ty.as_interface(),
+            None => None,
+        }
     }
 
     /// The union type of that name, if there is one.
     pub fn get_union(&self, name: &Name) -> Option<&Node<UnionType>>
         ensures { option_map (λ n. union_type (place n.now) (content n.now)) result ≡ type_of_kind (schema_tree self.now) kind.Union name.now.text }
     {
-        self.type_named(name)?.as_union()
+        match self.type_named(name) {
+            Some(ty) => ty.as_union(),
+            None => None,
+        }
     }
 
     /// The enum type of that name, if there is one.
     pub fn get_enum(&self, name: &Name) -> Option<&Node<EnumType>>
         ensures { option_map (λ n. enum_type (place n.now) (content n.now)) result ≡ type_of_kind (schema_tree self.now) kind.Enum name.now.text }
     {
-        self.type_named(name)?.as_enum()
+        match self.type_named(name) {
+            Some(ty) => ty.as_enum(),
+            None => None,
+        }
     }
 
     /// The input object type of that name, if there is one.
     pub fn get_input_object(&self, name: &Name) -> Option<&Node<InputObjectType>>
         ensures { option_map (λ n. input_object_type (place n.now) (content n.now)) result ≡ type_of_kind (schema_tree self.now) kind.InputObject name.now.text }
     {
-        self.type_named(name)?.as_input_object()
+        match self.type_named(name) {
+            Some(ty) => ty.as_input_object(),
+            None => None,
+        }
     }
 
     /// Whether values of the type inside can be given (section 3.4.2, IsInputType); false if the type is missing.

@@ -24,21 +24,21 @@ pub returns-in-Object : goal.returns-in-Object
 returns-in-Object c =
     let own = c.in-Object.own in
     subst (λ (t : ExtendedType). ArePartsDistinct (extended_type t)) (sym c.in-Object.is)
-    (object_parts (place own) (content own) (subst (λ (t : ObjectType). IsDistinct (same_text name_text) (keys_of t.fields.entries)) c.content-in-Object.ensures c.len-in-Object.ensures.unique)
-    (subst (λ (t : ObjectType). IsDistinct (λ a b. bytes_eq a.name.text b.name.text) t.implements_interfaces.keys) c.content.ensures c.len.ensures.unique))
+    (object_parts (place own) (content own) (subst (λ (t : ObjectType). IsDistinct (same_text name_text) (keys_of t.fields.entries)) c.content-own.ensures c.len-in-Object.ensures.unique)
+    (subst (λ (t : ObjectType). IsDistinct (λ a b. bytes_eq a.name.text b.name.text) t.implements_interfaces.keys) c.content-own.ensures c.len.ensures.unique))
 
 pub returns-in-Interface : goal.returns-in-Interface
 returns-in-Interface c =
     let own = c.in-Interface.own in
     subst (λ (t : ExtendedType). ArePartsDistinct (extended_type t)) (sym c.in-Interface.is)
-    (interface_parts (place own) (content own) (subst (λ (t : InterfaceType). IsDistinct (same_text name_text) (keys_of t.fields.entries)) c.content-in-Interface-2.ensures c.len-in-Interface-2.ensures.unique)
-    (subst (λ (t : InterfaceType). IsDistinct (λ a b. bytes_eq a.name.text b.name.text) t.implements_interfaces.keys) c.content-in-Interface.ensures c.len-in-Interface.ensures.unique))
+    (interface_parts (place own) (content own) (subst (λ (t : InterfaceType). IsDistinct (same_text name_text) (keys_of t.fields.entries)) c.content-own-in-Interface.ensures c.len-in-Interface-2.ensures.unique)
+    (subst (λ (t : InterfaceType). IsDistinct (λ a b. bytes_eq a.name.text b.name.text) t.implements_interfaces.keys) c.content-own-in-Interface.ensures c.len-in-Interface.ensures.unique))
 
 pub returns-in-Union : goal.returns-in-Union
 returns-in-Union c =
     let own = c.in-Union.own in
     subst (λ (t : ExtendedType). ArePartsDistinct (extended_type t)) (sym c.in-Union.is)
-    (union_parts (place own) (content own) (subst (λ (t : UnionType). IsDistinct (λ a b. bytes_eq a.name.text b.name.text) t.members.keys) c.content-in-Union.ensures c.len-in-Union.ensures.unique))
+    (union_parts (place own) (content own) (subst (λ (t : UnionType). IsDistinct (λ a b. bytes_eq a.name.text b.name.text) t.members.keys) c.content.ensures c.len-in-Union.ensures.unique))
 
 pub returns-in-Enum : goal.returns-in-Enum
 returns-in-Enum c =
