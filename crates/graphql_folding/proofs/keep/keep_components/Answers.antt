@@ -34,7 +34,7 @@ loop-component-preserved g c =
     elim c.if-contains_key.branch [
       | then-contains_key+in_ok-note_repeat w ↦
           let step = keeps_seen key note view es (view x) faults (faults_of w.note_repeat.new.faults) (found ∙ w.if-contains_key.true)
-              (w.in_ok-note_repeat.ensures ∙ (λ i. faults ++ record { place = w.location.ensures i; breach = repeat_breach c.args.repeat type_name (named i).text } ∷ [])) in
+          (w.in_ok-note_repeat.ensures ∙ (λ i. faults ++ record { place = w.location.ensures i; breach = repeat_breach c.args.repeat type_name (named i).text } ∷ [])) in
           record {
             kept = ap (entries_of name_text view) w.kept-is ∙ kept_on key note (map view (take i xs)) (view x) _ front _ _ _ _ so_far.kept step;
             told = ap faults_of w.faults-is ∙ told_on key note (map view (take i xs)) (view x) _ front _ _ _ _ _ so_far.kept so_far.told step;
@@ -43,8 +43,8 @@ loop-component-preserved g c =
           let clone = w.in_ok-shared.ensures.cases in
           let same : view w.in_ok-shared.shared ≡ view x = (λ i. record { extension = origin_tree (clone.0 i); it = record { it = clone.1 i; place = clone.2 i } }) in
           let step = keeps_new key note view es (view x) (entries_of name_text view w.insert_new.new.map) faults (found ∙ w.if-contains_key.false)
-              (ap (map (λ e. (name_text e.0, view e.1))) w.in_ok-insert_new.ensures ∙ map-append (λ e. (name_text e.0, view e.1)) es ((c.key-name.result.now, w.in_ok-shared.shared) ∷ [])
-              ∙ (λ i. entries_of name_text view c.loop-component.kept ++ ((named i).text, same i) ∷ [])) in
+          (ap (map (λ e. (name_text e.0, view e.1))) w.in_ok-insert_new.ensures ∙ map-append (λ e. (name_text e.0, view e.1)) es ((c.key-name.result.now, w.in_ok-shared.shared) ∷ [])
+          ∙ (λ i. entries_of name_text view c.loop-component.kept ++ ((named i).text, same i) ∷ [])) in
           record {
             kept = ap (entries_of name_text view) w.kept-is ∙ kept_on key note (map view (take i xs)) (view x) _ front _ _ _ _ so_far.kept step;
             told = ap faults_of w.faults-is ∙ told_on key note (map view (take i xs)) (view x) _ front _ _ _ _ _ so_far.kept so_far.told step;

@@ -27,7 +27,7 @@ loop-component-preserved c =
     elim c.if-contains.branch [
       | then-contains+in_ok-note_repeat w ↦
           let step = names_seen given_name note component_name_tree ks (component_name_tree x) faults (faults_of w.note_repeat.new.faults) (sym c.contains.ensures ∙ w.if-contains.true)
-              (w.in_ok-note_repeat.ensures ∙ (λ i. faults ++ record { place = w.location.ensures.value i; breach = repeat_breach c.args.repeat type_name x.name.text } ∷ [])) in
+          (w.in_ok-note_repeat.ensures ∙ (λ i. faults ++ record { place = w.location.ensures.value i; breach = repeat_breach c.args.repeat type_name x.name.text } ∷ [])) in
           record {
             kept = ap (λ (k : _). map component_name_tree k.keys) w.kept-is ∙ names_on given_name note before (component_name_tree x) _ front _ _ _ _ so_far.kept step;
             told = ap faults_of w.faults-is ∙ names_told_on given_name note before (component_name_tree x) _ front _ _ _ _ _ so_far.kept so_far.told step;
