@@ -11,6 +11,10 @@ pub mod DocumentFailures
 pub mod FullLists
 pub mod FieldsFound
 pub mod DocumentMeant
+pub mod Outcomes
+pub mod CopiedDefinitions
+pub mod AddedOperations
+pub mod AddedFragments
 pub mod TypedPlaces
 pub mod WholeDocuments
 pub mod WrittenMeant
