@@ -1,5 +1,5 @@
 -- What a fragment adds to what is kept and told of the definitions before it.
-use Rattle.std.proofs.Common.{◌≡◌, true, false, [], ◌∷◌, ◌++◌, map, None, refl, sym, ap, ◌∙◌, if◌then◌else◌}
+use Rattle.std.proofs.Common.{◌≡◌, true, false, [], ◌∷◌, ◌++◌, map, None, sym, ap, ◌∙◌, if◌then◌else◌}
 use Rattle.std.proofs.lemmas.List.{map-append}
 use Rattle.indexmap.specs.IndexMap.{get, insert_entry, IndexMap}
 use Rattle.indexmap.proofs.CallerLemmas.{insert_entry-new}

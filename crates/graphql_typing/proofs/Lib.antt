@@ -3,7 +3,6 @@ pub mod TypingRows
 pub mod MeantSets
 pub mod SetFailures
 pub mod DefinedFields
-pub mod Roots
 pub mod KeptFirsts
 pub mod KnownNames
 pub mod Turns

@@ -10,20 +10,6 @@ use graphql_document_faults::BuildError;
 use graphql_names::{Name, SourceSpan};
 use std::alloc::AllocError;
 
-/// An operation without a name stands alone (section 5.2.2.1).
-pub(crate) fn ambiguous_anonymous_operation(
-    beside: bool,
-    location: Option<SourceSpan>,
-    faults: &mut Vec<(Option<SourceSpan>, BuildError)>,
-) -> Result<(), AllocError>
-    ensures { OnOk result (faults_of faults.new ≡ faults_of faults.old ++ faults_if beside (At location breach.AmbiguousAnonymousOperation)) }
-{
-    if !beside {
-        return Ok(());
-    }
-    tell(location, BuildError::AmbiguousAnonymousOperation, faults)
-}
-
 /// No two operations have one name (section 5.2.1.1): whether an earlier one has this name is known.
 pub(crate) fn operation_name_collision(
     is_known: bool,

@@ -15,7 +15,7 @@ ghost use Rattle.graphql_typing.specs.FaultView.{faults_of};
 ghost use Rattle.graphql_typing.specs.MeaningView.{meanings_under};
 
 use crate::definition_rules::{
-    ambiguous_anonymous_operation, fragment_name_collision, operation_name_collision,
+    fragment_name_collision, operation_name_collision,
     undefined_type_in_named_fragment_type_condition,
 };
 use crate::look_ups::{has_type, root_of};
@@ -126,8 +126,8 @@ impl TypedDocument {
         }
     }
 
-    /// Tells where the name of an operation breaks a rule, or its lack where it stands beside others. Whether an operation
-    /// that is kept has its name, or has none as it has none.
+    /// Tells where an operation without a name stands beside others (section 5.2.2.1), or where another has its name. Whether
+    /// an operation that is kept has its name, or has none as it has none.
     fn check_name(
         &mut self,
         beside: bool,
@@ -139,7 +139,13 @@ impl TypedDocument {
         let location = operation.location();
         match &operation.content().name {
             None => {
-                ambiguous_anonymous_operation(beside, location, &mut self.faults)?;
+                if beside {
+                    tell(
+                        location,
+                        BuildError::AmbiguousAnonymousOperation,
+                        &mut self.faults,
+                    )?;
+                }
                 Ok(self.operations.anonymous.is_some())
             }
             Some(name) => {

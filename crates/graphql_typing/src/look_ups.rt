@@ -69,9 +69,10 @@ pub(crate) fn is_leaf(schema: Option<&Schema>, name: &Name) -> bool
 fn unknown_field(alloc: Global, name: &Name) -> Result<Node<FieldDefinition>, AllocError>
     ensures { IfOk result (λ n. definition_view n ≡ unknown_definition name.now.text) }
 {
+    let name = name.clone()?;
     let definition = FieldDefinition {
         description: None,
-        name: name.clone()?,
+        name,
         arguments: Vec::new(alloc),
         ty: Type::Named(Name::new_static_unchecked("UNKNOWN")),
         directives: DirectiveList::new(alloc),

@@ -5,7 +5,7 @@ use Rattle.graphql_typing.specs.FaultView.{faults_of}
 use Rattle.graphql_typing.specs.MeaningView.{meanings_under}
 use Rattle.graphql_typing.specs.SetFaults.{set_faults}
 use Rattle.graphql_typing.specs.Steps.{is_under}
-use Rattle.graphql_typing.specs.StepsView.{fragment_meaning, fragment_meanings, typed_view}
+use Rattle.graphql_typing.specs.StepsView.{fragment_meaning, typed_view}
 use Rattle.graphql_typing.specs.TypingFaults.{At, UndefinedTypeInNamedFragmentTypeCondition}
 use Rattle.graphql_typing.proofs.KnownNames.{known-under}
 use Rattle.graphql_typing.proofs.AddedFragments.{named_fragment, absent_condition, without-condition, fragment-known, fragment-kept, fragment-put}
