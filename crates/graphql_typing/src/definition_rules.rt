@@ -1,4 +1,5 @@
-//! The rules of typing on definitions: each tells where it is broken.
+//! Rules of typing on the names of definitions and on their conditions: each tells where it is broken. What breaks a rule
+//! on a whole definition is told in `document.rt`.
 ghost use Rattle.std.specs.Prelude.{◌≡◌, ◌++◌, [], ◌∷◌, OnOk};
 ghost use Rattle.graphql_document_faults.specs.DocumentBreaches as breach;
 ghost use Rattle.graphql_typing.specs.TypingFaults.{At};

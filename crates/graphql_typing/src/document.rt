@@ -126,8 +126,8 @@ impl TypedDocument {
         }
     }
 
-    /// Tells where an operation without a name stands beside others (section 5.2.2.1), or where another has its name. Whether
-    /// an operation that is kept has its name, or has none as it has none.
+    /// Tells where an operation without a name stands beside others (section 5.2.2.1), or where another has its name.
+    /// Whether an operation that is kept has its name, or has none as it has none.
     fn check_name(
         &mut self,
         beside: bool,
@@ -156,8 +156,8 @@ impl TypedDocument {
         }
     }
 
-    /// Adds an operation, which stands beside others or not. It is kept on its root (section 3.3.1), where it is the first of
-    /// its name, or the first without one.
+    /// Adds an operation, which stands beside others or not. It is kept on its root (section 3.3.1), where it is the
+    /// first of its name, or the first without one.
     fn add_operation(
         &mut self,
         alloc: Global,

@@ -16,8 +16,8 @@ use graphql_type_members::FieldDefinition;
 use graphql_typed_selections as typed;
 use std::alloc::{AllocError, Global};
 
-/// Keeps a field with its definition, which it shares with the schema, and its set. It shares arguments and directives with
-/// the tree.
+/// Keeps a field with its definition, which it shares with the schema, and its set. It shares arguments and directives
+/// with the tree.
 #[tactic(auto, using(graphql_typed_selections::proofs::TypedTrees::typed_tree_rules))]
 pub(crate) fn keep_field(
     alloc: Global,
