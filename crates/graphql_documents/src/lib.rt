@@ -18,7 +18,6 @@ mod fragment_spread;
 mod new_field_error;
 mod operation;
 mod selection_set;
-mod walks;
 
 pub use document::ExecutableDocumentExt;
 pub use field::FieldExt;

@@ -5,7 +5,7 @@ ghost use Rattle.graphql_walks.specs.Reached.{IsWalk, document_fragments};
 ghost use Rattle.graphql_walks.specs.Lending.{all_fields_is_over, all_fields_left, root_fields_is_over, root_fields_left};
 ghost use Rattle.graphql_documents.specs.Introspection.{is_meta_name, are_meta_fields, SaysIntrospection};
 
-use crate::walks;
+use crate::selection_set::SelectionSetExt;
 use graphql_names::Name;
 use graphql_typed_operations::{ExecutableDocument, Operation};
 use graphql_walks::{AllFields, RootFields};
@@ -43,7 +43,7 @@ impl OperationExt for Operation {
     ) -> Result<bool, AllocError>
         ensures { IfOk result (SaysIntrospection (document_fragments (typed_document_tree document.now)) (typed_operation_tree self.now)) }
     {
-        let root_fields = walks::root_fields(alloc, &self.selection_set, document);
+        let root_fields = self.selection_set.root_fields(alloc, document);
         if !self.is_query() {
             return Ok(false);
         }
@@ -58,7 +58,7 @@ impl OperationExt for Operation {
         ensures walk { IsWalk false (document_fragments (typed_document_tree document.now)) (typed_operation_tree self.now).set (root_fields_left result) }
         ensures is_over { root_fields_is_over result ≡ false }
     {
-        walks::root_fields(alloc, &self.selection_set, document)
+        self.selection_set.root_fields(alloc, document)
     }
 
     fn all_fields<'doc>(
@@ -69,7 +69,7 @@ impl OperationExt for Operation {
         ensures walk { IsWalk true (document_fragments (typed_document_tree document.now)) (typed_operation_tree self.now).set (all_fields_left result) }
         ensures is_over { all_fields_is_over result ≡ false }
     {
-        walks::all_fields(alloc, &self.selection_set, document)
+        self.selection_set.all_fields(alloc, document)
     }
 }
 

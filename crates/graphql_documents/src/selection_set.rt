@@ -12,7 +12,6 @@ ghost use Rattle.graphql_walks.specs.Lending.{all_fields_is_over, all_fields_lef
 ghost use Rattle.graphql_documents.specs.NewFields.{bare_field, IsNewFieldError};
 
 use crate::new_field_error::NewFieldError;
-use crate::walks;
 use graphql_names::Name;
 use graphql_typed_operations::ExecutableDocument;
 use graphql_typed_selections::{Field, SelectionSet};
@@ -69,7 +68,7 @@ impl SelectionSetExt for SelectionSet {
         ensures walk { IsWalk false (document_fragments (typed_document_tree document.now)) (typed_set_tree self.now) (root_fields_left result) }
         ensures is_over { root_fields_is_over result ≡ false }
     {
-        walks::root_fields(alloc, self, document)
+        RootFields::new(alloc, self, &document.fragments)
     }
 
     fn all_fields<'doc>(
@@ -80,6 +79,6 @@ impl SelectionSetExt for SelectionSet {
         ensures walk { IsWalk true (document_fragments (typed_document_tree document.now)) (typed_set_tree self.now) (all_fields_left result) }
         ensures is_over { all_fields_is_over result ≡ false }
     {
-        walks::all_fields(alloc, self, document)
+        AllFields::new(alloc, self, &document.fragments)
     }
 }

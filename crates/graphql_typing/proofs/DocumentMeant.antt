@@ -9,11 +9,11 @@ use Rattle.graphql_typing.specs.DocumentView.{meant_by_operation, meant_by_fragm
 use Rattle.graphql_typing.specs.StepsView.{operation_meaning, named_meanings, fragment_meanings}
 
 module _ {V W X : Type 0} (meant : W → X) (view : V → W) where
-  optional : (o : Option V) → option_map meant (option_map view o) ≡ option_map (λ v. meant (view v)) o
+  pub optional : (o : Option V) → option_map meant (option_map view o) ≡ option_map (λ v. meant (view v)) o
   optional None = refl
   optional (Some v) = refl
 
-  entries : {K : Type 0} (key : K → List ℕ) (es : List (K × V))
+  pub entries : {K : Type 0} (key : K → List ℕ) (es : List (K × V))
       → map {B = List ℕ × X} (λ (e : List ℕ × W). (e.0, meant e.1)) (map {B = List ℕ × W} (λ (e : K × V). (key e.0, view e.1)) es)
       ≡ map {B = List ℕ × X} (λ (e : K × V). (key e.0, meant (view e.1))) es
   entries key [] = refl

@@ -3,7 +3,6 @@ pub mod TypingRows
 pub mod MeantSets
 pub mod SetFailures
 pub mod DefinedFields
-pub mod Roots
 pub mod KeptFirsts
 pub mod KnownNames
 pub mod Turns
@@ -11,6 +10,10 @@ pub mod DocumentFailures
 pub mod FullLists
 pub mod FieldsFound
 pub mod DocumentMeant
+pub mod Outcomes
+pub mod CopiedDefinitions
+pub mod AddedOperations
+pub mod AddedFragments
 pub mod TypedPlaces
 pub mod WholeDocuments
 pub mod WrittenMeant

@@ -45,6 +45,16 @@ module _ {P : Type 0} where
   abbrev pub on_root : Meanings → P → OperationTree P → (List ℕ → Typed P → Typed P) → Typed P → Typed P
   on_root m p o f st = option_map_or (λ t. f t st) (m.root o.operation_type) (told (At p (UndefinedRootOperation o.operation_type) ∷ []) st)
 
+  -- whether a kept operation has that name, or has none where none is asked
+  abbrev pub is_known : Option (Text P) → Typed P → Bool
+  is_known None st = is_some st.document.anonymous
+  is_known (Some n) st = is_under n.it st.document.named
+
+  -- what is told of the name of an operation, which stands beside others or not
+  abbrev pub name_faults : Bool → P → Option (Text P) → Typed P → List (Fault P)
+  name_faults beside p None st = faults_if beside (At p AmbiguousAnonymousOperation)
+  name_faults beside p (Some n) st = faults_if (is_under n.it st.document.named) (At p (OperationNameCollision n.it))
+
   -- an operation, which stands beside others or not
   abbrev pub and_operation : Meanings → Bool → P → OperationTree P → Option (Text P) → Typed P → Typed P
   and_operation m beside p o None st = on_root m p o (with_anonymous m p o) (told (faults_if beside (At p AmbiguousAnonymousOperation)) st)

@@ -98,7 +98,7 @@ impl<'schema> ExecutableDocumentBuilder<'schema> {
     }
 }
 
-/// Adds what a document has to what a builder keeps.
+/// Adds copies of what a document has to what a builder keeps.
 fn add_document(
     definitions: &mut Vec<Definition>,
     sources: &mut IndexMap<FileId, SourceFile>,
@@ -107,27 +107,6 @@ fn add_document(
     ensures definitions { OnOk result (map definition_tree definitions.new.items ≡ map definition_tree definitions.old.items ++ document_tree document.now) }
     ensures sources { OnOk result (sources_view sources.new ≡ with_sources (sources_view sources.old) (sources_of document.now)) }
 {
-    add_definitions(definitions, &document.definitions)?;
+    definitions.extend_with_clones(&document.definitions)?;
     add_sources(sources, &document.sources)
-}
-
-/// Adds copies of definitions.
-fn add_definitions(definitions: &mut Vec<Definition>, more: &[Definition]) -> Result<(), AllocError>
-    ensures { OnOk result (map definition_tree definitions.new.items ≡ map definition_tree definitions.old.items ++ map definition_tree more.now) }
-{
-    for definition in more {
-        add_definition(definitions, definition)?;
-    }
-    Ok(())
-}
-
-/// Adds a copy of a definition, which shares all that it holds.
-fn add_definition(
-    definitions: &mut Vec<Definition>,
-    definition: &Definition,
-) -> Result<(), AllocError>
-    ensures { OnOk result (map definition_tree definitions.new.items ≡ map definition_tree definitions.old.items ++ definition_tree definition.now ∷ []) }
-{
-    definitions.push(definition.clone()?)?;
-    Ok(())
 }

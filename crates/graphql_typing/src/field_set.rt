@@ -11,8 +11,7 @@ ghost use Rattle.graphql_typing.specs.TypingFaults.{SetFails};
 ghost use Rattle.graphql_typing.specs.FullList.{TellsSet};
 ghost use Rattle.graphql_typing.specs.FaultView.{faults_of};
 
-use crate::keep::set_on;
-use crate::selections::type_selections;
+use crate::selections::type_set;
 use graphql_document_faults::{BuildError, Schema};
 use graphql_names::{Name, SourceSpan};
 use graphql_operations::Selection;
@@ -34,8 +33,7 @@ pub fn field_set_from_ast(
     ensures full { IfOk result (λ r. TellsSet (meanings (plain (schema_tree schema.now))) type_name.now.text (selection_trees selection_tree selections.now) (faults_of r.1)) }
 {
     let mut faults = Vec::new(alloc);
-    let kept = type_selections(alloc, Some(schema), type_name, selections, &mut faults)?;
-    let selection_set = set_on(type_name, kept)?;
+    let selection_set = type_set(alloc, Some(schema), type_name, selections, &mut faults)?;
     let sources = IndexMap::new(alloc);
     Ok((
         FieldSet {

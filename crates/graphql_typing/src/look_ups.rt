@@ -8,7 +8,8 @@ ghost use Rattle.graphql_schema_types.specs.Plain.{plain, plain_type};
 ghost use Rattle.graphql_schema_types.specs.TypeView.{extended_type};
 ghost use Rattle.graphql_document_faults.specs.in_schema.SchemaOf.{schema_tree};
 ghost use Rattle.graphql_operations.specs.OperationQueries.{default_root_name};
-ghost use Rattle.graphql_typing.specs.Meanings.{inner_type, unknown_definition, meanings};
+ghost use Rattle.graphql_typing.specs.Meanings.{inner_type, unknown_definition};
+ghost use Rattle.graphql_typing.specs.KeptSelections.{is_leaf};
 ghost use Rattle.graphql_typing.specs.DefinedField.{definition_view};
 ghost use Rattle.graphql_typing.specs.MeaningView.{meanings_under};
 
@@ -51,30 +52,16 @@ pub(crate) fn is_scalar(schema: Option<&Schema>, name: &Name) -> bool
     }
 }
 
-/// Whether the type of that name is an enum. Without a schema none is.
-pub(crate) fn is_enum(schema: Option<&Schema>, name: &Name) -> bool
-    ensures { result ≡ (meanings_under schema.entry).is_enum name.now.text }
+/// Whether values of the type of that name have no fields: it is a scalar or an enum. Without a schema none is.
+pub(crate) fn is_leaf(schema: Option<&Schema>, name: &Name) -> bool
+    ensures { result ≡ is_leaf (meanings_under schema.entry) name.now.text }
 {
     match schema {
         None => false,
         Some(schema) => match type_named(schema, name) {
             None => false,
-            Some(ty) => ty.is_enum(),
+            Some(ty) => ty.is_scalar() || ty.is_enum(),
         },
-    }
-}
-
-/// The definition of the field of that name on the type of that name in a schema, if there is one.
-fn field_in<'schema>(
-    schema: &'schema Schema,
-    type_name: &Name,
-    field_name: &Name,
-) -> Option<&'schema Node<FieldDefinition>>
-    ensures { option_map (λ n. definition_view n.now) result ≡ (meanings (plain (schema_tree schema.now))).field type_name.now.text field_name.now.text }
-{
-    match schema.type_field(type_name, field_name) {
-        Ok(field) => Some(&field.node),
-        Err(_) => None,
     }
 }
 
@@ -82,9 +69,10 @@ fn field_in<'schema>(
 fn unknown_field(alloc: Global, name: &Name) -> Result<Node<FieldDefinition>, AllocError>
     ensures { IfOk result (λ n. definition_view n ≡ unknown_definition name.now.text) }
 {
+    let name = name.clone()?;
     let definition = FieldDefinition {
         description: None,
-        name: name.clone()?,
+        name,
         arguments: Vec::new(alloc),
         ty: Type::Named(Name::new_static_unchecked("UNKNOWN")),
         directives: DirectiveList::new(alloc),
@@ -105,9 +93,9 @@ pub(crate) fn definition_of(
     let Some(schema) = schema else {
         return Ok(Some(unknown_field(alloc, field_name)?));
     };
-    match field_in(schema, type_name, field_name) {
-        None => Ok(None),
-        Some(definition) => Ok(Some(definition.clone()?)),
+    match schema.type_field(type_name, field_name) {
+        Ok(field) => Ok(Some(field.node.clone()?)),
+        Err(_) => Ok(None),
     }
 }
 
@@ -116,13 +104,6 @@ pub(crate) fn inner_name(definition: &Node<FieldDefinition>) -> &Name
     ensures { result.now.text ≡ inner_type (definition_view definition.now) }
 {
     definition.content().ty.inner_named_type()
-}
-
-/// The name of the root of that operation in a schema, if it has one.
-fn root_in(schema: &Schema, operation_type: OperationType) -> Option<&Name>
-    ensures { option_map (λ n. n.now.text) result ≡ (meanings (plain (schema_tree schema.now))).root operation_type }
-{
-    schema.root_operation(operation_type)
 }
 
 /// The name that the root of that operation has by default (section 3.3.1).
@@ -146,7 +127,7 @@ pub(crate) fn root_of(
     let Some(schema) = schema else {
         return Ok(Some(default_root(operation_type)));
     };
-    match root_in(schema, operation_type) {
+    match schema.root_operation(operation_type) {
         None => Ok(None),
         Some(name) => Ok(Some(name.clone()?)),
     }

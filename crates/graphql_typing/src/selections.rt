@@ -6,14 +6,15 @@ ghost use Rattle.graphql_names.specs.Placed.{name_tree};
 ghost use Rattle.graphql_directives.specs.DirectiveTree.{directives_tree};
 ghost use Rattle.graphql_operations.specs.SelectionTree.{selection_tree, selection_trees};
 ghost use Rattle.graphql_operations.specs.SelectionParts.{field_node_tree, inline_node_tree};
-ghost use Rattle.graphql_typing.specs.MeantTree.{MeantInline, set_on};
+ghost use Rattle.graphql_typed_selections.specs.TypedTree.{set_type, typed_set_tree};
+ghost use Rattle.graphql_typing.specs.MeantTree.{MeantInline, meant_of_set, set_on};
 ghost use Rattle.graphql_typing.specs.KeptSelections.{kept, kept_all};
 ghost use Rattle.graphql_typing.specs.SetFaults.{selection_faults, set_faults};
 ghost use Rattle.graphql_typing.specs.DefinedField.{definition_view, kept_defined, defined_faults};
 ghost use Rattle.graphql_typing.specs.FaultView.{faults_of};
 ghost use Rattle.graphql_typing.specs.MeaningView.{meanings_under, meant_selections};
 
-use crate::keep::{keep_field, keep_inline, keep_spread, set_on};
+use crate::keep::{keep_field, keep_inline, keep_spread};
 use crate::look_ups::{definition_of, has_type, inner_name};
 use crate::rules::{
     may_select, subselection_on_leaf, undefined_field,
@@ -26,23 +27,27 @@ use graphql_type_members::FieldDefinition;
 use graphql_typed_selections as typed;
 use std::alloc::{AllocError, Global};
 
-/// The selections that have a meaning under the type, with it; the others are told.
+/// The set on the type of those selections that have a meaning under it, with it; the others are told.
 #[cycle(typing)]
-pub(crate) fn type_selections(
+pub(crate) fn type_set(
     alloc: Global,
     schema: Option<&Schema>,
-    parent: &Name,
+    type_name: &Name,
     selections: &[Selection],
     faults: &mut Vec<(Option<SourceSpan>, BuildError)>,
-) -> Result<Vec<typed::Selection>, AllocError>
-    ensures kept { IfOk result (λ v. meant_selections v ≡ kept_all (meanings_under schema.entry) (selection_trees selection_tree selections.now) parent.now.text) }
-    ensures faults { OnOk result (faults_of faults.new ≡ faults_of faults.old ++ set_faults (meanings_under schema.entry) (selection_trees selection_tree selections.now) parent.now.text) }
+) -> Result<typed::SelectionSet, AllocError>
+    ensures kept { IfOk result (λ s. meant_of_set (typed_set_tree s) ≡ set_on type_name.now.text (kept_all (meanings_under schema.entry) (selection_trees selection_tree selections.now) type_name.now.text)) }
+    ensures ty { IfOk result (λ s. set_type (typed_set_tree s) ≡ name_tree type_name.now) }
+    ensures faults { OnOk result (faults_of faults.new ≡ faults_of faults.old ++ set_faults (meanings_under schema.entry) (selection_trees selection_tree selections.now) type_name.now.text) }
 {
     let mut kept = Vec::new(alloc);
     for selection in selections {
-        type_selection(alloc, schema, parent, selection, &mut kept, faults)?;
+        type_selection(alloc, schema, type_name, selection, &mut kept, faults)?;
     }
-    Ok(kept)
+    Ok(typed::SelectionSet {
+        ty: type_name.clone()?,
+        selections: kept,
+    })
 }
 
 /// Keeps the selection with its meaning under the type, or tells that it has none.
@@ -106,8 +111,7 @@ fn type_defined_field(
     if !may_select(schema, inner, selections) {
         return subselection_on_leaf(schema, field.location(), inner, faults);
     }
-    let selections = type_selections(alloc, schema, inner, selections, faults)?;
-    let set = set_on(inner, selections)?;
+    let set = type_set(alloc, schema, inner, selections, faults)?;
     keep_field(alloc, definition, field, set, out)
 }
 
@@ -154,7 +158,6 @@ fn type_inline_on(
     ensures faults { OnOk result (faults_of faults.new ≡ faults_of faults.old ++ set_faults (meanings_under schema.entry) (selection_trees selection_tree (content inline.now).selection_set.items) type_name.now.text) }
 {
     let selections = &inline.content().selection_set;
-    let selections = type_selections(alloc, schema, type_name, selections, faults)?;
-    let set = set_on(type_name, selections)?;
+    let set = type_set(alloc, schema, type_name, selections, faults)?;
     keep_inline(alloc, inline, set, out)
 }

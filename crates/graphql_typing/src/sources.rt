@@ -1,7 +1,5 @@
 //! The sources of several documents.
-ghost use Rattle.std.specs.Prelude.{◌≡◌, nat_eq, OnOk};
-ghost use Rattle.graphql_definitions.specs.Sources.{source_of};
-ghost use Rattle.indexmap.specs.IndexMap.{insert_entry};
+ghost use Rattle.std.specs.Prelude.{◌≡◌, OnOk};
 ghost use Rattle.graphql_document_faults.specs.in_schema.SourcesView.{sources_view, with_sources};
 
 use graphql_definitions::SourceFile;
@@ -18,21 +16,8 @@ pub(crate) fn add_sources(
 {
     let mut left = more.as_slice();
     while let Some(((file, source), others)) = left.split_first() {
-        add_source(sources, *file, source)?;
+        sources.insert(*file, source.clone()?)?;
         left = others;
     }
-    Ok(())
-}
-
-/// Adds a copy of a source.
-fn add_source(
-    sources: &mut IndexMap<FileId, SourceFile>,
-    file: FileId,
-    source: &SourceFile,
-) -> Result<(), AllocError>
-    ensures { OnOk result (sources_view sources.new ≡ insert_entry nat_eq (sources_view sources.old) file.0 (source_of source.now)) }
-{
-    let source = source.clone()?;
-    sources.insert(file, source)?;
     Ok(())
 }

@@ -1,13 +1,13 @@
 -- What is left of a walk when it passes a selection, and when it enters a fragment.
-use Rattle.std.proofs.Common.{◌≡◌, ◌++◌, ◌+◌, ◌-◌, ◌<◌, ◌≤◌, ℕ, zero, suc, Bool, true, false, List, [], ◌∷◌, map, length, refl, ap, sym, ◌∙◌, subst, append-nil, arith}
+use Rattle.std.proofs.Common.{◌≡◌, ◌++◌, ◌+◌, ◌-◌, ◌<◌, ◌≤◌, ℕ, zero, suc, Bool, true, false, List, [], ◌∷◌, length, refl, ap, sym, ◌∙◌, subst, arith}
 use Rattle.std.specs.Prelude.{Option, Some, None, fold, slice_get, if◌then◌else◌}
-use Rattle.std.specs.List.{flat_map, filter}
+use Rattle.std.specs.List.{flat_map}
 use Rattle.std.specs.Option.{option_map_or}
 use Rattle.std.proofs.lemmas.Grind.{flat_map-append}
 use Rattle.graphql_typed_selections.specs.TypedTree.{TypedSelection, TypedField, TypedSpread, TypedInline, TypedSet, typed_set, TypedSelections, no_typed, typed_then, set_selections, typed_selections_list}
-use Rattle.graphql_walks.specs.Reached.{selections_of, selections_in, selections_along, is_field, field_of, spread_names}
-use Rattle.graphql_walks.specs.Left.{Standing, note, note_all, selections_at, left_after, standing_in, left_selections, left_fields, with_next, with_more, with_name}
-use Rattle.graphql_walks.specs.WalkView.{HasPassed, HasEntered, steps_left}
+use Rattle.graphql_walks.specs.Reached.{selections_of, selections_in, selections_along, field_of, spread_names}
+use Rattle.graphql_walks.specs.Left.{Standing, note, note_all, selections_at, left_after, standing_in, left_selections, with_next}
+use Rattle.graphql_walks.specs.WalkView.{HasPassed, HasEntered}
 
 module _ {P : Type 0} where
   -- what stands in a selection: the members of its set, if they are walked over

@@ -1,5 +1,5 @@
 -- What contracts see of a walk when it passes a selection, and when it enters a fragment.
-use Rattle.std.proofs.Common.{◌≡◌, ◌++◌, ◌+◌, ◌<◌, ◌≤◌, ℕ, suc, List, [], ◌∷◌, map, length, refl, ap, sym, ◌∙◌, subst, append-nil, arith}
+use Rattle.std.proofs.Common.{◌≡◌, ◌++◌, ◌+◌, ◌<◌, ℕ, suc, List, [], ◌∷◌, map, length, refl, ap, sym, ◌∙◌, subst, append-nil, arith}
 use Rattle.std.specs.Prelude.{Option, Some, None, slice_get, if◌then◌else◌, nat_eq, Bool}
 use Rattle.std.specs.List.{position}
 use Rattle.std.specs.Option.{option_map, option_map_or}
@@ -10,7 +10,7 @@ use Rattle.graphql_names.specs.NameValue.{NameValue}
 use Rattle.graphql_names.specs.Placed.{Place}
 use Rattle.graphql_names.specs.declared.node.Node.{Node}
 use Rattle.graphql_typed_selections.specs.TypedTree.{TypedSelection, typed_selections, typed_selection_tree, typed_set_tree, set_selections, typed_selections_list}
-use Rattle.graphql_typed_selections.specs.TypedParts.{typed_field_node, typed_spread_node, typed_inline_node}
+use Rattle.graphql_typed_selections.specs.TypedParts.{typed_field_node, typed_inline_node}
 use Rattle.graphql_typed_selections.specs.declared.selection.Selection.{Selection}
 use Rattle.graphql_typed_selections.specs.declared.selection.Field.{Field}
 use Rattle.graphql_typed_selections.specs.declared.selection.InlineFragment.{InlineFragment}
@@ -20,7 +20,7 @@ use Rattle.graphql_typed_selections.proofs.TypedTrees.{typed_tree_field, typed_t
 use Rattle.graphql_typed_operations.specs.declared.operation.Fragment.{Fragment}
 use Rattle.indexmap.specs.IndexSet.{insert_key}
 use Rattle.graphql_walks.specs.Reached.{NamedSet}
-use Rattle.graphql_walks.specs.Left.{Standing, at_start, note, with_more, with_name}
+use Rattle.graphql_walks.specs.Left.{Standing, at_start, note, with_more}
 use Rattle.graphql_walks.specs.WalkView.{HasPassed, HasEntered, fragment_set}
 use Rattle.graphql_walks.proofs.Finding.{length-map, position-map}
 use Rattle.graphql_walks.proofs.Passing.{has_passed, has_entered, members_at}

@@ -1,10 +1,9 @@
 -- What follows for callers: whose fragments a walk goes over, that a walk that is over stays so, and what a loop over a walk has come to.
-use Rattle.std.proofs.Common.{◌≡◌, ◌<◌, ◌↔◌, ◌⊎◌, inl, inr, arith, length, suc, if◌then◌else◌, List, [], ◌∷◌, ◌++◌, map, Bool, true, false, Option, None, Some, Result, Ok, Contains, refl, ap, sym, subst, append-nil, append_assoc, ◌∙◌, true≢false}
+use Rattle.std.proofs.Common.{◌≡◌, ◌<◌, ◌↔◌, inl, inr, arith, length, suc, if◌then◌else◌, List, [], ◌∷◌, ◌++◌, map, Bool, true, false, Option, None, Some, Result, Ok, Contains, refl, ap, sym, subst, append-nil, append_assoc, ◌∙◌, true≢false}
 use Rattle.std.specs.List.{flat_map}
 use Rattle.std.proofs.lemmas.List.Elements.{Contains-append_left, Contains-append_right, Contains-append_cases}
 use Rattle.std.specs.Borrow.{Bor}
 use Rattle.std.specs.declared.alloc.AllocError.{AllocError}
-use Rattle.graphql_names.specs.NameValue.{NameValue}
 use Rattle.graphql_names.specs.Placed.{Place}
 use Rattle.graphql_names.specs.declared.node.Node.{Node}
 use Rattle.graphql_typed_selections.specs.TypedTree.{TypedSelection}
@@ -13,7 +12,7 @@ use Rattle.graphql_typed_operations.specs.TypedDocument.{typed_document_tree}
 use Rattle.graphql_typed_operations.specs.declared.document.ExecutableDocument.{ExecutableDocument}
 use Rattle.graphql_typed_selections.specs.TypedTree.{TypedSet}
 use Rattle.graphql_typed_selections.specs.TypedParts.{typed_field_node}
-use Rattle.graphql_walks.specs.Reached.{NamedSet, Fragments, document_fragments, fields_in, Reached, IsWalk, IsReachedField}
+use Rattle.graphql_walks.specs.Reached.{NamedSet, Fragments, document_fragments, fields_in, IsWalk, IsReachedField}
 use Rattle.graphql_walks.specs.WalkView.{fragments_tree}
 use Rattle.graphql_walks.specs.Lending.{LendsNext}
 use Rattle.graphql_walks.proofs.Finding.{not_in_nil, Contains-cons, Contains-first}

@@ -1,7 +1,7 @@
 -- What is left of a walk at its start: each field of the start and of each reached fragment, once.
-use Rattle.std.proofs.Common.{◌≡◌, ◌↔◌, ◌++◌, ◌+◌, ◌-◌, ◌<◌, ◌≤◌, ◌⊎◌, inl, inr, ℕ, zero, suc, Bool, true, false, List, [], ◌∷◌, map, length, refl, ap, sym, ◌∙◌, subst, append_assoc, append-nil, arith, true≢false, Contains}
+use Rattle.std.proofs.Common.{◌≡◌, ◌++◌, ◌+◌, ◌-◌, ◌≤◌, ◌⊎◌, inl, inr, ℕ, zero, suc, Bool, true, false, List, [], ◌∷◌, map, length, refl, ap, sym, ◌∙◌, subst, append_assoc, append-nil, arith, true≢false, Contains}
 use Rattle.std.specs.Prelude.{Option, Some, None, fold, slice_get, nat_eq, ◌||◌, if◌then◌else◌}
-use Rattle.std.specs.List.{flat_map, filter, find, position, list_any, IsDistinct, AllByRecursion}
+use Rattle.std.specs.List.{flat_map, filter, position, list_any, IsDistinct, AllByRecursion}
 use Rattle.std.specs.Option.{option_map_or}
 use Rattle.std.specs.Str.{bytes_eq}
 use Rattle.indexmap.specs.IndexSet.{insert_key}
@@ -14,10 +14,10 @@ use Rattle.std.proofs.lemmas.Map.Keys.{IsDistinct-push, IsDistinct-cons, IsDisti
 use Rattle.std.proofs.lemmas.Map.Steps.{length-le_from_distinct_below}
 use Rattle.std.proofs.lemmas.Option.{slice_get_past, slice_get_within}
 use Rattle.std.proofs.lemmas.Slice.Eq.{bytes_eq-Decides}
-use Rattle.graphql_typed_selections.specs.TypedTree.{TypedSelection, TypedSet}
+use Rattle.graphql_typed_selections.specs.TypedTree.{TypedSet}
 use Rattle.graphql_walks.specs.Reached.{NamedSet, Fragments, selections_in, is_field, fields_in, spread_names, Spreads, fragment_named, Reached, by_start, by_fragment, IsWalk}
-use Rattle.graphql_walks.specs.Left.{note, note_all, selections_at, left_after, left_selections, left_fields, at_start}
-use Rattle.graphql_walks.proofs.Finding.{length-map, position-map, none_is_some, some_is, FoundAt, found_at, place_of_found, not_in_nil, Contains-cons, Contains-first}
+use Rattle.graphql_walks.specs.Left.{note, note_all, selections_at, left_after, left_fields, at_start}
+use Rattle.graphql_walks.proofs.Finding.{position-map, none_is_some, some_is, FoundAt, found_at, place_of_found, not_in_nil, Contains-cons, Contains-first}
 use Rattle.graphql_walks.proofs.Passing.{selections_in-list}
 
 -- a number is among these

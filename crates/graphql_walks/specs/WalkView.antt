@@ -7,14 +7,10 @@ use Rattle.graphql_names.specs.NameValue.{NameValue}
 use Rattle.graphql_names.specs.declared.node.Node.{Node}
 use Rattle.graphql_typed_selections.specs.TypedTree.{TypedSelection, TypedSet, typed_selection_tree, typed_set_tree}
 use Rattle.graphql_typed_selections.specs.declared.selection.Selection.{Selection}
-use Rattle.graphql_typed_selections.specs.declared.selection.Field.{Field}
-use Rattle.graphql_typed_selections.specs.TypedParts.{typed_field_node}
 use Rattle.graphql_typed_operations.specs.declared.operation.Fragment.{Fragment}
 use Rattle.graphql_walks.specs.declared.walk.Walk.{Walk}
-use Rattle.graphql_walks.specs.declared.walk.Step.{Step}
-use Rattle.graphql_walks.specs.declared.walk.Step.TheVariants.{Lends, Passes, Ends}
 use Rattle.graphql_walks.specs.Reached.{Fragments, field_of}
-use Rattle.graphql_walks.specs.Left.{Standing, with_next, left_selections, left_fields}
+use Rattle.graphql_walks.specs.Left.{Standing, with_next, left_selections}
 use Rattle.indexmap.specs.IndexMap.{IndexMap}
 
 -- the selections of a fragment
@@ -53,9 +49,3 @@ pub record HasPassed {P : Type 0} (s : TypedSelection P) (old : Standing P) (ite
 pub record HasEntered {P : Type 0} (old new : Standing P) : Type 0 where
   pub left : left_selections new ≡ left_selections old
   pub fewer : length new.fragments - new.entered < length old.fragments - old.entered
-
--- one step of a walk
-abbrev pub Takes : Standing Place → Step → Standing Place → Type 0
-Takes old (Lends field) new = left_fields old ≡ typed_field_node field.now ∷ left_fields new
-Takes old Passes new = (left_fields new ≡ left_fields old) × (steps_left new < steps_left old)
-Takes old Ends new = left_fields old ≡ []

@@ -6,24 +6,13 @@ ghost use Rattle.graphql_names.specs.Node.{content};
 ghost use Rattle.graphql_typed_selections.specs.TypedTree.{typed_selection_tree, typed_set_tree};
 ghost use Rattle.graphql_typed_selections.specs.TypedParts.{typed_field_node};
 ghost use Rattle.graphql_walks.specs.Left.{at_start, with_next, with_more, with_name, left_selections, left_fields};
-ghost use Rattle.graphql_walks.specs.WalkView.{standing, fragments_tree, HasPassed, HasEntered, Takes};
+ghost use Rattle.graphql_walks.specs.WalkView.{standing, fragments_tree, HasPassed, HasEntered};
 
 use graphql_names::{Name, Node};
 use graphql_typed_operations::FragmentMap;
 use graphql_typed_selections::{Field, Selection, SelectionSet};
 use indexmap::IndexSet;
 use std::alloc::{AllocError, Global};
-
-/// What one step of a walk does.
-#[derive(Clone, Copy)]
-enum Step<'doc> {
-    /// It lends a field.
-    Lends(&'doc Node<Field>),
-    /// It passes a selection that is no field, or enters a fragment.
-    Passes,
-    /// Nothing is left.
-    Ends,
-}
 
 /// Where a walk stands. Sets that are not passed to their ends wait on a stack, the innermost one aside; a fragment that
 /// is spread is noted, once, by its place among the document's, and entered when all sets before it are passed.
@@ -138,29 +127,19 @@ impl<'doc> Walk<'doc> {
         true
     }
 
-    /// One step.
-    fn step(&mut self) -> Result<Step<'doc>, AllocError>
-        ensures { IfOk result (λ step. Takes (standing self.old) step (standing self.new)) }
-    {
-        match self.take_first() {
-            Some(selection) => match self.pass(selection)? {
-                Some(field) => Ok(Step::Lends(field)),
-                None => Ok(Step::Passes),
-            },
-            None if self.enter_fragment() => Ok(Step::Passes),
-            None => Ok(Step::Ends),
-        }
-    }
-
     /// The next field.
     pub(crate) fn next_field(&mut self) -> Result<Option<&'doc Node<Field>>, AllocError>
         ensures { IfOk result (λ field. MatchOption field (left_fields (standing self.old) ≡ []) (λ f. left_fields (standing self.old) ≡ typed_field_node f.now ∷ left_fields (standing self.new))) }
     {
         loop {
-            match self.step()? {
-                Step::Lends(field) => return Ok(Some(field)),
-                Step::Passes => {}
-                Step::Ends => return Ok(None),
+            match self.take_first() {
+                Some(selection) => {
+                    if let Some(field) = self.pass(selection)? {
+                        return Ok(Some(field));
+                    }
+                }
+                None if self.enter_fragment() => {}
+                None => return Ok(None),
             }
         }
     }

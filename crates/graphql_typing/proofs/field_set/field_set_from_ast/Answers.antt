@@ -15,7 +15,7 @@ returns-clause-faults c f =
     let m = meanings (plain (schema_tree c.args.schema.now)) in
     let ts = selection_trees selection_tree c.args.selections.now in
     let t = c.args.type_name.now.text in
-    let told : faults_of c.type_selections.new.faults ≡ set_faults m ts t = c.in_ok-kept.ensures.faults ∙ ap (λ l. map fault_of l ++ set_faults m ts t) c.new-faults.ensures.items in
+    let told : faults_of c.type_set.new.faults ≡ set_faults m ts t = c.in_ok-selection_set.ensures.faults ∙ ap (λ l. map fault_of l ++ set_faults m ts t) c.new-faults.ensures.items in
     subst (λ l. Contains l f ↔ SetFails m t ts f) (sym told) (set-fails m ts t f)
 
 pub returns-clause-full : goal.returns-clause-full
@@ -23,5 +23,5 @@ returns-clause-full c =
     let m = meanings (plain (schema_tree c.args.schema.now)) in
     let ts = selection_trees selection_tree c.args.selections.now in
     let t = c.args.type_name.now.text in
-    let told : faults_of c.type_selections.new.faults ≡ set_faults m ts t = c.in_ok-kept.ensures.faults ∙ ap (λ l. map fault_of l ++ set_faults m ts t) c.new-faults.ensures.items in
-    tells-set m ts t (faults_of c.type_selections.new.faults) (λ f x. subst (λ l. Contains l f) (sym told) ((set-fails m ts t f).1 x))
+    let told : faults_of c.type_set.new.faults ≡ set_faults m ts t = c.in_ok-selection_set.ensures.faults ∙ ap (λ l. map fault_of l ++ set_faults m ts t) c.new-faults.ensures.items in
+    tells-set m ts t (faults_of c.type_set.new.faults) (λ f x. subst (λ l. Contains l f) (sym told) ((set-fails m ts t f).1 x))

@@ -1,5 +1,8 @@
-use Rattle.std.proofs.Common.{[], ◌∷◌, ◌++◌, map, ap, ◌∙◌}
+use Rattle.std.proofs.Common.{◌≡◌, [], ◌∷◌, ◌++◌, map, ap, ◌∙◌, rules}
 use Rattle.std.proofs.lemmas.List.{map-append}
+use Rattle.graphql_names.specs.Node.{content}
+use Rattle.graphql_names.proofs.Copies.{nodes-copies}
+use Rattle.graphql_directives.specs.DirectiveTree.{argument_tree}
 use Rattle.graphql_operations.specs.SelectionParts.{field_head}
 use Rattle.graphql_typed_selections.specs.TypedTree.{typed_selection_tree}
 use Rattle.graphql_typed_selections.specs.TypedParts.{typed_head}
@@ -14,10 +17,15 @@ pub returns : goal.returns
 returns c =
     let n = c.in_ok-same_location.field-0 in
     let same = c.in_ok-same_location.ensures.content in
+    let alias = c.in_ok-alias.ensures.0 in
+    let name = c.in_ok-alias.ensures.1 in
+    let directives = c.in_ok-alias.ensures.3 in
+    let arguments = nodes-copies argument_tree _ _ c.in_ok-alias.ensures.2.0 in
+    let head : typed_head (content n) ≡ field_head c.content-tree.result.now = ap typed_head same ∙ search (rules, arguments) in
     ap (map (λ s. meant (typed_selection_tree s))) c.in_ok-push.ensures.items
     ∙ map-append (λ s. meant (typed_selection_tree s)) c.args.kept.now.items (Field' n ∷ [])
     ∙ ap (λ x. meant_selections c.args.kept.now ++ x ∷ [])
     (field-meant n _ _ _ _ c.in_ok-same_location.ensures.place
-    (ap (λ (f : Field). f.definition) same ∙ c.in_ok-typed.ensures.definition)
-    (ap typed_head same ∙ c.in_ok-typed.ensures.head ∙ ap field_head c.content.ensures)
-    (ap (λ (f : Field). f.selection_set) same ∙ c.in_ok-typed.ensures.selects))
+    (ap (λ (f : Field). f.definition) same)
+    (head ∙ ap field_head c.content-tree.ensures)
+    (ap (λ (f : Field). f.selection_set) same))

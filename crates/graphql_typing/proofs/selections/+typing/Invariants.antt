@@ -6,9 +6,9 @@ use Rattle.graphql_typing.specs.FaultView.{faults_of}
 use Rattle.graphql_typing.specs.MeaningView.{meanings_under, meant_selections}
 use Rattle.graphql_typing.proofs.selections.+typing.Given as goal
 
-abbrev pub invariant-type_selections-loop-selection : goal.invariant-type_selections-loop-selection
-invariant-type_selections-loop-selection l =
-    (meant_selections l.kept ++ kept_all (meanings_under l.schema) (selection_trees selection_tree (drop l.selection-index l.selections)) l.parent.text
-    ≡ kept_all (meanings_under l.schema) (selection_trees selection_tree l.selections) l.parent.text)
-    × (faults_of l.faults ++ set_faults (meanings_under l.schema) (selection_trees selection_tree (drop l.selection-index l.selections)) l.parent.text
-    ≡ faults_of l.fn.faults ++ set_faults (meanings_under l.schema) (selection_trees selection_tree l.selections) l.parent.text)
+abbrev pub invariant-type_set-loop-selection : goal.invariant-type_set-loop-selection
+invariant-type_set-loop-selection l =
+    (meant_selections l.kept ++ kept_all (meanings_under l.schema) (selection_trees selection_tree (drop l.selection-index l.selections)) l.type_name.text
+    ≡ kept_all (meanings_under l.schema) (selection_trees selection_tree l.selections) l.type_name.text)
+    × (faults_of l.faults ++ set_faults (meanings_under l.schema) (selection_trees selection_tree (drop l.selection-index l.selections)) l.type_name.text
+    ≡ faults_of l.fn.faults ++ set_faults (meanings_under l.schema) (selection_trees selection_tree l.selections) l.type_name.text)

@@ -3,7 +3,7 @@ use Rattle.graphql_typed_selections.specs.TypedTree.{typed_set_tree}
 use Rattle.graphql_walks.specs.Reached.{IsWalk}
 use Rattle.graphql_walks.specs.Lending.{all_fields_left}
 use Rattle.graphql_walks.proofs.WalkLaws.{fragments_tree-document}
-use Rattle.graphql_documents.proofs.walks.all_fields.Goals as goal
+use Rattle.graphql_documents.proofs.selection_set.SelectionSetSelectionSetExt.all_fields.Goals as goal
 
 pub returns-clause-walk : goal.returns-clause-walk
-returns-clause-walk c = subst (λ f. IsWalk true f (typed_set_tree c.args.set.now) (all_fields_left c.new.result)) (sym (fragments_tree-document c.args.document.now)) c.new.ensures.walk
+returns-clause-walk c = subst (λ f. IsWalk true f (typed_set_tree c.args.self.now) (all_fields_left c.new.result)) (sym (fragments_tree-document c.args.document.now)) c.new.ensures.walk

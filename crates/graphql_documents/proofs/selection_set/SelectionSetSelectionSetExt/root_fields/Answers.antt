@@ -3,7 +3,7 @@ use Rattle.graphql_typed_selections.specs.TypedTree.{typed_set_tree}
 use Rattle.graphql_walks.specs.Reached.{IsWalk}
 use Rattle.graphql_walks.specs.Lending.{root_fields_left}
 use Rattle.graphql_walks.proofs.WalkLaws.{fragments_tree-document}
-use Rattle.graphql_documents.proofs.walks.root_fields.Goals as goal
+use Rattle.graphql_documents.proofs.selection_set.SelectionSetSelectionSetExt.root_fields.Goals as goal
 
 pub returns-clause-walk : goal.returns-clause-walk
-returns-clause-walk c = subst (λ f. IsWalk false f (typed_set_tree c.args.set.now) (root_fields_left c.new.result)) (sym (fragments_tree-document c.args.document.now)) c.new.ensures.walk
+returns-clause-walk c = subst (λ f. IsWalk false f (typed_set_tree c.args.self.now) (root_fields_left c.new.result)) (sym (fragments_tree-document c.args.document.now)) c.new.ensures.walk
