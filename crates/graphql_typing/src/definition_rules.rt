@@ -1,5 +1,4 @@
-//! Rules of typing on the names of definitions and on their conditions: each tells where it is broken. What breaks a rule
-//! on a whole definition is told in `document.rt`.
+//! Rules of typing on definitions: each tells where it is broken.
 ghost use Rattle.std.specs.Prelude.{◌≡◌, ◌++◌, [], ◌∷◌, OnOk};
 ghost use Rattle.graphql_document_faults.specs.DocumentBreaches as breach;
 ghost use Rattle.graphql_typing.specs.TypingFaults.{At};
@@ -9,7 +8,43 @@ ghost use Rattle.graphql_typing.specs.FaultView.{faults_of};
 use crate::rules::tell;
 use graphql_document_faults::BuildError;
 use graphql_names::{Name, SourceSpan};
+use graphql_operations::OperationType;
 use std::alloc::AllocError;
+
+/// A document holds operations and fragments alone (section 5.1.1): this definition is of the type system.
+pub(crate) fn type_system_definition(
+    location: Option<SourceSpan>,
+    faults: &mut Vec<(Option<SourceSpan>, BuildError)>,
+) -> Result<(), AllocError>
+    ensures { OnOk result (faults_of faults.new ≡ faults_of faults.old ++ At location breach.TypeSystemDefinition ∷ []) }
+{
+    tell(location, BuildError::TypeSystemDefinition, faults)
+}
+
+/// An operation without a name stands alone (section 5.2.2.1): this one stands beside others.
+pub(crate) fn ambiguous_anonymous_operation(
+    location: Option<SourceSpan>,
+    faults: &mut Vec<(Option<SourceSpan>, BuildError)>,
+) -> Result<(), AllocError>
+    ensures { OnOk result (faults_of faults.new ≡ faults_of faults.old ++ At location breach.AmbiguousAnonymousOperation ∷ []) }
+{
+    tell(location, BuildError::AmbiguousAnonymousOperation, faults)
+}
+
+/// The schema has the root of an operation (section 3.3.1): it does not have this one.
+pub(crate) fn undefined_root_operation(
+    location: Option<SourceSpan>,
+    operation_type: OperationType,
+    faults: &mut Vec<(Option<SourceSpan>, BuildError)>,
+) -> Result<(), AllocError>
+    ensures { OnOk result (faults_of faults.new ≡ faults_of faults.old ++ At location (breach.UndefinedRootOperation operation_type) ∷ []) }
+{
+    tell(
+        location,
+        BuildError::UndefinedRootOperation { operation_type },
+        faults,
+    )
+}
 
 /// No two operations have one name (section 5.2.1.1): whether an earlier one has this name is known.
 pub(crate) fn operation_name_collision(

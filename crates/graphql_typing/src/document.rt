@@ -15,11 +15,11 @@ ghost use Rattle.graphql_typing.specs.FaultView.{faults_of};
 ghost use Rattle.graphql_typing.specs.MeaningView.{meanings_under};
 
 use crate::definition_rules::{
-    fragment_name_collision, operation_name_collision,
+    ambiguous_anonymous_operation, fragment_name_collision, operation_name_collision,
+    type_system_definition, undefined_root_operation,
     undefined_type_in_named_fragment_type_condition,
 };
 use crate::look_ups::{has_type, root_of};
-use crate::rules::tell;
 use crate::selections::type_set;
 use graphql_definitions::Definition;
 use graphql_document_faults::{BuildError, Schema};
@@ -126,8 +126,7 @@ impl TypedDocument {
         }
     }
 
-    /// Tells where an operation without a name stands beside others (section 5.2.2.1), or where another has its name.
-    /// Whether an operation that is kept has its name, or has none as it has none.
+    /// Tells where the name of an operation breaks a rule, or its lack where it stands beside others. Whether an operation that is kept has its name, or has none as it has none.
     fn check_name(
         &mut self,
         beside: bool,
@@ -140,11 +139,7 @@ impl TypedDocument {
         match &operation.content().name {
             None => {
                 if beside {
-                    tell(
-                        location,
-                        BuildError::AmbiguousAnonymousOperation,
-                        &mut self.faults,
-                    )?;
+                    ambiguous_anonymous_operation(location, &mut self.faults)?;
                 }
                 Ok(self.operations.anonymous.is_some())
             }
@@ -170,11 +165,7 @@ impl TypedDocument {
         let operation_type = operation.content().operation_type;
         let is_known = self.check_name(beside, operation)?;
         let Some(root) = root_of(schema, operation_type)? else {
-            return tell(
-                operation.location(),
-                BuildError::UndefinedRootOperation { operation_type },
-                &mut self.faults,
-            );
+            return undefined_root_operation(operation.location(), operation_type, &mut self.faults);
         };
         if is_known {
             return Ok(());
@@ -213,7 +204,7 @@ impl TypedDocument {
         Ok(())
     }
 
-    /// Adds a definition. A document holds operations and fragments alone (section 5.1.1).
+    /// Adds a definition.
     fn add(
         &mut self,
         alloc: Global,
@@ -230,11 +221,7 @@ impl TypedDocument {
             Definition::FragmentDefinition(fragment) => {
                 self.add_fragment(alloc, schema, fragment)
             }
-            _ => tell(
-                definition.location(),
-                BuildError::TypeSystemDefinition,
-                &mut self.faults,
-            ),
+            _ => type_system_definition(definition.location(), &mut self.faults),
         }
     }
 }
