@@ -18,15 +18,17 @@ pub(crate) fn operation(alloc: Global) -> Operation {
     }
 }
 
+/// The operation alone.
+pub(crate) fn operations(alloc: Global) -> Result<OperationMap, AllocError> {
+    OperationMap::from_one(alloc, node(alloc, operation(alloc))?)
+}
+
 /// Whether the only operation is found by its name and without one.
-pub(crate) fn are_by_name(alloc: Global) -> Result<bool, AllocError> {
-    let mut operations = OperationMap::from_one(alloc, node(alloc, operation(alloc))?)?;
-    Ok(
-        operations.len() == 1
-            && !operations.is_empty()
-            && operations.get(Some(&name!("A"))).is_some()
-            && operations.get_mut(None).is_some(),
-    )
+pub(crate) fn is_by_name(operations: &mut OperationMap) -> bool {
+    operations.len() == 1
+        && !operations.is_empty()
+        && operations.get(Some(&name!("A"))).is_some()
+        && operations.get_mut(None).is_some()
 }
 
 /// `fragment F on __Type { }`
