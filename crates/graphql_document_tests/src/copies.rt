@@ -1,41 +1,35 @@
-//! Copies of an operation, of a fragment, and of what is in them.
+//! Copies and equality.
 
-use crate::hold::is_copied;
-use graphql_documents::{ExecutableDocument, Fragment, Operation, Selection, SelectionSet};
+use graphql_documents::{ExecutableDocument, Fragment, Operation};
 use graphql_typed_operations::laws;
 use std::alloc::{AllocError, Global};
 
-/// Whether the copy of what is in the selection equals that.
-fn content_is_copied(selection: &Selection) -> Result<bool, AllocError> {
-    match selection {
-        Selection::Field(node) => is_copied(node.content()),
-        Selection::FragmentSpread(node) => is_copied(node.content()),
-        Selection::InlineFragment(node) => is_copied(node.content()),
+/// Whether the value's copy equals it. It is not where memory was refused.
+pub(crate) fn is_copied<T: Clone + PartialEq + Drop>(value: Result<T, AllocError>) -> bool {
+    match value {
+        Ok(value) => matches!(value.clone(), Ok(copy) if copy == value),
+        Err(_) => false,
     }
-}
-
-/// Whether the copy of what is in each selection of the set equals that.
-pub(crate) fn set_is_copied(set: &SelectionSet) -> Result<bool, AllocError> {
-    for selection in &set.selections {
-        if !content_is_copied(selection)? {
-            return Ok(false);
-        }
-    }
-    Ok(true)
 }
 
 /// Whether the copy of the operation equals it, by the law.
-pub(crate) fn operation_is_copied(operation: &Operation) -> Result<bool, AllocError> {
-    Ok(laws::equal_operations(&operation.clone()?, operation))
+pub(crate) fn operation_is_copied(operation: Operation) -> bool {
+    match operation.clone() {
+        Ok(copy) => laws::equal_operations(&copy, &operation),
+        Err(_) => false,
+    }
 }
 
 /// Whether the copy of the fragment equals it, by the law.
-pub(crate) fn fragment_is_copied(fragment: &Fragment) -> Result<bool, AllocError> {
-    Ok(laws::equal_fragments(&fragment.clone()?, fragment))
+pub(crate) fn fragment_is_copied(fragment: Fragment) -> bool {
+    match fragment.clone() {
+        Ok(copy) => laws::equal_fragments(&copy, &fragment),
+        Err(_) => false,
+    }
 }
 
-/// Whether the document is itself by the law, and not the one that holds nothing.
-pub(crate) fn is_not_empty(alloc: Global, document: &ExecutableDocument) -> bool {
+/// Whether the document equals itself, and not the one that holds nothing.
+pub(crate) fn is_another(alloc: Global, document: &ExecutableDocument) -> bool {
     let empty = ExecutableDocument::new(alloc);
     laws::equal_documents(document, document) && !laws::equal_documents(document, &empty)
 }

@@ -1,6 +1,6 @@
-//! A test over one document with its meaning, of what no row of text reaches: copies, selections that are built by calls,
-//! operations by name, and walks and look-ups from sets, each call once in ample memory. The rows are those of
-//! `graphql_rows`. It has no code but this.
+//! A test of what calls answer on documents with their meaning that no row of text reaches: selections that are built by
+//! calls, copies, equality, operations by name, look-ups, and walks from sets, each call once in ample memory. The rows
+//! are those of `graphql_rows`. It has no code but this.
 #![tactic(auto)]
 
 #[cfg(test)]
@@ -8,14 +8,10 @@ mod answers;
 #[cfg(test)]
 mod copies;
 #[cfg(test)]
-mod hold;
-#[cfg(test)]
-mod look_ups;
-#[cfg(test)]
-mod maps;
+mod definitions;
 #[cfg(test)]
 mod parts;
 #[cfg(test)]
-mod typed;
+mod selections;
 #[cfg(test)]
 mod walks;

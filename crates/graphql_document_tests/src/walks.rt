@@ -1,24 +1,25 @@
-//! Walks from sets.
+//! Walks from sets, and the look-up of a fragment.
 
-use graphql_documents::{ExecutableDocument, SelectionSet, SelectionSetExt};
+use graphql_documents::{
+    AllFields, ExecutableDocument, FragmentSpread, FragmentSpreadExt, RootFields,
+};
+use graphql_names::name;
 use std::alloc::Global;
 
-/// Whether the walk at every depth lends a field `a` first.
-pub(crate) fn are_walked(alloc: Global, set: &SelectionSet, document: &ExecutableDocument) -> bool {
-    match set.all_fields(alloc, document).next() {
-        Some(Ok(field)) => field.content().name.as_str() == "a",
-        _ => false,
-    }
+/// Whether the document has the fragment of `...F`.
+pub(crate) fn has_fragment(alloc: Global, document: &ExecutableDocument) -> bool {
+    let spread = FragmentSpread::new(alloc, name!("F"));
+    spread.fragment_def(document).is_some()
 }
 
-/// Whether the walk over root fields lends a field `a` first.
-pub(crate) fn roots_are_walked(
-    alloc: Global,
-    set: &SelectionSet,
-    document: &ExecutableDocument,
-) -> bool {
-    match set.root_fields(alloc, document).next() {
-        Some(Ok(field)) => field.content().name.as_str() == "a",
-        _ => false,
-    }
+/// Whether the walk lends nothing, asked twice.
+pub(crate) fn is_over(walk: AllFields<'_>) -> bool {
+    let mut walk = walk;
+    walk.next().is_none() && walk.next().is_none()
+}
+
+/// Whether the walk over root fields lends nothing, asked twice.
+pub(crate) fn is_over_at_roots(walk: RootFields<'_>) -> bool {
+    let mut walk = walk;
+    walk.next().is_none() && walk.next().is_none()
 }
