@@ -1,5 +1,5 @@
 -- How a coordinate is read: private to this crate. A text is cut at the first of each sign in turn.
-use Rattle.std.specs.Prelude.{ℕ, Bool, List, [], ◌∷◌, Option, None, Some, codes, ◌==◌, if◌then◌else◌, bytes_eq}
+use Rattle.std.specs.Prelude.{ℕ, List, [], ◌∷◌, Option, None, Some, codes, ◌==◌, if◌then◌else◌, bytes_eq}
 use Rattle.std.specs.Option.{option_map, option_and_then}
 use Rattle.graphql_components.specs.Coordinate.{Coordinate, OfType, OfAttribute, OfArgument, OfDirective, OfDirectiveArgument, is_signless}
 use Rattle.graphql_coords.specs.declared.parts.Parts.{Parts}
@@ -45,7 +45,3 @@ all_cut (c ∷ cs) = if c == 64 then directive_cut cs else type_cut (c ∷ cs)
 -- the coordinate in whose form the text is written
 abbrev pub read : List ℕ → Option Coordinate
 read text = option_and_then (λ c. if is_signless c then Some c else None) (all_cut text)
-
--- the coordinate, if it is of this form
-abbrev pub of_form : (Coordinate → Bool) → Coordinate → Option Coordinate
-of_form form c = if form c then Some c else None

@@ -36,7 +36,7 @@ impl TypeCoordinate {
     {
         let parts = parts_of(text)?;
         match parts {
-            Parts::Type(ty) => { TypeCoordinate::named(alloc, ty) }
+            Parts::Type(ty) => TypeCoordinate::named(alloc, ty),
             _ => Err(SchemaCoordinateParseError::InvalidFormat),
         }
     }
@@ -140,7 +140,7 @@ impl DirectiveCoordinate {
     {
         let parts = parts_of(text)?;
         match parts {
-            Parts::Directive(directive) => { DirectiveCoordinate::named(alloc, directive) }
+            Parts::Directive(directive) => DirectiveCoordinate::named(alloc, directive),
             _ => Err(SchemaCoordinateParseError::InvalidFormat),
         }
     }
