@@ -1,7 +1,8 @@
 //! The first root of each operation.
-ghost use Rattle.std.specs.Prelude.{◌≡◌, ◌++◌, IfOk, OnOk, is_some};
+ghost use Rattle.std.specs.Prelude.{◌≡◌, ◌++◌, [], ◌∷◌, IfOk, OnOk, is_some};
 ghost use Rattle.graphql_folding.specs.in_definitions.DefinitionTree.{root_tree};
 ghost use Rattle.graphql_components.specs.Given.{component_tree, component_name_tree};
+ghost use Rattle.graphql_folding.specs.BuildErrors.{DuplicateRootOperation};
 ghost use Rattle.graphql_folding.specs.FaultView.{faults_of};
 ghost use Rattle.graphql_schema_folding.specs.ListFold.{root_faults};
 ghost use Rattle.graphql_schema_folding.specs.RootFold.{root_for, with_root, first_roots, KeepsRoot};
@@ -65,7 +66,7 @@ pub(crate) fn keep_roots(
     Ok(kept)
 }
 
-/// Keeps a root behind those before it, or tells that its operation has one (section 3.3.1).
+/// Keeps a root behind those before it, or tells that its operation has one.
 fn keep_root(
     kept: &mut Roots,
     root: &Component<(OperationType, NamedType)>,
@@ -75,15 +76,24 @@ fn keep_root(
 {
     let (operation, name) = root.node.content();
     if kept.has(*operation) {
-        return tell(
-            faults,
-            root.node.location(),
-            BuildError::DuplicateRootOperation {
-                operation_type: *operation,
-            },
-        );
+        return duplicate_root_operation(*operation, root.node.location(), faults);
     }
     let name = name.clone()?;
     kept.set(*operation, ComponentName::new(root.origin, name));
     Ok(())
+}
+
+/// An operation has one root at most (section 3.3.1): this one is told, which stands behind another.
+fn duplicate_root_operation(
+    operation_type: OperationType,
+    location: Option<SourceSpan>,
+    faults: &mut Vec<(Option<SourceSpan>, BuildError)>,
+) -> Result<(), AllocError>
+    ensures { OnOk result (faults_of faults.new ≡ faults_of faults.old ++ record { place = location; breach = DuplicateRootOperation operation_type } ∷ []) }
+{
+    tell(
+        faults,
+        location,
+        BuildError::DuplicateRootOperation { operation_type },
+    )
 }

@@ -1,4 +1,4 @@
-use Rattle.std.proofs.Common.{◌<◌, ◌+◌, [], ◌∷◌, None, Some, map, take, length, sym, ap, ◌∙◌, arith, subst}
+use Rattle.std.proofs.Common.{◌<◌, ◌+◌, [], ◌∷◌, None, Some, map, take, length, sym, ◌∙◌, arith, subst}
 use Rattle.std.proofs.lemmas.List.{append-nil}
 use Rattle.graphql_folding.specs.Listed.{directives_in}
 use Rattle.graphql_folding.specs.ListedView.{listed_view}

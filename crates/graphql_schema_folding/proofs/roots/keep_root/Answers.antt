@@ -16,8 +16,8 @@ returns-then-has c =
     let faults = faults_of c.args.faults.now in
     let operation_is = ap (λ r. r.0) c.content.ensures in
     let there = ap (λ o. is_some (root_for o kept)) (sym operation_is) ∙ sym c.has.ensures ∙ c.if-has.true in
-    IfOk-weaker _ _ _ (λ _ h. keeps_seen (component_tree root_tree c.args.root.now) kept faults (faults_of c.tell.new.faults) there
-    (h ∙ (λ i. faults ++ record { place = c.location.ensures i; breach = DuplicateRootOperation (operation_is i) } ∷ []))) c.tell.ensures
+    IfOk-weaker _ _ _ (λ _ h. keeps_seen (component_tree root_tree c.args.root.now) kept faults (faults_of c.duplicate_root_operation.new.faults) there
+    (h ∙ (λ i. faults ++ record { place = c.location.ensures i; breach = DuplicateRootOperation (operation_is i) } ∷ []))) c.duplicate_root_operation.ensures
 
 pub returns : goal.returns
 returns c =
