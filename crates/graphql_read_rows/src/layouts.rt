@@ -5,7 +5,7 @@ use crate::print::{Form, form_named, laid_out};
 use graphql_definitions::Document;
 use graphql_names::FileId;
 use graphql_read::parse_document;
-use graphql_row_files::{Answer, Case, Problem, Tally, Way, answer_of, compare, texts, whole};
+use graphql_row_files::{Answer, Case, Problem, Tally, Way, compare};
 use std::alloc::{AllocError, Global};
 
 /// The layouts, by their words.
@@ -14,9 +14,8 @@ const LAYOUTS: [&str; 4] = ["line", "two", "four", "tab"];
 /// Judges the row: each of its inputs, under each layout. On one line it is to print the row's `flat`, or itself where
 /// there is none.
 pub fn by_layouts(alloc: Global, case: Case<'_>, tally: &mut Tally) -> Result<(), Problem> {
-    let flat = texts(alloc, case.row, "flat")?;
-    for input in &texts(alloc, case.row, "input")? {
-        let flat = flat.first().unwrap_or(input);
+    for input in &case.given.inputs {
+        let flat = case.given.flat.first().unwrap_or(input);
         for layout in &LAYOUTS {
             by_layout(alloc, case, layout, flat, input, tally)?;
         }
@@ -33,34 +32,43 @@ fn by_layout(
     input: &[u8],
     tally: &mut Tally,
 ) -> Result<(), Problem> {
-    let answer = answer_under(alloc, text_of(case, input)?, layout)?;
+    push_answer(alloc, text_of(case, input)?, layout, &mut tally.answer)?;
     let out = match layout {
         "line" => flat,
         "two" => case.out,
-        _ => answer.out.as_slice(),
+        _ => {
+            tally.answer.text.clear();
+            &[]
+        }
     };
-    let way = Way {
-        call: layout,
-        document: input,
-        nesting: usize::MAX,
-        plan: whole(),
-    };
-    compare(alloc, Case { out, ..case }, way, &answer, tally)
+    let wanted = Case { out, ..case };
+    compare(wanted, Way::whole(layout, input, usize::MAX), tally)
 }
 
-/// What is printed of the text under the layout, and whether that reads as it was and is printed alike.
-fn answer_under(alloc: Global, text: &str, layout: &str) -> Result<Answer, AllocError> {
+/// Adds what is printed of the text under the layout, and whether that reads as it was and is printed alike.
+fn push_answer(
+    alloc: Global,
+    text: &str,
+    layout: &str,
+    answer: &mut Answer,
+) -> Result<(), AllocError> {
     let form = form_named(layout).unwrap_or(Form::Unsaid);
     match parse_document(alloc, text, FileId(1), usize::MAX) {
-        Ok(document) => printed_answer(alloc, &document, form),
-        Err(_) => answer_of(alloc, "1 the input is not read", ""),
+        Ok(document) => push_printed(alloc, &document, form, answer),
+        Err(_) => answer.status.push_str("1 the input is not read"),
     }
 }
 
-/// What is printed of the document, and whether that reads as it and is printed alike.
-fn printed_answer(alloc: Global, document: &Document, form: Form) -> Result<Answer, AllocError> {
-    let printed = laid_out(document, form, 0).to_string(alloc)?;
-    answer_of(alloc, read_again(alloc, document, form, &printed), &printed)
+/// Adds what is printed of the document, and whether that reads as it and is printed alike.
+fn push_printed(
+    alloc: Global,
+    document: &Document,
+    form: Form,
+    answer: &mut Answer,
+) -> Result<(), AllocError> {
+    answer.show("", &laid_out(document, form, 0))?;
+    let status = read_again(alloc, document, form, &answer.text);
+    answer.status.push_str(status)
 }
 
 /// Whether what is printed of the document reads as it, places aside, and is printed alike.

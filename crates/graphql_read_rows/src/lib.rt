@@ -7,12 +7,10 @@ mod given;
 mod layouts;
 mod print;
 mod read;
-mod shown;
 mod trees;
 
 pub use given::{document_of, text_of};
 pub use graphql_read::parse_selections;
 pub use layouts::by_layouts;
-pub use print::{by_print, by_writable};
 pub use read::by_read;
-pub use shown::{shown_answer, writable_answer};
+pub use trees::by_tree;

@@ -1,11 +1,8 @@
 //! Printed trees, and whether trees are writable.
 
-use crate::shown::shown_answer;
-use crate::trees::by_name;
 use graphql_printing::{Cause, Serialize, Tree, WriteFault};
 use graphql_row_files::{
-    Answer, Case, Plan, Problem, Tally, Way, answer_of, compare, compare_cut, device, number,
-    plans_of, whole,
+    Answer, Case, Plan, Problem, Tally, Way, compare, compare_cut, device, number,
 };
 use std::alloc::{AllocError, Global};
 
@@ -53,49 +50,26 @@ pub(crate) fn laid_out<'a, T: Tree>(tree: &'a T, form: Form, level: usize) -> Se
     }
 }
 
-/// Judges the row: what is printed of its tree, by `Display`, and by `write_to` by each of its plans.
-pub fn by_print(alloc: Global, case: Case<'_>, tally: &mut Tally) -> Result<(), Problem> {
-    by_name(alloc, case, true, tally)
-}
-
-/// Judges the row: whether its tree is writable.
-pub fn by_writable(alloc: Global, case: Case<'_>, tally: &mut Tally) -> Result<(), Problem> {
-    by_name(alloc, case, false, tally)
-}
-
 /// Judges what the row asks of this tree: what is printed of it, or whether it is writable.
-pub(crate) fn by_tree<T: Tree>(
+pub(crate) fn judge_tree<T: Tree>(
     alloc: Global,
     case: Case<'_>,
-    is_print: bool,
     tree: &T,
     is_writable: bool,
     tally: &mut Tally,
 ) -> Result<(), Problem> {
-    if is_print {
-        prints(alloc, case, tree, tally)
-    } else {
-        tells_writable(alloc, case, is_writable, tally)
+    if case.call == "print" {
+        return prints(alloc, case, tree, tally);
     }
-}
-
-/// The answer whether a tree is writable.
-fn tells_writable(
-    alloc: Global,
-    case: Case<'_>,
-    is_writable: bool,
-    tally: &mut Tally,
-) -> Result<(), Problem> {
-    let status = if is_writable {
+    tally.answer.status.push_str(if is_writable {
         "0 writable"
     } else {
         "1 not writable"
-    };
-    let answer = answer_of(alloc, status, "")?;
-    compare(alloc, case, way_of("is_writable", whole()), &answer, tally)
+    })?;
+    compare(case, Way::whole("is_writable", &[], 0), tally)
 }
 
-/// Judges what is printed of the tree under the row's layout.
+/// Judges what is printed of the tree under the row's layout: by `Display`, and by `write_to` by each of its plans.
 fn prints<T: Tree>(
     alloc: Global,
     case: Case<'_>,
@@ -104,34 +78,13 @@ fn prints<T: Tree>(
 ) -> Result<(), Problem> {
     let shown = laid_out(tree, form_of(case)?, number(case.row, "level", 0)?);
     if case.status == "0" {
-        displays(alloc, case, shown, tally)?;
+        tally.answer.show("0", &shown)?;
+        compare(case, Way::whole("print by Display", &[], 0), tally)?;
     }
-    for plan in &plans_of(alloc, case)? {
+    for plan in &case.given.plans {
         writes(alloc, case, shown, *plan, tally)?;
     }
     Ok(())
-}
-
-/// Judges the text by `Display`.
-fn displays<T: Tree>(
-    alloc: Global,
-    case: Case<'_>,
-    shown: Serialize<'_, T>,
-    tally: &mut Tally,
-) -> Result<(), Problem> {
-    let answer = shown_answer(alloc, "0", &shown)?;
-    let way = way_of("print by Display", whole());
-    compare(alloc, case, way, &answer, tally)
-}
-
-/// The way of a print.
-fn way_of(call: &str, plan: Plan) -> Way<'_> {
-    Way {
-        call,
-        document: &[],
-        nesting: 0,
-        plan,
-    }
 }
 
 /// Judges the text by `write_to`, by this plan.
@@ -142,10 +95,12 @@ fn writes<T: Tree>(
     plan: Plan,
     tally: &mut Tally,
 ) -> Result<(), Problem> {
-    let mut answer = answer_of(alloc, "", "")?;
-    write_by(shown, plan, &mut answer)?;
-    let way = way_of("print by write_to", plan);
-    compare_cut(alloc, case, way, &answer, tally)
+    write_by(shown, plan, &mut tally.answer)?;
+    let way = Way {
+        plan,
+        ..Way::whole("print by write_to", &[], 0)
+    };
+    compare_cut(alloc, case, way, tally)
 }
 
 /// Writes the text by the plan, and adds the status of that.
@@ -154,7 +109,7 @@ fn write_by<T: Tree>(
     plan: Plan,
     answer: &mut Answer,
 ) -> Result<(), AllocError> {
-    let mut writer = device(&mut answer.out, plan, plan.write);
+    let mut writer = device(&mut answer.written, plan, plan.write);
     let written = shown.write_to(&mut writer);
     if writer.failed() != written.is_err() {
         return answer

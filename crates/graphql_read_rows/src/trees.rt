@@ -1,33 +1,29 @@
 //! The trees that rows name: those that a row's input is read as, and some that no text is read as.
 
 use crate::given::{document_of, text_of};
-use crate::print::by_tree;
+use crate::print::judge_tree;
 use graphql_definitions::{Definition, Document};
-use graphql_directives::{Directive, DirectiveDefinition};
+use graphql_directives::{Directive, DirectiveDefinition, DirectiveList};
 use graphql_names::{FileId, Name, Node};
 use graphql_operations::{FragmentDefinition, OperationDefinition};
 use graphql_read::parse_type;
-use graphql_row_files::{Case, Field, Problem, Tally, bytes_of};
+use graphql_row_files::{Case, Field, Problem, Tally};
 use std::alloc::{AllocError, Global};
 
-/// Judges what the row asks of the tree that it names.
-pub(crate) fn by_name(
-    alloc: Global,
-    case: Case<'_>,
-    is_print: bool,
-    tally: &mut Tally,
-) -> Result<(), Problem> {
+/// Judges what the row asks of the tree that it names: what is printed of it, or whether it is writable.
+pub fn by_tree(alloc: Global, case: Case<'_>, tally: &mut Tally) -> Result<(), Problem> {
     let field = case.row.needed("tree")?;
     match field.value {
         "directive without locations" => {
             let tree = directive(alloc);
-            by_tree(alloc, case, is_print, &tree, tree.is_writable(), tally)
+            judge_tree(alloc, case, &tree, tree.is_writable(), tally)
         }
         "document without definitions" => {
             let tree = Document::new(alloc);
-            by_tree(alloc, case, is_print, &tree, tree.is_writable(), tally)
+            judge_tree(alloc, case, &tree, tree.is_writable(), tally)
         }
-        _ => by_input(alloc, case, is_print, field, tally),
+        "type" => by_type(alloc, case, input_of(case)?, tally),
+        _ => by_document(alloc, case, field, input_of(case)?, tally),
     }
 }
 
@@ -42,70 +38,53 @@ fn directive(alloc: Global) -> DirectiveDefinition {
     }
 }
 
-/// Judges what the row asks of the tree that its input is read as.
-fn by_input(
-    alloc: Global,
-    case: Case<'_>,
-    is_print: bool,
-    field: Field<'_>,
-    tally: &mut Tally,
-) -> Result<(), Problem> {
-    let input = bytes_of(alloc, case.row.needed("input")?)?;
-    if field.value == "type" {
-        by_type(alloc, case, is_print, text_of(case, &input)?, tally)
-    } else {
-        by_document(alloc, case, is_print, field, &input, tally)
+/// The row's input, which must be one.
+fn input_of<'a>(case: Case<'a>) -> Result<&'a [u8], Problem> {
+    match case.given.inputs.as_slice() {
+        [input] => Ok(input.as_slice()),
+        _ => Err(case.row.head.problem("this tree has one input")),
     }
 }
 
-/// Judges what the row asks of this text, read as a type.
-fn by_type(
-    alloc: Global,
-    case: Case<'_>,
-    is_print: bool,
-    text: &str,
-    tally: &mut Tally,
-) -> Result<(), Problem> {
-    match parse_type(alloc, text, FileId(1), 500) {
-        Ok(tree) => by_tree(alloc, case, is_print, &tree, tree.is_writable(), tally),
+/// Judges what the row asks of its input, read as a type.
+fn by_type(alloc: Global, case: Case<'_>, input: &[u8], tally: &mut Tally) -> Result<(), Problem> {
+    match parse_type(alloc, text_of(case, input)?, FileId(1), 500) {
+        Ok(tree) => judge_tree(alloc, case, &tree, tree.is_writable(), tally),
         Err(_) => Err(case.row.head.problem("a text of this call is not read")),
     }
 }
 
-/// Judges what the row asks of this text, read as a document.
+/// Judges what the row asks of its input, read as a document.
 fn by_document(
     alloc: Global,
     case: Case<'_>,
-    is_print: bool,
     field: Field<'_>,
     input: &[u8],
     tally: &mut Tally,
 ) -> Result<(), Problem> {
     match document_of(alloc, case, input, FileId(1)) {
-        Ok(tree) if field.value == "document" => {
-            by_tree(alloc, case, is_print, &tree, tree.is_writable(), tally)
-        }
-        Ok(document) => by_definition(alloc, case, is_print, field, &document, tally),
+        Ok(document) => by_part(alloc, case, field, &document, tally),
         Err(problem) => Err(problem),
     }
 }
 
-/// Judges what the row asks of the first definition of the document.
-fn by_definition(
+/// Judges what the row asks of the document, or of its first definition.
+fn by_part(
     alloc: Global,
     case: Case<'_>,
-    is_print: bool,
     field: Field<'_>,
     document: &Document,
     tally: &mut Tally,
 ) -> Result<(), Problem> {
+    if field.value == "document" {
+        return judge_tree(alloc, case, document, document.is_writable(), tally);
+    }
     match document.definitions.first() {
         Some(Definition::OperationDefinition(node)) => {
-            by_operation(alloc, case, is_print, field, node.content(), tally)
+            by_operation(alloc, case, field, node.content(), tally)
         }
         Some(Definition::FragmentDefinition(node)) if field.value == "fragment named on" => {
-            let tree = named_on(node.content())?;
-            by_tree(alloc, case, is_print, &tree, tree.is_writable(), tally)
+            by_fragment(alloc, case, node.content(), tally)
         }
         _ => Err(field.problem("there is no such tree")),
     }
@@ -115,53 +94,34 @@ fn by_definition(
 fn by_operation(
     alloc: Global,
     case: Case<'_>,
-    is_print: bool,
     field: Field<'_>,
     operation: &OperationDefinition,
     tally: &mut Tally,
 ) -> Result<(), Problem> {
-    if field.value == "operation" {
-        return by_tree(
-            alloc,
-            case,
-            is_print,
-            operation,
-            operation.is_writable(),
-            tally,
-        );
-    }
-    let tree = match field.value {
-        "operation with a directive" => directed(alloc, operation)?,
-        "operation without selections" => without_selections(alloc, operation)?,
+    let mut tree = operation.clone()?;
+    match field.value {
+        "operation" => {}
+        "operation with a directive" => push_directive(alloc, &mut tree.directives)?,
+        "operation without selections" => tree.selection_set.clear(),
         _ => return Err(field.problem("there is no such tree")),
-    };
-    by_tree(alloc, case, is_print, &tree, tree.is_writable(), tally)
+    }
+    judge_tree(alloc, case, &tree, tree.is_writable(), tally)
 }
 
-/// The operation with `@dir` pushed to it.
-fn directed(
-    alloc: Global,
-    operation: &OperationDefinition,
-) -> Result<OperationDefinition, AllocError> {
-    let mut directed = operation.clone()?;
+/// Adds `@dir`.
+fn push_directive(alloc: Global, list: &mut DirectiveList) -> Result<(), AllocError> {
     let directive = Directive::new(alloc, Name::new_static_unchecked("dir"));
-    directed.directives.0.push(Node::new(alloc, directive)?)?;
-    Ok(directed)
+    Ok(list.0.push(Node::new(alloc, directive)?)?)
 }
 
-/// The operation without its selections.
-fn without_selections(
+/// Judges what the row asks of the fragment under the name `on`.
+fn by_fragment(
     alloc: Global,
-    operation: &OperationDefinition,
-) -> Result<OperationDefinition, AllocError> {
-    let mut bare = operation.clone()?;
-    bare.selection_set = Vec::new(alloc);
-    Ok(bare)
-}
-
-/// The fragment under the name `on`.
-fn named_on(fragment: &FragmentDefinition) -> Result<FragmentDefinition, AllocError> {
-    let mut renamed = fragment.clone()?;
-    renamed.name = Name::new_static_unchecked("on");
-    Ok(renamed)
+    case: Case<'_>,
+    fragment: &FragmentDefinition,
+    tally: &mut Tally,
+) -> Result<(), Problem> {
+    let mut tree = fragment.clone()?;
+    tree.name = Name::new_static_unchecked("on");
+    judge_tree(alloc, case, &tree, tree.is_writable(), tally)
 }

@@ -2,7 +2,6 @@
 
 use crate::problem::Problem;
 use crate::row_file::Field;
-use std::alloc::Global;
 
 /// How far an escape is read.
 #[derive(Clone, Copy)]
@@ -15,13 +14,6 @@ enum Escape {
     Hexadecimal,
     /// `\x` and a digit, which counts so much.
     Digit(u8),
-}
-
-/// The bytes that the value of a field stands for.
-pub fn bytes_of(alloc: Global, field: Field<'_>) -> Result<Vec<u8>, Problem> {
-    let mut bytes = Vec::new(alloc);
-    push_bytes(field, &mut bytes)?;
-    Ok(bytes)
 }
 
 /// Adds the bytes that the value of a field stands for: `\n` is LF, `\r` CR, `\t` a tab, `\\` a backslash, `\xNN` the

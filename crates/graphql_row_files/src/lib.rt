@@ -7,16 +7,17 @@
 
 mod case;
 mod escape;
+mod given;
 mod plan;
 mod plans;
 mod problem;
 mod row_file;
 mod settings;
 
-pub use case::{Answer, Case, Tally, Way, answer_of, compare};
-pub use escape::bytes_of;
+pub use case::{Answer, Case, Tally, Way, compare};
+pub use given::Given;
 pub use plan::{Plan, device, endings, reader, whole};
-pub use plans::{compare_cut, plans_of};
+pub use plans::compare_cut;
 pub use problem::Problem;
 pub use row_file::{Field, Row, fields_of, rows_of};
-pub use settings::{number, numbers, output, says, texts};
+pub use settings::{number, says};

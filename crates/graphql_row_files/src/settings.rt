@@ -1,9 +1,7 @@
-//! Numbers and texts in rows.
+//! Numbers and words in rows.
 
-use crate::escape::{bytes_of, push_bytes};
 use crate::problem::Problem;
 use crate::row_file::{Field, Row};
-use std::alloc::Global;
 
 /// The number in this text; `most` is the greatest.
 fn number_of(field: Field<'_>, text: &str) -> Result<usize, Problem> {
@@ -24,27 +22,21 @@ pub fn number(row: Row<'_>, name: &str, other: usize) -> Result<usize, Problem> 
     }
 }
 
-/// The numbers of the field of this name, which stand there with a space between each two, or `other` alone
+/// Adds the numbers of the field of this name, which stand there with a space between each two, or `other` alone
 /// where there is none.
-pub fn numbers(
-    alloc: Global,
+pub(crate) fn push_numbers(
     row: Row<'_>,
     name: &str,
     other: usize,
-) -> Result<Vec<usize>, Problem> {
-    match row.one(name)? {
-        Some(field) => words(alloc, field),
-        None => Ok(Vec::from_slice(alloc, &[other])?),
-    }
-}
-
-/// The numbers in a field.
-fn words(alloc: Global, field: Field<'_>) -> Result<Vec<usize>, Problem> {
-    let mut list = Vec::new(alloc);
+    list: &mut Vec<usize>,
+) -> Result<(), Problem> {
+    let Some(field) = row.one(name)? else {
+        return Ok(list.push(other)?);
+    };
     for word in field.value.split_whitespace() {
         list.push(number_of(field, word)?)?;
     }
-    Ok(list)
+    Ok(())
 }
 
 /// Whether the row has the field of this name. It says this word, and nothing else.
@@ -54,29 +46,4 @@ pub fn says(row: Row<'_>, name: &str, word: &str) -> Result<bool, Problem> {
         Some(field) if field.value == word => Ok(true),
         Some(field) => Err(field.problem("the field says something else than it may")),
     }
-}
-
-/// The texts of the fields of this name.
-pub fn texts(alloc: Global, row: Row<'_>, name: &str) -> Result<Vec<Vec<u8>>, Problem> {
-    let mut list = Vec::new(alloc);
-    for field in row.part(name) {
-        if field.name == name {
-            list.push(bytes_of(alloc, *field)?)?;
-        }
-    }
-    Ok(list)
-}
-
-/// The output that the row wants: each `line` with an LF, and each `text` as it is.
-pub fn output(alloc: Global, row: Row<'_>) -> Result<Vec<u8>, Problem> {
-    let mut out = Vec::new(alloc);
-    for field in row.own {
-        if field.name == "line" || field.name == "text" {
-            push_bytes(*field, &mut out)?;
-        }
-        if field.name == "line" {
-            out.push(b'\n')?;
-        }
-    }
-    Ok(out)
 }

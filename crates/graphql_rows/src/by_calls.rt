@@ -5,35 +5,37 @@ use graphql_checked::{
     Verdict, check_texts,
 };
 use graphql_names::FileId;
-use graphql_row_files::{Answer, answer_of};
+use graphql_row_files::Answer;
 use graphql_schema_rows::push_faults;
 use std::alloc::{AllocError, Global};
 
-/// The answer of `check_texts`.
-pub(crate) fn by_check_texts(
+/// Adds the answer of `check_texts`.
+pub(crate) fn push_check_texts(
     alloc: Global,
     schemas: &[&str],
     document: &str,
     nesting: usize,
-) -> Result<Answer, AllocError> {
+    answer: &mut Answer,
+) -> Result<(), AllocError> {
     match check_texts(alloc, schemas, document, Limits { nesting }) {
-        Ok(Verdict::Accepted) => answer_of(alloc, "0", "accepted\n"),
-        Ok(Verdict::Refused(list)) => refused(alloc, &list),
-        Err(CheckError::NotYet { file, offset }) => not_yet(alloc, file, offset),
-        Err(CheckError::Memory) => answer_of(alloc, "4 out of memory", ""),
+        Ok(Verdict::Accepted) => answer.show("0", &"accepted\n"),
+        Ok(Verdict::Refused(list)) => push_refused(&list, answer),
+        Err(CheckError::NotYet { file, offset }) => push_not_yet(file, offset, answer),
+        Err(CheckError::Memory) => answer.status.push_str("4 out of memory"),
     }
 }
 
-/// The answer of `Checker::new`, `add_schema`, `finish`, `check` and both `written`.
-pub(crate) fn by_calls(
+/// Adds the answer of `Checker::new`, `add_schema`, `finish`, `check` and both `written`.
+pub(crate) fn push_calls(
     alloc: Global,
     schemas: &[&str],
     document: &str,
     nesting: usize,
-) -> Result<Answer, AllocError> {
+    answer: &mut Answer,
+) -> Result<(), AllocError> {
     match schema_of(alloc, schemas, nesting) {
-        Ok(schema) => check_answer(alloc, &schema, document),
-        Err(refusal) => refusal_answer(alloc, &refusal),
+        Ok(schema) => push_check(&schema, document, answer),
+        Err(refusal) => push_refusal(&refusal, answer),
     }
 }
 
@@ -46,50 +48,47 @@ fn schema_of(alloc: Global, schemas: &[&str], nesting: usize) -> Result<CheckedS
     checker.finish()
 }
 
-/// The answer of a schema's `check`.
-fn check_answer(
-    alloc: Global,
+/// Adds the answer of a schema's `check`.
+fn push_check(
     schema: &CheckedSchema,
     document: &str,
-) -> Result<Answer, AllocError> {
+    answer: &mut Answer,
+) -> Result<(), AllocError> {
     match schema.check(document) {
-        Ok(checked) => accepted(alloc, schema, &checked),
-        Err(refusal) => refusal_answer(alloc, &refusal),
+        Ok(checked) => push_accepted(schema, &checked, answer),
+        Err(refusal) => push_refusal(&refusal, answer),
     }
 }
 
-/// The answer that has both texts.
-fn accepted(
-    alloc: Global,
+/// Adds the answer that has both texts.
+fn push_accepted(
     schema: &CheckedSchema,
     document: &CheckedDocument<'_>,
-) -> Result<Answer, AllocError> {
+    answer: &mut Answer,
+) -> Result<(), AllocError> {
     let schema_text = schema.written(Layout::OneLine)?;
     let document_text = document.written(Layout::OneLine)?;
-    let out = format!(in alloc; "accepted\n{schema_text}\n{document_text}\n")?;
-    answer_of(alloc, "0", out.as_str())
+    write!(answer.text, "accepted\n{schema_text}\n{document_text}\n")?;
+    answer.status.push_str("0")
 }
 
-/// The answer of a refusal.
-fn refusal_answer(alloc: Global, refusal: &Refusal) -> Result<Answer, AllocError> {
+/// Adds the answer of a refusal.
+fn push_refusal(refusal: &Refusal, answer: &mut Answer) -> Result<(), AllocError> {
     match refusal {
-        Refusal::Faults(list) => refused(alloc, list),
-        Refusal::NotYet { file, offset } => not_yet(alloc, *file, *offset),
-        Refusal::Memory => answer_of(alloc, "4 out of memory", ""),
-        Refusal::Failed => answer_of(alloc, "4 failed", ""),
+        Refusal::Faults(list) => push_refused(list, answer),
+        Refusal::NotYet { file, offset } => push_not_yet(*file, *offset, answer),
+        Refusal::Memory => answer.status.push_str("4 out of memory"),
+        Refusal::Failed => answer.status.push_str("4 failed"),
     }
 }
 
-/// The answer that tells these faults.
-fn refused(alloc: Global, list: &DiagnosticList) -> Result<Answer, AllocError> {
-    let mut text = String::from_str(alloc, "refused\n")?;
-    push_faults(alloc, list.as_slice(), &mut text)?;
-    answer_of(alloc, "1", text.as_str())
+/// Adds the answer that tells these faults.
+fn push_refused(list: &DiagnosticList, answer: &mut Answer) -> Result<(), AllocError> {
+    answer.text.push_str("refused\n")?;
+    push_faults(list.as_slice(), answer)
 }
 
-/// The answer that a text is not judged yet.
-fn not_yet(alloc: Global, file: FileId, offset: usize) -> Result<Answer, AllocError> {
-    let number = file.0;
-    let status = format!(in alloc; "5 not yet {number}:{offset}")?;
-    answer_of(alloc, status.as_str(), "")
+/// Adds the answer that a text is not judged yet.
+fn push_not_yet(file: FileId, offset: usize, answer: &mut Answer) -> Result<(), AllocError> {
+    write!(answer.status, "5 not yet {}:{offset}", file.0)
 }

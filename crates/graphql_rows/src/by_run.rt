@@ -3,11 +3,10 @@
 ghost use Rattle.std.specs.Prelude.{◌≡◌, false, All, IfOk};
 ghost use Rattle.graphql_names.specs.Device.{device_failed};
 
-use crate::by_texts::Texts;
 use graphql_checked::{Layout, Limits, Outcome, RunFault, exit_status, run};
 use graphql_names::{Cut, Device};
 use graphql_row_files::{
-    Answer, Case, Plan, Problem, Tally, Way, answer_of, compare_cut, device, plans_of, reader, says,
+    Answer, Case, Plan, Problem, Tally, Way, compare_cut, device, reader, says,
 };
 use std::alloc::{AllocError, Global};
 
@@ -15,14 +14,19 @@ use std::alloc::{AllocError, Global};
 pub(crate) fn by_run(
     alloc: Global,
     case: Case<'_>,
-    given: Texts<'_>,
+    way: Way<'_>,
     tally: &mut Tally,
 ) -> Result<(), Problem> {
     let is_each = says(case.row, "read", "each")?;
-    for plan in &plans_of(alloc, case)? {
-        run_answer(alloc, case, given, *plan, tally)?;
+    for plan in &case.given.plans {
+        let way = Way {
+            call: "run",
+            plan: *plan,
+            ..way
+        };
+        by_plan(alloc, case, way, tally)?;
         if is_each && plan.write == case.out.len() {
-            readers_end(alloc, case, given, *plan, tally)?;
+            readers_end(alloc, case, way, tally)?;
         }
     }
     Ok(())
@@ -32,23 +36,23 @@ pub(crate) fn by_run(
 fn readers_end(
     alloc: Global,
     case: Case<'_>,
-    given: Texts<'_>,
-    plan: Plan,
+    way: Way<'_>,
     tally: &mut Tally,
 ) -> Result<(), Problem> {
-    for text in 1..=given.schemas.len().saturating_add(1) {
-        let bytes = match given.schemas.get(text.saturating_sub(1)) {
+    let schemas = case.given.schemas.as_slice();
+    for text in 1..=schemas.len().saturating_add(1) {
+        let bytes = match schemas.get(text.saturating_sub(1)) {
             Some(schema) => schema.len(),
-            None => given.document.len(),
+            None => way.document.len(),
         };
         for read in 0..=bytes {
             let plan = Plan {
                 text,
                 read,
                 write: 0,
-                ..plan
+                ..way.plan
             };
-            reader_ends(alloc, case, given, plan, tally)?;
+            reader_ends(alloc, case, Way { plan, ..way }, tally)?;
         }
     }
     Ok(())
@@ -58,51 +62,38 @@ fn readers_end(
 fn reader_ends(
     alloc: Global,
     case: Case<'_>,
-    given: Texts<'_>,
-    plan: Plan,
+    way: Way<'_>,
     tally: &mut Tally,
 ) -> Result<(), Problem> {
-    let text = plan.text;
+    let text = way.plan.text;
     let status = format!(in alloc; "3 file {text} cannot be read")?;
     let wanted = Case {
         status: status.as_str(),
         out: &[],
         ..case
     };
-    run_answer(alloc, wanted, given, plan, tally)
+    by_plan(alloc, wanted, way, tally)
 }
 
-/// The answer by this plan.
-fn run_answer(
-    alloc: Global,
-    case: Case<'_>,
-    given: Texts<'_>,
-    plan: Plan,
-    tally: &mut Tally,
-) -> Result<(), Problem> {
-    let way = Way {
-        call: "run",
-        document: given.document,
-        nesting: given.nesting,
-        plan,
-    };
-    let mut answer = answer_of(alloc, "", "")?;
-    run_by(alloc, given, plan, &mut answer)?;
-    compare_cut(alloc, case, way, &answer, tally)
+/// Judges the answer by the plan.
+fn by_plan(alloc: Global, case: Case<'_>, way: Way<'_>, tally: &mut Tally) -> Result<(), Problem> {
+    run_by(alloc, &case.given.schemas, way, &mut tally.answer)?;
+    compare_cut(alloc, case, way, tally)
 }
 
 /// Runs by the plan, and adds the output and the status of that.
 fn run_by(
     alloc: Global,
-    given: Texts<'_>,
-    plan: Plan,
+    schemas: &[Vec<u8>],
+    way: Way<'_>,
     told: &mut Answer,
 ) -> Result<(), AllocError> {
-    let mut schemas = readers(alloc, given.schemas, plan)?;
-    let mut document = reader(given.document, plan, given.schemas.len().saturating_add(1));
-    let mut writer = device(&mut told.out, plan, plan.write);
+    let plan = way.plan;
+    let mut document = reader(way.document, plan, schemas.len().saturating_add(1));
+    let mut schemas = readers(alloc, schemas, plan)?;
+    let mut writer = device(&mut told.written, plan, plan.write);
     let limits = Limits {
-        nesting: given.nesting,
+        nesting: way.nesting,
     };
     let answer = run(
         alloc,

@@ -1,117 +1,82 @@
 //! Rows of schema texts and documents.
 
-use crate::by_calls::{by_calls, by_check_texts};
+use crate::by_calls::{push_calls, push_check_texts};
 use crate::by_run::by_run;
-use graphql_row_files::{Answer, Case, Problem, Tally, Way, compare, numbers, texts, whole};
+use graphql_row_files::{Answer, Case, Problem, Tally, Way, compare};
 use graphql_schema_rows::text_of;
 use std::alloc::Global;
 
-/// Texts under a limit.
-#[derive(Clone, Copy)]
-pub(crate) struct Texts<'a> {
-    pub(crate) schemas: &'a [Vec<u8>],
-    pub(crate) document: &'a [u8],
-    pub(crate) nesting: usize,
-}
-
 /// Judges the row: each of its documents over its schema texts, under each of its limits.
-pub(crate) fn by_texts(
-    alloc: Global,
-    case: Case<'_>,
-    call: &str,
-    tally: &mut Tally,
-) -> Result<(), Problem> {
-    let schemas = texts(alloc, case.row, "schema")?;
-    let documents = texts(alloc, case.row, "document")?;
-    for nesting in &numbers(alloc, case.row, "nesting", 500)? {
-        for document in &documents {
-            let given = Texts {
-                schemas: schemas.as_slice(),
-                document: document.as_slice(),
-                nesting: *nesting,
-            };
-            by_call(alloc, case, call, given, tally)?;
+pub(crate) fn by_texts(alloc: Global, case: Case<'_>, tally: &mut Tally) -> Result<(), Problem> {
+    for nesting in &case.given.limits {
+        for document in &case.given.documents {
+            by_call(
+                alloc,
+                case,
+                Way::whole(case.call, document, *nesting),
+                tally,
+            )?;
         }
     }
     Ok(())
 }
 
-/// The answer of each call that the row is for.
-fn by_call(
-    alloc: Global,
-    case: Case<'_>,
-    call: &str,
-    given: Texts<'_>,
-    tally: &mut Tally,
-) -> Result<(), Problem> {
-    match call {
-        "run" => by_run(alloc, case, given, tally),
+/// Judges the answer of each call that the row is for.
+fn by_call(alloc: Global, case: Case<'_>, way: Way<'_>, tally: &mut Tally) -> Result<(), Problem> {
+    match case.call {
+        "run" => by_run(alloc, case, way, tally),
         "all" => {
-            by_run(alloc, case, given, tally)?;
-            judge_call(alloc, case, "calls", given, tally)?;
-            judge_call(alloc, case, "check_texts", given, tally)
+            by_run(alloc, case, way, tally)?;
+            judge_call(alloc, case, "calls", way, tally)?;
+            judge_call(alloc, case, "check_texts", way, tally)
         }
-        _ => judge_call(alloc, case, call, given, tally),
+        _ => judge_call(alloc, case, case.call, way, tally),
     }
 }
 
-/// The way of a call without devices.
-fn way_of<'a>(call: &'a str, given: Texts<'a>) -> Way<'a> {
-    Way {
-        call,
-        document: given.document,
-        nesting: given.nesting,
-        plan: whole(),
-    }
-}
-
-/// The schema texts, which must be UTF-8.
-fn schemas_of<'a>(
-    alloc: Global,
-    case: Case<'_>,
-    texts: &'a [Vec<u8>],
-) -> Result<Vec<&'a str>, Problem> {
-    let mut schemas = Vec::new(alloc);
-    for bytes in texts {
-        schemas.push(text_of(case, bytes.as_slice())?)?;
-    }
-    Ok(schemas)
-}
-
-/// The answer of `check_texts`, or the one call by call. `check_texts` writes no texts: of those accepted the row's
-/// first line is wanted.
+/// Judges the answer of `check_texts`, or the one call by call. `check_texts` writes no texts: of those accepted the
+/// row's first line is wanted.
 fn judge_call(
     alloc: Global,
     case: Case<'_>,
     call: &str,
-    given: Texts<'_>,
+    way: Way<'_>,
     tally: &mut Tally,
 ) -> Result<(), Problem> {
-    let answer = answer_by(alloc, case, call, given)?;
+    let way = Way { call, ..way };
+    push_answer(alloc, case, way, &mut tally.answer)?;
     let out = if call == "calls" {
         case.out
     } else {
         first_line(case.out)
     };
-    let wanted = Case { out, ..case };
-    compare(alloc, wanted, way_of(call, given), &answer, tally)
+    compare(Case { out, ..case }, way, tally)
 }
 
-/// What `check_texts` answers, or the calls.
-fn answer_by(
+/// Adds what `check_texts` answers, or the calls.
+fn push_answer(
     alloc: Global,
     case: Case<'_>,
-    call: &str,
-    given: Texts<'_>,
-) -> Result<Answer, Problem> {
-    let document = text_of(case, given.document)?;
-    let schemas = schemas_of(alloc, case, given.schemas)?;
-    let answer = if call == "calls" {
-        by_calls(alloc, &schemas, document, given.nesting)
+    way: Way<'_>,
+    answer: &mut Answer,
+) -> Result<(), Problem> {
+    let document = text_of(case, way.document)?;
+    let mut schemas = Vec::new(alloc);
+    push_schemas(case, &mut schemas)?;
+    let pushed = if way.call == "calls" {
+        push_calls(alloc, &schemas, document, way.nesting, answer)
     } else {
-        by_check_texts(alloc, &schemas, document, given.nesting)
+        push_check_texts(alloc, &schemas, document, way.nesting, answer)
     };
-    Ok(answer?)
+    Ok(pushed?)
+}
+
+/// Adds the row's schema texts, which must be UTF-8.
+fn push_schemas<'a>(case: Case<'a>, schemas: &mut Vec<&'a str>) -> Result<(), Problem> {
+    for bytes in &case.given.schemas {
+        schemas.push(text_of(case, bytes)?)?;
+    }
+    Ok(())
 }
 
 /// The first line of an output that begins with `accepted`, and every other output whole.

@@ -4,33 +4,35 @@
 
 mod by_calls;
 mod by_run;
+mod by_schema;
 mod by_texts;
 mod calls;
 mod rule_given;
 mod rule_schemas;
 mod rule_uses;
 
+use crate::by_schema::by_schema;
 use crate::by_texts::by_texts;
 use crate::calls::call_of;
-use crate::rule_schemas::by_rules;
-use crate::rule_uses::by_use;
-use graphql_row_files::{Case, Field, Problem, Row, Tally, fields_of, output, rows_of};
-use graphql_schema_rows::{
-    by_coordinate, by_document, by_field_set, by_layouts, by_print, by_read, by_schema, by_writable,
-};
+use graphql_row_files::{Case, Field, Given, Problem, Row, Tally, fields_of, rows_of};
+use graphql_schema_rows::{by_layouts, by_read, by_tree};
 use std::alloc::Global;
 use std::fs;
 use std::process::ExitCode;
 
 /// Judges the row.
 fn judge_row(alloc: Global, file: &str, row: Row<'_>, tally: &mut Tally) -> Result<(), Problem> {
+    let call = call_of(row)?;
     let status = row.needed("status")?.value;
-    let out = output(alloc, row)?;
+    let mut given = Given::new(alloc);
+    given.add(alloc, row)?;
     let case = Case {
         file,
         row,
+        call,
+        given: &given,
         status,
-        out: out.as_slice(),
+        out: given.out.as_slice(),
     };
     judge_case(alloc, case, tally)
 }
@@ -38,7 +40,7 @@ fn judge_row(alloc: Global, file: &str, row: Row<'_>, tally: &mut Tally) -> Resu
 /// Judges what the row wants, which must be some answer.
 fn judge_case(alloc: Global, case: Case<'_>, tally: &mut Tally) -> Result<(), Problem> {
     let answers = tally.answers;
-    by_call(alloc, case, call_of(case.row)?, tally)?;
+    by_call(alloc, case, tally)?;
     if tally.answers == answers {
         return Err(case.row.head.problem("the row asks for no answer"));
     }
@@ -47,25 +49,15 @@ fn judge_case(alloc: Global, case: Case<'_>, tally: &mut Tally) -> Result<(), Pr
 }
 
 /// Judges the row by its call.
-fn by_call(alloc: Global, case: Case<'_>, call: &str, tally: &mut Tally) -> Result<(), Problem> {
-    match call {
-        "print" => by_print(alloc, case, tally),
-        "writable" => by_writable(alloc, case, tally),
-        "layouts" => by_layouts(alloc, case, tally),
-        "coordinate" => by_coordinate(alloc, case, tally),
-        "schema" | "orphans" => by_schema(alloc, case, call, tally),
-        "document" | "written" | "fields" | "all_fields" | "root_fields" | "introspection" => {
-            by_document(alloc, case, call, tally)
-        }
-        "field_set" => by_field_set(alloc, case, tally),
-        "rules" | "kept" => by_rules(alloc, case, call, tally),
-        "value" | "directives" | "arguments" | "usage" | "covariant" => {
-            by_use(alloc, case, call, tally)
-        }
+fn by_call(alloc: Global, case: Case<'_>, tally: &mut Tally) -> Result<(), Problem> {
+    match case.call {
+        "check_texts" | "calls" | "run" | "all" => by_texts(alloc, case, tally),
         "parse_document" | "parse_type" | "parse_selections" | "next_token" => {
-            by_read(alloc, case, call, tally)
+            by_read(alloc, case, tally)
         }
-        _ => by_texts(alloc, case, call, tally),
+        "print" | "writable" => by_tree(alloc, case, tally),
+        "layouts" => by_layouts(alloc, case, tally),
+        _ => by_schema(alloc, case, tally),
     }
 }
 

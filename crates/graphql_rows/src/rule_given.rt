@@ -6,14 +6,13 @@ use graphql_literals::Type;
 use graphql_names::{FileId, Node};
 use graphql_operations::{OperationDefinition, Selection};
 use graphql_read::parse_type;
-use graphql_read_rows::text_of;
-use graphql_row_files::{Case, Problem, bytes_of};
+use graphql_row_files::{Case, Problem};
 use graphql_schema::Schema;
 use std::alloc::Global;
 
 /// The type that is written so.
-pub(crate) fn type_of(alloc: Global, case: Case<'_>, text: &[u8]) -> Result<Type, Problem> {
-    match parse_type(alloc, text_of(case, text)?, FileId(1), 500) {
+pub(crate) fn type_of(alloc: Global, case: Case<'_>, text: &str) -> Result<Type, Problem> {
+    match parse_type(alloc, text, FileId(1), 500) {
         Ok(ty) => Ok(ty),
         Err(_) => Err(case.row.head.problem("a text of this call is not read")),
     }
@@ -21,8 +20,7 @@ pub(crate) fn type_of(alloc: Global, case: Case<'_>, text: &[u8]) -> Result<Type
 
 /// The row's type.
 pub(crate) fn row_type(alloc: Global, case: Case<'_>) -> Result<Type, Problem> {
-    let text = bytes_of(alloc, case.row.needed("type")?)?;
-    type_of(alloc, case, &text)
+    type_of(alloc, case, case.row.needed("type")?.value)
 }
 
 /// The nineteen locations (section 3.13).

@@ -1,13 +1,30 @@
-//! Builders with a row's settings and texts.
+//! Schemas of a row's texts, by a builder with the row's settings.
 
-use graphql_names::FileId;
+use graphql_names::{FileId, SourceSpan};
 use graphql_read_rows::document_of;
-use graphql_row_files::{Case, Problem, number, says, texts};
-use graphql_schema::{BuilderRefusal, Extensions, Schema, SchemaBuilder};
+use graphql_row_files::{Answer, Case, Problem, number, says};
+use graphql_schema::{BuildError, BuilderRefusal, Extensions, Schema, SchemaBuilder};
 use std::alloc::{AllocError, Global};
 
+/// A schema, and the faults of its texts.
+pub type Built = (Schema, Vec<(Option<SourceSpan>, BuildError)>);
+
+/// What the row's schema texts build. Where the builder refuses that, the status tells why. Of `orphans` the answer has
+/// the names that have an extension and no definition.
+pub fn build(alloc: Global, case: Case<'_>, answer: &mut Answer) -> Result<Option<Built>, Problem> {
+    let mut builder = builder_of(alloc, case)?;
+    add_texts(alloc, case, &mut builder, answer)?;
+    match builder.build() {
+        Ok(built) => Ok(Some(built)),
+        Err(refusal) => {
+            push_refusal(refusal, &mut answer.status)?;
+            Ok(None)
+        }
+    }
+}
+
 /// A builder with the row's settings.
-pub(crate) fn builder_of(alloc: Global, case: Case<'_>) -> Result<SchemaBuilder, Problem> {
+fn builder_of(alloc: Global, case: Case<'_>) -> Result<SchemaBuilder, Problem> {
     let extensions = extensions_of(case)?;
     let adopts = says(case.row, "adopt", "yes")?;
     let ignores = says(case.row, "ignore", "yes")?;
@@ -42,71 +59,50 @@ fn ignoring(builder: SchemaBuilder, is_so: bool) -> SchemaBuilder {
     }
 }
 
-/// The status of a builder that refuses a text, or nothing.
-pub(crate) type Added = Result<Option<&'static str>, Problem>;
-
-/// Adds the row's schema texts, numbered from 1, which must be read, and tells the names that then have an extension and
-/// no definition.
-pub(crate) fn add_texts(
+/// Adds the row's schema texts, numbered from 1, which must be read, and tells what the answer has of them.
+fn add_texts(
     alloc: Global,
     case: Case<'_>,
     builder: &mut SchemaBuilder,
-    orphans: &mut String,
-) -> Added {
+    answer: &mut Answer,
+) -> Result<(), Problem> {
     let mut file = 1;
-    for text in &texts(alloc, case.row, "schema")? {
-        let refusal = add_text(alloc, case, text, FileId(file), builder)?;
-        if refusal.is_some() {
-            return Ok(refusal);
-        }
+    for text in &case.given.schemas {
+        add_text(alloc, case, text, FileId(file), builder, &mut answer.status)?;
         file = file.wrapping_add(1);
     }
-    push_orphans(builder, orphans)?;
-    Ok(None)
+    if case.call == "orphans" {
+        push_orphans(builder, &mut answer.text)?;
+    }
+    Ok(())
 }
 
-/// Adds a schema text.
+/// Adds a schema text. Where the builder refuses it, the status tells why.
 fn add_text(
     alloc: Global,
     case: Case<'_>,
     text: &[u8],
     file: FileId,
     builder: &mut SchemaBuilder,
-) -> Added {
-    match document_of(alloc, case, text, file) {
-        Ok(document) => Ok(refusal_of(builder.add_ast(&document))),
-        Err(problem) => Err(problem),
+    status: &mut String,
+) -> Result<(), Problem> {
+    let document = document_of(alloc, case, text, file)?;
+    if let Err(refusal) = builder.add_ast(&document) {
+        push_refusal(refusal, status)?;
     }
+    Ok(())
 }
 
-/// The schema of the row's texts, whatever its faults are.
-pub fn built(alloc: Global, case: Case<'_>) -> Result<Schema, Problem> {
-    let mut orphans = String::new(alloc);
-    let mut builder = builder_of(alloc, case)?;
-    let added = add_texts(alloc, case, &mut builder, &mut orphans);
-    let built = builder.build();
-    added?;
-    match built {
-        Ok(built) => Ok(built.0),
-        Err(_) => Err(case.row.head.problem("the texts build no schema")),
+/// Tells why a builder refuses, where it is the first time.
+fn push_refusal(refusal: BuilderRefusal, status: &mut String) -> Result<(), AllocError> {
+    if !status.is_empty() {
+        return Ok(());
     }
-}
-
-/// Why a builder refuses, if it does.
-fn refusal_of(added: Result<(), BuilderRefusal>) -> Option<&'static str> {
-    match added {
-        Ok(()) => None,
-        Err(refusal) => Some(refusal_words(refusal)),
-    }
-}
-
-/// Why a builder refuses.
-pub(crate) fn refusal_words(refusal: BuilderRefusal) -> &'static str {
-    match refusal {
+    status.push_str(match refusal {
         BuilderRefusal::Memory => "4 out of memory",
         BuilderRefusal::Spent => "3 spent",
         BuilderRefusal::Failed => "4 failed",
-    }
+    })
 }
 
 /// Adds the names that have an extension and no definition, a line each.

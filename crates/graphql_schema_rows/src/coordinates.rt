@@ -1,58 +1,41 @@
-//! Rows of coordinates, and of what they name in a schema.
+//! Coordinates, and what they name in a schema.
 
-use crate::answers::judge;
-use crate::building::built;
 use crate::words::{missing_words, named_words, parse_words};
 use graphql_coords::{
     DirectiveArgumentCoordinate, DirectiveCoordinate, FieldArgumentCoordinate, SchemaCoordinate,
     SchemaCoordinateParseError, TypeAttributeCoordinate, TypeCoordinate,
 };
-use graphql_read_rows::{shown_answer, text_of};
-use graphql_row_files::{Answer, Case, Field, Problem, Tally, answer_of, texts};
+use graphql_read_rows::text_of;
+use graphql_row_files::{Answer, Case, Field, Problem};
 use graphql_schema::Schema;
 use std::alloc::{AllocError, Global};
 use std::fmt::Display;
 
-/// Judges the row: each of its inputs, read in the row's form, over the schema of its texts.
-pub fn by_coordinate(alloc: Global, case: Case<'_>, tally: &mut Tally) -> Result<(), Problem> {
-    match built(alloc, case) {
-        Ok(schema) => by_inputs(alloc, case, &schema, tally),
-        Err(problem) => Err(problem),
-    }
-}
-
-/// Judges each input of the row, which must be UTF-8.
-fn by_inputs(
+/// Adds what the input is, read in the row's form where it has one, and else what it names in the schema.
+pub fn push_coordinate(
     alloc: Global,
     case: Case<'_>,
     schema: &Schema,
-    tally: &mut Tally,
+    input: &[u8],
+    answer: &mut Answer,
 ) -> Result<(), Problem> {
-    for input in &texts(alloc, case.row, "input")? {
-        let answer = answer_by(alloc, case, schema, text_of(case, input)?)?;
-        judge(alloc, case, "coordinate", input, &answer, tally)?;
+    let text = text_of(case, input)?;
+    match case.row.one("form")? {
+        None => Ok(push_any(alloc, schema, text, answer)?),
+        Some(form) => push_form(alloc, form, text, answer),
     }
-    Ok(())
 }
 
-/// The answer to a text, in the row's form where it has one.
-fn answer_by(
+/// Adds what a coordinate of any form names, or why it names nothing, and what it prints.
+fn push_any(
     alloc: Global,
-    case: Case<'_>,
     schema: &Schema,
     text: &str,
-) -> Result<Answer, Problem> {
-    match case.row.one("form")? {
-        None => Ok(any_answer(alloc, schema, text)?),
-        Some(form) => form_answer(alloc, form, text),
-    }
-}
-
-/// A coordinate of any form: what it names, or why it names nothing, and what it prints.
-fn any_answer(alloc: Global, schema: &Schema, text: &str) -> Result<Answer, AllocError> {
+    answer: &mut Answer,
+) -> Result<(), AllocError> {
     match SchemaCoordinate::from_str(alloc, text) {
-        Ok(coordinate) => shown_answer(alloc, looked_up(&coordinate, schema), &coordinate),
-        Err(error) => answer_of(alloc, parse_words(error), ""),
+        Ok(coordinate) => answer.show(looked_up(&coordinate, schema), &coordinate),
+        Err(error) => answer.status.push_str(parse_words(error)),
     }
 }
 
@@ -64,28 +47,33 @@ fn looked_up(coordinate: &SchemaCoordinate, schema: &Schema) -> &'static str {
     }
 }
 
-/// A coordinate of one form: what it prints, or why the text is none.
-fn form_answer(alloc: Global, form: Field<'_>, text: &str) -> Result<Answer, Problem> {
-    let answer = match form.value {
-        "type" => read_answer(alloc, TypeCoordinate::from_str(alloc, text)),
-        "attribute" => read_answer(alloc, TypeAttributeCoordinate::from_str(alloc, text)),
-        "field argument" => read_answer(alloc, FieldArgumentCoordinate::from_str(alloc, text)),
-        "directive" => read_answer(alloc, DirectiveCoordinate::from_str(alloc, text)),
+/// Adds what a coordinate of one form prints, or why the text is none.
+fn push_form(
+    alloc: Global,
+    form: Field<'_>,
+    text: &str,
+    answer: &mut Answer,
+) -> Result<(), Problem> {
+    let pushed = match form.value {
+        "type" => push_read(TypeCoordinate::from_str(alloc, text), answer),
+        "attribute" => push_read(TypeAttributeCoordinate::from_str(alloc, text), answer),
+        "field argument" => push_read(FieldArgumentCoordinate::from_str(alloc, text), answer),
+        "directive" => push_read(DirectiveCoordinate::from_str(alloc, text), answer),
         "directive argument" => {
-            read_answer(alloc, DirectiveArgumentCoordinate::from_str(alloc, text))
+            push_read(DirectiveArgumentCoordinate::from_str(alloc, text), answer)
         }
         _ => return Err(form.problem("there is no such form")),
     };
-    Ok(answer?)
+    Ok(pushed?)
 }
 
-/// What a coordinate prints, or why the text is none.
-fn read_answer<T: Display + Drop>(
-    alloc: Global,
+/// Adds what a coordinate prints, or why the text is none.
+fn push_read<T: Display + Drop>(
     read: Result<T, SchemaCoordinateParseError>,
-) -> Result<Answer, AllocError> {
+    answer: &mut Answer,
+) -> Result<(), AllocError> {
     match read {
-        Ok(coordinate) => shown_answer(alloc, "0", &coordinate),
-        Err(error) => answer_of(alloc, parse_words(error), ""),
+        Ok(coordinate) => answer.show("0", &coordinate),
+        Err(error) => answer.status.push_str(parse_words(error)),
     }
 }

@@ -1,9 +1,9 @@
 //! Rows of schemas that are built and written out, of coordinates in them, and of documents that get a meaning under them,
 //! with the walks over these.
 //!
-//! For the layer above: each `by_` function judges a row of one call, and counts its answers; the others serve rows
-//! of rules. Begin with `schemas.rt` and `documents.rt`; `lines.rt` and `outline.rt` have the lines that tell what is
-//! kept of a document.
+//! For the layer above: `build` gives the schema of a row's texts, each other `push_` function adds what a call answers
+//! under it, and `judge` compares that. Begin with `building.rt`, `schemas.rt` and `documents.rt`; `lines.rt` and
+//! `outline.rt` have the lines that tell what is kept of a document.
 #![tactic(auto)]
 
 mod answers;
@@ -17,10 +17,10 @@ mod schemas;
 mod walks;
 mod words;
 
-pub use answers::push_faults;
-pub use building::built;
-pub use coordinates::by_coordinate;
-pub use documents::{by_document, first_file};
-pub use field_sets::by_field_set;
-pub use graphql_read_rows::{by_layouts, by_print, by_read, by_writable, text_of};
-pub use schemas::by_schema;
+pub use answers::{judge, push_faults};
+pub use building::{Built, build};
+pub use coordinates::push_coordinate;
+pub use documents::{push_documents, schema_under};
+pub use field_sets::push_field_set;
+pub use graphql_read_rows::{by_layouts, by_read, by_tree, text_of};
+pub use schemas::push_built;

@@ -9,9 +9,7 @@ use std::fmt::Display;
 /// `query name(variables) @directives on TYPE`, and a line feed.
 pub(crate) fn push_operation(operation: &Operation, lines: &mut String) -> Result<(), AllocError> {
     lines.push_str(operation.operation_type.name())?;
-    if let Some(name) = &operation.name {
-        push_between(" ", name, "", lines)?;
-    }
+    push_optional(" ", &operation.name, "", lines)?;
     push_list(&operation.variables, lines)?;
     push_directives(&operation.directives, lines)?;
     push_between(" on ", operation.object_type(), "\n", lines)
@@ -28,9 +26,7 @@ pub(crate) fn push_fragment(fragment: &Fragment, lines: &mut String) -> Result<(
 /// `alias: name(arguments) @directives by DEFINITION` behind this, and a line feed.
 pub(crate) fn push_field(front: &str, field: &Field, lines: &mut String) -> Result<(), AllocError> {
     lines.push_str(front)?;
-    if let Some(alias) = &field.alias {
-        push_between("", alias, ": ", lines)?;
-    }
+    push_optional("", &field.alias, ": ", lines)?;
     lines.push_str(field.name.as_str())?;
     push_list(&field.arguments, lines)?;
     push_directives(&field.directives, lines)?;
@@ -47,15 +43,13 @@ pub(crate) fn push_spread(spread: &FragmentSpread, lines: &mut String) -> Result
 /// `... on CONDITION @directives in TYPE`, and a line feed.
 pub(crate) fn push_inline(inline: &InlineFragment, lines: &mut String) -> Result<(), AllocError> {
     lines.push_str("...")?;
-    if let Some(condition) = &inline.type_condition {
-        push_between(" on ", condition, "", lines)?;
-    }
+    push_optional(" on ", &inline.type_condition, "", lines)?;
     push_directives(&inline.directives, lines)?;
     push_between(" in ", &inline.selection_set.ty, "\n", lines)
 }
 
 /// Adds the name between these.
-pub(crate) fn push_between(
+fn push_between(
     front: &str,
     name: &Name,
     back: &str,
@@ -64,6 +58,19 @@ pub(crate) fn push_between(
     lines.push_str(front)?;
     lines.push_str(name.as_str())?;
     lines.push_str(back)
+}
+
+/// Adds the name between these, where there is one.
+fn push_optional(
+    front: &str,
+    name: &Option<Name>,
+    back: &str,
+    lines: &mut String,
+) -> Result<(), AllocError> {
+    match name {
+        Some(name) => push_between(front, name, back, lines),
+        None => Ok(()),
+    }
 }
 
 /// Adds what is shown in parentheses, with a comma between each two, or nothing where there is nothing.

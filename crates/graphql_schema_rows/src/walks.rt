@@ -10,7 +10,7 @@ use std::alloc::{AllocError, Global};
 
 /// Adds what the call tells of the document: what is written, or of each operation, and of each fragment that is kept,
 /// in order, behind a line of its own.
-pub(crate) fn push_document(
+pub(crate) fn push_kept(
     alloc: Global,
     call: &str,
     document: &ExecutableDocument,
