@@ -12,27 +12,23 @@ use Rattle.graphql_cycles.specs.Graph.{references, RefersTo, LeadsTo, is_directi
 use Rattle.graphql_cycles.specs.Steps.{via_at}
 use Rattle.graphql_cycles.specs.Spread.{IsTree}
 use Rattle.graphql_cycles.specs.Ways.{Goes}
+use Rattle.graphql_cycles.specs.Depths.{Chain, Apart}
 use Rattle.graphql_cycles.proofs.Members.{reverse-cons, in_reverse, contains_or_not}
 
 -- ---- each leads to the next
 
 module _ (R : ℕ → ℕ → Type 0) where
-  abbrev pub Chain : List ℕ → Type 0
-  Chain [] = Unit {0}
-  Chain (x ∷ []) = Unit {0}
-  Chain (x ∷ y ∷ rest) = R x y × Chain (y ∷ rest)
-
-  pub Chain-front : (front : List ℕ) (m : ℕ) (rest : List ℕ) → Chain (front ++ m ∷ rest) → Chain (front ++ m ∷ [])
+  pub Chain-front : (front : List ℕ) (m : ℕ) (rest : List ℕ) → Chain R (front ++ m ∷ rest) → Chain R (front ++ m ∷ [])
   Chain-front [] m rest c = tt
   Chain-front (x ∷ []) m rest c = (c.0, tt)
   Chain-front (x ∷ y ∷ front) m rest c = (c.0, Chain-front (y ∷ front) m rest c.1)
 
-  pub Chain-drop : (front : List ℕ) (m : ℕ) → Chain (front ++ m ∷ []) → Chain front
+  pub Chain-drop : (front : List ℕ) (m : ℕ) → Chain R (front ++ m ∷ []) → Chain R front
   Chain-drop [] m c = tt
   Chain-drop (x ∷ []) m c = tt
   Chain-drop (x ∷ y ∷ front) m c = (c.0, Chain-drop (y ∷ front) m c.1)
 
-  pub Chain-join : (front : List ℕ) (m : ℕ) (rest : List ℕ) → Chain (front ++ m ∷ []) → Chain (m ∷ rest) → Chain (front ++ m ∷ rest)
+  pub Chain-join : (front : List ℕ) (m : ℕ) (rest : List ℕ) → Chain R (front ++ m ∷ []) → Chain R (m ∷ rest) → Chain R (front ++ m ∷ rest)
   Chain-join [] m rest c d = d
   Chain-join (x ∷ []) m rest c d = (c.0, d)
   Chain-join (x ∷ y ∷ front) m rest c d = (c.0, Chain-join (y ∷ front) m rest c.1 d)
@@ -60,10 +56,6 @@ module _ (g : Graph) where
   LeadsTo-chain x (z ∷ xs) y c = (z, ((c.0, refl), LeadsTo-chain z xs y c.1))
 
 -- ---- no repetition
-
-abbrev pub Apart : List ℕ → Type 0
-Apart [] = Unit {0}
-Apart (x ∷ xs) = (Contains xs x → ⊥) × Apart xs
 
 pub HasNoRepeat-apart : (xs : List ℕ) → Apart xs → HasNoRepeat xs
 HasNoRepeat-apart [] a i j x h k = absurd cc

@@ -6,3 +6,4 @@ pub mod Members
 pub mod Chains
 pub mod Rounds
 pub mod Parting
+pub mod Counting

@@ -12,7 +12,8 @@ use Rattle.graphql_cycles.specs.Graph.{references, is_directive, is_type, IsWayB
 use Rattle.graphql_cycles.specs.Spread.{IsTree}
 use Rattle.graphql_cycles.specs.Ways.{Goes, Follows, Joins}
 use Rattle.graphql_cycles.proofs.Members.{reverse-cons, in_reverse, split_at}
-use Rattle.graphql_cycles.proofs.Chains.{Chain, Chain-front, Chain-drop, Chain-join, Chain-reverse, Refers, IsWay-chain, LeadsTo-chain, Apart, HasNoRepeat-apart, Apart-front, Apart-not, Apart-append, Apart-reverse, Goes-out, Goes-head, Goes-chain, Goes-in, Goes-apart, Goes-meets, count_both}
+use Rattle.graphql_cycles.specs.Depths.{Chain, Apart}
+use Rattle.graphql_cycles.proofs.Chains.{Chain-front, Chain-drop, Chain-join, Chain-reverse, Refers, IsWay-chain, LeadsTo-chain, HasNoRepeat-apart, Apart-front, Apart-not, Apart-append, Apart-reverse, Goes-out, Goes-head, Goes-chain, Goes-in, Goes-apart, Goes-meets, count_both}
 
 module _ (g : Graph) (root : ℕ) where
   pub deep_count : (way rest : List ℕ) → way ≡ root ∷ rest → Chain (Refers g) way → Apart way → ((32 < count_by (is_directive g) way) ⊎ (32 < count_by (is_type g) way)) → IsDeep g root

@@ -21,7 +21,7 @@ slice_get-set_cases (x ∷ xs) (suc i) y (suc n) h = elim (slice_get-set_cases x
 -- the steps after one is written
 pub set_cases : (steps : List Step) (i c v n : ℕ) → i < length steps
     → ((n ≡ i) × (IsIn (set steps i (record { center = c; via = v })) c n × (via_at (set steps i (record { center = c; via = v })) n ≡ v)))
-        ⊎ ((n ≡ i → ⊥) × (slice_get (set steps i (record { center = c; via = v })) n ≡ slice_get steps n))
+    ⊎ ((n ≡ i → ⊥) × (slice_get (set steps i (record { center = c; via = v })) n ≡ slice_get steps n))
 set_cases steps i c v n h = elim (slice_get-set_cases steps i (record { center = c; via = v }) n h) [
   | inl s ↦ inl (s.0, (ap (λ o. option_map_or (λ (x : Step). x.center == c) o false) s.1 ∙ eq-eqb c c refl, ap (λ o. option_map_or (λ (x : Step). x.via) o n) s.1))
   | inr s ↦ inr s

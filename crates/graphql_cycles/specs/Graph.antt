@@ -1,5 +1,5 @@
 -- Graphs whose nodes are numbers: what each refers to, and ways along the references.
-use Rattle.std.specs.Prelude.{◌≡◌, ℕ, ◌<◌, Bool, not, List, [], ◌∷◌, Contains, slice_get, nat_lt, count_by, ◌⊎◌, Vec}
+use Rattle.std.specs.Prelude.{◌≡◌, ℕ, ◌<◌, Bool, true, false, not, List, [], ◌∷◌, Contains, slice_get, nat_lt, count_by, ◌⊎◌, Vec}
 use Rattle.std.specs.Global.{Global}
 use Rattle.std.specs.Option.{option_map_or}
 use Rattle.graphql_cycles.specs.declared.graph.Graph.{Graph}
@@ -23,6 +23,11 @@ is_directive g n = nat_lt n g.directives
 
 abbrev pub is_type : Graph → ℕ → Bool
 is_type g n = not (nat_lt n g.directives)
+
+-- a directive, or a type
+abbrev pub is_of : Graph → Bool → ℕ → Bool
+is_of g true n = is_directive g n
+is_of g false n = is_type g n
 
 -- these references lead from the root back to it
 abbrev pub IsWayBack : Graph → ℕ → List ℕ → Type 0

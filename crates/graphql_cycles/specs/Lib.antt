@@ -6,3 +6,4 @@ pub mod Order
 pub mod Parts
 pub mod Ways
 pub mod Found
+pub mod Depths

@@ -1,12 +1,14 @@
 //! What is found of the roots.
-ghost use Rattle.std.specs.Prelude.{◌≡◌, ◌<◌, ℕ, true, false, count_by, Contains, MatchOption, IfOk, ◌⊎◌};
-ghost use Rattle.graphql_cycles.specs.Graph.{references, is_directive, is_type};
+ghost use Rattle.std.specs.Prelude.{◌≡◌, ◌<◌, ℕ, true, false, count_by, Contains, MatchOption, IfOk, ◌⊎◌, slice_get, Some};
+ghost use Rattle.graphql_cycles.specs.Graph.{references, is_directive, is_type, IsDeep};
 ghost use Rattle.graphql_cycles.specs.Steps.{is_in};
 ghost use Rattle.graphql_cycles.specs.Referrers.{AreReferrers};
 ghost use Rattle.graphql_cycles.specs.Parts.{IsWhole};
 ghost use Rattle.graphql_cycles.specs.Found.{Finds, AreFound};
 
+use crate::depths::{BOUND, find_depths};
 use crate::graph::{Graph, listed};
+use crate::order::finishing_order;
 use crate::parts::{Parts, find_parts};
 use crate::referrers::referrers;
 use crate::steps::{Step, is_in};
@@ -23,9 +25,6 @@ pub enum Found {
     /// A way from it holds more than 32 directives, or more than 32 types.
     Deep,
 }
-
-/// The most directives, or types, on a way.
-const BOUND: usize = 32;
 
 /// Whether the way holds more directives, or more types, than the bound.
 fn is_long(graph: &Graph, way: &[usize]) -> bool
@@ -81,24 +80,38 @@ fn way_round(
     Ok(Found::WayBack(ahead))
 }
 
-/// What is found of a root: a way back is one over a node of its own part that refers to it.
+/// What is found of a root: a way back is one over a node of its own part that refers to it. Where there is none, some
+/// other way from it may be too long.
 fn look_back(
     alloc: Global,
     graph: &Graph,
     referrers: &[Vec<usize>],
     parts: &Parts,
     root: usize,
+    is_deep: bool,
 ) -> Result<Found, AllocError>
     requires referrers { AreReferrers graph.now.references.items referrers.now }
     requires whole { IsWhole graph.now parts.now.toward.items parts.now.from.items }
+    requires deep { is_deep ≡ true → IsDeep graph.now root }
     ensures { IfOk result (λ found. Finds graph.now root found) }
 {
     let Some(step) = parts.from.get(root) else {
         return Ok(Found::Nothing);
     };
     match first_in(&parts.from, step.center, listed(referrers, root)) {
+        None if is_deep => Ok(Found::Deep),
         None => Ok(Found::Nothing),
         Some(last) => way_round(alloc, graph, parts, step.center, root, last),
+    }
+}
+
+/// Whether the ways from a node were counted beyond the bound.
+fn is_beyond(depths: &[usize], node: usize) -> bool
+    ensures { result ≡ true → (n : ℕ) × ((slice_get depths.now node ≡ Some n) × (32 < n)) }
+{
+    match depths.get(node) {
+        Some(depth) => *depth > BOUND,
+        None => false,
     }
 }
 
@@ -109,10 +122,15 @@ pub fn ways_back(alloc: Global, graph: &Graph) -> Result<Vec<Found>, AllocError>
     ensures { IfOk result (λ all. AreFound graph.now all.items) }
 {
     let referrers = referrers(alloc, &graph.references)?;
-    let parts = find_parts(alloc, graph, &referrers)?;
+    let order = finishing_order(alloc, &graph.references)?;
+    let parts = find_parts(alloc, graph, &referrers, &order)?;
+    let directives = find_depths(alloc, graph, &parts, &order, true)?;
+    let types = find_depths(alloc, graph, &parts, &order, false)?;
     let mut all = Vec::new(alloc);
     for root in 0..graph.roots {
-        all.push(look_back(alloc, graph, &referrers, &parts, root)?)?;
+        let is_deep = is_beyond(&directives, root) || is_beyond(&types, root);
+        let found = look_back(alloc, graph, &referrers, &parts, root, is_deep)?;
+        all.push(found)?;
     }
     Ok(all)
 }

@@ -8,6 +8,7 @@
 //! Begin with `graph.rt` and `parts.rt`.
 #![tactic(auto)]
 
+mod depths;
 mod found;
 mod graph;
 mod order;

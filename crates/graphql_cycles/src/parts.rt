@@ -4,7 +4,6 @@ ghost use Rattle.graphql_cycles.specs.Referrers.{AreReferrers};
 ghost use Rattle.graphql_cycles.specs.Parts.{IsParted, IsWhole, Settles};
 
 use crate::graph::Graph;
-use crate::order::finishing_order;
 use crate::spread::spread;
 use crate::steps::{Step, is_in};
 use std::alloc::{AllocError, Global};
@@ -51,18 +50,18 @@ fn no_steps(alloc: Global, nodes: usize) -> Result<Vec<Step>, AllocError>
     Ok(steps)
 }
 
-/// Settles all nodes: first in an order in which what leads to a node is no more than its part, so that each reference
-/// is gone along a few times in all.
+/// Settles all nodes, first as the order has them, last to first. Where that is an order in which a search into depth
+/// leaves them, what leads to a node is no more than its part, so that each reference is gone along a few times in all.
 pub(crate) fn find_parts(
     alloc: Global,
     graph: &Graph,
     referrers: &[Vec<usize>],
+    order: &[usize],
 ) -> Result<Parts, AllocError>
     requires { AreReferrers graph.now.references.items referrers.now }
     ensures { IfOk result (λ parts. IsWhole graph.now parts.toward.items parts.from.items) }
 {
     let nodes = graph.references.len();
-    let order = finishing_order(alloc, &graph.references)?;
     let mut toward = no_steps(alloc, nodes)?;
     let mut from = no_steps(alloc, nodes)?;
     for node in order.iter().rev() {

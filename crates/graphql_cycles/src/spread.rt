@@ -54,7 +54,15 @@ pub(crate) fn spread(
     let mut at = 0;
     while at < reached.len() {
         let node = reached[at];
-        reach(listed(lists, node), area, key, center, node, steps, &mut reached)?;
+        reach(
+            listed(lists, node),
+            area,
+            key,
+            center,
+            node,
+            steps,
+            &mut reached,
+        )?;
         at += 1;
     }
     Ok(())

@@ -6,7 +6,8 @@ use Rattle.graphql_cycles.specs.Graph.{IsWayBack, is_directive, is_type}
 use Rattle.graphql_cycles.specs.Parts.{IsPart}
 use Rattle.graphql_cycles.specs.Ways.{Follows, Joins}
 use Rattle.graphql_cycles.proofs.Parting.{part_of}
-use Rattle.graphql_cycles.proofs.Chains.{Chain, Chain-drop, Refers}
+use Rattle.graphql_cycles.specs.Depths.{Chain}
+use Rattle.graphql_cycles.proofs.Chains.{Chain-drop, Refers}
 use Rattle.graphql_cycles.proofs.Rounds.{no_ahead, not_behind, joined, deep_count, way_back_of}
 use Rattle.graphql_cycles.proofs.found.way_round.Goals as goal
 

@@ -30,10 +30,10 @@ returns c =
     let first = subst (λ k. Spreads c.args.referrers.now c.args.from.now k c.args.node c.args.toward.now c.spread.new.steps) n c.in_ok-spread.ensures in
     on_ok_weaker c.spread-2.result
     (λ s.
-        let second = subst (λ l. Spreads l c.spread.new.steps c.args.node c.args.node c.args.from.now c.spread-2.new.steps) c.deref.ensures.value s in
-        record {
-          parted = settles g c.args.referrers.now c.requires.referrers c.args.toward.now c.args.from.now c.requires.parted c.args.node live c.spread.new.steps c.spread-2.new.steps first second;
-          settled = settled_now g c.args.referrers.now c.requires.referrers c.args.toward.now c.args.from.now c.requires.parted c.args.node live c.spread.new.steps c.spread-2.new.steps first second;
-          kept = settled_still g c.args.referrers.now c.requires.referrers c.args.toward.now c.args.from.now c.requires.parted c.args.node live c.spread.new.steps c.spread-2.new.steps first second;
-        })
+    let second = subst (λ l. Spreads l c.spread.new.steps c.args.node c.args.node c.args.from.now c.spread-2.new.steps) c.deref.ensures.value s in
+    record {
+      parted = settles g c.args.referrers.now c.requires.referrers c.args.toward.now c.args.from.now c.requires.parted c.args.node live c.spread.new.steps c.spread-2.new.steps first second;
+      settled = settled_now g c.args.referrers.now c.requires.referrers c.args.toward.now c.args.from.now c.requires.parted c.args.node live c.spread.new.steps c.spread-2.new.steps first second;
+      kept = settled_still g c.args.referrers.now c.requires.referrers c.args.toward.now c.args.from.now c.requires.parted c.args.node live c.spread.new.steps c.spread-2.new.steps first second;
+    })
     c.spread-2.ensures

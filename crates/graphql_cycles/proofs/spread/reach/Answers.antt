@@ -16,9 +16,9 @@ loop-next-preserved c =
     let with_it : List ℕ = take (c.loop-next.next-index + 1) c.args.targets.now in
     let more : with_it ≡ before ++ next ∷ [] = take_more c.args.targets.now c.loop-next.next-index 0 (omega arith) in
     let pass = λ (passed : IsIn c.args.area.now c.args.key next → IsIn c.loop-next.steps c.args.center next) (same : c.if-is_in.steps ≡ c.loop-next.steps) (also : c.if-is_in.reached.items ≡ c.loop-next.reached.items).
-        subst (λ (l : List Step). Reaches c.args.area.now c.args.key c.args.center c.args.node with_it c.args.steps.now l c.args.reached.now.items c.if-is_in.reached.items) (sym same)
-        (subst (Reaches c.args.area.now c.args.key c.args.center c.args.node with_it c.args.steps.now c.loop-next.steps c.args.reached.now.items) (sym also)
-        (Reaches-pass c.args.area.now c.args.key c.args.center c.args.node before with_it next more c.args.steps.now c.loop-next.steps c.args.reached.now.items c.loop-next.reached.items i passed)) in
+    subst (λ (l : List Step). Reaches c.args.area.now c.args.key c.args.center c.args.node with_it c.args.steps.now l c.args.reached.now.items c.if-is_in.reached.items) (sym same)
+    (subst (Reaches c.args.area.now c.args.key c.args.center c.args.node with_it c.args.steps.now c.loop-next.steps c.args.reached.now.items) (sym also)
+    (Reaches-pass c.args.area.now c.args.key c.args.center c.args.node before with_it next more c.args.steps.now c.loop-next.steps c.args.reached.now.items c.loop-next.reached.items i passed)) in
     elim c.if-is_in.branch [
       | then-is_in+then-not-is_in+in_ok-push w ↦
           let inside : IsIn c.args.area.now c.args.key next = sym c.is_in.ensures ∙ w.if-is_in.true in
