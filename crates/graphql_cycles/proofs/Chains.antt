@@ -1,14 +1,14 @@
 -- Ways as lists of nodes.
-use Rattle.std.proofs.Common.{◌≡◌, ℕ, ◌<◌, ◌≤◌, ◌+◌, ◌==◌, ◌⊎◌, Bool, true, false, not, cond, List, [], ◌∷◌, ◌++◌, length, reverse, Some, refl, sym, ap, subst, ◌∙◌, inl, inr, zero, suc, arith, append_assoc}
-use Rattle.std.specs.Prelude.{Contains, slice_get, count_by}
-use Rattle.std.proofs.lemmas.List.{append-nil, length-append, length-reverse}
+use Rattle.std.proofs.Common.{◌≡◌, ℕ, ◌<◌, ◌≤◌, ◌+◌, Bool, true, false, not, cond, List, [], ◌∷◌, ◌++◌, length, reverse, refl, sym, ap, subst, ◌∙◌, inl, inr, zero, suc, arith, append_assoc}
+use Rattle.std.specs.Prelude.{Contains, count_by}
+use Rattle.std.proofs.lemmas.List.{append-nil}
 use Rattle.std.proofs.lemmas.List.Elements.{Contains-append_left, Contains-append_right, Contains-append_cases}
 use Rattle.std.proofs.lemmas.List.Sums.{sum_by-append}
 use Rattle.graphql_rule_definitions.specs.Cycles.{IsWay, HasNoRepeat}
 use Rattle.graphql_rule_definitions.proofs.Lists.{Contains-cons, Contains-first, not_in_nil, only, index_given}
 use Rattle.graphql_cycles.specs.declared.graph.Graph.{Graph}
 use Rattle.graphql_cycles.specs.declared.steps.Step.{Step}
-use Rattle.graphql_cycles.specs.Graph.{references, RefersTo, LeadsTo, is_directive, is_type, IsDeep}
+use Rattle.graphql_cycles.specs.Graph.{references, RefersTo, LeadsTo}
 use Rattle.graphql_cycles.specs.Steps.{via_at}
 use Rattle.graphql_cycles.specs.Spread.{IsTree}
 use Rattle.graphql_cycles.specs.Ways.{Goes}

@@ -1,5 +1,5 @@
 -- How deep nodes are.
-use Rattle.std.proofs.Common.{◌≡◌, ℕ, ◌<◌, ◌≤◌, ◌+◌, ◌⊎◌, Bool, true, false, not, cond, List, [], ◌∷◌, ◌++◌, length, get_or, set, Some, refl, sym, ap, subst, ◌∙◌, inl, inr, zero, suc, true≢false, arith}
+use Rattle.std.proofs.Common.{◌≡◌, ℕ, ◌<◌, ◌≤◌, ◌+◌, ◌⊎◌, Bool, true, false, not, cond, List, [], ◌∷◌, ◌++◌, length, get_or, set, Some, refl, sym, subst, ◌∙◌, inl, inr, zero, suc, true≢false, arith}
 use Rattle.std.specs.Prelude.{slice_get, Contains, count_by}
 use Rattle.std.proofs.lemmas.Option.{slice_get-get_or, same_Some}
 use Rattle.std.proofs.lemmas.List.Sums.{sum_by-append}
@@ -9,7 +9,7 @@ use Rattle.graphql_cycles.specs.declared.steps.Step.{Step}
 use Rattle.graphql_cycles.specs.Graph.{references, LeadsTo, is_directive, is_of, IsDeep}
 use Rattle.graphql_cycles.specs.Steps.{is_in, IsIn}
 use Rattle.graphql_cycles.specs.Parts.{IsWhole}
-use Rattle.graphql_cycles.specs.Depths.{Chain, Apart, HasWay, AreCounted}
+use Rattle.graphql_cycles.specs.Depths.{Chain, HasWay, AreCounted}
 use Rattle.graphql_cycles.proofs.Sets.{slice_get-set_cases}
 use Rattle.graphql_cycles.proofs.Parting.{part_of}
 use Rattle.graphql_cycles.proofs.Chains.{Refers}

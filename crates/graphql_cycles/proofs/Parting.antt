@@ -1,6 +1,6 @@
 -- A part more.
-use Rattle.std.proofs.Common.{◌≡◌, ℕ, ◌<◌, ◌≤◌, ◌+◌, ◌⊎◌, Bool, true, false, List, [], ◌∷◌, ◌++◌, length, get_or, ◌==◌, Option, None, Some, refl, sym, ap, subst, ◌∙◌, inl, inr, zero, suc, true≢false, arith}
-use Rattle.std.specs.Prelude.{slice_get, Contains, Vec, replicate}
+use Rattle.std.proofs.Common.{◌≡◌, ℕ, ◌<◌, ◌≤◌, ◌+◌, ◌⊎◌, false, List, [], ◌∷◌, ◌++◌, length, get_or, ◌==◌, Some, refl, sym, ap, subst, ◌∙◌, inl, inr, zero, suc, true≢false, arith}
+use Rattle.std.specs.Prelude.{Contains, Vec, replicate}
 use Rattle.std.proofs.lemmas.List.{length-replicate}
 use Rattle.std.specs.Global.{Global}
 use Rattle.std.specs.Option.{option_map_or}

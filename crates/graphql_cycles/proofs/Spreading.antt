@@ -2,14 +2,14 @@
 use Rattle.std.proofs.Common.{◌≡◌, ℕ, ◌<◌, ◌≤◌, ◌+◌, ◌⊎◌, Bool, true, false, cond, List, [], ◌∷◌, ◌++◌, length, get_or, set, drop, refl, sym, ap, subst, ◌∙◌, inl, inr, suc, true≢false, arith, append_assoc}
 use Rattle.std.specs.Prelude.{slice_get, Contains, Vec}
 use Rattle.std.specs.Global.{Global}
-use Rattle.std.proofs.lemmas.List.{length_push, length-set, length-append, drop_more, drop-append-le, drop_all, append-nil}
+use Rattle.std.proofs.lemmas.List.{length_push, length-set, length-append, drop_more, drop-append-le, drop_all}
 use Rattle.std.proofs.lemmas.List.Elements.{Contains-append_cases, Contains-append_left, Contains-append_right, Contains-push_cases, Contains-push, Contains-get_or}
 use Rattle.graphql_rule_definitions.proofs.Lists.{Contains-cons, not_in_nil, only}
 use Rattle.graphql_cycles.specs.Graph.{listed}
 use Rattle.graphql_cycles.specs.declared.steps.Step.{Step}
 use Rattle.graphql_cycles.specs.Steps.{is_in, IsIn, via_at, left}
-use Rattle.graphql_cycles.specs.Spread.{IsTree, Reaches, Spreads, Spreading}
-use Rattle.graphql_cycles.proofs.Sets.{set_cases, in_same, via_same, in_within, left_set}
+use Rattle.graphql_cycles.specs.Spread.{Reaches, Spreads, Spreading}
+use Rattle.graphql_cycles.proofs.Sets.{set_cases, in_same, via_same, left_set}
 
 pub cases_bool : (b : Bool) → (b ≡ true) ⊎ (b ≡ false)
 cases_bool true = inl refl

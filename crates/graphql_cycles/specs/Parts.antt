@@ -1,5 +1,5 @@
 -- Parts of a graph.
-use Rattle.std.specs.Prelude.{◌≡◌, ◌<◌, ℕ, false, List, Contains, length, ◌⊎◌}
+use Rattle.std.specs.Prelude.{◌≡◌, ℕ, false, List, Contains, length, ◌⊎◌}
 use Rattle.graphql_cycles.specs.declared.graph.Graph.{Graph}
 use Rattle.graphql_cycles.specs.declared.steps.Step.{Step}
 use Rattle.graphql_cycles.specs.Graph.{references, LeadsTo}

@@ -1,5 +1,5 @@
 -- What spreading from a center comes to.
-use Rattle.std.specs.Prelude.{◌≡◌, ◌<◌, ◌≤◌, ◌+◌, drop, ℕ, true, false, List, ◌++◌, Contains, slice_get, length, ◌⊎◌, Vec}
+use Rattle.std.specs.Prelude.{◌≡◌, ◌<◌, ◌≤◌, ◌+◌, drop, ℕ, false, List, ◌++◌, Contains, slice_get, length, ◌⊎◌, Vec}
 use Rattle.std.specs.Global.{Global}
 use Rattle.graphql_cycles.specs.Graph.{listed}
 use Rattle.graphql_cycles.specs.declared.steps.Step.{Step}

@@ -1,4 +1,4 @@
-use Rattle.std.proofs.Common.{◌≡◌, ℕ, ◌<◌, length, get_or, subst, sym, List}
+use Rattle.std.proofs.Common.{ℕ, get_or, subst, sym, List}
 use Rattle.graphql_cycles.specs.Graph.{is_of}
 use Rattle.graphql_cycles.specs.Depths.{AreCounted}
 use Rattle.graphql_cycles.proofs.Counting.{counted_set, of_same}

@@ -1,10 +1,9 @@
-use Rattle.std.proofs.Common.{◌≡◌, ℕ, ◌<◌, ◌+◌, Bool, true, false, cond, List, length, get_or, refl, sym, ap, subst, ◌∙◌, arith}
+use Rattle.std.proofs.Common.{◌≡◌, ℕ, ◌+◌, Bool, false, cond, List, get_or, refl, sym, ap, subst, ◌∙◌, arith}
 use Rattle.std.specs.Prelude.{Contains}
 use Rattle.std.proofs.lemmas.List.Elements.{Contains-get_or}
 use Rattle.graphql_cycles.specs.declared.steps.Step.{Step}
 use Rattle.graphql_cycles.specs.Graph.{listed, references}
 use Rattle.graphql_cycles.specs.Steps.{is_in, IsIn}
-use Rattle.graphql_cycles.specs.Depths.{HasWay, AreCounted}
 use Rattle.graphql_cycles.proofs.Parting.{in_center}
 use Rattle.graphql_cycles.proofs.Counting.{HasMost, most_at, way_more, way_less}
 use Rattle.graphql_cycles.proofs.depths.depth_of.Goals as goal

@@ -1,4 +1,4 @@
-use Rattle.std.proofs.Common.{◌≡◌, ℕ, Bool}
+use Rattle.std.proofs.Common.{ℕ, Bool}
 use Rattle.graphql_cycles.specs.Depths.{AreCounted}
 use Rattle.graphql_cycles.proofs.Counting.{HasMost}
 use Rattle.graphql_cycles.proofs.depths.depth_of.Given as goal

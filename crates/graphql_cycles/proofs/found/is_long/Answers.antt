@@ -1,8 +1,8 @@
-use Rattle.std.proofs.Common.{◌≡◌, ◌<◌, ◌-◌, inl, inr, ap, sym, ◌∙◌, arith, take, length}
+use Rattle.std.proofs.Common.{◌≡◌, ◌-◌, inr, ap, ◌∙◌, arith, length}
 use Rattle.std.specs.Prelude.{count_by}
 use Rattle.std.proofs.lemmas.List.{take_all}
 use Rattle.std.proofs.lemmas.Bool.{ltb-true}
-use Rattle.graphql_cycles.specs.Graph.{is_directive, is_type}
+use Rattle.graphql_cycles.specs.Graph.{is_directive}
 use Rattle.graphql_cycles.proofs.Chains.{count_both}
 use Rattle.graphql_cycles.proofs.found.is_long.Goals as goal
 

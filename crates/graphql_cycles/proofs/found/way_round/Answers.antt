@@ -1,9 +1,8 @@
-use Rattle.std.proofs.Common.{◌≡◌, ℕ, ◌<◌, ◌⊎◌, drop, take, List, [], ◌∷◌, ◌++◌, length, Some, None, refl, sym, ap, subst, ◌∙◌, arith}
+use Rattle.std.proofs.Common.{◌≡◌, ◌<◌, ◌⊎◌, drop, take, [], ◌∷◌, ◌++◌, sym, ap, subst, ◌∙◌}
 use Rattle.std.specs.Prelude.{Contains, count_by}
 use Rattle.std.proofs.lemmas.List.Elements.{Contains-push}
 use Rattle.graphql_cycles.specs.Steps.{IsIn}
 use Rattle.graphql_cycles.specs.Graph.{IsWayBack, is_directive, is_type}
-use Rattle.graphql_cycles.specs.Parts.{IsPart}
 use Rattle.graphql_cycles.specs.Ways.{Follows, Joins}
 use Rattle.graphql_cycles.proofs.Parting.{part_of}
 use Rattle.graphql_cycles.specs.Depths.{Chain}

@@ -1,4 +1,4 @@
-use Rattle.std.proofs.Common.{◌≡◌, ap, length, arith, true, false}
+use Rattle.std.proofs.Common.{ap, length, arith, false}
 use Rattle.std.proofs.lemmas.List.{length_push}
 use Rattle.graphql_cycles.proofs.Entering.{entered_less}
 use Rattle.graphql_cycles.proofs.order.enter.Goals as goal

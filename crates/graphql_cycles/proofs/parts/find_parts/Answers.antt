@@ -1,4 +1,4 @@
-use Rattle.std.proofs.Common.{◌≡◌, ◌∙◌, ap, subst, arith}
+use Rattle.std.proofs.Common.{◌≡◌, ◌∙◌, ap, arith}
 use Rattle.std.specs.Prelude.{replicate}
 use Rattle.graphql_cycles.specs.Parts.{nowhere}
 use Rattle.graphql_cycles.proofs.Parting.{parted_none, is_whole}

@@ -1,8 +1,8 @@
-use Rattle.std.proofs.Common.{◌≡◌, ℕ, ◌<◌, ◌∙◌, true, false, length, sym, ap, subst, arith}
+use Rattle.std.proofs.Common.{◌≡◌, ◌∙◌, sym, ap, subst, arith}
 use Rattle.std.proofs.lemmas.Result.{on_ok_weaker}
 use Rattle.graphql_cycles.specs.Steps.{is_in, IsIn}
 use Rattle.graphql_cycles.specs.Spread.{Spreads}
-use Rattle.graphql_cycles.specs.Parts.{nowhere, IsParted, Settles}
+use Rattle.graphql_cycles.specs.Parts.{nowhere}
 use Rattle.graphql_cycles.proofs.Sets.{in_within}
 use Rattle.graphql_cycles.proofs.Parting.{fresh_toward, fresh_from, settles, settled_now, settled_still}
 use Rattle.graphql_cycles.proofs.parts.settle.Goals as goal

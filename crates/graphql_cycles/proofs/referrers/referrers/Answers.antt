@@ -1,4 +1,4 @@
-use Rattle.std.proofs.Common.{◌≡◌, ◌+◌, length, sym, ap, subst, ◌∙◌, arith}
+use Rattle.std.proofs.Common.{◌+◌, length, sym, ap, subst, ◌∙◌, arith}
 use Rattle.std.proofs.lemmas.List.{length_push}
 use Rattle.graphql_cycles.specs.Referrers.{AddsReferrer, AreReferrersBelow}
 use Rattle.graphql_cycles.proofs.Referring.{listed_none, back_again, AreReferrers-none, AreReferrers-more, AreReferrers-all}

@@ -1,4 +1,4 @@
-use Rattle.std.proofs.Common.{◌≡◌, ℕ, ◌+◌, ◌<◌, ◌++◌, ◌∷◌, [], true, false, length, get_or, take, refl, sym, ap, subst, ◌∙◌, arith, true≢false, List}
+use Rattle.std.proofs.Common.{◌≡◌, ℕ, ◌+◌, ◌<◌, ◌++◌, ◌∷◌, [], false, length, get_or, take, sym, ap, subst, ◌∙◌, arith, true≢false, List}
 use Rattle.std.proofs.lemmas.List.{take_more}
 use Rattle.graphql_cycles.specs.declared.steps.Step.{Step}
 use Rattle.graphql_cycles.specs.Steps.{is_in, IsIn}

@@ -1,4 +1,4 @@
-use Rattle.std.proofs.Common.{◌≡◌, ◌∙◌, get_or, ap, subst, ◌++◌, ◌∷◌, [], refl, sym, arith}
+use Rattle.std.proofs.Common.{◌∙◌, ap, subst, ◌++◌, ◌∷◌, [], refl, arith}
 use Rattle.std.proofs.lemmas.List.{get_or_read}
 use Rattle.graphql_cycles.specs.Spread.{Reaches}
 use Rattle.graphql_cycles.proofs.Spreading.{Spreading-begin, Spreading-more, Spreading-end}

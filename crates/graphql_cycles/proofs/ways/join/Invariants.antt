@@ -1,5 +1,5 @@
-use Rattle.std.proofs.Common.{◌≡◌, ◌++◌, ◌∷◌, ◌-◌, ℕ, List, length, take, drop}
-use Rattle.std.specs.Prelude.{Contains, reverse}
+use Rattle.std.proofs.Common.{◌≡◌, ◌++◌, ℕ, List, length}
+use Rattle.std.specs.Prelude.{Contains}
 use Rattle.graphql_cycles.proofs.ways.join.Given as goal
 
 abbrev pub invariant-loop-node : goal.invariant-loop-node
