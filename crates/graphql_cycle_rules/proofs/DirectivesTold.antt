@@ -17,8 +17,8 @@ use Rattle.graphql_fault_data.specs.in_rule_definitions.Cycles as cycles
 use Rattle.graphql_schema_types.specs.Distinct.{AreAllDistinct}
 use Rattle.graphql_fault_data.specs.in_rule_definitions.Told.{PlacedFault, Told}
 use Rattle.graphql_fault_data.proofs.in_rule_definitions.Lists.{only, Contains-first, not_in_nil}
-use Rattle.graphql_cycle_rules.specs.declared.graph.Graph.{Graph}
-use Rattle.graphql_cycle_rules.specs.Graph.{RefersTo, is_directive, is_type, IsWayBack, IsDeep}
+use Rattle.graphql_cycles.specs.declared.graph.Graph.{Graph}
+use Rattle.graphql_cycles.specs.Graph.{RefersTo, is_directive, is_type, IsWayBack, IsDeep}
 use Rattle.graphql_cycle_rules.specs.Labels.{labels}
 use Rattle.graphql_cycle_rules.specs.UseNumbers.{uses_at}
 use Rattle.graphql_cycle_rules.specs.UseGraph.{IsUseGraph}

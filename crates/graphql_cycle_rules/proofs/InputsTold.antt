@@ -16,10 +16,8 @@ use Rattle.graphql_fault_data.specs.in_rule_definitions.Spots.{At}
 use Rattle.graphql_fault_data.specs.in_rule_definitions.Judged.{judged}
 use Rattle.graphql_fault_data.specs.in_rule_definitions.Cycles.{Leads, IsWay, HasNoRepeat, Referring, RefersToInput, reference_bound}
 use Rattle.graphql_schema_types.specs.Distinct.{AreAllDistinct}
-use Rattle.graphql_cycle_rules.specs.declared.graph.Graph.{Graph}
-use Rattle.graphql_cycle_rules.specs.Graph.{RefersTo, is_directive, is_type, IsWayBack, IsDeep}
-use Rattle.graphql_cycle_rules.specs.declared.marks.Mark.{Mark}
-use Rattle.graphql_cycle_rules.specs.Search.{IsSound, IsReady}
+use Rattle.graphql_cycles.specs.declared.graph.Graph.{Graph}
+use Rattle.graphql_cycles.specs.Graph.{RefersTo, is_directive, is_type, IsWayBack, IsDeep}
 use Rattle.graphql_cycle_rules.specs.Labels.{labels}
 use Rattle.graphql_cycle_rules.specs.InputGraph.{IsInputGraph}
 use Rattle.graphql_cycle_rules.specs.FaultLists.{recursive_input_object_definition, deeply_nested_input_object, TellsInput, TellsDeepInput}
@@ -34,10 +32,6 @@ use Rattle.graphql_cycle_rules.proofs.InputBridge.{Refs, name_at, number_at, tel
 pub map-reverse : {X Y : Type 0} (f : X → Y) (xs : List X) → map f (reverse xs) ≡ reverse (map f xs)
 map-reverse f [] = refl
 map-reverse f (x ∷ xs) = ap (map f) (reverse-append (x ∷ []) xs) ∙ map-append f (reverse xs) (x ∷ []) ∙ ap (λ l. l ++ f x ∷ []) (map-reverse f xs) ∙ sym (reverse-append (f x ∷ []) (map f xs))
-
--- the searches go on with the next root
-pub ready_after : (g : Graph) (root : ℕ) (marks : List Mark) → IsSound g root marks → IsReady g (root + 1) marks
-ready_after g root marks sound = record { settled = sound.settled; earlier = λ n r e. omega (arith, sound.earlier n r e) }
 
 module _ (s : SchemaTree Place) (distinct : AreAllDistinct s) (g : Graph) (graph : IsInputGraph s g) where
   abbrev Walks : ℕ → ℕ → ℕ → Type 0

@@ -1,5 +1,4 @@
 pub mod Ways
-pub mod Searching
 pub mod Transport
 pub mod Telling
 pub mod Entries

@@ -4,20 +4,13 @@ use Rattle.std.specs.Prelude.{Contains}
 use Rattle.std.proofs.lemmas.Bool.{cases_lt}
 use Rattle.std.proofs.lemmas.List.{append-nil}
 use Rattle.std.proofs.lemmas.List.Elements.{Contains-append_cases, Contains-append_left, Contains-append_right}
-use Rattle.graphql_cycle_rules.specs.declared.graph.Graph.{Graph}
-use Rattle.graphql_cycle_rules.specs.Graph.{IsWayBack}
-use Rattle.graphql_cycle_rules.specs.declared.marks.Mark.{Mark}
-use Rattle.graphql_cycle_rules.specs.declared.search.Found.{Found}
-use Rattle.graphql_cycle_rules.specs.declared.search.Found.TheVariants.{Nothing, WayBack, Deep}
-use Rattle.graphql_cycle_rules.specs.Search.{IsSound, RootAnswers}
+use Rattle.graphql_cycles.specs.declared.graph.Graph.{Graph}
+use Rattle.graphql_cycles.specs.Graph.{IsWayBack}
+use Rattle.graphql_cycles.specs.declared.found.Found.{Found}
+use Rattle.graphql_cycles.specs.declared.found.Found.TheVariants.{Nothing, WayBack, Deep}
+use Rattle.graphql_cycles.specs.Found.{Finds}
 use Rattle.graphql_cycle_rules.specs.Telling.{TellsFound, IsOfRoot, TellsRoot, TellsRoots}
 use Rattle.graphql_fault_data.proofs.in_rule_definitions.Lists.{not_in_nil}
-
--- whatever was found, the marks are sound
-pub root_sound : (g : Graph) (root : ℕ) (path : List ℕ) (marks : List Mark) (found : Found) → RootAnswers g root path marks found → IsSound g root marks
-root_sound g root path marks Nothing a = a.0
-root_sound g root path marks WayBack a = a.0
-root_sound g root path marks Deep a = a.0
 
 module _ {F : Type 0} (Recursive : ℕ → List ℕ → List F → Type 0) (IsTooLong : ℕ → List F → Type 0) (g : Graph) where
   pub TellsRoots-none : (old : List F) → TellsRoots Recursive IsTooLong g 0 old old
@@ -61,8 +54,8 @@ module _ {F : Type 0} (Recursive : ℕ → List ℕ → List F → Type 0) (IsTo
     TellsRoots-more (inl s) = silent s.0 s.1
     TellsRoots-more (inr t) = told t.0 t.1.0 t.1.1
 
-  -- what is told of a root is what the search found
-  pub TellsRoot-found : (root : ℕ) (path : List ℕ) (marks : List Mark) (found : Found) (l old new : List F) → RootAnswers g root path marks found → TellsFound Recursive IsTooLong root path found l → new ≡ old ++ l → TellsRoot Recursive IsTooLong g root old new
-  TellsRoot-found root path marks Nothing l old new a t e = inl (e ∙ ap (λ k. old ++ k) t ∙ append-nil old, a.1)
-  TellsRoot-found root path marks WayBack l old new a t e = inr (l, (inl (path, (a.1, t)), e))
-  TellsRoot-found root path marks Deep l old new a t e = inr (l, (inr (a.1, t), e))
+  -- what is told of a root is what was found of it
+  pub TellsRoot-found : (root : ℕ) (found : Found) (l old new : List F) → Finds g root found → TellsFound Recursive IsTooLong root found l → new ≡ old ++ l → TellsRoot Recursive IsTooLong g root old new
+  TellsRoot-found root Nothing l old new a t e = inl (e ∙ ap (λ k. old ++ k) t ∙ append-nil old, a)
+  TellsRoot-found root (WayBack path) l old new a t e = inr (l, (inl (path.items, (a, t)), e))
+  TellsRoot-found root Deep l old new a t e = inr (l, (inr (a, t), e))

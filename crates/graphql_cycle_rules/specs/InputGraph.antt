@@ -4,8 +4,8 @@ use Rattle.std.specs.Global.{Global}
 use Rattle.std.specs.Option.{option_map_or}
 use Rattle.graphql_names.specs.Placed.{Place}
 use Rattle.graphql_schema_types.specs.SchemaTree.{SchemaTree}
-use Rattle.graphql_cycle_rules.specs.declared.graph.Graph.{Graph}
-use Rattle.graphql_cycle_rules.specs.Graph.{references}
+use Rattle.graphql_cycles.specs.declared.graph.Graph.{Graph}
+use Rattle.graphql_cycles.specs.Graph.{references}
 use Rattle.graphql_cycle_rules.specs.Labels.{targets}
 use Rattle.graphql_cycle_rules.specs.FaultLists.{input_fields_at}
 

@@ -1,7 +1,4 @@
-pub mod Graph
 pub mod Labels
-pub mod Marks
-pub mod Search
 pub mod Telling
 pub mod Numbers
 pub mod ReferenceViews

@@ -1,17 +1,17 @@
 -- What is told of the roots of a graph, one after the other.
 use Rattle.std.specs.Prelude.{◌≡◌, ℕ, ◌<◌, List, [], ◌++◌, Contains, ◌⊎◌}
-use Rattle.graphql_cycle_rules.specs.declared.graph.Graph.{Graph}
-use Rattle.graphql_cycle_rules.specs.declared.search.Found.{Found}
-use Rattle.graphql_cycle_rules.specs.declared.search.Found.TheVariants.{Nothing, WayBack, Deep}
-use Rattle.graphql_cycle_rules.specs.Graph.{IsWayBack, IsDeep}
+use Rattle.graphql_cycles.specs.declared.graph.Graph.{Graph}
+use Rattle.graphql_cycles.specs.declared.found.Found.{Found}
+use Rattle.graphql_cycles.specs.declared.found.Found.TheVariants.{Nothing, WayBack, Deep}
+use Rattle.graphql_cycles.specs.Graph.{IsWayBack, IsDeep}
 
 -- `Recursive root path l`: l tells that the path leads from the root back to it; `IsTooLong root l`: that its ways are too long
 module _ {F : Type 0} (Recursive : ℕ → List ℕ → List F → Type 0) (IsTooLong : ℕ → List F → Type 0) where
-  -- l tells what a search from the root found
-  abbrev pub TellsFound : ℕ → List ℕ → Found → List F → Type 0
-  TellsFound root path Nothing l = l ≡ []
-  TellsFound root path WayBack l = Recursive root path l
-  TellsFound root path Deep l = IsTooLong root l
+  -- l tells what was found of the root
+  abbrev pub TellsFound : ℕ → Found → List F → Type 0
+  TellsFound root Nothing l = l ≡ []
+  TellsFound root (WayBack path) l = Recursive root path.items l
+  TellsFound root Deep l = IsTooLong root l
 
   module _ (g : Graph) where
     abbrev pub IsOfRoot : ℕ → List F → Type 0

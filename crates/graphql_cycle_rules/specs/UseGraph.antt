@@ -2,8 +2,8 @@
 use Rattle.std.specs.Prelude.{◌≡◌, ℕ, length}
 use Rattle.graphql_names.specs.Placed.{Place}
 use Rattle.graphql_schema_types.specs.SchemaTree.{SchemaTree}
-use Rattle.graphql_cycle_rules.specs.declared.graph.Graph.{Graph}
-use Rattle.graphql_cycle_rules.specs.Graph.{references}
+use Rattle.graphql_cycles.specs.declared.graph.Graph.{Graph}
+use Rattle.graphql_cycles.specs.Graph.{references}
 use Rattle.graphql_cycle_rules.specs.Labels.{targets}
 use Rattle.graphql_cycle_rules.specs.UseNumbers.{uses_at}
 

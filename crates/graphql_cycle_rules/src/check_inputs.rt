@@ -1,19 +1,16 @@
 //! Tells which input objects lead back to themselves.
-ghost use Rattle.std.specs.Prelude.{◌<◌, map, OnOk, IfOk, option_to_list};
+ghost use Rattle.std.specs.Prelude.{map, OnOk, IfOk, option_to_list};
 ghost use Rattle.graphql_fault_data.specs.in_schema.SchemaOf.{schema_tree};
 ghost use Rattle.graphql_schema_types.specs.Distinct.{AreAllDistinct};
 ghost use Rattle.graphql_fault_data.specs.FaultView.{fault_of, faults_of};
-ghost use Rattle.graphql_cycle_rules.specs.Search.{IsSound, IsReady};
 ghost use Rattle.graphql_cycle_rules.specs.InputGraph.{IsInputGraph};
 ghost use Rattle.graphql_cycle_rules.specs.FaultLists.{TellsInput, TellsDeepInput};
-ghost use Rattle.graphql_cycle_rules.specs.Telling.{TellsFound, TellsRoot, TellsRoots};
+ghost use Rattle.graphql_cycle_rules.specs.Telling.{TellsFound};
 ghost use Rattle.graphql_cycle_rules.specs.Told.{InputsTold};
 
-use crate::graph::Graph;
 use crate::input_faults::{deeply_nested_input_object, recursive_input_object_definition};
 use crate::inputs::input_targets;
-use crate::marks::Mark;
-use crate::search::{Found, new_marks, way_back};
+use graphql_cycles::{Found, Graph, ways_back};
 use graphql_fault_data::{Fault, Schema, tell};
 use std::alloc::{AllocError, Global};
 
@@ -33,59 +30,20 @@ fn input_graph(alloc: Global, schema: &Schema) -> Result<Graph, AllocError>
     })
 }
 
-/// The fault of an input object from which the search found this.
+/// The fault of an input object of which this was found.
 fn input_object_fault(
     alloc: Global,
     schema: &Schema,
     root: usize,
-    path: &[usize],
-    found: Found,
+    found: &Found,
 ) -> Result<Option<Fault>, AllocError>
-    ensures { IfOk result (λ r. TellsFound (TellsInput (schema_tree schema.now)) (TellsDeepInput (schema_tree schema.now)) root path.now found (map fault_of (option_to_list r))) }
+    ensures { IfOk result (λ r. TellsFound (TellsInput (schema_tree schema.now)) (TellsDeepInput (schema_tree schema.now)) root found.now (map fault_of (option_to_list r))) }
 {
     match found {
         Found::Nothing => Ok(None),
-        Found::WayBack => recursive_input_object_definition(alloc, schema, root, path),
+        Found::WayBack(path) => recursive_input_object_definition(alloc, schema, root, path),
         Found::Deep => deeply_nested_input_object(schema, root),
     }
-}
-
-/// Tells the fault of one input object, if it has one.
-fn check_input_object(
-    alloc: Global,
-    schema: &Schema,
-    graph: &Graph,
-    root: usize,
-    path: &mut Vec<usize>,
-    marks: &mut [Mark],
-    faults: &mut Vec<Fault>,
-) -> Result<(), AllocError>
-    requires is_root { root < graph.now.roots }
-    requires ready { IsReady graph.now root marks.old }
-    ensures sound { OnOk result (IsSound graph.now root marks.new) }
-    ensures tells { OnOk result (TellsRoot (TellsInput (schema_tree schema.now)) (TellsDeepInput (schema_tree schema.now)) graph.now root (faults_of faults.old) (faults_of faults.new)) }
-{
-    let found = way_back(graph, root, path, marks)?;
-    let fault = input_object_fault(alloc, schema, root, path, found)?;
-    tell(faults, fault)
-}
-
-/// Tells the faults of each input object, where nothing is known of any.
-fn check_each_input_object(
-    alloc: Global,
-    schema: &Schema,
-    graph: &Graph,
-    path: &mut Vec<usize>,
-    marks: &mut [Mark],
-    faults: &mut Vec<Fault>,
-) -> Result<(), AllocError>
-    requires { IsReady graph.now 0 marks.old }
-    ensures { OnOk result (TellsRoots (TellsInput (schema_tree schema.now)) (TellsDeepInput (schema_tree schema.now)) graph.now graph.now.roots (faults_of faults.old) (faults_of faults.new)) }
-{
-    for root in 0..graph.roots {
-        check_input_object(alloc, schema, graph, root, path, marks, faults)?;
-    }
-    Ok(())
 }
 
 /// Tells each input object that leads back to itself by fields of type `Name!` (section 3.10), or that such ways are
@@ -99,7 +57,10 @@ pub(crate) fn check_input_cycles(
     ensures { OnOk result (InputsTold (schema_tree schema.now) (faults_of faults.old) (faults_of faults.new)) }
 {
     let graph = input_graph(alloc, schema)?;
-    let mut path = Vec::new(alloc);
-    let mut marks = new_marks(alloc, &graph)?;
-    check_each_input_object(alloc, schema, &graph, &mut path, &mut marks, faults)
+    let all = ways_back(alloc, &graph)?;
+    for (root, found) in all.iter().enumerate() {
+        let fault = input_object_fault(alloc, schema, root, found)?;
+        tell(faults, fault)?;
+    }
+    Ok(())
 }

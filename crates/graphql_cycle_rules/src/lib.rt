@@ -3,23 +3,19 @@
 //! For the layer above: `check_cycles` tells each input object and each directive definition that leads back to itself,
 //! or that the bound is passed; `graphql_rule_definitions` (`specs/Cycles.antt`) says what that means.
 //!
-//! Nodes are numbers. `search.rt` looks for a way from each root back to it, in a graph of directives and types;
-//! `specs/Graph.antt` says what it finds. Input objects are roots in `check_inputs.rt`, directives in
-//! `check_directives.rt`.
+//! Nodes are numbers, and `graphql_cycles` finds the ways from each root back to it, in a graph of directives and types.
+//! Input objects are roots in `check_inputs.rt`, directives in `check_directives.rt`.
 //!
-//! Begin with `check.rt` and `search.rt`.
+//! Begin with `check.rt` and `check_inputs.rt`.
 #![tactic(auto)]
 
 mod check;
 mod check_directives;
 mod check_inputs;
 mod directive_faults;
-mod graph;
 mod input_faults;
 mod inputs;
-mod marks;
 mod numbers;
-mod search;
 mod uses;
 
 pub use check::check_cycles;

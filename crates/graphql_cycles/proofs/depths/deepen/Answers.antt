@@ -1,0 +1,17 @@
+use Rattle.std.proofs.Common.{ℕ, get_or, subst, sym, List}
+use Rattle.graphql_cycles.specs.Graph.{is_of}
+use Rattle.graphql_cycles.specs.Depths.{AreCounted}
+use Rattle.graphql_cycles.proofs.Counting.{counted_set, of_same}
+use Rattle.graphql_cycles.proofs.depths.deepen.Goals as goal
+use Rattle.graphql_cycles.proofs.depths.deepen.Goals.{then-node-depths, else-node-depths}
+
+pub loop-node-preserved : goal.loop-node-preserved
+loop-node-preserved c =
+    let g = c.args.graph.now in
+    let node : ℕ = get_or c.args.order.now c.loop-node.node-index 0 in
+    elim c.if-node-depths.branch [
+      | then-node-depths w ↦
+          subst (λ (l : List ℕ). AreCounted g (is_of g c.args.directives) l) (sym w.depths-is)
+          (counted_set g (is_of g c.args.directives) c.loop-node.depths node w.depth_of.result w.if-node-depths.true c.loop-node.invariant (w.depth_of.ensures (is_of g c.args.directives) (of_same g c.args.directives node) c.loop-node.invariant))
+      | else-node-depths w ↦ subst (λ (l : List ℕ). AreCounted g (is_of g c.args.directives) l) (sym w.depths-is) c.loop-node.invariant
+    ]

@@ -1,0 +1,39 @@
+-- Graphs whose nodes are numbers: what each refers to, and ways along the references.
+use Rattle.std.specs.Prelude.{◌≡◌, ℕ, ◌<◌, Bool, true, false, not, List, [], ◌∷◌, Contains, slice_get, nat_lt, count_by, ◌⊎◌, Vec}
+use Rattle.std.specs.Global.{Global}
+use Rattle.std.specs.Option.{option_map_or}
+use Rattle.graphql_cycles.specs.declared.graph.Graph.{Graph}
+use Rattle.graphql_rule_definitions.specs.Cycles.{Leads, IsWay, HasNoRepeat}
+
+-- what is listed at a number
+abbrev pub listed : List (Vec ℕ Global) → ℕ → List ℕ
+listed lists n = option_map_or (λ v. v.items) (slice_get lists n) []
+
+abbrev pub references : Graph → ℕ → List ℕ
+references g n = listed g.references.items n
+
+abbrev pub RefersTo : Graph → ℕ → ℕ → ℕ → Type 0
+RefersTo g n e m = Contains (references g n) e × (e ≡ m)
+
+abbrev pub LeadsTo : Graph → ℕ → List ℕ → ℕ → Type 0
+LeadsTo g = Leads (RefersTo g)
+
+abbrev pub is_directive : Graph → ℕ → Bool
+is_directive g n = nat_lt n g.directives
+
+abbrev pub is_type : Graph → ℕ → Bool
+is_type g n = not (nat_lt n g.directives)
+
+-- a directive, or a type
+abbrev pub is_of : Graph → Bool → ℕ → Bool
+is_of g true n = is_directive g n
+is_of g false n = is_type g n
+
+-- these references lead from the root back to it
+abbrev pub IsWayBack : Graph → ℕ → List ℕ → Type 0
+IsWayBack g root path = (by : ℕ) × ((rest : List ℕ) × ((path ≡ by ∷ rest) × LeadsTo g root (by ∷ rest) root))
+
+-- a way without repetition from the root holds more directives, or more types, than 32
+abbrev pub IsDeep : Graph → ℕ → Type 0
+IsDeep g root = (rest : List ℕ) × (IsWay (RefersTo g) (root ∷ rest) × (HasNoRepeat (root ∷ rest)
+    × ((32 < count_by (is_directive g) (root ∷ rest)) ⊎ (32 < count_by (is_type g) (root ∷ rest)))))
