@@ -4,9 +4,9 @@ ghost use Rattle.graphql_fault_data.specs.CopyGroups.{one_name};
 ghost use Rattle.graphql_fault_data.specs.DiagnosticView.{diagnostic_of};
 
 use crate::diagnostic_data::DiagnosticData;
-use crate::schema_copies::{copied_cycle, copied_implementation, set_parts, with_set};
+use crate::schema_copies::{copied_cycle, copied_implementation, with_set};
 use crate::use_copies::{copied_document, copied_use, copied_value};
-use graphql_names::Name;
+use graphql_names::{Name, copies_of_two};
 use std::alloc::AllocError;
 
 impl DiagnosticData {
@@ -55,7 +55,7 @@ impl DiagnosticData {
                 extensions_locations,
                 ..
             } => {
-                let (type_name, places) = set_parts(type_name, extensions_locations)?;
+                let (type_name, places) = copies_of_two(type_name, extensions_locations)?;
                 Ok(with_set(self, type_name, places))
             }
             DiagnosticData::TransitiveImplementedInterfaces { .. }

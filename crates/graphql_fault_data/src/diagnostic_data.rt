@@ -394,72 +394,130 @@ pub enum DiagnosticData {
 
 impl Drop for DiagnosticData {
     fn drop(self) {
+        // variants that own the same let go of it in one arm
         match self {
-            DiagnosticData::QueryRootOperationType
-            | DiagnosticData::UndefinedDefinition { name: _ }
+            DiagnosticData::UndefinedDefinition { name: _name }
             | DiagnosticData::RootOperationObjectType {
-                name: _,
+                name: _name,
                 describe_type: _,
             }
             | DiagnosticData::DuplicateRootOperationType {
-                name: _,
+                name: _name,
                 original_operation: _,
                 original_definition: _,
                 redefined_operation: _,
                 redefined_definition: _,
             }
             | DiagnosticData::ReservedName {
-                name: _,
+                name: _name,
                 describe: _,
             }
             | DiagnosticData::OutputType {
-                name: _,
+                name: _name,
                 describe_type: _,
                 type_location: _,
             }
             | DiagnosticData::InputType {
-                name: _,
+                name: _name,
                 describe_type: _,
                 type_location: _,
-            }
-            | DiagnosticData::EmptyFieldSet {
-                type_name: _,
-                type_location: _,
-                extensions_locations: _,
-            }
-            | DiagnosticData::EmptyValueSet {
-                type_name: _,
-                type_location: _,
-                extensions_locations: _,
-            }
-            | DiagnosticData::EmptyMemberSet {
-                type_name: _,
-                type_location: _,
-                extensions_locations: _,
-            }
-            | DiagnosticData::EmptyInputValueSet {
-                type_name: _,
-                type_location: _,
-                extensions_locations: _,
             }
             | DiagnosticData::UnionMemberObjectType {
-                name: _,
+                name: _name,
                 describe_type: _,
             }
-            | DiagnosticData::RecursiveInterfaceDefinition { name: _ }
-            | DiagnosticData::TransitiveImplementedInterfaces {
-                interface: _,
-                via_interface: _,
+            | DiagnosticData::RecursiveInterfaceDefinition { name: _name }
+            | DiagnosticData::UniqueInputValue {
+                name: _name,
+                original_definition: _,
+                redefined_definition: _,
+            }
+            | DiagnosticData::DeeplyNestedType {
+                name: _name,
+                describe_type: _,
+            }
+            | DiagnosticData::UndefinedDirective { name: _name }
+            | DiagnosticData::UniqueDirective {
+                name: _name,
+                original_application: _,
+            }
+            | DiagnosticData::UniqueArgument {
+                name: _name,
+                original_definition: _,
+                redefined_definition: _,
+            }
+            | DiagnosticData::UndefinedVariable { name: _name }
+            | DiagnosticData::UniqueVariable {
+                name: _name,
+                original_definition: _,
+                redefined_definition: _,
+            }
+            | DiagnosticData::UnusedVariable { name: _name }
+            | DiagnosticData::UndefinedFragment { name: _name }
+            | DiagnosticData::UnusedFragment { name: _name } => {}
+            DiagnosticData::EmptyFieldSet {
+                type_name: _name,
+                type_location: _,
+                extensions_locations: _places,
+            }
+            | DiagnosticData::EmptyValueSet {
+                type_name: _name,
+                type_location: _,
+                extensions_locations: _places,
+            }
+            | DiagnosticData::EmptyMemberSet {
+                type_name: _name,
+                type_location: _,
+                extensions_locations: _places,
+            }
+            | DiagnosticData::EmptyInputValueSet {
+                type_name: _name,
+                type_location: _,
+                extensions_locations: _places,
+            } => {}
+            DiagnosticData::TransitiveImplementedInterfaces {
+                interface: _first,
+                via_interface: _second,
                 transitive_interface_location: _,
-                missing_interface: _,
+                missing_interface: _third,
             }
             | DiagnosticData::MissingInterfaceField {
-                name: _,
+                name: _first,
                 implements_location: _,
-                interface: _,
-                field: _,
+                interface: _second,
+                field: _third,
                 field_location: _,
+            } => {}
+            DiagnosticData::MissingInterfaceFieldArgument {
+                name: _first,
+                interface: _second,
+                field: _third,
+                argument: _fourth,
+                field_location: _,
+                interface_argument_location: _,
             }
+            | DiagnosticData::ExtraRequiredImplementationFieldArgument {
+                name: _first,
+                interface: _second,
+                field: _third,
+                argument: _fourth,
+                argument_location: _,
+                interface_field_location: _,
+            } => {}
+            DiagnosticData::IntCoercionError { value: _text }
+            | DiagnosticData::FloatCoercionError { value: _text } => {}
+            DiagnosticData::UndefinedEnumValue {
+                value: _first,
+                definition: _second,
+                definition_location: _,
+            }
+            | DiagnosticData::UndefinedInputValue {
+                value: _first,
+                definition: _second,
+                definition_location: _,
+            } => {}
+            DiagnosticData::QueryRootOperationType
+            | DiagnosticData::RecursionError
             | DiagnosticData::InvalidImplementationFieldType {
                 name: _,
                 interface: _,
@@ -468,14 +526,6 @@ impl Drop for DiagnosticData {
                 actual_type: _,
                 field_location: _,
                 interface_field_location: _,
-            }
-            | DiagnosticData::MissingInterfaceFieldArgument {
-                name: _,
-                interface: _,
-                field: _,
-                argument: _,
-                field_location: _,
-                interface_argument_location: _,
             }
             | DiagnosticData::InvalidImplementationFieldArgumentType {
                 name: _,
@@ -487,40 +537,13 @@ impl Drop for DiagnosticData {
                 argument_location: _,
                 interface_argument_location: _,
             }
-            | DiagnosticData::ExtraRequiredImplementationFieldArgument {
-                name: _,
-                interface: _,
-                field: _,
-                argument: _,
-                argument_location: _,
-                interface_field_location: _,
-            }
-            | DiagnosticData::UniqueInputValue {
-                name: _,
-                original_definition: _,
-                redefined_definition: _,
-            }
             | DiagnosticData::RecursiveInputObjectDefinition { name: _, trace: _ }
             | DiagnosticData::RecursiveDirectiveDefinition { name: _, trace: _ }
-            | DiagnosticData::DeeplyNestedType {
-                name: _,
-                describe_type: _,
-            }
-            | DiagnosticData::UndefinedDirective { name: _ }
-            | DiagnosticData::UniqueDirective {
-                name: _,
-                original_application: _,
-            }
             | DiagnosticData::UnsupportedLocation {
                 name: _,
                 location: _,
                 valid_locations: _,
                 definition_location: _,
-            }
-            | DiagnosticData::UniqueArgument {
-                name: _,
-                original_definition: _,
-                redefined_definition: _,
             }
             | DiagnosticData::UndefinedArgument {
                 name: _,
@@ -546,42 +569,22 @@ impl Drop for DiagnosticData {
                 ty: _,
                 definition_location: _,
             }
-            | DiagnosticData::IntCoercionError { value: _ }
-            | DiagnosticData::FloatCoercionError { value: _ }
-            | DiagnosticData::UndefinedVariable { name: _ }
-            | DiagnosticData::UndefinedEnumValue {
-                value: _,
-                definition: _,
-                definition_location: _,
-            }
-            | DiagnosticData::UndefinedInputValue {
-                value: _,
-                definition: _,
-                definition_location: _,
-            }
             | DiagnosticData::RequiredField {
                 name: _,
                 coordinate: _,
                 expected_type: _,
                 definition_location: _,
             }
-            | DiagnosticData::UniqueVariable {
-                name: _,
-                original_definition: _,
-                redefined_definition: _,
-            }
             | DiagnosticData::VariableInputType {
                 name: _,
                 ty: _,
                 describe_type: _,
             }
-            | DiagnosticData::UnusedVariable { name: _ }
             | DiagnosticData::MissingSubselection {
                 coordinate: _,
                 output_type: _,
                 describe_type: _,
             }
-            | DiagnosticData::UndefinedFragment { name: _ }
             | DiagnosticData::InvalidFragmentTarget { name: _, ty: _ }
             | DiagnosticData::InvalidFragmentSpread {
                 name: _,
@@ -590,13 +593,11 @@ impl Drop for DiagnosticData {
                 fragment_location: _,
                 type_location: _,
             }
-            | DiagnosticData::UnusedFragment { name: _ }
             | DiagnosticData::RecursiveFragmentDefinition {
                 head_location: _,
                 name: _,
                 trace: _,
-            }
-            | DiagnosticData::RecursionError => {}
+            } => {}
         }
     }
 }

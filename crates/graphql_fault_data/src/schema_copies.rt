@@ -211,13 +211,3 @@ pub(crate) fn copied_cycle(diagnostic: &DiagnosticData) -> Result<DiagnosticData
         _ => unreachable!(),
     }
 }
-
-/// Copies of a name and of places.
-pub(crate) fn set_parts(
-    name: &Name,
-    places: &Vec<Option<SourceSpan>>,
-) -> Result<(Name, Vec<Option<SourceSpan>>), AllocError>
-    ensures { IfOk result (λ copy. (copy.0 ≡ name.now) × (copy.1.items ≡ places.now.items)) }
-{
-    copies_of_two(name, places)
-}
