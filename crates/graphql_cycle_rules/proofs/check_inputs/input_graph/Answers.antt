@@ -1,4 +1,4 @@
-use Rattle.std.proofs.Common.{◌≡◌, ◌+◌, length, map, refl, sym, ap, ◌∙◌, arith}
+use Rattle.std.proofs.Common.{◌≡◌, ◌+◌, length, refl, sym, ap, ◌∙◌, arith}
 use Rattle.std.proofs.lemmas.List.{length_push, length-map}
 use Rattle.graphql_schema_types.specs.TypeView.{name_text, extended_type}
 use Rattle.graphql_fault_data.specs.in_schema.SchemaOf.{schema_tree}
