@@ -1,4 +1,5 @@
 pub mod Ways
+pub mod ReferenceFacts
 pub mod Transport
 pub mod Telling
 pub mod Entries

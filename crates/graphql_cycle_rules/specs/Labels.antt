@@ -13,7 +13,11 @@ module _ {L : Type 0} where
   abbrev pub label : Labelled L → ℕ → Option L
   label rs to = option_map (λ r. r.1) (find (λ r. r.0 == to) rs)
 
+  -- what is given of each step of a path, where there is something
+  abbrev pub along : (ℕ → ℕ → Option L) → ℕ → List ℕ → List L
+  along by from [] = []
+  along by from (to ∷ rest) = option_to_list (by from to) ++ along by to rest
+
   -- the first by which each of a path refers to the next
   abbrev pub labels : (ℕ → Labelled L) → ℕ → List ℕ → List L
-  labels refs from [] = []
-  labels refs from (to ∷ rest) = option_to_list (label (refs from) to) ++ labels refs to rest
+  labels refs from path = along (λ i. label (refs i)) from path

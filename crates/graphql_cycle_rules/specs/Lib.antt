@@ -1,4 +1,5 @@
 pub mod Labels
+pub mod References
 pub mod Telling
 pub mod Numbers
 pub mod ReferenceViews

@@ -1,13 +1,21 @@
 -- What contracts see of references.
-use Rattle.std.specs.Prelude.{ℕ}
+use Rattle.std.specs.Prelude.{ℕ, Option}
+use Rattle.std.specs.Option.{option_map}
 use Rattle.graphql_names.specs.Placed.{Placed, Place, node_tree}
 use Rattle.graphql_directives.specs.DirectiveTree.{InputValueTree, input_value_tree}
 use Rattle.graphql_directives.specs.declared.input_value.InputValueDefinition.{InputValueDefinition}
 use Rattle.graphql_components.specs.declared.component.Component.{Component}
-use Rattle.graphql_cycle_rules.specs.declared.inputs.InputReference.{InputReference}
+use Rattle.graphql_names.specs.declared.node.Node.{Node}
+use Rattle.graphql_cycle_rules.specs.References.{between}
+use Rattle.graphql_cycle_rules.specs.declared.references.Reference.{Reference}
+use Rattle.graphql_cycle_rules.specs.declared.references.References.{References}
 
 abbrev pub field_tree : Component InputValueDefinition → Placed Place (InputValueTree Place)
 field_tree c = node_tree input_value_tree c.node
 
-abbrev pub input_reference_view : InputReference → ℕ × Placed Place (InputValueTree Place)
+abbrev pub input_reference_view : Reference (Node InputValueDefinition) → ℕ × Placed Place (InputValueTree Place)
 input_reference_view r = (r.to, node_tree input_value_tree r.by)
+
+-- the field by which an input object first refers to another
+abbrev pub field_between : References (Node InputValueDefinition) → ℕ → ℕ → Option (Placed Place (InputValueTree Place))
+field_between r from to = option_map (node_tree input_value_tree) (between r from to)

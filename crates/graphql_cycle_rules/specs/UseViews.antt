@@ -1,5 +1,5 @@
 -- What contracts see of references by directives and types.
-use Rattle.std.specs.Prelude.{ℕ}
+use Rattle.std.specs.Prelude.{ℕ, Option}
 use Rattle.std.specs.Option.{option_map}
 use Rattle.graphql_names.specs.Placed.{Place, node_tree}
 use Rattle.graphql_directives.specs.DirectiveTree.{directive_tree, directives_tree, input_value_tree}
@@ -10,10 +10,21 @@ use Rattle.graphql_components.specs.declared.component.Component.{Component}
 use Rattle.graphql_schema_types.specs.SchemaTree.{SchemaTree}
 use Rattle.graphql_cycle_rules.specs.Labels.{Labelled}
 use Rattle.graphql_cycle_rules.specs.UseNumbers.{Use, uses_references, input_uses}
-use Rattle.graphql_cycle_rules.specs.declared.uses.UseReference.{UseReference}
+use Rattle.graphql_names.specs.declared.node.Node.{Node}
+use Rattle.graphql_directives.specs.declared.directive.Directive.{Directive}
+use Rattle.graphql_cycle_rules.specs.References.{between}
+use Rattle.graphql_cycle_rules.specs.declared.references.Reference.{Reference}
+use Rattle.graphql_cycle_rules.specs.declared.references.References.{References}
 
-abbrev pub use_view : UseReference → ℕ × Use
-use_view r = (r.to, option_map (node_tree directive_tree) r.by)
+abbrev pub use_tree : Option (Node Directive) → Use
+use_tree by = option_map (node_tree directive_tree) by
+
+abbrev pub use_view : Reference (Option (Node Directive)) → ℕ × Use
+use_view r = (r.to, use_tree r.by)
+
+-- by what a directive or type first refers to another
+abbrev pub use_between : References (Option (Node Directive)) → ℕ → ℕ → Option Use
+use_between r from to = option_map use_tree (between r from to)
 
 abbrev pub value_uses : SchemaTree Place → Component EnumValueDefinition → Labelled Use
 value_uses s c = uses_references s (directives_tree (content c.node).directives)

@@ -3,45 +3,33 @@ ghost use Rattle.std.specs.Prelude.{map, OnOk, IfOk, option_to_list};
 ghost use Rattle.graphql_fault_data.specs.in_schema.SchemaOf.{schema_tree};
 ghost use Rattle.graphql_schema_types.specs.Distinct.{AreAllDistinct};
 ghost use Rattle.graphql_fault_data.specs.FaultView.{fault_of, faults_of};
-ghost use Rattle.graphql_cycle_rules.specs.InputGraph.{IsInputGraph};
+ghost use Rattle.graphql_cycle_rules.specs.InputGraph.{AreInputReferences};
 ghost use Rattle.graphql_cycle_rules.specs.FaultLists.{TellsInput, TellsDeepInput};
 ghost use Rattle.graphql_cycle_rules.specs.Telling.{TellsFound};
 ghost use Rattle.graphql_cycle_rules.specs.Told.{InputsTold};
 
 use crate::input_faults::{deeply_nested_input_object, recursive_input_object_definition};
-use crate::inputs::input_targets;
-use graphql_cycles::{Found, Graph, ways_back};
+use crate::inputs::{InputReferences, references_of_types};
+use graphql_cycles::{Found, ways_back};
 use graphql_fault_data::{Fault, Schema, tell};
 use std::alloc::{AllocError, Global};
-
-/// What each type refers to by fields of type `Name!`.
-fn input_graph(alloc: Global, schema: &Schema) -> Result<Graph, AllocError>
-    ensures { IfOk result (λ g. IsInputGraph (schema_tree schema.now) g) }
-{
-    let roots = schema.types.len();
-    let mut references = Vec::new(alloc);
-    for number in 0..roots {
-        references.push(input_targets(alloc, schema, number)?)?;
-    }
-    Ok(Graph {
-        references,
-        directives: 0,
-        roots,
-    })
-}
 
 /// The fault of an input object of which this was found.
 fn input_object_fault(
     alloc: Global,
     schema: &Schema,
+    references: &InputReferences,
     root: usize,
     found: &Found,
 ) -> Result<Option<Fault>, AllocError>
+    requires { AreInputReferences (schema_tree schema.now) references.now }
     ensures { IfOk result (λ r. TellsFound (TellsInput (schema_tree schema.now)) (TellsDeepInput (schema_tree schema.now)) root found.now (map fault_of (option_to_list r))) }
 {
     match found {
         Found::Nothing => Ok(None),
-        Found::WayBack(path) => recursive_input_object_definition(alloc, schema, root, path),
+        Found::WayBack(path) => {
+            recursive_input_object_definition(alloc, schema, references, root, path)
+        }
         Found::Deep => deeply_nested_input_object(schema, root),
     }
 }
@@ -56,10 +44,10 @@ pub(crate) fn check_input_cycles(
     requires { AreAllDistinct (schema_tree schema.now) }
     ensures { OnOk result (InputsTold (schema_tree schema.now) (faults_of faults.old) (faults_of faults.new)) }
 {
-    let graph = input_graph(alloc, schema)?;
-    let all = ways_back(alloc, &graph)?;
+    let references = references_of_types(alloc, schema)?;
+    let all = ways_back(alloc, &references.graph)?;
     for (root, found) in all.iter().enumerate() {
-        let fault = input_object_fault(alloc, schema, root, found)?;
+        let fault = input_object_fault(alloc, schema, &references, root, found)?;
         tell(faults, fault)?;
     }
     Ok(())

@@ -1,15 +1,16 @@
 //! The faults of directives that reach themselves (section 3.13).
-ghost use Rattle.std.specs.Prelude.{◌≡◌, ◌++◌, map, IfOk, OnOk, option_to_list, option_and_then};
+ghost use Rattle.std.specs.Prelude.{◌≡◌, ◌++◌, map, reverse, IfOk, OnOk, option_to_list, option_and_then};
 ghost use Rattle.graphql_names.specs.Placed.{node_tree};
 ghost use Rattle.graphql_names.specs.Places.{Recomposes};
 ghost use Rattle.graphql_directives.specs.DirectiveTree.{directive_tree, directive_definition_tree};
 ghost use Rattle.graphql_fault_data.specs.in_schema.SchemaOf.{schema_tree};
 ghost use Rattle.graphql_fault_data.specs.FaultView.{fault_of};
-ghost use Rattle.graphql_cycle_rules.specs.Labels.{label};
-ghost use Rattle.graphql_cycle_rules.specs.UseNumbers.{uses_at};
-ghost use Rattle.graphql_cycle_rules.specs.DirectiveFaults.{use_trace, TellsDirective, TellsDeepDirective};
+ghost use Rattle.graphql_cycle_rules.specs.Labels.{along};
+ghost use Rattle.graphql_cycle_rules.specs.UseViews.{use_between};
+ghost use Rattle.graphql_cycle_rules.specs.UseGraph.{AreUseReferences};
+ghost use Rattle.graphql_cycle_rules.specs.DirectiveFaults.{directives_of, TellsDirective, TellsDeepDirective};
 
-use crate::uses::{first_use, use_references};
+use crate::uses::UseReferences;
 use graphql_directives::{Directive, DirectiveDefinition};
 use graphql_fault_data::{DiagnosticData, Fault, Schema};
 use graphql_names::{Node, SourceSpan, recompose};
@@ -22,39 +23,37 @@ fn head(definition: &Node<DirectiveDefinition>) -> Option<SourceSpan>
     recompose(definition.location(), definition.content().name.location())
 }
 
-/// Adds the directive by which something refers to another, if it does by one.
+/// Adds the directive by which something first refers to another, if it does by one.
 fn add_use_between(
-    alloc: Global,
-    schema: &Schema,
+    references: &UseReferences,
     from: usize,
     to: usize,
     trace: &mut Vec<Node<Directive>>,
 ) -> Result<(), AllocError>
-    ensures { OnOk result (map (node_tree directive_tree) trace.new.items ≡ map (node_tree directive_tree) trace.old.items ++ option_to_list (option_and_then (λ by. by) (label (uses_at (schema_tree schema.now) from) to))) }
+    ensures { OnOk result (map (node_tree directive_tree) trace.new.items ≡ map (node_tree directive_tree) trace.old.items ++ option_to_list (option_and_then (λ by. by) (use_between references.now from to))) }
 {
-    let references = use_references(alloc, schema, from)?;
-    match first_use(&references, to) {
-        None => Ok(()),
-        Some(directive) => {
+    match references.first(from, to) {
+        Some(Some(directive)) => {
             trace.push(directive.clone()?)?;
             Ok(())
         }
+        _ => Ok(()),
     }
 }
 
 /// The directives along a path from the root, from the last to the first.
 fn use_trace(
     alloc: Global,
-    schema: &Schema,
+    references: &UseReferences,
     root: usize,
     path: &[usize],
 ) -> Result<Vec<Node<Directive>>, AllocError>
-    ensures { IfOk result (λ r. map (node_tree directive_tree) r.items ≡ use_trace (schema_tree schema.now) root path.now) }
+    ensures { IfOk result (λ r. map (node_tree directive_tree) r.items ≡ reverse (directives_of (along (use_between references.now) root path.now))) }
 {
     let mut trace = Vec::new(alloc);
     let mut from = root;
     for to in path {
-        add_use_between(alloc, schema, from, *to, &mut trace)?;
+        add_use_between(references, from, *to, &mut trace)?;
         from = *to;
     }
     trace.reverse();
@@ -65,15 +64,17 @@ fn use_trace(
 pub(crate) fn recursive_directive_definition(
     alloc: Global,
     schema: &Schema,
+    references: &UseReferences,
     root: usize,
     path: &[usize],
 ) -> Result<Option<Fault>, AllocError>
+    requires { AreUseReferences (schema_tree schema.now) references.now }
     ensures { IfOk result (λ r. TellsDirective (schema_tree schema.now) root path.now (map fault_of (option_to_list r))) }
 {
     match schema.directive_definitions.get_index(root) {
         None => Ok(None),
         Some((name, definition)) => {
-            let trace = use_trace(alloc, schema, root, path)?;
+            let trace = use_trace(alloc, references, root, path)?;
             let name = name.clone()?;
             Ok(Some(Fault {
                 location: head(definition),

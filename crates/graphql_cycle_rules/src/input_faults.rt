@@ -4,27 +4,27 @@ ghost use Rattle.graphql_names.specs.Placed.{node_tree};
 ghost use Rattle.graphql_directives.specs.DirectiveTree.{input_value_tree};
 ghost use Rattle.graphql_fault_data.specs.in_schema.SchemaOf.{schema_tree};
 ghost use Rattle.graphql_fault_data.specs.FaultView.{fault_of};
-ghost use Rattle.graphql_cycle_rules.specs.Labels.{label};
-ghost use Rattle.graphql_cycle_rules.specs.FaultLists.{input_fields_at, input_trace, recursive_input_object_definition, deeply_nested_input_object};
+ghost use Rattle.graphql_cycle_rules.specs.Labels.{along};
+ghost use Rattle.graphql_cycle_rules.specs.ReferenceViews.{field_between};
+ghost use Rattle.graphql_cycle_rules.specs.InputGraph.{AreInputReferences};
+ghost use Rattle.graphql_cycle_rules.specs.FaultLists.{recursive_input_object_definition, deeply_nested_input_object};
 
-use crate::inputs::{first_field, input_references};
+use crate::inputs::InputReferences;
 use graphql_directives::InputValueDefinition;
 use graphql_fault_data::{DiagnosticData, Fault, Schema};
 use graphql_names::Node;
 use std::alloc::{AllocError, Global};
 
-/// Adds the field by which an input object refers to another, if it does.
+/// Adds the field by which an input object first refers to another, if it does.
 fn add_field_between(
-    alloc: Global,
-    schema: &Schema,
+    references: &InputReferences,
     from: usize,
     to: usize,
     trace: &mut Vec<Node<InputValueDefinition>>,
 ) -> Result<(), AllocError>
-    ensures { OnOk result (map (node_tree input_value_tree) trace.new.items ≡ map (node_tree input_value_tree) trace.old.items ++ option_to_list (label (input_fields_at (schema_tree schema.now) from) to)) }
+    ensures { OnOk result (map (node_tree input_value_tree) trace.new.items ≡ map (node_tree input_value_tree) trace.old.items ++ option_to_list (field_between references.now from to)) }
 {
-    let references = input_references(alloc, schema, from)?;
-    match first_field(&references, to) {
+    match references.first(from, to) {
         None => Ok(()),
         Some(field) => {
             trace.push(field.clone()?)?;
@@ -36,16 +36,16 @@ fn add_field_between(
 /// The fields along a path from the root, from the last to the first.
 fn input_trace(
     alloc: Global,
-    schema: &Schema,
+    references: &InputReferences,
     root: usize,
     path: &[usize],
 ) -> Result<Vec<Node<InputValueDefinition>>, AllocError>
-    ensures { IfOk result (λ r. map (node_tree input_value_tree) r.items ≡ input_trace (schema_tree schema.now) root path.now) }
+    ensures { IfOk result (λ r. map (node_tree input_value_tree) r.items ≡ reverse (along (field_between references.now) root path.now)) }
 {
     let mut trace = Vec::new(alloc);
     let mut from = root;
     for to in path {
-        add_field_between(alloc, schema, from, *to, &mut trace)?;
+        add_field_between(references, from, *to, &mut trace)?;
         from = *to;
     }
     trace.reverse();
@@ -56,15 +56,17 @@ fn input_trace(
 pub(crate) fn recursive_input_object_definition(
     alloc: Global,
     schema: &Schema,
+    references: &InputReferences,
     root: usize,
     path: &[usize],
 ) -> Result<Option<Fault>, AllocError>
+    requires { AreInputReferences (schema_tree schema.now) references.now }
     ensures { IfOk result (λ r. map fault_of (option_to_list r) ≡ recursive_input_object_definition (schema_tree schema.now) root path.now) }
 {
     match schema.types.get_index(root) {
         None => Ok(None),
         Some((name, ty)) => {
-            let trace = input_trace(alloc, schema, root, path)?;
+            let trace = input_trace(alloc, references, root, path)?;
             let name = name.clone()?;
             Ok(Some(Fault {
                 location: ty.location(),

@@ -1,16 +1,16 @@
 //! What input objects refer to (section 3.10).
 ghost use Rattle.std.specs.Prelude.{◌≡◌, ◌++◌, map, IfOk, OnOk};
-ghost use Rattle.std.specs.Option.{option_map, option_copied};
 ghost use Rattle.graphql_names.specs.Placed.{node_tree};
 ghost use Rattle.graphql_literals.specs.TypeTree.{type_tree};
 ghost use Rattle.graphql_directives.specs.DirectiveTree.{input_value_tree};
 ghost use Rattle.graphql_schema_types.specs.TypeView.{extended_type};
 ghost use Rattle.graphql_fault_data.specs.in_schema.SchemaOf.{schema_tree};
-ghost use Rattle.graphql_cycle_rules.specs.Labels.{label, targets};
 ghost use Rattle.graphql_cycle_rules.specs.Numbers.{required_input, field_references, input_references, each_value, at_number};
+ghost use Rattle.graphql_cycle_rules.specs.InputGraph.{AreInputReferences};
 ghost use Rattle.graphql_cycle_rules.specs.ReferenceViews.{field_tree, input_reference_view};
 
 use crate::numbers::input_object_number;
+use crate::references::{Reference, References};
 use graphql_components::Component;
 use graphql_directives::InputValueDefinition;
 use graphql_fault_data::Schema;
@@ -21,11 +21,10 @@ use indexmap::IndexMap;
 use std::alloc::{AllocError, Global};
 
 /// A field by which an input object refers to another, and the number of that one.
-#[derive(Drop)]
-pub(crate) struct InputReference {
-    pub(crate) to: usize,
-    pub(crate) by: Node<InputValueDefinition>,
-}
+pub(crate) type InputReference = Reference<Node<InputValueDefinition>>;
+
+/// What input objects refer to, and by which field first.
+pub(crate) type InputReferences = References<Node<InputValueDefinition>>;
 
 /// The number of the input object of which a field of this type has to hold one.
 fn required_input(schema: &Schema, ty: &Type) -> Option<usize>
@@ -51,7 +50,7 @@ fn add_field(
         None => Ok(()),
         Some(to) => {
             let by = field.clone()?;
-            references.push(InputReference { to, by })?;
+            references.push(Reference { to, by })?;
             Ok(())
         }
     }
@@ -89,7 +88,7 @@ fn references_of_type(
 }
 
 /// The references of the input object of that number.
-pub(crate) fn input_references(
+fn input_references(
     alloc: Global,
     schema: &Schema,
     number: usize,
@@ -102,40 +101,17 @@ pub(crate) fn input_references(
     }
 }
 
-/// To what these refer.
-fn targets_of(alloc: Global, references: &[InputReference]) -> Result<Vec<usize>, AllocError>
-    ensures { IfOk result (λ r. r.items ≡ targets (map input_reference_view references.now)) }
-{
-    let mut targets = Vec::new(alloc);
-    for reference in references {
-        targets.push(reference.to)?;
-    }
-    Ok(targets)
-}
-
-/// To what the input object of that number refers.
-pub(crate) fn input_targets(
+/// What each type refers to by fields of type `Name!`.
+pub(crate) fn references_of_types(
     alloc: Global,
     schema: &Schema,
-    number: usize,
-) -> Result<Vec<usize>, AllocError>
-    ensures { IfOk result (λ r. r.items ≡ targets (at_number (input_references (schema_tree schema.now).types) (schema_tree schema.now).types number)) }
+) -> Result<InputReferences, AllocError>
+    ensures { IfOk result (λ r. AreInputReferences (schema_tree schema.now) r) }
 {
-    let references = input_references(alloc, schema, number)?;
-    targets_of(alloc, &references)
-}
-
-/// The first by which they refer to that number, if they do.
-pub(crate) fn first_field(
-    references: &[InputReference],
-    to: usize,
-) -> Option<&Node<InputValueDefinition>>
-    ensures { option_map (node_tree input_value_tree) (option_copied result) ≡ label (map input_reference_view references.now) to }
-{
-    for reference in references {
-        if reference.to == to {
-            return Some(&reference.by);
-        }
+    let roots = schema.types.len();
+    let mut all = References::new(alloc, 0, roots);
+    for number in 0..roots {
+        all.push(alloc, input_references(alloc, schema, number)?)?;
     }
-    None
+    Ok(all)
 }

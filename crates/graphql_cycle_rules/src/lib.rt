@@ -16,6 +16,7 @@ mod directive_faults;
 mod input_faults;
 mod inputs;
 mod numbers;
+mod references;
 mod uses;
 
 pub use check::check_cycles;

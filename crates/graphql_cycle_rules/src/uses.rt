@@ -1,6 +1,5 @@
 //! What directives and types refer to (section 3.13).
-ghost use Rattle.std.specs.Prelude.{◌≡◌, ◌++◌, map, IfOk, OnOk, option_and_then};
-ghost use Rattle.std.specs.Option.{option_map, option_copied};
+ghost use Rattle.std.specs.Prelude.{◌≡◌, ◌++◌, map, IfOk, OnOk};
 ghost use Rattle.graphql_names.specs.Placed.{node_tree};
 ghost use Rattle.graphql_literals.specs.TypeTree.{type_tree};
 ghost use Rattle.graphql_directives.specs.DirectiveTree.{directive_tree, directives_tree, input_value_tree};
@@ -8,12 +7,13 @@ ghost use Rattle.graphql_components.specs.Applied.{applied_tree};
 ghost use Rattle.graphql_schema_types.specs.Addresses.{applied};
 ghost use Rattle.graphql_schema_types.specs.TypeView.{extended_type};
 ghost use Rattle.graphql_fault_data.specs.in_schema.SchemaOf.{schema_tree};
-ghost use Rattle.graphql_cycle_rules.specs.Labels.{label, targets};
 ghost use Rattle.graphql_cycle_rules.specs.Numbers.{each_value, at_number};
 ghost use Rattle.graphql_cycle_rules.specs.UseNumbers.{use_references, uses_references, type_reference, input_uses, arguments_uses, definition_uses, part_uses, type_uses, uses_at};
+ghost use Rattle.graphql_cycle_rules.specs.UseGraph.{AreUseReferences};
 ghost use Rattle.graphql_cycle_rules.specs.UseViews.{use_view, value_uses, field_uses};
 
 use crate::numbers::type_node;
+use crate::references::{Reference, References};
 use graphql_components::Component;
 use graphql_directives::{Directive, DirectiveList, InputValueDefinition};
 use graphql_fault_data::Schema;
@@ -25,11 +25,10 @@ use indexmap::IndexMap;
 use std::alloc::{AllocError, Global};
 
 /// A reference to a directive or type by number, and the directive by which it is one: None where it is by a type.
-#[derive(Drop)]
-pub(crate) struct UseReference {
-    pub(crate) to: usize,
-    pub(crate) by: Option<Node<Directive>>,
-}
+pub(crate) type UseReference = Reference<Option<Node<Directive>>>;
+
+/// What directives and types refer to, and by what first.
+pub(crate) type UseReferences = References<Option<Node<Directive>>>;
 
 /// Adds the reference of a directive that is applied, if that is defined.
 fn add_use(
@@ -46,7 +45,7 @@ fn add_use(
         None => Ok(()),
         Some(to) => {
             let by = Some(directive.clone()?);
-            references.push(UseReference { to, by })?;
+            references.push(Reference { to, by })?;
             Ok(())
         }
     }
@@ -77,7 +76,7 @@ fn add_type(
     match type_node(schema, ty.inner_named_type()) {
         None => Ok(()),
         Some(to) => {
-            references.push(UseReference { to, by: None })?;
+            references.push(Reference { to, by: None })?;
             Ok(())
         }
     }
@@ -215,7 +214,7 @@ fn add_node_uses(
 }
 
 /// The references of the directive or type of that node.
-pub(crate) fn use_references(
+fn use_references(
     alloc: Global,
     schema: &Schema,
     node: usize,
@@ -227,37 +226,19 @@ pub(crate) fn use_references(
     Ok(references)
 }
 
-/// To what these refer.
-fn targets_of(alloc: Global, references: &[UseReference]) -> Result<Vec<usize>, AllocError>
-    ensures { IfOk result (λ r. r.items ≡ targets (map use_view references.now)) }
-{
-    let mut targets = Vec::new(alloc);
-    for reference in references {
-        targets.push(reference.to)?;
-    }
-    Ok(targets)
-}
-
-/// To what the directive or type of that node refers.
-pub(crate) fn use_targets(
+/// What each directive and each type refers to: directives by their arguments, types by their directives, values and
+/// input fields.
+pub(crate) fn references_of_definitions(
     alloc: Global,
     schema: &Schema,
-    node: usize,
-) -> Result<Vec<usize>, AllocError>
-    ensures { IfOk result (λ r. r.items ≡ targets (uses_at (schema_tree schema.now) node)) }
+) -> Result<UseReferences, AllocError>
+    ensures { IfOk result (λ r. AreUseReferences (schema_tree schema.now) r) }
 {
-    let references = use_references(alloc, schema, node)?;
-    targets_of(alloc, &references)
-}
-
-/// The directive by which they first refer to that node, if it is by one.
-pub(crate) fn first_use(references: &[UseReference], to: usize) -> Option<&Node<Directive>>
-    ensures { option_map (node_tree directive_tree) (option_copied result) ≡ option_and_then (λ by. by) (label (map use_view references.now) to) }
-{
-    for reference in references {
-        if reference.to == to {
-            return reference.by.as_ref();
-        }
+    let roots = schema.directive_definitions.len();
+    let nodes = roots + schema.types.len();
+    let mut all = References::new(alloc, roots, roots);
+    for node in 0..nodes {
+        all.push(alloc, use_references(alloc, schema, node)?)?;
     }
-    None
+    Ok(all)
 }

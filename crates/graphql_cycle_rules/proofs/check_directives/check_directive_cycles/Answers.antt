@@ -10,7 +10,7 @@ use Rattle.graphql_cycle_rules.proofs.DirectivesTold.{directives_told}
 use Rattle.graphql_cycle_rules.proofs.check_directives.check_directive_cycles.Goals as goal
 
 pub loop-root-init : goal.loop-root-init
-loop-root-init c = TellsRoots-none (TellsDirective (schema_tree c.args.schema.now)) (TellsDeepDirective (schema_tree c.args.schema.now)) c.in_ok-graph.graph (faults_of c.args.faults.now)
+loop-root-init c = TellsRoots-none (TellsDirective (schema_tree c.args.schema.now)) (TellsDeepDirective (schema_tree c.args.schema.now)) c.in_ok-references.references.graph (faults_of c.args.faults.now)
 
 pub loop-root-preserved : goal.loop-root-preserved
 loop-root-preserved c =
@@ -18,12 +18,12 @@ loop-root-preserved c =
     let found = c.found-item.result in
     let there = slice_get-get_or c.deref-found-items.result.now c.loop-root.root found (omega arith) ∙ ap (λ x. Some x) (sym c.found-item.is) in
     let finds = c.in_ok-all.ensures.each c.loop-root.root found (ap (λ l. slice_get l c.loop-root.root) (sym c.deref-found-items.ensures.value) ∙ there) in
-    TellsRoots-more (TellsDirective s) (TellsDeepDirective s) c.in_ok-graph.graph c.loop-root.root (faults_of c.args.faults.now) (faults_of c.loop-root.faults) (faults_of c.tell.new.faults) c.loop-root.invariant
-    (TellsRoot-found (TellsDirective s) (TellsDeepDirective s) c.in_ok-graph.graph c.loop-root.root found (map fault_of (option_to_list c.in_ok-fault.fault)) (faults_of c.loop-root.faults) (faults_of c.tell.new.faults) finds c.in_ok-fault.ensures c.in_ok-tell.ensures.told)
+    TellsRoots-more (TellsDirective s) (TellsDeepDirective s) c.in_ok-references.references.graph c.loop-root.root (faults_of c.args.faults.now) (faults_of c.loop-root.faults) (faults_of c.tell.new.faults) c.loop-root.invariant
+    (TellsRoot-found (TellsDirective s) (TellsDeepDirective s) c.in_ok-references.references.graph c.loop-root.root found (map fault_of (option_to_list c.in_ok-fault.fault)) (faults_of c.loop-root.faults) (faults_of c.tell.new.faults) finds c.in_ok-fault.ensures c.in_ok-tell.ensures.told)
 
 pub returns : goal.returns
 returns c =
     let s = schema_tree c.args.schema.now in
-    let whole : c.loop-root.root ≡ c.in_ok-graph.graph.roots = omega (arith, ap length c.deref-found-items.ensures.value, c.in_ok-all.ensures.long) in
-    directives_told s c.requires c.in_ok-graph.graph c.in_ok-graph.ensures (faults_of c.args.faults.now) (faults_of c.loop-root.faults)
-    (subst (λ n. TellsRoots (TellsDirective s) (TellsDeepDirective s) c.in_ok-graph.graph n (faults_of c.args.faults.now) (faults_of c.loop-root.faults)) whole c.loop-root.invariant)
+    let whole : c.loop-root.root ≡ c.in_ok-references.references.graph.roots = omega (arith, ap length c.deref-found-items.ensures.value, c.in_ok-all.ensures.long) in
+    directives_told s c.requires c.in_ok-references.references.graph c.in_ok-references.ensures.graph (faults_of c.args.faults.now) (faults_of c.loop-root.faults)
+    (subst (λ n. TellsRoots (TellsDirective s) (TellsDeepDirective s) c.in_ok-references.references.graph n (faults_of c.args.faults.now) (faults_of c.loop-root.faults)) whole c.loop-root.invariant)

@@ -5,4 +5,4 @@ use Rattle.graphql_cycle_rules.specs.Telling.{TellsRoots}
 use Rattle.graphql_cycle_rules.proofs.check_inputs.check_input_cycles.Given as goal
 
 abbrev pub invariant-loop-root : goal.invariant-loop-root
-invariant-loop-root l = TellsRoots (TellsInput (schema_tree l.schema)) (TellsDeepInput (schema_tree l.schema)) l.graph l.root (faults_of l.fn.faults) (faults_of l.faults)
+invariant-loop-root l = TellsRoots (TellsInput (schema_tree l.schema)) (TellsDeepInput (schema_tree l.schema)) l.references.graph l.root (faults_of l.fn.faults) (faults_of l.faults)

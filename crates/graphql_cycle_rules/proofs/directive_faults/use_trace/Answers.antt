@@ -2,20 +2,18 @@ use Rattle.std.proofs.Common.{◌++◌, map, reverse, length, ◌≤◌, sym, ap
 use Rattle.std.proofs.lemmas.List.{append-nil, drop_all}
 use Rattle.graphql_names.specs.Placed.{node_tree}
 use Rattle.graphql_directives.specs.DirectiveTree.{directive_tree}
-use Rattle.graphql_fault_data.specs.in_schema.SchemaOf.{schema_tree}
-use Rattle.graphql_cycle_rules.specs.Labels.{labels}
-use Rattle.graphql_cycle_rules.specs.UseNumbers.{uses_at}
+use Rattle.graphql_cycle_rules.specs.Labels.{along}
+use Rattle.graphql_cycle_rules.specs.UseViews.{use_between}
 use Rattle.graphql_cycle_rules.specs.DirectiveFaults.{directives_of}
 use Rattle.graphql_cycle_rules.proofs.InputsTold.{map-reverse}
 use Rattle.graphql_cycle_rules.proofs.directive_faults.use_trace.Goals as goal
 
 pub returns : goal.returns
 returns c =
-    let s = schema_tree c.args.schema.now in
     let past : length c.args.path.now ≤ c.loop-to.to-index = omega arith in
     let rest = drop_all c.loop-to.to-index c.args.path.now past in
     let whole =
     sym (append-nil (map (node_tree directive_tree) c.loop-to.trace.items))
-    ∙ ap (λ l. map (node_tree directive_tree) c.loop-to.trace.items ++ directives_of (labels (uses_at s) c.loop-to.from l)) (sym rest)
+    ∙ ap (λ l. map (node_tree directive_tree) c.loop-to.trace.items ++ directives_of (along (use_between c.args.references.now) c.loop-to.from l)) (sym rest)
     ∙ c.loop-to.invariant in
     ap (map (node_tree directive_tree)) c.reverse.ensures.items ∙ map-reverse (node_tree directive_tree) c.loop-to.trace.items ∙ ap reverse whole

@@ -1,4 +1,4 @@
-use Rattle.std.proofs.Common.{◌≡◌, [], ◌∷◌, map, sym, ap, ◌∙◌}
+use Rattle.std.proofs.Common.{◌≡◌, [], ◌∷◌, map, reverse, sym, ap, ◌∙◌}
 use Rattle.std.specs.Option.{option_map_or}
 use Rattle.std.proofs.lemmas.Simd.{map-map}
 use Rattle.graphql_names.specs.Placed.{node_tree}
@@ -8,6 +8,7 @@ use Rattle.graphql_fault_data.specs.in_schema.SchemaOf.{schema_tree}
 use Rattle.graphql_fault_data.specs.in_rule_definitions.Diagnostics.{RecursiveInputObjectDefinition}
 use Rattle.graphql_fault_data.specs.in_rule_definitions.Faults.{wrong}
 use Rattle.graphql_fault_data.specs.DiagnosticView.{plain_input}
+use Rattle.graphql_cycle_rules.specs.Labels.{along}
 use Rattle.graphql_cycle_rules.specs.FaultLists.{input_trace, plain_field}
 use Rattle.graphql_cycle_rules.proofs.Numbering.{found_entry}
 use Rattle.graphql_cycle_rules.proofs.input_faults.recursive_input_object_definition.Goals as goal
@@ -17,7 +18,7 @@ returns-in_ok-name-in-Some c =
     let s = schema_tree c.args.schema.now in
     let fields = map (plain_field s) (input_trace s c.args.root c.args.path.now) in
     let traced : map (node_tree plain_input) c.in_ok-trace-in-Some.trace.items ≡ fields =
-    sym (map-map (plain_field s) (node_tree input_value_tree) c.in_ok-trace-in-Some.trace.items) ∙ ap (map (plain_field s)) c.in_ok-trace-in-Some.ensures in
+    sym (map-map (plain_field s) (node_tree input_value_tree) c.in_ok-trace-in-Some.trace.items) ∙ ap (map (plain_field s)) (c.in_ok-trace-in-Some.ensures ∙ (λ k. reverse (along (λ i to. c.requires.labels i to k) c.args.root c.args.path.now))) in
     (λ i. wrong (c.location.ensures i) (RecursiveInputObjectDefinition (c.in_ok-name-in-Some.ensures.same i).text (traced i)) ∷ [])
     ∙ sym (found_entry extended_type (λ e. wrong e.1.place (RecursiveInputObjectDefinition e.0 fields) ∷ []) [] c.args.schema.now.types c.args.root c.get_index.result c.get_index.ensures.entry
     ∙ ap (λ r. option_map_or (λ p. wrong (extended_type p.1.now).place (RecursiveInputObjectDefinition (name_text p.0.now) fields) ∷ []) r []) c.in-Some.is)

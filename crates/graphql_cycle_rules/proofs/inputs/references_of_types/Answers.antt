@@ -1,0 +1,44 @@
+use Rattle.std.proofs.Common.{◌≡◌, length, sym, ◌∙◌, arith}
+use Rattle.std.proofs.lemmas.List.{length-map}
+use Rattle.graphql_names.specs.Placed.{node_tree}
+use Rattle.graphql_directives.specs.DirectiveTree.{input_value_tree}
+use Rattle.graphql_schema_types.specs.TypeView.{name_text, extended_type}
+use Rattle.graphql_fault_data.specs.in_schema.SchemaOf.{schema_tree}
+use Rattle.graphql_cycle_rules.specs.Numbers.{input_references}
+use Rattle.graphql_cycle_rules.specs.FaultLists.{input_fields_at}
+use Rattle.graphql_cycle_rules.proofs.InputGraphs.{past_the_last}
+use Rattle.graphql_cycle_rules.proofs.ReferenceFacts.{AreNoted-none, AreNoted-more, AreNoted-refers, AreNoted-labels}
+use Rattle.graphql_cycle_rules.proofs.inputs.references_of_types.Goals as goal
+
+pub loop-number-init : goal.loop-number-init
+loop-number-init c = record {
+  no_directives = c.new.ensures.directives;
+  all_roots = c.new.ensures.roots;
+  noted = AreNoted-none (node_tree input_value_tree) (input_fields_at (schema_tree c.args.schema.now)) c.new.result c.new.ensures.references c.new.ensures.firsts;
+}
+
+pub loop-number-preserved : goal.loop-number-preserved
+loop-number-preserved c =
+    let i = c.loop-number.invariant in
+    let adds = c.in_ok-push.ensures in
+    record {
+      no_directives = adds.directives ∙ i.no_directives;
+      all_roots = adds.roots ∙ i.all_roots;
+      noted = AreNoted-more (node_tree input_value_tree) (input_fields_at (schema_tree c.args.schema.now)) c.loop-number.number c.loop-number.all c.push.new.self c.in_ok-input_references.field-0.items i.noted adds c.in_ok-input_references.ensures;
+    }
+
+pub returns : goal.returns
+returns c =
+    let i = c.loop-number.invariant in
+    let s = schema_tree c.args.schema.now in
+    let all : c.len-roots.result ≡ length s.types = c.len-roots.ensures.len ∙ sym (length-map c.args.schema.now.types.entries (λ e. (name_text e.0, extended_type e.1))) in
+    let last : c.len-roots.result ≡ c.loop-number.number = omega arith in
+    let none = λ j h. past_the_last (input_references s.types) s.types j (omega (arith, all, last, h)) in
+    record {
+      graph = record {
+        no_directives = i.no_directives;
+        all_roots = i.all_roots ∙ all;
+        refers = AreNoted-refers (node_tree input_value_tree) (input_fields_at s) c.loop-number.number c.loop-number.all i.noted none;
+      };
+      labels = AreNoted-labels (node_tree input_value_tree) (input_fields_at s) c.loop-number.number c.loop-number.all i.noted none;
+    }

@@ -1,7 +1,0 @@
-use Rattle.std.proofs.Common.{◌≡◌, map, take}
-use Rattle.graphql_cycle_rules.specs.Labels.{targets}
-use Rattle.graphql_cycle_rules.specs.ReferenceViews.{input_reference_view}
-use Rattle.graphql_cycle_rules.proofs.inputs.targets_of.Given as goal
-
-abbrev pub invariant-loop-reference : goal.invariant-loop-reference
-invariant-loop-reference l = l.targets.items ≡ targets (map input_reference_view (take l.reference-index l.references))

@@ -1,0 +1,45 @@
+use Rattle.std.proofs.Common.{◌≡◌, ◌+◌, length, sym, ◌∙◌, arith}
+use Rattle.std.proofs.lemmas.List.{length-map}
+use Rattle.graphql_names.specs.Placed.{node_tree}
+use Rattle.graphql_directives.specs.DirectiveTree.{directive_definition_tree}
+use Rattle.graphql_schema_types.specs.TypeView.{name_text, extended_type}
+use Rattle.graphql_fault_data.specs.in_schema.SchemaOf.{schema_tree}
+use Rattle.graphql_cycle_rules.specs.UseNumbers.{uses_at}
+use Rattle.graphql_cycle_rules.specs.UseViews.{use_tree}
+use Rattle.graphql_cycle_rules.proofs.UseFacts.{nothing_past}
+use Rattle.graphql_cycle_rules.proofs.ReferenceFacts.{AreNoted-none, AreNoted-more, AreNoted-refers, AreNoted-labels}
+use Rattle.graphql_cycle_rules.proofs.uses.references_of_definitions.Goals as goal
+
+pub loop-node-init : goal.loop-node-init
+loop-node-init c = record {
+  directives = c.new.ensures.directives;
+  all_roots = c.new.ensures.roots;
+  noted = AreNoted-none use_tree (uses_at (schema_tree c.args.schema.now)) c.new.result c.new.ensures.references c.new.ensures.firsts;
+}
+
+pub loop-node-preserved : goal.loop-node-preserved
+loop-node-preserved c =
+    let i = c.loop-node.invariant in
+    let adds = c.in_ok-push.ensures in
+    record {
+      directives = adds.directives ∙ i.directives;
+      all_roots = adds.roots ∙ i.all_roots;
+      noted = AreNoted-more use_tree (uses_at (schema_tree c.args.schema.now)) c.loop-node.node c.loop-node.all c.push.new.self c.in_ok-use_references.field-0.items i.noted adds c.in_ok-use_references.ensures;
+    }
+
+pub returns : goal.returns
+returns c =
+    let i = c.loop-node.invariant in
+    let s = schema_tree c.args.schema.now in
+    let directives : c.len-roots.result ≡ length s.directives = c.len-roots.ensures.len ∙ sym (length-map c.args.schema.now.directive_definitions.entries (λ e. (name_text e.0, node_tree directive_definition_tree e.1))) in
+    let types : c.len.result ≡ length s.types = c.len.ensures.len ∙ sym (length-map c.args.schema.now.types.entries (λ e. (name_text e.0, extended_type e.1))) in
+    let last : length s.directives + length s.types ≡ c.loop-node.node = omega (arith, directives, types) in
+    let none = λ j h. nothing_past s j (omega (arith, last, h)) in
+    record {
+      graph = record {
+        directives = i.directives ∙ directives;
+        all_roots = i.all_roots ∙ directives;
+        refers = AreNoted-refers use_tree (uses_at s) c.loop-node.node c.loop-node.all i.noted none;
+      };
+      labels = AreNoted-labels use_tree (uses_at s) c.loop-node.node c.loop-node.all i.noted none;
+    }
