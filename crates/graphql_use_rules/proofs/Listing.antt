@@ -1,5 +1,5 @@
 -- Lists of faults and the rules by which they are told, piece by piece; and what is added to a list.
-use Rattle.std.proofs.Common.{◌≡◌, ℕ, ◌+◌, ◌<◌, ◌⊎◌, ◌↔◌, Bool, true, false, List, [], ◌∷◌, ◌++◌, get_or, map, take, length, refl, sym, ap, subst, ◌∙◌, inl, inr, Option, None, Some, Contains, zero, suc, slice_get, append_assoc, if◌then◌else◌, true≢false, is_some}
+use Rattle.std.proofs.Common.{◌≡◌, ℕ, ◌+◌, ◌<◌, ◌⊎◌, ◌↔◌, Bool, true, false, List, [], ◌∷◌, ◌++◌, get_or, map, take, length, refl, sym, ap, subst, ◌∙◌, inl, inr, Option, None, Some, Contains, zero, suc, ◌==◌, slice_get, append_assoc, if◌then◌else◌, true≢false, is_some}
 use Rattle.std.specs.List.{flat_map}
 use Rattle.std.specs.Option.{option_map_or}
 use Rattle.std.proofs.lemmas.List.{append-nil, map-append, take_more}
@@ -29,6 +29,14 @@ module _ {X : Type 0} where
       back : (i : ℕ) (z : X) → slice_get (x ∷ ys) i ≡ Some z → R i z → (AtSomeIndex ys (λ i. R (suc i)) ⊎ R (suc (length ys)) y → AtSomeIndex (ys ++ y ∷ []) (λ i. R (suc i))) → AtSomeIndex (x ∷ (ys ++ y ∷ [])) R
       back zero z e r rest = (0, (z, (e, r)))
       back (suc i) z e r rest = let q = rest (inl (i, (z, (e, r)))) in (suc q.0, q.1)
+
+-- an empty list, and what stands in it
+pub empty_is : {X : Type 0} (xs : List X) → (length xs == 0) ≡ true → xs ≡ []
+empty_is [] h = refl
+empty_is (x ∷ xs) h = absurd (true≢false (sym h))
+
+pub nowhere : {X : Type 0} (xs : List X) (R : ℕ → X → Type 0) → xs ≡ [] → AtSomeIndex xs R → ⊥
+nowhere xs R e q = true≢false (sym (ap is_some q.1.1.0) ∙ ap is_some (ap (λ l. slice_get l q.0) e))
 
 -- the front with the next element
 pub mapped_more : {X Y : Type 0} (f : X → Y) (xs : List X) (i : ℕ) (x : X) → i < length xs → x ≡ get_or xs i x → map f (take (i + 1) xs) ≡ map f (take i xs) ++ f x ∷ []

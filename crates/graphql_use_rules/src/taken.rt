@@ -253,8 +253,11 @@ pub fn check_taken(
     ensures { OnOk result ((at : Address → Place) → TellsPlaces at (schema_tree schema.now) taker.now → Adds faults.old faults.new (TakerBreaks at (judged (schema_tree schema.now)) (variables_of variables.now) (taker_of taker.now))) }
 {
     let alloc = *faults.allocator();
-    let defined = definition_numbers(alloc, taker.definitions)?;
     let given = argument_numbers(alloc, taker.given)?;
+    if taker.given.is_empty() {
+        return tell_required_arguments(taker, &given, faults);
+    }
+    let defined = definition_numbers(alloc, taker.definitions)?;
     tell_undefined_arguments(taker, &defined, faults)?;
     tell_required_arguments(taker, &given, faults)?;
     check_arguments(schema, taker, &defined, &given, variables, faults)
