@@ -1,4 +1,4 @@
-use Rattle.std.proofs.Common.{◌≡◌, ◌++◌, map, option_to_list, ap, ◌∙◌, append_assoc}
+use Rattle.std.proofs.Common.{◌++◌, map, option_to_list, ap, ◌∙◌, append_assoc}
 use Rattle.std.specs.Option.{option_map}
 use Rattle.graphql_names.specs.Placed.{node_tree}
 use Rattle.graphql_schema_types.specs.in_components.Names.{entries_of}
