@@ -1,9 +1,7 @@
 -- `==` of operations, fragments and documents says whether they are the same without places, sources and order.
 use Rattle.std.proofs.Common.{◌≡◌, ap}
 use Rattle.std.specs.Bool.{Decides}
-use Rattle.std.specs.Option.{option_map}
 use Rattle.graphql_names.specs.Node.{content}
-use Rattle.graphql_names.specs.declared.node.Node.{Node}
 use Rattle.graphql_names.specs.Placed.{name_tree, node_tree, unplaced_text}
 use Rattle.graphql_operations.specs.OperationTree.{variable_definition_tree, unplaced_variable_definition}
 use Rattle.graphql_definitions.proofs.in_values.Decided.{through, pair_decides, name_decides, nodes_decide, options_decide}

@@ -1,5 +1,5 @@
 -- What is written of sets, and of what stands under names.
-use Rattle.std.proofs.Common.{◌≡◌, ℕ, List, [], ◌∷◌, ◌++◌, map, take, length, ◌≤◌, Option, None, Some, option_to_list, refl, sym, ap, ◌∙◌}
+use Rattle.std.proofs.Common.{◌≡◌, ℕ, List, [], ◌∷◌, map, take, length, ◌≤◌, Option, None, Some, option_to_list, refl, sym, ap, ◌∙◌}
 use Rattle.std.specs.Prelude.{Vec}
 use Rattle.std.specs.declared.alloc.Global.{Global}
 use Rattle.std.proofs.lemmas.List.{take_all}

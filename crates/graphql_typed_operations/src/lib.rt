@@ -13,6 +13,7 @@ mod operation;
 mod operation_map;
 mod selections_to_ast;
 mod to_ast;
+mod written_node;
 
 pub use document::{ExecutableDocument, FieldSet, FragmentMap};
 pub use operation::{Fragment, Operation};

@@ -1,15 +1,11 @@
 //! Selections as they are written: without definitions and types.
-ghost use Rattle.std.specs.Prelude.{◌≡◌, ◌++◌, [], ◌∷◌, map, IfOk, OnOk};
-ghost use Rattle.std.specs.Option.{option_map};
-ghost use Rattle.graphql_names.specs.Node.{content, place};
-ghost use Rattle.graphql_names.specs.Placed.{name_tree};
-ghost use Rattle.graphql_directives.specs.DirectiveTree.{directives_tree};
-ghost use Rattle.graphql_operations.specs.SelectionTree.{FieldTree, InlineTree, selection_tree, selection_trees};
-ghost use Rattle.graphql_operations.specs.SelectionParts.{field_head};
+ghost use Rattle.std.specs.Prelude.{◌≡◌, IfOk};
+ghost use Rattle.graphql_operations.specs.SelectionTree.{selection_tree, selection_trees};
 ghost use Rattle.graphql_typed_selections.specs.TypedTree.{typed_selection_tree, typed_set_tree};
-ghost use Rattle.graphql_typed_selections.specs.TypedParts.{typed_head, typed_field_node, typed_spread_node, typed_inline_node};
+ghost use Rattle.graphql_typed_selections.specs.TypedParts.{typed_field_node, typed_spread_node, typed_inline_node};
 ghost use Rattle.graphql_typed_operations.specs.ToAst.{ast_selection, ast_set};
 
+use crate::written_node::{node_at, push_made};
 use graphql_names::{Node, copies_of_four, copies_of_two};
 use graphql_operations as ast;
 use graphql_typed_selections::{Field, FragmentSpread, InlineFragment, Selection, SelectionSet};
@@ -25,124 +21,72 @@ pub(crate) fn set_to_ast(
 {
     let mut written = Vec::new(alloc);
     for selection in &set.selections {
-        write_selection(alloc, selection, &mut written)?;
+        push_made(&mut written, selection_to_ast(alloc, selection))?;
     }
     Ok(written)
 }
 
-/// Writes a selection behind others.
+/// A selection as it is written.
 #[cycle(writing)]
 #[tactic(auto, using(graphql_typed_selections::proofs::TypedTrees::typed_tree_rules))]
-fn write_selection(
-    alloc: Global,
-    selection: &Selection,
-    out: &mut Vec<ast::Selection>,
-) -> Result<(), AllocError>
-    ensures { OnOk result (map selection_tree out.new.items ≡ map selection_tree out.old.items ++ ast_selection (typed_selection_tree selection.now) ∷ []) }
+fn selection_to_ast(alloc: Global, selection: &Selection) -> Result<ast::Selection, AllocError>
+    ensures { IfOk result (λ s. selection_tree s ≡ ast_selection (typed_selection_tree selection.now)) }
 {
     match selection {
-        Selection::Field(field) => write_field(alloc, field, out),
-        Selection::FragmentSpread(spread) => write_spread(alloc, spread, out),
-        Selection::InlineFragment(inline) => write_inline(alloc, inline, out),
+        Selection::Field(field) => field_to_ast(alloc, field),
+        Selection::FragmentSpread(spread) => spread_to_ast(alloc, spread),
+        Selection::InlineFragment(inline) => inline_to_ast(alloc, inline),
     }
 }
 
-/// Writes a field with what it selects.
+/// A field with what it selects.
 #[cycle(writing)]
-fn write_field(
-    alloc: Global,
-    field: &Node<Field>,
-    out: &mut Vec<ast::Selection>,
-) -> Result<(), AllocError>
-    ensures { OnOk result (map selection_tree out.new.items ≡ map selection_tree out.old.items ++ ast_selection (typed_field_node field.now) ∷ []) }
+fn field_to_ast(alloc: Global, node: &Node<Field>) -> Result<ast::Selection, AllocError>
+    ensures { IfOk result (λ s. selection_tree s ≡ ast_selection (typed_field_node node.now)) }
 {
-    let selections = set_to_ast(alloc, &field.content().selection_set)?;
-    put_field(alloc, field, selections, out)
-}
-
-/// Writes an inline fragment with what it selects.
-#[cycle(writing)]
-fn write_inline(
-    alloc: Global,
-    inline: &Node<InlineFragment>,
-    out: &mut Vec<ast::Selection>,
-) -> Result<(), AllocError>
-    ensures { OnOk result (map selection_tree out.new.items ≡ map selection_tree out.old.items ++ ast_selection (typed_inline_node inline.now) ∷ []) }
-{
-    let selections = set_to_ast(alloc, &inline.content().selection_set)?;
-    put_inline(alloc, inline, selections, out)
-}
-
-/// Writes a spread.
-fn write_spread(
-    alloc: Global,
-    spread: &Node<FragmentSpread>,
-    out: &mut Vec<ast::Selection>,
-) -> Result<(), AllocError>
-    ensures { OnOk result (map selection_tree out.new.items ≡ map selection_tree out.old.items ++ ast_selection (typed_spread_node spread.now) ∷ []) }
-{
-    let typed = spread.content();
-    let (fragment_name, directives) = copies_of_two(&typed.fragment_name, &typed.directives)?;
-    let written = ast::FragmentSpread {
-        fragment_name,
-        directives,
-    };
-    out.push(ast::Selection::FragmentSpread(spread.same_location(alloc, written)?))?;
-    Ok(())
-}
-
-/// A field that selects these.
-fn field_with(field: &Field, selections: Vec<ast::Selection>) -> Result<ast::Field, AllocError>
-    ensures head { IfOk result (λ f. field_head f ≡ typed_head field.now) }
-    ensures selects { IfOk result (λ f. f.selection_set ≡ selections) }
-{
+    let field = node.content();
+    let selection_set = set_to_ast(alloc, &field.selection_set)?;
     let (alias, name, arguments, directives) = copies_of_four(
         &field.alias,
         &field.name,
         &field.arguments,
         &field.directives,
     )?;
-    Ok(ast::Field {
+    let written = ast::Field {
         alias,
         name,
         arguments,
         directives,
-        selection_set: selections,
-    })
+        selection_set,
+    };
+    Ok(ast::Selection::Field(node_at(alloc, node, written)?))
 }
 
-/// Puts a field that selects these behind others.
-#[tactic(auto, using(graphql_operations::proofs::SelectionTrees::selection_tree_rules))]
-fn put_field(
-    alloc: Global,
-    field: &Node<Field>,
-    selections: Vec<ast::Selection>,
-    out: &mut Vec<ast::Selection>,
-) -> Result<(), AllocError>
-    ensures { OnOk result (map selection_tree out.new.items ≡ map selection_tree out.old.items ++ FieldTree (place field.now) (typed_head (content field.now)) (selection_trees selection_tree selections.items) ∷ []) }
+/// An inline fragment with what it selects.
+#[cycle(writing)]
+fn inline_to_ast(alloc: Global, node: &Node<InlineFragment>) -> Result<ast::Selection, AllocError>
+    ensures { IfOk result (λ s. selection_tree s ≡ ast_selection (typed_inline_node node.now)) }
 {
-    let written = field_with(field.content(), selections)?;
-    out.push(ast::Selection::Field(field.same_location(alloc, written)?))?;
-    Ok(())
-}
-
-/// Puts an inline fragment that selects these behind others.
-#[tactic(auto, using(graphql_operations::proofs::SelectionTrees::selection_tree_rules))]
-fn put_inline(
-    alloc: Global,
-    inline: &Node<InlineFragment>,
-    selections: Vec<ast::Selection>,
-    out: &mut Vec<ast::Selection>,
-) -> Result<(), AllocError>
-    ensures { OnOk result (map selection_tree out.new.items ≡ map selection_tree out.old.items ++ InlineTree (place inline.now) (option_map name_tree (content inline.now).type_condition) (directives_tree (content inline.now).directives) (selection_trees selection_tree selections.items) ∷ []) }
-{
-    let typed = inline.content();
-    let (type_condition, directives) = copies_of_two(&typed.type_condition, &typed.directives)?;
+    let inline = node.content();
+    let selection_set = set_to_ast(alloc, &inline.selection_set)?;
+    let (type_condition, directives) = copies_of_two(&inline.type_condition, &inline.directives)?;
     let written = ast::InlineFragment {
         type_condition,
         directives,
-        selection_set: selections,
+        selection_set,
     };
-    out.push(ast::Selection::InlineFragment(inline.same_location(alloc, written)?))?;
-    Ok(())
+    Ok(ast::Selection::InlineFragment(node_at(alloc, node, written)?))
+}
+
+/// A spread.
+fn spread_to_ast(alloc: Global, node: &Node<FragmentSpread>) -> Result<ast::Selection, AllocError>
+    ensures { IfOk result (λ s. selection_tree s ≡ ast_selection (typed_spread_node node.now)) }
+{
+    let spread = node.content();
+    let (fragment_name, directives) = copies_of_two(&spread.fragment_name, &spread.directives)?;
+    let written = ast::FragmentSpread {
+        fragment_name,
+        directives,
+    };
+    Ok(ast::Selection::FragmentSpread(node_at(alloc, node, written)?))
 }

@@ -1,18 +1,17 @@
 //! Documents as they are written: without definitions and types.
-ghost use Rattle.std.specs.Prelude.{◌≡◌, ◌++◌, [], ◌∷◌, map, option_to_list, IfOk, OnOk};
+ghost use Rattle.std.specs.Prelude.{◌≡◌, ◌++◌, [], map, option_to_list, IfOk, OnOk};
 ghost use Rattle.graphql_names.specs.Placed.{node_tree};
-ghost use Rattle.graphql_operations.specs.SelectionTree.{selection_tree, selection_trees};
-ghost use Rattle.graphql_operations.specs.OperationTree.{operation_tree, fragment_tree};
 ghost use Rattle.graphql_definitions.specs.DefinitionTree.{definition_tree, document_tree};
 ghost use Rattle.graphql_typed_operations.specs.TypedDocument.{typed_operation_tree, typed_fragment_tree, typed_document_tree};
-ghost use Rattle.graphql_typed_operations.specs.ToAst.{operation_with, fragment_with, ast_operation, ast_fragment, ast_document};
+ghost use Rattle.graphql_typed_operations.specs.ToAst.{ast_operation, ast_fragment, ast_document};
 
 use crate::document::ExecutableDocument;
 use crate::operation::{Fragment, Operation};
 use crate::selections_to_ast::set_to_ast;
+use crate::written_node::{node_at, push_made};
 use graphql_definitions::{Definition, Document};
 use graphql_names::{Node, copies_of_three};
-use graphql_operations::{FragmentDefinition, OperationDefinition, Selection};
+use graphql_operations::{FragmentDefinition, OperationDefinition};
 use std::alloc::{AllocError, Global};
 
 impl ExecutableDocument {
@@ -22,7 +21,8 @@ impl ExecutableDocument {
         ensures definitions { IfOk result (λ d. document_tree d ≡ ast_document (typed_document_tree self.now)) }
         ensures sources { IfOk result (λ d. d.sources.entries ≡ []) }
     {
-        let definitions = definitions_of(alloc, self)?;
+        let mut definitions = Vec::new(alloc);
+        write_definitions(alloc, self, &mut definitions)?;
         Ok(Document {
             definitions,
             ..Document::new(alloc)
@@ -30,20 +30,20 @@ impl ExecutableDocument {
     }
 }
 
-/// The definitions of a document as they are written.
-fn definitions_of(
+/// Writes the definitions of a document behind others.
+fn write_definitions(
     alloc: Global,
     document: &ExecutableDocument,
-) -> Result<Vec<Definition>, AllocError>
-    ensures { IfOk result (λ ds. map definition_tree ds.items ≡ ast_document (typed_document_tree document.now)) }
+    out: &mut Vec<Definition>,
+) -> Result<(), AllocError>
+    ensures { OnOk result (map definition_tree out.new.items ≡ map definition_tree out.old.items ++ ast_document (typed_document_tree document.now)) }
 {
-    let mut definitions = Vec::new(alloc);
-    write_anonymous(alloc, &document.operations.anonymous, &mut definitions)?;
+    write_anonymous(alloc, &document.operations.anonymous, out)?;
     let named = document.operations.named.values();
-    write_operations(alloc, named.as_slice(), &mut definitions)?;
+    write_operations(alloc, named.as_slice(), out)?;
     let fragments = document.fragments.values();
-    write_fragments(alloc, fragments.as_slice(), &mut definitions)?;
-    Ok(definitions)
+    write_fragments(alloc, fragments.as_slice(), out)?;
+    Ok(())
 }
 
 /// Writes the operation without a name, if there is one, behind other definitions.
@@ -56,7 +56,10 @@ fn write_anonymous(
 {
     match anonymous {
         None => Ok(()),
-        Some(operation) => write_operation(alloc, operation, out),
+        Some(operation) => {
+            push_made(out, operation_to_ast(alloc, operation))?;
+            Ok(())
+        }
     }
 }
 
@@ -69,7 +72,7 @@ fn write_operations(
     ensures { OnOk result (map definition_tree out.new.items ≡ map definition_tree out.old.items ++ map (λ n. ast_operation (node_tree typed_operation_tree n)) operations.now) }
 {
     for operation in operations {
-        write_operation(alloc, operation, out)?;
+        push_made(out, operation_to_ast(alloc, operation))?;
     }
     Ok(())
 }
@@ -83,77 +86,49 @@ fn write_fragments(
     ensures { OnOk result (map definition_tree out.new.items ≡ map definition_tree out.old.items ++ map (λ n. ast_fragment (node_tree typed_fragment_tree n)) fragments.now) }
 {
     for fragment in fragments {
-        write_fragment(alloc, fragment, out)?;
+        push_made(out, fragment_to_ast(alloc, fragment))?;
     }
     Ok(())
 }
 
-/// Writes an operation behind other definitions.
-fn write_operation(
-    alloc: Global,
-    operation: &Node<Operation>,
-    out: &mut Vec<Definition>,
-) -> Result<(), AllocError>
-    ensures { OnOk result (map definition_tree out.new.items ≡ map definition_tree out.old.items ++ ast_operation (node_tree typed_operation_tree operation.now) ∷ []) }
+/// An operation as it is written.
+fn operation_to_ast(alloc: Global, node: &Node<Operation>) -> Result<Definition, AllocError>
+    ensures { IfOk result (λ d. definition_tree d ≡ ast_operation (node_tree typed_operation_tree node.now)) }
 {
-    let selections = set_to_ast(alloc, &operation.content().selection_set)?;
-    let written = operation_with(operation.content(), selections)?;
-    out.push(Definition::OperationDefinition(operation.same_location(alloc, written)?))?;
-    Ok(())
-}
-
-/// Writes a fragment behind other definitions.
-fn write_fragment(
-    alloc: Global,
-    fragment: &Node<Fragment>,
-    out: &mut Vec<Definition>,
-) -> Result<(), AllocError>
-    ensures { OnOk result (map definition_tree out.new.items ≡ map definition_tree out.old.items ++ ast_fragment (node_tree typed_fragment_tree fragment.now) ∷ []) }
-{
-    let selections = set_to_ast(alloc, &fragment.content().selection_set)?;
-    let written = fragment_with(fragment.content(), selections)?;
-    out.push(Definition::FragmentDefinition(fragment.same_location(alloc, written)?))?;
-    Ok(())
-}
-
-/// An operation that selects these.
-fn operation_with(
-    operation: &Operation,
-    selections: Vec<Selection>,
-) -> Result<OperationDefinition, AllocError>
-    ensures { IfOk result (λ o. operation_tree o ≡ operation_with (typed_operation_tree operation.now) (selection_trees selection_tree selections.items)) }
-{
+    let operation = node.content();
+    let selection_set = set_to_ast(alloc, &operation.selection_set)?;
     let (name, variables, directives) = copies_of_three(
         &operation.name,
         &operation.variables,
         &operation.directives,
     )?;
-    Ok(OperationDefinition {
+    let written = OperationDefinition {
         operation_type: operation.operation_type,
         name,
         variables,
         directives,
-        selection_set: selections,
-    })
+        selection_set,
+    };
+    Ok(Definition::OperationDefinition(node_at(alloc, node, written)?))
 }
 
-/// A fragment that selects these, its condition the type of its set.
+/// A fragment as it is written, its condition the type of its set.
 #[tactic(auto, using(crate::proofs::TypedSets::typed_set_tree_out))]
-fn fragment_with(
-    fragment: &Fragment,
-    selections: Vec<Selection>,
-) -> Result<FragmentDefinition, AllocError>
-    ensures { IfOk result (λ f. fragment_tree f ≡ fragment_with (typed_fragment_tree fragment.now) (selection_trees selection_tree selections.items)) }
+fn fragment_to_ast(alloc: Global, node: &Node<Fragment>) -> Result<Definition, AllocError>
+    ensures { IfOk result (λ d. definition_tree d ≡ ast_fragment (node_tree typed_fragment_tree node.now)) }
 {
+    let fragment = node.content();
+    let selection_set = set_to_ast(alloc, &fragment.selection_set)?;
     let (name, type_condition, directives) = copies_of_three(
         &fragment.name,
         &fragment.selection_set.ty,
         &fragment.directives,
     )?;
-    Ok(FragmentDefinition {
+    let written = FragmentDefinition {
         name,
         type_condition,
         directives,
-        selection_set: selections,
-    })
+        selection_set,
+    };
+    Ok(Definition::FragmentDefinition(node_at(alloc, node, written)?))
 }
