@@ -1,8 +1,10 @@
 //! Parts of selections.
 
-use graphql_directives::Directive;
-use graphql_documents::{FragmentSpread, Selection};
+use graphql_directives::{Directive, DirectiveList};
+use graphql_documents::{Field, FragmentSpread, Selection, SelectionSet};
+use graphql_literals::Type;
 use graphql_names::{Node, name};
+use graphql_type_members::FieldDefinition;
 use std::alloc::{AllocError, Global};
 
 /// A node without a place.
@@ -19,4 +21,28 @@ pub(crate) fn directive(alloc: Global) -> Result<Node<Directive>, AllocError> {
 pub(crate) fn spread(alloc: Global) -> Result<Selection, AllocError> {
     let spread = FragmentSpread::new(alloc, name!("F"));
     Ok(Selection::from(node(alloc, spread)?))
+}
+
+/// `ofType: __Type`
+fn definition(alloc: Global) -> FieldDefinition {
+    FieldDefinition {
+        description: None,
+        name: name!("ofType"),
+        arguments: Vec::new(alloc),
+        ty: Type::Named(name!("__Type")),
+        directives: DirectiveList::new(alloc),
+    }
+}
+
+/// `ofType`, which that defines.
+pub(crate) fn field(alloc: Global) -> Result<Field, AllocError> {
+    let definition = node(alloc, definition(alloc))?;
+    Ok(Field {
+        definition,
+        alias: None,
+        name: name!("ofType"),
+        arguments: Vec::new(alloc),
+        directives: DirectiveList::new(alloc),
+        selection_set: SelectionSet::new(alloc, name!("__Type")),
+    })
 }

@@ -1,15 +1,15 @@
 //! Selections that are built of their parts.
 
-use crate::parts::{directive, node, spread};
+use crate::parts::{directive, field, node, spread};
 use graphql_documents::{Field, FragmentSpread, InlineFragment};
 use graphql_literals::Value;
 use graphql_names::name;
 use std::alloc::{AllocError, Global};
 
-/// The field under the alias `z`, with one more of each part: `x: null`, `@e` and `...F`.
-pub(crate) fn with_each(alloc: Global, field: Field) -> Result<Field, AllocError> {
+/// `z: ofType(x: null) @e { ...F }`
+pub(crate) fn field_with_each(alloc: Global) -> Result<Field, AllocError> {
     let value = node(alloc, Value::Null)?;
-    field
+    field(alloc)?
         .with_opt_alias(Some(name!("z")))
         .with_argument(name!("x"), value)?
         .with_directive(directive(alloc)?)?

@@ -6,6 +6,7 @@ use graphql_row_files::{Answer, Case, Problem, Tally};
 use graphql_schema::Schema;
 use graphql_schema_rows::{
     Built, build, judge, push_built, push_coordinate, push_documents, push_field_set,
+    push_new_field,
 };
 use std::alloc::Global;
 
@@ -61,6 +62,7 @@ fn push_answer(
     match case.call {
         "coordinate" => push_coordinate(alloc, case, schema, input, answer),
         "field_set" => push_field_set(alloc, case, schema, input, answer),
+        "new_field" => push_new_field(alloc, case, schema, input, answer),
         _ => push_use(alloc, case, schema, input, answer),
     }
 }

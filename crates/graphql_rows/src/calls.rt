@@ -20,7 +20,7 @@ fn names_of(call: &str) -> Option<&'static [&'static str]> {
         "document" | "written" | "fields" | "all_fields" | "root_fields" | "introspection" => {
             Some(&["schema", "standalone", "document"])
         }
-        "field_set" => Some(&["schema", "type", "input"]),
+        "field_set" | "new_field" => Some(&["schema", "type", "input"]),
         "rules" | "kept" => Some(&["schema", "types"]),
         "value" | "covariant" => Some(&["schema", "type", "input"]),
         "directives" => Some(&["schema", "standalone", "location", "input"]),

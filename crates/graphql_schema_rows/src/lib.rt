@@ -1,5 +1,5 @@
-//! Rows of schemas that are built and written out, of coordinates in them, and of documents that get a meaning under them,
-//! with the walks over these.
+//! Rows of schemas that are built and written out, of coordinates in them, of fields that sets make under them, and of
+//! documents that get a meaning under them, with the walks over these.
 //!
 //! For the layer above: `build` gives the schema of a row's texts, each other `push_` function adds what a call answers
 //! under it, and `judge` compares that. Begin with `building.rt`, `schemas.rt` and `documents.rt`; `lines.rt` and
@@ -12,6 +12,7 @@ mod coordinates;
 mod documents;
 mod field_sets;
 mod lines;
+mod new_fields;
 mod outline;
 mod schemas;
 mod walks;
@@ -23,4 +24,5 @@ pub use coordinates::push_coordinate;
 pub use documents::{push_documents, schema_under};
 pub use field_sets::push_field_set;
 pub use graphql_read_rows::{by_layouts, by_read, by_tree, text_of};
+pub use new_fields::push_new_field;
 pub use schemas::push_built;
