@@ -1,5 +1,5 @@
 -- By what nodes are referred to first, reference by reference.
-use Rattle.std.proofs.Common.{map, ◌≤◌, ◌+◌, inl, inr, ◌≡◌, ℕ, ◌<◌, zero, suc, arith, length, Bool, true, false, cond, List, [], ◌∷◌, ◌++◌, Option, None, Some, is_some, refl, sym, ap, subst, ◌∙◌, true≢false}
+use Rattle.std.proofs.Common.{map, ◌≤◌, ◌+◌, inl, inr, ◌≡◌, ℕ, ◌<◌, zero, suc, arith, length, Bool, true, false, cond, List, [], ◌∷◌, ◌++◌, Option, None, Some, is_some, refl, sym, ap, ◌∙◌, true≢false}
 use Rattle.std.specs.Prelude.{◌==◌, find, slice_get, option_and_then, Vec}
 use Rattle.std.specs.Global.{Global}
 use Rattle.std.specs.Option.{option_or, option_map, option_map_or}

@@ -1,4 +1,4 @@
-use Rattle.std.proofs.Common.{◌≡◌, length, sym, ◌∙◌, arith}
+use Rattle.std.proofs.Common.{◌≡◌, ◌≤◌, ℕ, [], length, sym, ◌∙◌, arith}
 use Rattle.std.proofs.lemmas.List.{length-map}
 use Rattle.graphql_names.specs.Placed.{node_tree}
 use Rattle.graphql_directives.specs.DirectiveTree.{input_value_tree}
@@ -12,9 +12,9 @@ use Rattle.graphql_cycle_rules.proofs.inputs.references_of_types.Goals as goal
 
 pub loop-number-init : goal.loop-number-init
 loop-number-init c = record {
-  no_directives = c.new.ensures.directives;
-  all_roots = c.new.ensures.roots;
-  noted = AreNoted-none (node_tree input_value_tree) (input_fields_at (schema_tree c.args.schema.now)) c.new.result c.new.ensures.references c.new.ensures.firsts;
+  no_directives = c.new-all.ensures.directives;
+  all_roots = c.new-all.ensures.roots;
+  noted = AreNoted-none (node_tree input_value_tree) (input_fields_at (schema_tree c.args.schema.now)) c.new-all.result c.new-all.ensures.references c.new-all.ensures.firsts;
 }
 
 pub loop-number-preserved : goal.loop-number-preserved
@@ -33,7 +33,7 @@ returns c =
     let s = schema_tree c.args.schema.now in
     let all : c.len-roots.result ≡ length s.types = c.len-roots.ensures.len ∙ sym (length-map c.args.schema.now.types.entries (λ e. (name_text e.0, extended_type e.1))) in
     let last : c.len-roots.result ≡ c.loop-number.number = omega arith in
-    let none = λ j h. past_the_last (input_references s.types) s.types j (omega (arith, all, last, h)) in
+    let none : (j : ℕ) → c.loop-number.number ≤ j → input_fields_at s j ≡ [] = λ j h. past_the_last (input_references s.types) s.types j (omega (arith, all, last, h)) in
     record {
       graph = record {
         no_directives = i.no_directives;

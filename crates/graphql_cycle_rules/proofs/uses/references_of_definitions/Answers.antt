@@ -1,4 +1,4 @@
-use Rattle.std.proofs.Common.{◌≡◌, ◌+◌, length, sym, ◌∙◌, arith}
+use Rattle.std.proofs.Common.{◌≡◌, ◌+◌, ◌≤◌, ℕ, [], length, sym, ◌∙◌, arith}
 use Rattle.std.proofs.lemmas.List.{length-map}
 use Rattle.graphql_names.specs.Placed.{node_tree}
 use Rattle.graphql_directives.specs.DirectiveTree.{directive_definition_tree}
@@ -12,9 +12,9 @@ use Rattle.graphql_cycle_rules.proofs.uses.references_of_definitions.Goals as go
 
 pub loop-node-init : goal.loop-node-init
 loop-node-init c = record {
-  directives = c.new.ensures.directives;
-  all_roots = c.new.ensures.roots;
-  noted = AreNoted-none use_tree (uses_at (schema_tree c.args.schema.now)) c.new.result c.new.ensures.references c.new.ensures.firsts;
+  directives = c.new-all.ensures.directives;
+  all_roots = c.new-all.ensures.roots;
+  noted = AreNoted-none use_tree (uses_at (schema_tree c.args.schema.now)) c.new-all.result c.new-all.ensures.references c.new-all.ensures.firsts;
 }
 
 pub loop-node-preserved : goal.loop-node-preserved
@@ -34,7 +34,7 @@ returns c =
     let directives : c.len-roots.result ≡ length s.directives = c.len-roots.ensures.len ∙ sym (length-map c.args.schema.now.directive_definitions.entries (λ e. (name_text e.0, node_tree directive_definition_tree e.1))) in
     let types : c.len.result ≡ length s.types = c.len.ensures.len ∙ sym (length-map c.args.schema.now.types.entries (λ e. (name_text e.0, extended_type e.1))) in
     let last : length s.directives + length s.types ≡ c.loop-node.node = omega (arith, directives, types) in
-    let none = λ j h. nothing_past s j (omega (arith, last, h)) in
+    let none : (j : ℕ) → c.loop-node.node ≤ j → uses_at s j ≡ [] = λ j h. nothing_past s j (omega (arith, last, h)) in
     record {
       graph = record {
         directives = i.directives ∙ directives;
