@@ -1,5 +1,5 @@
 -- What is told of what is used again, by the place that was noted first under its name.
-use Rattle.std.proofs.Common.{◌≡◌, ℕ, ◌<◌, Bool, true, false, List, [], ◌∷◌, ◌++◌, map, find, length, Option, None, Some, refl, sym, ap, ◌∙◌, if◌then◌else◌, arith}
+use Rattle.std.proofs.Common.{◌≡◌, ◌<◌, Bool, true, false, List, [], ◌∷◌, ◌++◌, map, find, length, Option, None, Some, refl, sym, ap, ◌∙◌, if◌then◌else◌, arith}
 use Rattle.std.specs.Option.{option_map, option_map_or}
 use Rattle.graphql_names.specs.Placed.{Placed, Place}
 use Rattle.graphql_directives.specs.DirectiveTree.{ArgumentTree, Arguments, DirectiveTree, Directives, DirectiveDefinitionTree}

@@ -1,7 +1,8 @@
 -- Lists of faults and the rules by which they are told, piece by piece; and what is added to a list.
-use Rattle.std.proofs.Common.{◌≡◌, ℕ, ◌+◌, ◌<◌, ◌⊎◌, ◌↔◌, Bool, true, false, List, [], ◌∷◌, ◌++◌, get_or, map, take, length, refl, sym, ap, subst, ◌∙◌, inl, inr, Option, None, Some, Contains, zero, suc, ◌==◌, slice_get, append_assoc, if◌then◌else◌, true≢false, is_some}
+use Rattle.std.proofs.Common.{◌≡◌, ℕ, ◌+◌, ◌<◌, ◌⊎◌, ◌↔◌, Bool, true, false, List, [], ◌∷◌, ◌++◌, get_or, map, take, length, refl, sym, ap, subst, ◌∙◌, inl, inr, Option, None, Some, Contains, zero, suc, arith, ◌==◌, slice_get, append_assoc, if◌then◌else◌, true≢false, is_some}
 use Rattle.std.specs.List.{flat_map}
 use Rattle.std.specs.Option.{option_map_or}
+use Rattle.std.proofs.lemmas.Bool.{eqb-true}
 use Rattle.std.proofs.lemmas.List.{append-nil, map-append, take_more}
 use Rattle.std.proofs.lemmas.List.Elements.{Contains-append_left, Contains-append_right, Contains-append_cases}
 use Rattle.graphql_components.specs.Lists.{each_place_after, each_place}
@@ -33,7 +34,7 @@ module _ {X : Type 0} where
 -- an empty list, and what stands in it
 pub empty_is : {X : Type 0} (xs : List X) → (length xs == 0) ≡ true → xs ≡ []
 empty_is [] h = refl
-empty_is (x ∷ xs) h = absurd (true≢false (sym h))
+empty_is (x ∷ xs) h = absurd (omega (arith, eqb-true (length (x ∷ xs)) 0 h))
 
 pub nowhere : {X : Type 0} (xs : List X) (R : ℕ → X → Type 0) → xs ≡ [] → AtSomeIndex xs R → ⊥
 nowhere xs R e q = true≢false (sym (ap is_some q.1.1.0) ∙ ap is_some (ap (λ l. slice_get l q.0) e))

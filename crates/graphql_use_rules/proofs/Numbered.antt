@@ -1,11 +1,11 @@
 -- The first argument of each name, by the number of the name.
-use Rattle.std.proofs.Common.{◌≡◌, ◌↔◌, ℕ, zero, suc, ◌<◌, Bool, true, false, List, [], ◌∷◌, map, take, length, get_or, slice_get, refl, sym, ap, subst, ◌∙◌, Option, None, Some, is_some, true≢false}
+use Rattle.std.proofs.Common.{◌≡◌, ℕ, zero, suc, ◌<◌, List, [], ◌∷◌, map, take, length, get_or, slice_get, sym, ap, subst, ◌∙◌, Some, is_some, true≢false}
 use Rattle.std.proofs.lemmas.Option.{same_Some}
 use Rattle.indexmap.specs.IndexMap.{IndexMap, get}
 use Rattle.graphql_names.specs.NameValue.{NameValue}
 use Rattle.graphql_names.specs.Placed.{Placed, Place, node_tree}
 use Rattle.graphql_names.specs.declared.node.Node.{Node}
-use Rattle.graphql_directives.specs.DirectiveTree.{ArgumentTree, Arguments, InputValues, argument_tree}
+use Rattle.graphql_directives.specs.DirectiveTree.{ArgumentTree, InputValues, argument_tree}
 use Rattle.graphql_directives.specs.declared.directive.Argument.{Argument}
 use Rattle.graphql_components.specs.Names.{same_text}
 use Rattle.graphql_value_rules.specs.in_schema.in_schema_types.SchemaTree.{SchemaTree}

@@ -40,7 +40,7 @@ returns c =
     let ds = inputs_of c.args.taker.now.definitions.now in
     let a = faults_of c.args.faults.now in
     let b = faults_of c.tell_undefined_arguments.new.faults in
-    let d = faults_of c.tell_required_arguments.new.faults in
+    let d = faults_of c.tell_required_arguments-2.new.faults in
     let e = faults_of c.check_arguments.new.faults in
     on_ok_weaker c.check_arguments.result
     (λ h at places.
