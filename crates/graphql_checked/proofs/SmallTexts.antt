@@ -4,7 +4,7 @@ use Rattle.std.proofs.Math.Nat.{lt_irrefl}
 use Rattle.graphql_names.specs.Placed.{Placed, Place, Text}
 use Rattle.graphql_thin.specs.in_literals.TypeTree.{NamedTree, NonNullNamedTree}
 use Rattle.graphql_thin.specs.in_operations.SelectionTree.{SelectionTree, SelectionTrees, FieldTree, selection_then, no_selections}
-use Rattle.graphql_thin.specs.in_operations.declared.operation.OperationType.TheVariants.{Query}
+use Rattle.graphql_thin.specs.in_operations.in_directives.declared.operation_type.OperationType.TheVariants.{Query}
 use Rattle.graphql_definitions.specs.in_type_members.TypeSystemTree.{FieldDefinitionTree}
 use Rattle.graphql_definitions.specs.DefinitionTree.{DefinitionTree, Operation, ObjectType}
 use Rattle.graphql_thin.specs.in_lexer.Bytes.{run_len}

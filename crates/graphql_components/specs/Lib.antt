@@ -3,6 +3,5 @@ pub mod Names
 pub mod Given
 pub mod Applied
 pub mod LeftNamed
-pub mod Coordinate
 pub use Rattle.graphql_values.specs.in_operations as in_operations
 pub use Rattle.graphql_values.specs as in_values

@@ -1,5 +1,3 @@
-pub mod Cuts
-pub mod CoordinateReads
 pub mod Answering
 pub use Rattle.graphql_schema.proofs as in_schema
 pub use Rattle.graphql_schema.proofs.in_schema_building as in_schema_building

@@ -1,6 +1,3 @@
-pub mod CoordinateView
-pub mod Reading
-pub mod ParseErrors
 pub mod LookUps
 pub mod LookUpView
 pub use Rattle.graphql_components.specs as in_components

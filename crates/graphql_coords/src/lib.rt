@@ -1,24 +1,22 @@
-//! Schema coordinates: names of types, fields, values, arguments and directives of a schema in one line.
+//! What schema coordinates name: their look-ups in a schema. Their form, and how they are printed and read, is
+//! `graphql_coordinates`, whose types this gives again.
 //!
-//! For the layer above: contracts see a coordinate as one of five forms (`specs/Coordinate.antt`); a text is read
-//! exactly where it is printed for some coordinate, and look-ups answer by the schema's entries (`specs/LookUps.antt`).
+//! For the layer above: look-ups answer by the schema's entries (`specs/LookUps.antt`).
 //!
-//! Begin with `coordinate.rt` and `specs/Coordinate.antt`.
+//! Begin with `lookup.rt` and `specs/LookUps.antt`.
 #![tactic(auto)]
 
-mod coordinate;
-mod display;
 mod find;
-mod from_str;
 mod lookup;
 mod lookup_answers;
-mod parse_error;
-mod parts;
 
-pub use coordinate::{
+pub use graphql_coordinates::{
     DirectiveArgumentCoordinate, DirectiveCoordinate, FieldArgumentCoordinate, SchemaCoordinate,
-    TypeAttributeCoordinate, TypeCoordinate,
+    SchemaCoordinateParseError, TypeAttributeCoordinate, TypeCoordinate,
 };
 pub use graphql_schema::{FieldLookupError, Schema};
+pub use lookup::{
+    DirectiveArgumentCoordinateExt, DirectiveCoordinateExt, FieldArgumentCoordinateExt,
+    SchemaCoordinateExt, TypeAttributeCoordinateExt, TypeCoordinateExt,
+};
 pub use lookup_answers::{SchemaCoordinateLookup, SchemaLookupError, TypeAttributeLookup};
-pub use parse_error::SchemaCoordinateParseError;

@@ -6,11 +6,11 @@ ghost use Rattle.graphql_type_members.specs.TypeSystemTree.{field_definition_tre
 ghost use Rattle.graphql_components.specs.Given.{component_tree};
 ghost use Rattle.graphql_schema.specs.in_schema_types.TypeView.{extended_type};
 ghost use Rattle.graphql_schema.specs.SchemaOf.{schema_tree};
-ghost use Rattle.graphql_coords.specs.CoordinateView.{type_coordinate, attribute_coordinate, argument_coordinate, directive_coordinate, directive_argument_coordinate, schema_coordinate};
+ghost use Rattle.graphql_coordinates.specs.CoordinateView.{type_coordinate, attribute_coordinate, argument_coordinate, directive_coordinate, directive_argument_coordinate, schema_coordinate};
 ghost use Rattle.graphql_coords.specs.LookUps.{type_lookup, attribute_lookup, field_lookup, input_field_lookup, enum_value_lookup, argument_lookup, directive_lookup, directive_argument_lookup};
 ghost use Rattle.graphql_coords.specs.LookUpView.{answer, attribute_of, named_of, lookup_of};
 
-use crate::coordinate::{
+use graphql_coordinates::{
     DirectiveArgumentCoordinate, DirectiveCoordinate, FieldArgumentCoordinate, SchemaCoordinate,
     TypeAttributeCoordinate, TypeCoordinate,
 };
@@ -23,9 +23,17 @@ use graphql_names::Node;
 use graphql_schema::{Component, ExtendedType, Schema};
 use graphql_type_members::{EnumValueDefinition, FieldDefinition};
 
-impl TypeCoordinate {
+/// The look-up of a type.
+pub trait TypeCoordinateExt {
     /// The type.
-    pub fn lookup<'coord, 'schema>(
+    fn lookup<'coord, 'schema>(
+        &'coord self,
+        schema: &'schema Schema,
+    ) -> Result<&'schema ExtendedType, SchemaLookupError<'coord, 'schema>>;
+}
+
+impl TypeCoordinateExt for TypeCoordinate {
+    fn lookup<'coord, 'schema>(
         &'coord self,
         schema: &'schema Schema,
     ) -> Result<&'schema ExtendedType, SchemaLookupError<'coord, 'schema>>
@@ -35,9 +43,35 @@ impl TypeCoordinate {
     }
 }
 
-impl TypeAttributeCoordinate {
+/// The look-ups of a field, an input field or an enum value.
+pub trait TypeAttributeCoordinateExt {
     /// The field, input field or enum value.
-    pub fn lookup<'coord, 'schema>(
+    fn lookup<'coord, 'schema>(
+        &'coord self,
+        schema: &'schema Schema,
+    ) -> Result<TypeAttributeLookup<'schema>, SchemaLookupError<'coord, 'schema>>;
+
+    /// The field, of an object or an interface.
+    fn lookup_field<'coord, 'schema>(
+        &'coord self,
+        schema: &'schema Schema,
+    ) -> Result<&'schema Component<FieldDefinition>, SchemaLookupError<'coord, 'schema>>;
+
+    /// The input field, of an input object.
+    fn lookup_input_field<'coord, 'schema>(
+        &'coord self,
+        schema: &'schema Schema,
+    ) -> Result<&'schema Component<InputValueDefinition>, SchemaLookupError<'coord, 'schema>>;
+
+    /// The value, of an enum.
+    fn lookup_enum_value<'coord, 'schema>(
+        &'coord self,
+        schema: &'schema Schema,
+    ) -> Result<&'schema Component<EnumValueDefinition>, SchemaLookupError<'coord, 'schema>>;
+}
+
+impl TypeAttributeCoordinateExt for TypeAttributeCoordinate {
+    fn lookup<'coord, 'schema>(
         &'coord self,
         schema: &'schema Schema,
     ) -> Result<TypeAttributeLookup<'schema>, SchemaLookupError<'coord, 'schema>>
@@ -46,8 +80,7 @@ impl TypeAttributeCoordinate {
         find_attribute(&self.ty, &self.attribute, schema)
     }
 
-    /// The field, of an object or an interface.
-    pub fn lookup_field<'coord, 'schema>(
+    fn lookup_field<'coord, 'schema>(
         &'coord self,
         schema: &'schema Schema,
     ) -> Result<&'schema Component<FieldDefinition>, SchemaLookupError<'coord, 'schema>>
@@ -59,8 +92,7 @@ impl TypeAttributeCoordinate {
         }
     }
 
-    /// The input field, of an input object.
-    pub fn lookup_input_field<'coord, 'schema>(
+    fn lookup_input_field<'coord, 'schema>(
         &'coord self,
         schema: &'schema Schema,
     ) -> Result<&'schema Component<InputValueDefinition>, SchemaLookupError<'coord, 'schema>>
@@ -72,8 +104,7 @@ impl TypeAttributeCoordinate {
         }
     }
 
-    /// The value, of an enum.
-    pub fn lookup_enum_value<'coord, 'schema>(
+    fn lookup_enum_value<'coord, 'schema>(
         &'coord self,
         schema: &'schema Schema,
     ) -> Result<&'schema Component<EnumValueDefinition>, SchemaLookupError<'coord, 'schema>>
@@ -86,9 +117,17 @@ impl TypeAttributeCoordinate {
     }
 }
 
-impl FieldArgumentCoordinate {
+/// The look-up of an argument of a field.
+pub trait FieldArgumentCoordinateExt {
     /// The definition of the argument.
-    pub fn lookup<'coord, 'schema>(
+    fn lookup<'coord, 'schema>(
+        &'coord self,
+        schema: &'schema Schema,
+    ) -> Result<&'schema Node<InputValueDefinition>, SchemaLookupError<'coord, 'schema>>;
+}
+
+impl FieldArgumentCoordinateExt for FieldArgumentCoordinate {
+    fn lookup<'coord, 'schema>(
         &'coord self,
         schema: &'schema Schema,
     ) -> Result<&'schema Node<InputValueDefinition>, SchemaLookupError<'coord, 'schema>>
@@ -101,9 +140,17 @@ impl FieldArgumentCoordinate {
     }
 }
 
-impl DirectiveCoordinate {
+/// The look-up of a directive.
+pub trait DirectiveCoordinateExt {
     /// The definition of the directive.
-    pub fn lookup<'coord, 'schema>(
+    fn lookup<'coord, 'schema>(
+        &'coord self,
+        schema: &'schema Schema,
+    ) -> Result<&'schema Node<DirectiveDefinition>, SchemaLookupError<'coord, 'schema>>;
+}
+
+impl DirectiveCoordinateExt for DirectiveCoordinate {
+    fn lookup<'coord, 'schema>(
         &'coord self,
         schema: &'schema Schema,
     ) -> Result<&'schema Node<DirectiveDefinition>, SchemaLookupError<'coord, 'schema>>
@@ -113,9 +160,17 @@ impl DirectiveCoordinate {
     }
 }
 
-impl DirectiveArgumentCoordinate {
+/// The look-up of an argument of a directive.
+pub trait DirectiveArgumentCoordinateExt {
     /// The definition of the argument.
-    pub fn lookup<'coord, 'schema>(
+    fn lookup<'coord, 'schema>(
+        &'coord self,
+        schema: &'schema Schema,
+    ) -> Result<&'schema Node<InputValueDefinition>, SchemaLookupError<'coord, 'schema>>;
+}
+
+impl DirectiveArgumentCoordinateExt for DirectiveArgumentCoordinate {
+    fn lookup<'coord, 'schema>(
         &'coord self,
         schema: &'schema Schema,
     ) -> Result<&'schema Node<InputValueDefinition>, SchemaLookupError<'coord, 'schema>>
@@ -131,9 +186,17 @@ impl DirectiveArgumentCoordinate {
     }
 }
 
-impl SchemaCoordinate {
+/// The look-up of whatever a coordinate names.
+pub trait SchemaCoordinateExt {
     /// What it names.
-    pub fn lookup<'coord, 'schema>(
+    fn lookup<'coord, 'schema>(
+        &'coord self,
+        schema: &'schema Schema,
+    ) -> Result<SchemaCoordinateLookup<'schema>, SchemaLookupError<'coord, 'schema>>;
+}
+
+impl SchemaCoordinateExt for SchemaCoordinate {
+    fn lookup<'coord, 'schema>(
         &'coord self,
         schema: &'schema Schema,
     ) -> Result<SchemaCoordinateLookup<'schema>, SchemaLookupError<'coord, 'schema>>

@@ -7,7 +7,7 @@ use Rattle.graphql_values.specs.ValueTree.{ValueTree, IntTree}
 use Rattle.graphql_values.specs.DirectiveTree.{DirectiveTree, InputValueTree}
 use Rattle.graphql_values.specs.SelectionTree.{FieldTree, no_selections, selection_then}
 use Rattle.graphql_values.specs.LineLayout.{Prefix}
-use Rattle.graphql_values.specs.in_operations.declared.operation.OperationType.TheVariants.{Query, Mutation}
+use Rattle.graphql_values.specs.in_directives.declared.operation_type.OperationType.TheVariants.{Query, Mutation}
 use Rattle.graphql_composite_types.specs.in_type_members.TypeSystemTree.{FieldDefinitionTree, EnumValueTree, FieldsParts}
 use Rattle.graphql_definitions.specs.DefinitionTree.{DefinitionTree, Operation, Schema, ScalarType, ObjectType, InterfaceType, UnionType, EnumType, InputObjectType, ExtendSchema, ExtendScalar, ExtendObject, ExtendUnion}
 use Rattle.graphql_definitions.specs.DocumentLayout.{document_text}

@@ -7,7 +7,7 @@ use Rattle.graphql_values.specs.ValueTree.{ValueTree, IntTree, StringTree, Varia
 use Rattle.graphql_values.specs.DirectiveTree.{DirectiveTree, ArgumentTree, InputValueTree}
 use Rattle.graphql_values.specs.SelectionTree.{SelectionTrees, FieldHead, FieldTree, SpreadTree, InlineTree, no_selections, selection_then}
 use Rattle.graphql_values.specs.OperationTree.{VariableDefinitionTree}
-use Rattle.graphql_values.specs.in_operations.declared.operation.OperationType.TheVariants.{Query, Mutation}
+use Rattle.graphql_values.specs.in_directives.declared.operation_type.OperationType.TheVariants.{Query, Mutation}
 use Rattle.graphql_values.specs.in_directives.declared.directive_location.DirectiveLocation.TheVariants as at
 use Rattle.graphql_composite_types.specs.in_type_members.TypeSystemTree.{FieldDefinitionTree, EnumValueTree, FieldsParts}
 use Rattle.graphql_definitions.specs.DefinitionTree.{DefinitionTree, Operation, Fragment, DirectiveDefinition, Schema, ScalarType, ObjectType, InterfaceType, UnionType, EnumType, InputObjectType, ExtendObject}

@@ -6,7 +6,7 @@ use Rattle.std.specs.Cmp.Lexicographic.{pointwise}
 use Rattle.graphql_names.specs.NameValue.{NameValue}
 use Rattle.graphql_values.specs.Placed.{name_tree, text_tree, unplaced_text}
 use Rattle.graphql_values.specs.DirectiveTree.{input_value_tree, unplaced_input_value}
-use Rattle.graphql_values.specs.in_operations.declared.operation.OperationType.{OperationType}
+use Rattle.graphql_values.specs.in_directives.declared.operation_type.OperationType.{OperationType}
 use Rattle.graphql_composite_types.specs.in_type_members.TypeSystemTree.{enum_value_tree, field_definition_tree, unplaced_enum, unplaced_enum_value, unplaced_field_definition, unplaced_fields, unplaced_input_object, unplaced_root, unplaced_scalar, unplaced_schema, unplaced_union}
 use Rattle.graphql_composite_types.specs.CompositeTree.{object_parts, object_extension_parts, interface_parts, interface_extension_parts, union_parts, union_extension_parts}
 use Rattle.graphql_input_types.specs.InputTypeTree.{schema_parts, schema_extension_parts, scalar_parts, scalar_extension_parts, enum_parts, enum_extension_parts, input_object_parts, input_object_extension_parts, root_tree}

@@ -7,3 +7,5 @@ pub mod Writable
 pub use Rattle.graphql_composite_types.specs as in_composite_types
 pub use Rattle.graphql_input_types.specs as in_input_types
 pub use Rattle.graphql_composite_types.specs.in_type_members as in_type_members
+pub use Rattle.graphql_values.specs.in_operations as in_operations
+pub use Rattle.graphql_values.specs as in_values

@@ -3,6 +3,7 @@ pub mod DirectiveQueries
 pub mod DirectiveNodes
 pub mod DirectivePlaces
 pub mod NamedNodes
+pub mod OperationQueries
 pub mod DirectiveLayout
 pub mod InputLayout
 pub mod DirectiveWritable

@@ -13,6 +13,7 @@ mod directive_list;
 mod directive_location;
 mod input_value;
 mod named;
+mod operation_type;
 mod print_directive;
 mod print_input;
 mod serialize_directive;
@@ -25,6 +26,7 @@ pub use directive_list::NamedDirectives;
 pub use directive_location::DirectiveLocation;
 pub use input_value::InputValueDefinition;
 pub use named::{Named, get_named_mut};
+pub use operation_type::{OperationType, put_keyword};
 pub use print_directive::{put_arguments, put_directives};
 pub use print_input::{put_argument_definitions, put_directive_definition, put_input_members};
 pub use writable_directive::{

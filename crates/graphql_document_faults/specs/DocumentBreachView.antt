@@ -7,7 +7,7 @@ use Rattle.graphql_names.specs.Placed.{Place}
 use Rattle.graphql_literals.specs.TypeTree.{type_tree, unplaced_type}
 use Rattle.graphql_literals.specs.ValueTree.{ValueTree, value_tree, unplaced_value}
 use Rattle.graphql_literals.specs.declared.value.Value.{Value}
-use Rattle.graphql_coords.specs.CoordinateView.{attribute_coordinate, argument_coordinate}
+use Rattle.graphql_coordinates.specs.CoordinateView.{attribute_coordinate, argument_coordinate}
 use Rattle.graphql_document_faults.specs.DocumentBreaches as breach
 use Rattle.graphql_document_faults.specs.DocumentBreaches.{DocumentBreach}
 use Rattle.graphql_document_faults.specs.declared.build_error.BuildError.{BuildError}

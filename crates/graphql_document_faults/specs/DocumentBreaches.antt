@@ -3,8 +3,8 @@
 use Rattle.std.specs.Prelude.{ℕ, List, Option}
 use Rattle.graphql_literals.specs.TypeTree.{TypeTree}
 use Rattle.graphql_literals.specs.ValueTree.{ValueTree}
-use Rattle.graphql_operations.specs.declared.operation.OperationType.{OperationType}
-use Rattle.graphql_coords.specs.in_components.Coordinate.{Coordinate}
+use Rattle.graphql_operations.specs.in_directives.declared.operation_type.OperationType.{OperationType}
+use Rattle.graphql_coordinates.specs.Coordinate.{Coordinate}
 
 -- one of two fields that conflict: where it stands, its coordinate, and what differs
 pub record Selected (P A : Type 0) : Type 0 where

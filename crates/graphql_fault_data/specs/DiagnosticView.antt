@@ -12,7 +12,7 @@ use Rattle.graphql_literals.specs.declared.ty.«Type».{«Type»}
 use Rattle.graphql_directives.specs.DirectiveTree.{DirectiveTree, InputValueTree, directive_tree, directives_tree, input_value_tree, unplaced_directive, unplaced_directives, unplaced_input_value}
 use Rattle.graphql_directives.specs.declared.directive.Directive.{Directive}
 use Rattle.graphql_directives.specs.declared.input_value.InputValueDefinition.{InputValueDefinition}
-use Rattle.graphql_coords.specs.CoordinateView.{schema_coordinate, attribute_coordinate}
+use Rattle.graphql_coordinates.specs.CoordinateView.{schema_coordinate, attribute_coordinate}
 use Rattle.graphql_typed_selections.specs.declared.selection.FragmentSpread.{FragmentSpread}
 use Rattle.graphql_rule_definitions.specs.Diagnostics as tree
 use Rattle.graphql_rule_definitions.specs.Diagnostics.{Diagnostic, PlainType, SpreadTree}

@@ -6,8 +6,8 @@ use Rattle.graphql_literals.specs.ValueLayout.{type_text}
 use Rattle.graphql_literals.specs.ValueTree.{value_tree, unplaced_value}
 use Rattle.graphql_literals.specs.ValueQueries.{value_description}
 use Rattle.graphql_directives.specs.DirectivePlaces.{location_keyword}
-use Rattle.graphql_rule_definitions.specs.in_components.Coordinate.{printed}
-use Rattle.graphql_coords.specs.CoordinateView.{schema_coordinate, attribute_coordinate}
+use Rattle.graphql_coordinates.specs.Coordinate.{printed}
+use Rattle.graphql_coordinates.specs.CoordinateView.{schema_coordinate, attribute_coordinate}
 use Rattle.graphql_fault_data.specs.DiagnosticView.{plain_type}
 use Rattle.graphql_fault_data.specs.Messages.{dotted, fragment_words}
 use Rattle.graphql_fault_data.specs.declared.template.Gap.{Gap}

@@ -3,7 +3,7 @@ use Rattle.std.specs.Prelude.{ℕ, List, ◌++◌, codes, Option, None, Some}
 use Rattle.graphql_literals.specs.ValueLayout.{type_text}
 use Rattle.graphql_literals.specs.ValueQueries.{value_description}
 use Rattle.graphql_directives.specs.DirectivePlaces.{location_keyword}
-use Rattle.graphql_rule_definitions.specs.in_components.Coordinate.{printed}
+use Rattle.graphql_coordinates.specs.Coordinate.{printed}
 use Rattle.graphql_rule_definitions.specs.Diagnostics.{Diagnostic, QueryRootOperationType, UndefinedDefinition, RootOperationObjectType, DuplicateRootOperationType, ReservedName, OutputType, InputType, EmptyFieldSet, EmptyValueSet, EmptyMemberSet, EmptyInputValueSet, UnionMemberObjectType, RecursiveInterfaceDefinition, TransitiveImplementedInterfaces, MissingInterfaceField, InvalidImplementationFieldType, MissingInterfaceFieldArgument, InvalidImplementationFieldArgumentType, ExtraRequiredImplementationFieldArgument, UniqueInputValue, RecursiveInputObjectDefinition, RecursiveDirectiveDefinition, DeeplyNestedType, UndefinedDirective, UniqueDirective, UnsupportedLocation, UniqueArgument, UndefinedArgument, RequiredArgument, DisallowedVariableUsage, UnsupportedValueType, IntCoercionError, FloatCoercionError, UndefinedVariable, UndefinedEnumValue, UndefinedInputValue, RequiredField, UniqueVariable, VariableInputType, UnusedVariable, MissingSubselection, UndefinedFragment, InvalidFragmentTarget, InvalidFragmentSpread, UnusedFragment, RecursiveFragmentDefinition, RecursionError}
 
 -- `type.field`

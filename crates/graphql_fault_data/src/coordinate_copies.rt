@@ -1,6 +1,6 @@
 //! Copies of coordinates. Names are shared, and not copied.
 ghost use Rattle.std.specs.Prelude.{◌≡◌, IfOk};
-ghost use Rattle.graphql_coords.specs.CoordinateView.{attribute_coordinate, schema_coordinate};
+ghost use Rattle.graphql_coordinates.specs.CoordinateView.{attribute_coordinate, schema_coordinate};
 
 use graphql_coords::{
     DirectiveArgumentCoordinate, DirectiveCoordinate, FieldArgumentCoordinate, SchemaCoordinate,

@@ -1,6 +1,6 @@
 -- What the settings of a builder make of lists, by computation.
 use Rattle.std.proofs.Common.{◌≡◌, ℕ, List, [], ◌∷◌, codes, refl, true, false}
-use Rattle.graphql_operations.specs.declared.operation.OperationType.TheVariants as operation
+use Rattle.graphql_directives.specs.declared.operation_type.OperationType.TheVariants as operation
 use Rattle.graphql_schema_types.specs.Out.{written}
 use Rattle.graphql_folding.specs.Listed.{Definitions}
 use Rattle.graphql_folding.specs.BuiltIn.{built_in_scalars}

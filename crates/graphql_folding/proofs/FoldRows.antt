@@ -1,7 +1,7 @@
 -- Lists that fold and are written out, by computation, behind the built-in scalars.
 use Rattle.std.proofs.Common.{◌≡◌, ℕ, List, [], ◌∷◌, codes, refl, None}
 use Rattle.graphql_directives.specs.declared.directive_location.DirectiveLocation.TheVariants as at
-use Rattle.graphql_operations.specs.declared.operation.OperationType.TheVariants as operation
+use Rattle.graphql_directives.specs.declared.operation_type.OperationType.TheVariants as operation
 use Rattle.graphql_schema_types.specs.Out.{written}
 use Rattle.graphql_folding.specs.Listed.{Definitions}
 use Rattle.graphql_folding.specs.BuiltIn.{built_in_scalars}

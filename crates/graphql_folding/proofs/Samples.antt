@@ -4,7 +4,7 @@ use Rattle.graphql_names.specs.Placed.{Placed, Place, Text}
 use Rattle.graphql_directives.specs.in_literals.TypeTree.{NamedTree}
 use Rattle.graphql_directives.specs.DirectiveTree.{DirectiveTree, Directives}
 use Rattle.graphql_directives.specs.declared.directive_location.DirectiveLocation.{DirectiveLocation}
-use Rattle.graphql_operations.specs.declared.operation.OperationType.{OperationType}
+use Rattle.graphql_directives.specs.declared.operation_type.OperationType.{OperationType}
 use Rattle.graphql_schema_types.specs.in_type_members.TypeSystemTree.{FieldDefinitionTree, RootOperationTree, FieldsParts}
 use Rattle.graphql_schema_types.specs.in_definitions.DefinitionTree.{DefinitionTree, DirectiveDefinition, Schema, ScalarType, ObjectType, InterfaceType, ExtendSchema, ExtendScalar, ExtendObject}
 

@@ -2,7 +2,7 @@
 use Rattle.std.specs.Prelude.{◌≡◌, ℕ, Bool, true, false, List, ◌++◌, None, Some, is_some, Contains}
 use Rattle.std.specs.Option.{option_map_or}
 use Rattle.graphql_names.specs.Placed.{Placed, Place}
-use Rattle.graphql_operations.specs.declared.operation.OperationType.{OperationType}
+use Rattle.graphql_directives.specs.declared.operation_type.OperationType.{OperationType}
 use Rattle.graphql_directives.specs.DirectiveTree.{DirectiveDefinitionTree}
 use Rattle.graphql_schema_types.specs.in_definitions.DefinitionTree.{DefinitionTree}
 use Rattle.graphql_schema_types.specs.in_definitions.Queries.{is_executable, definition_place}

@@ -5,8 +5,8 @@ use Rattle.std.specs.Option.{option_map, option_map_or}
 use Rattle.std.specs.Str.{bytes_eq}
 use Rattle.graphql_names.specs.Placed.{Placed, Place, Text}
 use Rattle.graphql_schema_types.specs.in_values.OperationQueries.{operation_keyword, default_root_name}
-use Rattle.graphql_operations.specs.declared.operation.OperationType.{OperationType}
-use Rattle.graphql_operations.specs.declared.operation.OperationType.TheVariants as operation
+use Rattle.graphql_directives.specs.declared.operation_type.OperationType.{OperationType}
+use Rattle.graphql_directives.specs.declared.operation_type.OperationType.TheVariants as operation
 use Rattle.graphql_schema_types.specs.in_type_members.TypeSystemTree.{RootOperationTree, SchemaParts}
 use Rattle.graphql_schema_types.specs.in_definitions.DefinitionTree.{DefinitionTree, Schema, ExtendSchema}
 use Rattle.graphql_schema_types.specs.in_components.Given.{Given}

@@ -3,7 +3,7 @@ use Rattle.std.proofs.Common.{◌≡◌, ℕ, zero, suc, ◌≤◌, Bool, true, 
 use Rattle.graphql_names.specs.Placed.{Text}
 use Rattle.graphql_ast.specs.in_directives.DirectiveTree.{Arguments, Directives}
 use Rattle.graphql_ast.specs.in_operations.SelectionTree.{SelectionTree, SelectionTrees}
-use Rattle.graphql_ast.specs.in_operations.declared.operation.OperationType.TheVariants.{Query, Mutation, Subscription}
+use Rattle.graphql_ast.specs.in_directives.declared.operation_type.OperationType.TheVariants.{Query, Mutation, Subscription}
 use Rattle.graphql_lexer.specs.Input.{Input, next}
 use Rattle.graphql_grammar.specs.Meaning.{Meaning, name_of, place_between}
 use Rattle.graphql_grammar.specs.Kinds.{next_is, is_name, is_fragment_name, is_colon, is_spread, is_on, is_at, is_equals, is_dollar, is_fragment, is_query, is_mutation, is_subscription, is_operation_type, is_open_brace, is_close_brace, is_open_paren, is_close_paren}

@@ -5,7 +5,7 @@ use Rattle.graphql_names.specs.Placed.{Placed, Text}
 use Rattle.graphql_ast.specs.in_literals.ValueTree.{IntTree, ListTree, item_then, no_items, VariableTree}
 use Rattle.graphql_ast.specs.in_literals.TypeTree.{NonNullNamedTree}
 use Rattle.graphql_ast.specs.in_operations.SelectionTree.{FieldTree, selection_then, no_selections}
-use Rattle.graphql_ast.specs.in_operations.declared.operation.OperationType.TheVariants.{Query}
+use Rattle.graphql_ast.specs.in_directives.declared.operation_type.OperationType.TheVariants.{Query}
 use Rattle.graphql_ast.specs.in_directives.declared.directive_location.DirectiveLocation.TheVariants as location
 use Rattle.graphql_ast.specs.in_definitions.DefinitionTree.{DefinitionTree, Operation, ScalarType, DirectiveDefinition, ExtendUnion, ObjectType}
 use Rattle.graphql_lexer.specs.declared.terminal.Terminal.{Terminal}

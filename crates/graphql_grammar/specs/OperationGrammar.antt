@@ -6,8 +6,8 @@ use Rattle.graphql_ast.specs.in_literals.TypeTree.{TypeTree}
 use Rattle.graphql_ast.specs.in_directives.DirectiveTree.{Arguments, Directives}
 use Rattle.graphql_ast.specs.in_operations.SelectionTree.{SelectionTree, SelectionTrees, FieldTree, SpreadTree, InlineTree, no_selections, selection_then}
 use Rattle.graphql_ast.specs.in_operations.OperationTree.{VariableDefinitionTree, OperationTree, FragmentTree}
-use Rattle.graphql_ast.specs.in_operations.declared.operation.OperationType.{OperationType}
-use Rattle.graphql_ast.specs.in_operations.declared.operation.OperationType.TheVariants.{Query, Mutation, Subscription}
+use Rattle.graphql_ast.specs.in_directives.declared.operation_type.OperationType.{OperationType}
+use Rattle.graphql_ast.specs.in_directives.declared.operation_type.OperationType.TheVariants.{Query, Mutation, Subscription}
 use Rattle.graphql_grammar.specs.Meaning.{Meaning, name_of}
 use Rattle.graphql_grammar.specs.Kinds.{is_fragment_name, is_colon, is_spread, is_on, is_fragment, is_query, is_mutation, is_subscription, is_open_brace, is_close_brace, is_open_paren, is_close_paren}
 use Rattle.graphql_grammar.specs.Rules.{Rule, one, mark, ◌·◌, ◌<$>◌, ◌∣◌, nothing, optional, some, between, placed}

@@ -4,7 +4,7 @@ use Rattle.graphql_names.specs.Placed.{Placed, Text}
 use Rattle.graphql_ast.specs.in_literals.ValueTree.{ValueTree}
 use Rattle.graphql_ast.specs.in_literals.TypeTree.{TypeTree}
 use Rattle.graphql_ast.specs.in_directives.DirectiveTree.{Directives, InputValueTree, InputValues, DirectiveDefinitionTree}
-use Rattle.graphql_ast.specs.in_operations.declared.operation.OperationType.{OperationType}
+use Rattle.graphql_ast.specs.in_directives.declared.operation_type.OperationType.{OperationType}
 use Rattle.graphql_ast.specs.in_directives.declared.directive_location.DirectiveLocation.{DirectiveLocation}
 use Rattle.graphql_ast.specs.in_type_members.TypeSystemTree.{FieldDefinitionTree, EnumValueTree, RootOperationTree, SchemaParts, ScalarParts, FieldsParts, UnionParts, EnumParts, InputObjectParts}
 use Rattle.graphql_grammar.specs.Meaning.{Meaning, text_of}

@@ -4,7 +4,7 @@ use Rattle.std.specs.Prelude.{map}
 use Rattle.graphql_names.specs.Placed.{Place, name_tree, node_tree}
 use Rattle.graphql_type_members.specs.in_directives.DirectiveTree.{directives_tree, input_value_tree}
 use Rattle.graphql_type_members.specs.TypeSystemTree.{SchemaParts, RootOperationTree, ScalarParts, EnumParts, InputObjectParts, enum_value_tree}
-use Rattle.graphql_type_members.specs.in_operations.declared.operation.OperationType.{OperationType}
+use Rattle.graphql_type_members.specs.in_directives.declared.operation_type.OperationType.{OperationType}
 use Rattle.graphql_names.specs.declared.name.Name.{Name}
 use Rattle.graphql_input_types.specs.declared.scalar_type.ScalarTypeDefinition.{ScalarTypeDefinition}
 use Rattle.graphql_input_types.specs.declared.scalar_type.ScalarTypeExtension.{ScalarTypeExtension}

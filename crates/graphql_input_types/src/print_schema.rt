@@ -5,7 +5,7 @@ ghost use Rattle.graphql_names.specs.Placed.{node_tree, name_tree, text_tree};
 ghost use Rattle.graphql_printing.specs.Levels.{level_depth};
 ghost use Rattle.graphql_printing.specs.LineLayout.{member_text, members_text, set_text};
 ghost use Rattle.graphql_printing.specs.StringLayout.{description_text};
-ghost use Rattle.graphql_type_members.specs.in_values.ValueLayout.{texts_of};
+ghost use Rattle.graphql_printing.specs.LineLayout.{texts_of};
 ghost use Rattle.graphql_type_members.specs.TypeSystemLayout.{extend, root_text, schema_text};
 ghost use Rattle.graphql_input_types.specs.InputTypeTree.{root_tree, schema_parts, schema_extension_parts};
 

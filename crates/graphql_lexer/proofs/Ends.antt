@@ -283,3 +283,7 @@ token_fits text at t h =
     let e = shifted at text t.1 (token_ends (drop at text) t h).ends in
     let within = e.within in
     omega arith
+
+-- behind a token a caller goes on
+pub goes_on_behind : (text : List ℕ) (at : ℕ) (t : TokenKind × ℕ) → token_at (drop at text) ≡ Some t → IsUtf8 text → (0 < t.1) × IsCharBoundary text (at + t.1)
+goes_on_behind text at t h utf8 = ((token_ends (drop at text) t h).ends.some, cut_behind text at t h utf8)

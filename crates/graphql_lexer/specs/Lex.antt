@@ -1,5 +1,6 @@
 -- Texts and their tokens (GraphQL, October 2021, section 2).
-use Rattle.std.specs.Prelude.{◌≡◌, ◌≢◌, ℕ, ◌+◌, List, [], ◌∷◌, length, take, drop, Option, Some, None}
+use Rattle.std.specs.Prelude.{◌≡◌, ◌≢◌, ℕ, ◌+◌, ◌<◌, ⊤, List, [], ◌∷◌, length, take, drop, Option, Some, None}
+use Rattle.std.specs.Str.{IsCharBoundary}
 use Rattle.graphql_lexer.specs.Bytes.{run_len}
 use Rattle.graphql_lexer.specs.Tokens.{ignored_at, token_at}
 use Rattle.graphql_lexer.specs.Terminals.{terminal_of}
@@ -64,3 +65,9 @@ abbrev pub StartsAt : List ℕ → ℕ → NextToken → Type 0
 StartsAt text at (n.Token t) = (token_at (drop at text) ≡ Some (t.kind, length t.text.now)) × (t.text.now ≡ take (length t.text.now) (drop at text)) × (t.offset ≡ at)
 StartsAt text at n.End = drop at text ≡ []
 StartsAt text at (n.NoToken place) = NothingBegins (drop at text) × (place ≡ at)
+
+-- what a caller needs to go on: the token has some bytes, and the text may be cut behind it; where no token starts, something is left
+abbrev pub GoesOn : List ℕ → NextToken → Type 0
+GoesOn text (n.Token t) = (0 < length t.text.now) × IsCharBoundary text (t.offset + length t.text.now)
+GoesOn text n.End = ⊤
+GoesOn text (n.NoToken place) = place < length text

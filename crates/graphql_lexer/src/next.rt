@@ -2,7 +2,7 @@
 ghost use Rattle.std.specs.Prelude.{◌≡◌, ◌≤◌, length, take, drop, Some};
 ghost use Rattle.std.specs.Str.{IsCharBoundary};
 ghost use Rattle.graphql_lexer.specs.Tokens.{token_at};
-ghost use Rattle.graphql_lexer.specs.Lex.{past_ignored, StartsAt};
+ghost use Rattle.graphql_lexer.specs.Lex.{past_ignored, StartsAt, GoesOn};
 ghost use Rattle.graphql_lexer.specs.declared.token.TokenKind.{TokenKind};
 
 use crate::lex::{ignored_len, token_at};
@@ -37,9 +37,12 @@ pub(crate) fn token_text(text: &str, at: usize, length: usize) -> &str
 }
 
 /// The next token of the text from the offset on, or that nothing is left, or that no token starts where one would have to.
+///
+/// A token has at least one byte, and the text may be cut behind it: so its end is an offset from which to go on.
 pub fn next_token(text: &str, offset: usize) -> NextToken<'_>
     requires { IsCharBoundary text.now offset }
-    ensures { StartsAt text.now (past_ignored text.now offset) result }
+    ensures starts { StartsAt text.now (past_ignored text.now offset) result }
+    ensures goes_on { GoesOn text.now result }
 {
     let at = past_ignored(text, offset);
     if at == text.len() {

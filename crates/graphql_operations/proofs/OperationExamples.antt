@@ -9,7 +9,7 @@ use Rattle.graphql_directives.specs.DirectiveTree.{DirectiveTree}
 use Rattle.graphql_operations.specs.SelectionTree.{SelectionTree, SelectionTrees, FieldTree, SpreadTree, InlineTree, no_selections, selection_then}
 use Rattle.graphql_operations.specs.OperationTree.{VariableDefinitionTree, OperationTree}
 use Rattle.graphql_operations.specs.OperationLayout.{variable_text, operation_text, fragment_text, selection_text}
-use Rattle.graphql_operations.specs.declared.operation.OperationType.TheVariants.{Query, Mutation}
+use Rattle.graphql_directives.specs.declared.operation_type.OperationType.TheVariants.{Query, Mutation}
 
 abbrev U : Type 0
 U = Unit {0}

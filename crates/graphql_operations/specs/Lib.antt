@@ -1,7 +1,6 @@
 pub mod SelectionTree
 pub mod SelectionParts
 pub mod OperationTree
-pub mod OperationQueries
 pub mod OperationLayout
 pub mod OperationWritable
 pub use Rattle.graphql_names.specs.Placed
@@ -16,6 +15,7 @@ pub use Rattle.graphql_literals.specs.ValueLayout
 pub use Rattle.graphql_literals.specs.ValueWritable
 pub use Rattle.graphql_directives.specs.DirectiveTree
 pub use Rattle.graphql_directives.specs.DirectivePlaces
+pub use Rattle.graphql_directives.specs.OperationQueries
 pub use Rattle.graphql_directives.specs.DirectiveLayout
 pub use Rattle.graphql_directives.specs.DirectiveWritable
 pub use Rattle.graphql_directives.specs as in_directives

@@ -10,8 +10,8 @@ use Rattle.graphql_literals.specs.ValueLayout.{type_text, default_text}
 use Rattle.graphql_directives.specs.DirectiveLayout.{arguments_text, directives_text}
 use Rattle.graphql_printing.specs.LineLayout.{parenthesized_text, texts_of}
 use Rattle.graphql_operations.specs.OperationQueries.{operation_keyword}
-use Rattle.graphql_operations.specs.declared.operation.OperationType.{OperationType}
-use Rattle.graphql_operations.specs.declared.operation.OperationType.TheVariants.{Query, Mutation, Subscription}
+use Rattle.graphql_directives.specs.declared.operation_type.OperationType.{OperationType}
+use Rattle.graphql_directives.specs.declared.operation_type.OperationType.TheVariants.{Query, Mutation, Subscription}
 
 -- alias:, before a field
 abbrev pub alias_text : {P : Type 0} → Option (Text P) → List ℕ

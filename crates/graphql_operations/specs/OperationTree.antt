@@ -6,7 +6,7 @@ use Rattle.graphql_literals.specs.TypeTree.{TypeTree, type_tree, unplaced_type}
 use Rattle.graphql_literals.specs.ValueTree.{ValueTree, value_tree, unplaced_value}
 use Rattle.graphql_directives.specs.DirectiveTree.{Directives, directives_tree, unplaced_directives}
 use Rattle.graphql_operations.specs.SelectionTree.{SelectionTrees, selection_trees, selection_tree, unplaced_selections}
-use Rattle.graphql_operations.specs.declared.operation.OperationType.{OperationType}
+use Rattle.graphql_directives.specs.declared.operation_type.OperationType.{OperationType}
 use Rattle.graphql_operations.specs.declared.operation.VariableDefinition.{VariableDefinition}
 use Rattle.graphql_operations.specs.declared.operation.OperationDefinition.{OperationDefinition}
 use Rattle.graphql_operations.specs.declared.operation.FragmentDefinition.{FragmentDefinition}

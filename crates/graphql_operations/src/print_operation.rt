@@ -10,13 +10,11 @@ ghost use Rattle.graphql_printing.specs.Levels.{level_depth};
 ghost use Rattle.graphql_printing.specs.LineLayout.{member_text, members_text, braced_text, set_text};
 ghost use Rattle.graphql_printing.specs.LineLayout.{texts_of};
 ghost use Rattle.graphql_operations.specs.OperationLayout.{alias_text, condition_text, selection_text, selection_texts, variable_text, variables_text, operation_name_text, is_bare_query, full_operation_text, operation_text, begins_output, fragment_text};
-ghost use Rattle.graphql_operations.specs.OperationQueries.{operation_keyword};
+ghost use Rattle.graphql_directives.specs.OperationQueries.{operation_keyword};
 
-use crate::operation::{
-    FragmentDefinition, OperationDefinition, OperationType, VariableDefinition,
-};
+use crate::operation::{FragmentDefinition, OperationDefinition, VariableDefinition};
 use crate::selection::{Field, FragmentSpread, InlineFragment, Selection};
-use graphql_directives::{put_arguments, put_directives};
+use graphql_directives::{OperationType, put_arguments, put_directives, put_keyword};
 use graphql_literals::{put_default, put_type};
 use graphql_names::{Name, Node};
 use graphql_printing::{Level, Sink, put_break};
@@ -147,17 +145,6 @@ pub fn put_selection<S: Sink>(
         Selection::FragmentSpread(spread) => put_spread(sink, prefix, level, spread.content()),
         Selection::InlineFragment(inline) => put_inline(sink, prefix, level, inline.content()),
     }
-}
-
-/// The keyword of an operation. Public for the printers of the crates above.
-pub fn put_keyword<S: Sink>(sink: &mut S, operation: OperationType)
-    ensures { S.puts sink.old (operation_keyword operation) sink.new }
-{
-    sink.put(match operation {
-        OperationType::Query => "query",
-        OperationType::Mutation => "mutation",
-        OperationType::Subscription => "subscription",
-    });
 }
 
 pub fn put_variable_definition<S: Sink>(sink: &mut S, variable: &VariableDefinition)

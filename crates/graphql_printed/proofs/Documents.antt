@@ -7,8 +7,8 @@ use Rattle.graphql_printed_strings.specs.in_printing.LineLayout.{Prefix, line_st
 use Rattle.graphql_printed_strings.specs.in_printing.StringLayout.{has_byte, can_be_block_string, quoted_text, block_text, description_text}
 use Rattle.graphql_parse_values.specs.in_operations.OperationLayout.{begins_output}
 use Rattle.graphql_parse_values.specs.in_operations.OperationQueries.{operation_keyword}
-use Rattle.graphql_parse_values.specs.in_operations.declared.operation.OperationType.{OperationType}
-use Rattle.graphql_parse_values.specs.in_operations.declared.operation.OperationType.TheVariants.{Query, Mutation, Subscription}
+use Rattle.graphql_parse_values.specs.in_directives.declared.operation_type.OperationType.{OperationType}
+use Rattle.graphql_parse_values.specs.in_directives.declared.operation_type.OperationType.TheVariants.{Query, Mutation, Subscription}
 use Rattle.graphql_names.specs.Placed.{Text}
 use Rattle.graphql_parse_values.specs.in_definitions.DefinitionTree.{DefinitionTree, Operation, Fragment, DirectiveDefinition, Schema, ScalarType, ObjectType, InterfaceType, UnionType, EnumType, InputObjectType, ExtendSchema, ExtendScalar, ExtendObject, ExtendInterface, ExtendUnion, ExtendEnum, ExtendInputObject, unplaced_definition, unplaced_document}
 use Rattle.graphql_parse_values.specs.in_definitions.DocumentLayout.{definition_text, between_text, next_definition_text, end_text, document_text}

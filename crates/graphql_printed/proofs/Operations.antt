@@ -8,8 +8,8 @@ use Rattle.graphql_parse_values.specs.in_literals.ValueLayout.{default_text}
 use Rattle.graphql_parse_values.specs.in_directives.DirectiveLayout.{directives_text}
 use Rattle.graphql_parse_values.specs.in_operations.OperationQueries.{operation_keyword}
 use Rattle.graphql_parse_values.specs.in_operations.OperationLayout.{selection_texts, is_query, variable_text, variables_text, is_none, is_empty, is_bare_query, operation_name_text, full_operation_text, operation_text, fragment_text}
-use Rattle.graphql_parse_values.specs.in_operations.declared.operation.OperationType.{OperationType}
-use Rattle.graphql_parse_values.specs.in_operations.declared.operation.OperationType.TheVariants.{Query, Mutation, Subscription}
+use Rattle.graphql_parse_values.specs.in_directives.declared.operation_type.OperationType.{OperationType}
+use Rattle.graphql_parse_values.specs.in_directives.declared.operation_type.OperationType.TheVariants.{Query, Mutation, Subscription}
 use Rattle.graphql_names.specs.Placed.{Placed, Text, unplaced_text, unplaced_node}
 use Rattle.graphql_parse_values.specs.in_values.Writable.{directives_writable, has_selection, selections_writable, variable_writable, variables_writable, operation_writable, fragment_writable}
 use Rattle.graphql_parse_values.specs.in_literals.TypeTree.{TypeTree}

@@ -4,7 +4,7 @@ use Rattle.std.specs.List.{list_all}
 use Rattle.std.proofs.Common.{refl}
 use Rattle.graphql_printed_strings.specs.in_printing.Joined.{joined}
 use Rattle.graphql_parse_values.specs.in_literals.ValueLayout.{value_text}
-use Rattle.graphql_parse_values.specs.in_operations.declared.operation.OperationType.TheVariants.{Query}
+use Rattle.graphql_parse_values.specs.in_directives.declared.operation_type.OperationType.TheVariants.{Query}
 use Rattle.graphql_names.specs.Placed.{Text}
 use Rattle.graphql_parse_values.specs.in_values.Writable.{value_writable, selections_writable}
 use Rattle.graphql_parse_values.specs.in_literals.TypeTree.{NamedTree}

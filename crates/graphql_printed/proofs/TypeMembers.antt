@@ -6,7 +6,7 @@ use Rattle.graphql_printed_strings.specs.in_printing.LineLayout.{Prefix}
 use Rattle.graphql_parse_values.specs.in_literals.ValueLayout.{type_text}
 use Rattle.graphql_parse_values.specs.in_directives.DirectiveLayout.{directives_text}
 use Rattle.graphql_parse_values.specs.in_directives.InputLayout.{argument_definitions_text}
-use Rattle.graphql_parse_values.specs.in_operations.declared.operation.OperationType.{OperationType}
+use Rattle.graphql_parse_values.specs.in_directives.declared.operation_type.OperationType.{OperationType}
 use Rattle.graphql_parse_values.specs.in_type_members.TypeSystemLayout.{field_definition_text, enum_value_text, root_text}
 use Rattle.graphql_parse_values.specs.in_type_members.PartsWritable.{field_definition_writable, enum_value_writable}
 use Rattle.graphql_names.specs.Placed.{Placed, Text}

@@ -5,7 +5,7 @@ use Rattle.std.proofs.lemmas.Bool.{and_from, and_parts}
 use Rattle.graphql_operations.specs.SelectionTree.{SelectionTree, SelectionTrees, no_selections}
 use Rattle.graphql_parse_values.specs.in_values.Writable.{arguments_writable, directives_writable, default_writable, can_be_fragment, has_selection, selection_writable, selections_writable, variable_writable, variables_writable, operation_writable, fragment_writable}
 use Rattle.graphql_definitions.specs.Writable.{has_some}
-use Rattle.graphql_operations.specs.declared.operation.OperationType.TheVariants.{Query, Mutation, Subscription}
+use Rattle.graphql_operations.specs.in_directives.declared.operation_type.OperationType.TheVariants.{Query, Mutation, Subscription}
 use Rattle.graphql_grammar.specs.Meaning.{Meaning, name_of}
 use Rattle.graphql_grammar.specs.Kinds.{is_fragment_name, is_colon, is_spread, is_on, is_fragment, is_query, is_mutation, is_subscription, is_open_brace, is_close_brace, is_open_paren, is_close_paren}
 use Rattle.graphql_grammar.specs.Rules.{Rule}

@@ -1,7 +1,7 @@
 -- Each place of a tree counts, by computation: in trees with all their parts, whose places are the numbers from 0 on, one that
 -- does not pass is enough.
 use Rattle.std.proofs.Common.{◌≡◌, ℕ, zero, suc, ◌+◌, Bool, true, ◌&&◌, not, nat_eq, [], ◌∷◌, Some, refl}
-use Rattle.graphql_operations.specs.declared.operation.OperationType.TheVariants.{Query}
+use Rattle.graphql_operations.specs.in_directives.declared.operation_type.OperationType.TheVariants.{Query}
 use Rattle.graphql_names.specs.Placed.{Placed, Text}
 use Rattle.graphql_literals.specs.TypeTree.{TypeTree, NamedTree, NonNullNamedTree, ListTree as ListTypeTree, NonNullListTree}
 use Rattle.graphql_literals.specs.ValueTree.{ValueTree, EnumTree, VariableTree, ListTree, ObjectTree, no_items, item_then, no_entries, entry_then}

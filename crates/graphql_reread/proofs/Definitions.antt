@@ -8,7 +8,7 @@ use Rattle.graphql_names.specs.NameSyntax.{is_name}
 use Rattle.graphql_names.specs.Placed.{name_tree, node_tree}
 use Rattle.graphql_read.specs.in_directives.DirectiveTree.{input_value_tree}
 use Rattle.graphql_read.specs.in_directives.declared.input_value.InputValueDefinition.{InputValueDefinition}
-use Rattle.graphql_read.specs.in_operations.declared.operation.OperationType.{OperationType}
+use Rattle.graphql_read.specs.in_directives.declared.operation_type.OperationType.{OperationType}
 use Rattle.graphql_definitions.specs.in_type_members.TypeSystemTree.{field_definition_tree, enum_value_tree}
 use Rattle.graphql_definitions.specs.in_type_members.declared.field_definition.FieldDefinition.{FieldDefinition}
 use Rattle.graphql_definitions.specs.in_type_members.declared.enum_value.EnumValueDefinition.{EnumValueDefinition}

@@ -6,8 +6,8 @@ use Rattle.graphql_folding.specs.in_literals.TypeTree.{TypeTree}
 use Rattle.graphql_folding.specs.in_literals.ValueTree.{ValueTree}
 use Rattle.graphql_folding.specs.in_directives.DirectiveTree.{DirectiveTree, Directives, InputValueTree}
 use Rattle.graphql_folding.specs.in_directives.declared.directive_location.DirectiveLocation.{DirectiveLocation}
-use Rattle.graphql_folding.specs.in_operations.declared.operation.OperationType.{OperationType}
-use Rattle.graphql_folding.specs.in_components.Coordinate.{Coordinate}
+use Rattle.graphql_folding.specs.in_directives.declared.operation_type.OperationType.{OperationType}
+use Rattle.graphql_coordinates.specs.Coordinate.{Coordinate}
 
 -- a reference to a type, without places
 abbrev pub PlainType : Type 0

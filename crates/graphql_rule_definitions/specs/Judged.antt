@@ -3,8 +3,8 @@
 use Rattle.std.specs.Prelude.{◌≡◌, ℕ, Bool, true, false, List, map, Option, ◌⊎◌}
 use Rattle.graphql_names.specs.Placed.{Placed, Place}
 use Rattle.graphql_folding.specs.in_directives.DirectiveTree.{DirectiveTree, Directives, InputValueTree, InputValues, DirectiveDefinitionTree}
-use Rattle.graphql_folding.specs.in_operations.declared.operation.OperationType.{OperationType}
-use Rattle.graphql_folding.specs.in_operations.declared.operation.OperationType.TheVariants as operation
+use Rattle.graphql_folding.specs.in_directives.declared.operation_type.OperationType.{OperationType}
+use Rattle.graphql_folding.specs.in_directives.declared.operation_type.OperationType.TheVariants as operation
 use Rattle.graphql_folding.specs.in_type_members.TypeSystemTree.{FieldDefinitionTree, EnumValueTree}
 use Rattle.graphql_folding.specs.in_schema_types.SchemaTree.{SchemaTree}
 use Rattle.graphql_folding.specs.in_schema_types.Plain.{PlainRoots, plain}

@@ -1,7 +1,7 @@
 -- Rules on the root operations (GraphQL, October 2021, section 3.3.1).
 use Rattle.std.specs.Prelude.{◌≡◌, ◌≢◌, ℕ, List, [], ◌∷◌, map, Option, None, option_to_list, flat_map}
-use Rattle.graphql_folding.specs.in_operations.declared.operation.OperationType.{OperationType}
-use Rattle.graphql_folding.specs.in_operations.declared.operation.OperationType.TheVariants as operation
+use Rattle.graphql_folding.specs.in_directives.declared.operation_type.OperationType.{OperationType}
+use Rattle.graphql_folding.specs.in_directives.declared.operation_type.OperationType.TheVariants as operation
 use Rattle.graphql_folding.specs.in_schema_types.SchemaTree.{kind_words}
 use Rattle.graphql_folding.specs.in_schema_types.Plain.{PlainRoots}
 use Rattle.graphql_folding.specs.in_schema_types.Addresses.{SchemaAt, RootAt}

@@ -8,7 +8,7 @@ use Rattle.graphql_folding.specs.in_directives.DirectiveTree.{ArgumentTree, Argu
 use Rattle.graphql_folding.specs.in_directives.DirectiveQueries.{is_required_input, given_value}
 use Rattle.graphql_folding.specs.in_directives.declared.directive_location.DirectiveLocation.{DirectiveLocation}
 use Rattle.graphql_folding.specs.in_operations.OperationTree.{VariableDefinitionTree}
-use Rattle.graphql_folding.specs.in_components.Coordinate.{Coordinate, OfDirective, OfDirectiveArgument}
+use Rattle.graphql_coordinates.specs.Coordinate.{Coordinate, OfDirective, OfDirectiveArgument}
 use Rattle.graphql_folding.specs.in_schema_types.Addresses.{Address, DirectiveDefinitionAt, ArgumentAt, TypeReferenceAt}
 use Rattle.graphql_rule_definitions.specs.Diagnostics.{UndefinedDirective, UniqueDirective, UnsupportedLocation, UniqueArgument, UndefinedArgument, RequiredArgument, DisallowedVariableUsage}
 use Rattle.graphql_rule_definitions.specs.Words.{Present, AtSomeIndex, Lacks, IsFirst, FirstNamed, Repeats}

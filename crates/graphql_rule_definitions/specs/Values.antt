@@ -12,7 +12,7 @@ use Rattle.graphql_folding.specs.in_literals.ValueQueries.{is_null_value, enum_n
 use Rattle.graphql_folding.specs.in_directives.DirectiveTree.{InputValueTree}
 use Rattle.graphql_folding.specs.in_directives.DirectiveQueries.{is_required_input}
 use Rattle.graphql_folding.specs.in_operations.OperationTree.{VariableDefinitionTree}
-use Rattle.graphql_folding.specs.in_components.Coordinate.{OfAttribute}
+use Rattle.graphql_coordinates.specs.Coordinate.{OfAttribute}
 use Rattle.graphql_folding.specs.in_schema_types.Looks.{TypeLooks}
 use Rattle.graphql_folding.specs.in_schema_types.Addresses.{Address, TypeAt, InputAt, TypeReferenceAt}
 use Rattle.graphql_folding.specs.in_schema_types.declared.type_kind.TypeKind.TheVariants as kind

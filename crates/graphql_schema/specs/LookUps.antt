@@ -13,7 +13,7 @@ use Rattle.graphql_schema_building.specs.in_schema_types.Addresses.{under, type_
 use Rattle.graphql_schema_building.specs.in_schema_types.TypeView.{extended_type}
 use Rattle.graphql_schema_building.specs.in_schema_types.declared.type_kind.TypeKind.{TypeKind}
 use Rattle.graphql_schema_building.specs.in_schema_types.declared.type_kind.TypeKind.TheVariants.{Object, Interface, Union}
-use Rattle.graphql_operations.specs.declared.operation.OperationType.TheVariants.{Query}
+use Rattle.graphql_directives.specs.declared.operation_type.OperationType.TheVariants.{Query}
 use Rattle.graphql_schema_building.specs.in_built_in.MetaFields.{meta_field_of}
 use Rattle.graphql_schema.specs.MetaField.{by_definition}
 use Rattle.graphql_schema.specs.declared.field_lookup.FieldLookupError.{FieldLookupError}

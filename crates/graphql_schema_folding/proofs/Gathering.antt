@@ -5,7 +5,7 @@ use Rattle.std.proofs.lemmas.List.{append_assoc, append-nil, map-append}
 use Rattle.graphql_names.specs.declared.node.Node.{Node}
 use Rattle.graphql_names.specs.declared.name.Name.{Name}
 use Rattle.graphql_directives.specs.declared.directive.Directive.{Directive}
-use Rattle.graphql_operations.specs.declared.operation.OperationType.{OperationType}
+use Rattle.graphql_directives.specs.declared.operation_type.OperationType.{OperationType}
 use Rattle.graphql_names.specs.Placed.{Place, node_tree}
 use Rattle.graphql_directives.specs.DirectiveTree.{directive_tree}
 use Rattle.graphql_folding.specs.in_definitions.DefinitionTree.{root_tree}

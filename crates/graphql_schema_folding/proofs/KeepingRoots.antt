@@ -5,8 +5,8 @@ use Rattle.std.specs.Option.{option_map}
 use Rattle.std.proofs.lemmas.List.{append-nil}
 use Rattle.graphql_names.specs.Placed.{Place, Text}
 use Rattle.graphql_components.specs.in_values.OperationQueries.{operation_keyword}
-use Rattle.graphql_operations.specs.declared.operation.OperationType.{OperationType}
-use Rattle.graphql_operations.specs.declared.operation.OperationType.TheVariants as operation
+use Rattle.graphql_directives.specs.declared.operation_type.OperationType.{OperationType}
+use Rattle.graphql_directives.specs.declared.operation_type.OperationType.TheVariants as operation
 use Rattle.graphql_components.specs.Lists.{has_name}
 use Rattle.graphql_components.specs.Given.{Given, ExtensionTree}
 use Rattle.graphql_folding.specs.BuildErrors.{Fault}

@@ -1,6 +1,6 @@
 -- What is told of small lists, by computation, behind the built-in scalars.
 use Rattle.std.proofs.Common.{◌≡◌, ℕ, List, [], ◌∷◌, map, codes, refl}
-use Rattle.graphql_operations.specs.declared.operation.OperationType.TheVariants as operation
+use Rattle.graphql_directives.specs.declared.operation_type.OperationType.TheVariants as operation
 use Rattle.graphql_folding.specs.Listed.{Definitions}
 use Rattle.graphql_folding.specs.BuiltIn.{built_in_scalars}
 use Rattle.graphql_folding.specs.BuildErrors.{Breach, SchemaDefinitionCollision, TypeDefinitionCollision, BuiltInScalarTypeRedefinition, OrphanSchemaExtension, OrphanTypeExtension, TypeExtensionKindMismatch}

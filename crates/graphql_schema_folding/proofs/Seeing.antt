@@ -10,8 +10,8 @@ use Rattle.std.proofs.lemmas.Grind.{flat_map-append}
 use Rattle.graphql_names.specs.NameValue.{NameValue}
 use Rattle.graphql_names.specs.Placed.{Place}
 use Rattle.graphql_components.specs.in_values.OperationQueries.{default_root_name}
-use Rattle.graphql_operations.specs.declared.operation.OperationType.{OperationType}
-use Rattle.graphql_operations.specs.declared.operation.OperationType.TheVariants as operation
+use Rattle.graphql_directives.specs.declared.operation_type.OperationType.{OperationType}
+use Rattle.graphql_directives.specs.declared.operation_type.OperationType.TheVariants as operation
 use Rattle.graphql_folding.specs.in_definitions.DefinitionTree.{DefinitionTree}
 use Rattle.graphql_components.specs.Lists.{firsts, has_name}
 use Rattle.graphql_components.specs.Names.{Entries}

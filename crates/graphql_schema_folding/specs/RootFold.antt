@@ -1,8 +1,8 @@
 -- What collecting the parts of the schema definition and keeping its roots does (private: it leads to `specs/ListFold.antt`).
 use Rattle.std.specs.Prelude.{◌≡◌, List, [], ◌∷◌, ◌++◌, Option, Some}
 use Rattle.graphql_names.specs.Placed.{Place, Text}
-use Rattle.graphql_operations.specs.declared.operation.OperationType.{OperationType}
-use Rattle.graphql_operations.specs.declared.operation.OperationType.TheVariants as operation
+use Rattle.graphql_directives.specs.declared.operation_type.OperationType.{OperationType}
+use Rattle.graphql_directives.specs.declared.operation_type.OperationType.TheVariants as operation
 use Rattle.graphql_components.specs.Given.{Given}
 use Rattle.graphql_components.specs.Applied.{Applied}
 use Rattle.graphql_folding.specs.in_schema_types.SchemaTree.{SchemaRoots}

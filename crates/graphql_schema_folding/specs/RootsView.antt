@@ -6,7 +6,7 @@ use Rattle.graphql_names.specs.declared.node.Node.{Node}
 use Rattle.graphql_names.specs.declared.name.Name.{Name}
 use Rattle.graphql_names.specs.Placed.{Place, text_tree}
 use Rattle.graphql_directives.specs.DirectiveTree.{directive_tree}
-use Rattle.graphql_operations.specs.declared.operation.OperationType.{OperationType}
+use Rattle.graphql_directives.specs.declared.operation_type.OperationType.{OperationType}
 use Rattle.graphql_folding.specs.in_definitions.DefinitionTree.{root_tree, schema_parts}
 use Rattle.graphql_input_types.specs.declared.schema.SchemaDefinition.{SchemaDefinition}
 use Rattle.graphql_components.specs.Given.{Given, component_tree, component_name_tree}

@@ -7,8 +7,8 @@ use Rattle.graphql_names.specs.Places.{is_built_in}
 use Rattle.graphql_names.specs.Placed.{Placed, Place, Text}
 use Rattle.graphql_directives.specs.in_literals.TypeTree.{TypeTree, NamedTree, NonNullNamedTree, ListTree, NonNullListTree}
 use Rattle.graphql_directives.specs.DirectiveTree.{DirectiveTree, Directives, ArgumentTree, InputValueTree, InputValues, DirectiveDefinitionTree}
-use Rattle.graphql_components.specs.in_operations.declared.operation.OperationType.{OperationType}
-use Rattle.graphql_components.specs.in_operations.declared.operation.OperationType.TheVariants as operation
+use Rattle.graphql_components.specs.in_operations.in_directives.declared.operation_type.OperationType.{OperationType}
+use Rattle.graphql_components.specs.in_operations.in_directives.declared.operation_type.OperationType.TheVariants as operation
 use Rattle.graphql_definitions.specs.in_type_members.TypeSystemTree.{FieldDefinitionTree, EnumValueTree}
 use Rattle.graphql_components.specs.Names.{Entries}
 use Rattle.graphql_components.specs.Given.{Given, given_name}

@@ -3,8 +3,8 @@ use Rattle.std.specs.Prelude.{List, [], ◌∷◌, ◌++◌, ◌==◌, if◌then
 use Rattle.std.specs.List.{list_any}
 use Rattle.std.specs.Option.{option_map}
 use Rattle.std.specs.Borrow.{Bor}
-use Rattle.graphql_components.specs.in_operations.declared.operation.OperationType.{OperationType}
-use Rattle.graphql_components.specs.in_operations.declared.operation.OperationType.TheVariants as operation
+use Rattle.graphql_components.specs.in_operations.in_directives.declared.operation_type.OperationType.{OperationType}
+use Rattle.graphql_components.specs.in_operations.in_directives.declared.operation_type.OperationType.TheVariants as operation
 use Rattle.graphql_components.specs.Given.{number_of}
 use Rattle.graphql_components.specs.declared.extension.ExtensionId.{ExtensionId}
 use Rattle.graphql_components.specs.declared.component.ComponentOrigin.{ComponentOrigin}

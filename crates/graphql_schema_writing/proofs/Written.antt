@@ -10,7 +10,7 @@ use Rattle.graphql_names.specs.Placed.{Place, node_tree}
 use Rattle.graphql_directives.specs.DirectiveTree.{Directives, directive_definition_tree}
 use Rattle.graphql_directives.specs.declared.directive.DirectiveDefinition.{DirectiveDefinition}
 use Rattle.graphql_schema_types.specs.in_definitions.DefinitionTree.{DefinitionTree}
-use Rattle.graphql_operations.specs.declared.operation.OperationType.TheVariants as operation
+use Rattle.graphql_directives.specs.declared.operation_type.OperationType.TheVariants as operation
 use Rattle.graphql_components.specs.Given.{ExtensionTree, extension_tree, place_of}
 use Rattle.graphql_components.specs.declared.extension.ExtensionId.{ExtensionId}
 use Rattle.graphql_schema_types.specs.SchemaTree.{SchemaRoots, SchemaTree}

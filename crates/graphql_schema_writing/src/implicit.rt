@@ -4,7 +4,7 @@ ghost use Rattle.std.specs.Option.{option_map};
 ghost use Rattle.graphql_names.specs.Node.{content};
 ghost use Rattle.graphql_schema_types.specs.in_values.OperationQueries.{default_root_name};
 ghost use Rattle.graphql_components.specs.Given.{component_name_tree};
-ghost use Rattle.graphql_operations.specs.declared.operation.OperationType.TheVariants as operation;
+ghost use Rattle.graphql_directives.specs.declared.operation_type.OperationType.TheVariants as operation;
 ghost use Rattle.graphql_schema_types.specs.SchemaView.{types_view};
 ghost use Rattle.graphql_schema_types.specs.TypeView.{schema_roots};
 ghost use Rattle.graphql_schema_types.specs.Origins.{schema_origins, extensions_in};

@@ -3,7 +3,7 @@ use Rattle.std.proofs.Common.{◌≡◌, ℕ, List, [], ◌∷◌, ◌++◌, map
 use Rattle.graphql_names.specs.Placed.{Placed, Place, Text}
 use Rattle.graphql_literals.specs.TypeTree.{TypeTree, NamedTree, NonNullNamedTree}
 use Rattle.graphql_operations.specs.SelectionTree.{SelectionTree, FieldTree, no_selections, selection_then}
-use Rattle.graphql_operations.specs.declared.operation.OperationType.TheVariants.{Query}
+use Rattle.graphql_directives.specs.declared.operation_type.OperationType.TheVariants.{Query}
 use Rattle.graphql_type_members.specs.TypeSystemTree.{FieldDefinitionTree}
 use Rattle.graphql_definitions.specs.DefinitionTree.{DefinitionTree, Operation, ObjectType}
 use Rattle.graphql_thin.specs.Lists.{each_place}

@@ -4,7 +4,7 @@ use Rattle.graphql_names.specs.declared.span.FileId.{FileId}
 use Rattle.graphql_names.specs.Placed.{Placed, Place, Text}
 use Rattle.graphql_literals.specs.TypeTree.{NamedTree}
 use Rattle.graphql_operations.specs.SelectionTree.{FieldTree, selection_then, no_selections}
-use Rattle.graphql_operations.specs.declared.operation.OperationType.TheVariants.{Query}
+use Rattle.graphql_directives.specs.declared.operation_type.OperationType.TheVariants.{Query}
 use Rattle.graphql_definitions.specs.DefinitionTree.{DefinitionTree, Operation, ScalarType, ObjectType}
 use Rattle.graphql_read.specs.in_lexer.Bytes.{run_len}
 use Rattle.graphql_read.specs.in_lexer.Tokens.{ignored_at, token_at}

@@ -6,9 +6,10 @@ use Rattle.graphql_names.specs.Placed.{Placed, Place}
 use Rattle.graphql_literals.specs.TypeTree.{TypeTree, NamedTree, NonNullNamedTree}
 use Rattle.graphql_operations.specs.SelectionTree.{SelectionTree, SelectionTrees, FieldHead, FieldTree, no_selections, selection_then}
 use Rattle.graphql_operations.specs.OperationTree.{OperationTree}
-use Rattle.graphql_type_members.specs.in_values.Writable.{is_none_of, has_selection}
-use Rattle.graphql_operations.specs.declared.operation.OperationType.{OperationType}
-use Rattle.graphql_operations.specs.declared.operation.OperationType.TheVariants.{Query}
+use Rattle.graphql_directives.specs.DirectiveWritable.{is_none_of}
+use Rattle.graphql_operations.specs.OperationWritable.{has_selection}
+use Rattle.graphql_directives.specs.declared.operation_type.OperationType.{OperationType}
+use Rattle.graphql_directives.specs.declared.operation_type.OperationType.TheVariants.{Query}
 use Rattle.graphql_type_members.specs.TypeSystemTree.{FieldDefinitionTree, FieldsParts}
 use Rattle.graphql_definitions.specs.DefinitionTree.{DefinitionTree, Operation, ObjectType}
 use Rattle.graphql_definitions.specs.Queries.{definition_place}

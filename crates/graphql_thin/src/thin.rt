@@ -6,7 +6,7 @@ ghost use Rattle.graphql_literals.specs.TypeTree.{type_tree};
 ghost use Rattle.graphql_operations.specs.SelectionTree.{selection_tree, selection_trees};
 ghost use Rattle.graphql_operations.specs.SelectionParts.{field_head, field_tree};
 ghost use Rattle.graphql_operations.specs.OperationTree.{operation_tree};
-ghost use Rattle.graphql_type_members.specs.in_values.Writable.{has_selection};
+ghost use Rattle.graphql_operations.specs.OperationWritable.{has_selection};
 ghost use Rattle.graphql_type_members.specs.TypeSystemTree.{field_definition_tree};
 ghost use Rattle.graphql_composite_types.specs.CompositeTree.{object_parts};
 ghost use Rattle.graphql_definitions.specs.DefinitionTree.{definition_tree, document_tree};

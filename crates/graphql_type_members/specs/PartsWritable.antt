@@ -2,8 +2,9 @@
 -- what it asks of them beside their form.
 use Rattle.std.specs.Prelude.{Bool, not, ◌&&◌, ◌||◌, true, List}
 use Rattle.std.specs.List.{list_all}
-use Rattle.graphql_values.specs.Placed.{Placed}
-use Rattle.graphql_values.specs.Writable.{can_be_enum, is_none_of, directives_writable, input_values_writable}
+use Rattle.graphql_names.specs.Placed.{Placed}
+use Rattle.graphql_literals.specs.ValueWritable.{can_be_enum}
+use Rattle.graphql_directives.specs.DirectiveWritable.{is_none_of, directives_writable, input_values_writable}
 use Rattle.graphql_type_members.specs.TypeSystemTree.{FieldDefinitionTree, EnumValueTree, SchemaParts, ScalarParts, FieldsParts, UnionParts, EnumParts, InputObjectParts}
 
 abbrev pub has_some : {A : Type 0} → List A → Bool

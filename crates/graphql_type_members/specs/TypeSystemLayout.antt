@@ -1,13 +1,15 @@
 -- Type system definitions and their extensions (GraphQL, October 2021, section 3).
 use Rattle.std.specs.Prelude.{ℕ, List, [], ◌∷◌, map, codes}
-use Rattle.graphql_values.specs.Placed.{Text}
-use Rattle.graphql_values.specs.DirectiveTree.{Directives}
-use Rattle.graphql_values.specs.Joined.{joined, further_text}
-use Rattle.graphql_values.specs.LineLayout.{Prefix, Leveled, set_text}
-use Rattle.graphql_values.specs.StringLayout.{description_text}
-use Rattle.graphql_values.specs.ValueLayout.{type_text, directives_text, texts_of}
-use Rattle.graphql_values.specs.InputLayout.{input_value_text, argument_definitions_text}
-use Rattle.graphql_values.specs.OperationQueries.{operation_keyword}
+use Rattle.graphql_names.specs.Placed.{Text}
+use Rattle.graphql_directives.specs.DirectiveTree.{Directives}
+use Rattle.graphql_printing.specs.Joined.{joined, further_text}
+use Rattle.graphql_printing.specs.LineLayout.{Prefix, Leveled, set_text}
+use Rattle.graphql_printing.specs.StringLayout.{description_text}
+use Rattle.graphql_literals.specs.ValueLayout.{type_text}
+use Rattle.graphql_directives.specs.DirectiveLayout.{directives_text}
+use Rattle.graphql_printing.specs.LineLayout.{texts_of}
+use Rattle.graphql_directives.specs.InputLayout.{input_value_text, argument_definitions_text}
+use Rattle.graphql_directives.specs.OperationQueries.{operation_keyword}
 use Rattle.graphql_type_members.specs.TypeSystemTree.{FieldDefinitionTree, EnumValueTree, RootOperationTree, SchemaParts, ScalarParts, FieldsParts, UnionParts, EnumParts, InputObjectParts}
 
 abbrev pub name_text : {P : Type 0} → Text P → List ℕ

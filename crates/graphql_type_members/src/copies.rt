@@ -1,10 +1,11 @@
 //! Copies of parts of definitions.
 ghost use Rattle.std.specs.Prelude.{◌≡◌, IfOk};
 ghost use Rattle.std.specs.Option.{option_map};
-ghost use Rattle.graphql_values.specs.Placed.{name_tree, text_tree};
-ghost use Rattle.graphql_values.specs.DirectiveTree.{directives_tree};
+ghost use Rattle.graphql_names.specs.Placed.{name_tree, text_tree};
+ghost use Rattle.graphql_directives.specs.DirectiveTree.{directives_tree};
 
-use graphql_values::{DirectiveList, Name, NodeStr};
+use graphql_directives::{DirectiveList};
+use graphql_names::{Name, NodeStr};
 use std::alloc::AllocError;
 
 /// The same description, with its place. No text is copied. For the crates of definitions above.

@@ -1,14 +1,16 @@
 //! The fields of objects and interfaces.
 ghost use Rattle.std.specs.Prelude.{◌≡◌, map, IfOk};
 ghost use Rattle.std.specs.Option.{option_map};
-ghost use Rattle.graphql_values.specs.Placed.{node_tree};
-ghost use Rattle.graphql_values.specs.TypeTree.{type_tree};
-ghost use Rattle.graphql_values.specs.DirectiveTree.{input_value_tree};
+ghost use Rattle.graphql_names.specs.Placed.{node_tree};
+ghost use Rattle.graphql_literals.specs.TypeTree.{type_tree};
+ghost use Rattle.graphql_directives.specs.DirectiveTree.{input_value_tree};
 ghost use Rattle.graphql_type_members.specs.TypeSystemTree.{field_definition_tree};
 ghost use Rattle.graphql_type_members.specs.ArgumentQueries.{argument_named};
 
 use crate::copies::clone_described;
-use graphql_values::{DirectiveList, InputValueDefinition, Name, Node, NodeStr, Type};
+use graphql_directives::{DirectiveList, InputValueDefinition};
+use graphql_literals::{Type};
+use graphql_names::{Name, Node, NodeStr};
 use std::alloc::AllocError;
 
 /// `name(arguments): ty @directives` (section 3.6).

@@ -1,21 +1,21 @@
 //! Fields, enum values and input values, and the braces round them.
 ghost use Rattle.std.specs.Prelude.{map};
 ghost use Rattle.std.specs.Option.{option_copied};
-ghost use Rattle.graphql_values.specs.Placed.{node_tree};
-ghost use Rattle.graphql_values.specs.DirectiveTree.{input_value_tree};
-ghost use Rattle.graphql_values.specs.Levels.{level_depth};
-ghost use Rattle.graphql_values.specs.LineLayout.{member_text, members_text, set_text};
-ghost use Rattle.graphql_values.specs.ValueLayout.{texts_of};
-ghost use Rattle.graphql_values.specs.InputLayout.{input_value_text};
+ghost use Rattle.graphql_names.specs.Placed.{node_tree};
+ghost use Rattle.graphql_directives.specs.DirectiveTree.{input_value_tree};
+ghost use Rattle.graphql_printing.specs.Levels.{level_depth};
+ghost use Rattle.graphql_printing.specs.LineLayout.{member_text, members_text, set_text};
+ghost use Rattle.graphql_printing.specs.LineLayout.{texts_of};
+ghost use Rattle.graphql_directives.specs.InputLayout.{input_value_text};
 ghost use Rattle.graphql_type_members.specs.TypeSystemTree.{field_definition_tree, enum_value_tree};
 ghost use Rattle.graphql_type_members.specs.TypeSystemLayout.{undescribed_field_text, field_definition_text, enum_value_text};
 
 use crate::enum_value::EnumValueDefinition;
 use crate::field_definition::FieldDefinition;
-use graphql_values::{
-    InputValueDefinition, Level, Node, Sink, put_argument_definitions, put_break, put_description,
-    put_directives, put_input_members, put_type,
-};
+use graphql_directives::{InputValueDefinition, put_argument_definitions, put_directives, put_input_members};
+use graphql_literals::{put_type};
+use graphql_names::{Node};
+use graphql_printing::{Level, Sink, put_break, put_description};
 
 fn put_undescribed_field<S: Sink>(
     sink: &mut S,

@@ -1,11 +1,14 @@
 //! Names, and the heads of definitions.
 ghost use Rattle.std.specs.Prelude.{map};
-ghost use Rattle.graphql_values.specs.Placed.{name_tree};
-ghost use Rattle.graphql_values.specs.DirectiveTree.{directives_tree};
-ghost use Rattle.graphql_values.specs.Joined.{after, further_text};
+ghost use Rattle.graphql_names.specs.Placed.{name_tree};
+ghost use Rattle.graphql_directives.specs.DirectiveTree.{directives_tree};
+ghost use Rattle.graphql_printing.specs.Joined.{after, further_text};
 ghost use Rattle.graphql_type_members.specs.TypeSystemLayout.{name_text, names_text, head_text};
 
-use graphql_values::{DirectiveList, Name, NamedType, Sink, put_directives};
+use graphql_directives::{DirectiveList, put_directives};
+use graphql_literals::{NamedType};
+use graphql_names::{Name};
+use graphql_printing::{Sink};
 
 fn put_next_name<S: Sink>(sink: &mut S, sign: &str, name: &Name)
     ensures { S.puts sink.old (after sign.now (name_text (name_tree name.now))) sink.new }

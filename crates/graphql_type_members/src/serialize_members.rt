@@ -1,13 +1,13 @@
 //! The texts of fields and of enum values by themselves.
 ghost use Rattle.std.specs.Prelude.{Some};
-ghost use Rattle.graphql_values.specs.LineLayout.{default_prefix, standing};
+ghost use Rattle.graphql_printing.specs.LineLayout.{default_prefix, standing};
 ghost use Rattle.graphql_type_members.specs.TypeSystemTree.{field_definition_tree, enum_value_tree};
 ghost use Rattle.graphql_type_members.specs.TypeSystemLayout.{field_definition_text, enum_value_text};
 
 use crate::enum_value::EnumValueDefinition;
 use crate::field_definition::FieldDefinition;
 use crate::print_members::{put_enum_value, put_field_definition};
-use graphql_values::{Level, Sink, Tree, put_start};
+use graphql_printing::{Level, Sink, Tree, put_start};
 use std::fmt;
 
 impl Tree for FieldDefinition {

@@ -1,7 +1,7 @@
 -- The rules of this crate, place by place: what a walk over a schema tells at each.
 use Rattle.std.proofs.Common.{◌≡◌, ◌≢◌, ℕ, ◌⊎◌, ◌↔◌, inl, inr, false, List, codes, refl, Option, None, Some}
 use Rattle.graphql_directives.specs.DirectiveTree.{InputValueTree, InputValues, DirectiveDefinitionTree}
-use Rattle.graphql_operations.specs.declared.operation.OperationType.{OperationType}
+use Rattle.graphql_directives.specs.declared.operation_type.OperationType.{OperationType}
 use Rattle.graphql_type_members.specs.TypeSystemTree.{FieldDefinitionTree, EnumValueTree}
 use Rattle.graphql_schema_types.specs.SchemaTree.{kind_words, is_input_kind, is_output_kind}
 use Rattle.graphql_schema_types.specs.Looks.{TypeLooks}

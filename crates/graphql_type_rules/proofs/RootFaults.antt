@@ -9,8 +9,8 @@ use Rattle.graphql_components.specs.Lists.{each_place}
 use Rattle.graphql_components.specs.Given.{Given, given_name}
 use Rattle.graphql_schema_types.specs.SchemaTree.{SchemaTree}
 use Rattle.graphql_schema_types.specs.Addresses.{SchemaAt, RootAt, place_of, root_at, place_at}
-use Rattle.graphql_operations.specs.declared.operation.OperationType.{OperationType}
-use Rattle.graphql_operations.specs.declared.operation.OperationType.TheVariants as operation
+use Rattle.graphql_directives.specs.declared.operation_type.OperationType.{OperationType}
+use Rattle.graphql_directives.specs.declared.operation_type.OperationType.TheVariants as operation
 use Rattle.graphql_fault_data.specs.in_rule_definitions.Diagnostics.{QueryRootOperationType, DuplicateRootOperationType}
 use Rattle.graphql_fault_data.specs.in_rule_definitions.Faults.{SchemaFault, wrong, told}
 use Rattle.graphql_fault_data.specs.in_rule_definitions.Judged.{judged}

@@ -17,7 +17,7 @@ use Rattle.graphql_schema_types.specs.Looks.{TypeLooks}
 use Rattle.graphql_schema_types.specs.Addresses.{Address, RootAt, TypeAt, MemberAt, FieldAt, ValueAt, InputAt, DirectiveDefinitionAt, ArgumentAt, NameAt, TypeNameAt, TypeReferenceAt, under, or_nothing, place_of, inner_name_place, type_at, root_at, field_at, value_at, input_at, directive_definition_at, arguments_at, place_at, name_place, is_marked}
 use Rattle.graphql_schema_types.specs.declared.type_kind.TypeKind.{TypeKind}
 use Rattle.graphql_schema_types.specs.declared.type_kind.TypeKind.TheVariants as kind
-use Rattle.graphql_operations.specs.declared.operation.OperationType.{OperationType}
+use Rattle.graphql_directives.specs.declared.operation_type.OperationType.{OperationType}
 use Rattle.graphql_fault_data.specs.in_rule_definitions.Diagnostics.{Diagnostic, map_places, UndefinedDefinition, RootOperationObjectType, ReservedName, OutputType, InputType, EmptyFieldSet, EmptyValueSet, EmptyMemberSet, EmptyInputValueSet, UnionMemberObjectType, UniqueInputValue}
 use Rattle.graphql_fault_data.specs.in_rule_definitions.Spots.{At, spot_place}
 use Rattle.graphql_fault_data.specs.in_rule_definitions.Faults.{SchemaFault, wrong, told}

@@ -11,8 +11,8 @@ use Rattle.graphql_literals.specs.TypeQueries.{inner_name}
 use Rattle.graphql_directives.specs.DirectiveTree.{InputValueTree, InputValues, DirectiveDefinitionTree, input_value_tree, directive_definition_tree}
 use Rattle.graphql_directives.specs.declared.directive.DirectiveDefinition.{DirectiveDefinition}
 use Rattle.graphql_directives.specs.declared.input_value.InputValueDefinition.{InputValueDefinition}
-use Rattle.graphql_operations.specs.declared.operation.OperationType.{OperationType}
-use Rattle.graphql_operations.specs.declared.operation.OperationType.TheVariants as operation
+use Rattle.graphql_directives.specs.declared.operation_type.OperationType.{OperationType}
+use Rattle.graphql_directives.specs.declared.operation_type.OperationType.TheVariants as operation
 use Rattle.graphql_type_members.specs.TypeSystemTree.{FieldDefinitionTree, EnumValueTree, field_definition_tree, enum_value_tree}
 use Rattle.graphql_type_members.specs.declared.field_definition.FieldDefinition.{FieldDefinition}
 use Rattle.graphql_type_members.specs.declared.enum_value.EnumValueDefinition.{EnumValueDefinition}

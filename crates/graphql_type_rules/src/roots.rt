@@ -2,7 +2,7 @@
 ghost use Rattle.std.specs.Prelude.{◌≡◌, ◌++◌, map, IfOk, OnOk, option_to_list};
 ghost use Rattle.std.specs.Option.{option_map};
 ghost use Rattle.graphql_names.specs.Placed.{name_tree};
-ghost use Rattle.graphql_operations.specs.declared.operation.OperationType.TheVariants as operation;
+ghost use Rattle.graphql_directives.specs.declared.operation_type.OperationType.TheVariants as operation;
 ghost use Rattle.graphql_components.specs.Given.{component_name_tree};
 ghost use Rattle.graphql_schema_types.specs.TypeView.{schema_roots};
 ghost use Rattle.graphql_fault_data.specs.in_schema.SchemaOf.{schema_tree};

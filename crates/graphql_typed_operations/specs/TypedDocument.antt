@@ -4,7 +4,7 @@ use Rattle.std.specs.Option.{option_map}
 use Rattle.graphql_names.specs.Placed.{Placed, Place, Text, name_tree, node_tree}
 use Rattle.graphql_directives.specs.DirectiveTree.{Directives, directives_tree}
 use Rattle.graphql_operations.specs.OperationTree.{VariableDefinitionTree, variable_definition_tree}
-use Rattle.graphql_operations.specs.declared.operation.OperationType.{OperationType}
+use Rattle.graphql_directives.specs.declared.operation_type.OperationType.{OperationType}
 use Rattle.graphql_schema_types.specs.in_components.Names.{Entries, entries_of}
 use Rattle.graphql_schema_types.specs.TypeView.{name_text}
 use Rattle.graphql_typed_selections.specs.TypedTree.{TypedSet, typed_set_tree}

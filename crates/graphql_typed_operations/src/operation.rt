@@ -1,7 +1,7 @@
 //! Operations and fragments under a schema.
 ghost use Rattle.std.specs.Prelude.{◌≡◌, ◌↔◌, IsTrue};
 ghost use Rattle.graphql_names.specs.Placed.{name_tree};
-ghost use Rattle.graphql_operations.specs.declared.operation.OperationType.TheVariants as kind;
+ghost use Rattle.graphql_directives.specs.declared.operation_type.OperationType.TheVariants as kind;
 ghost use Rattle.graphql_typed_selections.specs.TypedTree.{set_type};
 ghost use Rattle.graphql_typed_operations.specs.TypedDocument.{typed_operation_tree, typed_fragment_tree};
 

@@ -5,12 +5,12 @@ use Rattle.std.specs.Cmp.Lexicographic.{pointwise}
 use Rattle.graphql_names.specs.Node.{content, place}
 use Rattle.graphql_names.specs.Placed.{Placed, Place, name_tree, unplaced_text}
 use Rattle.graphql_directives.specs.DirectiveTree.{argument_tree, unplaced_argument}
-use Rattle.graphql_type_members.specs.in_operations.SelectionTree.{FieldHead}
+use Rattle.graphql_definitions.specs.in_operations.SelectionTree.{FieldHead}
 use Rattle.graphql_type_members.specs.TypeSystemTree.{FieldDefinitionTree, field_definition_tree, unplaced_field_definition}
 use Rattle.graphql_typed_selections.specs.TypedTree.{TypedSelection, TypedField, TypedSpread, TypedInline, TypedSet, typed_set, TypedSelections, typed_then, typed_selections, typed_selection_tree, typed_set_tree, unplaced_typed_selection, unplaced_typed_set, unplaced_typed_selections}
 use Rattle.graphql_typed_selections.specs.TypedParts.{typed_field, typed_spread, typed_inline}
-use Rattle.graphql_type_members.proofs.in_values.Decided.{Each, through, carried, pair_decides, name_decides, node_decides, nodes_decide, options_decide}
-use Rattle.graphql_type_members.proofs.in_values.DirectiveEquality.{argument_eq, argument_eq-Decides, directive_list_eq-Decides}
+use Rattle.graphql_definitions.proofs.in_values.Decided.{Each, through, carried, pair_decides, name_decides, node_decides, nodes_decide, options_decide}
+use Rattle.graphql_definitions.proofs.in_values.DirectiveEquality.{argument_eq, argument_eq-Decides, directive_list_eq-Decides}
 use Rattle.graphql_definitions.proofs.TreeEquality.{field_definition_eq-Decides}
 use Rattle.graphql_typed_selections.proofs.TypedTrees.{tree_here, typed_selection_tree_out, typed_set_tree_out}
 use Rattle.graphql_typed_selections.specs.declared.selection.Selection.{Selection}

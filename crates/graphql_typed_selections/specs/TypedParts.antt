@@ -6,7 +6,7 @@ use Rattle.graphql_names.specs.Node.{content, place}
 use Rattle.graphql_names.specs.declared.node.Node.{Node}
 use Rattle.graphql_names.specs.Placed.{Place, Text, name_tree, node_tree}
 use Rattle.graphql_directives.specs.DirectiveTree.{Arguments, Directives, argument_tree, directives_tree}
-use Rattle.graphql_type_members.specs.in_operations.SelectionTree.{FieldHead}
+use Rattle.graphql_definitions.specs.in_operations.SelectionTree.{FieldHead}
 use Rattle.graphql_type_members.specs.TypeSystemTree.{field_definition_tree}
 use Rattle.graphql_typed_selections.specs.TypedTree.{TypedSelection, TypedField, TypedSpread, TypedInline, TypedSet, typed_set, TypedSelections, no_typed, typed_then, typed_set_tree}
 use Rattle.graphql_typed_selections.specs.declared.selection.Field.{Field}

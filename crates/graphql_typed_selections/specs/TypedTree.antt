@@ -4,7 +4,7 @@ use Rattle.std.specs.Option.{option_map}
 use Rattle.graphql_names.specs.Node.{content, place}
 use Rattle.graphql_names.specs.Placed.{Placed, Place, Text, name_tree, node_tree, unplaced_text, unplaced_node}
 use Rattle.graphql_directives.specs.DirectiveTree.{Directives, argument_tree, directives_tree, unplaced_directives}
-use Rattle.graphql_type_members.specs.in_operations.SelectionTree.{FieldHead, unplaced_head}
+use Rattle.graphql_definitions.specs.in_operations.SelectionTree.{FieldHead, unplaced_head}
 use Rattle.graphql_type_members.specs.TypeSystemTree.{FieldDefinitionTree, field_definition_tree, unplaced_field_definition}
 use Rattle.graphql_typed_selections.specs.declared.selection.Selection.{Selection}
 use Rattle.graphql_typed_selections.specs.declared.selection.Selection.TheOpen.{Selection-F, Field-F, InlineFragment-F, SelectionSet-F, Field, FragmentSpread, InlineFragment}

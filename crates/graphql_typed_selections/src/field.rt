@@ -7,7 +7,7 @@ ghost use Rattle.graphql_literals.specs.TypeQueries.{inner_name};
 ghost use Rattle.graphql_literals.specs.ValueTree.{value_tree};
 ghost use Rattle.graphql_directives.specs.DirectiveTree.{argument_tree, directive_tree};
 ghost use Rattle.graphql_directives.specs.DirectiveQueries.{given_value, argument_value, lent_value};
-ghost use Rattle.graphql_type_members.specs.in_operations.SelectionParts.{response_name_of};
+ghost use Rattle.graphql_definitions.specs.in_operations.SelectionParts.{response_name_of};
 ghost use Rattle.graphql_type_members.specs.TypeSystemTree.{field_definition_tree};
 ghost use Rattle.graphql_typed_selections.specs.TypedTree.{TypedField, typed_set, no_typed, typed_then, typed_selection_tree, typed_selections};
 ghost use Rattle.graphql_typed_selections.specs.TypedParts.{typed_head, typed_field, aliased, and_arguments, and_directives, and_selections};

@@ -6,7 +6,7 @@ use Rattle.std.specs.Str.{bytes_eq}
 use Rattle.graphql_names.specs.Placed.{Text}
 use Rattle.graphql_literals.specs.TypeTree.{TypeTree}
 use Rattle.graphql_operations.specs.SelectionTree.{FieldHead, SelectionTree, FieldTree, InlineTree, SelectionTrees, no_selections, selection_then}
-use Rattle.graphql_operations.specs.declared.operation.OperationType.{OperationType}
+use Rattle.graphql_directives.specs.declared.operation_type.OperationType.{OperationType}
 use Rattle.graphql_definitions.specs.DefinitionTree.{DefinitionTree, Operation, Fragment}
 use Rattle.graphql_schema_types.specs.in_components.Lists.{is_among}
 use Rattle.graphql_schema_types.specs.Looks.{Looks, TypeLooks}

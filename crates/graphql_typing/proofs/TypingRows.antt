@@ -1,7 +1,7 @@
 -- The definitions of typing, evaluated on small documents.
 use Rattle.std.proofs.Common.{◌≡◌, ℕ, List, [], ◌∷◌, map, refl, codes, None, Some}
 use Rattle.graphql_literals.specs.TypeTree.{NamedTree, ListTree}
-use Rattle.graphql_operations.specs.declared.operation.OperationType.TheVariants.{Query, Mutation}
+use Rattle.graphql_directives.specs.declared.operation_type.OperationType.TheVariants.{Query, Mutation}
 use Rattle.graphql_type_members.specs.TypeSystemTree.{unplaced_field_definition}
 use Rattle.graphql_definitions.specs.DefinitionTree.{DefinitionTree}
 use Rattle.graphql_document_faults.specs.in_schema.MetaFields.{typename_field}

@@ -6,8 +6,8 @@ use Rattle.graphql_literals.specs.TypeTree.{TypeTree, NamedTree}
 use Rattle.graphql_literals.specs.TypeQueries.{inner_name}
 use Rattle.graphql_directives.specs.DirectiveTree.{InputValues}
 use Rattle.graphql_operations.specs.OperationQueries.{default_root_name}
-use Rattle.graphql_operations.specs.declared.operation.OperationType.{OperationType}
-use Rattle.graphql_operations.specs.declared.operation.OperationType.TheVariants.{Query, Mutation, Subscription}
+use Rattle.graphql_directives.specs.declared.operation_type.OperationType.{OperationType}
+use Rattle.graphql_directives.specs.declared.operation_type.OperationType.TheVariants.{Query, Mutation, Subscription}
 use Rattle.graphql_schema_types.specs.SchemaTree.{same_kind}
 use Rattle.graphql_schema_types.specs.Plain.{PlainSchema}
 use Rattle.graphql_schema_types.specs.Looks.{Looks, looks}

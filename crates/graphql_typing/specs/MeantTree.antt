@@ -2,7 +2,7 @@
 use Rattle.std.specs.Prelude.{ℕ, List, [], ◌∷◌, Option}
 use Rattle.graphql_names.specs.Placed.{Placed, Text}
 use Rattle.graphql_directives.specs.DirectiveTree.{Directives}
-use Rattle.graphql_operations.specs.declared.operation.OperationType.{OperationType}
+use Rattle.graphql_directives.specs.declared.operation_type.OperationType.{OperationType}
 use Rattle.graphql_operations.specs.SelectionTree.{FieldHead}
 use Rattle.graphql_operations.specs.OperationTree.{VariableDefinitionTree}
 use Rattle.graphql_type_members.specs.TypeSystemTree.{FieldDefinitionTree, unplaced_field_definition}

@@ -8,7 +8,7 @@ use Rattle.graphql_literals.specs.ValueTree.{ValueTree, ItemTrees, EntryTrees, N
 use Rattle.graphql_literals.specs.ValueQueries.{is_null_value, enum_name, variable_name, integer_text, object_entries}
 use Rattle.graphql_directives.specs.DirectiveQueries.{is_required_input}
 use Rattle.graphql_operations.specs.OperationTree.{VariableDefinitionTree}
-use Rattle.graphql_components.specs.Coordinate.{Coordinate, OfAttribute}
+use Rattle.graphql_coordinates.specs.Coordinate.{Coordinate, OfAttribute}
 use Rattle.graphql_directives.specs.declared.directive_location.DirectiveLocation.{DirectiveLocation}
 use Rattle.graphql_schema_types.specs.Looks.{TypeLooks}
 use Rattle.graphql_schema_types.specs.Addresses.{Address, TypeAt, InputAt, TypeReferenceAt}

@@ -10,7 +10,7 @@ use Rattle.graphql_literals.specs.ValueQueries.{variable_name}
 use Rattle.graphql_directives.specs.DirectiveTree.{ArgumentTree, Arguments, DirectiveTree, Directives, InputValueTree, InputValues, DirectiveDefinitionTree, unplaced_input_value, unplaced_directive_definition}
 use Rattle.graphql_directives.specs.DirectiveQueries.{is_required_input, given_value, argument_has_name, input_value_has_name, directive_has_name}
 use Rattle.graphql_directives.specs.declared.directive_location.DirectiveLocation.{DirectiveLocation}
-use Rattle.graphql_components.specs.Coordinate.{OfDirective, OfDirectiveArgument}
+use Rattle.graphql_coordinates.specs.Coordinate.{OfDirective, OfDirectiveArgument}
 use Rattle.graphql_components.specs.Lists.{each_place}
 use Rattle.graphql_value_rules.specs.in_schema.in_schema_types.SchemaTree.{SchemaTree}
 use Rattle.graphql_value_rules.specs.in_schema.in_schema_types.Addresses.{Address, ArgumentAt, TypeReferenceAt, DirectiveDefinitionAt, place_at, arguments_at, or_nothing, directive_definition_at}

@@ -7,7 +7,7 @@ use Rattle.graphql_directives.specs.DirectiveTree.{Arguments, Directives, InputV
 use Rattle.graphql_directives.specs.declared.directive.Argument.{Argument}
 use Rattle.graphql_directives.specs.declared.directive.Directive.{Directive}
 use Rattle.graphql_directives.specs.declared.input_value.InputValueDefinition.{InputValueDefinition}
-use Rattle.graphql_components.specs.Coordinate.{Coordinate, OfAttribute, OfArgument, OfDirective, OfDirectiveArgument}
+use Rattle.graphql_coordinates.specs.Coordinate.{Coordinate, OfAttribute, OfArgument, OfDirective, OfDirectiveArgument}
 use Rattle.graphql_value_rules.specs.in_schema.in_schema_types.SchemaTree.{SchemaTree}
 use Rattle.graphql_value_rules.specs.in_schema.in_schema_types.Addresses.{Address, TypeAt, FieldAt, InputAt, ArgumentAt, TypeReferenceAt, DirectiveDefinitionAt, place_at}
 use Rattle.graphql_value_rules.specs.in_schema.SchemaOf.{schema_tree}

@@ -17,7 +17,7 @@ use Rattle.graphql_components.specs.Given.{Given}
 use Rattle.graphql_fault_data.specs.in_schema.in_schema_types.SchemaTree.{SchemaType, SchemaTree, same_kind}
 use Rattle.graphql_fault_data.specs.in_schema.in_schema_types.Addresses.{under, type_at}
 use Rattle.graphql_fault_data.specs.in_schema.in_schema_types.declared.type_kind.TypeKind.TheVariants as kind
-use Rattle.graphql_components.specs.Coordinate.{OfAttribute}
+use Rattle.graphql_coordinates.specs.Coordinate.{OfAttribute}
 use Rattle.graphql_fault_data.specs.in_rule_definitions.Diagnostics.{UnsupportedValueType, IntCoercionError, UndefinedEnumValue, UndefinedInputValue, RequiredField}
 use Rattle.graphql_fault_data.specs.in_rule_definitions.Faults.{wrong}
 use Rattle.graphql_fault_data.specs.in_rule_definitions.Values.{Variables, defined_name}

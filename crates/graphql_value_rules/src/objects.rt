@@ -6,7 +6,7 @@ ghost use Rattle.graphql_directives.specs.DirectiveTree.{input_value_tree};
 ghost use Rattle.graphql_components.specs.Given.{component_tree};
 ghost use Rattle.graphql_components.specs.Names.{entries_of};
 ghost use Rattle.graphql_fault_data.specs.in_schema.in_schema_types.TypeView.{extended_type, name_text};
-ghost use Rattle.graphql_components.specs.Coordinate.{OfAttribute};
+ghost use Rattle.graphql_coordinates.specs.Coordinate.{OfAttribute};
 ghost use Rattle.graphql_fault_data.specs.in_coords.CoordinateView.{attribute_coordinate};
 ghost use Rattle.graphql_fault_data.specs.in_rule_definitions.Diagnostics.{UndefinedInputValue};
 ghost use Rattle.graphql_fault_data.specs.in_rule_definitions.Faults.{wrong};

@@ -11,12 +11,12 @@ use Rattle.graphql_values.proofs.TypeEquality.{type_eq, type_eq-Decides}
 use Rattle.graphql_values.proofs.ValueEquality.{value_eq, value_eq-Decides}
 use Rattle.graphql_values.proofs.DirectiveEquality.{directive_list_eq-Decides}
 use Rattle.graphql_values.proofs.SelectionEquality.{selections_decide}
-use Rattle.graphql_operations.specs.declared.operation.OperationType.{OperationType}
+use Rattle.graphql_operations.specs.in_directives.declared.operation_type.OperationType.{OperationType}
 use Rattle.graphql_operations.specs.declared.operation.VariableDefinition.{VariableDefinition}
 use Rattle.graphql_operations.specs.declared.operation.OperationDefinition.{OperationDefinition}
 use Rattle.graphql_operations.specs.declared.operation.FragmentDefinition.{FragmentDefinition}
-use Rattle.graphql_operations.specs.contracts.operation.OperationType.{the_type}
-use Rattle.graphql_operations.specs.contracts.operation.OperationTypePartialEq.TheImpl as operation_type
+use Rattle.graphql_directives.specs.contracts.operation_type.OperationType.{the_type}
+use Rattle.graphql_directives.specs.contracts.operation_type.OperationTypePartialEq.TheImpl as operation_type
 use Rattle.graphql_operations.specs.contracts.operation.VariableDefinitionPartialEq.TheImpl as variable
 use Rattle.graphql_operations.specs.contracts.operation.OperationDefinitionPartialEq.TheImpl as operation
 use Rattle.graphql_operations.specs.contracts.operation.FragmentDefinitionPartialEq.TheImpl as fragment

@@ -1,7 +1,7 @@
 use Rattle.std.proofs.Common.{map}
 use Rattle.graphql_printing.specs.in_names.Placed.{name_tree}
 use Rattle.graphql_type_members.specs.TypeSystemTree.{field_definition_tree}
-use Rattle.graphql_type_members.proofs.in_values.Trees.{nodes-copies, equal-copies}
+use Rattle.graphql_names.proofs.Copies.{nodes-copies, equal-copies}
 use Rattle.graphql_composite_types.proofs.copies.clone_members.Goals as goal
 
 pub returns : goal.returns

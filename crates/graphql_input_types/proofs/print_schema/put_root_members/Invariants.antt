@@ -3,7 +3,7 @@ use Rattle.std.specs.Option.{option_copied}
 use Rattle.graphql_names.specs.Placed.{node_tree}
 use Rattle.graphql_printing.specs.Levels.{level_depth}
 use Rattle.graphql_printing.specs.LineLayout.{members_text}
-use Rattle.graphql_type_members.specs.in_values.ValueLayout.{texts_of}
+use Rattle.graphql_printing.specs.LineLayout.{texts_of}
 use Rattle.graphql_input_types.specs.InputTypeTree.{root_tree}
 use Rattle.graphql_type_members.specs.TypeSystemLayout.{root_text}
 use Rattle.graphql_input_types.proofs.print_schema.put_root_members.Given as goal

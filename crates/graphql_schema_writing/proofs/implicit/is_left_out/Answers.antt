@@ -1,5 +1,5 @@
 use Rattle.std.proofs.Common.{◌&&◌, is_some, refl, sym, ap, ◌∙◌}
-use Rattle.graphql_operations.specs.declared.operation.OperationType.TheVariants as operation
+use Rattle.graphql_directives.specs.declared.operation_type.OperationType.TheVariants as operation
 use Rattle.graphql_schema_types.specs.Out.{is_implicit_root}
 use Rattle.graphql_schema_writing.specs.SchemaParts.{schema_and_types}
 use Rattle.graphql_schema_writing.proofs.Written.{left_out}

@@ -1,5 +1,5 @@
-use Rattle.graphql_values.specs.DirectiveTree.{input_value_tree}
-use Rattle.graphql_values.proofs.Trees.{nodes-copies}
+use Rattle.graphql_directives.specs.DirectiveTree.{input_value_tree}
+use Rattle.graphql_names.proofs.Copies.{nodes-copies}
 use Rattle.graphql_type_members.proofs.field_definition.clone_signature.Goals as goal
 
 pub returns : goal.returns

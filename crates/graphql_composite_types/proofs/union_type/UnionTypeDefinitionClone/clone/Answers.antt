@@ -1,6 +1,6 @@
 use Rattle.std.proofs.Common.{map}
 use Rattle.graphql_printing.specs.in_names.Placed.{name_tree}
-use Rattle.graphql_type_members.proofs.in_values.Trees.{equal-copies}
+use Rattle.graphql_names.proofs.Copies.{equal-copies}
 use Rattle.graphql_composite_types.proofs.union_type.UnionTypeDefinitionClone.clone.Goals as goal
 
 pub returns : goal.returns

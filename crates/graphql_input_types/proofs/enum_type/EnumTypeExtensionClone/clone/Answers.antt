@@ -1,5 +1,5 @@
 use Rattle.graphql_type_members.specs.TypeSystemTree.{enum_value_tree}
-use Rattle.graphql_type_members.proofs.in_values.Trees.{nodes-copies}
+use Rattle.graphql_names.proofs.Copies.{nodes-copies}
 use Rattle.graphql_input_types.proofs.enum_type.EnumTypeExtensionClone.clone.Goals as goal
 
 pub returns : goal.returns

@@ -2,7 +2,7 @@ use Rattle.std.proofs.Common.{ap}
 use Rattle.std.specs.Option.{option_map}
 use Rattle.graphql_names.specs.Placed.{text_tree}
 use Rattle.graphql_input_types.specs.InputTypeTree.{root_tree}
-use Rattle.graphql_type_members.proofs.in_values.Trees.{nodes-copies}
+use Rattle.graphql_names.proofs.Copies.{nodes-copies}
 use Rattle.graphql_input_types.proofs.schema.SchemaDefinitionClone.clone.Goals as goal
 
 pub returns : goal.returns

@@ -1,5 +1,5 @@
 use Rattle.graphql_input_types.specs.InputTypeTree.{root_tree}
-use Rattle.graphql_type_members.proofs.in_values.Trees.{nodes-copies}
+use Rattle.graphql_names.proofs.Copies.{nodes-copies}
 use Rattle.graphql_input_types.proofs.schema.SchemaExtensionClone.clone.Goals as goal
 
 pub returns : goal.returns

@@ -1,6 +1,6 @@
 use Rattle.std.proofs.Common.{◌≡◌, map, drop}
-use Rattle.graphql_values.specs.Placed.{node_tree}
-use Rattle.graphql_values.specs.DirectiveTree.{input_value_tree}
+use Rattle.graphql_names.specs.Placed.{node_tree}
+use Rattle.graphql_directives.specs.DirectiveTree.{input_value_tree}
 use Rattle.graphql_type_members.specs.TypeSystemTree.{field_definition_tree}
 use Rattle.graphql_type_members.specs.ArgumentQueries.{argument_named}
 use Rattle.graphql_type_members.proofs.field_definition.FieldDefinition.argument_by_name.Given as goal

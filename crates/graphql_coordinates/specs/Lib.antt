@@ -1,0 +1,4 @@
+pub mod Coordinate
+pub mod CoordinateView
+pub mod Reading
+pub mod ParseErrors

@@ -1,0 +1,20 @@
+//! The form of schema coordinates: names of types, fields, values, arguments and directives of a schema in one line, how
+//! they are printed and how they are read. What they name in a schema is found by `graphql_coords`.
+//!
+//! For the layer above: contracts see a coordinate as one of five forms (`specs/Coordinate.antt`); a text is read
+//! exactly where it is printed for some coordinate.
+//!
+//! Begin with `coordinate.rt` and `specs/Coordinate.antt`.
+#![tactic(auto)]
+
+mod coordinate;
+mod display;
+mod from_str;
+mod parse_error;
+mod parts;
+
+pub use coordinate::{
+    DirectiveArgumentCoordinate, DirectiveCoordinate, FieldArgumentCoordinate, SchemaCoordinate,
+    TypeAttributeCoordinate, TypeCoordinate,
+};
+pub use parse_error::SchemaCoordinateParseError;

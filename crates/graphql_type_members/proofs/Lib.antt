@@ -1,1 +1,0 @@
-pub use Rattle.graphql_values.proofs as in_values
