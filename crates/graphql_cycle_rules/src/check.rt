@@ -1,13 +1,14 @@
 //! Tells which definitions lead back to themselves.
 ghost use Rattle.std.specs.Prelude.{OnOk};
-ghost use Rattle.graphql_fault_data.specs.in_schema.SchemaOf.{schema_tree};
+ghost use Rattle.graphql_schema.specs.SchemaOf.{schema_tree};
 ghost use Rattle.graphql_schema_types.specs.Distinct.{AreAllDistinct};
 ghost use Rattle.graphql_fault_data.specs.FaultView.{faults_of};
 ghost use Rattle.graphql_cycle_rules.specs.Told.{CyclesTold};
 
 use crate::check_directives::check_directive_cycles;
 use crate::check_inputs::check_input_cycles;
-use graphql_fault_data::{Fault, Schema};
+use graphql_fault_data::{Fault};
+use graphql_schema::Schema;
 use std::alloc::{AllocError, Global};
 
 /// Tells each input object and each directive definition that leads back to itself, or that the ways from there hold

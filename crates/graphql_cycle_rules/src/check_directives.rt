@@ -1,6 +1,6 @@
 //! Tells which directives reach themselves.
 ghost use Rattle.std.specs.Prelude.{map, OnOk, IfOk, option_to_list};
-ghost use Rattle.graphql_fault_data.specs.in_schema.SchemaOf.{schema_tree};
+ghost use Rattle.graphql_schema.specs.SchemaOf.{schema_tree};
 ghost use Rattle.graphql_schema_types.specs.Distinct.{AreAllDistinct};
 ghost use Rattle.graphql_fault_data.specs.FaultView.{fault_of, faults_of};
 ghost use Rattle.graphql_cycle_rules.specs.UseGraph.{AreUseReferences};
@@ -11,7 +11,8 @@ ghost use Rattle.graphql_cycle_rules.specs.Told.{DirectivesTold};
 use crate::directive_faults::{deeply_nested_directive, recursive_directive_definition};
 use crate::uses::{UseReferences, references_of_definitions};
 use graphql_cycles::{Found, ways_back};
-use graphql_fault_data::{Fault, Schema, tell};
+use graphql_fault_data::{Fault, tell};
+use graphql_schema::Schema;
 use std::alloc::{AllocError, Global};
 
 /// The fault of a directive of which this was found.

@@ -1,6 +1,6 @@
 //! Tells which input objects lead back to themselves.
 ghost use Rattle.std.specs.Prelude.{map, OnOk, IfOk, option_to_list};
-ghost use Rattle.graphql_fault_data.specs.in_schema.SchemaOf.{schema_tree};
+ghost use Rattle.graphql_schema.specs.SchemaOf.{schema_tree};
 ghost use Rattle.graphql_schema_types.specs.Distinct.{AreAllDistinct};
 ghost use Rattle.graphql_fault_data.specs.FaultView.{fault_of, faults_of};
 ghost use Rattle.graphql_cycle_rules.specs.InputGraph.{AreInputReferences};
@@ -11,7 +11,8 @@ ghost use Rattle.graphql_cycle_rules.specs.Told.{InputsTold};
 use crate::input_faults::{deeply_nested_input_object, recursive_input_object_definition};
 use crate::inputs::{InputReferences, references_of_types};
 use graphql_cycles::{Found, ways_back};
-use graphql_fault_data::{Fault, Schema, tell};
+use graphql_fault_data::{Fault, tell};
+use graphql_schema::Schema;
 use std::alloc::{AllocError, Global};
 
 /// The fault of an input object of which this was found.

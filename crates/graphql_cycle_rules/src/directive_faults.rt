@@ -3,7 +3,7 @@ ghost use Rattle.std.specs.Prelude.{◌≡◌, ◌++◌, map, reverse, IfOk, OnO
 ghost use Rattle.graphql_names.specs.Placed.{node_tree};
 ghost use Rattle.graphql_names.specs.Places.{Recomposes};
 ghost use Rattle.graphql_directives.specs.DirectiveTree.{directive_tree, directive_definition_tree};
-ghost use Rattle.graphql_fault_data.specs.in_schema.SchemaOf.{schema_tree};
+ghost use Rattle.graphql_schema.specs.SchemaOf.{schema_tree};
 ghost use Rattle.graphql_fault_data.specs.FaultView.{fault_of};
 ghost use Rattle.graphql_cycle_rules.specs.Labels.{along};
 ghost use Rattle.graphql_cycle_rules.specs.UseViews.{use_between};
@@ -12,7 +12,8 @@ ghost use Rattle.graphql_cycle_rules.specs.DirectiveFaults.{directives_of, Tells
 
 use crate::uses::UseReferences;
 use graphql_directives::{Directive, DirectiveDefinition};
-use graphql_fault_data::{DiagnosticData, Fault, Schema};
+use graphql_fault_data::{DiagnosticData, Fault};
+use graphql_schema::Schema;
 use graphql_names::{Node, SourceSpan, recompose};
 use std::alloc::{AllocError, Global};
 

@@ -2,7 +2,7 @@
 ghost use Rattle.std.specs.Prelude.{◌≡◌, ◌++◌, map, reverse, IfOk, OnOk, option_to_list};
 ghost use Rattle.graphql_names.specs.Placed.{node_tree};
 ghost use Rattle.graphql_directives.specs.DirectiveTree.{input_value_tree};
-ghost use Rattle.graphql_fault_data.specs.in_schema.SchemaOf.{schema_tree};
+ghost use Rattle.graphql_schema.specs.SchemaOf.{schema_tree};
 ghost use Rattle.graphql_fault_data.specs.FaultView.{fault_of};
 ghost use Rattle.graphql_cycle_rules.specs.Labels.{along};
 ghost use Rattle.graphql_cycle_rules.specs.ReferenceViews.{field_between};
@@ -11,7 +11,8 @@ ghost use Rattle.graphql_cycle_rules.specs.FaultLists.{recursive_input_object_de
 
 use crate::inputs::InputReferences;
 use graphql_directives::InputValueDefinition;
-use graphql_fault_data::{DiagnosticData, Fault, Schema};
+use graphql_fault_data::{DiagnosticData, Fault};
+use graphql_schema::Schema;
 use graphql_names::Node;
 use std::alloc::{AllocError, Global};
 

@@ -1,10 +1,10 @@
 //! Types by number, which is their place in the schema's order.
 ghost use Rattle.std.specs.Prelude.{◌≡◌, length};
-ghost use Rattle.graphql_fault_data.specs.in_schema.SchemaOf.{schema_tree};
+ghost use Rattle.graphql_schema.specs.SchemaOf.{schema_tree};
 ghost use Rattle.graphql_cycle_rules.specs.Numbers.{number_of, is_input_object_at, input_object_number};
 ghost use Rattle.graphql_cycle_rules.specs.UseNumbers.{type_behind};
 
-use graphql_fault_data::Schema;
+use graphql_schema::Schema;
 use graphql_names::Name;
 
 /// The number of the type of that name, if it is there.

@@ -6,7 +6,7 @@ ghost use Rattle.graphql_directives.specs.DirectiveTree.{directive_tree, directi
 ghost use Rattle.graphql_components.specs.Applied.{applied_tree};
 ghost use Rattle.graphql_schema_types.specs.Addresses.{applied};
 ghost use Rattle.graphql_schema_types.specs.TypeView.{extended_type};
-ghost use Rattle.graphql_fault_data.specs.in_schema.SchemaOf.{schema_tree};
+ghost use Rattle.graphql_schema.specs.SchemaOf.{schema_tree};
 ghost use Rattle.graphql_cycle_rules.specs.Numbers.{each_value, at_number};
 ghost use Rattle.graphql_cycle_rules.specs.UseNumbers.{use_references, uses_references, type_reference, input_uses, arguments_uses, definition_uses, part_uses, type_uses, uses_at};
 ghost use Rattle.graphql_cycle_rules.specs.UseGraph.{AreUseReferences};
@@ -16,7 +16,7 @@ use crate::numbers::type_node;
 use crate::references::{Reference, References};
 use graphql_components::Component;
 use graphql_directives::{Directive, DirectiveList, InputValueDefinition};
-use graphql_fault_data::Schema;
+use graphql_schema::Schema;
 use graphql_literals::Type;
 use graphql_names::{Name, Node};
 use graphql_schema_types::ExtendedType;

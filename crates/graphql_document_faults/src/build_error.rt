@@ -1,6 +1,6 @@
 //! What breaks a rule of typing, of merging, of subscriptions or of `@defer`.
 
-use graphql_coords::{FieldArgumentCoordinate, TypeAttributeCoordinate};
+use graphql_coordinates::{FieldArgumentCoordinate, TypeAttributeCoordinate};
 use graphql_literals::{Type, Value};
 use graphql_names::{Name, SourceSpan};
 use graphql_operations::OperationType;

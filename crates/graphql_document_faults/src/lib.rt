@@ -12,4 +12,3 @@ mod build_error_text;
 pub use build_error::{
     BuildError, ConflictingFieldArgument, ConflictingFieldName, ConflictingFieldType,
 };
-pub use graphql_coords::{FieldLookupError, Schema};

@@ -17,7 +17,7 @@ use Rattle.graphql_rule_definitions.specs.in_schema_types.SchemaTree.{SchemaType
 use Rattle.graphql_rule_definitions.specs.in_schema_types.Plain.{plain_type, plain_directive_definition}
 use Rattle.graphql_rule_definitions.specs.in_schema_types.Looks.{TypeLooks, type_looks}
 use Rattle.graphql_rule_definitions.specs.in_schema_types.Addresses.{under, or_nothing, inner_name_place, field_at, value_at, input_at, listed}
-use Rattle.graphql_coords.proofs.in_schema.FieldLooks.{get_under}
+use Rattle.graphql_schema_types.proofs.UnderNames.{get_under}
 use Rattle.graphql_rule_definitions.specs.Judged.{judged}
 use Rattle.graphql_rule_definitions.specs.TypesUsed.{named_in}
 

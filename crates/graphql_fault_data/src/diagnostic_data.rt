@@ -1,6 +1,6 @@
 //! What breaks a rule, with the data that its message tells and the places that belong to it.
 
-use graphql_coords::{SchemaCoordinate, TypeAttributeCoordinate};
+use graphql_coordinates::{SchemaCoordinate, TypeAttributeCoordinate};
 use graphql_directives::{Directive, DirectiveLocation, InputValueDefinition};
 use graphql_literals::{Type, Value};
 use graphql_names::{Name, Node, SourceSpan};

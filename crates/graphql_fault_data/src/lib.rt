@@ -18,7 +18,7 @@ mod use_copies;
 
 pub use diagnostic_data::DiagnosticData;
 pub use fault::{Fault, tell};
-pub use graphql_coords::{
-    DirectiveArgumentCoordinate, DirectiveCoordinate, FieldArgumentCoordinate, Schema,
-    SchemaCoordinate, TypeAttributeCoordinate,
+pub use graphql_coordinates::{
+    DirectiveArgumentCoordinate, DirectiveCoordinate, FieldArgumentCoordinate, SchemaCoordinate,
+    TypeAttributeCoordinate,
 };

@@ -2,7 +2,7 @@
 ghost use Rattle.std.specs.Prelude.{Some};
 ghost use Rattle.graphql_fault_data.specs.FilledTemplate.{filled, gap_text};
 
-use graphql_coords::{SchemaCoordinate, TypeAttributeCoordinate};
+use graphql_coordinates::{SchemaCoordinate, TypeAttributeCoordinate};
 use graphql_directives::DirectiveLocation;
 use graphql_literals::{Type, Value};
 use graphql_names::{Name, Node};

@@ -1,6 +1,6 @@
 //! What the faults tell of.
 
-use graphql_coords::{
+use graphql_coordinates::{
     DirectiveCoordinate, FieldArgumentCoordinate, SchemaCoordinate, TypeAttributeCoordinate,
 };
 use graphql_literals::{Type, Value};

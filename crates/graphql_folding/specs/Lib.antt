@@ -4,7 +4,7 @@ pub mod SchemaFold
 pub mod Fold
 pub mod BuildErrors
 pub mod Adoption
-pub mod BuiltIn
+pub use Rattle.graphql_schema_types.specs.BuiltIn
 pub mod FaultView
 pub mod Messages
 pub mod FilledTemplate

@@ -8,7 +8,7 @@ use Rattle.graphql_schema_types.specs.SchemaTree.{SchemaType, SchemaTree, same_k
 use Rattle.graphql_schema_types.specs.Looks.{TypeLooks}
 use Rattle.graphql_schema_types.specs.Addresses.{under}
 use Rattle.graphql_schema_types.specs.declared.type_kind.TypeKind.TheVariants as kind
-use Rattle.graphql_fault_data.specs.in_schema.LookUps as look
+use Rattle.graphql_schema.specs.LookUps as look
 use Rattle.graphql_fault_data.specs.in_rule_definitions.Judged.{judged}
 use Rattle.graphql_fault_data.specs.in_rule_definitions.Interfaces.{is_subtype}
 use Rattle.graphql_fault_data.proofs.Judgings.{type_seen, type_look, member_look, interface_look}

@@ -3,7 +3,7 @@ ghost use Rattle.std.specs.Prelude.{◌≡◌, ◌++◌, map, IfOk, OnOk, option
 ghost use Rattle.graphql_names.specs.Placed.{name_tree, node_tree};
 ghost use Rattle.graphql_type_members.specs.TypeSystemTree.{field_definition_tree};
 ghost use Rattle.graphql_schema_types.specs.TypeView.{extended_type};
-ghost use Rattle.graphql_fault_data.specs.in_schema.SchemaOf.{schema_tree};
+ghost use Rattle.graphql_schema.specs.SchemaOf.{schema_tree};
 ghost use Rattle.graphql_fault_data.specs.FaultView.{fault_of, faults_of};
 ghost use Rattle.graphql_interface_rules.specs.InterfaceFaults.{missing_interface_field, invalid_implementation_field_type, field_faults, each_field_faults, implementation_faults};
 
@@ -12,7 +12,8 @@ use crate::copies::{copy_names, copy_types};
 use crate::look_ups::own_field;
 use crate::valid_types::is_valid_implementation_field_type;
 use graphql_components::Component;
-use graphql_fault_data::{DiagnosticData, Fault, Schema, tell};
+use graphql_fault_data::{DiagnosticData, Fault, tell};
+use graphql_schema::Schema;
 use graphql_names::{Name, Node};
 use graphql_schema_types::ExtendedType;
 use graphql_type_members::FieldDefinition;

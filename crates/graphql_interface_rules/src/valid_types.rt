@@ -2,11 +2,11 @@
 ghost use Rattle.std.specs.Prelude.{◌≡◌, ◌||◌, bytes_eq};
 ghost use Rattle.graphql_names.specs.Placed.{name_tree, unplaced_text};
 ghost use Rattle.graphql_literals.specs.TypeTree.{NamedTree, NonNullNamedTree, type_tree, unplaced_type};
-ghost use Rattle.graphql_fault_data.specs.in_schema.SchemaOf.{schema_tree};
+ghost use Rattle.graphql_schema.specs.SchemaOf.{schema_tree};
 ghost use Rattle.graphql_fault_data.specs.in_rule_definitions.Judged.{judged};
 ghost use Rattle.graphql_fault_data.specs.in_rule_definitions.Interfaces.{is_subtype, is_valid_type};
 
-use graphql_fault_data::Schema;
+use graphql_schema::Schema;
 use graphql_literals::Type;
 use graphql_names::Name;
 

@@ -1,4 +1,5 @@
 pub mod TypeEquality
 pub mod Noted
+pub mod UnderNames
 pub use Rattle.graphql_components.proofs as in_components
 pub use Rattle.graphql_components.proofs.in_values as in_values

@@ -9,6 +9,7 @@ pub mod Out
 pub mod Looks
 pub mod Addresses
 pub mod Distinct
+pub mod BuiltIn
 pub use Rattle.graphql_components.specs as in_components
 pub use Rattle.graphql_definitions.specs as in_definitions
 pub use Rattle.graphql_definitions.specs.in_type_members as in_type_members

@@ -16,7 +16,7 @@ use Rattle.graphql_schema_types.specs.TypeView.{name_text, extended_type}
 use Rattle.graphql_schema_types.specs.Origins.{type_origins, extensions_in}
 use Rattle.graphql_schema_types.specs.declared.extended_type.ExtendedType.{ExtendedType}
 use Rattle.graphql_schema_types.specs.declared.extended_type.ExtendedType.TheVariants as rust
-use Rattle.graphql_fault_data.proofs.in_schema_writing.Extensions.{type_extensions}
+use Rattle.graphql_schema.proofs.in_schema_writing.Extensions.{type_extensions}
 use Rattle.graphql_fault_data.specs.in_rule_definitions.Rules.{extensions_of, extension_places}
 
 given_values : {X A : Type 0} (f : X → A) (es : List (NameValue × X)) → map (λ (e : List ℕ × A). e.1) (map (λ (e : NameValue × X). (name_text e.0, f e.1)) es) ≡ map f (values_of es)

@@ -3,7 +3,7 @@ ghost use Rattle.std.specs.Prelude.{◌≡◌, ◌++◌, [], ◌∷◌, map, OnO
 ghost use Rattle.graphql_names.specs.Placed.{node_tree};
 ghost use Rattle.graphql_directives.specs.DirectiveTree.{input_value_tree};
 ghost use Rattle.graphql_components.specs.Lists.{each_place};
-ghost use Rattle.graphql_fault_data.specs.in_schema.SchemaOf.{schema_tree};
+ghost use Rattle.graphql_schema.specs.SchemaOf.{schema_tree};
 ghost use Rattle.graphql_fault_data.specs.FaultView.{faults_of};
 ghost use Rattle.graphql_type_rules.specs.FaultLists.{unique_input_value, input_value_faults, argument_faults, arguments_faults};
 ghost use Rattle.graphql_type_rules.specs.NamedWords.{named_words};
@@ -13,7 +13,8 @@ use crate::look_ups::kind_inside;
 use crate::reserved::{Named, reserved_name};
 use crate::types_used::{input_type, undefined_type};
 use graphql_directives::InputValueDefinition;
-use graphql_fault_data::{DiagnosticData, Fault, Schema, tell};
+use graphql_fault_data::{DiagnosticData, Fault, tell};
+use graphql_schema::Schema;
 use graphql_names::{Name, Node, SourceSpan};
 use indexmap::IndexMap;
 use std::alloc::{AllocError, Global};

@@ -2,7 +2,7 @@
 ghost use Rattle.std.specs.Prelude.{◌≡◌, ◌↔◌, ◌++◌, ◌⊎◌, OnOk, Contains};
 ghost use Rattle.graphql_names.specs.Placed.{node_tree};
 ghost use Rattle.graphql_directives.specs.DirectiveTree.{directive_definition_tree};
-ghost use Rattle.graphql_fault_data.specs.in_schema.SchemaOf.{schema_tree};
+ghost use Rattle.graphql_schema.specs.SchemaOf.{schema_tree};
 ghost use Rattle.graphql_fault_data.specs.FaultView.{faults_of};
 ghost use Rattle.graphql_schema_types.specs.Distinct.{AreAllDistinct};
 ghost use Rattle.graphql_fault_data.specs.in_rule_definitions.Told.{Told};
@@ -14,7 +14,8 @@ use crate::members::{check_fields, check_input_fields, check_members, check_valu
 use crate::reserved::{Named, reserved_name};
 use crate::roots::check_roots;
 use graphql_directives::DirectiveDefinition;
-use graphql_fault_data::{Fault, Schema};
+use graphql_fault_data::{Fault};
+use graphql_schema::Schema;
 use graphql_names::{Name, Node};
 use graphql_schema_types::ExtendedType;
 use std::alloc::{AllocError, Global};

@@ -5,10 +5,10 @@ ghost use Rattle.graphql_literals.specs.TypeTree.{type_tree};
 ghost use Rattle.graphql_literals.specs.TypeQueries.{inner_name};
 ghost use Rattle.graphql_schema_types.specs.Addresses.{type_at};
 ghost use Rattle.graphql_schema_types.specs.TypeView.{extended_type};
-ghost use Rattle.graphql_fault_data.specs.in_schema.SchemaOf.{schema_tree};
+ghost use Rattle.graphql_schema.specs.SchemaOf.{schema_tree};
 ghost use Rattle.graphql_type_rules.specs.FaultLists.{kind_named};
 
-use graphql_fault_data::Schema;
+use graphql_schema::Schema;
 use graphql_literals::Type;
 use graphql_names::Name;
 use graphql_schema_types::{ExtendedType, TypeKind};

@@ -5,7 +5,7 @@ ghost use Rattle.graphql_directives.specs.DirectiveTree.{input_value_tree};
 ghost use Rattle.graphql_type_members.specs.TypeSystemTree.{field_definition_tree, enum_value_tree};
 ghost use Rattle.graphql_components.specs.Given.{component_name_tree};
 ghost use Rattle.graphql_schema_types.specs.TypeView.{extended_type};
-ghost use Rattle.graphql_fault_data.specs.in_schema.SchemaOf.{schema_tree};
+ghost use Rattle.graphql_schema.specs.SchemaOf.{schema_tree};
 ghost use Rattle.graphql_fault_data.specs.FaultView.{faults_of};
 ghost use Rattle.graphql_type_rules.specs.FaultLists.{field_type_faults, field_faults, each_input_faults, member_faults, value_faults, input_faults, fields_faults, members_faults, values_faults, inputs_faults};
 
@@ -16,7 +16,8 @@ use crate::reserved::{Named, reserved_name};
 use crate::types_used::{output_type, undefined_name, undefined_type, union_member_object_type};
 use graphql_components::{Component, ComponentName};
 use graphql_directives::InputValueDefinition;
-use graphql_fault_data::{Fault, Schema};
+use graphql_fault_data::{Fault};
+use graphql_schema::Schema;
 use graphql_names::{Name, Node};
 use graphql_schema_types::ExtendedType;
 use graphql_type_members::{EnumValueDefinition, FieldDefinition};

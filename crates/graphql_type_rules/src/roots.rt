@@ -5,14 +5,15 @@ ghost use Rattle.graphql_names.specs.Placed.{name_tree};
 ghost use Rattle.graphql_directives.specs.declared.operation_type.OperationType.TheVariants as operation;
 ghost use Rattle.graphql_components.specs.Given.{component_name_tree};
 ghost use Rattle.graphql_schema_types.specs.TypeView.{schema_roots};
-ghost use Rattle.graphql_fault_data.specs.in_schema.SchemaOf.{schema_tree};
+ghost use Rattle.graphql_schema.specs.SchemaOf.{schema_tree};
 ghost use Rattle.graphql_fault_data.specs.FaultView.{fault_of, faults_of};
 ghost use Rattle.graphql_type_rules.specs.FaultLists.{query_root_operation_type, root_operation_object_type, same_root, subscription_again, root_faults, roots_faults};
 
 use crate::look_ups::kind_named;
 use crate::types_used::undefined_name;
 use graphql_components::ComponentName;
-use graphql_fault_data::{DiagnosticData, Fault, Schema, tell};
+use graphql_fault_data::{DiagnosticData, Fault, tell};
+use graphql_schema::Schema;
 use graphql_names::{Name, Node};
 use graphql_operations::OperationType;
 use graphql_schema_types::{SchemaDefinition, TypeKind};

@@ -9,10 +9,10 @@ use Rattle.graphql_schema_types.specs.in_components.declared.component.Component
 use Rattle.graphql_schema_types.specs.Addresses.{under}
 use Rattle.graphql_schema_types.specs.SchemaTree.{SchemaTree}
 use Rattle.graphql_schema_types.specs.Plain.{plain}
-use Rattle.graphql_document_faults.specs.in_schema.LookUps.{meta_field_on, field_named, FieldIsMissing}
-use Rattle.graphql_document_faults.specs.in_schema.declared.field_lookup.FieldLookupError.{FieldLookupError}
-use Rattle.graphql_document_faults.specs.in_schema.declared.field_lookup.FieldLookupError.TheVariants.{NoSuchType, NoSuchField}
-use Rattle.graphql_document_faults.proofs.in_schema.FieldLooks.{fields_plain}
+use Rattle.graphql_schema.specs.LookUps.{meta_field_on, field_named, FieldIsMissing}
+use Rattle.graphql_schema.specs.declared.field_lookup.FieldLookupError.{FieldLookupError}
+use Rattle.graphql_schema.specs.declared.field_lookup.FieldLookupError.TheVariants.{NoSuchType, NoSuchField}
+use Rattle.graphql_schema.proofs.FieldLooks.{fields_plain}
 use Rattle.graphql_typing.specs.Meanings.{meanings}
 use Rattle.graphql_typing.specs.DefinedField.{definition_view}
 

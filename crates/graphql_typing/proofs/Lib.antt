@@ -17,4 +17,4 @@ pub mod AddedFragments
 pub mod TypedPlaces
 pub mod WholeDocuments
 pub mod WrittenMeant
-pub use Rattle.graphql_document_faults.proofs.in_schema as in_schema
+pub use Rattle.graphql_schema.proofs as in_schema

@@ -4,7 +4,7 @@ use Rattle.graphql_literals.specs.TypeTree.{NamedTree, ListTree}
 use Rattle.graphql_directives.specs.declared.operation_type.OperationType.TheVariants.{Query, Mutation}
 use Rattle.graphql_type_members.specs.TypeSystemTree.{unplaced_field_definition}
 use Rattle.graphql_definitions.specs.DefinitionTree.{DefinitionTree}
-use Rattle.graphql_document_faults.specs.in_schema.MetaFields.{typename_field}
+use Rattle.graphql_schema.specs.MetaFields.{typename_field}
 use Rattle.graphql_schema_types.specs.declared.type_kind.TypeKind.TheVariants as kind
 use Rattle.graphql_typing.specs.MeantTree.{MeantField, MeantInline, set_on}
 use Rattle.graphql_typing.specs.Meanings.{Meanings, meanings_in, meanings_without_schema, bare, plain_field}

@@ -2,7 +2,7 @@
 use Rattle.std.specs.Prelude.{◌≡◌, Bool, true, false, List, map}
 use Rattle.graphql_names.specs.Placed.{Place}
 use Rattle.graphql_definitions.specs.DefinitionTree.{DefinitionTree, definition_tree}
-use Rattle.graphql_document_faults.specs.in_schema.SourcesView.{Sources, sources_view}
+use Rattle.graphql_schema.specs.SourcesView.{Sources, sources_view}
 use Rattle.graphql_typing.specs.Meanings.{Meanings}
 use Rattle.graphql_typing.specs.MeaningView.{meanings_under}
 use Rattle.graphql_typing.specs.declared.refusal.BuilderRefusal.{BuilderRefusal}

@@ -14,6 +14,6 @@ pub mod Steps
 pub mod DocumentView
 pub mod StepsView
 pub mod BuilderView
-pub use Rattle.graphql_document_faults.specs.in_schema as in_schema
+pub use Rattle.graphql_schema.specs as in_schema
 pub use Rattle.graphql_literals.specs as in_literals
 pub use Rattle.graphql_typed_operations.specs as in_typed_operations

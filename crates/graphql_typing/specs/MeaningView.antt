@@ -5,8 +5,8 @@ use Rattle.std.specs.Option.{option_map}
 use Rattle.std.specs.declared.alloc.Global.{Global}
 use Rattle.graphql_names.specs.Placed.{Place}
 use Rattle.graphql_schema_types.specs.Plain.{plain}
-use Rattle.graphql_document_faults.specs.in_schema.SchemaOf.{schema_tree}
-use Rattle.graphql_document_faults.specs.in_schema.declared.schema.Schema.{Schema}
+use Rattle.graphql_schema.specs.SchemaOf.{schema_tree}
+use Rattle.graphql_schema.specs.declared.schema.Schema.{Schema}
 use Rattle.graphql_typed_selections.specs.TypedTree.{typed_selection_tree}
 use Rattle.graphql_typed_selections.specs.declared.selection.Selection.{Selection}
 use Rattle.graphql_typing.specs.MeantTree.{MeantSelection, meant}

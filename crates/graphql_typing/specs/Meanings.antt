@@ -13,7 +13,7 @@ use Rattle.graphql_schema_types.specs.Plain.{PlainSchema}
 use Rattle.graphql_schema_types.specs.Looks.{Looks, looks}
 use Rattle.graphql_schema_types.specs.declared.type_kind.TypeKind.{TypeKind}
 use Rattle.graphql_schema_types.specs.declared.type_kind.TypeKind.TheVariants as kind
-use Rattle.graphql_document_faults.specs.in_schema.FieldLooks.{field_named}
+use Rattle.graphql_schema.specs.FieldLooks.{field_named}
 use Rattle.graphql_typing.specs.MeantTree.{Definition}
 
 pub record Meanings : Type 0 where

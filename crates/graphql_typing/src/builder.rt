@@ -2,7 +2,7 @@
 ghost use Rattle.std.specs.Prelude.{◌≡◌, ◌↔◌, ◌++◌, [], ◌∷◌, map, true, false, IfOk, IfErr, OnOk, Contains};
 ghost use Rattle.graphql_definitions.specs.DefinitionTree.{definition_tree, document_tree};
 ghost use Rattle.graphql_definitions.specs.Sources.{sources_of};
-ghost use Rattle.graphql_document_faults.specs.in_schema.SourcesView.{sources_view, with_sources};
+ghost use Rattle.graphql_schema.specs.SourcesView.{sources_view, with_sources};
 ghost use Rattle.graphql_typed_operations.specs.TypedDocument.{typed_document_tree};
 ghost use Rattle.graphql_typing.specs.KeptDocument.{kept_document};
 ghost use Rattle.graphql_typing.specs.TypingFaults.{TypingFails};
@@ -18,7 +18,8 @@ use crate::document::type_document;
 use crate::refusal::BuilderRefusal;
 use crate::sources::add_sources;
 use graphql_definitions::{Definition, Document, SourceFile};
-use graphql_document_faults::{BuildError, Schema};
+use graphql_document_faults::BuildError;
+use graphql_schema::Schema;
 use graphql_names::{FileId, SourceSpan};
 use graphql_typed_operations::ExecutableDocument;
 use indexmap::IndexMap;

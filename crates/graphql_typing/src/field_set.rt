@@ -2,7 +2,7 @@
 ghost use Rattle.std.specs.Prelude.{◌≡◌, ◌↔◌, [], IfOk, Contains};
 ghost use Rattle.graphql_operations.specs.SelectionTree.{selection_tree, selection_trees};
 ghost use Rattle.graphql_schema_types.specs.Plain.{plain};
-ghost use Rattle.graphql_document_faults.specs.in_schema.SchemaOf.{schema_tree};
+ghost use Rattle.graphql_schema.specs.SchemaOf.{schema_tree};
 ghost use Rattle.graphql_typed_selections.specs.TypedTree.{typed_set_tree};
 ghost use Rattle.graphql_typing.specs.MeantTree.{meant_of_set, set_on};
 ghost use Rattle.graphql_typing.specs.Meanings.{meanings};
@@ -12,7 +12,8 @@ ghost use Rattle.graphql_typing.specs.FullList.{TellsSet};
 ghost use Rattle.graphql_typing.specs.FaultView.{faults_of};
 
 use crate::selections::type_set;
-use graphql_document_faults::{BuildError, Schema};
+use graphql_document_faults::BuildError;
+use graphql_schema::Schema;
 use graphql_names::{Name, SourceSpan};
 use graphql_operations::Selection;
 use graphql_typed_operations::FieldSet;

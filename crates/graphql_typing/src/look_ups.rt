@@ -6,7 +6,7 @@ ghost use Rattle.graphql_names.specs.Node.{content};
 ghost use Rattle.graphql_type_members.specs.TypeSystemTree.{field_definition_tree, unplaced_field_definition};
 ghost use Rattle.graphql_schema_types.specs.Plain.{plain, plain_type};
 ghost use Rattle.graphql_schema_types.specs.TypeView.{extended_type};
-ghost use Rattle.graphql_document_faults.specs.in_schema.SchemaOf.{schema_tree};
+ghost use Rattle.graphql_schema.specs.SchemaOf.{schema_tree};
 ghost use Rattle.graphql_operations.specs.OperationQueries.{default_root_name};
 ghost use Rattle.graphql_typing.specs.Meanings.{inner_type, unknown_definition};
 ghost use Rattle.graphql_typing.specs.KeptSelections.{is_leaf};
@@ -14,7 +14,7 @@ ghost use Rattle.graphql_typing.specs.DefinedField.{definition_view};
 ghost use Rattle.graphql_typing.specs.MeaningView.{meanings_under};
 
 use graphql_directives::DirectiveList;
-use graphql_document_faults::Schema;
+use graphql_schema::Schema;
 use graphql_literals::Type;
 use graphql_names::{Name, Node};
 use graphql_operations::OperationType;

@@ -9,7 +9,8 @@ ghost use Rattle.graphql_typing.specs.SetFaults.{leaf_faults};
 ghost use Rattle.graphql_typing.specs.MeaningView.{meanings_under};
 
 use crate::look_ups::{is_leaf, is_scalar};
-use graphql_document_faults::{BuildError, Schema};
+use graphql_document_faults::BuildError;
+use graphql_schema::Schema;
 use graphql_names::{Name, SourceSpan};
 use graphql_operations::Selection;
 use std::alloc::AllocError;

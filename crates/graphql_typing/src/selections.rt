@@ -20,7 +20,8 @@ use crate::rules::{
     may_select, subselection_on_leaf, undefined_field,
     undefined_type_in_inline_fragment_type_condition,
 };
-use graphql_document_faults::{BuildError, Schema};
+use graphql_document_faults::BuildError;
+use graphql_schema::Schema;
 use graphql_names::{Name, Node, SourceSpan};
 use graphql_operations::{Field, InlineFragment, Selection};
 use graphql_type_members::FieldDefinition;

@@ -1,6 +1,6 @@
 //! The sources of several documents.
 ghost use Rattle.std.specs.Prelude.{◌≡◌, OnOk};
-ghost use Rattle.graphql_document_faults.specs.in_schema.SourcesView.{sources_view, with_sources};
+ghost use Rattle.graphql_schema.specs.SourcesView.{sources_view, with_sources};
 
 use graphql_definitions::SourceFile;
 use graphql_names::FileId;

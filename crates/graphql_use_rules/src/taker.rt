@@ -1,7 +1,7 @@
 //! What takes arguments.
 ghost use Rattle.std.specs.Prelude.{◌≡◌, IfOk};
 ghost use Rattle.graphql_coordinates.specs.Coordinate.{OfAttribute, OfArgument, OfDirectiveArgument};
-ghost use Rattle.graphql_value_rules.specs.in_fault_data.in_coords.CoordinateView.{schema_coordinate};
+ghost use Rattle.graphql_coordinates.specs.CoordinateView.{schema_coordinate};
 ghost use Rattle.graphql_use_rules.specs.Trees.{coordinate_of, argument_coordinate_of};
 
 use graphql_directives::{Argument, InputValueDefinition};

@@ -4,8 +4,8 @@ use Rattle.graphql_names.specs.Placed.{Text}
 use Rattle.graphql_literals.specs.NumberSyntax.{integer_value}
 use Rattle.graphql_literals.specs.TypeTree.{NamedTree, ListTree as ListOf}
 use Rattle.graphql_literals.specs.ValueTree.{StringTree, IntTree, ListTree, no_items, item_then}
-use Rattle.graphql_fault_data.specs.in_schema.in_schema_types.Looks.{TypeLooks}
-use Rattle.graphql_fault_data.specs.in_schema.in_schema_types.declared.type_kind.TypeKind.TheVariants as kind
+use Rattle.graphql_schema.specs.in_schema_types.Looks.{TypeLooks}
+use Rattle.graphql_schema.specs.in_schema_types.declared.type_kind.TypeKind.TheVariants as kind
 use Rattle.graphql_fault_data.specs.in_rule_definitions.Diagnostics.{UnsupportedValueType, IntCoercionError}
 use Rattle.graphql_fault_data.specs.in_rule_definitions.Faults.{wrong}
 use Rattle.graphql_fault_data.specs.in_rule_definitions.Judged.{Judged}

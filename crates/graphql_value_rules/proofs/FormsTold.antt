@@ -17,11 +17,11 @@ use Rattle.graphql_operations.specs.OperationTree.{VariableDefinitionTree}
 use Rattle.graphql_components.specs.Names.{Entries}
 use Rattle.graphql_components.specs.Given.{Given, plain_given}
 use Rattle.graphql_schema_types.proofs.in_values.Decided.{through, pair_decides}
-use Rattle.graphql_fault_data.specs.in_schema.in_schema_types.SchemaTree.{SchemaType, SchemaTree, same_kind}
-use Rattle.graphql_fault_data.specs.in_schema.in_schema_types.Plain.{plain_type}
-use Rattle.graphql_fault_data.specs.in_schema.in_schema_types.Looks.{TypeLooks, type_looks}
-use Rattle.graphql_fault_data.specs.in_schema.in_schema_types.Addresses.{Address, under, type_at, place_at, TypeAt, InputAt}
-use Rattle.graphql_fault_data.specs.in_schema.in_schema_types.declared.type_kind.TypeKind.TheVariants as kind
+use Rattle.graphql_schema.specs.in_schema_types.SchemaTree.{SchemaType, SchemaTree, same_kind}
+use Rattle.graphql_schema.specs.in_schema_types.Plain.{plain_type}
+use Rattle.graphql_schema.specs.in_schema_types.Looks.{TypeLooks, type_looks}
+use Rattle.graphql_schema.specs.in_schema_types.Addresses.{Address, under, type_at, place_at, TypeAt, InputAt}
+use Rattle.graphql_schema.specs.in_schema_types.declared.type_kind.TypeKind.TheVariants as kind
 use Rattle.graphql_coordinates.specs.Coordinate.{OfAttribute}
 use Rattle.graphql_fault_data.specs.in_rule_definitions.Diagnostics.{UnsupportedValueType, IntCoercionError, UndefinedEnumValue, UndefinedInputValue, RequiredField}
 use Rattle.graphql_fault_data.specs.in_rule_definitions.Words.{Present, Somewhere, AtSomeIndex}

@@ -10,5 +10,5 @@ pub mod Adding
 pub mod Looping
 pub mod Examples
 pub use Rattle.graphql_fault_data.proofs as in_fault_data
-pub use Rattle.graphql_fault_data.proofs.in_schema as in_schema
+pub use Rattle.graphql_schema.proofs as in_schema
 pub use Rattle.graphql_fault_data.proofs.in_rule_definitions as in_rule_definitions

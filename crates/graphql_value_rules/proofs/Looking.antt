@@ -11,15 +11,16 @@ use Rattle.graphql_directives.specs.DirectiveTree.{InputValueTree, unplaced_inpu
 use Rattle.graphql_type_members.specs.TypeSystemTree.{unplaced_enum_value}
 use Rattle.graphql_components.specs.Names.{Entries, by_bytes, named}
 use Rattle.graphql_components.specs.Given.{Given, plain_given}
-use Rattle.graphql_fault_data.specs.in_schema.in_schema_types.SchemaTree.{SchemaType, SchemaTree, same_kind}
-use Rattle.graphql_fault_data.specs.in_schema.in_schema_types.Plain.{plain_type}
-use Rattle.graphql_fault_data.specs.in_schema.in_schema_types.Looks.{TypeLooks, type_looks}
-use Rattle.graphql_fault_data.specs.in_schema.in_schema_types.Addresses.{under, type_at, input_at, place_at, or_nothing, TypeAt, InputAt, TypeReferenceAt}
-use Rattle.graphql_fault_data.specs.in_schema.in_schema_types.declared.type_kind.TypeKind.{TypeKind}
-use Rattle.graphql_fault_data.specs.in_schema.in_schema_types.declared.type_kind.TypeKind.TheVariants.{Scalar, Object, Interface, Union, Enum, InputObject}
+use Rattle.graphql_schema.specs.in_schema_types.SchemaTree.{SchemaType, SchemaTree, same_kind}
+use Rattle.graphql_schema.specs.in_schema_types.Plain.{plain_type}
+use Rattle.graphql_schema.specs.in_schema_types.Looks.{TypeLooks, type_looks}
+use Rattle.graphql_schema.specs.in_schema_types.Addresses.{under, type_at, input_at, place_at, or_nothing, TypeAt, InputAt, TypeReferenceAt}
+use Rattle.graphql_schema.specs.in_schema_types.declared.type_kind.TypeKind.{TypeKind}
+use Rattle.graphql_schema.specs.in_schema_types.declared.type_kind.TypeKind.TheVariants.{Scalar, Object, Interface, Union, Enum, InputObject}
 use Rattle.graphql_fault_data.specs.in_rule_definitions.Words.{Present}
 use Rattle.graphql_fault_data.specs.in_rule_definitions.Judged.{judged}
 use Rattle.graphql_value_rules.proofs.Tells.{no_true}
+use Rattle.graphql_schema_types.proofs.UnderNames.{get_under}
 
 -- ---- kinds
 
@@ -70,21 +71,6 @@ list_unplaced (ListTree t) = refl
 list_unplaced (NonNullListTree t) = refl
 
 -- ---- entries by name
-
-module _ {A V : Type 0} (f : A → V) (n : List ℕ) where
-  abbrev found : Entries A → Option V
-  found es = fin.find by_bytes n (map (λ e. (e.0, f e.1)) es)
-
-  found_under : (es : Entries A) → found es ≡ option_map f (under n es)
-  found_under [] = refl
-  found_under (x ∷ es) = ap (λ b. cond b (Some (f x.1)) (found es)) (sym (texts_ties n x.0)) ∙ by (bytes_eq n x.0) (found_under es)
-    where
-      by : (b : Bool) → found es ≡ option_map f (under n es) → cond b (Some (f x.1)) (found es) ≡ option_map f (option_map (λ e. e.1) (if b then Some x else find (λ e. bytes_eq n e.0) es))
-      by true rest = refl
-      by false rest = rest
-
-  pub get_under : (es : Entries A) → fin.get (named f es) n ≡ option_map f (under n es)
-  get_under es = fin.get-from_entries nat_list_cmp_total (map (λ e. (e.0, f e.1)) es) n ∙ found_under es
 
 module _ (t : SchemaType Place) (k : List ℕ) where
   pub input_under : (type_looks (plain_type t)).input k ≡ option_map (plain_given unplaced_input_value) (under k t.inputs)

@@ -11,8 +11,8 @@ use Rattle.graphql_literals.specs.ValueTree.{value_tree, item_trees}
 use Rattle.graphql_literals.specs.TypeTree.{TypeTree}
 use Rattle.graphql_literals.specs.declared.value.Value.{Value}
 use Rattle.graphql_components.specs.Names.{same_text}
-use Rattle.graphql_fault_data.specs.in_schema.in_schema_types.SchemaTree.{SchemaTree}
-use Rattle.graphql_fault_data.specs.in_schema.in_schema_types.TypeView.{name_text}
+use Rattle.graphql_schema.specs.in_schema_types.SchemaTree.{SchemaTree}
+use Rattle.graphql_schema.specs.in_schema_types.TypeView.{name_text}
 use Rattle.graphql_fault_data.specs.in_rule_definitions.Values.{Variables}
 use Rattle.graphql_fault_data.specs.in_rule_definitions.Told.{PlacedFault}
 use Rattle.graphql_value_rules.specs.ValueFaults.{is_key, each_first, item_faults, type_faults}

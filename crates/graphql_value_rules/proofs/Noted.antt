@@ -8,7 +8,7 @@ use Rattle.std.proofs.lemmas.Option.{same_Some}
 use Rattle.indexmap.specs.IndexMap.{IndexMap, get}
 use Rattle.graphql_names.specs.NameValue.{NameValue}
 use Rattle.graphql_components.specs.Names.{same_text}
-use Rattle.graphql_fault_data.specs.in_schema.in_schema_types.TypeView.{name_text}
+use Rattle.graphql_schema.specs.in_schema_types.TypeView.{name_text}
 use Rattle.graphql_value_rules.specs.Firsts.{first_told, AreFirsts}
 
 module _ {X : Type 0} (name : X → List ℕ) where

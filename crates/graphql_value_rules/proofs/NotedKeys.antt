@@ -9,7 +9,7 @@ use Rattle.graphql_names.specs.declared.node.Node.{Node}
 use Rattle.graphql_literals.specs.ValueTree.{value_tree, entry_trees}
 use Rattle.graphql_literals.specs.ValueQueries.{is_null_value}
 use Rattle.graphql_literals.specs.declared.value.Value.{Value}
-use Rattle.graphql_fault_data.specs.in_schema.in_schema_types.SchemaTree.{SchemaType, SchemaTree}
+use Rattle.graphql_schema.specs.in_schema_types.SchemaTree.{SchemaType, SchemaTree}
 use Rattle.graphql_fault_data.specs.in_rule_definitions.Diagnostics.{UniqueInputValue}
 use Rattle.graphql_fault_data.specs.in_rule_definitions.Faults.{wrong}
 use Rattle.graphql_fault_data.specs.in_rule_definitions.Values.{Variables}

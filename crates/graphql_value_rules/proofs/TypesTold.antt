@@ -9,11 +9,11 @@ use Rattle.graphql_literals.specs.TypeQueries.{inner_name, item_type_of}
 use Rattle.graphql_literals.specs.ValueTree.{ValueTree, ItemTrees, EntryTrees, NullTree, EnumTree, VariableTree, StringTree, FloatTree, IntTree, BooleanTree, ListTree, ObjectTree, no_items, item_then, no_entries, entry_then}
 use Rattle.graphql_directives.specs.DirectiveTree.{InputValueTree, unplaced_input_value}
 use Rattle.graphql_components.specs.Given.{Given, plain_given}
-use Rattle.graphql_fault_data.specs.in_schema.in_schema_types.SchemaTree.{SchemaType, SchemaTree, same_kind}
-use Rattle.graphql_fault_data.specs.in_schema.in_schema_types.Plain.{plain_type}
-use Rattle.graphql_fault_data.specs.in_schema.in_schema_types.Looks.{type_looks}
-use Rattle.graphql_fault_data.specs.in_schema.in_schema_types.Addresses.{under, type_at, place_at, TypeReferenceAt, InputAt}
-use Rattle.graphql_fault_data.specs.in_schema.in_schema_types.declared.type_kind.TypeKind.TheVariants as kind
+use Rattle.graphql_schema.specs.in_schema_types.SchemaTree.{SchemaType, SchemaTree, same_kind}
+use Rattle.graphql_schema.specs.in_schema_types.Plain.{plain_type}
+use Rattle.graphql_schema.specs.in_schema_types.Looks.{type_looks}
+use Rattle.graphql_schema.specs.in_schema_types.Addresses.{under, type_at, place_at, TypeReferenceAt, InputAt}
+use Rattle.graphql_schema.specs.in_schema_types.declared.type_kind.TypeKind.TheVariants as kind
 use Rattle.graphql_fault_data.specs.in_rule_definitions.Words.{Present}
 use Rattle.graphql_fault_data.specs.in_rule_definitions.Judged.{judged}
 use Rattle.graphql_fault_data.specs.in_rule_definitions.Values.{Wanted, Variables, wanted_name, wanted_item, FitsForm, FormBreaks, TypeBreaks, TypeBreaksItems, TypeBreaksEntries}

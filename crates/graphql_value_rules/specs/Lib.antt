@@ -5,5 +5,4 @@ pub mod KeyFaults
 pub mod Firsts
 pub use Rattle.graphql_fault_data.specs as in_fault_data
 pub use Rattle.graphql_fault_data.specs.in_rule_definitions as in_rule_definitions
-pub use Rattle.graphql_fault_data.specs.in_schema as in_schema
-pub use Rattle.graphql_fault_data.specs.in_coords as in_coords
+pub use Rattle.graphql_schema.specs as in_schema

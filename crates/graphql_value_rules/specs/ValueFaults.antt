@@ -14,9 +14,9 @@ use Rattle.graphql_directives.specs.DirectiveTree.{InputValueTree}
 use Rattle.graphql_directives.specs.DirectiveQueries.{is_required_input}
 use Rattle.graphql_components.specs.Names.{Entries}
 use Rattle.graphql_components.specs.Given.{Given}
-use Rattle.graphql_fault_data.specs.in_schema.in_schema_types.SchemaTree.{SchemaType, SchemaTree, same_kind}
-use Rattle.graphql_fault_data.specs.in_schema.in_schema_types.Addresses.{under, type_at}
-use Rattle.graphql_fault_data.specs.in_schema.in_schema_types.declared.type_kind.TypeKind.TheVariants as kind
+use Rattle.graphql_schema.specs.in_schema_types.SchemaTree.{SchemaType, SchemaTree, same_kind}
+use Rattle.graphql_schema.specs.in_schema_types.Addresses.{under, type_at}
+use Rattle.graphql_schema.specs.in_schema_types.declared.type_kind.TypeKind.TheVariants as kind
 use Rattle.graphql_coordinates.specs.Coordinate.{OfAttribute}
 use Rattle.graphql_fault_data.specs.in_rule_definitions.Diagnostics.{UnsupportedValueType, IntCoercionError, UndefinedEnumValue, UndefinedInputValue, RequiredField}
 use Rattle.graphql_fault_data.specs.in_rule_definitions.Faults.{wrong}

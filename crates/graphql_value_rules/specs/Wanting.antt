@@ -19,7 +19,7 @@ use Rattle.graphql_directives.specs.declared.input_value.InputValueDefinition.{I
 use Rattle.graphql_components.specs.Names.{same_text}
 use Rattle.graphql_components.specs.Given.{component_tree}
 use Rattle.graphql_components.specs.declared.component.Component.{Component}
-use Rattle.graphql_fault_data.specs.in_schema.in_schema_types.TypeView.{name_text}
+use Rattle.graphql_schema.specs.in_schema_types.TypeView.{name_text}
 use Rattle.graphql_fault_data.specs.in_rule_definitions.Values.{Wanted, Variables}
 use Rattle.graphql_fault_data.specs.in_rule_definitions.Told.{PlacedFault}
 use Rattle.graphql_value_rules.specs.ValueFaults.{required_if}

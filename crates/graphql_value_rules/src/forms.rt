@@ -7,7 +7,7 @@ ghost use Rattle.graphql_literals.specs.TypeTree.{type_tree};
 ghost use Rattle.graphql_literals.specs.TypeQueries.{inner_name};
 ghost use Rattle.graphql_literals.specs.ValueTree.{value_tree};
 ghost use Rattle.graphql_literals.specs.ValueQueries.{integer_text};
-ghost use Rattle.graphql_fault_data.specs.in_schema.in_schema_types.TypeView.{extended_type};
+ghost use Rattle.graphql_schema.specs.in_schema_types.TypeView.{extended_type};
 ghost use Rattle.graphql_fault_data.specs.FaultView.{faults_of};
 ghost use Rattle.graphql_value_rules.specs.Wanting.{variables_of};
 ghost use Rattle.graphql_value_rules.specs.ValueFaults.{fits_32_bits, is_built_in_scalar, is_custom_scalar, is_scalar_so, takes_integers, takes_floats, takes_strings, takes_booleans, variable_fits, fits_form, unsupported_value_type, int_coercion_error, undefined_enum_value};

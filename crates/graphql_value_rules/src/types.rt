@@ -3,8 +3,8 @@ ghost use Rattle.std.specs.Prelude.{◌≡◌, ◌++◌, [], OnOk};
 ghost use Rattle.graphql_names.specs.Node.{content, place};
 ghost use Rattle.graphql_literals.specs.TypeTree.{type_tree};
 ghost use Rattle.graphql_literals.specs.ValueTree.{value_tree, item_trees, entry_trees};
-ghost use Rattle.graphql_fault_data.specs.in_schema.SchemaOf.{schema_tree};
-ghost use Rattle.graphql_fault_data.specs.in_schema.in_schema_types.TypeView.{extended_type};
+ghost use Rattle.graphql_schema.specs.SchemaOf.{schema_tree};
+ghost use Rattle.graphql_schema.specs.in_schema_types.TypeView.{extended_type};
 ghost use Rattle.graphql_fault_data.specs.FaultView.{faults_of};
 ghost use Rattle.graphql_value_rules.specs.Wanting.{variables_of};
 ghost use Rattle.graphql_value_rules.specs.ValueFaults.{form_faults, inner_faults, item_faults, entry_faults, type_faults, field_faults};
@@ -15,7 +15,8 @@ use crate::forms::{
     int_coercion_error, is_custom_scalar, undefined_enum_value, unsupported_value_type,
 };
 use crate::objects::{tell_required_fields, undefined_input_value};
-use graphql_fault_data::{Fault, Schema};
+use graphql_fault_data::{Fault};
+use graphql_schema::Schema;
 use graphql_literals::{Type, Value};
 use graphql_names::{Name, Node, SourceSpan};
 use graphql_operations::VariableDefinition;

@@ -1,7 +1,7 @@
 use Rattle.std.proofs.Common.{◌≡◌, ◌∙◌, Some, length, map, sym, ap, subst, arith}
 use Rattle.std.specs.Prelude.{slice_get, option_to_list}
 use Rattle.std.proofs.lemmas.Option.{slice_get-get_or}
-use Rattle.graphql_fault_data.specs.in_schema.SchemaOf.{schema_tree}
+use Rattle.graphql_schema.specs.SchemaOf.{schema_tree}
 use Rattle.graphql_fault_data.specs.FaultView.{fault_of, faults_of}
 use Rattle.graphql_cycle_rules.specs.DirectiveFaults.{TellsDirective, TellsDeepDirective}
 use Rattle.graphql_cycle_rules.specs.Telling.{TellsRoots}

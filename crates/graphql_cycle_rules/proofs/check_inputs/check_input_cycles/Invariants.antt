@@ -1,4 +1,4 @@
-use Rattle.graphql_fault_data.specs.in_schema.SchemaOf.{schema_tree}
+use Rattle.graphql_schema.specs.SchemaOf.{schema_tree}
 use Rattle.graphql_fault_data.specs.FaultView.{faults_of}
 use Rattle.graphql_cycle_rules.specs.FaultLists.{TellsInput, TellsDeepInput}
 use Rattle.graphql_cycle_rules.specs.Telling.{TellsRoots}

@@ -1,7 +1,7 @@
 use Rattle.std.proofs.Common.{◌≡◌, [], map, sym, ap, subst, ◌∙◌, IfOk}
 use Rattle.std.specs.Option.{option_map_or}
 use Rattle.graphql_schema_types.specs.TypeView.{extended_type}
-use Rattle.graphql_fault_data.specs.in_schema.SchemaOf.{schema_tree}
+use Rattle.graphql_schema.specs.SchemaOf.{schema_tree}
 use Rattle.graphql_cycle_rules.specs.Numbers.{input_references}
 use Rattle.graphql_cycle_rules.specs.ReferenceViews.{input_reference_view}
 use Rattle.graphql_cycle_rules.proofs.Numbering.{found_entry}

@@ -1,5 +1,5 @@
 use Rattle.std.proofs.Common.{◌≡◌, map}
-use Rattle.graphql_fault_data.specs.in_schema.SchemaOf.{schema_tree}
+use Rattle.graphql_schema.specs.SchemaOf.{schema_tree}
 use Rattle.graphql_cycle_rules.specs.Numbers.{field_references, each_value}
 use Rattle.graphql_cycle_rules.specs.ReferenceViews.{field_tree, input_reference_view}
 use Rattle.graphql_cycle_rules.proofs.inputs.references_of_fields.Given as goal

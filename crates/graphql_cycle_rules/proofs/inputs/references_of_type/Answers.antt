@@ -4,7 +4,7 @@ use Rattle.graphql_components.specs.Names.{entries_of}
 use Rattle.graphql_components.specs.Given.{component_tree}
 use Rattle.graphql_schema_types.specs.TypeView.{name_text, extended_type}
 use Rattle.graphql_schema_types.specs.declared.kinds.InputObjectType.{InputObjectType}
-use Rattle.graphql_fault_data.specs.in_schema.SchemaOf.{schema_tree}
+use Rattle.graphql_schema.specs.SchemaOf.{schema_tree}
 use Rattle.graphql_cycle_rules.specs.Numbers.{field_references, input_references, each_value}
 use Rattle.graphql_cycle_rules.specs.ReferenceViews.{input_reference_view}
 use Rattle.graphql_cycle_rules.proofs.Numbering.{each_entry}

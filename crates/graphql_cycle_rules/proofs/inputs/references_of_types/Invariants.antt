@@ -1,7 +1,7 @@
 use Rattle.std.proofs.Common.{◌≡◌}
 use Rattle.graphql_names.specs.Placed.{node_tree}
 use Rattle.graphql_directives.specs.DirectiveTree.{input_value_tree}
-use Rattle.graphql_fault_data.specs.in_schema.SchemaOf.{schema_tree}
+use Rattle.graphql_schema.specs.SchemaOf.{schema_tree}
 use Rattle.graphql_cycle_rules.specs.FaultLists.{input_fields_at}
 use Rattle.graphql_cycle_rules.specs.References.{AreNoted}
 use Rattle.graphql_cycle_rules.proofs.inputs.references_of_types.Given as goal

@@ -1,7 +1,7 @@
 use Rattle.std.proofs.Common.{◌≡◌, ◌++◌, map, take}
 use Rattle.graphql_names.specs.Placed.{node_tree}
 use Rattle.graphql_directives.specs.DirectiveTree.{input_value_tree}
-use Rattle.graphql_fault_data.specs.in_schema.SchemaOf.{schema_tree}
+use Rattle.graphql_schema.specs.SchemaOf.{schema_tree}
 use Rattle.graphql_cycle_rules.specs.UseNumbers.{arguments_uses}
 use Rattle.graphql_cycle_rules.specs.UseViews.{use_view}
 use Rattle.graphql_cycle_rules.proofs.uses.add_arguments.Given as goal

@@ -4,7 +4,7 @@ use Rattle.std.proofs.lemmas.Simd.{map-map}
 use Rattle.graphql_names.specs.Placed.{node_tree}
 use Rattle.graphql_directives.specs.DirectiveTree.{directive_tree}
 use Rattle.graphql_components.specs.Given.{component_tree}
-use Rattle.graphql_fault_data.specs.in_schema.SchemaOf.{schema_tree}
+use Rattle.graphql_schema.specs.SchemaOf.{schema_tree}
 use Rattle.graphql_cycle_rules.specs.UseNumbers.{uses_references}
 use Rattle.graphql_cycle_rules.specs.UseViews.{use_view}
 use Rattle.graphql_cycle_rules.proofs.uses.add_component_uses.Goals as goal

@@ -4,7 +4,7 @@ use Rattle.std.proofs.lemmas.List.{append-nil}
 use Rattle.graphql_names.specs.Placed.{node_tree}
 use Rattle.graphql_directives.specs.DirectiveTree.{input_value_tree, directive_definition_tree}
 use Rattle.graphql_directives.specs.declared.directive.DirectiveDefinition.{DirectiveDefinition}
-use Rattle.graphql_fault_data.specs.in_schema.SchemaOf.{schema_tree}
+use Rattle.graphql_schema.specs.SchemaOf.{schema_tree}
 use Rattle.graphql_cycle_rules.specs.UseNumbers.{arguments_uses, definition_uses}
 use Rattle.graphql_cycle_rules.specs.UseViews.{use_view}
 use Rattle.graphql_cycle_rules.proofs.Numbering.{found_entry}

@@ -8,7 +8,7 @@ use Rattle.graphql_components.specs.Given.{component_tree}
 use Rattle.graphql_schema_types.specs.TypeView.{name_text, extended_type}
 use Rattle.graphql_schema_types.specs.declared.kinds.EnumType.{EnumType}
 use Rattle.graphql_schema_types.specs.declared.kinds.InputObjectType.{InputObjectType}
-use Rattle.graphql_fault_data.specs.in_schema.SchemaOf.{schema_tree}
+use Rattle.graphql_schema.specs.SchemaOf.{schema_tree}
 use Rattle.graphql_cycle_rules.specs.Numbers.{each_value}
 use Rattle.graphql_cycle_rules.specs.UseNumbers.{uses_references, input_uses, part_uses}
 use Rattle.graphql_cycle_rules.specs.UseViews.{use_view, value_uses, field_uses}

@@ -5,7 +5,7 @@ use Rattle.std.proofs.lemmas.Result.{on_ok_weaker}
 use Rattle.graphql_components.specs.Applied.{applied_tree}
 use Rattle.graphql_schema_types.specs.Addresses.{applied}
 use Rattle.graphql_schema_types.specs.TypeView.{extended_type}
-use Rattle.graphql_fault_data.specs.in_schema.SchemaOf.{schema_tree}
+use Rattle.graphql_schema.specs.SchemaOf.{schema_tree}
 use Rattle.graphql_cycle_rules.specs.UseNumbers.{uses_references, part_uses, type_uses}
 use Rattle.graphql_cycle_rules.specs.UseViews.{use_view}
 use Rattle.graphql_cycle_rules.proofs.Numbering.{found_entry}

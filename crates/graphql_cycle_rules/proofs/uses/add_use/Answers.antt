@@ -3,7 +3,7 @@ use Rattle.std.proofs.lemmas.List.{append-nil, map-append}
 use Rattle.graphql_names.specs.Placed.{node_tree}
 use Rattle.graphql_directives.specs.DirectiveTree.{directive_tree, directive_definition_tree}
 use Rattle.graphql_directives.specs.declared.directive.Directive.{Directive}
-use Rattle.graphql_fault_data.specs.in_schema.SchemaOf.{schema_tree}
+use Rattle.graphql_schema.specs.SchemaOf.{schema_tree}
 use Rattle.graphql_cycle_rules.specs.Numbers.{number_of}
 use Rattle.graphql_cycle_rules.specs.UseNumbers.{used}
 use Rattle.graphql_cycle_rules.specs.UseViews.{use_view}

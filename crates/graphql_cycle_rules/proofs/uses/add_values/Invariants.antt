@@ -1,5 +1,5 @@
 use Rattle.std.proofs.Common.{◌≡◌, ◌++◌, map}
-use Rattle.graphql_fault_data.specs.in_schema.SchemaOf.{schema_tree}
+use Rattle.graphql_schema.specs.SchemaOf.{schema_tree}
 use Rattle.graphql_cycle_rules.specs.Numbers.{each_value}
 use Rattle.graphql_cycle_rules.specs.UseViews.{use_view, value_uses}
 use Rattle.graphql_cycle_rules.proofs.uses.add_values.Given as goal

@@ -1,5 +1,5 @@
 use Rattle.std.proofs.Common.{◌≡◌}
-use Rattle.graphql_fault_data.specs.in_schema.SchemaOf.{schema_tree}
+use Rattle.graphql_schema.specs.SchemaOf.{schema_tree}
 use Rattle.graphql_cycle_rules.specs.UseNumbers.{uses_at}
 use Rattle.graphql_cycle_rules.specs.UseViews.{use_tree}
 use Rattle.graphql_cycle_rules.specs.References.{AreNoted}

@@ -6,7 +6,7 @@ use Rattle.graphql_names.specs.Placed.{name_tree}
 use Rattle.graphql_components.specs.Given.{component_name_tree}
 use Rattle.graphql_schema_types.specs.TypeView.{extended_type, interface_type}
 use Rattle.graphql_schema_types.specs.declared.kinds.InterfaceType.{InterfaceType}
-use Rattle.graphql_fault_data.specs.in_schema.SchemaOf.{schema_tree}
+use Rattle.graphql_schema.specs.SchemaOf.{schema_tree}
 use Rattle.graphql_fault_data.specs.FaultView.{faults_of}
 use Rattle.graphql_interface_rules.specs.InterfaceFaults.{transitive_implemented_interfaces, each_field_faults, fields_faults}
 use Rattle.graphql_interface_rules.proofs.Whole.{fields_same}

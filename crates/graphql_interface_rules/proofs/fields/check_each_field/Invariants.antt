@@ -1,7 +1,7 @@
 use Rattle.std.proofs.Common.{◌≡◌, ◌++◌, map}
 use Rattle.graphql_names.specs.Placed.{name_tree}
 use Rattle.graphql_schema_types.specs.TypeView.{extended_type}
-use Rattle.graphql_fault_data.specs.in_schema.SchemaOf.{schema_tree}
+use Rattle.graphql_schema.specs.SchemaOf.{schema_tree}
 use Rattle.graphql_fault_data.specs.FaultView.{faults_of}
 use Rattle.graphql_interface_rules.specs.InterfaceFaults.{each_field_faults}
 use Rattle.graphql_interface_rules.proofs.fields.check_each_field.Given as goal

@@ -7,7 +7,7 @@ use Rattle.graphql_schema_types.specs.TypeView.{name_text, extended_type}
 use Rattle.graphql_schema_types.specs.declared.extended_type.ExtendedType.{ExtendedType}
 use Rattle.graphql_schema_types.specs.declared.kinds.ObjectType.{ObjectType}
 use Rattle.graphql_schema_types.specs.declared.kinds.InterfaceType.{InterfaceType}
-use Rattle.graphql_fault_data.proofs.in_schema.Lookups.{got}
+use Rattle.graphql_schema.proofs.Lookups.{got}
 use Rattle.graphql_interface_rules.proofs.look_ups.own_field.Goals as goal
 
 pub returns-in-Object : goal.returns-in-Object

@@ -1,5 +1,5 @@
 use Rattle.std.proofs.Common.{◌≡◌, false, ◌||◌, bytes_eq, sym, ap, ◌∙◌}
-use Rattle.graphql_fault_data.specs.in_schema.SchemaOf.{schema_tree}
+use Rattle.graphql_schema.specs.SchemaOf.{schema_tree}
 use Rattle.graphql_fault_data.specs.in_rule_definitions.Judged.{judged}
 use Rattle.graphql_fault_data.specs.in_rule_definitions.Interfaces.{is_subtype}
 use Rattle.graphql_interface_rules.proofs.Subtypes.{subtype_seen}

@@ -3,7 +3,7 @@ use Rattle.std.specs.List.{flat_map}
 use Rattle.std.proofs.lemmas.List.{map_more, flat_map_more}
 use Rattle.graphql_names.specs.Placed.{node_tree}
 use Rattle.graphql_directives.specs.DirectiveTree.{input_value_tree}
-use Rattle.graphql_fault_data.specs.in_schema.SchemaOf.{schema_tree}
+use Rattle.graphql_schema.specs.SchemaOf.{schema_tree}
 use Rattle.graphql_fault_data.specs.FaultView.{faults_of}
 use Rattle.graphql_type_rules.specs.FaultLists.{argument_faults}
 use Rattle.graphql_type_rules.proofs.arguments.check_each_argument.Goals as goal

@@ -4,7 +4,7 @@ use Rattle.graphql_names.specs.NameValue.{NameValue}
 use Rattle.graphql_names.specs.Placed.{node_tree}
 use Rattle.graphql_directives.specs.DirectiveTree.{directive_definition_tree}
 use Rattle.graphql_schema_types.specs.SchemaTree.{SchemaType}
-use Rattle.graphql_fault_data.specs.in_schema.SchemaOf.{schema_tree}
+use Rattle.graphql_schema.specs.SchemaOf.{schema_tree}
 use Rattle.graphql_fault_data.specs.FaultView.{faults_of}
 use Rattle.graphql_type_rules.proofs.Whole.{told_behind}
 use Rattle.graphql_type_rules.proofs.check.check_types.Goals as goal

@@ -1,5 +1,5 @@
 use Rattle.graphql_schema_types.specs.TypeView.{extended_type}
-use Rattle.graphql_fault_data.proofs.in_schema.Lookups.{got}
+use Rattle.graphql_schema.proofs.Lookups.{got}
 use Rattle.graphql_type_rules.proofs.look_ups.type_named.Goals as goal
 
 pub returns : goal.returns

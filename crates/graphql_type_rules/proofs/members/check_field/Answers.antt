@@ -7,7 +7,7 @@ use Rattle.graphql_literals.specs.TypeQueries.{inner_name}
 use Rattle.graphql_directives.specs.DirectiveTree.{input_value_tree}
 use Rattle.graphql_type_members.specs.TypeSystemTree.{field_definition_tree}
 use Rattle.graphql_type_members.specs.declared.field_definition.FieldDefinition.{FieldDefinition}
-use Rattle.graphql_fault_data.specs.in_schema.SchemaOf.{schema_tree}
+use Rattle.graphql_schema.specs.SchemaOf.{schema_tree}
 use Rattle.graphql_fault_data.specs.FaultView.{faults_of}
 use Rattle.graphql_type_rules.specs.FaultLists.{kind_named, reserved_name, undefined_type, output_type, arguments_faults}
 use Rattle.graphql_type_rules.proofs.members.check_field.Goals as goal

@@ -7,7 +7,7 @@ use Rattle.graphql_names.specs.Placed.{node_tree}
 use Rattle.graphql_components.specs.declared.component.Component.{Component}
 use Rattle.graphql_type_members.specs.declared.field_definition.FieldDefinition.{FieldDefinition}
 use Rattle.graphql_schema_types.specs.TypeView.{name_text, extended_type}
-use Rattle.graphql_fault_data.specs.in_schema.SchemaOf.{schema_tree}
+use Rattle.graphql_schema.specs.SchemaOf.{schema_tree}
 use Rattle.graphql_fault_data.specs.FaultView.{faults_of}
 use Rattle.graphql_type_rules.specs.FaultLists.{empty_field_set, field_faults}
 use Rattle.graphql_type_rules.proofs.members.check_fields.Given as goal

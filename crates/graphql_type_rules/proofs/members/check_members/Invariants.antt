@@ -2,7 +2,7 @@ use Rattle.std.proofs.Common.{◌≡◌, ◌++◌, map, take, drop}
 use Rattle.std.specs.List.{flat_map}
 use Rattle.graphql_components.specs.Given.{component_name_tree}
 use Rattle.graphql_schema_types.specs.TypeView.{extended_type}
-use Rattle.graphql_fault_data.specs.in_schema.SchemaOf.{schema_tree}
+use Rattle.graphql_schema.specs.SchemaOf.{schema_tree}
 use Rattle.graphql_fault_data.specs.FaultView.{faults_of}
 use Rattle.graphql_type_rules.specs.FaultLists.{empty_member_set, member_faults}
 use Rattle.graphql_type_rules.proofs.members.check_members.Given as goal

@@ -1,7 +1,7 @@
 use Rattle.std.proofs.Common.{◌≡◌, ◌↔◌, ◌∙◌, ◌++◌, map, ap, sym, subst, Contains}
 use Rattle.graphql_operations.specs.SelectionTree.{selection_tree, selection_trees}
 use Rattle.graphql_schema_types.specs.Plain.{plain}
-use Rattle.graphql_document_faults.specs.in_schema.SchemaOf.{schema_tree}
+use Rattle.graphql_schema.specs.SchemaOf.{schema_tree}
 use Rattle.graphql_typing.specs.Meanings.{meanings}
 use Rattle.graphql_typing.specs.TypingFaults.{SetFails}
 use Rattle.graphql_typing.specs.SetFaults.{set_faults}

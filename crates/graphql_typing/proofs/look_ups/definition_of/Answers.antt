@@ -1,5 +1,5 @@
 use Rattle.std.proofs.Common.{Some, ap, sym, ◌∙◌}
-use Rattle.graphql_document_faults.specs.in_schema.SchemaOf.{schema_tree}
+use Rattle.graphql_schema.specs.SchemaOf.{schema_tree}
 use Rattle.graphql_type_members.specs.TypeSystemTree.{field_definition_tree, unplaced_field_definition}
 use Rattle.graphql_typing.specs.MeaningView.{meanings_under}
 use Rattle.graphql_typing.proofs.FieldsFound.{field-err, field-ok}

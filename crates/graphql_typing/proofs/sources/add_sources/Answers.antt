@@ -1,7 +1,7 @@
 use Rattle.std.proofs.Common.{rules, nat_eq, map, ap, ◌∙◌}
 use Rattle.graphql_definitions.specs.Sources.{numbered_source}
-use Rattle.graphql_document_faults.specs.in_schema.SourcesView.{sources_view}
-use Rattle.graphql_document_faults.proofs.in_schema.in_schema_building.Sourcing.{insert_viewed}
+use Rattle.graphql_schema.specs.SourcesView.{sources_view}
+use Rattle.graphql_schema.proofs.in_schema_building.Sourcing.{insert_viewed}
 use Rattle.indexmap.specs.IndexMap.{insert_entry}
 use Rattle.graphql_typing.proofs.sources.add_sources.Goals as goal
 

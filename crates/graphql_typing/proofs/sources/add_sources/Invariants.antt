@@ -1,6 +1,6 @@
 use Rattle.std.proofs.Common.{◌≡◌, map, length}
 use Rattle.graphql_definitions.specs.Sources.{numbered_source}
-use Rattle.graphql_document_faults.specs.in_schema.SourcesView.{sources_view, with_sources}
+use Rattle.graphql_schema.specs.SourcesView.{sources_view, with_sources}
 use Rattle.graphql_typing.proofs.sources.add_sources.Given as goal
 
 abbrev pub invariant-loop-file : goal.invariant-loop-file

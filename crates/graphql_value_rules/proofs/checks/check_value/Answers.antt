@@ -1,8 +1,8 @@
 use Rattle.std.proofs.lemmas.Result.{on_ok_weaker}
 use Rattle.graphql_names.specs.Node.{content, place}
 use Rattle.graphql_literals.specs.ValueTree.{value_tree}
-use Rattle.graphql_fault_data.specs.in_schema.SchemaOf.{schema_tree}
-use Rattle.graphql_fault_data.specs.in_schema.in_schema_types.Addresses.{place_at}
+use Rattle.graphql_schema.specs.SchemaOf.{schema_tree}
+use Rattle.graphql_schema.specs.in_schema_types.Addresses.{place_at}
 use Rattle.graphql_fault_data.specs.in_rule_definitions.Judged.{judged}
 use Rattle.graphql_fault_data.specs.in_rule_definitions.Values.{TypeBreaks, UndefinedVariableIn}
 use Rattle.graphql_value_rules.specs.Wanting.{wanted_type, variables_of}

@@ -2,10 +2,10 @@ use Rattle.std.proofs.Common.{sym, ap, ◌∙◌}
 use Rattle.graphql_directives.specs.DirectiveTree.{input_value_tree}
 use Rattle.graphql_components.specs.Names.{entries_of}
 use Rattle.graphql_components.specs.Given.{component_tree}
-use Rattle.graphql_fault_data.specs.in_schema.in_schema_types.TypeView.{name_text, extended_type}
-use Rattle.graphql_fault_data.specs.in_schema.in_schema_types.Addresses.{under}
-use Rattle.graphql_fault_data.specs.in_schema.in_schema_types.declared.kinds.InputObjectType.{InputObjectType}
-use Rattle.graphql_fault_data.proofs.in_schema.Lookups.{got}
+use Rattle.graphql_schema.specs.in_schema_types.TypeView.{name_text, extended_type}
+use Rattle.graphql_schema.specs.in_schema_types.Addresses.{under}
+use Rattle.graphql_schema.specs.in_schema_types.declared.kinds.InputObjectType.{InputObjectType}
+use Rattle.graphql_schema.proofs.Lookups.{got}
 use Rattle.graphql_value_rules.proofs.find.find_input.Goals as goal
 
 pub returns-in-InputObject : goal.returns-in-InputObject

@@ -1,5 +1,5 @@
-use Rattle.graphql_fault_data.specs.in_schema.in_schema_types.TypeView.{extended_type}
-use Rattle.graphql_fault_data.proofs.in_schema.Lookups.{got}
+use Rattle.graphql_schema.specs.in_schema_types.TypeView.{extended_type}
+use Rattle.graphql_schema.proofs.Lookups.{got}
 use Rattle.graphql_value_rules.proofs.find.find_type.Goals as goal
 
 pub returns : goal.returns

@@ -1,6 +1,6 @@
 use Rattle.std.proofs.Common.{◌≡◌, ◌++◌, drop}
 use Rattle.graphql_literals.specs.ValueTree.{value_tree, entry_trees}
-use Rattle.graphql_fault_data.specs.in_schema.in_schema_types.TypeView.{extended_type}
+use Rattle.graphql_schema.specs.in_schema_types.TypeView.{extended_type}
 use Rattle.graphql_fault_data.specs.FaultView.{faults_of}
 use Rattle.graphql_value_rules.specs.ValueFaults.{undefined_key}
 use Rattle.graphql_value_rules.proofs.objects.undefined_key.Given as goal

@@ -1,8 +1,8 @@
 use Rattle.std.proofs.Common.{◌≡◌, ◌++◌, [], map, take, drop}
 use Rattle.graphql_literals.specs.TypeTree.{type_tree}
 use Rattle.graphql_literals.specs.ValueTree.{value_tree, item_trees, entry_trees}
-use Rattle.graphql_fault_data.specs.in_schema.SchemaOf.{schema_tree}
-use Rattle.graphql_fault_data.specs.in_schema.in_schema_types.TypeView.{extended_type}
+use Rattle.graphql_schema.specs.SchemaOf.{schema_tree}
+use Rattle.graphql_schema.specs.in_schema_types.TypeView.{extended_type}
 use Rattle.graphql_fault_data.specs.FaultView.{faults_of}
 use Rattle.graphql_value_rules.specs.Wanting.{variables_of, keys_of_entries}
 use Rattle.graphql_value_rules.specs.Firsts.{AreFirsts}
