@@ -22,7 +22,7 @@ pub(crate) fn find_type<'coord, 'schema>(
 ) -> Result<&'schema ExtendedType, SchemaLookupError<'coord, 'schema>>
     ensures { answer (λ t. extended_type t.now) result ≡ type_lookup (schema_tree schema.now) name.now.text }
 {
-    let found = schema.types.get(name);
+    let found = schema.type_named(name);
     found.ok_or(SchemaLookupError::MissingType(name))
 }
 

@@ -22,6 +22,6 @@ impl FieldExt for Field {
     fn inner_type_def<'schema>(&self, schema: &'schema Schema) -> Option<&'schema ExtendedType>
         ensures { option_map (λ t. extended_type t.now) result ≡ type_at (schema_tree schema.now) (inner_name (node_tree field_definition_tree self.now.definition).it.ty).it }
     {
-        schema.types.get(self.ty().inner_named_type())
+        schema.type_named(self.ty().inner_named_type())
     }
 }

@@ -15,6 +15,7 @@ mod document;
 mod field;
 mod field_set;
 mod fragment_spread;
+pub mod laws;
 mod new_field_error;
 mod operation;
 mod selection_set;

@@ -2,3 +2,4 @@ pub mod Stands
 pub mod Whole
 pub mod Appended
 pub mod GivenFacts
+pub mod Putting

@@ -2,3 +2,4 @@ pub mod Appends
 pub mod SchemaTold
 pub mod Given
 pub mod Scalars
+pub mod Putting

@@ -9,11 +9,11 @@ ghost use Rattle.graphql_rule_definitions.specs.Rules.{SchemaRules};
 ghost use Rattle.graphql_faults.specs.DetailsView.{diagnostics_of, BeginsAs};
 ghost use Rattle.graphql_rules.specs.SchemaTold.{IsWithinReferenceBound, TellsSchema, SchemaTold};
 
+use crate::kept::kept_types;
 use graphql_cycle_rules::check_cycles;
 use graphql_fault_data::Fault;
 use graphql_faults::DiagnosticList;
 use graphql_interface_rules::check_interfaces;
-use graphql_kept_types::kept_types;
 use graphql_schema::Schema;
 use graphql_schema::laws::names_differ;
 use graphql_type_rules::check_types;

@@ -18,8 +18,8 @@ use graphql_schema_writing::{
 };
 
 impl Schema {
-    /// The type of that name, if there is one.
-    pub(crate) fn type_named(&self, name: &Name) -> Option<&ExtendedType>
+    /// The type of that name, of whichever kind, if there is one.
+    pub fn type_named(&self, name: &Name) -> Option<&ExtendedType>
         ensures { option_map (λ t. extended_type t.now) result ≡ type_at (schema_tree self.now) name.now.text }
     {
         self.types.get(name)

@@ -1,30 +1,20 @@
 //! The kinds of the types that are named.
 ghost use Rattle.std.specs.Prelude.{◌≡◌};
-ghost use Rattle.std.specs.Option.{option_map};
 ghost use Rattle.graphql_literals.specs.TypeTree.{type_tree};
 ghost use Rattle.graphql_literals.specs.TypeQueries.{inner_name};
-ghost use Rattle.graphql_schema_types.specs.Addresses.{type_at};
-ghost use Rattle.graphql_schema_types.specs.TypeView.{extended_type};
 ghost use Rattle.graphql_schema.specs.SchemaOf.{schema_tree};
 ghost use Rattle.graphql_type_rules.specs.FaultLists.{kind_named};
 
-use graphql_schema::Schema;
 use graphql_literals::Type;
 use graphql_names::Name;
-use graphql_schema_types::{ExtendedType, TypeKind};
-
-/// The type of that name, if it is there.
-fn type_named<'schema>(schema: &'schema Schema, name: &Name) -> Option<&'schema ExtendedType>
-    ensures { option_map (λ t. extended_type t.now) result ≡ type_at (schema_tree schema.now) name.now.text }
-{
-    schema.types.get(name)
-}
+use graphql_schema::Schema;
+use graphql_schema_types::TypeKind;
 
 /// The kind of the type of that name, if it is there.
 pub(crate) fn kind_named(schema: &Schema, name: &Name) -> Option<TypeKind>
     ensures { result ≡ kind_named (schema_tree schema.now) name.now.text }
 {
-    match type_named(schema, name) {
+    match schema.type_named(name) {
         None => None,
         Some(ty) => Some(ty.kind()),
     }

@@ -22,11 +22,11 @@ use graphql_schema_types::ExtendedType;
 use graphql_type_members::FieldDefinition;
 use std::alloc::{AllocError, Global};
 
-/// The type of that name, if there is one.
+/// The type of that name, if there is one: what a schema without places has under the name.
 fn type_named<'schema>(schema: &'schema Schema, name: &Name) -> Option<&'schema ExtendedType>
     ensures { option_map (λ t. plain_type (extended_type t.now)) result ≡ fin.get (plain (schema_tree schema.now)).types name.now.text }
 {
-    schema.types.get(name)
+    schema.type_named(name)
 }
 
 /// Whether a type of that name is there. Without a schema each is.

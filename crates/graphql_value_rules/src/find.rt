@@ -5,16 +5,14 @@ ghost use Rattle.graphql_names.specs.Placed.{node_tree};
 ghost use Rattle.graphql_directives.specs.DirectiveTree.{input_value_tree};
 ghost use Rattle.graphql_operations.specs.OperationTree.{variable_definition_tree};
 ghost use Rattle.graphql_components.specs.Given.{component_tree};
-ghost use Rattle.graphql_schema.specs.SchemaOf.{schema_tree};
 ghost use Rattle.graphql_type_members.specs.TypeSystemTree.{enum_value_tree};
 ghost use Rattle.graphql_schema.specs.in_schema_types.TypeView.{extended_type};
-ghost use Rattle.graphql_schema.specs.in_schema_types.Addresses.{under, type_at};
+ghost use Rattle.graphql_schema.specs.in_schema_types.Addresses.{under};
 ghost use Rattle.graphql_fault_data.specs.in_rule_definitions.Values.{defined_name};
 ghost use Rattle.graphql_value_rules.specs.Wanting.{variables_of};
 
 use graphql_components::Component;
 use graphql_directives::InputValueDefinition;
-use graphql_schema::Schema;
 use graphql_names::{Name, Node};
 use graphql_operations::VariableDefinition;
 use graphql_schema_types::ExtendedType;
@@ -33,13 +31,6 @@ pub(crate) fn find_variable<'a>(
         }
     }
     None
-}
-
-/// The type of that name, if there is one.
-pub(crate) fn find_type<'a>(schema: &'a Schema, name: &Name) -> Option<&'a ExtendedType>
-    ensures { option_map (λ t. extended_type t.now) result ≡ type_at (schema_tree schema.now) name.now.text }
-{
-    schema.types.get(name)
 }
 
 /// The field of that name of an input object, if there is one; other types have none.

@@ -91,7 +91,7 @@ fn tell_type(
 ) -> Result<(), AllocError>
     ensures { OnOk result (faults_of faults.new ≡ faults_of faults.old ++ type_faults (schema_tree schema.now) (variables_of variables.now) (type_tree ty.now) type_location location (value_tree value.now)) }
 {
-    match find_type(schema, ty.inner_named_type()) {
+    match schema.type_named(ty.inner_named_type()) {
         None => Ok(()),
         Some(found) => {
             tell_form(ty, type_location, found, value, location, variables, faults)?;

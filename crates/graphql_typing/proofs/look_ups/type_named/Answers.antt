@@ -1,16 +1,17 @@
 use Rattle.std.proofs.Common.{◌≡◌, Option, None, Some, refl, sym, ap, ◌∙◌, Bor}
-use Rattle.std.specs.Option.{option_map, option_copied}
-use Rattle.graphql_schema_types.proofs.in_components.NamedLookups.{get-named}
+use Rattle.std.specs.Option.{option_map}
+use Rattle.graphql_schema_types.proofs.UnderNames.{get_under}
 use Rattle.graphql_schema_types.specs.Plain.{plain_type}
-use Rattle.graphql_schema_types.specs.TypeView.{extended_type, name_text}
+use Rattle.graphql_schema_types.specs.TypeView.{extended_type}
+use Rattle.graphql_schema.specs.SchemaOf.{schema_tree}
 use Rattle.graphql_typing.proofs.look_ups.type_named.Goals as goal
 
-copied : {X A : Type 0} (f : X → A) (r : Option (Bor X)) → option_map (λ x. f x.now) r ≡ option_map f (option_copied r)
-copied f None = refl
-copied f (Some x) = refl
+twice : {X A B : Type 0} (f : X → A) (g : A → B) (r : Option X) → option_map (λ x. g (f x)) r ≡ option_map g (option_map f r)
+twice f g None = refl
+twice f g (Some x) = refl
 
 pub returns : goal.returns
 returns c =
-    copied (λ x. plain_type (extended_type x)) c.get.result
-    ∙ ap (option_map (λ x. plain_type (extended_type x))) c.get.ensures.value
-    ∙ sym (get-named name_text plain_type extended_type c.args.schema.now.types c.args.name.now)
+    twice (λ t. extended_type t.now) plain_type c.type_named.result
+    ∙ ap (option_map plain_type) c.type_named.ensures
+    ∙ sym (get_under plain_type c.args.name.now.text (schema_tree c.args.schema.now).types)

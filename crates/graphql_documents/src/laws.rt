@@ -1,0 +1,32 @@
+//! What follows of building a document and writing it together.
+//!
+//! The law names the kept document of `specs/KeptDocument.antt`, the faults of
+//! `specs/TypingFaults.antt` and what is written by `specs/OutDoc.antt`, all of `graphql_typing`.
+ghost use Rattle.std.specs.Prelude.{◌≡◌, ◌↔◌, [], IfOk, Contains};
+ghost use Rattle.graphql_definitions.specs.DefinitionTree.{document_tree};
+ghost use Rattle.graphql_typing.specs.KeptDocument.{kept_document};
+ghost use Rattle.graphql_typing.specs.TypingFaults.{TypingFails};
+ghost use Rattle.graphql_typing.specs.OutDoc.{out_doc, written_document};
+ghost use Rattle.graphql_typing.specs.FaultView.{faults_of};
+ghost use Rattle.graphql_typing.specs.BuilderView.{builder_value};
+
+use graphql_definitions::Document;
+use graphql_names::SourceSpan;
+use graphql_typing::{BuildError, BuilderRefusal, ExecutableDocumentBuilder};
+use std::alloc::Global;
+
+/// What is written of all that was added, and each way in which a rule of typing is broken in it. What is written is what
+/// is kept; where no rule is broken, it is all operations, one without a name first, and then all fragments, each as it
+/// was read.
+pub fn written_and_told(
+    alloc: Global,
+    builder: ExecutableDocumentBuilder<'_>,
+) -> Result<(Document, Vec<(Option<SourceSpan>, BuildError)>), BuilderRefusal>
+    ensures written { IfOk result (λ r. document_tree r.0 ≡ written_document (kept_document (builder_value builder.entry).meanings (builder_value builder.entry).definitions)) }
+    ensures whole { IfOk result (λ r. faults_of r.1 ≡ [] → document_tree r.0 ≡ out_doc (builder_value builder.entry).definitions) }
+    ensures told { IfOk result (λ r. (f : _) → Contains (faults_of r.1) f ↔ TypingFails (builder_value builder.entry).meanings (builder_value builder.entry).definitions f) }
+{
+    let (document, faults) = builder.build()?;
+    let written = document.to_ast(alloc)?;
+    Ok((written, faults))
+}
