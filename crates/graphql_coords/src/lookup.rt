@@ -10,14 +10,14 @@ ghost use Rattle.graphql_coordinates.specs.CoordinateView.{type_coordinate, attr
 ghost use Rattle.graphql_coords.specs.LookUps.{type_lookup, attribute_lookup, field_lookup, input_field_lookup, enum_value_lookup, argument_lookup, directive_lookup, directive_argument_lookup};
 ghost use Rattle.graphql_coords.specs.LookUpView.{answer, attribute_of, named_of, lookup_of};
 
-use graphql_coordinates::{
-    DirectiveArgumentCoordinate, DirectiveCoordinate, FieldArgumentCoordinate, SchemaCoordinate,
-    TypeAttributeCoordinate, TypeCoordinate,
-};
 use crate::find::{
     argument_in, enum_value_in, field_in, find_attribute, find_directive, find_type, input_field_in,
 };
 use crate::lookup_answers::{SchemaCoordinateLookup, SchemaLookupError, TypeAttributeLookup};
+use graphql_coordinates::{
+    DirectiveArgumentCoordinate, DirectiveCoordinate, FieldArgumentCoordinate, SchemaCoordinate,
+    TypeAttributeCoordinate, TypeCoordinate,
+};
 use graphql_directives::{DirectiveDefinition, InputValueDefinition};
 use graphql_names::Node;
 use graphql_schema::{Component, ExtendedType, Schema};

@@ -14,9 +14,9 @@ mod writable_operation;
 
 pub use graphql_directives::{
     Argument, ArgumentByNameError, Directive, DirectiveDefinition, DirectiveList,
-    DirectiveLocation, InputValueDefinition, Named, NamedDirectives, OperationType, directives_are_writable,
-    get_named_mut, input_values_are_writable, put_argument_definitions, put_directive_definition,
-    put_directives, put_input_members, put_keyword,
+    DirectiveLocation, InputValueDefinition, Named, NamedDirectives, OperationType,
+    directives_are_writable, get_named_mut, input_values_are_writable, put_argument_definitions,
+    put_directive_definition, put_directives, put_input_members, put_keyword,
 };
 pub use graphql_printing::{
     Cause, Level, Serialize, Sink, Tree, WriteFault, put_break, put_description, put_start,

@@ -4,7 +4,7 @@ ghost use Rattle.std.specs.Option.{option_map};
 ghost use Rattle.graphql_names.specs.Placed.{name_tree, text_tree};
 ghost use Rattle.graphql_directives.specs.DirectiveTree.{directives_tree};
 
-use graphql_directives::{DirectiveList};
+use graphql_directives::DirectiveList;
 use graphql_names::{Name, NodeStr};
 use std::alloc::AllocError;
 

@@ -3,7 +3,7 @@ ghost use Rattle.std.specs.Prelude.{◌≡◌};
 ghost use Rattle.graphql_type_members.specs.TypeSystemTree.{enum_value_tree};
 
 use crate::copies::clone_described;
-use graphql_directives::{DirectiveList};
+use graphql_directives::DirectiveList;
 use graphql_names::{Name, NodeStr};
 use std::alloc::AllocError;
 

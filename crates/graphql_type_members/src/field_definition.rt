@@ -9,7 +9,7 @@ ghost use Rattle.graphql_type_members.specs.ArgumentQueries.{argument_named};
 
 use crate::copies::clone_described;
 use graphql_directives::{DirectiveList, InputValueDefinition};
-use graphql_literals::{Type};
+use graphql_literals::Type;
 use graphql_names::{Name, Node, NodeStr};
 use std::alloc::AllocError;
 

@@ -12,9 +12,11 @@ ghost use Rattle.graphql_type_members.specs.TypeSystemLayout.{undescribed_field_
 
 use crate::enum_value::EnumValueDefinition;
 use crate::field_definition::FieldDefinition;
-use graphql_directives::{InputValueDefinition, put_argument_definitions, put_directives, put_input_members};
-use graphql_literals::{put_type};
-use graphql_names::{Node};
+use graphql_directives::{
+    InputValueDefinition, put_argument_definitions, put_directives, put_input_members,
+};
+use graphql_literals::put_type;
+use graphql_names::Node;
 use graphql_printing::{Level, Sink, put_break, put_description};
 
 fn put_undescribed_field<S: Sink>(

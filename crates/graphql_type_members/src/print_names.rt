@@ -6,9 +6,9 @@ ghost use Rattle.graphql_printing.specs.Joined.{after, further_text};
 ghost use Rattle.graphql_type_members.specs.TypeSystemLayout.{name_text, names_text, head_text};
 
 use graphql_directives::{DirectiveList, put_directives};
-use graphql_literals::{NamedType};
-use graphql_names::{Name};
-use graphql_printing::{Sink};
+use graphql_literals::NamedType;
+use graphql_names::Name;
+use graphql_printing::Sink;
 
 fn put_next_name<S: Sink>(sink: &mut S, sign: &str, name: &Name)
     ensures { S.puts sink.old (after sign.now (name_text (name_tree name.now))) sink.new }

@@ -7,8 +7,8 @@ ghost use Rattle.graphql_type_members.specs.PartsWritable.{field_definition_writ
 use crate::enum_value::EnumValueDefinition;
 use crate::field_definition::FieldDefinition;
 use graphql_directives::{directives_are_writable, input_values_are_writable};
-use graphql_literals::{can_be_enum};
-use graphql_names::{Node};
+use graphql_literals::can_be_enum;
+use graphql_names::Node;
 
 /// Whether the grammar can write each of the fields. For the crates of definitions above.
 pub fn fields_are_writable(fields: &[Node<FieldDefinition>]) -> bool

@@ -23,9 +23,9 @@ use crate::look_ups::{has_type, root_of};
 use crate::selections::type_set;
 use graphql_definitions::Definition;
 use graphql_document_faults::BuildError;
-use graphql_schema::Schema;
 use graphql_names::{Name, Node, SourceSpan, copies_of_three, copies_of_two};
 use graphql_operations::{FragmentDefinition, OperationDefinition};
+use graphql_schema::Schema;
 use graphql_typed_operations::{Fragment, FragmentMap, Operation, OperationMap};
 use std::alloc::{AllocError, Global};
 

@@ -13,9 +13,9 @@ ghost use Rattle.graphql_typing.specs.FaultView.{faults_of};
 
 use crate::selections::type_set;
 use graphql_document_faults::BuildError;
-use graphql_schema::Schema;
 use graphql_names::{Name, SourceSpan};
 use graphql_operations::Selection;
+use graphql_schema::Schema;
 use graphql_typed_operations::FieldSet;
 use indexmap::IndexMap;
 use std::alloc::{AllocError, Global};

@@ -21,6 +21,8 @@ mod sources;
 
 pub use builder::ExecutableDocumentBuilder;
 pub use field_set::field_set_from_ast;
-pub use graphql_document_faults::{BuildError, ConflictingFieldArgument, ConflictingFieldName, ConflictingFieldType};
+pub use graphql_document_faults::{
+    BuildError, ConflictingFieldArgument, ConflictingFieldName, ConflictingFieldType,
+};
 pub use graphql_schema::{FieldLookupError, Schema};
 pub use refusal::BuilderRefusal;

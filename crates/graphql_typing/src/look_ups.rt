@@ -14,10 +14,10 @@ ghost use Rattle.graphql_typing.specs.DefinedField.{definition_view};
 ghost use Rattle.graphql_typing.specs.MeaningView.{meanings_under};
 
 use graphql_directives::DirectiveList;
-use graphql_schema::Schema;
 use graphql_literals::Type;
 use graphql_names::{Name, Node};
 use graphql_operations::OperationType;
+use graphql_schema::Schema;
 use graphql_schema_types::ExtendedType;
 use graphql_type_members::FieldDefinition;
 use std::alloc::{AllocError, Global};

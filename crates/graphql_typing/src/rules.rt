@@ -10,9 +10,9 @@ ghost use Rattle.graphql_typing.specs.MeaningView.{meanings_under};
 
 use crate::look_ups::{is_leaf, is_scalar};
 use graphql_document_faults::BuildError;
-use graphql_schema::Schema;
 use graphql_names::{Name, SourceSpan};
 use graphql_operations::Selection;
+use graphql_schema::Schema;
 use std::alloc::AllocError;
 
 /// Tells a fault at a place.

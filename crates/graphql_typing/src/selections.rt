@@ -21,9 +21,9 @@ use crate::rules::{
     undefined_type_in_inline_fragment_type_condition,
 };
 use graphql_document_faults::BuildError;
-use graphql_schema::Schema;
 use graphql_names::{Name, Node, SourceSpan};
 use graphql_operations::{Field, InlineFragment, Selection};
+use graphql_schema::Schema;
 use graphql_type_members::FieldDefinition;
 use graphql_typed_selections as typed;
 use std::alloc::{AllocError, Global};
