@@ -14,12 +14,12 @@ use Rattle.graphql_read.specs.Calls.{end_of_text, end_of_text_at, all_of}
 
 -- ---- a text that is all tokens
 
-no_piece_of_none : (text : List ℕ) (q : Piece) → text ≡ [] → piece_at text ≡ Some q → ⊥
+pub no_piece_of_none : (text : List ℕ) (q : Piece) → text ≡ [] → piece_at text ≡ Some q → ⊥
 unfolding piece_at ignored_at token_at
 no_piece_of_none [] q e found = absurd cc
 no_piece_of_none (b ∷ text) q e found = absurd cc
 
-same_piece : (p q : Piece) → Some p ≡ Some q → p ≡ q
+pub same_piece : (p q : Piece) → Some p ≡ Some q → p ≡ q
 same_piece p q e = cc
 
 -- the pieces of a text do not both reach its end and stop before

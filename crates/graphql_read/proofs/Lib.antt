@@ -12,6 +12,7 @@ mod PlaceRows
 pub mod Soundness
 pub mod Endings
 pub mod Texts
+pub mod Bounds
 pub mod Symbols
 pub use Rattle.graphql_grammar.proofs as in_grammar
 pub use Rattle.graphql_lexer.proofs as in_lexer

@@ -18,7 +18,7 @@ use Rattle.graphql_grammar.proofs.Keeps.{Keeps, ending_of}
 use Rattle.graphql_grammar.proofs.Parses.{Parses}
 use Rattle.graphql_grammar.proofs.Theorems as t
 use Rattle.graphql_read.specs.Calls.{all_of}
-use Rattle.graphql_read.specs.Reads.{Reads, IsDue}
+use Rattle.graphql_read.specs.Reads.{ReadsWithin, IsDue}
 use Rattle.graphql_read.proofs.Endings.{AtEnd, ends_whole, not_stuck, lexed_whole, all_ok, all_err}
 
 -- nothing is read yet
@@ -42,13 +42,15 @@ module _ {A : Type 0} {r : ℕ → Rule A} {p : ℕ → Parser A} {b e : Test} (
     same_ending x z at = sym (ap ending_of at) ∙ whole_keeps.ending i
 
     -- what is read is a tree of the text
-    pub found : (tree : A) (z : Input) → all_of (p n) i ≡ Ok (tree, z) → Reads (DerivesAs r) n text tree
+    pub found : (tree : A) (z : Input) → all_of (p n) i ≡ Ok (tree, z) → ReadsWithin (DerivesAs r) n text tree
     found tree z at =
         let h = all_ok p n i tree z at in
         record {
-          tokens = i.ahead;
-          lexed = lexed_whole text i.ahead z i.ending h.1.none (same_ending tree z h.0) h.1.is lexed;
-          derived = t.found parses ends n i begins tree z h.0;
+          reads = record {
+            tokens = i.ahead;
+            lexed = lexed_whole text i.ahead z i.ending h.1.none (same_ending tree z h.0) h.1.is lexed;
+            derived = t.found parses ends n i begins tree z h.0;
+          };
           within = t.within parses ends n i begins tree z h.0;
         }
 
@@ -56,16 +58,16 @@ module _ {A : Type 0} {r : ℕ → Rule A} {p : ℕ → Parser A} {b e : Test} (
     abbrev ahead_derives : A → Type 0
     ahead_derives tree = (at : ℕ) × (i.ending ≡ Ended at) × DerivesAs r i.ahead tree × (depth i.ahead ≤ n)
 
-    of_ahead : (tree : A) → Reads (DerivesAs r) n text tree → ahead_derives tree
+    of_ahead : (tree : A) → ReadsWithin (DerivesAs r) n text tree → ahead_derives tree
     of_ahead tree d =
-        let k = ends_whole text i.ahead i.ending d.tokens lexed d.lexed in
-        (k.0, k.1, subst (λ (ts : List Token). DerivesAs r ts tree) k.2 d.derived, subst (λ (ts : List Token). depth ts ≤ n) k.2 d.within)
+        let k = ends_whole text i.ahead i.ending d.reads.tokens lexed d.reads.lexed in
+        (k.0, k.1, subst (λ (ts : List Token). DerivesAs r ts tree) k.2 d.reads.derived, subst (λ (ts : List Token). depth ts ≤ n) k.2 d.within)
 
     -- what is read is the tree of the text
-    pub only : (tree other : A) (z : Input) → all_of (p n) i ≡ Ok (tree, z) → Reads (DerivesAs r) n text other → other ≡ tree
+    pub only : (tree other : A) (z : Input) → all_of (p n) i ≡ Ok (tree, z) → ReadsWithin (DerivesAs r) n text other → other ≡ tree
     only tree other z at d = sym (t.same_tree parses ends n i begins tree other z (all_ok p n i tree z at).0 (of_ahead other d).2)
 
-    stops : (stop : Stop) (z : Input) (tree : A) → all_of (p n) i ≡ Err (stop, z) → Reads (DerivesAs r) n text tree → fault_of stop z ≡ faults.Memory
+    stops : (stop : Stop) (z : Input) (tree : A) → all_of (p n) i ≡ Err (stop, z) → ReadsWithin (DerivesAs r) n text tree → fault_of stop z ≡ faults.Memory
     stops stop z tree at d = go (all_err p n i stop z at)
       where
         go : (whole p n i ≡ Err (stop, z)) ⊎ ((stop ≡ Unexpected) × ((x : A) × (whole p n i ≡ Ok (x, z)) × AtEnd z true)) → fault_of stop z ≡ faults.Memory
@@ -73,7 +75,7 @@ module _ {A : Type 0} {r : ℕ → Rule A} {p : ℕ → Parser A} {b e : Test} (
         go (inr h) = let k = of_ahead tree d in absurd (not_stuck z.ahead z.ending k.0 (same_ending h.1.0 z h.1.1 ∙ k.1) h.1.2.is)
 
     -- where the text has a tree, a stop is want of memory
-    pub memory : (stop : Stop) (z : Input) (tree : A) → (stop ≢ Memory → all_of (p n) i ≡ Err (stop, z)) → Reads (DerivesAs r) n text tree → fault_of stop z ≡ faults.Memory
+    pub memory : (stop : Stop) (z : Input) (tree : A) → (stop ≢ Memory → all_of (p n) i ≡ Err (stop, z)) → ReadsWithin (DerivesAs r) n text tree → fault_of stop z ≡ faults.Memory
     memory Memory z tree at d = refl
     memory Unexpected z tree at d = stops Unexpected z tree (at (λ e. cc)) d
     memory Nesting z tree at d = stops Nesting z tree (at (λ e. cc)) d
@@ -99,5 +101,5 @@ module _ {A : Type 0} {r : ℕ → Rule A} {p : ℕ → Parser A} {b e : Test} (
     due Nesting z at = record { tokens = i.ahead; ending = i.ending; lexed = lexed; says = says Nesting z (at (λ e. cc)) }
 
 -- of want of memory nothing is said of a text that has a tree
-pub memory_due : {A : Type 0} (symbol : Symbol A) (n : ℕ) (text : List ℕ) (tree : A) → Reads symbol n text tree → IsDue symbol n text faults.Memory
-memory_due symbol n text tree d = record { tokens = d.tokens; ending = Ended (length text); lexed = (refl, d.lexed); says = tt }
+pub memory_due : {A : Type 0} (symbol : Symbol A) (n : ℕ) (text : List ℕ) (tree : A) → ReadsWithin symbol n text tree → IsDue symbol n text faults.Memory
+memory_due symbol n text tree d = record { tokens = d.reads.tokens; ending = Ended (length text); lexed = (refl, d.reads.lexed); says = tt }

@@ -1,5 +1,5 @@
 -- What a call answers, as the grammar speaks of it.
-use Rattle.std.specs.Prelude.{◌≡◌, ℕ, List, [], map, Result, Ok, Err, Vec}
+use Rattle.std.specs.Prelude.{◌≡◌, ℕ, ◌<◌, ⊤, List, [], length, map, Result, Ok, Err, Vec}
 use Rattle.std.specs.declared.alloc.Global.{Global}
 use Rattle.graphql_names.specs.Placed.{Place}
 use Rattle.graphql_operations.specs.SelectionTree.{SelectionTrees, selection_tree, selection_trees}
@@ -9,6 +9,7 @@ use Rattle.graphql_definitions.specs.Sources.{Source}
 use Rattle.graphql_definitions.specs.declared.definition.Definition.{Definition}
 use Rattle.graphql_grammar.specs.Faults as faults
 use Rattle.graphql_grammar.specs.Faults.{Fault}
+use Rattle.graphql_read.specs.Reads.{NestingBound}
 use Rattle.graphql_read.specs.declared.fault.SyntaxFaultKind.{SyntaxFaultKind}
 use Rattle.graphql_read.specs.declared.fault.SyntaxFaultKind.TheVariants.{NoToken, Unexpected, End}
 use Rattle.graphql_read.specs.declared.fault.ReadFault.{ReadFault}
@@ -40,3 +41,21 @@ unnamed_source text = record { path = []; text = text }
 abbrev pub IsTreeUnlessMemory : {X A : Type 0} → (X → A) → A → Result X ReadFault → Type 0
 IsTreeUnlessMemory view tree (Ok x) = tree ≡ view x
 IsTreeUnlessMemory view tree (Err e) = fault_view e ≡ faults.Memory
+
+-- The fault stands in the text: `End` where it ends, each other before that. Want of memory stands nowhere.
+abbrev pub StandsIn : List ℕ → Fault → Type 0
+StandsIn text faults.Memory = ⊤
+StandsIn text (faults.NoToken offset) = offset < length text
+StandsIn text (faults.Unexpected offset) = offset < length text
+StandsIn text (faults.End offset) = offset ≡ length text
+StandsIn text (faults.Nesting offset) = offset < length text
+
+-- where the fault is of nesting, the bound is passed
+abbrev pub PassesBound : ℕ → List ℕ → ReadFault → Type 0
+PassesBound nesting text (Nesting offset) = NestingBound nesting text
+PassesBound nesting text fault = ⊤
+
+-- A tree comes only where the bound of nesting is not passed, and `Nesting` only where it is.
+abbrev pub KeepsToBound : {X : Type 0} → ℕ → List ℕ → Result X ReadFault → Type 0
+KeepsToBound nesting text (Ok x) = NestingBound nesting text → ⊥
+KeepsToBound nesting text (Err fault) = PassesBound nesting text fault

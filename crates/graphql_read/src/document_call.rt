@@ -8,8 +8,8 @@ ghost use Rattle.graphql_grammar.specs.Grammar.{Derives};
 ghost use Rattle.graphql_grammar.specs.Reading as read;
 ghost use Rattle.graphql_parse_operations.specs.in_parse_values.Meanings.{in_file};
 ghost use Rattle.graphql_read.specs.Calls.{all_of};
-ghost use Rattle.graphql_read.specs.ReadFaults.{fault_view, definitions_tree, unnamed_source, IsTreeUnlessMemory};
-ghost use Rattle.graphql_read.specs.Reads.{Reads, IsDue};
+ghost use Rattle.graphql_read.specs.ReadFaults.{fault_view, definitions_tree, unnamed_source, IsTreeUnlessMemory, StandsIn, KeepsToBound};
+ghost use Rattle.graphql_read.specs.Reads.{ReadsWithin, IsDue};
 ghost use Rattle.graphql_read.specs.Sound.{IsSound};
 
 use crate::document_list::definitions;
@@ -44,9 +44,11 @@ fn parse_definitions(
     file: FileId,
     nesting: usize,
 ) -> Result<Vec<Definition>, ReadFault>
-    ensures found { IfOk result (λ x. Reads (Derives (in_file file)) nesting text.now (definitions_tree x)) }
-    ensures only { (tree : List (DefinitionTree Place)) → Reads (Derives (in_file file)) nesting text.now tree → IsTreeUnlessMemory definitions_tree tree result }
+    ensures found { IfOk result (λ x. ReadsWithin (Derives (in_file file)) nesting text.now (definitions_tree x)) }
+    ensures only { (tree : List (DefinitionTree Place)) → ReadsWithin (Derives (in_file file)) nesting text.now tree → IsTreeUnlessMemory definitions_tree tree result }
     ensures fault { IfErr result (λ e. IsDue (Derives (in_file file)) nesting text.now (fault_view e)) }
+    ensures within { IfErr result (λ e. StandsIn text.now (fault_view e)) }
+    ensures bound { KeepsToBound nesting text.now result }
 {
     let mut tokens = Source::new(text);
     match whole_document(alloc, &mut tokens, file, nesting) {
@@ -85,11 +87,13 @@ pub fn parse_document(
     file: FileId,
     nesting: usize,
 ) -> Result<Document, ReadFault>
-    ensures found { IfOk result (λ d. Reads (Derives (in_file file)) nesting text.now (document_tree d)) }
+    ensures found { IfOk result (λ d. ReadsWithin (Derives (in_file file)) nesting text.now (document_tree d)) }
     ensures sound { IfOk result (λ d. IsSound file.0 (document_tree d)) }
     ensures sources { IfOk result (λ d. sources_of d ≡ (file.0, unnamed_source text.now) ∷ []) }
-    ensures only { (tree : List (DefinitionTree Place)) → Reads (Derives (in_file file)) nesting text.now tree → IsTreeUnlessMemory document_tree tree result }
+    ensures only { (tree : List (DefinitionTree Place)) → ReadsWithin (Derives (in_file file)) nesting text.now tree → IsTreeUnlessMemory document_tree tree result }
     ensures fault { IfErr result (λ e. IsDue (Derives (in_file file)) nesting text.now (fault_view e)) }
+    ensures within { IfErr result (λ e. StandsIn text.now (fault_view e)) }
+    ensures bound { KeepsToBound nesting text.now result }
 {
     let definitions = parse_definitions(alloc, text, file, nesting)?;
     let sources = sources(alloc, text, file)?;

@@ -7,8 +7,8 @@ ghost use Rattle.graphql_grammar.specs.Reading as read;
 ghost use Rattle.graphql_grammar.specs.Grammar.{DerivesSelections};
 ghost use Rattle.graphql_parse_operations.specs.in_parse_values.Meanings.{in_file};
 ghost use Rattle.graphql_read.specs.Calls.{all_of};
-ghost use Rattle.graphql_read.specs.ReadFaults.{fault_view, selections_tree, IsTreeUnlessMemory};
-ghost use Rattle.graphql_read.specs.Reads.{Reads, IsDue};
+ghost use Rattle.graphql_read.specs.ReadFaults.{fault_view, selections_tree, IsTreeUnlessMemory, StandsIn, KeepsToBound};
+ghost use Rattle.graphql_read.specs.Reads.{ReadsWithin, IsDue};
 ghost use Rattle.graphql_read.specs.Sound.{AreSound};
 
 use crate::fault::ReadFault;
@@ -41,10 +41,12 @@ pub fn parse_selections(
     file: FileId,
     nesting: usize,
 ) -> Result<Vec<Selection>, ReadFault>
-    ensures found { IfOk result (λ x. Reads (DerivesSelections (in_file file)) nesting text.now (selections_tree x)) }
+    ensures found { IfOk result (λ x. ReadsWithin (DerivesSelections (in_file file)) nesting text.now (selections_tree x)) }
     ensures sound { IfOk result (λ x. AreSound file.0 (selections_tree x)) }
-    ensures only { (tree : SelectionTrees Place) → Reads (DerivesSelections (in_file file)) nesting text.now tree → IsTreeUnlessMemory selections_tree tree result }
+    ensures only { (tree : SelectionTrees Place) → ReadsWithin (DerivesSelections (in_file file)) nesting text.now tree → IsTreeUnlessMemory selections_tree tree result }
     ensures fault { IfErr result (λ e. IsDue (DerivesSelections (in_file file)) nesting text.now (fault_view e)) }
+    ensures within { IfErr result (λ e. StandsIn text.now (fault_view e)) }
+    ensures bound { KeepsToBound nesting text.now result }
 {
     let mut tokens = Source::new(text);
     match whole_selections(alloc, &mut tokens, file, nesting) {

@@ -7,8 +7,8 @@ ghost use Rattle.graphql_grammar.specs.Reading as read;
 ghost use Rattle.graphql_grammar.specs.Grammar.{DerivesType};
 ghost use Rattle.graphql_parse_operations.specs.in_parse_values.Meanings.{in_file};
 ghost use Rattle.graphql_read.specs.Calls.{all_of};
-ghost use Rattle.graphql_read.specs.ReadFaults.{fault_view, IsTreeUnlessMemory};
-ghost use Rattle.graphql_read.specs.Reads.{Reads, IsDue};
+ghost use Rattle.graphql_read.specs.ReadFaults.{fault_view, IsTreeUnlessMemory, StandsIn, KeepsToBound};
+ghost use Rattle.graphql_read.specs.Reads.{ReadsWithin, IsDue};
 ghost use Rattle.graphql_read.specs.Sound.{IsSoundType};
 
 use crate::fault::ReadFault;
@@ -41,10 +41,12 @@ pub fn parse_type(
     file: FileId,
     nesting: usize,
 ) -> Result<Type, ReadFault>
-    ensures found { IfOk result (λ x. Reads (DerivesType (in_file file)) nesting text.now (type_tree x)) }
+    ensures found { IfOk result (λ x. ReadsWithin (DerivesType (in_file file)) nesting text.now (type_tree x)) }
     ensures sound { IfOk result (λ x. IsSoundType file.0 (type_tree x)) }
-    ensures only { (tree : TypeTree Place) → Reads (DerivesType (in_file file)) nesting text.now tree → IsTreeUnlessMemory type_tree tree result }
+    ensures only { (tree : TypeTree Place) → ReadsWithin (DerivesType (in_file file)) nesting text.now tree → IsTreeUnlessMemory type_tree tree result }
     ensures fault { IfErr result (λ e. IsDue (DerivesType (in_file file)) nesting text.now (fault_view e)) }
+    ensures within { IfErr result (λ e. StandsIn text.now (fault_view e)) }
+    ensures bound { KeepsToBound nesting text.now result }
 {
     let mut tokens = Source::new(text);
     match whole_type(alloc, &mut tokens, file, nesting) {

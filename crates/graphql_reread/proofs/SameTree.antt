@@ -24,7 +24,7 @@ use Rattle.graphql_read.specs.declared.fault.SyntaxFaultKind.TheVariants.{NoToke
 use Rattle.graphql_read.specs.declared.fault.ReadFault.{ReadFault}
 use Rattle.graphql_read.specs.declared.fault.ReadFault.TheVariants.{Syntax, Nesting, Memory}
 use Rattle.graphql_read.specs.ReadFaults.{fault_at, fault_view, IsTreeUnlessMemory}
-use Rattle.graphql_read.specs.Reads.{Reads, IsDue}
+use Rattle.graphql_read.specs.Reads.{ReadsWithin, IsDue}
 use Rattle.graphql_read.proofs.Endings.{ends_whole}
 use Rattle.graphql_printed.specs.WellFormed.{is_white_prefix}
 use Rattle.graphql_printed.specs.ReadsAlone.{ReadsAlone}
@@ -68,36 +68,38 @@ module _ {X A B : Type 0} (symbol : Symbol A) (unplaced : A → B) (view : X →
   limit (Syntax f) due = no_syntax f.kind f.offset due
 
   -- the same tree, or a limit
-  pub same : (result : Result X ReadFault) → IfOk result (λ x. Reads symbol nesting text (view x)) → IfErr result (λ e. IsDue symbol nesting text (fault_view e))
+  pub same : (result : Result X ReadFault) → IfOk result (λ x. ReadsWithin symbol nesting text (view x)) → IfErr result (λ e. IsDue symbol nesting text (fault_view e))
       → IsSameUnlessLimit (λ x. unplaced (view x)) printed nesting text result
-  same (Ok x) found fault = ap unplaced (r.alone found.tokens (view x) found.lexed found.derived) ∙ r.same
+  same (Ok x) found fault = ap unplaced (r.alone found.reads.tokens (view x) found.reads.lexed found.reads.derived) ∙ r.same
   same (Err e) found fault = limit e fault
 
   -- within the limit want of memory alone
-  pub within : (result : Result X ReadFault) → ((tree : A) → Reads symbol nesting text tree → IsTreeUnlessMemory view tree result) → NestsWithin nesting text
+  pub within : (result : Result X ReadFault) → ((tree : A) → ReadsWithin symbol nesting text tree → IsTreeUnlessMemory view tree result) → NestsWithin nesting text
       → IfErr result (λ e. e ≡ Memory)
   within (Ok x) only w = tt
   within (Err e) only w =
       is_memory e
       (only r.tree (record {
-        tokens = w.0;
-        lexed = w.1;
-        derived = subst (λ (ts : List Token). symbol ts r.tree) (lex_unique text r.tokens w.0 r.lexed w.1) r.derived;
+        reads = record {
+          tokens = w.0;
+          lexed = w.1;
+          derived = subst (λ (ts : List Token). symbol ts r.tree) (lex_unique text r.tokens w.0 r.lexed w.1) r.derived;
+        };
         within = w.2;
       }))
 
   -- the same of what is read, which is the text
-  pub same_of : (read : List ℕ) → read ≡ text → (result : Result X ReadFault) → IfOk result (λ x. Reads symbol nesting read (view x)) → IfErr result (λ e. IsDue symbol nesting read (fault_view e))
+  pub same_of : (read : List ℕ) → read ≡ text → (result : Result X ReadFault) → IfOk result (λ x. ReadsWithin symbol nesting read (view x)) → IfErr result (λ e. IsDue symbol nesting read (fault_view e))
       → IsSameUnlessLimit (λ x. unplaced (view x)) printed nesting text result
   same_of read is result found fault =
       same result
-      (subst (λ (t : List ℕ). IfOk result (λ x. Reads symbol nesting t (view x))) is found)
+      (subst (λ (t : List ℕ). IfOk result (λ x. ReadsWithin symbol nesting t (view x))) is found)
       (subst (λ (t : List ℕ). IfErr result (λ e. IsDue symbol nesting t (fault_view e))) is fault)
 
-  pub within_of : (read : List ℕ) → read ≡ text → (result : Result X ReadFault) → ((tree : A) → Reads symbol nesting read tree → IsTreeUnlessMemory view tree result) → NestsWithin nesting text
+  pub within_of : (read : List ℕ) → read ≡ text → (result : Result X ReadFault) → ((tree : A) → ReadsWithin symbol nesting read tree → IsTreeUnlessMemory view tree result) → NestsWithin nesting text
       → IfErr result (λ e. e ≡ Memory)
   within_of read is result only =
-      within result (subst (λ (t : List ℕ). (tree : A) → Reads symbol nesting t tree → IsTreeUnlessMemory view tree result) is only)
+      within result (subst (λ (t : List ℕ). (tree : A) → ReadsWithin symbol nesting t tree → IsTreeUnlessMemory view tree result) is only)
 
 -- ---- types and documents
 

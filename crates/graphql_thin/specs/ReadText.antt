@@ -1,28 +1,24 @@
 -- Which texts are read: they have a tree, and pass no bound.
-use Rattle.std.specs.Prelude.{ℕ, ◌+◌, ◌<◌, ◌≤◌, ◌^◌, List}
+use Rattle.std.specs.Prelude.{ℕ, ◌+◌, ◌≤◌, ◌^◌, List}
 use Rattle.graphql_names.specs.Placed.{Place}
 use Rattle.graphql_definitions.specs.DefinitionTree.{DefinitionTree}
 use Rattle.graphql_read.specs.in_lexer.Input.{Token}
-use Rattle.graphql_read.specs.in_lexer.Lex.{LexesFront, Lex}
-use Rattle.graphql_read.specs.in_grammar.Depth.{depth}
 use Rattle.graphql_read.specs.in_grammar.Grammar.{Derives}
 use Rattle.graphql_read.specs.in_parse_values.Meanings.{in_file}
+use Rattle.graphql_read.specs.Reads.{Reads, NestingBound}
 
 -- these tokens, of the text with this file number, are a document with this tree
 abbrev pub DerivesIn : ℕ → List Token → List (DefinitionTree Place) → Type 0
 DerivesIn file = Derives (in_file (record { 0 = file }))
 
--- The text with this file number has this tree.
-pub record ReadsText (file : ℕ) (text : List ℕ) (tree : List (DefinitionTree Place)) : Type 0 where
-  pub tokens : List Token
-  pub lexed : Lex text tokens
-  pub derived : DerivesIn file tokens tree
+-- the text with this file number has this tree
+abbrev pub ReadsText : ℕ → List ℕ → List (DefinitionTree Place) → Type 0
+ReadsText file = Reads (DerivesIn file)
 
 -- ---- bounds
 
--- a front of the text is lexed in which more brackets are open at once than this many
 abbrev pub PassesNesting : ℕ → List ℕ → Type 0
-PassesNesting limit text = (tokens : List Token) × ((behind : List ℕ) × (LexesFront text tokens behind × (limit < depth tokens)))
+PassesNesting = NestingBound
 
 -- a text would have this file number, which is the last that a file number can be, or passes it
 abbrev pub PassesNumbers : ℕ → Type 0
@@ -30,7 +26,7 @@ PassesNumbers file = 2 ^ 64 ≤ file + 1
 
 -- a text with this number passes no bound
 pub record WithinBounds (nesting file : ℕ) (text : List ℕ) : Type 0 where
-  pub nests : PassesNesting nesting text → ⊥
+  pub nests : NestingBound nesting text → ⊥
   pub numbered : PassesNumbers file → ⊥
 
 -- The text with this file number is read.

@@ -3,9 +3,10 @@
 ghost use Rattle.std.specs.Prelude.{◌≡◌, ◌<◌, ℕ, length, IfOk, IfErr, OnOk};
 ghost use Rattle.graphql_definitions.specs.DefinitionTree.{document_tree};
 ghost use Rattle.graphql_read.specs.in_grammar.Faults as faults;
+ghost use Rattle.graphql_read.specs.Reads.{NestingBound};
 ghost use Rattle.graphql_read.specs.ReadFaults.{fault_at, fault_view};
 ghost use Rattle.graphql_read.specs.declared.fault.ReadFault.TheVariants.{Nesting};
-ghost use Rattle.graphql_thin.specs.ReadText.{ReadsText, PassesNesting};
+ghost use Rattle.graphql_thin.specs.ReadText.{ReadsText};
 ghost use Rattle.graphql_thin.specs.Unread.{IsUnread, TellsUnread};
 
 use crate::faults::Details;
@@ -18,7 +19,7 @@ use std::alloc::Global;
 /// Reads a text with this file number, with at most `nesting` brackets open at once.
 pub fn read(alloc: Global, text: &str, file: FileId, nesting: usize) -> Result<Document, Unread>
     ensures tree { IfOk result (λ d. ReadsText file.0 text.now (document_tree d)) }
-    ensures within { OnOk result (PassesNesting nesting text.now → ⊥) }
+    ensures within { OnOk result (NestingBound nesting text.now → ⊥) }
     ensures unread { IfErr result (IsUnread nesting file.0 text.now) }
 {
     match parse_document(alloc, text, file, nesting) {

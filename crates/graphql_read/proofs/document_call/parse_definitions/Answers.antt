@@ -2,9 +2,10 @@ use Rattle.std.proofs.Common.{refl, sym, subst, ◌∙◌}
 use Rattle.graphql_grammar.specs.Grammar.{Derives}
 use Rattle.graphql_grammar.proofs.Documents.{document_parses}
 use Rattle.graphql_parse_operations.specs.in_parse_values.Meanings.{in_file}
-use Rattle.graphql_read.specs.ReadFaults.{definitions_tree}
+use Rattle.graphql_read.specs.ReadFaults.{fault_view, definitions_tree}
 use Rattle.graphql_read.specs.Reads.{IsDue}
 use Rattle.graphql_read.proofs.Texts.{begins, found, only, memory, due}
+use Rattle.graphql_read.proofs.Bounds.{not_passed, stands_in, passes_bound}
 use Rattle.graphql_read.proofs.document_call.parse_definitions.Goals as goal
 
 pub returns-in-Ok-clause-found : goal.returns-in-Ok-clause-found
@@ -20,3 +21,12 @@ pub returns-in-Err-clause-fault : goal.returns-in-Err-clause-fault
 returns-in-Err-clause-fault c =
     subst (IsDue (Derives (in_file c.args.file)) c.args.nesting c.args.text.now) (sym c.fault.ensures)
     (due (document_parses (in_file c.args.file)) refl c.args.nesting c.args.text.now c.new-tokens.result (begins c.args.text.now c.new-tokens.result c.new-tokens.ensures.shows) c.new-tokens.ensures.lexed c.in-Err.stop c.whole_document.new.tokens c.in-Err.ensures)
+
+pub returns-in-Err-clause-within : goal.returns-in-Err-clause-within
+returns-in-Err-clause-within c = stands_in (Derives (in_file c.args.file)) c.args.nesting c.args.text.now (fault_view c.fault.result) (returns-in-Err-clause-fault c)
+
+pub returns-in-Ok-clause-bound : goal.returns-in-Ok-clause-bound
+returns-in-Ok-clause-bound c = not_passed (Derives (in_file c.args.file)) c.args.nesting c.args.text.now (definitions_tree c.in-Ok.found) (returns-in-Ok-clause-found c)
+
+pub returns-in-Err-clause-bound : goal.returns-in-Err-clause-bound
+returns-in-Err-clause-bound c = passes_bound (Derives (in_file c.args.file)) c.args.nesting c.args.text.now c.fault.result (returns-in-Err-clause-fault c)

@@ -20,4 +20,4 @@ pub returns-clause-only : goal.returns-clause-only
 returns-clause-only c = λ tree d. c.in_ok-definitions.ensures.only tree d
 
 pub returns-clause-sound : goal.returns-clause-sound
-returns-clause-sound c = document_sound c.args.file c.args.nesting c.args.text.now (definitions_tree c.in_ok-definitions.definitions) c.in_ok-definitions.ensures.found
+returns-clause-sound c = document_sound c.args.file c.args.text.now (definitions_tree c.in_ok-definitions.definitions) c.in_ok-definitions.ensures.found.reads

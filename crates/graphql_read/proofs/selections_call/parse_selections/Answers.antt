@@ -2,9 +2,10 @@ use Rattle.std.proofs.Common.{refl, sym, subst, ◌∙◌}
 use Rattle.graphql_grammar.specs.Grammar.{DerivesSelections}
 use Rattle.graphql_grammar.proofs.Operations.{selections_parses}
 use Rattle.graphql_parse_operations.specs.in_parse_values.Meanings.{in_file}
-use Rattle.graphql_read.specs.ReadFaults.{selections_tree}
+use Rattle.graphql_read.specs.ReadFaults.{fault_view, selections_tree}
 use Rattle.graphql_read.specs.Reads.{IsDue}
 use Rattle.graphql_read.proofs.Texts.{begins, found, only, memory, due}
+use Rattle.graphql_read.proofs.Bounds.{not_passed, stands_in, passes_bound}
 use Rattle.graphql_read.proofs.Soundness.{selections_sound}
 use Rattle.graphql_read.proofs.selections_call.parse_selections.Goals as goal
 
@@ -23,4 +24,13 @@ returns-in-Err-clause-fault c =
     (due (selections_parses (in_file c.args.file)) refl c.args.nesting c.args.text.now c.new-tokens.result (begins c.args.text.now c.new-tokens.result c.new-tokens.ensures.shows) c.new-tokens.ensures.lexed c.in-Err.stop c.whole_selections.new.tokens c.in-Err.ensures)
 
 pub returns-in-Ok-clause-sound : goal.returns-in-Ok-clause-sound
-returns-in-Ok-clause-sound c = selections_sound c.args.file c.args.nesting c.args.text.now (selections_tree c.in-Ok.found) (found (selections_parses (in_file c.args.file)) refl c.args.nesting c.args.text.now c.new-tokens.result (begins c.args.text.now c.new-tokens.result c.new-tokens.ensures.shows) c.new-tokens.ensures.lexed (selections_tree c.in-Ok.found) c.whole_selections.new.tokens c.in-Ok.ensures)
+returns-in-Ok-clause-sound c = selections_sound c.args.file c.args.text.now (selections_tree c.in-Ok.found) (returns-in-Ok-clause-found c).reads
+
+pub returns-in-Err-clause-within : goal.returns-in-Err-clause-within
+returns-in-Err-clause-within c = stands_in (DerivesSelections (in_file c.args.file)) c.args.nesting c.args.text.now (fault_view c.fault.result) (returns-in-Err-clause-fault c)
+
+pub returns-in-Ok-clause-bound : goal.returns-in-Ok-clause-bound
+returns-in-Ok-clause-bound c = not_passed (DerivesSelections (in_file c.args.file)) c.args.nesting c.args.text.now (selections_tree c.in-Ok.found) (returns-in-Ok-clause-found c)
+
+pub returns-in-Err-clause-bound : goal.returns-in-Err-clause-bound
+returns-in-Err-clause-bound c = passes_bound (DerivesSelections (in_file c.args.file)) c.args.nesting c.args.text.now c.fault.result (returns-in-Err-clause-fault c)

@@ -4,7 +4,9 @@ use Rattle.graphql_grammar.specs.Grammar.{DerivesType}
 use Rattle.graphql_read.proofs.Symbols.{any_type_parses}
 use Rattle.graphql_parse_operations.specs.in_parse_values.Meanings.{in_file}
 use Rattle.graphql_read.specs.Reads.{IsDue}
+use Rattle.graphql_read.specs.ReadFaults.{fault_view}
 use Rattle.graphql_read.proofs.Texts.{begins, found, only, memory, due}
+use Rattle.graphql_read.proofs.Bounds.{not_passed, stands_in, passes_bound}
 use Rattle.graphql_read.proofs.Soundness.{type_sound}
 use Rattle.graphql_read.proofs.type_call.parse_type.Goals as goal
 
@@ -23,4 +25,13 @@ returns-in-Err-clause-fault c =
     (due (any_type_parses (in_file c.args.file)) refl c.args.nesting c.args.text.now c.new-tokens.result (begins c.args.text.now c.new-tokens.result c.new-tokens.ensures.shows) c.new-tokens.ensures.lexed c.in-Err.stop c.whole_type.new.tokens c.in-Err.ensures)
 
 pub returns-in-Ok-clause-sound : goal.returns-in-Ok-clause-sound
-returns-in-Ok-clause-sound c = type_sound c.args.file c.args.nesting c.args.text.now (type_tree c.in-Ok.found) (found (any_type_parses (in_file c.args.file)) refl c.args.nesting c.args.text.now c.new-tokens.result (begins c.args.text.now c.new-tokens.result c.new-tokens.ensures.shows) c.new-tokens.ensures.lexed (type_tree c.in-Ok.found) c.whole_type.new.tokens c.in-Ok.ensures)
+returns-in-Ok-clause-sound c = type_sound c.args.file c.args.text.now (type_tree c.in-Ok.found) (returns-in-Ok-clause-found c).reads
+
+pub returns-in-Err-clause-within : goal.returns-in-Err-clause-within
+returns-in-Err-clause-within c = stands_in (DerivesType (in_file c.args.file)) c.args.nesting c.args.text.now (fault_view c.fault.result) (returns-in-Err-clause-fault c)
+
+pub returns-in-Ok-clause-bound : goal.returns-in-Ok-clause-bound
+returns-in-Ok-clause-bound c = not_passed (DerivesType (in_file c.args.file)) c.args.nesting c.args.text.now (type_tree c.in-Ok.found) (returns-in-Ok-clause-found c)
+
+pub returns-in-Err-clause-bound : goal.returns-in-Err-clause-bound
+returns-in-Err-clause-bound c = passes_bound (DerivesType (in_file c.args.file)) c.args.nesting c.args.text.now c.fault.result (returns-in-Err-clause-fault c)
