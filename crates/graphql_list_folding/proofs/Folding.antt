@@ -3,18 +3,18 @@ use Rattle.std.proofs.Common.{◌≡◌, ◌⊎◌, ℕ, List, [], ◌∷◌, �
 use Rattle.std.specs.Prelude.{◌↔◌}
 use Rattle.std.proofs.lemmas.List.{take-map, drop-map, take_at, drop_at}
 use Rattle.graphql_names.specs.Placed.{Place}
-use Rattle.graphql_schema_folding.proofs.in_components.Places.{not_in_nil, Contains-first}
-use Rattle.graphql_schema_folding.specs.in_schema_types.SchemaTree.{SchemaTree}
-use Rattle.graphql_schema_folding.specs.in_folding.Listed.{Definitions, Listed, numbered}
+use Rattle.graphql_folding.proofs.in_components.Places.{not_in_nil, Contains-first}
+use Rattle.graphql_folding.specs.in_schema_types.SchemaTree.{SchemaTree}
+use Rattle.graphql_folding.specs.Listed.{Definitions, Listed, numbered}
 use Rattle.graphql_built_in.specs.Table.{built_in_definitions}
-use Rattle.graphql_schema_folding.specs.in_folding.BuildErrors.{Fault, Fails, FoldingRules, Somewhere, DirectiveDefinitionCollisionAt, DuplicateRootOperationIn}
-use Rattle.graphql_schema_folding.specs.in_folding.Fold.{folded_directives, folded_types}
+use Rattle.graphql_folding.specs.BuildErrors.{Fault, Fails, FoldingRules, Somewhere, DirectiveDefinitionCollisionAt, DuplicateRootOperationIn}
+use Rattle.graphql_folding.specs.Fold.{folded_directives, folded_types}
 use Rattle.graphql_schema_folding.specs.ListFold.{definitions_of, IsFoldOf, TellsRoots}
 use Rattle.graphql_schema_folding.proofs.Listing.{definitions_numbered}
 use Rattle.graphql_schema_folding.specs.DirectiveFold.{TellsDirectives}
-use Rattle.graphql_schema_folding.specs.TypeFaults.{FailsInType}
-use Rattle.graphql_schema_folding.specs.Misplaced.{Misplaced, TellsMisplaced}
-use Rattle.graphql_schema_folding.proofs.FailsIs.{FailsInParts, fails_is}
+use Rattle.graphql_type_folding.specs.TypeFaults.{FailsInType}
+use Rattle.graphql_type_folding.specs.Misplaced.{Misplaced, TellsMisplaced}
+use Rattle.graphql_type_folding.proofs.FailsIs.{FailsInParts, fails_is}
 use Rattle.graphql_list_folding.specs.ListBuilt.{FoldsParts, Folds}
 
 -- a fault that is told by the four calls in turn is one of the four parts

@@ -1,3 +1,3 @@
 pub mod Folding
-pub use Rattle.graphql_schema_folding.proofs as in_schema_folding
-pub use Rattle.graphql_schema_folding.proofs.in_schema_types as in_schema_types
+pub mod BuiltIn
+pub use Rattle.graphql_type_folding.proofs as in_type_folding

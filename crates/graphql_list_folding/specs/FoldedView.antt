@@ -1,7 +1,7 @@
 -- What contracts see of what a list folds to.
 use Rattle.graphql_names.specs.Placed.{Place}
-use Rattle.graphql_schema_folding.specs.in_schema_types.SchemaTree.{SchemaTree}
-use Rattle.graphql_schema_folding.specs.in_schema_types.SchemaView.{schema_view}
+use Rattle.graphql_folding.specs.in_schema_types.SchemaTree.{SchemaTree}
+use Rattle.graphql_folding.specs.in_schema_types.SchemaView.{schema_view}
 use Rattle.graphql_list_folding.specs.declared.fold.Folded.{Folded}
 
 abbrev pub folded_view : Folded → SchemaTree Place

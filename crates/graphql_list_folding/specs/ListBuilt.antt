@@ -1,11 +1,11 @@
 -- What a whole list with its numbers builds (private: it leads to `specs/Building.antt`).
 use Rattle.std.specs.Prelude.{◌≡◌, ◌↔◌, ℕ, List, ◌++◌, length, Contains}
 use Rattle.graphql_names.specs.Placed.{Place}
-use Rattle.graphql_schema_folding.specs.in_schema_types.SchemaTree.{SchemaTree}
-use Rattle.graphql_schema_folding.specs.in_folding.Listed.{Definitions, Listed, numbered}
+use Rattle.graphql_folding.specs.in_schema_types.SchemaTree.{SchemaTree}
+use Rattle.graphql_folding.specs.Listed.{Definitions, Listed, numbered}
 use Rattle.graphql_built_in.specs.Table.{built_in_definitions}
-use Rattle.graphql_schema_folding.specs.in_folding.BuildErrors.{Fault, Fails}
-use Rattle.graphql_schema_folding.specs.in_folding.Fold.{fold}
+use Rattle.graphql_folding.specs.BuildErrors.{Fault, Fails}
+use Rattle.graphql_folding.specs.Fold.{fold}
 use Rattle.graphql_schema_folding.specs.ListFold.{definitions_of}
 
 -- where the list is that of what is built in and of some texts, this is what they fold to, with their faults

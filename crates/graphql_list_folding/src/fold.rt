@@ -1,16 +1,15 @@
 //! What a whole list folds to, with its faults.
 ghost use Rattle.std.specs.Prelude.{◌≡◌, ◌≤◌, [], length, map, IfOk};
-ghost use Rattle.graphql_schema_folding.specs.in_folding.FaultView.{faults_of};
-ghost use Rattle.graphql_schema_folding.specs.in_folding.ListedView.{listed_view};
+ghost use Rattle.graphql_folding.specs.FaultView.{faults_of};
+ghost use Rattle.graphql_folding.specs.ListedView.{listed_view};
 ghost use Rattle.graphql_list_folding.specs.FoldedView.{folded_view};
 ghost use Rattle.graphql_list_folding.specs.ListBuilt.{Folds};
 
 use graphql_directives::DirectiveDefinition;
+use graphql_folding::{BuildError, ExtendedType, Listed, SchemaDefinition};
 use graphql_names::{Name, Node, SourceSpan};
-use graphql_schema_folding::{
-    BuildError, ExtendedType, Listed, SchemaDefinition, fold_directives, fold_schema, fold_types,
-    tell_misplaced,
-};
+use graphql_schema_folding::{fold_directives, fold_schema};
+use graphql_type_folding::{fold_types, tell_misplaced};
 use indexmap::IndexMap;
 use std::alloc::{AllocError, Global};
 

@@ -7,8 +7,5 @@
 mod fold;
 
 pub use fold::{Folded, fold_list};
-pub use graphql_built_in::{built_in_definitions, schema_field, type_field, typename_field};
-pub use graphql_schema_folding::{
-    BuildError, Definition, Document, ExtendedType, Listed, Parts, SchemaDefinition, SourceFile,
-    TypeKind, extension_parts, first_schema, is_object, schema_extension, type_definition,
-};
+pub use graphql_built_in::{schema_field, type_field, typename_field};
+pub use graphql_folding::BuildError;

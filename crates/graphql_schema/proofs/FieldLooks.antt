@@ -11,35 +11,14 @@ use Rattle.graphql_type_members.specs.TypeSystemTree.{FieldDefinitionTree, unpla
 use Rattle.graphql_schema_building.specs.in_built_in.MetaFields.{meta_field_of}
 use Rattle.graphql_schema_building.specs.in_schema_types.SchemaTree.{SchemaType, SchemaTree}
 use Rattle.graphql_schema_building.specs.in_schema_types.Addresses.{under}
+use Rattle.graphql_schema_building.proofs.in_schema_types.UnderNames.{get_under}
 use Rattle.graphql_schema_building.specs.in_schema_types.Plain.{plain, plain_type}
 use Rattle.graphql_schema_building.specs.in_schema_types.Looks.{looks, type_looks}
-use Rattle.graphql_components.specs.Names.{Entries, by_bytes, named}
 use Rattle.graphql_components.specs.Given.{Given, given_name, plain_given}
 use Rattle.graphql_schema.specs.MetaField.{by_definition}
 use Rattle.graphql_schema.specs.LookUps.{is_composite_kind, meta_field_on}
 use Rattle.graphql_schema.specs.LookUps as look_up
 use Rattle.graphql_schema.specs.FieldLooks.{field_on, FieldsArePlain}
-
-module _ {A B : Type 0} (f : A → B) (n : List ℕ) where
-  abbrev mapped : Entries A → Entries B
-  mapped es = map (λ e. (e.0, f e.1)) es
-
-  found : (es : Entries A) → fin.find by_bytes n (mapped es) ≡ option_map f (under n es)
-  found [] = refl
-  found (e ∷ es) = by (bytes_eq n e.0) refl (found es)
-    where
-      by : (b : Bool) → bytes_eq n e.0 ≡ b → fin.find by_bytes n (mapped es) ≡ option_map f (under n es) → fin.find by_bytes n (mapped (e ∷ es)) ≡ option_map f (under n (e ∷ es))
-      by true t rest =
-          ap (λ b. cond b (Some (f e.1)) (fin.find by_bytes n (mapped es))) (sym (texts_ties n e.0) ∙ t)
-          ∙ sym (ap (λ b. option_map f (option_map (λ (x : List ℕ × A). x.1) (if b then Some e else find (λ (x : List ℕ × A). bytes_eq n x.0) es))) t)
-      by false t rest =
-          ap (λ b. cond b (Some (f e.1)) (fin.find by_bytes n (mapped es))) (sym (texts_ties n e.0) ∙ t)
-          ∙ rest
-          ∙ sym (ap (λ b. option_map f (option_map (λ (x : List ℕ × A). x.1) (if b then Some e else find (λ (x : List ℕ × A). bytes_eq n x.0) es))) t)
-
-  -- what stands first under a name is what the finite map has under it
-  pub get_under : (es : Entries A) → fin.get (named f es) n ≡ option_map f (under n es)
-  get_under es = fin.get-from_entries nat_list_cmp_total (mapped es) n ∙ found es
 
 map_or : {A B : Type 0} (f : A → B) (a b : Option A) → option_map f (option_or a b) ≡ option_or (option_map f a) (option_map f b)
 map_or f None b = refl

@@ -28,7 +28,7 @@ pub use Rattle.graphql_schema_building.specs.in_folding.Messages
 pub use Rattle.graphql_schema_building.specs.in_folding.Adoption
 pub use Rattle.graphql_schema_building.specs.in_built_in.Table
 pub use Rattle.graphql_schema_building.specs.in_built_in.MetaFields
-pub use Rattle.graphql_schema_building.specs.in_schema_folding.OwnNames
+pub use Rattle.graphql_list_folding.specs.in_type_folding.OwnNames
 pub use Rattle.graphql_schema_building.specs.BuilderValue
 pub use Rattle.graphql_schema_building.specs.Building
 pub use Rattle.graphql_schema_building.specs.Numbers

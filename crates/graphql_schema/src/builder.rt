@@ -1,24 +1,27 @@
 //! The builder of schemas.
-ghost use Rattle.std.specs.Prelude.{◌≡◌, ◌↔◌, ◌++◌, [], true, false, IfOk, IfErr, OnOk, Contains};
+ghost use Rattle.std.specs.Prelude.{◌≡◌, ◌≤◌, ◌↔◌, ◌++◌, [], true, false, length, map, IfOk, IfErr, OnOk, Contains};
 ghost use Rattle.graphql_schema_writing.specs.in_definitions.DefinitionTree.{document_tree};
 ghost use Rattle.graphql_schema_writing.specs.in_definitions.Sources.{sources_of};
 ghost use Rattle.graphql_schema_building.specs.in_built_in.Table.{built_in_definitions};
 ghost use Rattle.graphql_schema_building.specs.in_folding.BuildErrors.{FoldingRules};
 ghost use Rattle.graphql_schema_building.specs.in_folding.FaultView.{faults_of};
 ghost use Rattle.graphql_schema_building.specs.in_folding.Fold.{fold};
+ghost use Rattle.graphql_schema_building.specs.in_folding.ListedView.{listed_view};
 ghost use Rattle.graphql_schema_building.specs.Building.{plain_settings, counted, folded, FailsIn, lent_names, IsAddRefusal, IsBuildRefusal};
 ghost use Rattle.graphql_schema_building.specs.Numbers.{HaveNumbers};
 ghost use Rattle.graphql_schema_building.specs.SourcesView.{sources_view, with_sources};
 ghost use Rattle.graphql_schema_building.specs.Waiting.{left_names};
-ghost use Rattle.graphql_schema_building.specs.in_schema_folding.OwnNames.{UnderOwnNames};
+ghost use Rattle.graphql_list_folding.specs.ListBuilt.{Folds};
+ghost use Rattle.graphql_list_folding.specs.in_type_folding.OwnNames.{UnderOwnNames};
 ghost use Rattle.graphql_schema.specs.BuilderOf.{builder_value};
 ghost use Rattle.graphql_schema.specs.SchemaOf.{schema_tree};
 
 use crate::meta_fields::MetaFields;
 use crate::schema::Schema;
 use graphql_components::Extensions;
+use graphql_list_folding::{BuildError, fold_list};
 use graphql_names::SourceSpan;
-use graphql_schema_building::{BuildError, BuilderRefusal, Building, OrphanExtensionTypes};
+use graphql_schema_building::{BuilderRefusal, Building, OrphanExtensionTypes, SettledList};
 use graphql_schema_writing::Document;
 use std::alloc::{AllocError, Global};
 
@@ -104,25 +107,19 @@ impl SchemaBuilder {
         ensures faultless { IfOk result (λ r. (faults_of r.1 ≡ []) ↔ FoldingRules built_in_definitions (builder_value self).first (counted (builder_value self))) }
         ensures refused { IfErr result (IsBuildRefusal (builder_value self)) }
     {
-        let (built, faults) = self.building.build()?;
-        let meta_fields = MetaFields::new(self.alloc)?;
-        let schema = Schema {
-            sources: built.sources,
-            schema_definition: built.schema_definition,
-            directive_definitions: built.directive_definitions,
-            types: built.types,
-            meta_fields,
-        };
-        Ok((schema, faults))
+        let settled = self.building.settle()?;
+        let built = fold_settled(self.alloc, settled)?;
+        Ok(built)
     }
 }
 
 impl Schema {
-    /// The schema of what is built in alone. It has no root.
+    /// The schema of what is built in alone. It has no root, and breaks no folding rule: no fault is left out.
     pub fn new(alloc: Global) -> Result<Schema, AllocError>
         ensures schema { IfOk result (λ s. schema_tree s ≡ fold built_in_definitions 1 []) }
         ensures own_names { IfOk result (λ s. UnderOwnNames (schema_tree s)) }
         ensures sources { IfOk result (λ s. sources_view s.sources ≡ []) }
+        ensures rules { IfOk result (λ s. FoldingRules built_in_definitions 1 []) }
     {
         match Schema::builder(alloc).build() {
             Ok((schema, _)) => Ok(schema),
@@ -136,4 +133,31 @@ impl Schema {
     {
         SchemaBuilder::new(alloc)
     }
+}
+
+/// The schema that a list folds to, with each way in which a folding rule is broken.
+fn fold_settled(
+    alloc: Global,
+    settled: SettledList,
+) -> Result<(Schema, Vec<(Option<SourceSpan>, BuildError)>), AllocError>
+    requires { settled.built_in ≤ length settled.list.items }
+    ensures folds { IfOk result (λ r. Folds (map listed_view settled.list.items) settled.built_in (schema_tree r.0) (faults_of r.1)) }
+    ensures sources { IfOk result (λ r. sources_view r.0.sources ≡ sources_view settled.sources) }
+{
+    let SettledList {
+        sources,
+        list,
+        built_in,
+    } = settled;
+    let mut faults = Vec::new(alloc);
+    let folded = fold_list(alloc, &list, built_in, &mut faults)?;
+    let meta_fields = MetaFields::new(alloc)?;
+    let schema = Schema {
+        sources,
+        schema_definition: folded.schema_definition,
+        directive_definitions: folded.directive_definitions,
+        types: folded.types,
+        meta_fields,
+    };
+    Ok((schema, faults))
 }

@@ -7,8 +7,8 @@
 //! (`builder.rt`), and `to_ast` gives the definitions that are written of a schema.
 //!
 //! Types and components stand in `graphql_schema_types` and `graphql_components`, a builder's state in
-//! `graphql_schema_building`, the write-out in `graphql_schema_writing`; here are the whole schema, and the names of
-//! everything that a caller needs. Begin with `schema.rt` and `builder.rt`.
+//! `graphql_schema_building`, the fold in `graphql_list_folding`, the write-out in `graphql_schema_writing`; here are
+//! the whole schema, and the names of everything that a caller needs. Begin with `schema.rt` and `builder.rt`.
 #![tactic(auto)]
 
 mod builder;
@@ -28,7 +28,8 @@ pub use graphql_components::{
     Component, ComponentName, ComponentOrigin, DirectiveList, ExtensionId, Extensions,
     NamedComponents,
 };
-pub use graphql_schema_building::{BuildError, BuilderRefusal, OrphanExtensionTypes};
+pub use graphql_list_folding::BuildError;
+pub use graphql_schema_building::{BuilderRefusal, OrphanExtensionTypes};
 pub use graphql_schema_writing::{
     EnumType, ExtendedType, InputObjectType, InterfaceType, ObjectType, Origins, RootOperations,
     ScalarType, SchemaDefinition, TypeKind, UnionType,

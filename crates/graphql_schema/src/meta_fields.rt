@@ -7,8 +7,8 @@ ghost use Rattle.graphql_components.specs.Given.{component_tree};
 ghost use Rattle.graphql_schema.specs.MetaField.{by_definition};
 
 use graphql_components::{Component, ComponentOrigin};
+use graphql_list_folding::{schema_field, type_field, typename_field};
 use graphql_names::Name;
-use graphql_schema_building::{schema_field, type_field, typename_field};
 use graphql_type_members::FieldDefinition;
 use std::alloc::{AllocError, Global};
 use std::marker::Model;

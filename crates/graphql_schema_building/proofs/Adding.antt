@@ -2,10 +2,10 @@
 use Rattle.std.proofs.Common.{◌≡◌, ℕ, ◌+◌, ◌<◌, ◌≤◌, ◌^◌, Bool, true, false, [], ◌∷◌, ◌++◌, None, Some, refl, sym, ap, subst, ◌∙◌, cond, if◌then◌else◌, true≢false, arith}
 use Rattle.std.proofs.lemmas.List.{append_assoc, append-nil}
 use Rattle.graphql_names.specs.Placed.{Place}
-use Rattle.graphql_list_folding.specs.in_definitions.DefinitionTree.{DefinitionTree}
-use Rattle.graphql_list_folding.specs.in_definitions.Queries.{is_extension, definition_place}
+use Rattle.graphql_folding.specs.in_definitions.DefinitionTree.{DefinitionTree}
+use Rattle.graphql_folding.specs.in_definitions.Queries.{is_extension, definition_place}
 use Rattle.graphql_components.proofs.Places.{each_place-push}
-use Rattle.graphql_list_folding.specs.in_folding.Listed.{Definitions, Listed, listed}
+use Rattle.graphql_folding.specs.Listed.{Definitions, Listed, listed}
 use Rattle.graphql_schema_building.specs.Numbers.{extension_count, HaveNumbers}
 use Rattle.graphql_schema_building.specs.TextsView.{TextsView}
 use Rattle.graphql_schema_building.specs.TextsList.{IsListOf, Adds, IsListRefusal}

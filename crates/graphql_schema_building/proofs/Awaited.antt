@@ -9,10 +9,10 @@ use Rattle.std.proofs.lemmas.Slice.Eq.{bytes_eq-Decides}
 use Rattle.graphql_names.specs.Placed.{Place}
 use Rattle.graphql_components.specs.Lists.{each_place_after, firsts, has_name, is_among}
 use Rattle.graphql_components.proofs.Firsts.{is_some-firsts}
-use Rattle.graphql_list_folding.specs.in_schema_types.TypeParts.{TypeDefinition, type_here}
-use Rattle.graphql_list_folding.specs.in_folding.Listed.{Definitions, type_name, types_in, type_named}
-use Rattle.graphql_list_folding.specs.in_folding.Adoption.{orphans}
-use Rattle.graphql_list_folding.specs.in_built_in.Table.{built_in_definitions}
+use Rattle.graphql_folding.specs.in_schema_types.TypeParts.{TypeDefinition, type_here}
+use Rattle.graphql_folding.specs.Listed.{Definitions, type_name, types_in, type_named}
+use Rattle.graphql_folding.specs.Adoption.{orphans}
+use Rattle.graphql_built_in.specs.Table.{built_in_definitions}
 use Rattle.graphql_schema_building.specs.Noted.{named_kind, kind_view, parts_key, first_kinds, extended_in, defined_in, IsNoteOf}
 use Rattle.graphql_schema_building.specs.Waiting.{is_orphan_in, orphan_kinds}
 use Rattle.graphql_schema_building.specs.declared.orphans.Orphans.{Orphans}

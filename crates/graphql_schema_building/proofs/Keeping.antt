@@ -2,12 +2,12 @@
 use Rattle.std.proofs.Common.{◌≡◌, ℕ, true, false, List, [], ◌∷◌, ◌++◌, map, refl, sym, ap, subst, ◌∙◌, arith}
 use Rattle.graphql_names.specs.Placed.{Place}
 use Rattle.graphql_components.specs.Lists.{firsts}
-use Rattle.graphql_list_folding.specs.in_schema_types.TypeParts.{TypeParts}
-use Rattle.graphql_list_folding.specs.in_folding.Adoption.{orphans, settled, Settings}
-use Rattle.graphql_list_folding.specs.in_built_in.Table.{built_in_definitions}
-use Rattle.graphql_list_folding.specs.in_folding.Listed.{Definitions, Listed, numbered}
-use Rattle.graphql_list_folding.specs.in_schema_folding.ListFold.{definitions_of}
-use Rattle.graphql_list_folding.proofs.in_schema_folding.Listing.{definitions_numbered}
+use Rattle.graphql_folding.specs.in_schema_types.TypeParts.{TypeParts}
+use Rattle.graphql_folding.specs.Adoption.{orphans, settled, Settings}
+use Rattle.graphql_built_in.specs.Table.{built_in_definitions}
+use Rattle.graphql_folding.specs.Listed.{Definitions, Listed, numbered}
+use Rattle.graphql_schema_building.specs.DefinitionsOf.{definitions_of}
+use Rattle.graphql_schema_building.proofs.Numbering.{definitions_numbered}
 use Rattle.graphql_schema_building.specs.Building.{orphan_names, IsAddRefusal}
 use Rattle.graphql_schema_building.specs.BuilderValue.{BuilderValue}
 use Rattle.graphql_schema_building.specs.BuildingView.{builder_view}

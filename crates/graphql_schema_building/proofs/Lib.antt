@@ -7,5 +7,4 @@ pub mod Settled
 pub mod Growing
 pub mod Keeping
 pub mod Schemas
-pub use Rattle.graphql_list_folding.proofs.in_schema_types as in_schema_types
-pub use Rattle.graphql_list_folding.proofs.in_schema_folding as in_schema_folding
+pub use Rattle.graphql_folding.proofs.in_schema_types as in_schema_types

@@ -6,10 +6,10 @@ use Rattle.std.specs.Str.{bytes_eq}
 use Rattle.graphql_names.specs.NameValue.{NameValue}
 use Rattle.graphql_names.specs.Placed.{Place}
 use Rattle.graphql_components.proofs.Firsts.{kept_seen, kept_new}
-use Rattle.graphql_list_folding.specs.in_schema_types.TypeParts.{TypeParts}
-use Rattle.graphql_list_folding.specs.in_schema_types.declared.type_kind.TypeKind.{TypeKind}
+use Rattle.graphql_folding.specs.in_schema_types.TypeParts.{TypeParts}
+use Rattle.graphql_folding.specs.in_schema_types.declared.type_kind.TypeKind.{TypeKind}
 use Rattle.graphql_schema_building.specs.Noted.{NamedKind, IsNoteOf, Notes, named_kind, kind_view, parts_key, first_kinds}
-use Rattle.graphql_list_folding.specs.in_folding.Listed.{Definitions}
+use Rattle.graphql_folding.specs.Listed.{Definitions}
 use Rattle.graphql_schema_building.specs.declared.orphans.Orphans.{Orphans}
 
 pub none_of : {A : Type 0} (o : Option A) → is_some o ≡ false → o ≡ None

@@ -3,12 +3,21 @@ use Rattle.std.proofs.Common.{◌≡◌, ℕ, ◌+◌, Bool, true, false, ◌||�
 use Rattle.std.specs.List.{filter, list_any}
 use Rattle.std.proofs.lemmas.List.{append_assoc, append-nil}
 use Rattle.graphql_names.specs.Placed.{Place}
-use Rattle.graphql_list_folding.specs.in_definitions.DefinitionTree.{DefinitionTree}
-use Rattle.graphql_list_folding.specs.in_definitions.Queries.{is_extension, definition_place}
+use Rattle.graphql_folding.specs.in_definitions.DefinitionTree.{DefinitionTree}
+use Rattle.graphql_folding.specs.in_definitions.Queries.{is_extension, definition_place}
 use Rattle.graphql_components.specs.Lists.{each_place_after}
-use Rattle.graphql_list_folding.specs.in_folding.Listed.{Definitions, Listed, listed}
+use Rattle.graphql_folding.specs.Listed.{Definitions, Listed, listed, numbered}
+use Rattle.graphql_schema_building.specs.DefinitionsOf.{definitions_of}
 use Rattle.graphql_schema_building.specs.Numbers.{extension_count}
 use Rattle.graphql_schema_building.specs.Settling.{unnumbered}
+
+-- numbers change no definition
+definitions_after : (first : ℕ) (before ds : Definitions) → definitions_of (each_place_after (λ b d. listed first b d ∷ []) before ds) ≡ ds
+definitions_after first before [] = refl
+definitions_after first before (d ∷ ds) = ap (λ l. d ∷ l) (definitions_after first (before ++ d ∷ []) ds)
+
+pub definitions_numbered : (first : ℕ) (ds : Definitions) → definitions_of (numbered first ds) ≡ ds
+definitions_numbered first ds = definitions_after first [] ds
 
 pub count_append : (xs ys : Definitions) → extension_count (xs ++ ys) ≡ extension_count xs + extension_count ys
 count_append [] ys = omega arith

@@ -7,19 +7,19 @@ use Rattle.std.proofs.lemmas.List.Folds.{list_any-append}
 use Rattle.std.specs.Str.{bytes_eq}
 use Rattle.std.proofs.lemmas.Slice.Eq.{bytes_eq-Decides}
 use Rattle.graphql_names.specs.Placed.{Place}
-use Rattle.graphql_list_folding.specs.in_definitions.DefinitionTree as tree
-use Rattle.graphql_list_folding.specs.in_definitions.DefinitionTree.{DefinitionTree}
-use Rattle.graphql_list_folding.specs.in_definitions.Queries.{is_extension}
+use Rattle.graphql_folding.specs.in_definitions.DefinitionTree as tree
+use Rattle.graphql_folding.specs.in_definitions.DefinitionTree.{DefinitionTree}
+use Rattle.graphql_folding.specs.in_definitions.Queries.{is_extension}
 use Rattle.graphql_components.specs.Lists.{firsts, has_name}
-use Rattle.graphql_list_folding.specs.in_schema_types.TypeParts.{TypeParts, TypeDefinition, type_here, type_extension_here}
-use Rattle.graphql_list_folding.specs.in_schema_types.declared.type_kind.TypeKind.{TypeKind}
-use Rattle.graphql_list_folding.specs.in_schema_types.declared.type_kind.TypeKind.TheVariants as kind
-use Rattle.graphql_list_folding.specs.in_folding.Listed.{Definitions, Listed, numbered, type_name, types_in, type_named}
-use Rattle.graphql_list_folding.specs.in_folding.SchemaFold.{schema_extension_here, schema_is_defined}
-use Rattle.graphql_list_folding.specs.in_built_in.Table.{built_in_definitions}
-use Rattle.graphql_list_folding.specs.in_folding.Adoption.{Settings, settled, is_redefinition, without_redefinitions, orphans, empty_type, empty_schema, has_orphan_schema, with_types, with_schema}
-use Rattle.graphql_list_folding.specs.in_schema_folding.ListFold.{definitions_of}
-use Rattle.graphql_list_folding.proofs.in_schema_folding.Listing.{definitions_numbered}
+use Rattle.graphql_folding.specs.in_schema_types.TypeParts.{TypeParts, TypeDefinition, type_here, type_extension_here}
+use Rattle.graphql_folding.specs.in_schema_types.declared.type_kind.TypeKind.{TypeKind}
+use Rattle.graphql_folding.specs.in_schema_types.declared.type_kind.TypeKind.TheVariants as kind
+use Rattle.graphql_folding.specs.Listed.{Definitions, Listed, numbered, type_name, types_in, type_named}
+use Rattle.graphql_folding.specs.SchemaFold.{schema_extension_here, schema_is_defined}
+use Rattle.graphql_built_in.specs.Table.{built_in_definitions}
+use Rattle.graphql_folding.specs.Adoption.{Settings, settled, is_redefinition, without_redefinitions, orphans, empty_type, empty_schema, has_orphan_schema, with_types, with_schema}
+use Rattle.graphql_schema_building.specs.DefinitionsOf.{definitions_of}
+use Rattle.graphql_schema_building.proofs.Numbering.{definitions_numbered}
 use Rattle.graphql_schema_building.specs.Noted.{NamedKind, named_kind, parts_key, first_kinds, extended_in}
 use Rattle.graphql_schema_building.specs.Settling.{unnumbered, empty_of, is_kept, adopted_schema, settled_from}
 use Rattle.graphql_schema_building.proofs.Numbering.{after_append, after_same, after_none, after_filter, count_zero}

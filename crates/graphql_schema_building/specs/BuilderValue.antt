@@ -1,8 +1,8 @@
 -- What contracts see of the state of a schema builder.
 use Rattle.std.specs.Prelude.{ℕ, Bool, List}
-use Rattle.graphql_list_folding.specs.in_definitions.Sources.{Source}
-use Rattle.graphql_list_folding.specs.in_folding.Listed.{Definitions}
-use Rattle.graphql_list_folding.specs.in_folding.Adoption.{Settings}
+use Rattle.graphql_folding.specs.in_definitions.Sources.{Source}
+use Rattle.graphql_folding.specs.Listed.{Definitions}
+use Rattle.graphql_folding.specs.Adoption.{Settings}
 
 -- the number from which it counts extensions, all definitions that were added and their sources, in order, its settings,
 -- and whether it has failed; of a builder that has failed nothing else counts

@@ -2,12 +2,12 @@
 use Rattle.std.specs.Prelude.{◌≡◌, true, false, List, [], ◌++◌, map, if◌then◌else◌}
 use Rattle.graphql_names.specs.Placed.{Place, Text}
 use Rattle.graphql_components.specs.Lists.{firsts}
-use Rattle.graphql_list_folding.specs.in_schema_types.SchemaTree.{SchemaTree}
-use Rattle.graphql_list_folding.specs.in_folding.Listed.{Definitions}
-use Rattle.graphql_list_folding.specs.in_folding.Adoption.{Settings, settled, orphans, parts_name}
-use Rattle.graphql_list_folding.specs.in_built_in.Table.{built_in_definitions}
-use Rattle.graphql_list_folding.specs.in_folding.BuildErrors.{Fault, Fails}
-use Rattle.graphql_list_folding.specs.in_folding.Fold.{fold}
+use Rattle.graphql_folding.specs.in_schema_types.SchemaTree.{SchemaTree}
+use Rattle.graphql_folding.specs.Listed.{Definitions}
+use Rattle.graphql_folding.specs.Adoption.{Settings, settled, orphans, parts_name}
+use Rattle.graphql_built_in.specs.Table.{built_in_definitions}
+use Rattle.graphql_folding.specs.BuildErrors.{Fault, Fails}
+use Rattle.graphql_folding.specs.Fold.{fold}
 use Rattle.graphql_schema_building.specs.BuilderValue.{BuilderValue}
 use Rattle.graphql_schema_building.specs.Numbers.{HaveNumbers}
 use Rattle.graphql_schema_building.specs.declared.refusal.BuilderRefusal.{BuilderRefusal}

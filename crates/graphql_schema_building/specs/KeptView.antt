@@ -2,8 +2,8 @@
 use Rattle.std.specs.Prelude.{◌≡◌, ℕ, ◌+◌, ◌-◌, Bool, false, List, map, Option}
 use Rattle.graphql_names.specs.Placed.{Place}
 use Rattle.graphql_components.specs.Given.{ExtensionTree}
-use Rattle.graphql_list_folding.specs.in_folding.Listed.{Definitions, Listed, numbered}
-use Rattle.graphql_list_folding.specs.in_schema_folding.ListFold.{definitions_of}
+use Rattle.graphql_folding.specs.Listed.{Definitions, Listed, numbered}
+use Rattle.graphql_schema_building.specs.DefinitionsOf.{definitions_of}
 use Rattle.graphql_schema_building.specs.Noted.{kinds_view, first_kinds, extended_in, defined_in}
 use Rattle.graphql_schema_building.specs.Numbers.{extension_count, HaveNumbers}
 use Rattle.graphql_schema_building.specs.TextsView.{texts_view}

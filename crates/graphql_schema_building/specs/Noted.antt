@@ -4,9 +4,9 @@ use Rattle.std.specs.List.{flat_map}
 use Rattle.graphql_names.specs.NameValue.{NameValue}
 use Rattle.graphql_names.specs.Placed.{Place, Text, name_tree}
 use Rattle.graphql_components.specs.Lists.{firsts}
-use Rattle.graphql_list_folding.specs.in_schema_types.TypeParts.{TypeParts, type_extension_here}
-use Rattle.graphql_list_folding.specs.in_schema_types.declared.type_kind.TypeKind.{TypeKind}
-use Rattle.graphql_list_folding.specs.in_folding.Listed.{Definitions, types_in}
+use Rattle.graphql_folding.specs.in_schema_types.TypeParts.{TypeParts, type_extension_here}
+use Rattle.graphql_folding.specs.in_schema_types.declared.type_kind.TypeKind.{TypeKind}
+use Rattle.graphql_folding.specs.Listed.{Definitions, types_in}
 use Rattle.graphql_schema_building.specs.declared.orphans.Orphans.{Orphans}
 use Rattle.indexmap.specs.IndexMap.{IndexMap}
 

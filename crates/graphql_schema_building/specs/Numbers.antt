@@ -1,8 +1,8 @@
 -- Whether there are numbers for the extensions of a list.
 use Rattle.std.specs.Prelude.{ℕ, ◌+◌, ◌<◌, ◌^◌, length}
 use Rattle.std.specs.List.{filter}
-use Rattle.graphql_list_folding.specs.in_definitions.Queries.{is_extension}
-use Rattle.graphql_list_folding.specs.in_folding.Listed.{Definitions}
+use Rattle.graphql_folding.specs.in_definitions.Queries.{is_extension}
+use Rattle.graphql_folding.specs.Listed.{Definitions}
 
 -- how many definitions are extensions
 abbrev pub extension_count : Definitions → ℕ

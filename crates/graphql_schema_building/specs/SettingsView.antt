@@ -1,5 +1,5 @@
 -- What contracts see of a builder's settings (private: it leads to `specs/Building.antt`).
-use Rattle.graphql_list_folding.specs.in_folding.Adoption.{Settings}
+use Rattle.graphql_folding.specs.Adoption.{Settings}
 use Rattle.graphql_schema_building.specs.declared.settle.Settings.{Settings as Rust}
 
 abbrev pub settings_view : Rust → Settings

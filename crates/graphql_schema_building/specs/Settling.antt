@@ -2,15 +2,15 @@
 use Rattle.std.specs.Prelude.{Bool, not, ◌&&◌, List, [], ◌∷◌, ◌++◌, map, None, is_some, if◌then◌else◌}
 use Rattle.std.specs.List.{filter, list_any}
 use Rattle.graphql_names.specs.Placed.{Place}
-use Rattle.graphql_list_folding.specs.in_definitions.DefinitionTree.{DefinitionTree}
-use Rattle.graphql_list_folding.specs.in_schema_types.TypeParts.{bare, definition_by}
-use Rattle.graphql_list_folding.specs.in_folding.Listed.{Definitions, Listed}
-use Rattle.graphql_list_folding.specs.in_folding.SchemaFold.{schema_extension_here, schema_is_defined}
-use Rattle.graphql_list_folding.specs.in_folding.Adoption.{Settings, is_redefinition, empty_type, empty_schema, orphans}
-use Rattle.graphql_list_folding.specs.in_built_in.Table.{built_in_definitions}
+use Rattle.graphql_folding.specs.in_definitions.DefinitionTree.{DefinitionTree}
+use Rattle.graphql_folding.specs.in_schema_types.TypeParts.{bare, definition_by}
+use Rattle.graphql_folding.specs.Listed.{Definitions, Listed}
+use Rattle.graphql_folding.specs.SchemaFold.{schema_extension_here, schema_is_defined}
+use Rattle.graphql_folding.specs.Adoption.{Settings, is_redefinition, empty_type, empty_schema, orphans}
+use Rattle.graphql_built_in.specs.Table.{built_in_definitions}
 use Rattle.graphql_components.specs.Lists.{firsts}
 use Rattle.graphql_schema_building.specs.Noted.{NamedKind, parts_key}
-use Rattle.graphql_list_folding.specs.in_schema_folding.ListFold.{definitions_of}
+use Rattle.graphql_schema_building.specs.DefinitionsOf.{definitions_of}
 
 -- a definition that is no extension
 abbrev pub unnumbered : DefinitionTree Place → Listed

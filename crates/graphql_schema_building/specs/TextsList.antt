@@ -1,6 +1,6 @@
 -- The definitions of texts with their numbers (private: it leads to `specs/Building.antt`).
 use Rattle.std.specs.Prelude.{◌≡◌, ℕ, ◌+◌, ◌++◌}
-use Rattle.graphql_list_folding.specs.in_folding.Listed.{Definitions, numbered}
+use Rattle.graphql_folding.specs.Listed.{Definitions, numbered}
 use Rattle.graphql_schema_building.specs.Numbers.{extension_count, HaveNumbers}
 use Rattle.graphql_schema_building.specs.declared.refusal.BuilderRefusal.{BuilderRefusal}
 use Rattle.graphql_schema_building.specs.declared.refusal.BuilderRefusal.TheVariants.{Memory, Spent, Failed}

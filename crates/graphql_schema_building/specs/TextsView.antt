@@ -1,7 +1,7 @@
 -- What contracts see of the list of the texts' definitions (private: it leads to `specs/Building.antt`).
 use Rattle.std.specs.Prelude.{ℕ, List, map}
-use Rattle.graphql_list_folding.specs.in_folding.Listed.{Listed}
-use Rattle.graphql_list_folding.specs.in_folding.ListedView.{listed_view}
+use Rattle.graphql_folding.specs.Listed.{Listed}
+use Rattle.graphql_folding.specs.ListedView.{listed_view}
 use Rattle.graphql_schema_building.specs.declared.texts.Texts.{Texts}
 
 -- the number that the next extension gets, and the definitions with their numbers

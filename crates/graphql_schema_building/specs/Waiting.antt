@@ -6,9 +6,9 @@ use Rattle.std.specs.Map.{lookup}
 use Rattle.std.specs.Str.{bytes_eq}
 use Rattle.graphql_names.specs.NameValue.{NameValue}
 use Rattle.graphql_names.specs.Placed.{Place, Text, name_tree}
-use Rattle.graphql_list_folding.specs.in_schema_types.declared.type_kind.TypeKind.{TypeKind}
-use Rattle.graphql_list_folding.specs.in_folding.Listed.{type_named}
-use Rattle.graphql_list_folding.specs.in_built_in.Table.{built_in_definitions}
+use Rattle.graphql_folding.specs.in_schema_types.declared.type_kind.TypeKind.{TypeKind}
+use Rattle.graphql_folding.specs.Listed.{type_named}
+use Rattle.graphql_built_in.specs.Table.{built_in_definitions}
 use Rattle.graphql_schema_building.specs.Noted.{NamedKind, kind_view, kinds_view}
 use Rattle.graphql_schema_building.specs.declared.orphans.Orphans.{Orphans}
 use Rattle.graphql_schema_building.specs.declared.waiting.OrphanExtensionTypes.{OrphanExtensionTypes}

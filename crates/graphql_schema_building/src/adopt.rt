@@ -1,8 +1,8 @@
 //! Adoption: empty definitions for what is extended and not defined.
 ghost use Rattle.std.specs.Prelude.{◌≡◌, ◌++◌, ◌&&◌, [], ◌∷◌, not, map, is_some, if◌then◌else◌, OnOk};
 ghost use Rattle.std.specs.List.{list_any};
-ghost use Rattle.graphql_list_folding.specs.in_folding.ListedView.{listed_view};
-ghost use Rattle.graphql_list_folding.specs.in_schema_folding.ListFold.{definitions_of};
+ghost use Rattle.graphql_folding.specs.ListedView.{listed_view};
+ghost use Rattle.graphql_schema_building.specs.DefinitionsOf.{definitions_of};
 ghost use Rattle.graphql_schema_building.specs.Settling.{unnumbered, empty_of, adopted_schema};
 ghost use Rattle.graphql_schema_building.specs.Waiting.{orphan_kinds};
 
@@ -11,8 +11,8 @@ use crate::empty::{push_empty_type, push_unplaced};
 use crate::orphans::Orphans;
 use crate::waiting::OrphanExtensionTypes;
 use graphql_directives::DirectiveList;
+use graphql_folding::Listed;
 use graphql_input_types::SchemaDefinition;
-use graphql_list_folding::Listed;
 use std::alloc::{AllocError, Global};
 
 /// Puts an empty definition at the list's end for each type that is extended and not defined, of the kind of its first

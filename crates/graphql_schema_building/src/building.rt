@@ -1,12 +1,11 @@
 //! What is asked of a schema builder's state.
-ghost use Rattle.std.specs.Prelude.{◌≡◌, ◌↔◌, ◌++◌, [], true, false, IfOk, IfErr, OnOk, Contains};
-ghost use Rattle.graphql_list_folding.specs.in_definitions.DefinitionTree.{document_tree};
-ghost use Rattle.graphql_list_folding.specs.in_definitions.Sources.{sources_of};
-ghost use Rattle.graphql_list_folding.specs.in_built_in.Table.{built_in_definitions};
-ghost use Rattle.graphql_list_folding.specs.in_folding.BuildErrors.{FoldingRules};
-ghost use Rattle.graphql_list_folding.specs.in_folding.FaultView.{faults_of};
-ghost use Rattle.graphql_schema_building.specs.Building.{plain_settings, folded, FailsIn, counted, lent_names, IsAddRefusal, IsBuildRefusal};
-ghost use Rattle.graphql_schema_building.specs.BuiltView.{built_view};
+ghost use Rattle.std.specs.Prelude.{◌≡◌, ◌≤◌, ◌++◌, [], true, false, length, map, IfOk, IfErr, OnOk};
+ghost use Rattle.graphql_folding.specs.in_definitions.DefinitionTree.{document_tree};
+ghost use Rattle.graphql_folding.specs.in_definitions.Sources.{sources_of};
+ghost use Rattle.graphql_built_in.specs.Table.{built_in_definitions};
+ghost use Rattle.graphql_folding.specs.Listed.{numbered};
+ghost use Rattle.graphql_folding.specs.ListedView.{listed_view};
+ghost use Rattle.graphql_schema_building.specs.Building.{plain_settings, counted, lent_names, IsAddRefusal, IsBuildRefusal};
 ghost use Rattle.graphql_schema_building.specs.BuildingView.{builder_view};
 ghost use Rattle.graphql_schema_building.specs.Noted.{Notes};
 ghost use Rattle.graphql_schema_building.specs.TextsList.{Adds, IsListRefusal};
@@ -19,12 +18,12 @@ use crate::orphans::Orphans;
 use crate::refusal::BuilderRefusal;
 use crate::settle::{Settings, settle};
 use crate::sources::add_sources;
-use crate::state::{Building, Built};
+use crate::state::{Building, SettledList};
 use crate::texts::Texts;
 use crate::waiting::OrphanExtensionTypes;
 use graphql_components::Extensions;
-use graphql_list_folding::{BuildError, Document, SourceFile, fold_list};
-use graphql_names::{FileId, SourceSpan};
+use graphql_folding::{Document, SourceFile};
+use graphql_names::FileId;
 use indexmap::IndexMap;
 use std::alloc::Global;
 use std::mem;
@@ -115,13 +114,13 @@ impl Building {
         OrphanExtensionTypes::of(&self.orphans)
     }
 
-    /// Folds the definitions that count, behind what is built in, and tells each rule that is broken.
-    pub fn build(self) -> Result<(Built, Vec<(Option<SourceSpan>, BuildError)>), BuilderRefusal>
+    /// Gives up the list of definitions that counts, behind what is built in, and the sources.
+    pub fn settle(self) -> Result<SettledList, BuilderRefusal>
         ensures running { OnOk result ((builder_view self).failed ≡ false) }
-        ensures schema { IfOk result (λ r. built_view r.0 ≡ folded (builder_view self)) }
-        ensures sources { IfOk result (λ r. sources_view r.0.sources ≡ (builder_view self).sources) }
-        ensures faults { IfOk result (λ r. (f : _) → Contains (faults_of r.1) f ↔ FailsIn (builder_view self) f) }
-        ensures faultless { IfOk result (λ r. (faults_of r.1 ≡ []) ↔ FoldingRules built_in_definitions (builder_view self).first (counted (builder_view self))) }
+        ensures list { IfOk result (λ s. map listed_view s.list.items ≡ numbered (builder_view self).first (built_in_definitions ++ counted (builder_view self))) }
+        ensures built_in { IfOk result (λ s. s.built_in ≡ length built_in_definitions) }
+        ensures within { IfOk result (λ s. s.built_in ≤ length s.list.items) }
+        ensures sources { IfOk result (λ s. sources_view s.sources ≡ (builder_view self).sources) }
         ensures refused { IfErr result (IsBuildRefusal (builder_view self)) }
     {
         if self.failed {
@@ -136,17 +135,13 @@ impl Building {
             &building.orphans,
             &mut list,
         )?;
-        let mut faults = Vec::new(building.alloc);
-        let folded = fold_list(building.alloc, &list, built_in, &mut faults)?;
         let none = IndexMap::new(building.alloc);
         let sources = mem::replace(&mut building.sources, none);
-        let built = Built {
+        Ok(SettledList {
             sources,
-            schema_definition: folded.schema_definition,
-            directive_definitions: folded.directive_definitions,
-            types: folded.types,
-        };
-        Ok((built, faults))
+            list,
+            built_in,
+        })
     }
 }
 

@@ -1,12 +1,12 @@
 //! The names of the types that each schema has.
 ghost use Rattle.std.specs.Prelude.{◌≡◌, map, is_some};
-ghost use Rattle.graphql_list_folding.specs.in_definitions.DefinitionTree.{definition_tree};
+ghost use Rattle.graphql_folding.specs.in_definitions.DefinitionTree.{definition_tree};
 ghost use Rattle.graphql_components.specs.Lists.{is_among};
-ghost use Rattle.graphql_list_folding.specs.in_folding.Listed.{type_named};
-ghost use Rattle.graphql_list_folding.specs.in_folding.Adoption.{is_redefinition};
-ghost use Rattle.graphql_list_folding.specs.in_built_in.Table.{built_in_definitions};
+ghost use Rattle.graphql_folding.specs.Listed.{type_named};
+ghost use Rattle.graphql_folding.specs.Adoption.{is_redefinition};
+ghost use Rattle.graphql_built_in.specs.Table.{built_in_definitions};
 
-use graphql_list_folding::{Definition, type_definition};
+use graphql_folding::{Definition, type_definition};
 
 /// Whether a type of that name is built in: a scalar (section 3.5) or a type of introspection (section 4.2).
 pub(crate) fn is_built_in_type(name: &str) -> bool

@@ -3,13 +3,13 @@ ghost use Rattle.std.specs.Prelude.{◌≡◌, ◌++◌, [], ◌∷◌, map, Non
 ghost use Rattle.graphql_names.specs.Node.{content, place};
 ghost use Rattle.graphql_names.specs.declared.node.Node.{Node};
 ghost use Rattle.graphql_names.specs.Placed.{name_tree};
-ghost use Rattle.graphql_list_folding.specs.in_folding.ListedView.{listed_view};
+ghost use Rattle.graphql_folding.specs.ListedView.{listed_view};
 ghost use Rattle.graphql_schema_building.specs.Settling.{unnumbered, empty_of};
 
 use graphql_composite_types::{InterfaceTypeDefinition, ObjectTypeDefinition, UnionTypeDefinition};
 use graphql_directives::DirectiveList;
+use graphql_folding::{Definition, Listed, TypeKind};
 use graphql_input_types::{EnumTypeDefinition, InputObjectTypeDefinition, ScalarTypeDefinition};
-use graphql_list_folding::{Definition, Listed, TypeKind};
 use graphql_names::{Name, Node};
 use std::alloc::{AllocError, Global};
 

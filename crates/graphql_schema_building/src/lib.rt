@@ -1,8 +1,9 @@
-//! The state of a schema builder, and what it builds: the list of all definitions that were added, each extension
-//! with its number, what the settings make of it, and its fold.
+//! The state of a schema builder: the list of all definitions that were added, each extension with its number, and what
+//! the settings make of it.
 //!
 //! For the layer above: contracts see a builder as a record (`specs/BuilderValue.antt`); what it answers is stated in
-//! `specs/Building.antt` over the definitions of the fold (`graphql_folding`).
+//! `specs/Building.antt` over the definitions of the fold (`graphql_folding`). It hands out the list of definitions that
+//! counts, which `graphql_list_folding` folds.
 //!
 //! Begin with `state.rt` and `building.rt`.
 #![tactic(auto)]
@@ -20,7 +21,6 @@ mod state;
 mod texts;
 mod waiting;
 
-pub use graphql_list_folding::{BuildError, schema_field, type_field, typename_field};
 pub use refusal::BuilderRefusal;
-pub use state::{Building, Built};
+pub use state::{Building, SettledList};
 pub use waiting::OrphanExtensionTypes;

@@ -1,10 +1,10 @@
 //! The types that are extended, those that are defined, and so those that wait for a definition.
 ghost use Rattle.std.specs.Prelude.{◌≡◌, ◌++◌, [], ◌∷◌, map, OnOk};
-ghost use Rattle.graphql_list_folding.specs.in_definitions.DefinitionTree.{definition_tree};
-ghost use Rattle.graphql_list_folding.specs.in_folding.PartsView.{parts_view};
+ghost use Rattle.graphql_folding.specs.in_definitions.DefinitionTree.{definition_tree};
+ghost use Rattle.graphql_folding.specs.PartsView.{parts_view};
 ghost use Rattle.graphql_schema_building.specs.Noted.{Notes, NotesKind};
 
-use graphql_list_folding::{Definition, Parts, TypeKind, extension_parts, type_definition};
+use graphql_folding::{Definition, Parts, TypeKind, extension_parts, type_definition};
 use graphql_names::Name;
 use indexmap::IndexMap;
 use std::alloc::AllocError;

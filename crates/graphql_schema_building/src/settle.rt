@@ -1,9 +1,9 @@
 //! The list of definitions that counts: what is built in, and what the settings make of the texts.
 ghost use Rattle.std.specs.Prelude.{◌≡◌, ◌≤◌, ◌++◌, [], ◌∷◌, length, map, OnOk, IfOk};
 ghost use Rattle.std.specs.List.{filter};
-ghost use Rattle.graphql_list_folding.specs.in_definitions.DefinitionTree.{definition_tree};
-ghost use Rattle.graphql_list_folding.specs.in_built_in.Table.{built_in_definitions};
-ghost use Rattle.graphql_list_folding.specs.in_folding.ListedView.{listed_view};
+ghost use Rattle.graphql_folding.specs.in_definitions.DefinitionTree.{definition_tree};
+ghost use Rattle.graphql_built_in.specs.Table.{built_in_definitions};
+ghost use Rattle.graphql_folding.specs.ListedView.{listed_view};
 ghost use Rattle.graphql_schema_building.specs.Settling.{unnumbered, is_kept, settled_from};
 ghost use Rattle.graphql_schema_building.specs.Waiting.{orphan_kinds};
 ghost use Rattle.graphql_schema_building.specs.TextsView.{texts_view};
@@ -13,7 +13,8 @@ use crate::adopt::{adopt_schema, adopt_types};
 use crate::built_in_types::is_redefinition;
 use crate::orphans::Orphans;
 use crate::texts::{Texts, push_shared};
-use graphql_list_folding::{Definition, Listed, built_in_definitions};
+use graphql_built_in::built_in_definitions;
+use graphql_folding::{Definition, Listed};
 use std::alloc::{AllocError, Global};
 
 /// Which settings of a builder are on.

@@ -1,10 +1,10 @@
 //! The sources of several documents.
 ghost use Rattle.std.specs.Prelude.{◌≡◌, nat_eq, OnOk};
-ghost use Rattle.graphql_list_folding.specs.in_definitions.Sources.{source_of};
+ghost use Rattle.graphql_folding.specs.in_definitions.Sources.{source_of};
 ghost use Rattle.indexmap.specs.IndexMap.{insert_entry};
 ghost use Rattle.graphql_schema_building.specs.SourcesView.{sources_view, with_sources};
 
-use graphql_list_folding::SourceFile;
+use graphql_folding::SourceFile;
 use graphql_names::FileId;
 use indexmap::IndexMap;
 use std::alloc::AllocError;

@@ -1,12 +1,11 @@
-//! The state of a schema builder, and what it builds.
+//! The state of a schema builder, and the list of definitions that it makes of its texts.
 ghost use Rattle.graphql_schema_building.specs.KeptView.{IsKept};
 
 use crate::orphans::Orphans;
 use crate::settle::Settings;
 use crate::texts::Texts;
-use graphql_directives::DirectiveDefinition;
-use graphql_list_folding::{ExtendedType, SchemaDefinition, SourceFile};
-use graphql_names::{FileId, Name, Node};
+use graphql_folding::{Listed, SourceFile};
+use graphql_names::FileId;
 use indexmap::IndexMap;
 use std::alloc::Global;
 
@@ -38,11 +37,12 @@ impl Drop for Building {
     }
 }
 
-/// What is built: the fold of the definitions, and the sources that they came from.
+/// What a builder makes of its texts: the list of definitions that counts, what is built in before the texts, each
+/// extension with its number; and the sources that the texts came from.
 #[derive(Drop)]
-pub struct Built {
+pub struct SettledList {
     pub sources: IndexMap<FileId, SourceFile>,
-    pub schema_definition: Node<SchemaDefinition>,
-    pub directive_definitions: IndexMap<Name, Node<DirectiveDefinition>>,
-    pub types: IndexMap<Name, ExtendedType>,
+    pub list: Vec<Listed>,
+    /// How many definitions of the list are built in: they are its first.
+    pub built_in: usize,
 }

@@ -1,16 +1,16 @@
 //! The list of the texts' definitions.
 ghost use Rattle.std.specs.Prelude.{◌≡◌, ◌+◌, ◌<◌, ◌^◌, ◌++◌, [], ◌∷◌, map, true, Some, None, if◌then◌else◌, IfOk, IfErr, OnOk, OnErr};
 ghost use Rattle.std.specs.Option.{option_map};
-ghost use Rattle.graphql_list_folding.specs.in_definitions.DefinitionTree.{definition_tree};
-ghost use Rattle.graphql_list_folding.specs.in_definitions.Queries.{is_extension, definition_place};
+ghost use Rattle.graphql_folding.specs.in_definitions.DefinitionTree.{definition_tree};
+ghost use Rattle.graphql_folding.specs.in_definitions.Queries.{is_extension, definition_place};
 ghost use Rattle.graphql_components.specs.Given.{extension_tree};
-ghost use Rattle.graphql_list_folding.specs.in_folding.ListedView.{listed_view};
+ghost use Rattle.graphql_folding.specs.ListedView.{listed_view};
 ghost use Rattle.graphql_schema_building.specs.TextsView.{texts_view};
 ghost use Rattle.graphql_schema_building.specs.TextsList.{Adds, IsListRefusal};
 
 use crate::refusal::BuilderRefusal;
 use graphql_components::{ExtensionId, Extensions};
-use graphql_list_folding::{Definition, Listed};
+use graphql_folding::{Definition, Listed};
 use std::alloc::AllocError;
 
 /// The definitions of the texts in order, each extension with its number, folded or not.

@@ -5,7 +5,7 @@ ghost use Rattle.graphql_schema_building.specs.Waiting.{orphan_kinds, left_kinds
 
 use crate::built_in_types::is_built_in_type;
 use crate::orphans::Orphans;
-use graphql_list_folding::TypeKind;
+use graphql_folding::TypeKind;
 use graphql_names::Name;
 use indexmap::IndexMap;
 use indexmap::map::Slice;

@@ -3,14 +3,7 @@ pub mod KindNamed
 pub mod RootFold
 pub mod RootsView
 pub mod DirectiveFold
-pub mod TypeFaults
 pub mod DirectivesView
 pub use Rattle.graphql_folding.specs as in_folding
 pub use Rattle.graphql_folding.specs.in_schema_types as in_schema_types
-pub mod ListTypes
-pub mod Filing
-pub mod OwnNames
-pub mod Misplaced
-pub mod Seen
-pub mod SeenView
 pub use Rattle.graphql_folding.specs.in_definitions as in_definitions

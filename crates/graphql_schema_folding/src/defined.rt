@@ -23,7 +23,7 @@ fn schema_definition(d: &Definition) -> Option<&Node<SchemaDefinition>>
 }
 
 /// The schema extension, if it is one.
-pub fn schema_extension(d: &Definition) -> Option<&SchemaExtension>
+pub(crate) fn schema_extension(d: &Definition) -> Option<&SchemaExtension>
     ensures { option_map schema_extension_parts (option_copied result) ≡ schema_extension_here (definition_tree d.now) }
 {
     match d {
@@ -33,7 +33,7 @@ pub fn schema_extension(d: &Definition) -> Option<&SchemaExtension>
 }
 
 /// The first schema definition of the list, if there is one.
-pub fn first_schema(list: &[Listed]) -> Option<&Node<SchemaDefinition>>
+pub(crate) fn first_schema(list: &[Listed]) -> Option<&Node<SchemaDefinition>>
     ensures { option_map schema_giver (option_copied result) ≡ schema_definition_in (definitions_of (map listed_view list.now)) }
 {
     for listed in list {
@@ -45,7 +45,7 @@ pub fn first_schema(list: &[Listed]) -> Option<&Node<SchemaDefinition>>
 }
 
 /// Whether an object of that name is defined: a type is given by the first definition of its name.
-pub fn is_object(list: &[Listed], name: &str) -> bool
+pub(crate) fn is_object(list: &[Listed], name: &str) -> bool
     ensures { result ≡ is_object_in (definitions_of (map listed_view list.now)) name.now }
 {
     match kind_named(list, name) {

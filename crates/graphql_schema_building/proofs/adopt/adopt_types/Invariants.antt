@@ -1,5 +1,5 @@
 use Rattle.std.proofs.Common.{◌≡◌, ◌++◌, map, length}
-use Rattle.graphql_list_folding.specs.in_folding.ListedView.{listed_view}
+use Rattle.graphql_folding.specs.ListedView.{listed_view}
 use Rattle.graphql_schema_building.specs.Settling.{unnumbered, empty_of}
 use Rattle.graphql_schema_building.specs.Waiting.{orphan_kinds, left_kinds}
 use Rattle.graphql_schema_building.proofs.adopt.adopt_types.Given as goal

@@ -1,5 +1,5 @@
 use Rattle.std.proofs.Common.{map, take}
-use Rattle.graphql_list_folding.specs.in_definitions.DefinitionTree.{definition_tree}
+use Rattle.graphql_folding.specs.in_definitions.DefinitionTree.{definition_tree}
 use Rattle.graphql_schema_building.specs.Noted.{Notes}
 use Rattle.graphql_schema_building.specs.TextsView.{texts_view}
 use Rattle.graphql_schema_building.specs.TextsList.{Adds}

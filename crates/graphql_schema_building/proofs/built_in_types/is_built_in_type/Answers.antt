@@ -1,6 +1,6 @@
 use Rattle.std.proofs.Common.{sym, ap, ◌∙◌}
 use Rattle.graphql_components.specs.Lists.{is_among}
-use Rattle.graphql_list_folding.specs.in_built_in.Table.{built_in_definitions}
+use Rattle.graphql_built_in.specs.Table.{built_in_definitions}
 use Rattle.graphql_schema_building.proofs.Awaited.{some_named}
 use Rattle.graphql_schema_building.proofs.Schemas.{built_in_names}
 use Rattle.graphql_schema_building.proofs.built_in_types.is_built_in_type.Goals as goal

@@ -1,8 +1,8 @@
 use Rattle.std.proofs.Common.{◌≡◌, drop, map, is_some}
 use Rattle.std.specs.List.{list_any}
-use Rattle.graphql_list_folding.specs.in_folding.SchemaFold.{schema_extension_here}
-use Rattle.graphql_list_folding.specs.in_folding.ListedView.{listed_view}
-use Rattle.graphql_list_folding.specs.in_schema_folding.ListFold.{definitions_of}
+use Rattle.graphql_folding.specs.SchemaFold.{schema_extension_here}
+use Rattle.graphql_folding.specs.ListedView.{listed_view}
+use Rattle.graphql_schema_building.specs.DefinitionsOf.{definitions_of}
 use Rattle.graphql_schema_building.proofs.defined.has_schema_extension.Given as goal
 
 abbrev pub invariant-loop-listed : goal.invariant-loop-listed

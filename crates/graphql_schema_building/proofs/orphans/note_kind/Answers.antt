@@ -3,8 +3,8 @@ use Rattle.std.proofs.lemmas.List.{map-append}
 use Rattle.indexmap.specs.IndexMap.{insert_entry}
 use Rattle.indexmap.proofs.CallerLemmas.{insert_entry-new}
 use Rattle.graphql_components.specs.Names.{same_text}
-use Rattle.graphql_list_folding.specs.in_schema_types.TypeView.{name_text}
-use Rattle.graphql_list_folding.specs.in_folding.PartsView.{parts_view}
+use Rattle.graphql_folding.specs.in_schema_types.TypeView.{name_text}
+use Rattle.graphql_folding.specs.PartsView.{parts_view}
 use Rattle.graphql_schema_building.specs.Noted.{kind_view}
 use Rattle.graphql_schema_building.proofs.Noting.{none_of, noted_seen, noted_new}
 use Rattle.graphql_schema_building.proofs.orphans.note_kind.Goals as goal

@@ -1,6 +1,6 @@
 use Rattle.std.proofs.Common.{◌≡◌, ◌++◌, map, take}
 use Rattle.std.specs.List.{filter}
-use Rattle.graphql_list_folding.specs.in_folding.ListedView.{listed_view}
+use Rattle.graphql_folding.specs.ListedView.{listed_view}
 use Rattle.graphql_schema_building.specs.Settling.{is_kept}
 use Rattle.graphql_schema_building.proofs.settle.keep_texts.Given as goal
 

@@ -1,6 +1,6 @@
 use Rattle.std.proofs.Common.{◌<◌, map, length, arith}
-use Rattle.graphql_list_folding.specs.in_definitions.DefinitionTree.{definition_tree}
-use Rattle.graphql_list_folding.specs.in_folding.ListedView.{listed_view}
+use Rattle.graphql_folding.specs.in_definitions.DefinitionTree.{definition_tree}
+use Rattle.graphql_folding.specs.ListedView.{listed_view}
 use Rattle.graphql_schema_building.specs.Settling.{unnumbered}
 use Rattle.graphql_schema_building.proofs.Growing.{mapped}
 use Rattle.graphql_schema_building.proofs.settle.list_all.Goals as goal

@@ -1,5 +1,5 @@
 use Rattle.std.proofs.Common.{map, nat_eq, sym, ap, ◌∙◌}
-use Rattle.graphql_list_folding.specs.in_definitions.Sources.{numbered_source}
+use Rattle.graphql_folding.specs.in_definitions.Sources.{numbered_source}
 use Rattle.indexmap.specs.IndexMap.{insert_entry}
 use Rattle.graphql_schema_building.specs.SourcesView.{sources_view, with_sources}
 use Rattle.graphql_schema_building.proofs.Sourcing.{insert_viewed}

@@ -1,5 +1,5 @@
 use Rattle.std.proofs.Common.{◌≡◌, map, length}
-use Rattle.graphql_list_folding.specs.in_definitions.Sources.{numbered_source}
+use Rattle.graphql_folding.specs.in_definitions.Sources.{numbered_source}
 use Rattle.graphql_schema_building.specs.SourcesView.{sources_view, with_sources}
 use Rattle.graphql_schema_building.proofs.sources.add_sources.Given as goal
 

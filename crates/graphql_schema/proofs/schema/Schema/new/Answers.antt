@@ -1,6 +1,7 @@
 use Rattle.std.proofs.Common.{ap, ◌∙◌}
 use Rattle.graphql_schema_building.specs.Building.{folded}
 use Rattle.graphql_schema_building.specs.BuilderValue.{BuilderValue}
+use Rattle.graphql_list_folding.proofs.BuiltIn.{built_in_rules}
 use Rattle.graphql_schema.proofs.schema.Schema.new.Goals as goal
 
 pub returns-in-Ok-clause-schema : goal.returns-in-Ok-clause-schema
@@ -11,3 +12,6 @@ returns-in-Ok-clause-own_names c = c.in-Ok.ensures.own_names
 
 pub returns-in-Ok-clause-sources : goal.returns-in-Ok-clause-sources
 returns-in-Ok-clause-sources c = c.in-Ok.ensures.sources ∙ ap (λ (b : BuilderValue). b.sources) c.builder.ensures
+
+pub returns-in-Ok-clause-rules : goal.returns-in-Ok-clause-rules
+returns-in-Ok-clause-rules c = built_in_rules 1

@@ -1,5 +1,5 @@
 use Rattle.std.proofs.Common.{true, refl}
-use Rattle.graphql_list_folding.specs.in_definitions.DefinitionTree.{document_tree}
+use Rattle.graphql_folding.specs.in_definitions.DefinitionTree.{document_tree}
 use Rattle.graphql_schema_building.specs.KeptView.{definitions, first_number}
 use Rattle.graphql_schema_building.specs.SettingsView.{settings_view}
 use Rattle.graphql_schema_building.specs.SourcesView.{sources_view}

@@ -1,6 +1,6 @@
 use Rattle.std.proofs.Common.{[], ◌∷◌, ◌++◌, map, Some, sym, ◌∙◌}
-use Rattle.graphql_list_folding.specs.in_definitions.DefinitionTree.{definition_tree}
-use Rattle.graphql_list_folding.specs.in_folding.ListedView.{listed_view}
+use Rattle.graphql_folding.specs.in_definitions.DefinitionTree.{definition_tree}
+use Rattle.graphql_folding.specs.ListedView.{listed_view}
 use Rattle.graphql_schema_building.specs.TextsView.{texts_view}
 use Rattle.graphql_schema_building.proofs.Adding.{adds_unnumbered, adds_numbered}
 use Rattle.graphql_schema_building.proofs.texts.Texts.add.Goals as goal

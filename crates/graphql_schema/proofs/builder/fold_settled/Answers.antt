@@ -1,0 +1,10 @@
+use Rattle.std.proofs.Common.{map, subst}
+use Rattle.graphql_schema_building.specs.in_folding.FaultView.{faults_of}
+use Rattle.graphql_schema_building.specs.in_folding.ListedView.{listed_view}
+use Rattle.graphql_list_folding.specs.FoldedView.{folded_view}
+use Rattle.graphql_list_folding.specs.ListBuilt.{Folds}
+use Rattle.graphql_schema.proofs.builder.fold_settled.Goals as goal
+
+pub returns-clause-folds : goal.returns-clause-folds
+returns-clause-folds c =
+    subst (λ l. Folds (map listed_view l) c.args.settled.built_in (folded_view c.in_ok-folded.folded) (faults_of c.fold_list.new.faults)) c.deref.ensures.value c.in_ok-folded.ensures

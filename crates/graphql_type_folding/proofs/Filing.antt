@@ -1,0 +1,115 @@
+-- The extensions that stand under a type's name are all that its fold needs.
+use Rattle.std.proofs.Common.{◌≡◌, ℕ, Bool, true, false, ◌&&◌, List, [], ◌∷◌, ◌++◌, map, Option, None, Some, refl, sym, ap, ◌∙◌, cond, if◌then◌else◌}
+use Rattle.std.specs.List.{flat_map}
+use Rattle.std.specs.Option.{option_map_or}
+use Rattle.std.specs.Str.{bytes_eq}
+use Rattle.std.proofs.lemmas.List.{append-nil, map-append}
+use Rattle.std.proofs.lemmas.List.Elements.{filter-append}
+use Rattle.graphql_names.specs.Placed.{Place}
+use Rattle.graphql_folding.specs.in_components.Given.{Given}
+use Rattle.graphql_folding.specs.in_components.Lists.{firsts}
+use Rattle.graphql_folding.specs.in_schema_types.SchemaTree.{SchemaType, same_kind}
+use Rattle.graphql_folding.specs.in_schema_types.TypeParts.{TypeParts, TypeDefinition, type_extension_here}
+use Rattle.graphql_folding.specs.Components.{go_together, extension_here, keyed_firsts, field_key, value_key, input_key}
+use Rattle.graphql_folding.specs.Collected.{class_from, collected_from}
+use Rattle.graphql_folding.specs.Kept.{component_faults}
+use Rattle.graphql_folding.specs.Listed.{Listed, type_name}
+use Rattle.graphql_folding.specs.ListedView.{listed_view}
+use Rattle.graphql_folding.specs.Fold.{folded_type}
+use Rattle.graphql_folding.specs.BuildErrors.{Fault}
+use Rattle.graphql_folding.specs.declared.listed.Listed.{Listed as Rust}
+use Rattle.graphql_type_folding.specs.TypeFaults.{faults_of_type}
+use Rattle.graphql_type_folding.specs.Filing.{extends_name, extensions_named, Files, type_by, types_by, faults_by}
+
+module _ (defined : TypeParts Place) where
+  abbrev named : List Listed → List Listed
+  named list = extensions_named defined.name.it list
+
+  -- what parts give to the type
+  abbrev given_by : Listed → Option (TypeParts Place) → List (Given Place (TypeParts Place))
+  given_by l o = option_map_or (λ parts. if go_together defined parts then record { extension = l.extension; it = parts } ∷ [] else []) o []
+
+  none_here : (l : Listed) (o : Option (TypeParts Place)) → option_map_or (λ parts. bytes_eq defined.name.it parts.name.it) o false ≡ false → given_by l o ≡ []
+  none_here l None other = refl
+  none_here l (Some parts) other =
+      let given : Given Place (TypeParts Place) = record { extension = l.extension; it = parts } in
+      ap (λ b. if b && same_kind defined.kind parts.kind then given ∷ [] else []) other
+
+  -- no definition of another name gives anything to the type
+  pub named_enough : (list : List Listed) → flat_map (extension_here defined) (named list) ≡ flat_map (extension_here defined) list
+  named_enough [] = refl
+  named_enough (l ∷ ls) = by (extends_name defined.name.it l) refl (named_enough ls)
+    where
+      by : (b : Bool) → extends_name defined.name.it l ≡ b → flat_map (extension_here defined) (named ls) ≡ flat_map (extension_here defined) ls
+          → flat_map (extension_here defined) (cond b (l ∷ named ls) (named ls)) ≡ extension_here defined l ++ flat_map (extension_here defined) ls
+      by true e rest = ap (λ r. extension_here defined l ++ r) rest
+      by false e rest = rest ∙ ap (λ r. r ++ flat_map (extension_here defined) ls) (sym (none_here l (type_extension_here l.definition) e))
+
+-- what a type folds to, and what its fold tells, by what its extensions give
+module _ (t : TypeDefinition Place) where
+  abbrev AllGiven : Type 0
+  AllGiven = List (Given Place (TypeParts Place))
+
+  abbrev and_own : AllGiven → AllGiven
+  and_own gs = record { extension = None; it = t.parts } ∷ gs
+
+  abbrev type_given : AllGiven → SchemaType Place
+  type_given gs = record {
+    kind = t.parts.kind;
+    place = t.place;
+    description = t.description;
+    name = t.parts.name;
+    directives = class_from (λ p. p.directives) (and_own gs);
+    interfaces = firsts (λ g. g.it.it) (class_from (λ p. p.interfaces) (and_own gs));
+    fields = keyed_firsts field_key (class_from (λ p. p.fields) (and_own gs));
+    members = firsts (λ g. g.it.it) (class_from (λ p. p.members) (and_own gs));
+    values = keyed_firsts value_key (class_from (λ p. p.values) (and_own gs));
+    inputs = keyed_firsts input_key (class_from (λ p. p.inputs) (and_own gs));
+  }
+
+  abbrev faults_given : AllGiven → List Fault
+  faults_given gs = component_faults t.parts.kind t.parts.name.it (collected_from (and_own gs))
+
+  module _ (extensions : List ℕ → List Listed) (list : List Listed) (is : (n : List ℕ) → extensions n ≡ extensions_named n list) where
+    given : flat_map (extension_here t.parts) (extensions (type_name t)) ≡ flat_map (extension_here t.parts) list
+    given = ap (flat_map (extension_here t.parts)) (is (type_name t)) ∙ named_enough t.parts list
+
+    type_enough : type_by extensions t ≡ folded_type list t
+    type_enough = ap type_given given
+
+    told_enough : faults_of_type (extensions (type_name t)) t ≡ faults_of_type list t
+    told_enough = ap faults_given given
+
+module _ (extensions : List ℕ → List Listed) (list : List Listed) (is : (n : List ℕ) → extensions n ≡ extensions_named n list) where
+  -- the same types and faults as with the whole list
+  pub types_enough : (ts : List (TypeDefinition Place)) → types_by extensions ts ≡ map (λ t. (type_name t, folded_type list t)) (firsts type_name ts)
+  types_enough ts i = map (λ t. (type_name t, type_enough t extensions list is i)) (firsts type_name ts)
+
+  pub faults_enough : (ts : List (TypeDefinition Place)) → faults_by extensions ts ≡ flat_map (faults_of_type list) (firsts type_name ts)
+  faults_enough ts i = flat_map (λ t. told_enough t extensions list is i) (firsts type_name ts)
+
+-- ---- filing
+
+-- what is no extension of a type is filed nowhere
+pub files_none : (old : List ℕ → List Listed) (l : Listed) → None ≡ type_extension_here l.definition → Files old (l ∷ []) old
+files_none old l none n = sym (append-nil (old n)) ∙ ap (λ o. old n ++ cond (option_map_or (λ parts. bytes_eq n parts.name.it) o false) (l ∷ []) []) none
+
+-- an extension that is added under its name
+pub files_one : (old new : List ℕ → List Rust) (item : Rust) (l : Listed) (parts : TypeParts Place)
+    → Some parts ≡ type_extension_here l.definition → listed_view item ≡ l
+    → ((n : List ℕ) → new n ≡ old n ++ (if bytes_eq n parts.name.it then item ∷ [] else []))
+    → Files (λ n. map listed_view (old n)) (l ∷ []) (λ n. map listed_view (new n))
+files_one old new item l parts is same added n =
+    ap (map listed_view) (added n) ∙ map-append listed_view (old n) (if bytes_eq n parts.name.it then item ∷ [] else [])
+    ∙ ap (λ r. map listed_view (old n) ++ r) (
+    by (bytes_eq n parts.name.it)
+    ∙ ap (λ o. cond (option_map_or (λ p. bytes_eq n p.name.it) o false) (l ∷ []) []) is)
+  where
+    by : (b : Bool) → map listed_view (cond b (item ∷ []) []) ≡ cond b (l ∷ []) []
+    by true = ap (λ v. v ∷ []) same
+    by false = refl
+
+-- a turn of the loop
+pub files_more : (old new : List ℕ → List Listed) (before : List Listed) (l : Listed) → ((n : List ℕ) → old n ≡ extensions_named n before) → Files old (l ∷ []) new
+    → (n : List ℕ) → new n ≡ extensions_named n (before ++ l ∷ [])
+files_more old new before l was step n = step n ∙ ap (λ r. r ++ extensions_named n (l ∷ [])) (was n) ∙ sym (filter-append (extends_name n) before (l ∷ []))

@@ -1,0 +1,30 @@
+//! All rules on positions.
+ghost use Rattle.std.specs.Prelude.{◌≡◌, ◌++◌, map, OnOk};
+ghost use Rattle.graphql_folding.specs.FaultView.{faults_of};
+ghost use Rattle.graphql_folding.specs.ListedView.{listed_view};
+ghost use Rattle.graphql_type_folding.specs.DefinitionsOf.{definitions_of};
+ghost use Rattle.graphql_type_folding.specs.Misplaced.{TellsMisplaced};
+ghost use Rattle.graphql_type_folding.specs.Seen.{misplaced_faults};
+
+use crate::collisions::tell_collisions;
+use crate::orphans::tell_extensions;
+use crate::seen::Seen;
+use graphql_folding::{BuildError, Listed};
+use graphql_names::SourceSpan;
+use std::alloc::{AllocError, Global};
+
+/// Tells each definition and each extension of the texts that breaks a rule by where it stands: definitions in order,
+/// and then extensions in order.
+pub fn tell_misplaced(
+    alloc: Global,
+    built_in: &[Listed],
+    texts: &[Listed],
+    faults: &mut Vec<(Option<SourceSpan>, BuildError)>,
+) -> Result<(), AllocError>
+    ensures faults { OnOk result (faults_of faults.new ≡ faults_of faults.old ++ misplaced_faults (definitions_of (map listed_view built_in.now)) (definitions_of (map listed_view texts.now))) }
+    ensures tells { OnOk result (TellsMisplaced (definitions_of (map listed_view built_in.now)) (definitions_of (map listed_view texts.now)) (faults_of faults.old) (faults_of faults.new)) }
+{
+    let built_in = Seen::of(alloc, built_in)?;
+    let own = tell_collisions(alloc, &built_in, texts, faults)?;
+    tell_extensions(&built_in, &own, texts, faults)
+}
