@@ -12,13 +12,14 @@ use Rattle.graphql_fault_data.specs.in_rule_definitions.Diagnostics.{Diagnostic,
 use Rattle.graphql_fault_data.specs.in_rule_definitions.Faults.{wrong}
 use Rattle.graphql_fault_data.specs.in_rule_definitions.Spots.{HeadAt, StandsAt, spot_place}
 use Rattle.graphql_fault_data.specs.in_rule_definitions.Judged.{judged}
-use Rattle.graphql_fault_data.specs.in_rule_definitions.Cycles.{Leads, IsWay, HasNoRepeat, Thing, ADirective, Refers, trace_of, reference_bound}
+use Rattle.graphql_fault_data.specs.in_rule_definitions.Cycles.{Thing, ADirective, Refers, trace_of, reference_bound}
+use Rattle.graphql_cycles.specs.Paths.{Leads, IsWay, HasNoRepeat}
 use Rattle.graphql_fault_data.specs.in_rule_definitions.Cycles as cycles
 use Rattle.graphql_schema_types.specs.Distinct.{AreAllDistinct}
 use Rattle.graphql_fault_data.specs.in_rule_definitions.Told.{PlacedFault, Told}
-use Rattle.graphql_fault_data.proofs.in_rule_definitions.Lists.{only, Contains-first, not_in_nil}
+use Rattle.graphql_cycles.proofs.Lists.{only, Contains-first, not_in_nil}
 use Rattle.graphql_cycles.specs.declared.graph.Graph.{Graph}
-use Rattle.graphql_cycles.specs.Graph.{RefersTo, is_directive, is_type, IsWayBack, IsDeep}
+use Rattle.graphql_cycles.specs.Graph.{RefersTo, is_first, is_other, IsWayBack, IsDeep}
 use Rattle.graphql_cycle_rules.specs.Labels.{labels}
 use Rattle.graphql_cycle_rules.specs.UseNumbers.{uses_at}
 use Rattle.graphql_cycle_rules.specs.UseGraph.{IsUseGraph}
@@ -100,15 +101,15 @@ module _ (s : SchemaTree Place) (distinct : AreAllDistinct s) (g : Graph) (graph
       root deep.0 (ADirective n) at (IsWay-same (RefersTo g) Walks to_walk (root ∷ deep.0) deep.1.0) in
       let apart : HasNoRepeat (ADirective n ∷ w.0) =
       HasNoRepeat-named (uses_at s) (thing_at s) (number_in s) (Refers (judged s)) (tells_use s) says_use (use_one s distinct) (root ∷ deep.0) (ADirective n ∷ w.0) (at, w.1.0) deep.1.1.0 in
-      let directives : count_by (is_directive g) (root ∷ deep.0) ≡ count_by cycles.is_directive (ADirective n ∷ w.0) =
-      count-named (uses_at s) (thing_at s) (number_in s) (Refers (judged s)) (tells_use s) says_use (is_directive g) cycles.is_directive
+      let directives : count_by (is_first g) (root ∷ deep.0) ≡ count_by cycles.is_directive (ADirective n ∷ w.0) =
+      count-named (uses_at s) (thing_at s) (number_in s) (Refers (judged s)) (tells_use s) says_use (is_first g) cycles.is_directive
       (λ i x h. ap (nat_lt i) graph.directives ∙ same_directive s i x h) (root ∷ deep.0) (ADirective n ∷ w.0) (at, w.1.0) in
-      let types : count_by (is_type g) (root ∷ deep.0) ≡ count_by cycles.is_type (ADirective n ∷ w.0) =
-      count-named (uses_at s) (thing_at s) (number_in s) (Refers (judged s)) (tells_use s) says_use (is_type g) cycles.is_type
+      let types : count_by (is_other g) (root ∷ deep.0) ≡ count_by cycles.is_type (ADirective n ∷ w.0) =
+      count-named (uses_at s) (thing_at s) (number_in s) (Refers (judged s)) (tells_use s) says_use (is_other g) cycles.is_type
       (λ i x h. ap (λ k. not (nat_lt i k)) graph.directives ∙ same_type s i x h) (root ∷ deep.0) (ADirective n ∷ w.0) (at, w.1.0) in
       let long : (reference_bound < count_by cycles.is_directive (ADirective n ∷ w.0)) ⊎ (reference_bound < count_by cycles.is_type (ADirective n ∷ w.0)) = elim deep.1.1.1 [
-        | inl many ↦ inl (subst (λ k. reference_bound < k) directives many)
-        | inr many ↦ inr (subst (λ k. reference_bound < k) types many)
+        | inl many ↦ inl (omega (arith, many, directives, graph.bound))
+        | inr many ↦ inr (omega (arith, many, types, graph.bound))
       ] in (
         wrong (HeadAt n) (DeeplyNestedType n (codes "directive")),
         (

@@ -14,7 +14,7 @@ use Rattle.std.proofs.lemmas.Slice.Eq.{bytes_eq-Decides}
 use Rattle.graphql_components.specs.Names.{Entries}
 use Rattle.graphql_schema_types.specs.Addresses.{under}
 use Rattle.graphql_cycle_rules.specs.Numbers.{number_of, each_value}
-use Rattle.graphql_fault_data.proofs.in_rule_definitions.Lists.{Contains-cons, Contains-first, not_in_nil}
+use Rattle.graphql_cycles.proofs.Lists.{Contains-cons, Contains-first, not_in_nil}
 use Rattle.graphql_fault_data.proofs.in_rule_definitions.Lookups.{itself}
 
 pub same_bytes : (n m : List ℕ) → bytes_eq n m ≡ true → n ≡ m

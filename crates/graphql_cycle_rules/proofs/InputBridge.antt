@@ -19,7 +19,7 @@ use Rattle.graphql_fault_data.specs.in_rule_definitions.Cycles.{Referring, Refer
 use Rattle.graphql_schema_types.specs.Distinct.{AreAllDistinct}
 use Rattle.graphql_cycle_rules.specs.Numbers.{number_of, at_number, each_value, is_input_object_at, input_if, input_object_number, required_input, Field, referred, field_references, input_references}
 use Rattle.graphql_cycle_rules.specs.Labels.{Labelled, targets}
-use Rattle.graphql_fault_data.proofs.in_rule_definitions.Lists.{only, index_given, mapped_some, not_in_nil}
+use Rattle.graphql_cycles.proofs.Lists.{only, index_given, mapped_some, not_in_nil}
 use Rattle.graphql_fault_data.proofs.Judgings.{type_seen, type_look, input_look}
 use Rattle.graphql_cycle_rules.proofs.Ways.{Contains-last}
 use Rattle.graphql_cycle_rules.proofs.Transport.{IsSoundView, target_there}

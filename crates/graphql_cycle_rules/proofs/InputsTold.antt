@@ -14,17 +14,18 @@ use Rattle.graphql_fault_data.specs.in_rule_definitions.Diagnostics.{RecursiveIn
 use Rattle.graphql_fault_data.specs.in_rule_definitions.Faults.{wrong}
 use Rattle.graphql_fault_data.specs.in_rule_definitions.Spots.{At}
 use Rattle.graphql_fault_data.specs.in_rule_definitions.Judged.{judged}
-use Rattle.graphql_fault_data.specs.in_rule_definitions.Cycles.{Leads, IsWay, HasNoRepeat, Referring, RefersToInput, reference_bound}
+use Rattle.graphql_fault_data.specs.in_rule_definitions.Cycles.{Referring, RefersToInput, reference_bound}
+use Rattle.graphql_cycles.specs.Paths.{Leads, IsWay, HasNoRepeat}
 use Rattle.graphql_schema_types.specs.Distinct.{AreAllDistinct}
 use Rattle.graphql_cycles.specs.declared.graph.Graph.{Graph}
-use Rattle.graphql_cycles.specs.Graph.{RefersTo, is_directive, is_type, IsWayBack, IsDeep}
+use Rattle.graphql_cycles.specs.Graph.{RefersTo, is_first, is_other, IsWayBack, IsDeep}
 use Rattle.graphql_cycle_rules.specs.Labels.{labels}
 use Rattle.graphql_cycle_rules.specs.InputGraph.{IsInputGraph}
 use Rattle.graphql_cycle_rules.specs.FaultLists.{recursive_input_object_definition, deeply_nested_input_object, TellsInput, TellsDeepInput}
 use Rattle.graphql_cycle_rules.specs.Telling.{IsOfRoot, TellsRoots}
 use Rattle.graphql_fault_data.specs.in_rule_definitions.Told.{PlacedFault, Told}
 use Rattle.graphql_cycle_rules.specs.Told.{CyclesFail, IsInputCycle, AnswersInput, InputsTold}
-use Rattle.graphql_fault_data.proofs.in_rule_definitions.Lists.{only, Contains-first, not_in_nil}
+use Rattle.graphql_cycles.proofs.Lists.{only, Contains-first, not_in_nil}
 use Rattle.graphql_cycle_rules.proofs.Entries.{number_given, under_at}
 use Rattle.graphql_cycle_rules.proofs.Transport.{Goes, AreNamed, Leads-named-on, IsWay-named, HasNoRepeat-named, Leads-numbered, Leads-same, IsWay-same, count_by-none}
 use Rattle.graphql_cycle_rules.proofs.InputBridge.{Refs, name_at, number_at, tells, says, input_sound, input_full, input_defined, input_one}
@@ -88,9 +89,9 @@ module _ (s : SchemaTree Place) (distinct : AreAllDistinct s) (g : Graph) (graph
   named_length (n ∷ ns) [] a = absurd a
   named_length (n ∷ ns) (x ∷ xs) a = omega (arith, named_length ns xs a.1)
 
-  -- every node is a type
-  no_directive : (n : ℕ) → is_directive g n ≡ false
-  no_directive n = ap (λ d. nat_lt n d) graph.no_directives ∙ le-ltb n 0 (omega arith)
+  -- every node is of the other kind
+  none_first : (n : ℕ) → is_first g n ≡ false
+  none_first n = ap (λ d. nat_lt n d) graph.none_first ∙ le-ltb n 0 (omega arith)
 
   deep_right : (root : ℕ) (f : PlacedFault) → IsDeep g root → Contains (deeply_nested_input_object s root) f → Told s CyclesFail f
   deep_right root f deep c =
@@ -104,8 +105,8 @@ module _ (s : SchemaTree Place) (distinct : AreAllDistinct s) (g : Graph) (graph
       let apart : HasNoRepeat (n ∷ w.0) =
       HasNoRepeat-named (Refs s distinct) (name_at s distinct) (number_at s distinct) (RefersToInput (judged s)) (tells s distinct) (says s distinct) (input_one s distinct) (root ∷ deep.0) (n ∷ w.0) (here, w.1.0) deep.1.1.0 in
       let long : reference_bound < length (n ∷ w.0) = elim deep.1.1.1 [
-        | inl few ↦ absurd (omega (arith, few, count_by-none (is_directive g) no_directive (root ∷ deep.0)))
-        | inr many ↦ omega (arith, many, count_by-le-length (is_type g) (root ∷ deep.0), named_length (root ∷ deep.0) (n ∷ w.0) (here, w.1.0))
+        | inl few ↦ absurd (omega (arith, few, count_by-none (is_first g) none_first (root ∷ deep.0)))
+        | inr many ↦ omega (arith, many, graph.bound, count_by-le-length (is_other g) (root ∷ deep.0), named_length (root ∷ deep.0) (n ∷ w.0) (here, w.1.0))
       ] in (
         wrong (At (TypeAt n)) (DeeplyNestedType n (codes "input object")),
         (

@@ -10,7 +10,7 @@ use Rattle.graphql_cycles.specs.declared.found.Found.{Found}
 use Rattle.graphql_cycles.specs.declared.found.Found.TheVariants.{Nothing, WayBack, Deep}
 use Rattle.graphql_cycles.specs.Found.{Finds}
 use Rattle.graphql_cycle_rules.specs.Telling.{TellsFound, IsOfRoot, TellsRoot, TellsRoots}
-use Rattle.graphql_fault_data.proofs.in_rule_definitions.Lists.{not_in_nil}
+use Rattle.graphql_cycles.proofs.Lists.{not_in_nil}
 
 module _ {F : Type 0} (Recursive : ℕ → List ℕ → List F → Type 0) (IsTooLong : ℕ → List F → Type 0) (g : Graph) where
   pub TellsRoots-none : (old : List F) → TellsRoots Recursive IsTooLong g 0 old old

@@ -5,9 +5,9 @@ use Rattle.std.specs.Option.{option_map}
 use Rattle.std.proofs.lemmas.Bool.{eqb-true, eq-eqb}
 use Rattle.std.proofs.lemmas.List.Elements.{Contains-append_right}
 use Rattle.std.proofs.lemmas.List.Sums.{sum_by-append}
-use Rattle.graphql_fault_data.specs.in_rule_definitions.Cycles.{Leads, IsWay, HasNoRepeat}
+use Rattle.graphql_cycles.specs.Paths.{Leads, IsWay, HasNoRepeat}
 use Rattle.graphql_cycle_rules.specs.Labels.{Labelled, targets, label, labels}
-use Rattle.graphql_fault_data.proofs.in_rule_definitions.Lists.{Contains-cons, Contains-first, not_in_nil}
+use Rattle.graphql_cycles.proofs.Lists.{Contains-cons, Contains-first, not_in_nil}
 
 -- ---- the first label
 

@@ -1,5 +1,5 @@
 -- What directives and types refer to by number is what the rules read.
-use Rattle.std.proofs.Common.{◌≡◌, ℕ, ◌<◌, ◌≤◌, ◌+◌, ◌-◌, ◌⊎◌, Bool, not, if◌then◌else◌, List, [], ◌∷◌, ◌++◌, map, length, slice_get, Option, None, Some, refl, sym, ap, subst, ◌∙◌, inl, inr, arith}
+use Rattle.std.proofs.Common.{◌≡◌, ℕ, ◌<◌, ◌≤◌, ◌+◌, ◌-◌, ◌⊎◌, Bool, true, false, not, if◌then◌else◌, is_some, find, bytes_eq, true≢false, List, [], ◌∷◌, ◌++◌, map, length, slice_get, Option, None, Some, refl, sym, ap, subst, ◌∙◌, inl, inr, arith}
 use Rattle.std.specs.Prelude.{Contains, flat_map, nat_lt}
 use Rattle.std.specs.Option.{option_map, option_map_or}
 use Rattle.std.proofs.lemmas.Bool.{cases_lt, lt-ltb, le-ltb}
@@ -24,8 +24,8 @@ use Rattle.graphql_fault_data.specs.in_rule_definitions.Judged.{judged, bare}
 use Rattle.graphql_schema_types.specs.Distinct.{AreUnder, ArePartsDistinct, AreAllDistinct}
 use Rattle.graphql_fault_data.specs.in_rule_definitions.TypesUsed.{named_in}
 use Rattle.graphql_fault_data.specs.in_rule_definitions.Cycles.{Referring, Thing, ADirective, AType, is_directive, is_type, RefersByUse, RefersByInput, Refers}
-use Rattle.graphql_fault_data.proofs.in_rule_definitions.Lists.{found_in, given_in, index_found, index_given, mapped_some, slice_get-map, only, Contains-first, not_in_nil}
-use Rattle.graphql_fault_data.proofs.in_rule_definitions.Lookups.{under_found, under_given}
+use Rattle.graphql_cycles.proofs.Lists.{found_in, given_in, index_found, index_given, mapped_some, slice_get-map, only, Contains-cons, Contains-first, not_in_nil}
+use Rattle.graphql_fault_data.proofs.in_rule_definitions.Lookups.{itself, under_found, under_given}
 use Rattle.graphql_fault_data.proofs.Judgings.{type_seen, type_look, directive_look, value_look, input_look, named_unplaced, value_there, input_there}
 use Rattle.graphql_cycle_rules.specs.Labels.{Labelled, targets}
 use Rattle.graphql_cycle_rules.specs.Numbers.{number_of, at_number, each_value}
@@ -54,6 +54,22 @@ number_is {V} es unique e a h =
     let p : (i : ℕ) × (number_of e.0 es ≡ Some i) = number_there es e (index_given es a e h) in
     let g : (v : V) × (slice_get es p.0 ≡ Some (e.0, v)) = number_given e.0 es p.0 p.1 in
     p.1 ∙ ap (λ i. Some i) (one_number es unique p.0 a e.0 g.0 e.1 g.1 h)
+
+some_mapped : {X Y : Type 0} (f : X → Y) (o : Option X) → is_some o ≡ true → is_some (option_map f o) ≡ true
+some_mapped f None h = h
+some_mapped f (Some x) h = refl
+
+-- an entry is found under its name, or another before it is
+there_under : {V : Type 0} (n : List ℕ) (v : V) (es : Entries V) → Contains es (n, v) → is_some (under n es) ≡ true
+there_under n v [] c = not_in_nil (n, v) c
+there_under {V} n v (e ∷ es) c = by (bytes_eq n e.0) refl
+  where
+    by : (b : Bool) → bytes_eq n e.0 ≡ b → is_some (option_map (λ (x : List ℕ × V). x.1) (if b then Some e else find (λ (x : List ℕ × V). bytes_eq n x.0) es)) ≡ true
+    by true t = refl
+    by false t = elim (Contains-cons e es (n, v) c) [
+      | inl q ↦ absurd (true≢false (sym (itself n) ∙ ap (bytes_eq n) (sym (ap (λ (x : List ℕ × V). x.0) q)) ∙ t))
+      | inr r ↦ there_under n v es r
+    ]
 
 module _ (s : SchemaTree Place) where
   -- the thing of a number: directives come first
@@ -151,11 +167,23 @@ module _ (s : SchemaTree Place) where
       ∙ ap (λ z. option_map (λ (e : List ℕ × SchemaType Place). AType e.0) (slice_get s.types z)) less
       ∙ ap (option_map (λ (e : List ℕ × SchemaType Place). AType e.0)) r.1
 
+  -- what has a number is defined
+  directive_defined : (n : List ℕ) (i : ℕ) → number_of n s.directives ≡ Some i → is_some ((judged s).directive n) ≡ true
+  directive_defined n i h =
+      let r : (d : Placed Place (DirectiveDefinitionTree Place)) × (slice_get s.directives i ≡ Some (n, d)) = number_given n s.directives i h in
+      ap is_some (directive_look s n) ∙ some_mapped plain_directive_definition (under n s.directives) (there_under n r.0 s.directives (index_given s.directives i (n, r.0) r.1))
+
+  type_defined : (n : List ℕ) (k : ℕ) → type_behind s n ≡ Some k → is_some ((judged s).type_named n) ≡ true
+  type_defined n k h =
+      let m : (i : ℕ) × ((number_of n s.types ≡ Some i) × (k ≡ length s.directives + i)) = mapped_some (λ i. length s.directives + i) (number_of n s.types) k h in
+      let r : (t : SchemaType Place) × (slice_get s.types m.0 ≡ Some (n, t)) = number_given n s.types m.0 m.1.0 in
+      ap is_some (type_look s n) ∙ some_mapped type_seen (under n s.types) (there_under n r.0 s.types (index_given s.types m.0 (n, r.0) r.1))
+
   -- ---- directives that are applied
 
   module _ (holder : Address) (ds : Directives Place) (here : directives_at s holder ≡ ds) where
     abbrev IsUse : ℕ → DirectiveTree (Unit {0}) → By → Thing → Type 0
-    IsUse i x by y = (by ≡ Some (record { it = x; place = At (DirectiveAt holder i) })) × (y ≡ ADirective x.name.it)
+    IsUse i x by y = (by ≡ Some (record { it = x; place = At (DirectiveAt holder i) })) × ((y ≡ ADirective x.name.it) × (is_some ((judged s).directive x.name.it) ≡ true))
 
     sound_use : (i : ℕ) (d : Placed Place (DirectiveTree Place)) → slice_get ds i ≡ Some d → IsSoundPart (IsUse i (unplaced_directive d.it)) (use_references s d)
     sound_use i d at j l c = by (number_of d.it.name.it s.directives) refl c
@@ -173,7 +201,7 @@ module _ (s : SchemaTree Place) where
                 (
                   ap thing_at (ap (λ x. x.0) same) ∙ directive_there d.it.name.it k e,
                   (
-                    (refl, refl),
+                    (refl, (refl, directive_defined d.it.name.it k e)),
                     (λ z. Some (record { it = unplaced_directive d.it; place = placed z })) ∙ ap says_use (sym (ap (λ x. x.1) same)),
                   ),
                 ),
@@ -183,7 +211,7 @@ module _ (s : SchemaTree Place) where
     full_use : (i : ℕ) (d : Placed Place (DirectiveTree Place)) → slice_get ds i ≡ Some d → IsFullPart (IsUse i (unplaced_directive d.it)) (use_references s d)
     full_use i d at by y j p h = (
       Some d,
-      subst (λ o. Contains (used o (Some d)) (j, Some d)) (sym (ap number_in (sym p.1) ∙ h)) (Contains-first (j, Some d) [] (j, Some d) refl),
+      subst (λ o. Contains (used o (Some d)) (j, Some d)) (sym (ap number_in (sym p.1.0) ∙ h)) (Contains-first (j, Some d) [] (j, Some d) refl),
     )
 
     module _ (bs : List (DirectiveTree (Unit {0}))) (same : map (λ (d : Placed Place (DirectiveTree Place)). unplaced_directive d.it) ds ≡ bs) where
@@ -198,7 +226,7 @@ module _ (s : SchemaTree Place) where
   -- ---- references to types
 
   abbrev IsTyped : TypeTree Place → By → Thing → Type 0
-  IsTyped ty by y = (by ≡ None) × (y ≡ AType (named_in (unplaced_type ty)))
+  IsTyped ty by y = (by ≡ None) × ((y ≡ AType (named_in (unplaced_type ty))) × (is_some ((judged s).type_named (named_in (unplaced_type ty))) ≡ true))
 
   sound_type : (ty : TypeTree Place) → IsSoundPart (IsTyped ty) (type_reference s ty)
   sound_type ty j l c = by (type_behind s (inner_name ty).it) refl c
@@ -212,7 +240,7 @@ module _ (s : SchemaTree Place) where
               None,
               (
                 ap thing_at (ap (λ x. x.0) same) ∙ type_there (inner_name ty).it k e ∙ ap (λ n. Some (AType n)) (sym (named_unplaced ty)),
-                ((refl, refl), ap says_use (sym (ap (λ x. x.1) same))),
+                ((refl, (refl, subst (λ n. is_some ((judged s).type_named n) ≡ true) (sym (named_unplaced ty)) (type_defined (inner_name ty).it k e))), ap says_use (sym (ap (λ x. x.1) same))),
               ),
             ),
           )
@@ -220,7 +248,7 @@ module _ (s : SchemaTree Place) where
   full_type : (ty : TypeTree Place) → IsFullPart (IsTyped ty) (type_reference s ty)
   full_type ty by y j p h = (
     None,
-    subst (λ o. Contains (used o None) (j, None)) (sym (ap (type_behind s) (sym (named_unplaced ty)) ∙ ap number_in (sym p.1) ∙ h)) (Contains-first (j, None) [] (j, None) refl),
+    subst (λ o. Contains (used o None) (j, None)) (sym (ap (type_behind s) (sym (named_unplaced ty)) ∙ ap number_in (sym p.1.0) ∙ h)) (Contains-first (j, None) [] (j, None) refl),
   )
 
   -- ---- arguments' definitions and input fields

@@ -6,8 +6,8 @@ use Rattle.std.proofs.lemmas.List.{length_push, get_or_append_left}
 use Rattle.std.proofs.lemmas.List.Elements.{Contains-append_cases, Contains-append_right}
 use Rattle.std.proofs.lemmas.Option.{slice_get_within, slice_get-get_or, get_or_from_slice_get}
 use Rattle.std.proofs.Math.Seq.{get_or-append_seam}
-use Rattle.graphql_fault_data.specs.in_rule_definitions.Cycles.{Leads, HasNoRepeat}
-use Rattle.graphql_fault_data.proofs.in_rule_definitions.Lists.{only}
+use Rattle.graphql_cycles.specs.Paths.{Leads, HasNoRepeat}
+use Rattle.graphql_cycles.proofs.Lists.{only}
 
 module _ {X R : Type 0} (Refers : X → R → X → Type 0) where
   pub Leads-append : (x : X) (bys : List R) (y : X) (more : List R) (z : X) → Leads Refers x bys y → Leads Refers y more z → Leads Refers x (bys ++ more) z

@@ -28,8 +28,9 @@ module _ {L : Type 0} where
     pub list : Vec ℕ Global
     pub lists : new.graph.references.items ≡ old.graph.references.items ++ list ∷ []
     pub targets : list.items ≡ targets rs
-    pub directives : new.graph.directives ≡ old.graph.directives
+    pub first_kind : new.graph.first_kind ≡ old.graph.first_kind
     pub roots : new.graph.roots ≡ old.graph.roots
+    pub bound : new.graph.bound ≡ old.graph.bound
     pub long : length new.firsts.items ≡ length old.firsts.items + 1
     pub kept : (i to : ℕ) → i < length old.firsts.items → between new i to ≡ between old i to
     pub firsts : (to : ℕ) → between new (length old.firsts.items) to ≡ label rs to

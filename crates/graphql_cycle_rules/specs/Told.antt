@@ -3,10 +3,11 @@ use Rattle.std.specs.Prelude.{◌≡◌, ℕ, List, ◌∷◌, ◌++◌, codes, 
 use Rattle.graphql_names.specs.Placed.{Placed, Place}
 use Rattle.graphql_directives.specs.DirectiveTree.{DirectiveTree, InputValueTree}
 use Rattle.graphql_schema_types.specs.SchemaTree.{SchemaTree}
+use Rattle.graphql_cycles.specs.Paths.{Leads}
 use Rattle.graphql_fault_data.specs.in_rule_definitions.Diagnostics.{RecursiveInputObjectDefinition, RecursiveDirectiveDefinition, DeeplyNestedType}
 use Rattle.graphql_fault_data.specs.in_rule_definitions.Faults.{SchemaFault}
 use Rattle.graphql_fault_data.specs.in_rule_definitions.Judged.{Judged, judged}
-use Rattle.graphql_fault_data.specs.in_rule_definitions.Cycles.{Leads, Referring, ADirective, RefersToInput, Refers, PassesReferenceBound}
+use Rattle.graphql_fault_data.specs.in_rule_definitions.Cycles.{Referring, ADirective, RefersToInput, Refers, PassesReferenceBound}
 use Rattle.graphql_fault_data.specs.in_rule_definitions.Rules.{CyclesBreak}
 use Rattle.graphql_fault_data.specs.in_rule_definitions.Told.{PlacedFault, Told}
 

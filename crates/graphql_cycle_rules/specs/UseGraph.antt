@@ -6,14 +6,16 @@ use Rattle.graphql_directives.specs.declared.directive.Directive.{Directive}
 use Rattle.graphql_schema_types.specs.SchemaTree.{SchemaTree}
 use Rattle.graphql_cycles.specs.declared.graph.Graph.{Graph}
 use Rattle.graphql_cycles.specs.Graph.{references}
+use Rattle.graphql_fault_data.specs.in_rule_definitions.Cycles.{reference_bound}
 use Rattle.graphql_cycle_rules.specs.Labels.{targets, label}
 use Rattle.graphql_cycle_rules.specs.UseViews.{use_between}
 use Rattle.graphql_cycle_rules.specs.declared.references.References.{References}
 use Rattle.graphql_cycle_rules.specs.UseNumbers.{uses_at}
 
 pub record IsUseGraph (s : SchemaTree Place) (g : Graph) : Type 0 where
-  pub directives : g.directives ≡ length s.directives
+  pub directives : g.first_kind ≡ length s.directives
   pub all_roots : g.roots ≡ length s.directives
+  pub bound : g.bound ≡ reference_bound
   pub refers : (i : ℕ) → references g i ≡ targets (uses_at s i)
 
 -- what directives and types refer to, and by what first

@@ -7,7 +7,7 @@ ghost use Rattle.graphql_cycle_rules.specs.Told.{CyclesTold};
 
 use crate::check_directives::check_directive_cycles;
 use crate::check_inputs::check_input_cycles;
-use graphql_fault_data::{Fault};
+use graphql_fault_data::Fault;
 use graphql_schema::Schema;
 use std::alloc::{AllocError, Global};
 

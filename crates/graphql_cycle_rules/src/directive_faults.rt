@@ -13,8 +13,8 @@ ghost use Rattle.graphql_cycle_rules.specs.DirectiveFaults.{directives_of, Tells
 use crate::uses::UseReferences;
 use graphql_directives::{Directive, DirectiveDefinition};
 use graphql_fault_data::{DiagnosticData, Fault};
-use graphql_schema::Schema;
 use graphql_names::{Node, SourceSpan, recompose};
+use graphql_schema::Schema;
 use std::alloc::{AllocError, Global};
 
 /// From the first token of a directive's definition to its name.

@@ -12,8 +12,8 @@ ghost use Rattle.graphql_cycle_rules.specs.FaultLists.{recursive_input_object_de
 use crate::inputs::InputReferences;
 use graphql_directives::InputValueDefinition;
 use graphql_fault_data::{DiagnosticData, Fault};
-use graphql_schema::Schema;
 use graphql_names::Node;
+use graphql_schema::Schema;
 use std::alloc::{AllocError, Global};
 
 /// Adds the field by which an input object first refers to another, if it does.

@@ -4,8 +4,8 @@ ghost use Rattle.graphql_schema.specs.SchemaOf.{schema_tree};
 ghost use Rattle.graphql_cycle_rules.specs.Numbers.{number_of, is_input_object_at, input_object_number};
 ghost use Rattle.graphql_cycle_rules.specs.UseNumbers.{type_behind};
 
-use graphql_schema::Schema;
 use graphql_names::Name;
+use graphql_schema::Schema;
 
 /// The number of the type of that name, if it is there.
 pub(crate) fn type_number(schema: &Schema, name: &Name) -> Option<usize>

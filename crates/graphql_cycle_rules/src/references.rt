@@ -1,12 +1,16 @@
 //! What nodes refer to, and by what they refer to another first.
 ghost use Rattle.std.specs.Prelude.{◌≡◌, ◌++◌, [], ◌∷◌, map, IfOk, OnOk};
 ghost use Rattle.std.specs.Option.{option_copied};
+ghost use Rattle.graphql_fault_data.specs.in_rule_definitions.Cycles.{reference_bound};
 ghost use Rattle.graphql_cycle_rules.specs.Labels.{targets};
 ghost use Rattle.graphql_cycle_rules.specs.References.{reference_view, AreFirsts, Adds, between};
 
 use graphql_cycles::Graph;
 use indexmap::IndexMap;
 use std::alloc::{AllocError, Global};
+
+/// The most directives, or types, on a way.
+const BOUND: u32 = 32;
 
 /// A reference to a node by its number, and by what it is one.
 #[derive(Drop)]
@@ -62,18 +66,20 @@ fn firsts_of<L: Drop>(
 }
 
 impl<L: Drop> References<L> {
-    /// No node yet, in a graph of so many directives and roots.
-    pub(crate) fn new(alloc: Global, directives: usize, roots: usize) -> Self
+    /// No node yet, in a graph with so many nodes of the first kind, and so many roots.
+    pub(crate) fn new(alloc: Global, first_kind: usize, roots: usize) -> Self
         ensures references { result.graph.references.items ≡ [] }
         ensures firsts { result.firsts.items ≡ [] }
-        ensures directives { result.graph.directives ≡ directives }
+        ensures first_kind { result.graph.first_kind ≡ first_kind }
         ensures roots { result.graph.roots ≡ roots }
+        ensures bound { result.graph.bound ≡ reference_bound }
     {
         References {
             graph: Graph {
                 references: Vec::new(alloc),
-                directives,
+                first_kind,
                 roots,
+                bound: BOUND,
             },
             firsts: Vec::new(alloc),
         }

@@ -4,8 +4,8 @@ use Rattle.std.specs.Prelude.{Contains, count_by}
 use Rattle.std.proofs.lemmas.List.{append-nil}
 use Rattle.std.proofs.lemmas.List.Elements.{Contains-append_left, Contains-append_right, Contains-append_cases}
 use Rattle.std.proofs.lemmas.List.Sums.{sum_by-append}
-use Rattle.graphql_rule_definitions.specs.Cycles.{IsWay, HasNoRepeat}
-use Rattle.graphql_rule_definitions.proofs.Lists.{Contains-cons, Contains-first, not_in_nil, only, index_given}
+use Rattle.graphql_cycles.specs.Paths.{IsWay, HasNoRepeat}
+use Rattle.graphql_cycles.proofs.Lists.{Contains-cons, Contains-first, not_in_nil, only, index_given}
 use Rattle.graphql_cycles.specs.declared.graph.Graph.{Graph}
 use Rattle.graphql_cycles.specs.declared.steps.Step.{Step}
 use Rattle.graphql_cycles.specs.Graph.{references, RefersTo, LeadsTo}

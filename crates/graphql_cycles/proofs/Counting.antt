@@ -3,10 +3,10 @@ use Rattle.std.proofs.Common.{◌≡◌, ℕ, ◌<◌, ◌≤◌, ◌+◌, ◌�
 use Rattle.std.specs.Prelude.{slice_get, Contains, count_by}
 use Rattle.std.proofs.lemmas.Option.{slice_get-get_or, same_Some}
 use Rattle.std.proofs.lemmas.List.Sums.{sum_by-append}
-use Rattle.graphql_rule_definitions.proofs.Lists.{Contains-cons, not_in_nil}
+use Rattle.graphql_cycles.proofs.Lists.{Contains-cons, not_in_nil}
 use Rattle.graphql_cycles.specs.declared.graph.Graph.{Graph}
 use Rattle.graphql_cycles.specs.declared.steps.Step.{Step}
-use Rattle.graphql_cycles.specs.Graph.{references, LeadsTo, is_directive, is_of, IsDeep}
+use Rattle.graphql_cycles.specs.Graph.{references, LeadsTo, is_first, is_of, IsDeep}
 use Rattle.graphql_cycles.specs.Steps.{is_in, IsIn}
 use Rattle.graphql_cycles.specs.Parts.{IsWhole}
 use Rattle.graphql_cycles.specs.Depths.{Chain, HasWay, AreCounted}
@@ -76,20 +76,20 @@ zeros_more (d ∷ ds) before zero many h = before zero many h
 zeros_more (d ∷ ds) before (suc n) many h = zeros_more ds (λ k m e. before (suc k) m e) n many h
 
 -- the test of a node's kind
-pub of_same : (g : Graph) (b : Bool) (n : ℕ) → is_of g b n ≡ beq (is_directive g n) b
-of_same g true n = by (is_directive g n)
+pub of_same : (g : Graph) (b : Bool) (n : ℕ) → is_of g b n ≡ beq (is_first g n) b
+of_same g true n = by (is_first g n)
   where
     by : (d : Bool) → d ≡ beq d true
     by true = refl
     by false = refl
-of_same g false n = by (is_directive g n)
+of_same g false n = by (is_first g n)
   where
     by : (d : Bool) → not d ≡ beq d false
     by true = refl
     by false = refl
 
 -- counted beyond the bound
-pub counted_deep : (g : Graph) (b : Bool) (depths : List ℕ) → AreCounted g (is_of g b) depths → (root many : ℕ) → slice_get depths root ≡ Some many → 32 < many → IsDeep g root
+pub counted_deep : (g : Graph) (b : Bool) (depths : List ℕ) → AreCounted g (is_of g b) depths → (root many : ℕ) → slice_get depths root ≡ Some many → g.bound < many → IsDeep g root
 counted_deep g true depths all root many is more = let w = all root many is in deep_count g root (root ∷ w.0) w.0 refl w.1.0 w.1.1.0 (inl (omega (arith, w.1.1.1, more)))
 counted_deep g false depths all root many is more = let w = all root many is in deep_count g root (root ∷ w.0) w.0 refl w.1.0 w.1.1.0 (inr (omega (arith, w.1.1.1, more)))
 

@@ -6,8 +6,8 @@ use Rattle.std.specs.Global.{Global}
 use Rattle.std.specs.Option.{option_map_or}
 use Rattle.std.proofs.lemmas.Bool.{cases_lt, cases_eq, eqb-true, eq-eqb}
 use Rattle.std.proofs.lemmas.Option.{slice_get-get_or}
-use Rattle.graphql_rule_definitions.specs.Cycles.{Leads}
-use Rattle.graphql_rule_definitions.proofs.Lists.{not_in_nil}
+use Rattle.graphql_cycles.specs.Paths.{Leads}
+use Rattle.graphql_cycles.proofs.Lists.{not_in_nil}
 use Rattle.graphql_cycles.specs.declared.graph.Graph.{Graph}
 use Rattle.graphql_cycles.specs.declared.steps.Step.{Step}
 use Rattle.graphql_cycles.specs.Graph.{listed, references, RefersTo, LeadsTo, IsWayBack}

@@ -7,7 +7,7 @@ use Rattle.std.proofs.lemmas.Bool.{cases_lt}
 use Rattle.std.proofs.lemmas.List.{length-set, take_all, drop_all, append-nil}
 use Rattle.std.proofs.lemmas.List.Elements.{Contains-append_left, Contains-push_cases, Contains-push}
 use Rattle.std.proofs.lemmas.Option.{slice_get-get_or, slice_get_past}
-use Rattle.graphql_rule_definitions.proofs.Lists.{not_in_nil}
+use Rattle.graphql_cycles.proofs.Lists.{not_in_nil}
 use Rattle.graphql_cycles.specs.Graph.{listed}
 use Rattle.graphql_cycles.specs.Referrers.{AddsReferrer, AreReferrersBelow, AreReferrers}
 use Rattle.graphql_cycles.proofs.Sets.{slice_get-set_cases}

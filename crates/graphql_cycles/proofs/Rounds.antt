@@ -1,14 +1,14 @@
 -- The way round from a root.
-use Rattle.std.proofs.Common.{◌≡◌, ℕ, ◌<◌, ◌≤◌, ◌+◌, ◌⊎◌, List, [], ◌∷◌, ◌++◌, length, reverse, refl, sym, ap, subst, ◌∙◌, inl, inr, arith, append_assoc}
+use Rattle.std.proofs.Common.{◌≡◌, ℕ, ◌≤◌, ◌+◌, List, [], ◌∷◌, ◌++◌, length, reverse, refl, sym, ap, subst, ◌∙◌, inl, inr, arith, append_assoc}
 use Rattle.std.specs.Prelude.{Contains, count_by, Vec, Some, None}
 use Rattle.std.specs.Global.{Global}
 use Rattle.std.proofs.lemmas.Bool.{cases_lt}
 use Rattle.std.proofs.lemmas.List.{length-append, length-reverse, reverse-append}
 use Rattle.std.proofs.lemmas.List.Elements.{Contains-append_left, Contains-append_right, Contains-append_cases, Contains-push}
-use Rattle.graphql_rule_definitions.proofs.Lists.{only, Contains-first}
+use Rattle.graphql_cycles.proofs.Lists.{only, Contains-first}
 use Rattle.graphql_cycles.specs.declared.graph.Graph.{Graph}
 use Rattle.graphql_cycles.specs.declared.steps.Step.{Step}
-use Rattle.graphql_cycles.specs.Graph.{references, is_directive, is_type, IsWayBack, IsDeep}
+use Rattle.graphql_cycles.specs.Graph.{references, is_first, AreTooMany, IsWayBack, IsDeep}
 use Rattle.graphql_cycles.specs.Spread.{IsTree}
 use Rattle.graphql_cycles.specs.Ways.{Goes, Follows, Joins}
 use Rattle.graphql_cycles.proofs.Members.{reverse-cons, in_reverse, split_at}
@@ -16,19 +16,19 @@ use Rattle.graphql_cycles.specs.Depths.{Chain, Apart}
 use Rattle.graphql_cycles.proofs.Chains.{Chain-front, Chain-drop, Chain-join, Chain-reverse, Refers, IsWay-chain, LeadsTo-chain, HasNoRepeat-apart, Apart-front, Apart-not, Apart-append, Apart-reverse, Goes-out, Goes-head, Goes-chain, Goes-in, Goes-apart, Goes-meets, count_both}
 
 module _ (g : Graph) (root : ℕ) where
-  pub deep_count : (way rest : List ℕ) → way ≡ root ∷ rest → Chain (Refers g) way → Apart way → ((32 < count_by (is_directive g) way) ⊎ (32 < count_by (is_type g) way)) → IsDeep g root
+  pub deep_count : (way rest : List ℕ) → way ≡ root ∷ rest → Chain (Refers g) way → Apart way → AreTooMany g way → IsDeep g root
   deep_count way rest is chain apart many = (
     rest,
     (
       IsWay-chain g (root ∷ rest) (subst (Chain (Refers g)) is chain),
-      (HasNoRepeat-apart (root ∷ rest) (subst Apart is apart), subst (λ l. (32 < count_by (is_directive g) l) ⊎ (32 < count_by (is_type g) l)) is many),
+      (HasNoRepeat-apart (root ∷ rest) (subst Apart is apart), subst (AreTooMany g) is many),
     ),
   )
 
-  pub deep_long : (way rest : List ℕ) → way ≡ root ∷ rest → Chain (Refers g) way → Apart way → 65 ≤ length way → IsDeep g root
-  deep_long way rest is chain apart long = deep_count way rest is chain apart (elim (cases_lt 32 (count_by (is_directive g) way)) [
+  pub deep_long : (way rest : List ℕ) → way ≡ root ∷ rest → Chain (Refers g) way → Apart way → g.bound + g.bound + 1 ≤ length way → IsDeep g root
+  deep_long way rest is chain apart long = deep_count way rest is chain apart (elim (cases_lt g.bound (count_by (is_first g) way)) [
     | inl many ↦ inl many
-    | inr few ↦ inr (omega (arith, count_both (is_directive g) way, few, long))
+    | inr few ↦ inr (omega (arith, count_both (is_first g) way, few, long))
   ])
 
   pub way_back_of : (rest : List ℕ) → Chain (Refers g) (root ∷ (rest ++ root ∷ [])) → IsWayBack g root (rest ++ root ∷ [])
@@ -44,7 +44,7 @@ module _ (g : Graph) (root : ℕ) where
 
   module _ (In : ℕ → Type 0) (toward from : List Step) (c : ℕ) (onward : IsTree In (λ n v. Contains (references g n) v) c toward) (back : IsTree In (λ n v. Contains (references g v) n) c from)
       (last : ℕ) (root_in : In root) (last_in : In last) (refers : Contains (references g last) root) where
-    pub no_ahead : (way : List ℕ) (m : ℕ) → Goes toward (c ∷ []) root way m → length way ≡ 65 → IsDeep g root
+    pub no_ahead : (way : List ℕ) (m : ℕ) → Goes toward (c ∷ []) root way m → length way ≡ g.bound + g.bound + 1 → IsDeep g root
     no_ahead way m goes long =
         let stop : Contains (c ∷ []) c = Contains-first c [] c refl in
         let head : (rest : List ℕ) × (way ++ m ∷ [] ≡ root ∷ rest) = Goes-head toward (c ∷ []) root way m goes in
@@ -102,7 +102,7 @@ module _ (g : Graph) (root : ℕ) where
               ]);
         }
 
-      pub no_behind : (b : List ℕ) (m : ℕ) → Goes from ahead last b m → length b ≡ 65 → IsDeep g root
+      pub no_behind : (b : List ℕ) (m : ℕ) → Goes from ahead last b m → length b ≡ g.bound + g.bound + 1 → IsDeep g root
       no_behind b m returns long =
           let inside : In m = Goes-in from ahead In (λ x v. Contains (references g v) x) c back stop last b m last_in returns in
           let on = Goes-meets from ahead In (λ x v. Contains (references g v) x) c back stop (back.rank m + 1) last b m (omega arith) inside returns in
@@ -112,10 +112,10 @@ module _ (g : Graph) (root : ℕ) where
           (omega (arith, long, length-append s.0 (reverse ((b ++ on.0) ++ on.1.0 ∷ [])), length-reverse ((b ++ on.0) ++ on.1.0 ∷ []), length-append (b ++ on.0) (on.1.0 ∷ []), length-append b on.0))
 
     -- what is joined is a way round
-    pub joined : (ahead behind : Vec ℕ Global) → Follows toward (c ∷ []) root (Some ahead) → Follows from ahead.items last (Some behind) → (w : List ℕ) → Joins ahead.items behind.items w → IsRound w
+    pub joined : (ahead behind : Vec ℕ Global) → Follows toward (c ∷ []) g.bound root (Some ahead) → Follows from ahead.items g.bound last (Some behind) → (w : List ℕ) → Joins ahead.items behind.items w → IsRound w
     joined ahead behind f h w j =
         subst IsRound (sym j.1.1.1.1.1)
         (round f.0 f.1.0 f.1.1.0 f.1.1.1.0 ahead.items f.1.1.1.1 h.0 h.1.0 h.1.1.0 h.1.1.1.0 behind.items h.1.1.1.1 j.0 j.1.0 j.1.1.0 j.1.1.1.0 j.1.1.1.1.0)
 
-    pub not_behind : (ahead : Vec ℕ Global) → Follows toward (c ∷ []) root (Some ahead) → Follows from ahead.items last None → IsDeep g root
+    pub not_behind : (ahead : Vec ℕ Global) → Follows toward (c ∷ []) g.bound root (Some ahead) → Follows from ahead.items g.bound last None → IsDeep g root
     not_behind ahead f h = no_behind f.0 f.1.0 f.1.1.0 f.1.1.1.0 ahead.items f.1.1.1.1 h.0 h.1.0 h.1.1.0 h.1.1.1

@@ -4,7 +4,7 @@ use Rattle.std.specs.Prelude.{slice_get, Contains, Vec}
 use Rattle.std.specs.Global.{Global}
 use Rattle.std.proofs.lemmas.List.{length_push, length-set, length-append, drop_more, drop-append-le, drop_all}
 use Rattle.std.proofs.lemmas.List.Elements.{Contains-append_cases, Contains-append_left, Contains-append_right, Contains-push_cases, Contains-push, Contains-get_or}
-use Rattle.graphql_rule_definitions.proofs.Lists.{Contains-cons, not_in_nil, only}
+use Rattle.graphql_cycles.proofs.Lists.{Contains-cons, not_in_nil, only}
 use Rattle.graphql_cycles.specs.Graph.{listed}
 use Rattle.graphql_cycles.specs.declared.steps.Step.{Step}
 use Rattle.graphql_cycles.specs.Steps.{is_in, IsIn, via_at, left}

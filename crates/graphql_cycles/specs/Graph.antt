@@ -3,7 +3,7 @@ use Rattle.std.specs.Prelude.{◌≡◌, ℕ, ◌<◌, Bool, true, false, not, L
 use Rattle.std.specs.Global.{Global}
 use Rattle.std.specs.Option.{option_map_or}
 use Rattle.graphql_cycles.specs.declared.graph.Graph.{Graph}
-use Rattle.graphql_rule_definitions.specs.Cycles.{Leads, IsWay, HasNoRepeat}
+use Rattle.graphql_cycles.specs.Paths.{Leads, IsWay, HasNoRepeat}
 
 -- what is listed at a number
 abbrev pub listed : List (Vec ℕ Global) → ℕ → List ℕ
@@ -18,22 +18,25 @@ RefersTo g n e m = Contains (references g n) e × (e ≡ m)
 abbrev pub LeadsTo : Graph → ℕ → List ℕ → ℕ → Type 0
 LeadsTo g = Leads (RefersTo g)
 
-abbrev pub is_directive : Graph → ℕ → Bool
-is_directive g n = nat_lt n g.directives
+-- a node is of the first kind, or of the other
+abbrev pub is_first : Graph → ℕ → Bool
+is_first g n = nat_lt n g.first_kind
 
-abbrev pub is_type : Graph → ℕ → Bool
-is_type g n = not (nat_lt n g.directives)
+abbrev pub is_other : Graph → ℕ → Bool
+is_other g n = not (nat_lt n g.first_kind)
 
--- a directive, or a type
 abbrev pub is_of : Graph → Bool → ℕ → Bool
-is_of g true n = is_directive g n
-is_of g false n = is_type g n
+is_of g true n = is_first g n
+is_of g false n = is_other g n
 
 -- these references lead from the root back to it
 abbrev pub IsWayBack : Graph → ℕ → List ℕ → Type 0
 IsWayBack g root path = (by : ℕ) × ((rest : List ℕ) × ((path ≡ by ∷ rest) × LeadsTo g root (by ∷ rest) root))
 
--- a way without repetition from the root holds more directives, or more types, than 32
+-- these are more of one kind than the bound
+abbrev pub AreTooMany : Graph → List ℕ → Type 0
+AreTooMany g way = (g.bound < count_by (is_first g) way) ⊎ (g.bound < count_by (is_other g) way)
+
+-- a way without repetition from the root holds more of one kind than the bound
 abbrev pub IsDeep : Graph → ℕ → Type 0
-IsDeep g root = (rest : List ℕ) × (IsWay (RefersTo g) (root ∷ rest) × (HasNoRepeat (root ∷ rest)
-    × ((32 < count_by (is_directive g) (root ∷ rest)) ⊎ (32 < count_by (is_type g) (root ∷ rest)))))
+IsDeep g root = (rest : List ℕ) × (IsWay (RefersTo g) (root ∷ rest) × (HasNoRepeat (root ∷ rest) × AreTooMany g (root ∷ rest)))

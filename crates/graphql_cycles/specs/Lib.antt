@@ -1,3 +1,4 @@
+pub mod Paths
 pub mod Graph
 pub mod Steps
 pub mod Spread

@@ -1,5 +1,5 @@
 -- Ways along the steps of a part.
-use Rattle.std.specs.Prelude.{◌≡◌, ℕ, List, [], ◌∷◌, ◌++◌, Contains, length, reverse, Option, None, Some, Vec}
+use Rattle.std.specs.Prelude.{◌≡◌, ℕ, List, [], ◌∷◌, ◌++◌, ◌+◌, Contains, length, reverse, Option, None, Some, Vec}
 use Rattle.std.specs.Global.{Global}
 use Rattle.graphql_cycles.specs.declared.steps.Step.{Step}
 use Rattle.graphql_cycles.specs.Steps.{via_at}
@@ -10,10 +10,10 @@ module _ (steps : List Step) (stops : List ℕ) where
   Goes n [] m = n ≡ m
   Goes n (x ∷ rest) m = (x ≡ n) × ((Contains stops x → ⊥) × Goes (via_at steps x) rest m)
 
-  -- the way to the first stop, or one that is longer than 64 nodes
-  abbrev pub Follows : ℕ → Option (Vec ℕ Global) → Type 0
-  Follows n None = (way : List ℕ) × ((m : ℕ) × (Goes n way m × (length way ≡ 65)))
-  Follows n (Some found) = (way : List ℕ) × ((m : ℕ) × (Goes n way m × (Contains stops m × (found.items ≡ way ++ m ∷ []))))
+  -- the way to the first stop, or one of so many nodes that more than the bound are of one kind
+  abbrev pub Follows : ℕ → ℕ → Option (Vec ℕ Global) → Type 0
+  Follows bound n None = (way : List ℕ) × ((m : ℕ) × (Goes n way m × (length way ≡ bound + bound + 1)))
+  Follows bound n (Some found) = (way : List ℕ) × ((m : ℕ) × (Goes n way m × (Contains stops m × (found.items ≡ way ++ m ∷ []))))
 
 -- the one goes on where it meets the other
 abbrev pub Joins : List ℕ → List ℕ → List ℕ → Type 0

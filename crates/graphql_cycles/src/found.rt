@@ -1,12 +1,12 @@
 //! What is found of the roots.
-ghost use Rattle.std.specs.Prelude.{◌≡◌, ◌<◌, ℕ, true, false, count_by, Contains, MatchOption, IfOk, ◌⊎◌, slice_get, Some};
-ghost use Rattle.graphql_cycles.specs.Graph.{references, is_directive, is_type, IsDeep};
+ghost use Rattle.std.specs.Prelude.{◌≡◌, ◌<◌, ℕ, true, false, Contains, MatchOption, IfOk, slice_get, Some};
+ghost use Rattle.graphql_cycles.specs.Graph.{references, AreTooMany, IsDeep};
 ghost use Rattle.graphql_cycles.specs.Steps.{is_in};
 ghost use Rattle.graphql_cycles.specs.Referrers.{AreReferrers};
 ghost use Rattle.graphql_cycles.specs.Parts.{IsWhole};
 ghost use Rattle.graphql_cycles.specs.Found.{Finds, AreFound};
 
-use crate::depths::{BOUND, find_depths};
+use crate::depths::find_depths;
 use crate::graph::{Graph, listed};
 use crate::order::finishing_order;
 use crate::parts::{Parts, find_parts};
@@ -22,21 +22,22 @@ pub enum Found {
     Nothing,
     /// These references lead from it back to it.
     WayBack(Vec<usize>),
-    /// A way from it holds more than 32 directives, or more than 32 types.
+    /// A way from it holds more nodes of a kind than the bound.
     Deep,
 }
 
-/// Whether the way holds more directives, or more types, than the bound.
+/// Whether the way holds more nodes of a kind than the bound.
 fn is_long(graph: &Graph, way: &[usize]) -> bool
-    ensures { result ≡ true → (32 < count_by (is_directive graph.now) way.now) ⊎ (32 < count_by (is_type graph.now) way.now) }
+    ensures { result ≡ true → AreTooMany graph.now way.now }
 {
-    let mut directives = 0;
+    let bound = graph.bound as usize;
+    let mut firsts = 0;
     for node in way {
-        if *node < graph.directives {
-            directives += 1;
+        if *node < graph.first_kind {
+            firsts += 1;
         }
     }
-    directives > BOUND || way.len() - directives > BOUND
+    firsts > bound || way.len() - firsts > bound
 }
 
 /// The first of these nodes that is in the part of this center.
@@ -66,10 +67,10 @@ fn way_round(
     requires refers { Contains (references graph.now last) root }
     ensures { IfOk result (λ found. Finds graph.now root found) }
 {
-    let Some(mut ahead) = follow(alloc, &parts.toward, root, &[center])? else {
+    let Some(mut ahead) = follow(alloc, &parts.toward, root, &[center], graph.bound)? else {
         return Ok(Found::Deep);
     };
-    let Some(mut behind) = follow(alloc, &parts.from, last, &ahead)? else {
+    let Some(mut behind) = follow(alloc, &parts.from, last, &ahead, graph.bound)? else {
         return Ok(Found::Deep);
     };
     join(&mut ahead, &mut behind)?;
@@ -106,11 +107,11 @@ fn look_back(
 }
 
 /// Whether the ways from a node were counted beyond the bound.
-fn is_beyond(depths: &[usize], node: usize) -> bool
-    ensures { result ≡ true → (n : ℕ) × ((slice_get depths.now node ≡ Some n) × (32 < n)) }
+fn is_beyond(depths: &[usize], node: usize, bound: u32) -> bool
+    ensures { result ≡ true → (n : ℕ) × ((slice_get depths.now node ≡ Some n) × (bound < n)) }
 {
     match depths.get(node) {
-        Some(depth) => *depth > BOUND,
+        Some(depth) => *depth > bound as usize,
         None => false,
     }
 }
@@ -124,11 +125,12 @@ pub fn ways_back(alloc: Global, graph: &Graph) -> Result<Vec<Found>, AllocError>
     let referrers = referrers(alloc, &graph.references)?;
     let order = finishing_order(alloc, &graph.references)?;
     let parts = find_parts(alloc, graph, &referrers, &order)?;
-    let directives = find_depths(alloc, graph, &parts, &order, true)?;
-    let types = find_depths(alloc, graph, &parts, &order, false)?;
+    let firsts = find_depths(alloc, graph, &parts, &order, true)?;
+    let others = find_depths(alloc, graph, &parts, &order, false)?;
     let mut all = Vec::new(alloc);
     for root in 0..graph.roots {
-        let is_deep = is_beyond(&directives, root) || is_beyond(&types, root);
+        let is_deep = is_beyond(&firsts, root, graph.bound)
+            || is_beyond(&others, root, graph.bound);
         let found = look_back(alloc, graph, &referrers, &parts, root, is_deep)?;
         all.push(found)?;
     }

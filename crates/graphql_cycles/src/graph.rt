@@ -2,13 +2,16 @@
 ghost use Rattle.std.specs.Prelude.{◌≡◌, map};
 ghost use Rattle.graphql_cycles.specs.Graph.{listed};
 
-/// What definitions refer to, by number: first come the directives, then the types. The first ones are judged, they are
-/// the roots.
+/// What nodes refer to, by number. Those of the first kind come first, then those of the other; the first ones are also
+/// judged, they are the roots.
 #[derive(Drop)]
 pub struct Graph {
     pub references: Vec<Vec<usize>>,
-    pub directives: usize,
+    /// How many nodes are of the first kind: nodes of a kind are counted by themselves.
+    pub first_kind: usize,
     pub roots: usize,
+    /// The most nodes of a kind on a way.
+    pub bound: u32,
 }
 
 /// What is listed at a number, nothing where there is no list.

@@ -5,22 +5,21 @@ ghost use Rattle.graphql_cycles.specs.Ways.{Follows, Joins};
 use crate::steps::{Step, via_at};
 use std::alloc::{AllocError, Global};
 
-/// Any so many nodes are more than 32 directives, or more than 32 types.
-const TOO_MANY: usize = 65;
-
 /// Follows the steps from a node to the first of these, which is the last of the way. None where so many others come
-/// before.
+/// before that more than the bound are of one kind.
 pub(crate) fn follow(
     alloc: Global,
     steps: &[Step],
     start: usize,
     stops: &[usize],
+    bound: u32,
 ) -> Result<Option<Vec<usize>>, AllocError>
-    ensures { IfOk result (λ found. Follows steps.now stops.now start found) }
+    ensures { IfOk result (λ found. Follows steps.now stops.now bound start found) }
 {
+    let too_many = 2 * bound as usize + 1;
     let mut way = Vec::new(alloc);
     let mut node = start;
-    for _ in 0..TOO_MANY {
+    for _ in 0..too_many {
         way.push(node)?;
         if stops.contains(&node) {
             return Ok(Some(way));

@@ -2,7 +2,6 @@
 use Rattle.std.proofs.Common.{◌≡◌, ℕ, ◌⊎◌, ◌↔◌, List, ◌++◌, map, sym, ap, subst, ◌∙◌, inl, inr, Contains}
 use Rattle.std.specs.List.{flat_map}
 use Rattle.std.proofs.lemmas.List.Folds.{flat_map-map}
-use Rattle.std.proofs.lemmas.List.Elements.{Contains-append_left, Contains-append_right, Contains-append_cases}
 use Rattle.graphql_names.specs.NameValue.{NameValue}
 use Rattle.graphql_names.specs.Placed.{Place, Text}
 use Rattle.graphql_type_members.specs.TypeSystemTree.{field_definition_tree}
@@ -43,8 +42,5 @@ module _ (s : SchemaTree Place) where
 
 -- what is told behind other faults
 pub told_behind : (s : SchemaTree Place) → AreAllDistinct s → (types : List (NameValue × ExtendedType)) → s.types ≡ map (λ e. (name_text e.0, extended_type e.1)) types
-    → (old new : List PlacedFault) → new ≡ old ++ types_faults s types → (f : PlacedFault) → Contains new f ↔ (Contains old f ⊎ Told s InterfacesBreak f)
-told_behind s distinct types are old new is f = (
-  λ h. elim (Contains-append_cases old _ f (subst (λ l. Contains l f) is h)) [ inl e ↦ inl e | inr r ↦ inr ((says_all s distinct types are f).0 r) ],
-  λ h. subst (λ l. Contains l f) (sym is) (elim h [ inl e ↦ Contains-append_left old _ f e | inr r ↦ Contains-append_right old _ f ((says_all s distinct types are f).1 r) ]),
-)
+    → (old new : List PlacedFault) → new ≡ old ++ types_faults s types → (added : List PlacedFault) × ((new ≡ old ++ added) × ((f : PlacedFault) → Contains added f ↔ Told s InterfacesBreak f))
+told_behind s distinct types are old new is = (types_faults s types, (is, says_all s distinct types are))

@@ -17,8 +17,8 @@ use crate::interfaces::{check_transitive, recursive_interface_definition, undefi
 use crate::look_ups::interfaces_of;
 use graphql_components::ComponentName;
 use graphql_fault_data::{Fault, tell};
-use graphql_schema::Schema;
 use graphql_names::{Name, Node};
+use graphql_schema::Schema;
 use graphql_schema_types::{ExtendedType, InterfaceType};
 use std::alloc::{AllocError, Global};
 

@@ -6,9 +6,9 @@ ghost use Rattle.graphql_schema.specs.SchemaOf.{schema_tree};
 ghost use Rattle.graphql_fault_data.specs.in_rule_definitions.Judged.{judged};
 ghost use Rattle.graphql_fault_data.specs.in_rule_definitions.Interfaces.{is_subtype, is_valid_type};
 
-use graphql_schema::Schema;
 use graphql_literals::Type;
 use graphql_names::Name;
+use graphql_schema::Schema;
 
 /// Whether a field of type `implementing` serves where an interface has one of type `interface_type`: the same name or
 /// that of a subtype, inside the same lists, and non-null wherever the interface's is.

@@ -1,21 +1,24 @@
 -- Small schemas, by computation: what breaks a rule, and what next to it does not.
-use Rattle.std.proofs.Common.{◌≡◌, ℕ, Bool, true, false, List, [], ◌∷◌, codes, if◌then◌else◌, is_some, unwrap_or, bytes_eq, Option, None, Some, refl, sym, ap, subst, ◌∙◌, inl, inr, true≢false}
+use Rattle.std.proofs.Common.{◌≡◌, ℕ, zero, suc, Bool, true, false, List, [], ◌∷◌, codes, if◌then◌else◌, is_some, unwrap_or, bytes_eq, Option, None, Some, refl, sym, ap, subst, ◌∙◌, inl, inr, true≢false}
+use Rattle.std.proofs.lemmas.Option.{same_Some}
 use Rattle.graphql_names.specs.Placed.{Placed, Text}
-use Rattle.graphql_folding.specs.in_literals.TypeTree.{TypeTree, NamedTree, NonNullNamedTree, ListTree, NonNullListTree}
-use Rattle.graphql_folding.specs.in_literals.TypeQueries.{has_mark}
-use Rattle.graphql_folding.specs.in_directives.DirectiveTree.{InputValueTree}
-use Rattle.graphql_folding.specs.in_type_members.TypeSystemTree.{FieldDefinitionTree}
-use Rattle.graphql_folding.specs.in_schema_types.Looks.{TypeLooks}
-use Rattle.graphql_folding.specs.in_schema_types.Addresses.{TypeAt, FieldAt, InputAt}
-use Rattle.graphql_folding.specs.in_schema_types.declared.type_kind.TypeKind.{TypeKind}
-use Rattle.graphql_folding.specs.in_schema_types.declared.type_kind.TypeKind.TheVariants as kind
+use Rattle.graphql_literals.specs.TypeTree.{TypeTree, NamedTree, NonNullNamedTree, ListTree, NonNullListTree}
+use Rattle.graphql_literals.specs.ValueTree.{NullTree, VariableTree, ListTree as ListValueTree, no_items}
+use Rattle.graphql_directives.specs.DirectiveTree.{DirectiveTree, InputValueTree, DirectiveDefinitionTree}
+use Rattle.graphql_type_members.specs.TypeSystemTree.{FieldDefinitionTree}
+use Rattle.graphql_schema_types.specs.Looks.{TypeLooks}
+use Rattle.graphql_schema_types.specs.Addresses.{TypeAt, FieldAt, InputAt, DirectiveDefinitionAt, ArgumentAt}
+use Rattle.graphql_schema_types.specs.declared.type_kind.TypeKind.{TypeKind}
+use Rattle.graphql_schema_types.specs.declared.type_kind.TypeKind.TheVariants as kind
 use Rattle.graphql_rule_definitions.specs.Diagnostics.{EmptyFieldSet, InvalidImplementationFieldType, RecursiveInputObjectDefinition}
+use Rattle.graphql_rule_definitions.specs.Words.{AtSomeIndex}
 use Rattle.graphql_rule_definitions.specs.Spots.{At}
 use Rattle.graphql_rule_definitions.specs.Faults.{SchemaFault, told, wrong}
 use Rattle.graphql_rule_definitions.specs.Judged.{Judged}
 use Rattle.graphql_rule_definitions.specs.Empty.{EmptyFieldSetAt}
 use Rattle.graphql_rule_definitions.specs.Interfaces.{is_valid_type, InvalidImplementationFieldTypeAt}
-use Rattle.graphql_rule_definitions.specs.Cycles.{RecursiveInputObjectDefinitionAt}
+use Rattle.graphql_rule_definitions.specs.Cycles.{Referring, Thing, ADirective, RefersByInput, Refers, RecursiveInputObjectDefinitionAt}
+use Rattle.graphql_rule_definitions.specs.Accepts.{Accepts}
 
 -- ---- what schemas are made of
 
@@ -145,3 +148,56 @@ not_by_nullable = does_not (NamedTree (text i_name)) refl
 
 not_by_list : (fault : SchemaFault) → RecursiveInputObjectDefinitionAt (inputs (NonNullListTree (NonNullNamedTree (text i_name)))) fault → ⊥
 not_by_list = does_not (NonNullListTree (NonNullNamedTree (text i_name))) refl
+
+-- ---- references: `directive @Q(a: I @T)`, where neither `I` nor `@T` is there
+
+abbrev applied : DirectiveTree (Unit {0})
+applied = record { name = text t_name; arguments = [] }
+
+abbrev asked : InputValueTree (Unit {0})
+asked = record (input_of a_name (NamedTree (text i_name))) { directives = record { it = applied; place = tt } ∷ [] }
+
+abbrev asking : DirectiveDefinitionTree (Unit {0})
+asking = record { description = None; name = text q_name; arguments = record { it = asked; place = tt } ∷ []; repeatable = false; locations = [] }
+
+abbrev alone : Judged
+alone = record (schema_of (λ n. None)) { directive = λ n. only q_name asking n }
+
+abbrev By : Type 0
+By = Option (Referring (DirectiveTree (Unit {0})))
+
+by_argument : (by : By) (to : Thing) → RefersByInput alone (ArgumentAt (DirectiveDefinitionAt q_name) 0) asked by to → ⊥
+by_argument by to (inl (zero, (d, (here, (is, (of, there)))))) = true≢false (sym there ∙ ap (λ (x : DirectiveTree (Unit {0})). is_some (alone.directive x.name.it)) (sym (same_Some applied d here)))
+by_argument by to (inl (suc i, (d, (here, r)))) = cc
+by_argument by to (inr (none, (of, there))) = true≢false (sym there)
+
+by_arguments : (by : By) (to : Thing) → AtSomeIndex asking.arguments (λ i v. RefersByInput alone (ArgumentAt (DirectiveDefinitionAt q_name) i) v.it by to) → ⊥
+by_arguments by to (zero, (v, (here, r))) = by_argument by to (subst (λ (x : Placed (Unit {0}) (InputValueTree (Unit {0}))). RefersByInput alone (ArgumentAt (DirectiveDefinitionAt q_name) 0) x.it by to) (sym (same_Some (record { it = asked; place = tt }) v here)) r)
+by_arguments by to (suc i, (v, (here, r))) = cc
+
+refers_to_nothing : (by : By) (to : Thing) → Refers alone (ADirective q_name) by to → ⊥
+refers_to_nothing by to (d, (is, rest)) =
+    by_arguments by to (subst (λ (x : DirectiveDefinitionTree (Unit {0})). AtSomeIndex x.arguments (λ i v. RefersByInput alone (ArgumentAt (DirectiveDefinitionAt q_name) i) v.it by to)) (sym (same_Some asking d is)) rest)
+
+-- ---- Accepts: `null` and `[]` for `I`, `I!`, `[I!]` and `T`, which is not there, and a variable that is not defined
+
+abbrev with_input : Judged
+with_input = inputs (NamedTree (text i_name))
+
+null_accepted : Accepts {P = Unit {0}} with_input [] (NamedTree (text i_name)) NullTree
+null_accepted = ((λ t there. refl), tt)
+
+null_refused : Accepts {P = Unit {0}} with_input [] (NonNullNamedTree (text i_name)) NullTree → ⊥
+null_refused a = true≢false (a.0 (input_type (NamedTree (text i_name))) refl)
+
+list_refused : Accepts {P = Unit {0}} with_input [] (NamedTree (text i_name)) (ListValueTree no_items) → ⊥
+list_refused a = elim (a.0 (input_type (NamedTree (text i_name))) refl).0 [ inl e ↦ true≢false (sym e) | inr c ↦ cc ]
+
+list_accepted : Accepts {P = Unit {0}} with_input [] (ListTree (NonNullNamedTree (text i_name))) (ListValueTree no_items)
+list_accepted = ((λ t there. (inl refl, tt)), tt)
+
+missing_accepts : Accepts {P = Unit {0}} with_input [] (NamedTree (text t_name)) (ListValueTree no_items)
+missing_accepts = ((λ t there. absurd (true≢false (sym (ap is_some there)))), tt)
+
+no_variable : Accepts {P = Unit {0}} with_input [] (NamedTree (text t_name)) (VariableTree (text a_name)) → ⊥
+no_variable a = true≢false (sym a.1)

@@ -1,5 +1,5 @@
 -- What is kept, as rules read it: the tests on entries decide the predicates, where no two things stand under one name.
-use Rattle.std.proofs.Common.{◌≡◌, ◌⊎◌, inl, inr, ℕ, zero, suc, Bool, true, false, cond, not, ◌&&◌, ◌||◌, List, [], ◌∷◌, map, filter, slice_get, is_some, bytes_eq, Option, None, Some, option_map, refl, sym, ap, subst, ◌∙◌, true≢false}
+use Rattle.std.proofs.Common.{◌≡◌, ◌⊎◌, inl, inr, ℕ, zero, suc, Bool, true, false, cond, ◌||◌, List, [], ◌∷◌, map, is_some, bytes_eq, Option, None, Some, option_map, refl, sym, ap, subst, ◌∙◌, true≢false}
 use Rattle.std.specs.Bool.{Decides}
 use Rattle.std.specs.List.{list_any, IsDistinct, AllByRecursion}
 use Rattle.std.specs.Map.{keys_of}
@@ -8,21 +8,19 @@ use Rattle.std.specs.FinMap as fin
 use Rattle.std.specs.Ordering.{eq_by_cmp}
 use Rattle.std.proofs.lemmas.Option.{same_Some}
 use Rattle.std.proofs.lemmas.Slice.Eq.{bytes_eq-Decides}
-use Rattle.graphql_names.specs.Placed.{Placed, Place, unplaced_node}
-use Rattle.graphql_folding.specs.in_literals.TypeTree.{TypeTree, NamedTree, NonNullNamedTree, ListTree, NonNullListTree, unplaced_type}
-use Rattle.graphql_folding.specs.in_literals.TypeQueries.{inner_name}
-use Rattle.graphql_folding.specs.in_directives.DirectiveTree.{InputValueTree, InputValues, DirectiveDefinitionTree, unplaced_input_value}
-use Rattle.graphql_folding.specs.in_type_members.TypeSystemTree.{FieldDefinitionTree, unplaced_field_definition}
-use Rattle.graphql_folding.proofs.in_values.Decided.{through}
-use Rattle.graphql_folding.specs.in_components.Names.{Entries, by_bytes, named}
-use Rattle.graphql_folding.specs.in_components.Given.{plain_given}
-use Rattle.graphql_folding.proofs.in_components.NamedLookups.{tied}
-use Rattle.graphql_folding.specs.in_schema_types.SchemaTree.{SchemaType, SchemaTree, same_kind}
-use Rattle.graphql_folding.specs.in_schema_types.Plain.{PlainType, plain_type, plain_directive_definition, plain}
-use Rattle.graphql_folding.specs.in_schema_types.Looks.{TypeLooks, type_looks, looks}
-use Rattle.graphql_folding.specs.in_schema_types.declared.type_kind.TypeKind.{TypeKind}
-use Rattle.graphql_folding.specs.in_schema_types.declared.type_kind.TypeKind.TheVariants as kind
-use Rattle.graphql_rule_definitions.specs.Words.{Present, Somewhere, AtSomeIndex}
+use Rattle.graphql_names.specs.Placed.{Place, unplaced_node}
+use Rattle.graphql_literals.specs.TypeTree.{TypeTree, NamedTree, NonNullNamedTree, ListTree, NonNullListTree, unplaced_type}
+use Rattle.graphql_literals.specs.TypeQueries.{inner_name}
+use Rattle.graphql_directives.specs.DirectiveTree.{InputValues, unplaced_input_value}
+use Rattle.graphql_type_members.specs.TypeSystemTree.{FieldDefinitionTree, unplaced_field_definition}
+use Rattle.graphql_components.proofs.in_values.Decided.{through}
+use Rattle.graphql_components.specs.Names.{Entries, by_bytes, named}
+use Rattle.graphql_components.specs.Given.{plain_given}
+use Rattle.graphql_components.proofs.NamedLookups.{tied}
+use Rattle.graphql_schema_types.specs.SchemaTree.{SchemaType, SchemaTree}
+use Rattle.graphql_schema_types.specs.Plain.{PlainType, plain_type, plain_directive_definition, plain}
+use Rattle.graphql_schema_types.specs.Looks.{TypeLooks, type_looks}
+use Rattle.graphql_rule_definitions.specs.Words.{Somewhere, AtSomeIndex}
 use Rattle.graphql_rule_definitions.specs.Judged.{judged}
 use Rattle.graphql_rule_definitions.specs.TypesUsed.{named_in}
 use Rattle.graphql_rule_definitions.specs.Kept.{is_inside, is_inside_arguments, is_inside_field, is_inside_type, is_referenced, AreDistinct, IsReferenced}

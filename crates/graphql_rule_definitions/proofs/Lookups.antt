@@ -1,16 +1,16 @@
 -- What stands under a name among entries, and a name among others, once for all rules.
 use Rattle.std.proofs.Common.{◌≡◌, ℕ, ◌<◌, zero, suc, arith, take, slice_get, Bool, true, false, ◌||◌, List, [], ◌∷◌, map, refl, sym, ap, subst, ◌∙◌, Option, None, Some, Contains, inl, inr, true≢false, if◌then◌else◌}
-use Rattle.std.specs.List.{find, list_any, IsDistinct, AllByRecursion}
+use Rattle.std.specs.List.{find, IsDistinct, AllByRecursion}
 use Rattle.std.specs.Map.{keys_of}
 use Rattle.std.specs.Option.{option_map}
 use Rattle.std.specs.Str.{bytes_eq}
 use Rattle.std.proofs.lemmas.Slice.Eq.{bytes_eq-Decides}
 use Rattle.std.proofs.lemmas.List.Elements.{Contains-append_right}
 use Rattle.std.proofs.lemmas.Map.Keys.{IsDistinct-head, IsDistinct-tail}
-use Rattle.graphql_folding.specs.in_components.Lists.{is_among}
-use Rattle.graphql_folding.specs.in_components.Names.{Entries}
-use Rattle.graphql_folding.specs.in_schema_types.Addresses.{under}
-use Rattle.graphql_rule_definitions.proofs.Lists.{not_in_nil, Contains-cons, Contains-first}
+use Rattle.graphql_components.specs.Lists.{is_among}
+use Rattle.graphql_components.specs.Names.{Entries}
+use Rattle.graphql_schema_types.specs.Addresses.{under}
+use Rattle.graphql_cycles.proofs.Lists.{not_in_nil, Contains-cons, Contains-first}
 
 pub itself : (n : List ℕ) → bytes_eq n n ≡ true
 itself n = (bytes_eq-Decides n n).1 refl

@@ -1,6 +1,6 @@
 -- Equal schemas with equal marks keep and break the same rules: one fact for all rules.
-use Rattle.std.proofs.Common.{◌≡◌, sym, subst}
-use Rattle.graphql_folding.specs.in_schema_types.Looks.{looks}
+use Rattle.std.proofs.Common.{sym, subst}
+use Rattle.graphql_schema_types.specs.Looks.{looks}
 use Rattle.graphql_rule_definitions.specs.Judged.{judged_by}
 use Rattle.graphql_rule_definitions.specs.Rules.{Breaks, SchemaRules}
 use Rattle.graphql_rule_definitions.specs.Laws.{ReadTheSame, SameBreaches, SameVerdict}

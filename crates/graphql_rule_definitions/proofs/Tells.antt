@@ -1,5 +1,5 @@
 -- Lists of faults and the rules that they tell, piece by piece: once for all rules. `Is` says that a fault is told as something.
-use Rattle.std.proofs.Common.{◌≡◌, ℕ, ◌<◌, ◌⊎◌, ◌↔◌, Bool, true, false, List, [], ◌∷◌, ◌++◌, map, refl, sym, ap, subst, ◌∙◌, inl, inr, Option, None, Some, Contains, slice_get, take, length, zero, suc, arith, append_assoc, if◌then◌else◌, true≢false}
+use Rattle.std.proofs.Common.{◌≡◌, ℕ, ◌<◌, ◌⊎◌, ◌↔◌, Bool, true, false, List, [], ◌∷◌, ◌++◌, map, refl, sym, ap, subst, ◌∙◌, inl, inr, Option, None, Some, Contains, slice_get, take, zero, suc, arith, append_assoc, if◌then◌else◌, true≢false}
 use Rattle.std.specs.List.{flat_map, find, IsDistinct}
 use Rattle.std.specs.Map.{keys_of}
 use Rattle.std.specs.Option.{option_map, option_map_or}
@@ -8,11 +8,11 @@ use Rattle.std.proofs.lemmas.List.Elements.{Contains-append_left, Contains-appen
 use Rattle.std.proofs.lemmas.List.{append-nil}
 use Rattle.std.proofs.lemmas.Option.{same_Some}
 use Rattle.std.proofs.lemmas.Slice.Eq.{bytes_eq-Decides}
-use Rattle.graphql_folding.specs.in_components.Lists.{is_among, each_place_after, each_place}
-use Rattle.graphql_folding.specs.in_components.Names.{Entries}
-use Rattle.graphql_folding.specs.in_schema_types.Addresses.{under}
+use Rattle.graphql_components.specs.Lists.{is_among, each_place_after, each_place}
+use Rattle.graphql_components.specs.Names.{Entries}
+use Rattle.graphql_schema_types.specs.Addresses.{under}
 use Rattle.graphql_rule_definitions.specs.Words.{Present, Somewhere, Among, AtSomeIndex, IsFirst, FirstNamed, Repeats}
-use Rattle.graphql_rule_definitions.proofs.Lists.{found_in, given_in, not_in_nil, only, is_only, index_found, index_given, slice_get-map, mapped_some}
+use Rattle.graphql_cycles.proofs.Lists.{found_in, given_in, not_in_nil, only, is_only, index_found, index_given, slice_get-map, mapped_some}
 use Rattle.graphql_rule_definitions.proofs.Lookups.{under_found, under_given, find_of, first_found, none_found, among_found, among_given}
 
 same_index : (a b : ℕ) → (a < b → ⊥) → (b < a → ⊥) → a ≡ b

@@ -1,37 +1,18 @@
 -- Definitions that lead back to themselves, and the bound on references (GraphQL, October 2021, sections 3.10 and 3.13).
--- A way is a path of references from a name: no order of walking, no set of what was seen.
-use Rattle.std.specs.Prelude.{◌≡◌, ℕ, ◌<◌, Bool, true, false, List, [], ◌∷◌, ◌++◌, codes, reverse, length, count_by, filter_map, Option, None, Some, slice_get, ◌⊎◌}
+-- A way is a path of references from a name, as `graphql_cycles` has it.
+use Rattle.std.specs.Prelude.{◌≡◌, ℕ, ◌<◌, Bool, true, false, List, ◌∷◌, codes, reverse, length, count_by, filter_map, is_some, Option, None, Some, ◌⊎◌}
 use Rattle.graphql_names.specs.Placed.{Placed, Text}
-use Rattle.graphql_folding.specs.in_literals.TypeTree.{NonNullNamedTree}
-use Rattle.graphql_folding.specs.in_directives.DirectiveTree.{DirectiveTree, InputValueTree}
-use Rattle.graphql_folding.specs.in_schema_types.Looks.{TypeLooks}
-use Rattle.graphql_folding.specs.in_schema_types.Addresses.{Address, TypeAt, ValueAt, InputAt, DirectiveDefinitionAt, ArgumentAt, DirectiveAt}
-use Rattle.graphql_folding.specs.in_schema_types.declared.type_kind.TypeKind.TheVariants as kind
+use Rattle.graphql_literals.specs.TypeTree.{NonNullNamedTree}
+use Rattle.graphql_directives.specs.DirectiveTree.{DirectiveTree, InputValueTree}
+use Rattle.graphql_schema_types.specs.Addresses.{Address, TypeAt, ValueAt, InputAt, DirectiveDefinitionAt, ArgumentAt, DirectiveAt}
+use Rattle.graphql_schema_types.specs.declared.type_kind.TypeKind.TheVariants as kind
+use Rattle.graphql_cycles.specs.Paths.{Leads, IsWay, HasNoRepeat}
 use Rattle.graphql_rule_definitions.specs.Diagnostics.{RecursiveInputObjectDefinition, RecursiveDirectiveDefinition, DeeplyNestedType}
 use Rattle.graphql_rule_definitions.specs.Words.{Present, Somewhere, AtSomeIndex}
 use Rattle.graphql_rule_definitions.specs.Spots.{Spot, At, HeadAt}
 use Rattle.graphql_rule_definitions.specs.Faults.{SchemaFault, wrong}
 use Rattle.graphql_rule_definitions.specs.Judged.{Judged, bare}
 use Rattle.graphql_rule_definitions.specs.TypesUsed.{named_in}
-
--- ---- ways
-
--- from one thing to another by what refers to it
-module _ {X R : Type 0} (Refers : X → R → X → Type 0) where
-  -- these references, each from where the one before it leads, lead from one to the other
-  abbrev pub Leads : X → List R → X → Type 0
-  Leads x [] y = x ≡ y
-  Leads x (by ∷ rest) y = (z : X) × (Refers x by z × Leads z rest y)
-
-  -- there is a reference from each of these to the next
-  abbrev pub IsWay : List X → Type 0
-  IsWay [] = Unit {0}
-  IsWay (x ∷ []) = Unit {0}
-  IsWay (x ∷ y ∷ rest) = ((by : R) × Refers x by y) × IsWay (y ∷ rest)
-
--- nothing stands in it twice
-abbrev pub HasNoRepeat : {X : Type 0} → List X → Type 0
-HasNoRepeat {X} xs = (i j : ℕ) (x : X) → slice_get xs i ≡ Some x → slice_get xs j ≡ Some x → i ≡ j
 
 -- the greatest number of directives, or of types, on a way
 abbrev pub reference_bound : ℕ
@@ -65,14 +46,14 @@ module _ (s : Judged) where
 
   -- ---- directives
 
-  -- one of these directives, applied there, refers to its definition
+  -- one of these directives, applied there, refers to its definition, if it has one
   abbrev pub RefersByUse : Address → List (DirectiveTree (Unit {0})) → Option (Referring (DirectiveTree (Unit {0}))) → Thing → Type 0
   RefersByUse holder ds by to = AtSomeIndex ds (λ i d.
-      (by ≡ Some (record { it = d; place = At (DirectiveAt holder i) })) × (to ≡ ADirective d.name.it))
+      (by ≡ Some (record { it = d; place = At (DirectiveAt holder i) })) × ((to ≡ ADirective d.name.it) × (is_some (s.directive d.name.it) ≡ true)))
 
-  -- an argument definition or input field refers by its directives, and to its type
+  -- an argument definition or input field refers by its directives, and to its type, if that is there
   abbrev pub RefersByInput : Address → InputValueTree (Unit {0}) → Option (Referring (DirectiveTree (Unit {0}))) → Thing → Type 0
-  RefersByInput at v by to = RefersByUse at (bare v.directives) by to ⊎ ((by ≡ None) × (to ≡ AType (named_in v.ty.it)))
+  RefersByInput at v by to = RefersByUse at (bare v.directives) by to ⊎ ((by ≡ None) × ((to ≡ AType (named_in v.ty.it)) × (is_some (s.type_named (named_in v.ty.it)) ≡ true)))
 
   -- a directive refers by its arguments; a type by its directives, its enum values and its input fields
   abbrev pub Refers : Thing → Option (Referring (DirectiveTree (Unit {0}))) → Thing → Type 0

@@ -2,11 +2,11 @@
 -- for each place that belongs to the data (GraphQL, October 2021, sections 3 and 5).
 use Rattle.std.specs.Prelude.{ℕ, List, map, Option}
 use Rattle.graphql_names.specs.Placed.{Placed}
-use Rattle.graphql_folding.specs.in_literals.TypeTree.{TypeTree}
-use Rattle.graphql_folding.specs.in_literals.ValueTree.{ValueTree}
-use Rattle.graphql_folding.specs.in_directives.DirectiveTree.{DirectiveTree, Directives, InputValueTree}
-use Rattle.graphql_folding.specs.in_directives.declared.directive_location.DirectiveLocation.{DirectiveLocation}
-use Rattle.graphql_folding.specs.in_directives.declared.operation_type.OperationType.{OperationType}
+use Rattle.graphql_literals.specs.TypeTree.{TypeTree}
+use Rattle.graphql_literals.specs.ValueTree.{ValueTree}
+use Rattle.graphql_directives.specs.DirectiveTree.{DirectiveTree, Directives, InputValueTree}
+use Rattle.graphql_directives.specs.declared.directive_location.DirectiveLocation.{DirectiveLocation}
+use Rattle.graphql_directives.specs.declared.operation_type.OperationType.{OperationType}
 use Rattle.graphql_coordinates.specs.Coordinate.{Coordinate}
 
 -- a reference to a type, without places

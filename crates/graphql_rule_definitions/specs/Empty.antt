@@ -1,7 +1,7 @@
 -- A type must have something (GraphQL, October 2021, sections 3.6, 3.7, 3.8, 3.9, 3.10).
 use Rattle.std.specs.Prelude.{◌≡◌, ℕ, false, List, ◌⊎◌}
-use Rattle.graphql_folding.specs.in_schema_types.Addresses.{TypeAt}
-use Rattle.graphql_folding.specs.in_schema_types.declared.type_kind.TypeKind.TheVariants as kind
+use Rattle.graphql_schema_types.specs.Addresses.{TypeAt}
+use Rattle.graphql_schema_types.specs.declared.type_kind.TypeKind.TheVariants as kind
 use Rattle.graphql_rule_definitions.specs.Diagnostics.{EmptyFieldSet, EmptyValueSet, EmptyMemberSet, EmptyInputValueSet}
 use Rattle.graphql_rule_definitions.specs.Words.{IsEmpty}
 use Rattle.graphql_rule_definitions.specs.Faults.{SchemaFault, told}

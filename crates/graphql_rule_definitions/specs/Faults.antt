@@ -1,5 +1,5 @@
 -- What a rule says is wrong, and where.
-use Rattle.graphql_folding.specs.in_schema_types.Addresses.{Address}
+use Rattle.graphql_schema_types.specs.Addresses.{Address}
 use Rattle.graphql_rule_definitions.specs.Diagnostics.{Diagnostic, map_places}
 use Rattle.graphql_rule_definitions.specs.Spots.{Spot, At}
 

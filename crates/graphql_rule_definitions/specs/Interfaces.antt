@@ -1,13 +1,13 @@
 -- Rules on types that implement interfaces (GraphQL, October 2021, sections 3.6, 3.7, and IsValidImplementation in 3.6.1).
-use Rattle.std.specs.Prelude.{◌≡◌, ◌≢◌, ℕ, Bool, true, false, ◌&&◌, ◌||◌, List, None, bytes_eq, ◌⊎◌}
+use Rattle.std.specs.Prelude.{◌≡◌, ◌≢◌, ℕ, Bool, true, false, ◌&&◌, ◌||◌, List, None, bytes_eq}
 use Rattle.std.specs.Option.{option_map_or}
-use Rattle.graphql_folding.specs.in_literals.TypeTree.{TypeTree, NamedTree, NonNullNamedTree, ListTree, NonNullListTree}
-use Rattle.graphql_folding.specs.in_directives.DirectiveQueries.{is_required_input}
-use Rattle.graphql_folding.specs.in_type_members.TypeSystemTree.{FieldDefinitionTree}
-use Rattle.graphql_folding.specs.in_schema_types.SchemaTree.{same_kind}
-use Rattle.graphql_folding.specs.in_schema_types.Looks.{TypeLooks}
-use Rattle.graphql_folding.specs.in_schema_types.Addresses.{TypeAt, FieldAt, ImplementsAt, ArgumentAt}
-use Rattle.graphql_folding.specs.in_schema_types.declared.type_kind.TypeKind.TheVariants as kind
+use Rattle.graphql_literals.specs.TypeTree.{TypeTree, NamedTree, NonNullNamedTree, ListTree, NonNullListTree}
+use Rattle.graphql_directives.specs.DirectiveQueries.{is_required_input}
+use Rattle.graphql_type_members.specs.TypeSystemTree.{FieldDefinitionTree}
+use Rattle.graphql_schema_types.specs.SchemaTree.{same_kind}
+use Rattle.graphql_schema_types.specs.Looks.{TypeLooks}
+use Rattle.graphql_schema_types.specs.Addresses.{TypeAt, FieldAt, ImplementsAt, ArgumentAt}
+use Rattle.graphql_schema_types.specs.declared.type_kind.TypeKind.TheVariants as kind
 use Rattle.graphql_rule_definitions.specs.Diagnostics.{UndefinedDefinition, RecursiveInterfaceDefinition, TransitiveImplementedInterfaces, MissingInterfaceField, InvalidImplementationFieldType, MissingInterfaceFieldArgument, InvalidImplementationFieldArgumentType, ExtraRequiredImplementationFieldArgument}
 use Rattle.graphql_rule_definitions.specs.Words.{Present, Somewhere, Among, AtSomeIndex, FirstNamed, Lacks}
 use Rattle.graphql_rule_definitions.specs.Faults.{SchemaFault, told}

@@ -1,17 +1,15 @@
 -- What rules read of a schema: look-ups by name, without places and order, and what is built in. Of equal schemas with equal
 -- marks it is the same.
 use Rattle.std.specs.Prelude.{◌≡◌, ℕ, Bool, true, false, List, map, Option, ◌⊎◌}
-use Rattle.graphql_names.specs.Placed.{Placed, Place}
-use Rattle.graphql_folding.specs.in_directives.DirectiveTree.{DirectiveTree, Directives, InputValueTree, InputValues, DirectiveDefinitionTree}
-use Rattle.graphql_folding.specs.in_directives.declared.operation_type.OperationType.{OperationType}
-use Rattle.graphql_folding.specs.in_directives.declared.operation_type.OperationType.TheVariants as operation
-use Rattle.graphql_folding.specs.in_type_members.TypeSystemTree.{FieldDefinitionTree, EnumValueTree}
-use Rattle.graphql_folding.specs.in_schema_types.SchemaTree.{SchemaTree}
-use Rattle.graphql_folding.specs.in_schema_types.Plain.{PlainRoots, plain}
-use Rattle.graphql_folding.specs.in_schema_types.Looks.{TypeLooks, Looks, looks}
-use Rattle.graphql_folding.specs.in_schema_types.Addresses.{Address, TypeAt, FieldAt, ValueAt, InputAt, DirectiveDefinitionAt, ArgumentAt, is_marked}
-use Rattle.graphql_folding.specs.in_schema_types.declared.type_kind.TypeKind.TheVariants as kind
-use Rattle.graphql_rule_definitions.specs.Words.{Present, Somewhere, AtSomeIndex}
+use Rattle.graphql_names.specs.Placed.{Place}
+use Rattle.graphql_directives.specs.DirectiveTree.{DirectiveTree, Directives, InputValueTree, InputValues, DirectiveDefinitionTree}
+use Rattle.graphql_type_members.specs.TypeSystemTree.{FieldDefinitionTree, EnumValueTree}
+use Rattle.graphql_schema_types.specs.SchemaTree.{SchemaTree}
+use Rattle.graphql_schema_types.specs.Plain.{PlainRoots, plain}
+use Rattle.graphql_schema_types.specs.Looks.{TypeLooks, Looks, looks}
+use Rattle.graphql_schema_types.specs.Addresses.{Address, TypeAt, FieldAt, InputAt, DirectiveDefinitionAt, ArgumentAt, is_marked}
+use Rattle.graphql_schema_types.specs.declared.type_kind.TypeKind.TheVariants as kind
+use Rattle.graphql_rule_definitions.specs.Words.{Somewhere, AtSomeIndex}
 
 pub record Judged : Type 0 where
   pub definition : PlainRoots

@@ -1,18 +1,18 @@
 -- Kept: a schema without each built-in scalar that is the inner type of no field, argument or input field, introspection types
 -- counted (GraphQL, October 2021, section 3.5).
-use Rattle.std.specs.Prelude.{◌≡◌, ℕ, Bool, ◌&&◌, ◌||◌, not, false, List, [], ◌++◌, map, filter, bytes_eq, is_none, None, ◌⊎◌}
+use Rattle.std.specs.Prelude.{◌≡◌, ℕ, Bool, ◌&&◌, ◌||◌, not, List, [], ◌++◌, map, filter, bytes_eq, is_none, None, ◌⊎◌}
 use Rattle.std.specs.List.{list_any, IsDistinct, AllByRecursion}
 use Rattle.std.specs.Map.{keys_of}
-use Rattle.graphql_names.specs.Placed.{Placed, Place}
+use Rattle.graphql_names.specs.Placed.{Place}
 use Rattle.graphql_names.specs.Places.{is_built_in}
-use Rattle.graphql_folding.specs.in_literals.TypeTree.{TypeTree}
-use Rattle.graphql_folding.specs.in_literals.TypeQueries.{inner_name}
-use Rattle.graphql_folding.specs.in_directives.DirectiveTree.{InputValues}
-use Rattle.graphql_folding.specs.in_type_members.TypeSystemTree.{FieldDefinitionTree}
-use Rattle.graphql_folding.specs.BuiltIn.{built_in, name}
-use Rattle.graphql_folding.specs.in_schema_types.SchemaTree.{SchemaType, SchemaTree, same_kind}
-use Rattle.graphql_folding.specs.in_schema_types.Addresses.{type_at}
-use Rattle.graphql_folding.specs.in_schema_types.declared.type_kind.TypeKind.TheVariants as kind
+use Rattle.graphql_literals.specs.TypeTree.{TypeTree}
+use Rattle.graphql_literals.specs.TypeQueries.{inner_name}
+use Rattle.graphql_directives.specs.DirectiveTree.{InputValues}
+use Rattle.graphql_type_members.specs.TypeSystemTree.{FieldDefinitionTree}
+use Rattle.graphql_schema_types.specs.BuiltIn.{built_in, name}
+use Rattle.graphql_schema_types.specs.SchemaTree.{SchemaType, SchemaTree, same_kind}
+use Rattle.graphql_schema_types.specs.Addresses.{type_at}
+use Rattle.graphql_schema_types.specs.declared.type_kind.TypeKind.TheVariants as kind
 use Rattle.graphql_rule_definitions.specs.Words.{Present}
 use Rattle.graphql_rule_definitions.specs.Judged.{Judged, AtField, AtInputValue, IsBuiltInScalar}
 use Rattle.graphql_rule_definitions.specs.TypesUsed.{named_in, scalar_names}

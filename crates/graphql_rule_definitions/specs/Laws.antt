@@ -1,11 +1,15 @@
--- Equal schemas with equal marks: rules read the same of both, so they keep and break the same rules, at the same addresses.
+-- Equal schemas with equal marks: rules read the same of both, so they keep and break the same rules, at the same addresses. And what
+-- a type accepts keeps the rules on values.
 use Rattle.std.specs.Prelude.{◌≡◌, ◌↔◌}
 use Rattle.graphql_names.specs.Placed.{Place}
-use Rattle.graphql_folding.specs.in_schema_types.SchemaTree.{SchemaTree}
-use Rattle.graphql_folding.specs.in_schema_types.Plain.{plain}
-use Rattle.graphql_folding.specs.in_schema_types.Addresses.{Address, is_marked}
+use Rattle.graphql_literals.specs.ValueTree.{ValueTree}
+use Rattle.graphql_schema_types.specs.SchemaTree.{SchemaTree}
+use Rattle.graphql_schema_types.specs.Plain.{plain}
+use Rattle.graphql_schema_types.specs.Addresses.{Address, is_marked}
 use Rattle.graphql_rule_definitions.specs.Faults.{SchemaFault}
-use Rattle.graphql_rule_definitions.specs.Judged.{judged}
+use Rattle.graphql_rule_definitions.specs.Judged.{Judged, judged}
+use Rattle.graphql_rule_definitions.specs.Values.{Wanted, Variables, KeepsValueRules}
+use Rattle.graphql_rule_definitions.specs.Accepts.{Accepts}
 use Rattle.graphql_rule_definitions.specs.Rules.{Breaks, SchemaRules}
 
 -- equal, places, origins and order aside, and with the same built in
@@ -21,3 +25,7 @@ SameBreaches = (a b : SchemaTree Place) → AreEqual a b → (fault : SchemaFaul
 
 abbrev pub SameVerdict : Type 0
 SameVerdict = (a b : SchemaTree Place) → AreEqual a b → SchemaRules (judged a) ↔ SchemaRules (judged b)
+
+abbrev pub AcceptsWhereRulesHold : Type 0
+AcceptsWhereRulesHold = (at : Address → Place) (s : Judged) (variables : Variables Place) (ty : Wanted Place) (p : Place) (v : ValueTree Place) →
+    Accepts s variables ty.it v ↔ KeepsValueRules at s variables ty p v

@@ -10,12 +10,12 @@ pub mod Empty
 pub mod Interfaces
 pub mod Cycles
 pub mod Values
+pub mod Accepts
 pub mod Uses
 pub mod Rules
 pub mod Told
-pub use Rattle.graphql_folding.specs.in_schema_types.Distinct
+pub use Rattle.graphql_schema_types.specs.Distinct
 pub mod Kept
 pub mod Laws
-pub use Rattle.graphql_folding.specs.in_components as in_components
-pub use Rattle.graphql_folding.specs as in_folding
-pub use Rattle.graphql_folding.specs.in_schema_types as in_schema_types
+pub use Rattle.graphql_components.specs as in_components
+pub use Rattle.graphql_schema_types.specs as in_schema_types

@@ -1,7 +1,7 @@
 -- Names that begin with `__` are reserved for introspection (GraphQL, October 2021, section 2.1.9).
-use Rattle.std.specs.Prelude.{◌≡◌, ℕ, Bool, true, false, List, [], ◌∷◌, ◌==◌, ◌&&◌, codes, ◌⊎◌}
-use Rattle.graphql_folding.specs.in_schema_types.SchemaTree.{kind_words}
-use Rattle.graphql_folding.specs.in_schema_types.Addresses.{Address, TypeAt, FieldAt, ValueAt, InputAt, DirectiveDefinitionAt, NameAt}
+use Rattle.std.specs.Prelude.{◌≡◌, ℕ, Bool, true, false, List, ◌∷◌, ◌==◌, ◌&&◌, codes, ◌⊎◌}
+use Rattle.graphql_schema_types.specs.SchemaTree.{kind_words}
+use Rattle.graphql_schema_types.specs.Addresses.{Address, TypeAt, FieldAt, ValueAt, InputAt, DirectiveDefinitionAt, NameAt}
 use Rattle.graphql_rule_definitions.specs.Diagnostics.{ReservedName}
 use Rattle.graphql_rule_definitions.specs.Faults.{SchemaFault, told}
 use Rattle.graphql_rule_definitions.specs.Judged.{Judged, AtType, AtField, AtValue, AtInputField, AtArgument, AtDirectiveDefinition}

@@ -1,13 +1,13 @@
 -- Rules on the root operations (GraphQL, October 2021, section 3.3.1).
 use Rattle.std.specs.Prelude.{◌≡◌, ◌≢◌, ℕ, List, [], ◌∷◌, map, Option, None, option_to_list, flat_map}
-use Rattle.graphql_folding.specs.in_directives.declared.operation_type.OperationType.{OperationType}
-use Rattle.graphql_folding.specs.in_directives.declared.operation_type.OperationType.TheVariants as operation
-use Rattle.graphql_folding.specs.in_schema_types.SchemaTree.{kind_words}
-use Rattle.graphql_folding.specs.in_schema_types.Plain.{PlainRoots}
-use Rattle.graphql_folding.specs.in_schema_types.Addresses.{SchemaAt, RootAt}
-use Rattle.graphql_folding.specs.in_schema_types.declared.type_kind.TypeKind.TheVariants as kind
+use Rattle.graphql_directives.specs.declared.operation_type.OperationType.{OperationType}
+use Rattle.graphql_directives.specs.declared.operation_type.OperationType.TheVariants as operation
+use Rattle.graphql_schema_types.specs.SchemaTree.{kind_words}
+use Rattle.graphql_schema_types.specs.Plain.{PlainRoots}
+use Rattle.graphql_schema_types.specs.Addresses.{SchemaAt, RootAt}
+use Rattle.graphql_schema_types.specs.declared.type_kind.TypeKind.TheVariants as kind
 use Rattle.graphql_rule_definitions.specs.Diagnostics.{QueryRootOperationType, UndefinedDefinition, RootOperationObjectType, DuplicateRootOperationType}
-use Rattle.graphql_rule_definitions.specs.Words.{Present, AtSomeIndex, Repeats}
+use Rattle.graphql_rule_definitions.specs.Words.{Present, Repeats}
 use Rattle.graphql_rule_definitions.specs.Faults.{SchemaFault, told}
 use Rattle.graphql_rule_definitions.specs.Judged.{Judged}
 

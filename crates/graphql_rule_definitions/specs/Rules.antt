@@ -1,18 +1,18 @@
 -- SchemaRules: the rules on a schema (GraphQL, October 2021, sections 3 and 5).
-use Rattle.std.specs.Prelude.{◌≡◌, ℕ, List, [], ◌∷◌, map, Option, option_to_list, flat_map, ◌++◌, ◌⊎◌}
+use Rattle.std.specs.Prelude.{◌≡◌, List, [], ◌∷◌, map, option_to_list, flat_map, ◌++◌, ◌⊎◌}
 use Rattle.std.specs.Option.{option_map_or}
-use Rattle.graphql_names.specs.Placed.{Placed, Place}
-use Rattle.graphql_folding.specs.in_directives.DirectiveTree.{DirectiveTree}
-use Rattle.graphql_folding.specs.in_directives.declared.directive_location.DirectiveLocation.{DirectiveLocation}
-use Rattle.graphql_folding.specs.in_directives.declared.directive_location.DirectiveLocation.TheVariants as location
-use Rattle.graphql_folding.specs.in_components.Lists.{firsts}
-use Rattle.graphql_folding.specs.in_components.Given.{Given, ExtensionTree}
-use Rattle.graphql_folding.specs.in_schema_types.SchemaTree.{SchemaType, SchemaTree}
-use Rattle.graphql_folding.specs.in_schema_types.Addresses.{Address, SchemaAt, TypeAt, FieldAt, ValueAt, InputAt, type_at}
-use Rattle.graphql_folding.specs.in_schema_types.declared.type_kind.TypeKind.{TypeKind}
-use Rattle.graphql_folding.specs.in_schema_types.declared.type_kind.TypeKind.TheVariants as kind
+use Rattle.graphql_names.specs.Placed.{Place}
+use Rattle.graphql_directives.specs.DirectiveTree.{DirectiveTree}
+use Rattle.graphql_directives.specs.declared.directive_location.DirectiveLocation.{DirectiveLocation}
+use Rattle.graphql_directives.specs.declared.directive_location.DirectiveLocation.TheVariants as location
+use Rattle.graphql_components.specs.Lists.{firsts}
+use Rattle.graphql_components.specs.Given.{Given, ExtensionTree}
+use Rattle.graphql_schema_types.specs.SchemaTree.{SchemaType, SchemaTree}
+use Rattle.graphql_schema_types.specs.Addresses.{Address, SchemaAt, TypeAt, FieldAt, ValueAt, InputAt, type_at}
+use Rattle.graphql_schema_types.specs.declared.type_kind.TypeKind.{TypeKind}
+use Rattle.graphql_schema_types.specs.declared.type_kind.TypeKind.TheVariants as kind
 use Rattle.graphql_rule_definitions.specs.Diagnostics.{map_places}
-use Rattle.graphql_rule_definitions.specs.Spots.{Spot, At, spotted_directives, spot_place, StandsAt}
+use Rattle.graphql_rule_definitions.specs.Spots.{At, spotted_directives, spot_place, StandsAt}
 use Rattle.graphql_rule_definitions.specs.Faults.{FaultAt, SchemaFault}
 use Rattle.graphql_rule_definitions.specs.Judged.{Judged, judged, bare, IsBuiltInScalar, AtType, AtField, AtValue, AtInputField, AtArgument}
 use Rattle.graphql_rule_definitions.specs.Roots.{QueryRootOperationTypeAt, UndefinedRootAt, RootOperationObjectTypeAt, DuplicateRootOperationTypeAt}

@@ -2,11 +2,11 @@
 use Rattle.std.specs.Prelude.{◌≡◌, ℕ, zero, suc, List, [], ◌∷◌, Option, None, Some, option_map, option_and_then, slice_get}
 use Rattle.graphql_names.specs.Placed.{Placed, Place, Text}
 use Rattle.graphql_names.specs.Places.{Recomposes}
-use Rattle.graphql_folding.specs.in_literals.ValueTree.{ValueTree, ItemTrees, EntryTrees, NullTree, EnumTree, VariableTree, StringTree, FloatTree, IntTree, BooleanTree, ListTree, ObjectTree, no_items, item_then, no_entries, entry_then}
-use Rattle.graphql_folding.specs.in_literals.ValueQueries.{list_items, object_entries}
-use Rattle.graphql_folding.specs.in_directives.DirectiveTree.{ArgumentTree, DirectiveTree, Directives}
-use Rattle.graphql_folding.specs.in_schema_types.SchemaTree.{SchemaTree}
-use Rattle.graphql_folding.specs.in_schema_types.Addresses.{Address, DirectiveDefinitionAt, NameAt, DirectiveAt, GivenAt, GivenValueAt, place_at, given_at, or_nothing}
+use Rattle.graphql_literals.specs.ValueTree.{ValueTree, ItemTrees, EntryTrees, NullTree, EnumTree, VariableTree, StringTree, FloatTree, IntTree, BooleanTree, ListTree, ObjectTree, no_items, item_then, no_entries, entry_then}
+use Rattle.graphql_literals.specs.ValueQueries.{list_items, object_entries}
+use Rattle.graphql_directives.specs.DirectiveTree.{ArgumentTree, DirectiveTree, Directives}
+use Rattle.graphql_schema_types.specs.SchemaTree.{SchemaTree}
+use Rattle.graphql_schema_types.specs.Addresses.{Address, DirectiveDefinitionAt, NameAt, DirectiveAt, GivenAt, GivenValueAt, place_at, given_at}
 
 pub data Spot : Type 0 where
   At : Address → Spot

@@ -1,7 +1,7 @@
 -- A rule on schemas fails, and this tells it.
 use Rattle.std.specs.Prelude.{List}
 use Rattle.graphql_names.specs.Placed.{Place}
-use Rattle.graphql_folding.specs.in_schema_types.SchemaTree.{SchemaTree}
+use Rattle.graphql_schema_types.specs.SchemaTree.{SchemaTree}
 use Rattle.graphql_rule_definitions.specs.Faults.{FaultAt, SchemaFault}
 use Rattle.graphql_rule_definitions.specs.Judged.{Judged, judged}
 use Rattle.graphql_rule_definitions.specs.Rules.{IsToldAs}

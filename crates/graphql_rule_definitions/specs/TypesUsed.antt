@@ -1,12 +1,10 @@
 -- Rules on the types that fields, input values and unions name (GraphQL, October 2021, sections 3.4.2, 3.6, 3.8, 3.10).
-use Rattle.std.specs.Prelude.{◌≡◌, ◌≢◌, ℕ, false, List, [], ◌∷◌, codes, Contains, None, ◌⊎◌, ◌<◌}
-use Rattle.graphql_names.specs.Placed.{Placed}
-use Rattle.graphql_folding.specs.in_literals.TypeTree.{TypeTree}
-use Rattle.graphql_folding.specs.in_literals.TypeQueries.{inner_name}
-use Rattle.graphql_folding.specs.in_directives.DirectiveTree.{InputValueTree}
-use Rattle.graphql_folding.specs.in_schema_types.SchemaTree.{kind_words, is_input_kind, is_output_kind}
-use Rattle.graphql_folding.specs.in_schema_types.Addresses.{Address, FieldAt, MemberAt, TypeNameAt, TypeReferenceAt, ArgumentAt}
-use Rattle.graphql_folding.specs.in_schema_types.declared.type_kind.TypeKind.TheVariants as kind
+use Rattle.std.specs.Prelude.{◌≡◌, ◌≢◌, ℕ, false, List, [], ◌∷◌, codes, Contains, None}
+use Rattle.graphql_literals.specs.TypeTree.{TypeTree}
+use Rattle.graphql_literals.specs.TypeQueries.{inner_name}
+use Rattle.graphql_schema_types.specs.SchemaTree.{kind_words, is_input_kind, is_output_kind}
+use Rattle.graphql_schema_types.specs.Addresses.{Address, FieldAt, MemberAt, TypeNameAt, TypeReferenceAt, ArgumentAt}
+use Rattle.graphql_schema_types.specs.declared.type_kind.TypeKind.TheVariants as kind
 use Rattle.graphql_rule_definitions.specs.Diagnostics.{UndefinedDefinition, OutputType, InputType, UnionMemberObjectType, UniqueInputValue}
 use Rattle.graphql_rule_definitions.specs.Words.{Present, Among, Repeats}
 use Rattle.graphql_rule_definitions.specs.Faults.{SchemaFault, told}

@@ -1,15 +1,15 @@
 -- Rules on the use of directives and arguments (GraphQL, October 2021, sections 5.4, 5.7 and 5.8.5), of a schema or of a document, as in Values.
-use Rattle.std.specs.Prelude.{◌≡◌, ◌≢◌, ℕ, Bool, true, false, is_some, List, [], Contains, find, None, ◌⊎◌}
+use Rattle.std.specs.Prelude.{◌≡◌, ℕ, true, false, is_some, List, Contains, None, ◌⊎◌}
 use Rattle.graphql_names.specs.Placed.{Placed}
-use Rattle.graphql_folding.specs.in_literals.TypeTree.{TypeTree, unplaced_type}
-use Rattle.graphql_folding.specs.in_literals.TypeQueries.{has_mark, nullable_type, AreTypesCompatible}
-use Rattle.graphql_folding.specs.in_literals.ValueQueries.{variable_name}
-use Rattle.graphql_folding.specs.in_directives.DirectiveTree.{ArgumentTree, Arguments, DirectiveTree, Directives, InputValueTree, InputValues}
-use Rattle.graphql_folding.specs.in_directives.DirectiveQueries.{is_required_input, given_value}
-use Rattle.graphql_folding.specs.in_directives.declared.directive_location.DirectiveLocation.{DirectiveLocation}
-use Rattle.graphql_folding.specs.in_operations.OperationTree.{VariableDefinitionTree}
+use Rattle.graphql_literals.specs.TypeTree.{unplaced_type}
+use Rattle.graphql_literals.specs.TypeQueries.{has_mark, nullable_type, AreTypesCompatible}
+use Rattle.graphql_literals.specs.ValueQueries.{variable_name}
+use Rattle.graphql_directives.specs.DirectiveTree.{ArgumentTree, Arguments, DirectiveTree, Directives, InputValueTree, InputValues}
+use Rattle.graphql_directives.specs.DirectiveQueries.{is_required_input, given_value}
+use Rattle.graphql_directives.specs.declared.directive_location.DirectiveLocation.{DirectiveLocation}
+use Rattle.graphql_operations.specs.OperationTree.{VariableDefinitionTree}
 use Rattle.graphql_coordinates.specs.Coordinate.{Coordinate, OfDirective, OfDirectiveArgument}
-use Rattle.graphql_folding.specs.in_schema_types.Addresses.{Address, DirectiveDefinitionAt, ArgumentAt, TypeReferenceAt}
+use Rattle.graphql_schema_types.specs.Addresses.{Address, DirectiveDefinitionAt, ArgumentAt, TypeReferenceAt}
 use Rattle.graphql_rule_definitions.specs.Diagnostics.{UndefinedDirective, UniqueDirective, UnsupportedLocation, UniqueArgument, UndefinedArgument, RequiredArgument, DisallowedVariableUsage}
 use Rattle.graphql_rule_definitions.specs.Words.{Present, AtSomeIndex, Lacks, IsFirst, FirstNamed, Repeats}
 use Rattle.graphql_rule_definitions.specs.Faults.{FaultAt, wrong}

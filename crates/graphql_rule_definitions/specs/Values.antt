@@ -1,21 +1,20 @@
 -- Rules on values (GraphQL, October 2021, sections 3.5 to 3.10, 5.6 and 5.8.3), of a schema or of a document: a value has a P for
 -- each place in it, `at` gives one for each address of the schema, and variables are those of an operation, or none.
-use Rattle.std.specs.Prelude.{◌≡◌, ℕ, ◌<◌, Bool, true, false, List, [], ◌∷◌, codes, Contains, find, bytes_eq, Option, None, Some, option_map, FitsSigned, slice_get, ◌⊎◌}
+use Rattle.std.specs.Prelude.{◌≡◌, ℕ, ◌<◌, Bool, true, false, List, [], ◌∷◌, codes, Contains, find, bytes_eq, Option, None, Some, option_map, FitsSigned, ◌⊎◌}
 use Rattle.std.proofs.Common.{w32}
 use Rattle.std.specs.Option.{option_map_or}
-use Rattle.graphql_names.specs.Placed.{Placed, Text}
-use Rattle.graphql_folding.specs.in_literals.TypeTree.{TypeTree}
-use Rattle.graphql_folding.specs.in_literals.TypeQueries.{has_mark, is_list_type, item_type_of, inner_name}
-use Rattle.graphql_folding.specs.in_literals.NumberSyntax.{integer_value}
-use Rattle.graphql_folding.specs.in_literals.ValueTree.{ValueTree, ItemTrees, EntryTrees, NullTree, EnumTree, VariableTree, StringTree, FloatTree, IntTree, BooleanTree, ListTree, ObjectTree, no_items, item_then, no_entries, entry_then, unplaced_value}
-use Rattle.graphql_folding.specs.in_literals.ValueQueries.{is_null_value, enum_name, integer_text, object_entries}
-use Rattle.graphql_folding.specs.in_directives.DirectiveTree.{InputValueTree}
-use Rattle.graphql_folding.specs.in_directives.DirectiveQueries.{is_required_input}
-use Rattle.graphql_folding.specs.in_operations.OperationTree.{VariableDefinitionTree}
+use Rattle.graphql_names.specs.Placed.{Placed}
+use Rattle.graphql_literals.specs.TypeTree.{TypeTree}
+use Rattle.graphql_literals.specs.TypeQueries.{has_mark, is_list_type, item_type_of, inner_name}
+use Rattle.graphql_literals.specs.NumberSyntax.{integer_value}
+use Rattle.graphql_literals.specs.ValueTree.{ValueTree, ItemTrees, EntryTrees, NullTree, EnumTree, VariableTree, StringTree, FloatTree, IntTree, BooleanTree, ListTree, ObjectTree, no_items, item_then, no_entries, entry_then, unplaced_value}
+use Rattle.graphql_literals.specs.ValueQueries.{is_null_value, enum_name, integer_text, object_entries}
+use Rattle.graphql_directives.specs.DirectiveQueries.{is_required_input}
+use Rattle.graphql_operations.specs.OperationTree.{VariableDefinitionTree}
 use Rattle.graphql_coordinates.specs.Coordinate.{OfAttribute}
-use Rattle.graphql_folding.specs.in_schema_types.Looks.{TypeLooks}
-use Rattle.graphql_folding.specs.in_schema_types.Addresses.{Address, TypeAt, InputAt, TypeReferenceAt}
-use Rattle.graphql_folding.specs.in_schema_types.declared.type_kind.TypeKind.TheVariants as kind
+use Rattle.graphql_schema_types.specs.Looks.{TypeLooks}
+use Rattle.graphql_schema_types.specs.Addresses.{Address, TypeAt, InputAt, TypeReferenceAt}
+use Rattle.graphql_schema_types.specs.declared.type_kind.TypeKind.TheVariants as kind
 use Rattle.graphql_rule_definitions.specs.Diagnostics.{UnsupportedValueType, IntCoercionError, UndefinedVariable, UndefinedEnumValue, UndefinedInputValue, RequiredField, UniqueInputValue}
 use Rattle.graphql_rule_definitions.specs.Words.{Present, Somewhere, AtSomeIndex, Lacks, Repeats}
 use Rattle.graphql_rule_definitions.specs.Spots.{entry_list}
@@ -160,6 +159,6 @@ module _ {P E : Type 0} (at : Address → P) (s : Judged) (variables : Variables
   abbrev pub ValueBreaks : Wanted P → P → ValueTree P → FaultAt P E → Type 0
   ValueBreaks ty p v fault = TypeBreaks ty p v fault ⊎ UndefinedVariableIn variables p v fault
 
--- the type accepts the value: no rule on values fails (section 5.6.1)
-abbrev pub Accepts : {P : Type 0} → (Address → P) → Judged → Variables P → Wanted P → P → ValueTree P → Type 0
-Accepts {P} at s variables ty p v = (fault : FaultAt P (List P)) → ValueBreaks at s variables ty p v fault → ⊥
+-- no rule on values fails: the type accepts the value, which `Accepts` says by cases on it
+abbrev pub KeepsValueRules : {P : Type 0} → (Address → P) → Judged → Variables P → Wanted P → P → ValueTree P → Type 0
+KeepsValueRules {P} at s variables ty p v = (fault : FaultAt P (List P)) → ValueBreaks at s variables ty p v fault → ⊥

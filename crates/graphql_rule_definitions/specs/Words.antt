@@ -5,6 +5,10 @@ use Rattle.std.specs.Prelude.{◌≡◌, ℕ, ◌<◌, Bool, true, List, Option,
 abbrev pub Present : {X : Type 0} → Option X → (X → Type 0) → Type 0
 Present {X} o P = (x : X) × ((o ≡ Some x) × P x)
 
+-- of one that is there P holds
+abbrev pub IfPresent : {X : Type 0} → Option X → (X → Type 0) → Type 0
+IfPresent {X} o P = (x : X) → o ≡ Some x → P x
+
 -- under some name there is one, of which P holds
 abbrev pub Somewhere : {X : Type 0} → (List ℕ → Option X) → (List ℕ → X → Type 0) → Type 0
 Somewhere f P = (n : List ℕ) × Present (f n) (P n)

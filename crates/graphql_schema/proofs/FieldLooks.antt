@@ -14,6 +14,7 @@ use Rattle.graphql_schema_building.specs.in_schema_types.Addresses.{under}
 use Rattle.graphql_schema_building.proofs.in_schema_types.UnderNames.{get_under}
 use Rattle.graphql_schema_building.specs.in_schema_types.Plain.{plain, plain_type}
 use Rattle.graphql_schema_building.specs.in_schema_types.Looks.{looks, type_looks}
+use Rattle.graphql_components.specs.Names.{named}
 use Rattle.graphql_components.specs.Given.{Given, given_name, plain_given}
 use Rattle.graphql_schema.specs.MetaField.{by_definition}
 use Rattle.graphql_schema.specs.LookUps.{is_composite_kind, meta_field_on}

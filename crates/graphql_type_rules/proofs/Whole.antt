@@ -3,7 +3,6 @@ use Rattle.std.proofs.Common.{◌≡◌, ℕ, ◌⊎◌, ◌↔◌, List, [], �
 use Rattle.std.specs.List.{flat_map}
 use Rattle.std.proofs.lemmas.List.{append-nil}
 use Rattle.std.proofs.lemmas.List.Folds.{flat_map-map}
-use Rattle.std.proofs.lemmas.List.Elements.{Contains-append_left, Contains-append_right, Contains-append_cases}
 use Rattle.graphql_names.specs.NameValue.{NameValue}
 use Rattle.graphql_names.specs.Node.{content}
 use Rattle.graphql_names.specs.Placed.{Placed, Place, node_tree}
@@ -109,8 +108,5 @@ module _ (s : SchemaTree Place) where
 -- what is told behind other faults
 pub told_behind : (s : SchemaTree Place) → AreAllDistinct s → (types : List (NameValue × ExtendedType)) → s.types ≡ map (λ e. (name_text e.0, extended_type e.1)) types
     → (directives : List (NameValue × Node DirectiveDefinition)) → s.directives ≡ map (λ e. (name_text e.0, node_tree directive_definition_tree e.1)) directives
-    → (old new : List PlacedFault) → new ≡ old ++ all_faults s types directives → (f : PlacedFault) → Contains new f ↔ (Contains old f ⊎ Told s TypesBreak f)
-told_behind s distinct types are directives are' old new is f = (
-  λ h. elim (Contains-append_cases old _ f (subst (λ l. Contains l f) is h)) [ inl e ↦ inl e | inr r ↦ inr ((says_all s distinct types are directives are' f).0 r) ],
-  λ h. subst (λ l. Contains l f) (sym is) (elim h [ inl e ↦ Contains-append_left old _ f e | inr r ↦ Contains-append_right old _ f ((says_all s distinct types are directives are' f).1 r) ]),
-)
+    → (old new : List PlacedFault) → new ≡ old ++ all_faults s types directives → (added : List PlacedFault) × ((new ≡ old ++ added) × ((f : PlacedFault) → Contains added f ↔ Told s TypesBreak f))
+told_behind s distinct types are directives are' old new is = (all_faults s types directives, (is, says_all s distinct types are directives are'))

@@ -14,8 +14,8 @@ use crate::reserved::{Named, reserved_name};
 use crate::types_used::{input_type, undefined_type};
 use graphql_directives::InputValueDefinition;
 use graphql_fault_data::{DiagnosticData, Fault, tell};
-use graphql_schema::Schema;
 use graphql_names::{Name, Node, SourceSpan};
+use graphql_schema::Schema;
 use indexmap::IndexMap;
 use std::alloc::{AllocError, Global};
 

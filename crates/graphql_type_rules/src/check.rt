@@ -1,8 +1,9 @@
 //! Tells which rules a schema breaks on its roots, names, the types that are named, and what a type must have.
-ghost use Rattle.std.specs.Prelude.{◌≡◌, ◌↔◌, ◌++◌, ◌⊎◌, OnOk, Contains};
+ghost use Rattle.std.specs.Prelude.{◌≡◌, ◌++◌, OnOk};
 ghost use Rattle.graphql_names.specs.Placed.{node_tree};
 ghost use Rattle.graphql_directives.specs.DirectiveTree.{directive_definition_tree};
 ghost use Rattle.graphql_schema.specs.SchemaOf.{schema_tree};
+ghost use Rattle.graphql_fault_data.specs.Adds.{Adds};
 ghost use Rattle.graphql_fault_data.specs.FaultView.{faults_of};
 ghost use Rattle.graphql_schema_types.specs.Distinct.{AreAllDistinct};
 ghost use Rattle.graphql_fault_data.specs.in_rule_definitions.Told.{Told};
@@ -14,9 +15,9 @@ use crate::members::{check_fields, check_input_fields, check_members, check_valu
 use crate::reserved::{Named, reserved_name};
 use crate::roots::check_roots;
 use graphql_directives::DirectiveDefinition;
-use graphql_fault_data::{Fault};
-use graphql_schema::Schema;
+use graphql_fault_data::Fault;
 use graphql_names::{Name, Node};
+use graphql_schema::Schema;
 use graphql_schema_types::ExtendedType;
 use std::alloc::{AllocError, Global};
 
@@ -28,7 +29,7 @@ pub fn check_types(
     faults: &mut Vec<Fault>,
 ) -> Result<(), AllocError>
     requires distinct { AreAllDistinct (schema_tree schema.now) }
-    ensures { OnOk result ((f : _) → Contains (faults_of faults.new) f ↔ (Contains (faults_of faults.old) f ⊎ Told (schema_tree schema.now) TypesBreak f)) }
+    ensures { OnOk result (Adds faults.old faults.new (Told (schema_tree schema.now) TypesBreak)) }
 {
     check_all(alloc, schema, faults)
 }

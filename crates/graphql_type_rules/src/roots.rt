@@ -13,9 +13,9 @@ use crate::look_ups::kind_named;
 use crate::types_used::undefined_name;
 use graphql_components::ComponentName;
 use graphql_fault_data::{DiagnosticData, Fault, tell};
-use graphql_schema::Schema;
 use graphql_names::{Name, Node};
 use graphql_operations::OperationType;
+use graphql_schema::Schema;
 use graphql_schema_types::{SchemaDefinition, TypeKind};
 use std::alloc::AllocError;
 

@@ -12,11 +12,11 @@ ghost use Rattle.graphql_value_rules.specs.Wanting.{wanted_type, variables_of};
 use crate::keys::tell_key_faults;
 use crate::types::tell_type_faults;
 use crate::variables::tell_variable_faults;
-use graphql_fault_data::{Fault};
-use graphql_schema::Schema;
+use graphql_fault_data::Fault;
 use graphql_literals::{Type, Value};
 use graphql_names::Node;
 use graphql_operations::VariableDefinition;
+use graphql_schema::Schema;
 use std::alloc::AllocError;
 
 /// Adds the faults of a value that is given for a type: those of `type_breaks` and of `undefined_variables`.

@@ -18,5 +18,8 @@ mod variables;
 
 pub use checks::{check_value, type_breaks, undefined_variables, unique_input_values};
 pub use firsts::note_first;
-pub use graphql_fault_data::{DiagnosticData, DirectiveArgumentCoordinate, DirectiveCoordinate, Fault, FieldArgumentCoordinate, SchemaCoordinate, TypeAttributeCoordinate, tell};
+pub use graphql_fault_data::{
+    DiagnosticData, DirectiveArgumentCoordinate, DirectiveCoordinate, Fault,
+    FieldArgumentCoordinate, SchemaCoordinate, TypeAttributeCoordinate, tell,
+};
 pub use graphql_schema::Schema;

@@ -9,17 +9,17 @@ ghost use Rattle.graphql_fault_data.specs.FaultView.{faults_of};
 ghost use Rattle.graphql_value_rules.specs.Wanting.{variables_of};
 ghost use Rattle.graphql_value_rules.specs.ValueFaults.{form_faults, inner_faults, item_faults, entry_faults, type_faults, field_faults};
 
-use crate::find::{find_input, find_type};
+use crate::find::find_input;
 use crate::firsts::note_first;
 use crate::forms::{
     int_coercion_error, is_custom_scalar, undefined_enum_value, unsupported_value_type,
 };
 use crate::objects::{tell_required_fields, undefined_input_value};
-use graphql_fault_data::{Fault};
-use graphql_schema::Schema;
+use graphql_fault_data::Fault;
 use graphql_literals::{Type, Value};
 use graphql_names::{Name, Node, SourceSpan};
 use graphql_operations::VariableDefinition;
+use graphql_schema::Schema;
 use graphql_schema_types::ExtendedType;
 use indexmap::IndexMap;
 use std::alloc::AllocError;

@@ -12,8 +12,9 @@ use Rattle.graphql_cycle_rules.proofs.inputs.references_of_types.Goals as goal
 
 pub loop-number-init : goal.loop-number-init
 loop-number-init c = record {
-  no_directives = c.new-all.ensures.directives;
+  none_first = c.new-all.ensures.first_kind;
   all_roots = c.new-all.ensures.roots;
+  bound = c.new-all.ensures.bound;
   noted = AreNoted-none (node_tree input_value_tree) (input_fields_at (schema_tree c.args.schema.now)) c.new-all.result c.new-all.ensures.references c.new-all.ensures.firsts;
 }
 
@@ -22,8 +23,9 @@ loop-number-preserved c =
     let i = c.loop-number.invariant in
     let adds = c.in_ok-push.ensures in
     record {
-      no_directives = adds.directives ∙ i.no_directives;
+      none_first = adds.first_kind ∙ i.none_first;
       all_roots = adds.roots ∙ i.all_roots;
+      bound = adds.bound ∙ i.bound;
       noted = AreNoted-more (node_tree input_value_tree) (input_fields_at (schema_tree c.args.schema.now)) c.loop-number.number c.loop-number.all c.push.new.self c.in_ok-input_references.field-0.items i.noted adds c.in_ok-input_references.ensures;
     }
 
@@ -36,8 +38,9 @@ returns c =
     let none : (j : ℕ) → c.loop-number.number ≤ j → input_fields_at s j ≡ [] = λ j h. past_the_last (input_references s.types) s.types j (omega (arith, all, last, h)) in
     record {
       graph = record {
-        no_directives = i.no_directives;
+        none_first = i.none_first;
         all_roots = i.all_roots ∙ all;
+        bound = i.bound;
         refers = AreNoted-refers (node_tree input_value_tree) (input_fields_at s) c.loop-number.number c.loop-number.all i.noted none;
       };
       labels = AreNoted-labels (node_tree input_value_tree) (input_fields_at s) c.loop-number.number c.loop-number.all i.noted none;

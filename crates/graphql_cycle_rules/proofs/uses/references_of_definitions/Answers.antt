@@ -12,8 +12,9 @@ use Rattle.graphql_cycle_rules.proofs.uses.references_of_definitions.Goals as go
 
 pub loop-node-init : goal.loop-node-init
 loop-node-init c = record {
-  directives = c.new-all.ensures.directives;
+  directives = c.new-all.ensures.first_kind;
   all_roots = c.new-all.ensures.roots;
+  bound = c.new-all.ensures.bound;
   noted = AreNoted-none use_tree (uses_at (schema_tree c.args.schema.now)) c.new-all.result c.new-all.ensures.references c.new-all.ensures.firsts;
 }
 
@@ -22,8 +23,9 @@ loop-node-preserved c =
     let i = c.loop-node.invariant in
     let adds = c.in_ok-push.ensures in
     record {
-      directives = adds.directives ∙ i.directives;
+      directives = adds.first_kind ∙ i.directives;
       all_roots = adds.roots ∙ i.all_roots;
+      bound = adds.bound ∙ i.bound;
       noted = AreNoted-more use_tree (uses_at (schema_tree c.args.schema.now)) c.loop-node.node c.loop-node.all c.push.new.self c.in_ok-use_references.field-0.items i.noted adds c.in_ok-use_references.ensures;
     }
 
@@ -39,6 +41,7 @@ returns c =
       graph = record {
         directives = i.directives ∙ directives;
         all_roots = i.all_roots ∙ directives;
+        bound = i.bound;
         refers = AreNoted-refers use_tree (uses_at s) c.loop-node.node c.loop-node.all i.noted none;
       };
       labels = AreNoted-labels use_tree (uses_at s) c.loop-node.node c.loop-node.all i.noted none;

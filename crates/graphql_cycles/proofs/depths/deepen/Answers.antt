@@ -11,7 +11,7 @@ loop-node-preserved c =
     let node : ℕ = get_or c.args.order.now c.loop-node.node-index 0 in
     elim c.if-node-depths.branch [
       | then-node-depths w ↦
-          subst (λ (l : List ℕ). AreCounted g (is_of g c.args.directives) l) (sym w.depths-is)
-          (counted_set g (is_of g c.args.directives) c.loop-node.depths node w.depth_of.result w.if-node-depths.true c.loop-node.invariant (w.depth_of.ensures (is_of g c.args.directives) (of_same g c.args.directives node) c.loop-node.invariant))
-      | else-node-depths w ↦ subst (λ (l : List ℕ). AreCounted g (is_of g c.args.directives) l) (sym w.depths-is) c.loop-node.invariant
+          subst (λ (l : List ℕ). AreCounted g (is_of g c.args.first) l) (sym w.depths-is)
+          (counted_set g (is_of g c.args.first) c.loop-node.depths node w.depth_of.result w.if-node-depths.true c.loop-node.invariant (w.depth_of.ensures (is_of g c.args.first) (of_same g c.args.first node) c.loop-node.invariant))
+      | else-node-depths w ↦ subst (λ (l : List ℕ). AreCounted g (is_of g c.args.first) l) (sym w.depths-is) c.loop-node.invariant
     ]

@@ -22,8 +22,8 @@ loop-next-preserved c = λ kind all.
       | else-next-depths w ↦ subst (HasMost g kind c.args.node from c.in-Some.step.now.center) (sym w.most-is) (c.loop-next.invariant kind all)
     ]
 
-pub returns-then-most-le-BOUND : goal.returns-then-most-le-BOUND
-returns-then-most-le-BOUND c = λ kind is all.
+pub returns-then-most-graph : goal.returns-then-most-graph
+returns-then-most-graph c = λ kind is all.
     let g = c.args.graph.now in
     let from = c.args.parts.now.from.items in
     let a = c.in-Some.ensures.lookup in

@@ -12,10 +12,10 @@ look_back-requires-clause-deep c = λ h.
     elim c.if-is_beyond.branch [
       | then-is_beyond w ↦
           let b = c.is_beyond.ensures w.if-is_beyond.true in
-          counted_deep g true c.in_ok-directives.directives.items c.in_ok-directives.ensures c.loop-root.root b.0 (subst (λ l. slice_get l c.loop-root.root ≡ Some b.0) c.deref-in-loop-root.ensures.value b.1.0) b.1.1
+          counted_deep g true c.in_ok-firsts.firsts.items c.in_ok-firsts.ensures c.loop-root.root b.0 (subst (λ l. slice_get l c.loop-root.root ≡ Some b.0) c.deref-in-loop-root.ensures.value b.1.0) b.1.1
       | else-is_beyond w ↦
           let b = w.is_beyond-is_deep.ensures (sym w.is_deep-is ∙ h) in
-          counted_deep g false c.in_ok-types.types.items c.in_ok-types.ensures c.loop-root.root b.0 (subst (λ l. slice_get l c.loop-root.root ≡ Some b.0) w.deref-else-is_beyond.ensures.value b.1.0) b.1.1
+          counted_deep g false c.in_ok-others.others.items c.in_ok-others.ensures c.loop-root.root b.0 (subst (λ l. slice_get l c.loop-root.root ≡ Some b.0) w.deref-else-is_beyond.ensures.value b.1.0) b.1.1
     ]
 
 pub loop-root-preserved : goal.loop-root-preserved

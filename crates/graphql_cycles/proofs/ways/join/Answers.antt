@@ -3,7 +3,7 @@ use Rattle.std.specs.Prelude.{Contains, option_to_list}
 use Rattle.std.proofs.lemmas.Result.{on_ok_weaker}
 use Rattle.std.proofs.lemmas.List.{nil_from_length}
 use Rattle.std.proofs.lemmas.List.Elements.{Contains-append_cases}
-use Rattle.graphql_rule_definitions.proofs.Lists.{not_in_nil, only}
+use Rattle.graphql_cycles.proofs.Lists.{not_in_nil, only}
 use Rattle.graphql_cycles.proofs.Members.{contains_true, contains_false, popped, on_ok_if}
 use Rattle.graphql_cycles.proofs.ways.join.Goals as goal
 use Rattle.graphql_cycles.proofs.ways.join.Goals.{in-Some+then-contains, in_default}

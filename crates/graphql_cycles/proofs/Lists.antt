@@ -1,5 +1,5 @@
--- Lemmas on lists, once for all rules.
-use Rattle.std.proofs.Common.{◌≡◌, ℕ, ◌<◌, ◌⊎◌, List, [], ◌∷◌, ◌++◌, get_or, map, length, refl, sym, ap, subst, inl, inr, Option, None, Some, Contains, zero, suc, arith, slice_get}
+-- Lemmas on lists, once for all that stands on this crate.
+use Rattle.std.proofs.Common.{◌≡◌, ℕ, ◌<◌, ◌⊎◌, List, [], ◌∷◌, get_or, map, length, refl, sym, ap, subst, inl, inr, Option, None, Some, Contains, zero, suc, arith, slice_get}
 use Rattle.std.specs.List.{flat_map}
 use Rattle.std.specs.Option.{option_map}
 use Rattle.std.proofs.lemmas.List.Elements.{Contains-append_left, Contains-append_right, Contains-append_cases}
