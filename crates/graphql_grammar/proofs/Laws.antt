@@ -23,6 +23,9 @@ use Rattle.graphql_grammar.specs.Begins.{begins_type}
 use Rattle.graphql_grammar.proofs.Values.{lacking, type_parses}
 use Rattle.graphql_grammar.proofs.Operations.{selections_parses}
 use Rattle.graphql_grammar.proofs.Documents.{document_parses}
+use Rattle.graphql_grammar.proofs.ViableValues.{type_viable}
+use Rattle.graphql_grammar.proofs.ViableOperations.{selections_viable}
+use Rattle.graphql_grammar.proofs.ViableDocuments.{document_viable}
 use Rattle.graphql_grammar.proofs.Theorems as t
 
 module _ {P : Type 0} (m : Meaning P) where
@@ -53,7 +56,7 @@ module _ {P : Type 0} (m : Meaning P) where
     document_only = t.same_tree (document_parses m) refl n i begins
 
     pub document_says : (stop : Stop) (z : Input) → (stop ≢ Memory → whole (d.document m) n i ≡ Err (stop, z)) → Says (Derives m) i.ahead i.ending n (fault_of stop z)
-    document_says = t.says (document_parses m) refl n i begins
+    document_says = t.says (document_parses m) refl n i begins (document_viable m) refl
 
     pub document_memory : (stop : Stop) (z : Input) (tree : List (DefinitionTree P)) → (stop ≢ Memory → whole (d.document m) n i ≡ Err (stop, z)) → Derives m i.ahead tree → depth i.ahead ≤ n → fault_of stop z ≡ faults.Memory
     document_memory = t.only_memory (document_parses m) refl n i begins
@@ -68,7 +71,7 @@ module _ {P : Type 0} (m : Meaning P) where
     type_only = t.same_tree any_type_parses refl n i begins
 
     pub type_says : (stop : Stop) (z : Input) → (stop ≢ Memory → whole (v.type m) n i ≡ Err (stop, z)) → Says (DerivesType m) i.ahead i.ending n (fault_of stop z)
-    type_says = t.says any_type_parses refl n i begins
+    type_says = t.says any_type_parses refl n i begins (type_viable m) refl
 
     pub type_memory : (stop : Stop) (z : Input) (tree : TypeTree P) → (stop ≢ Memory → whole (v.type m) n i ≡ Err (stop, z)) → DerivesType m i.ahead tree → depth i.ahead ≤ n → fault_of stop z ≡ faults.Memory
     type_memory = t.only_memory any_type_parses refl n i begins
@@ -83,7 +86,7 @@ module _ {P : Type 0} (m : Meaning P) where
     selections_only = t.same_tree (selections_parses m) refl n i begins
 
     pub selections_says : (stop : Stop) (z : Input) → (stop ≢ Memory → whole (o.selections m) n i ≡ Err (stop, z)) → Says (DerivesSelections m) i.ahead i.ending n (fault_of stop z)
-    selections_says = t.says (selections_parses m) refl n i begins
+    selections_says = t.says (selections_parses m) refl n i begins (selections_viable m) refl
 
     pub selections_memory : (stop : Stop) (z : Input) (tree : SelectionTrees P) → (stop ≢ Memory → whole (o.selections m) n i ≡ Err (stop, z)) → DerivesSelections m i.ahead tree → depth i.ahead ≤ n → fault_of stop z ≡ faults.Memory
     selections_memory = t.only_memory (selections_parses m) refl n i begins

@@ -12,6 +12,16 @@ pub mod Values
 pub mod Operations
 pub mod TypeSystem
 pub mod Documents
+pub mod Viable
+pub mod ViableLists
+pub mod ViableTests
+pub mod ViableValues
+pub mod ViableOperations
+pub mod ViableTypeSystem
+pub mod Extensions
+pub mod ViableDocuments
+pub mod Before
+pub mod OneFault
 pub mod Theorems
 pub mod Laws
 pub mod Opened

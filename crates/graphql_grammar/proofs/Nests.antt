@@ -1,5 +1,5 @@
 -- Where a parser stops, and how deep it has gone.
-use Rattle.std.proofs.Common.{◌≡◌, ℕ, zero, suc, ◌+◌, ◌-◌, ◌<◌, ◌≤◌, Bool, true, false, cond, List, [], ◌∷◌, ◌++◌, length, Some, None, Ok, Err, refl, sym, ap, ◌∙◌, arith, append_assoc}
+use Rattle.std.proofs.Common.{◌≡◌, ℕ, zero, suc, ◌+◌, ◌-◌, ◌≤◌, Bool, true, false, cond, List, [], ◌∷◌, ◌++◌, length, Some, None, Ok, Err, refl, sym, ap, ◌∙◌, arith, append_assoc}
 use Rattle.graphql_lexer.specs.declared.terminal.Terminal.{Terminal}
 use Rattle.graphql_grammar.specs.declared.stop.Stop.{Stop}
 use Rattle.graphql_grammar.specs.declared.stop.Stop.TheVariants.{Unexpected, Nesting, Memory}

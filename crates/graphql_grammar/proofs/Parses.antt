@@ -1,5 +1,5 @@
 -- A parser at two limits reads a rule exactly, steadily, and within its limit: the three properties at once, for each way to put rules together.
-use Rattle.std.proofs.Common.{◌≡◌, ℕ, suc, ◌+◌, ◌<◌, ◌≤◌, Bool, true, ◌∷◌, length, Ok, Err, ap, arith}
+use Rattle.std.proofs.Common.{◌≡◌, ℕ, suc, ◌+◌, ◌≤◌, Bool, true, ◌∷◌, length, Ok, Err, ap, arith}
 use Rattle.graphql_lexer.specs.declared.terminal.Terminal.{Terminal}
 use Rattle.graphql_lexer.specs.Input.{Input}
 use Rattle.graphql_grammar.specs.Meaning.{Meaning}

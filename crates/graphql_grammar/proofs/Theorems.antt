@@ -1,5 +1,5 @@
 -- What the reading of all tokens says of a symbol.
-use Rattle.std.proofs.Common.{◌≡◌, ◌≢◌, ℕ, suc, ◌+◌, ◌≤◌, true, List, [], ◌∷◌, ◌++◌, length, Option, Some, None, Ok, Err, refl, sym, ap, subst, ◌∙◌, arith, append_assoc, inl, inr}
+use Rattle.std.proofs.Common.{◌≡◌, ◌≢◌, ℕ, suc, ◌+◌, ◌≤◌, Bool, true, List, [], ◌∷◌, ◌++◌, length, Option, Some, None, Ok, Err, refl, sym, ap, subst, ◌∙◌, arith, append_assoc, inl, inr}
 use Rattle.std.proofs.lemmas.List.{append-nil}
 use Rattle.graphql_lexer.specs.declared.terminal.Terminal.{Terminal}
 use Rattle.graphql_lexer.specs.declared.terminal.Terminal.TheVariants as terminal
@@ -12,7 +12,7 @@ use Rattle.graphql_grammar.specs.Rules.{Rule}
 use Rattle.graphql_grammar.specs.Grammar.{DerivesAs}
 use Rattle.graphql_grammar.specs.Depth.{is_opening, is_closing, depth}
 use Rattle.graphql_grammar.specs.Faults as faults
-use Rattle.graphql_grammar.specs.Faults.{Says, IsTooDeep}
+use Rattle.graphql_grammar.specs.Faults.{BeginsSome, Says, IsTooDeep}
 use Rattle.graphql_grammar.specs.Stops.{fault_of, unexpected_at, ending_fault}
 use Rattle.graphql_grammar.specs.Reading.{Outcome, Parser, ended, ended_at, whole}
 use Rattle.graphql_grammar.proofs.Tests.{Test}
@@ -24,6 +24,8 @@ use Rattle.graphql_grammar.proofs.Nests.{Nested, At, StopsAt, Closed}
 use Rattle.graphql_grammar.proofs.Keeps as kept
 use Rattle.graphql_grammar.proofs.Keeps.{Keeps, ending_of}
 use Rattle.graphql_grammar.proofs.Parses.{Parses}
+use Rattle.graphql_grammar.proofs.Viable.{Viable}
+use Rattle.graphql_grammar.proofs.Before.{done_at, stop_at, stop_of, place_of, BeginsBefore, before_stop, may_nest}
 
 -- ---- lists that part behind a token
 
@@ -88,21 +90,7 @@ module _ {A : Type 0} where
   ended_ok x o z None e at = (ok_is (x, o) z at, next_none o.ahead e)
   ended_ok x o z (Some kind) e at = absurd cc
 
-  abbrev done_at : A → Input → Outcome A
-  done_at x o = Ok (x, o)
-
-  abbrev stop_at : Stop → Input → Outcome A
-  stop_at stop o = Err (stop, o)
-
-  abbrev stop_of : Outcome A → Stop
-  stop_of (Ok z) = Memory
-  stop_of (Err f) = f.0
-
-  abbrev place_of : Outcome A → Input
-  place_of (Ok z) = z.1
-  place_of (Err f) = f.1
-
-  stops_by : (a : Fork) (o : Input) (stop : Stop) (q : Input) (w : Outcome A) → a.far ≤ length o.ahead → stop_at stop q ≡ stop_at Unexpected o → RelatedAt a stop q w → (j : Input) × (w ≡ Err (Unexpected, j))
+  stops_by : (a : Fork) (o : Input) (stop : Stop) (q : Input) (w : Outcome A) → a.far ≤ length o.ahead → stop_at {A = A} stop q ≡ stop_at Unexpected o → RelatedAt a stop q w → (j : Input) × (w ≡ Err (Unexpected, j))
   stops_by a o Unexpected q w le at (inl h) = let e : q ≡ o = ap place_of at in let len = ap (λ (i : Input). length i.ahead) e in absurd (omega (arith, len))
   stops_by a o Unexpected q w le at (inr h) = (h.0, h.1)
   stops_by a o Nesting q w le at h = let no : Nesting ≡ Unexpected = ap stop_of at in absurd cc
@@ -251,29 +239,38 @@ module _ {A : Type 0} {r : ℕ → Rule A} {p : ℕ → Parser A} {b e : Test} (
 
     -- ---- as a call answers
 
-    unexpected_says : (o : Input) (ts : List Token) → whole p n i ≡ Err (Unexpected, o) → o.ahead ≡ ts → o.ending ≡ i.ending → Says (DerivesAs r) i.ahead i.ending n (unexpected_at ts o.ending)
-    unexpected_says o [] at left same_end = go o.ending same_end
-      where
-        go : (z : Ending) → z ≡ i.ending → Says (DerivesAs r) i.ahead i.ending n (ending_fault z)
-        go (Ended offset) s = (sym s, λ tree d. ended_short o at tree d)
-        go (NoTokenAt offset) s = sym s
-    unexpected_says o (c ∷ rest) at left same_end =
-        let k = nested_err n i.ahead (whole p n i) Unexpected o ((whole_nested n).at i) at in
-        let parts : i.ahead ≡ k.0 ++ c ∷ rest = k.1 ∙ ap (λ (ts : List Token). k.0 ++ ts) left in
-        record {
-          front = k.0;
-          token = c;
-          stands = record { rest = rest; parts = parts; at = refl };
-          begins_none = λ more tree d. stopped k.0 c rest o parts at left more tree (subst (λ (ts : List Token). DerivesAs r ts tree) (append_assoc k.0 (c ∷ []) more) d);
-        }
-
     kept_at : (stop : Stop) (o : Input) → whole p n i ≡ Err (stop, o) → o.ending ≡ i.ending
     kept_at stop o at = sym (ap ending_of at) ∙ (whole_keeps n).ending i
 
-    pub says : (stop : Stop) (o : Input) → (stop ≢ Memory → whole p n i ≡ Err (stop, o)) → Says (DerivesAs r) i.ahead i.ending n (fault_of stop o)
-    says Unexpected o at = let is = at (λ e. cc) in unexpected_says o o.ahead is refl (kept_at Unexpected o is)
-    says Nesting o at = too_deep_at o (at (λ e. cc))
-    says Memory o at = tt
+    module _ {k : Bool} {f : Test} (viable : (n : ℕ) → Viable k (r (suc n)) (p n) f) (free : f None ≡ true) where
+      -- a text of the symbol begins with the tokens before the place where reading stops
+      pub begins_before : (stop : Stop) (o : Input) → whole p n i ≡ Err (stop, o) → BeginsBefore (DerivesAs r) i.ahead o.ahead
+      begins_before stop o at = before_stop r p viable free n i begins stop o at
+
+      all_begin : (last : List Token) → BeginsBefore (DerivesAs r) i.ahead last → last ≡ [] → BeginsSome (DerivesAs r) i.ahead
+      all_begin last b none = subst (λ (ts : List Token). BeginsSome (DerivesAs r) ts) (sym (append-nil b.front) ∙ ap (λ (ts : List Token). b.front ++ ts) (sym none) ∙ sym b.parts) b.begins
+
+      unexpected_says : (o : Input) (ts : List Token) → whole p n i ≡ Err (Unexpected, o) → o.ahead ≡ ts → o.ending ≡ i.ending → Says (DerivesAs r) i.ahead i.ending n (unexpected_at ts o.ending)
+      unexpected_says o [] at left same_end = go o.ending same_end (all_begin o.ahead (begins_before Unexpected o at) left)
+        where
+          go : (z : Ending) → z ≡ i.ending → BeginsSome (DerivesAs r) i.ahead → Says (DerivesAs r) i.ahead i.ending n (ending_fault z)
+          go (Ended offset) s b = (sym s, (λ tree d. ended_short o at tree d), b)
+          go (NoTokenAt offset) s b = (sym s, b)
+      unexpected_says o (c ∷ rest) at left same_end =
+          let b = begins_before Unexpected o at in
+          let parts : i.ahead ≡ b.front ++ c ∷ rest = b.parts ∙ ap (λ (ts : List Token). b.front ++ ts) left in
+          record {
+            front = b.front;
+            token = c;
+            stands = record { rest = rest; parts = parts; at = refl };
+            begins_some = b.begins;
+            begins_none = λ more tree d. stopped b.front c rest o parts at left more tree (subst (λ (ts : List Token). DerivesAs r ts tree) (append_assoc b.front (c ∷ []) more) d);
+          }
+
+      pub says : (stop : Stop) (o : Input) → (stop ≢ Memory → whole p n i ≡ Err (stop, o)) → Says (DerivesAs r) i.ahead i.ending n (fault_of stop o)
+      says Unexpected o at = let is = at (λ e. cc) in unexpected_says o o.ahead is refl (kept_at Unexpected o is)
+      says Nesting o at = (too_deep_at o (at (λ e. cc)), may_nest r p viable free n i begins o (at (λ e. cc)))
+      says Memory o at = tt
 
     -- Where a tree is derived within the limit, a stop is want of memory.
     pub only_memory : (stop : Stop) (o : Input) (tree : A) → (stop ≢ Memory → whole p n i ≡ Err (stop, o)) → DerivesAs r i.ahead tree → depth i.ahead ≤ n → fault_of stop o ≡ faults.Memory

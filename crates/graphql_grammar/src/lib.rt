@@ -4,9 +4,10 @@
 //! (`specs/Reading.antt` and its neighbours, which are private to the reader), and the lemmas in `proofs/Laws.antt` lead
 //! from there to the grammar.
 //!
-//! Begin with `specs/Rules.antt` and `specs/Grammar.antt`.
+//! Begin with `specs/Rules.antt`, `specs/Grammar.antt` and `specs/Faults.antt`; `one_tree` and `due_faults` hold the laws.
 #![tactic(auto)]
 
+pub mod due_faults;
 pub mod one_tree;
 mod stop;
 

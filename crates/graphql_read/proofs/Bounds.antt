@@ -106,7 +106,7 @@ module _ {A : Type 0} (symbol : Symbol A) (nesting : ℕ) (text : List ℕ) wher
   pub stands_in : (fault : faults.Fault) → IsDue symbol nesting text fault → StandsIn text fault
   stands_in faults.Memory due = tt
   stands_in (faults.NoToken offset) due =
-      let ends : EndsAs text due.tokens (NoTokenAt offset) = subst (EndsAs text due.tokens) due.says due.lexed in
+      let ends : EndsAs text due.tokens (NoTokenAt offset) = subst (EndsAs text due.tokens) due.says.0 due.lexed in
       let some : 0 < length (drop offset text) = some_left (drop offset text) ends.1 in
       let size : length (drop offset text) ≡ length text - offset = length-drop offset text in
       omega arith
@@ -114,12 +114,12 @@ module _ {A : Type 0} (symbol : Symbol A) (nesting : ℕ) (text : List ℕ) wher
   stands_in (faults.End offset) due =
       let ends : EndsAs text due.tokens (Ended offset) = subst (EndsAs text due.tokens) due.says.0 due.lexed in
       ends.0
-  stands_in (faults.Nesting offset) due = stands_within text due.tokens due.says.front due.ending offset due.says.token due.lexed due.says.stands
+  stands_in (faults.Nesting offset) due = stands_within text due.tokens due.says.0.front due.ending offset due.says.0.token due.lexed due.says.0.stands
 
   -- where the fault is of nesting, the bound is passed
   pub is_passed : (offset : ℕ) → IsDue symbol nesting text (faults.Nesting offset) → NestingBound nesting text
   is_passed offset due =
-      let says = due.says in
+      let says = due.says.0 in
       let front = ends_front text due.tokens due.ending due.lexed in
       let deep : List Token = says.front ++ says.token ∷ [] in
       let above : nesting < depth deep = says.above in
@@ -138,7 +138,7 @@ module _ {A : Type 0} (symbol : Symbol A) (nesting : ℕ) (text : List ℕ) wher
   memory_alone faults.Memory due tree r not = refl
   memory_alone (faults.NoToken offset) due tree r not =
       let whole = ends_whole text due.tokens due.ending r.tokens due.lexed r.lexed in
-      let bad : Ended whole.0 ≡ NoTokenAt offset = sym whole.1 ∙ due.says in
+      let bad : Ended whole.0 ≡ NoTokenAt offset = sym whole.1 ∙ due.says.0 in
       absurd cc
   memory_alone (faults.Unexpected offset) due tree r not =
       let whole = ends_whole text due.tokens due.ending r.tokens due.lexed r.lexed in

@@ -1,5 +1,6 @@
 -- What the reading of a text says of it, for each symbol.
-use Rattle.std.proofs.Common.{◌≡◌, ◌≢◌, ◌⊎◌, ℕ, ◌≤◌, true, List, [], ◌∷◌, length, Option, Some, None, Ok, Err, refl, sym, ap, subst, ◌∙◌, inl, inr, arith}
+use Rattle.std.proofs.Common.{◌≡◌, ◌≢◌, ◌⊎◌, ℕ, suc, ◌≤◌, Bool, true, List, [], ◌∷◌, length, Option, Some, None, Ok, Err, refl, sym, ap, subst, ◌∙◌, inl, inr, arith}
+use Rattle.std.proofs.lemmas.List.{append-nil}
 use Rattle.graphql_lexer.specs.declared.terminal.Terminal.{Terminal}
 use Rattle.graphql_lexer.specs.Input.{Token, Input, Ending, Ended, NoTokenAt, next}
 use Rattle.graphql_lexer.specs.Cursor.{EndsAs, is_stuck_at, input_from}
@@ -9,7 +10,7 @@ use Rattle.graphql_grammar.specs.Rules.{Rule}
 use Rattle.graphql_grammar.specs.Grammar.{DerivesAs}
 use Rattle.graphql_grammar.specs.Depth.{depth}
 use Rattle.graphql_grammar.specs.Faults as faults
-use Rattle.graphql_grammar.specs.Faults.{Symbol, Says}
+use Rattle.graphql_grammar.specs.Faults.{Symbol, BeginsSome, Says}
 use Rattle.graphql_grammar.specs.Stops.{fault_of, unexpected_at}
 use Rattle.graphql_grammar.specs.Reading.{Parser, ended, ended_at, whole}
 use Rattle.graphql_grammar.proofs.Tests.{Test}
@@ -17,6 +18,7 @@ use Rattle.graphql_grammar.proofs.Keeps as kept
 use Rattle.graphql_grammar.proofs.Keeps.{Keeps, ending_of}
 use Rattle.graphql_grammar.proofs.Parses.{Parses}
 use Rattle.graphql_grammar.proofs.Theorems as t
+use Rattle.graphql_grammar.proofs.Viable.{Viable}
 use Rattle.graphql_read.specs.Calls.{all_of}
 use Rattle.graphql_read.specs.Reads.{ReadsWithin, IsDue}
 use Rattle.graphql_read.proofs.Endings.{AtEnd, ends_whole, not_stuck, lexed_whole, all_ok, all_err}
@@ -80,25 +82,32 @@ module _ {A : Type 0} {r : ℕ → Rule A} {p : ℕ → Parser A} {b e : Test} (
     memory Unexpected z tree at d = stops Unexpected z tree (at (λ e. cc)) d
     memory Nesting z tree at d = stops Nesting z tree (at (λ e. cc)) d
 
-    stuck_says : (ts : List Token) (ending : Ending) → ts ≡ [] → ending ≡ i.ending → is_stuck_at ts ending ≡ true → Says (DerivesAs r) i.ahead i.ending n (unexpected_at ts ending)
-    stuck_says [] (NoTokenAt at) none same is = sym same
-    stuck_says [] (Ended at) none same is = absurd cc
-    stuck_says (token ∷ ts) ending none same is = absurd cc
+    -- ---- where a text of the symbol begins with the tokens before each stop
 
-    says : (stop : Stop) (z : Input) → all_of (p n) i ≡ Err (stop, z) → Says (DerivesAs r) i.ahead i.ending n (fault_of stop z)
-    says stop z at = go (all_err p n i stop z at)
-      where
-        go : (whole p n i ≡ Err (stop, z)) ⊎ ((stop ≡ Unexpected) × ((x : A) × (whole p n i ≡ Ok (x, z)) × AtEnd z true)) → Says (DerivesAs r) i.ahead i.ending n (fault_of stop z)
-        go (inl h) = t.says parses ends n i begins stop z (λ other. h)
-        go (inr h) =
-            subst (λ (s : Stop). Says (DerivesAs r) i.ahead i.ending n (fault_of s z)) (sym h.0)
-            (stuck_says z.ahead z.ending h.1.2.none (same_ending h.1.0 z h.1.1) h.1.2.is)
+    module _ {k : Bool} {f : Test} (viable : (m : ℕ) → Viable k (r (suc m)) (p m) f) (free : f None ≡ true) where
+      -- all tokens are a text, and so begin one
+      all_begin : (tree : A) (z : Input) → whole p n i ≡ Ok (tree, z) → BeginsSome (DerivesAs r) i.ahead
+      all_begin tree z at = ([], tree, subst (λ (ts : List Token). DerivesAs r ts tree) (sym (append-nil i.ahead)) (t.found parses ends n i begins tree z at))
 
-    -- at each stop the fault is due
-    pub due : (stop : Stop) (z : Input) → (stop ≢ Memory → all_of (p n) i ≡ Err (stop, z)) → IsDue (DerivesAs r) n text (fault_of stop z)
-    due Memory z at = record { tokens = i.ahead; ending = i.ending; lexed = lexed; says = tt }
-    due Unexpected z at = record { tokens = i.ahead; ending = i.ending; lexed = lexed; says = says Unexpected z (at (λ e. cc)) }
-    due Nesting z at = record { tokens = i.ahead; ending = i.ending; lexed = lexed; says = says Nesting z (at (λ e. cc)) }
+      stuck_says : (ts : List Token) (ending : Ending) → ts ≡ [] → ending ≡ i.ending → is_stuck_at ts ending ≡ true → BeginsSome (DerivesAs r) i.ahead → Says (DerivesAs r) i.ahead i.ending n (unexpected_at ts ending)
+      stuck_says [] (NoTokenAt at) none same is some = (sym same, some)
+      stuck_says [] (Ended at) none same is some = absurd cc
+      stuck_says (token ∷ ts) ending none same is some = absurd cc
+
+      says : (stop : Stop) (z : Input) → all_of (p n) i ≡ Err (stop, z) → Says (DerivesAs r) i.ahead i.ending n (fault_of stop z)
+      says stop z at = go (all_err p n i stop z at)
+        where
+          go : (whole p n i ≡ Err (stop, z)) ⊎ ((stop ≡ Unexpected) × ((x : A) × (whole p n i ≡ Ok (x, z)) × AtEnd z true)) → Says (DerivesAs r) i.ahead i.ending n (fault_of stop z)
+          go (inl h) = t.says parses ends n i begins viable free stop z (λ other. h)
+          go (inr h) =
+              subst (λ (s : Stop). Says (DerivesAs r) i.ahead i.ending n (fault_of s z)) (sym h.0)
+              (stuck_says z.ahead z.ending h.1.2.none (same_ending h.1.0 z h.1.1) h.1.2.is (all_begin h.1.0 z h.1.1))
+
+      -- at each stop the fault is due
+      pub due : (stop : Stop) (z : Input) → (stop ≢ Memory → all_of (p n) i ≡ Err (stop, z)) → IsDue (DerivesAs r) n text (fault_of stop z)
+      due Memory z at = record { tokens = i.ahead; ending = i.ending; lexed = lexed; says = tt }
+      due Unexpected z at = record { tokens = i.ahead; ending = i.ending; lexed = lexed; says = says Unexpected z (at (λ e. cc)) }
+      due Nesting z at = record { tokens = i.ahead; ending = i.ending; lexed = lexed; says = says Nesting z (at (λ e. cc)) }
 
 -- of want of memory nothing is said of a text that has a tree
 pub memory_due : {A : Type 0} (symbol : Symbol A) (n : ℕ) (text : List ℕ) (tree : A) → ReadsWithin symbol n text tree → IsDue symbol n text faults.Memory

@@ -1,6 +1,7 @@
 use Rattle.std.proofs.Common.{refl, sym, subst, ◌∙◌}
 use Rattle.graphql_grammar.specs.Grammar.{Derives}
 use Rattle.graphql_grammar.proofs.Documents.{document_parses}
+use Rattle.graphql_grammar.proofs.ViableDocuments.{document_viable}
 use Rattle.graphql_parse_operations.specs.in_parse_values.Meanings.{in_file}
 use Rattle.graphql_read.specs.ReadFaults.{fault_view, definitions_tree}
 use Rattle.graphql_read.specs.Reads.{IsDue}
@@ -20,7 +21,7 @@ returns-in-Err-clause-only c = λ tree d. c.fault.ensures ∙ memory (document_p
 pub returns-in-Err-clause-fault : goal.returns-in-Err-clause-fault
 returns-in-Err-clause-fault c =
     subst (IsDue (Derives (in_file c.args.file)) c.args.nesting c.args.text.now) (sym c.fault.ensures)
-    (due (document_parses (in_file c.args.file)) refl c.args.nesting c.args.text.now c.new-tokens.result (begins c.args.text.now c.new-tokens.result c.new-tokens.ensures.shows) c.new-tokens.ensures.lexed c.in-Err.stop c.whole_document.new.tokens c.in-Err.ensures)
+    (due (document_parses (in_file c.args.file)) refl c.args.nesting c.args.text.now c.new-tokens.result (begins c.args.text.now c.new-tokens.result c.new-tokens.ensures.shows) c.new-tokens.ensures.lexed (document_viable (in_file c.args.file)) refl c.in-Err.stop c.whole_document.new.tokens c.in-Err.ensures)
 
 pub returns-in-Err-clause-within : goal.returns-in-Err-clause-within
 returns-in-Err-clause-within c = stands_in (Derives (in_file c.args.file)) c.args.nesting c.args.text.now (fault_view c.fault.result) (returns-in-Err-clause-fault c)

@@ -1,6 +1,7 @@
 use Rattle.std.proofs.Common.{refl, sym, subst, ◌∙◌}
 use Rattle.graphql_grammar.specs.Grammar.{DerivesSelections}
 use Rattle.graphql_grammar.proofs.Operations.{selections_parses}
+use Rattle.graphql_grammar.proofs.ViableOperations.{selections_viable}
 use Rattle.graphql_parse_operations.specs.in_parse_values.Meanings.{in_file}
 use Rattle.graphql_read.specs.ReadFaults.{fault_view, selections_tree}
 use Rattle.graphql_read.specs.Reads.{IsDue}
@@ -21,7 +22,7 @@ returns-in-Err-clause-only c = λ tree d. c.fault.ensures ∙ memory (selections
 pub returns-in-Err-clause-fault : goal.returns-in-Err-clause-fault
 returns-in-Err-clause-fault c =
     subst (IsDue (DerivesSelections (in_file c.args.file)) c.args.nesting c.args.text.now) (sym c.fault.ensures)
-    (due (selections_parses (in_file c.args.file)) refl c.args.nesting c.args.text.now c.new-tokens.result (begins c.args.text.now c.new-tokens.result c.new-tokens.ensures.shows) c.new-tokens.ensures.lexed c.in-Err.stop c.whole_selections.new.tokens c.in-Err.ensures)
+    (due (selections_parses (in_file c.args.file)) refl c.args.nesting c.args.text.now c.new-tokens.result (begins c.args.text.now c.new-tokens.result c.new-tokens.ensures.shows) c.new-tokens.ensures.lexed (selections_viable (in_file c.args.file)) refl c.in-Err.stop c.whole_selections.new.tokens c.in-Err.ensures)
 
 pub returns-in-Ok-clause-sound : goal.returns-in-Ok-clause-sound
 returns-in-Ok-clause-sound c = selections_sound c.args.file c.args.text.now (selections_tree c.in-Ok.found) (returns-in-Ok-clause-found c).reads

@@ -2,6 +2,7 @@ use Rattle.std.proofs.Common.{refl, sym, subst, ◌∙◌}
 use Rattle.graphql_literals.specs.TypeTree.{type_tree}
 use Rattle.graphql_grammar.specs.Grammar.{DerivesType}
 use Rattle.graphql_read.proofs.Symbols.{any_type_parses}
+use Rattle.graphql_grammar.proofs.ViableValues.{type_viable}
 use Rattle.graphql_parse_operations.specs.in_parse_values.Meanings.{in_file}
 use Rattle.graphql_read.specs.Reads.{IsDue}
 use Rattle.graphql_read.specs.ReadFaults.{fault_view}
@@ -22,7 +23,7 @@ returns-in-Err-clause-only c = λ tree d. c.fault.ensures ∙ memory (any_type_p
 pub returns-in-Err-clause-fault : goal.returns-in-Err-clause-fault
 returns-in-Err-clause-fault c =
     subst (IsDue (DerivesType (in_file c.args.file)) c.args.nesting c.args.text.now) (sym c.fault.ensures)
-    (due (any_type_parses (in_file c.args.file)) refl c.args.nesting c.args.text.now c.new-tokens.result (begins c.args.text.now c.new-tokens.result c.new-tokens.ensures.shows) c.new-tokens.ensures.lexed c.in-Err.stop c.whole_type.new.tokens c.in-Err.ensures)
+    (due (any_type_parses (in_file c.args.file)) refl c.args.nesting c.args.text.now c.new-tokens.result (begins c.args.text.now c.new-tokens.result c.new-tokens.ensures.shows) c.new-tokens.ensures.lexed (type_viable (in_file c.args.file)) refl c.in-Err.stop c.whole_type.new.tokens c.in-Err.ensures)
 
 pub returns-in-Ok-clause-sound : goal.returns-in-Ok-clause-sound
 returns-in-Ok-clause-sound c = type_sound c.args.file c.args.text.now (type_tree c.in-Ok.found) (returns-in-Ok-clause-found c).reads
