@@ -62,13 +62,13 @@ some_mapped f (Some x) h = refl
 -- an entry is found under its name, or another before it is
 there_under : {V : Type 0} (n : List ℕ) (v : V) (es : Entries V) → Contains es (n, v) → is_some (under n es) ≡ true
 there_under n v [] c = not_in_nil (n, v) c
-there_under {V} n v (e ∷ es) c = by (bytes_eq n e.0) refl
+there_under {V} n v (e ∷ es) c = by (there_under n v es) (bytes_eq n e.0) refl
   where
-    by : (b : Bool) → bytes_eq n e.0 ≡ b → is_some (option_map (λ (x : List ℕ × V). x.1) (if b then Some e else find (λ (x : List ℕ × V). bytes_eq n x.0) es)) ≡ true
-    by true t = refl
-    by false t = elim (Contains-cons e es (n, v) c) [
+    by : (Contains es (n, v) → is_some (under n es) ≡ true) → (b : Bool) → bytes_eq n e.0 ≡ b → is_some (option_map (λ (x : List ℕ × V). x.1) (if b then Some e else find (λ (x : List ℕ × V). bytes_eq n x.0) es)) ≡ true
+    by rest true t = refl
+    by rest false t = elim (Contains-cons e es (n, v) c) [
       | inl q ↦ absurd (true≢false (sym (itself n) ∙ ap (bytes_eq n) (sym (ap (λ (x : List ℕ × V). x.0) q)) ∙ t))
-      | inr r ↦ there_under n v es r
+      | inr r ↦ rest r
     ]
 
 module _ (s : SchemaTree Place) where

@@ -1,6 +1,6 @@
 //! A test of what calls answer on documents with their meaning that no row of text reaches: selections that are built by
 //! calls, copies, equality, operations by name, look-ups, and walks from sets, each call once in ample memory. The rows
-//! are those of `graphql_rows`. It has no code but this.
+//! are those of `graphql_document_rows`. It has no code but this.
 #![tactic(auto)]
 
 #[cfg(test)]

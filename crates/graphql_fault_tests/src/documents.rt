@@ -1,17 +1,36 @@
-//! What breaks the rules of documents.
+//! What breaks the rules of documents, and a number that is too large, which no text breaks yet.
 
 use crate::parts::{field, int_node, interface_name, other_type_name, type_name};
+use crate::show::show;
 use graphql_fault_data::DiagnosticData;
 use std::alloc::{AllocError, Global};
+use std::io;
+
+/// How many samples there are.
+const SAMPLES: u32 = 13;
+
+/// Prints what breaks the rules of documents.
+pub(crate) fn show_documents(rt: &HostRuntime) -> io::Result<()> {
+    for index in 0..SAMPLES {
+        if let Some((variant, data)) = sample(rt.alloc(), index)? {
+            show(rt, variant, data)?;
+        }
+    }
+    Ok(())
+}
 
 /// The sample of that number, with its variant's name: what breaks a rule of documents. Where a fragment may have a
 /// name, it stands with one and without.
-pub(crate) fn sample(
-    alloc: Global,
-    index: u32,
-) -> Result<Option<(&'static str, DiagnosticData)>, AllocError> {
+fn sample(alloc: Global, index: u32) -> Result<Option<(&'static str, DiagnosticData)>, AllocError> {
     Ok(Some(match index {
-        37 => (
+        0 => {
+            let value = String::from_str(alloc, "1e999")?;
+            (
+                "FloatCoercionError",
+                DiagnosticData::FloatCoercionError { value },
+            )
+        }
+        1 => (
             "UniqueVariable",
             DiagnosticData::UniqueVariable {
                 name: type_name(),
@@ -19,7 +38,7 @@ pub(crate) fn sample(
                 redefined_definition: None,
             },
         ),
-        38 => {
+        2 => {
             let ty = int_node(alloc)?;
             (
                 "VariableInputType",
@@ -30,11 +49,11 @@ pub(crate) fn sample(
                 },
             )
         }
-        39 => (
+        3 => (
             "UnusedVariable",
             DiagnosticData::UnusedVariable { name: type_name() },
         ),
-        40 => (
+        4 => (
             "MissingSubselection",
             DiagnosticData::MissingSubselection {
                 coordinate: field(),
@@ -42,25 +61,25 @@ pub(crate) fn sample(
                 describe_type: "an object type",
             },
         ),
-        41 => (
+        5 => (
             "UndefinedFragment",
             DiagnosticData::UndefinedFragment { name: type_name() },
         ),
-        42 => (
+        6 => (
             "InvalidFragmentTarget",
             DiagnosticData::InvalidFragmentTarget {
                 name: Some(type_name()),
                 ty: other_type_name(),
             },
         ),
-        43 => (
+        7 => (
             "InvalidFragmentTarget",
             DiagnosticData::InvalidFragmentTarget {
                 name: None,
                 ty: other_type_name(),
             },
         ),
-        44 => (
+        8 => (
             "InvalidFragmentSpread",
             DiagnosticData::InvalidFragmentSpread {
                 name: Some(type_name()),
@@ -70,7 +89,7 @@ pub(crate) fn sample(
                 type_location: None,
             },
         ),
-        45 => (
+        9 => (
             "InvalidFragmentSpread",
             DiagnosticData::InvalidFragmentSpread {
                 name: None,
@@ -80,11 +99,11 @@ pub(crate) fn sample(
                 type_location: None,
             },
         ),
-        46 => (
+        10 => (
             "UnusedFragment",
             DiagnosticData::UnusedFragment { name: type_name() },
         ),
-        47 => (
+        11 => (
             "RecursiveFragmentDefinition",
             DiagnosticData::RecursiveFragmentDefinition {
                 head_location: None,
@@ -92,7 +111,7 @@ pub(crate) fn sample(
                 trace: Vec::new(alloc),
             },
         ),
-        48 => ("RecursionError", DiagnosticData::RecursionError),
+        12 => ("RecursionError", DiagnosticData::RecursionError),
         _ => return Ok(None),
     }))
 }

@@ -2,22 +2,33 @@
 
 use crate::parts::{field_name, other_type_name, type_name};
 use crate::show::show_details;
+use graphql_document_faults::BuildError as DocumentError;
 use graphql_fault_data::{DiagnosticData, Fault};
 use graphql_faults::{CommaSeparated, Details, DiagnosticList, NameOrAnon};
+use graphql_folding::BuildError as SchemaError;
 use graphql_names::Name;
 use graphql_read::SyntaxFaultKind;
 use std::io;
 
-/// Prints the details that no error of building and no rule gives, and those of a rule.
-pub(crate) fn show_reading(rt: &HostRuntime) -> io::Result<()> {
+/// Prints details of each kind.
+pub(crate) fn show_kinds(rt: &HostRuntime) -> io::Result<()> {
     show_details(rt, "Syntax", Details::Syntax(SyntaxFaultKind::NoToken))?;
     show_details(rt, "Syntax", Details::Syntax(SyntaxFaultKind::Unexpected))?;
     show_details(rt, "Syntax", Details::Syntax(SyntaxFaultKind::End))?;
     show_details(rt, "Nesting", Details::Nesting)?;
     show_details(rt, "Spent", Details::Spent)?;
     show_details(rt, "RecursionLimitError", Details::RecursionLimitError)?;
+    show_built(rt)?;
     let unused = DiagnosticData::UnusedVariable { name: type_name() };
     show_details(rt, "Data", Details::Data(unused))
+}
+
+/// Prints details of an error of folding, and of one of typing.
+fn show_built(rt: &HostRuntime) -> io::Result<()> {
+    let collision = SchemaError::TypeDefinitionCollision { name: type_name() };
+    show_details(rt, "SchemaBuild", Details::SchemaBuild(collision))?;
+    let collision = DocumentError::FragmentNameCollision { name: type_name() };
+    show_details(rt, "DocumentBuild", Details::DocumentBuild(collision))
 }
 
 /// Prints a list of two, of which one is a copy, behind its length.

@@ -1,9 +1,7 @@
 //! What the faults tell of.
 
-use graphql_coordinates::{
-    DirectiveCoordinate, FieldArgumentCoordinate, SchemaCoordinate, TypeAttributeCoordinate,
-};
-use graphql_literals::{Type, Value};
+use graphql_coordinates::{FieldArgumentCoordinate, TypeAttributeCoordinate};
+use graphql_literals::Type;
 use graphql_names::{Name, Node, name};
 use std::alloc::{AllocError, Global};
 
@@ -52,16 +50,6 @@ pub(crate) fn int_node(alloc: Global) -> Result<Node<Type>, AllocError> {
     Ok(Node::new(alloc, int())?)
 }
 
-/// `Int!`, as a node.
-pub(crate) fn required_int_node(alloc: Global) -> Result<Node<Type>, AllocError> {
-    Ok(Node::new(alloc, required_int())?)
-}
-
-/// `null`, as a node.
-pub(crate) fn null_node(alloc: Global) -> Result<Node<Value>, AllocError> {
-    Ok(Node::new(alloc, Value::Null)?)
-}
-
 /// `A.f`
 pub(crate) fn field() -> TypeAttributeCoordinate {
     TypeAttributeCoordinate {
@@ -77,16 +65,4 @@ pub(crate) fn field_argument() -> FieldArgumentCoordinate {
         field: field_name(),
         argument: argument_name(),
     }
-}
-
-/// `A.f(a:)`, as any coordinate.
-pub(crate) fn argument() -> SchemaCoordinate {
-    SchemaCoordinate::FieldArgument(field_argument())
-}
-
-/// `@A`, as any coordinate.
-pub(crate) fn directive() -> SchemaCoordinate {
-    SchemaCoordinate::Directive(DirectiveCoordinate {
-        directive: type_name(),
-    })
 }

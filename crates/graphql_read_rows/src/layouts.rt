@@ -1,11 +1,10 @@
 //! Rows of documents that are printed under each layout, read again and printed again.
 
-use crate::given::text_of;
 use crate::print::{Form, form_named, laid_out};
 use graphql_definitions::Document;
 use graphql_names::FileId;
 use graphql_read::parse_document;
-use graphql_row_files::{Answer, Case, Problem, Tally, Way, compare};
+use graphql_row_files::{Answer, Case, Problem, Tally, Way, compare, text_of};
 use std::alloc::{AllocError, Global};
 
 /// The layouts, by their words.
@@ -13,7 +12,7 @@ const LAYOUTS: [&str; 4] = ["line", "two", "four", "tab"];
 
 /// Judges the row: each of its inputs, under each layout. On one line it is to print the row's `flat`, or itself where
 /// there is none.
-pub fn by_layouts(alloc: Global, case: Case<'_>, tally: &mut Tally) -> Result<(), Problem> {
+pub(crate) fn by_layouts(alloc: Global, case: Case<'_>, tally: &mut Tally) -> Result<(), Problem> {
     for input in &case.given.inputs {
         let flat = case.given.flat.first().unwrap_or(input);
         for layout in &LAYOUTS {

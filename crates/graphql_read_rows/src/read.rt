@@ -1,17 +1,16 @@
 //! Rows of texts that are read by themselves.
 
-use crate::given::text_of;
 use graphql_names::FileId;
 use graphql_operations::Selection;
 use graphql_printing::Tree;
 use graphql_read::{
     NextToken, ReadFault, SyntaxFaultKind, next_token, parse_document, parse_selections, parse_type,
 };
-use graphql_row_files::{Answer, Case, Problem, Tally, Way, compare};
+use graphql_row_files::{Answer, Case, Problem, Tally, Way, compare, text_of};
 use std::alloc::{AllocError, Global};
 
 /// Judges the row: each of its inputs, under each of its limits.
-pub fn by_read(alloc: Global, case: Case<'_>, tally: &mut Tally) -> Result<(), Problem> {
+pub(crate) fn by_read(alloc: Global, case: Case<'_>, tally: &mut Tally) -> Result<(), Problem> {
     for nesting in &case.given.limits {
         for input in &case.given.inputs {
             by_input(alloc, case, input, *nesting, tally)?;

@@ -1,17 +1,16 @@
 //! The trees that rows name: those that a row's input is read as, and some that no text is read as.
 
-use crate::given::{document_of, text_of};
 use crate::print::judge_tree;
 use graphql_definitions::{Definition, Document};
 use graphql_directives::{Directive, DirectiveDefinition, DirectiveList};
 use graphql_names::{FileId, Name, Node};
 use graphql_operations::{FragmentDefinition, OperationDefinition};
-use graphql_read::parse_type;
-use graphql_row_files::{Case, Field, Problem, Tally};
+use graphql_read::{parse_document, parse_type};
+use graphql_row_files::{Case, Field, Problem, Tally, read_of, text_of};
 use std::alloc::{AllocError, Global};
 
 /// Judges what the row asks of the tree that it names: what is printed of it, or whether it is writable.
-pub fn by_tree(alloc: Global, case: Case<'_>, tally: &mut Tally) -> Result<(), Problem> {
+pub(crate) fn by_tree(alloc: Global, case: Case<'_>, tally: &mut Tally) -> Result<(), Problem> {
     let field = case.row.needed("tree")?;
     match field.value {
         "directive without locations" => {
@@ -48,10 +47,9 @@ fn input_of<'a>(case: Case<'a>) -> Result<&'a [u8], Problem> {
 
 /// Judges what the row asks of its input, read as a type.
 fn by_type(alloc: Global, case: Case<'_>, input: &[u8], tally: &mut Tally) -> Result<(), Problem> {
-    match parse_type(alloc, text_of(case, input)?, FileId(1), 500) {
-        Ok(tree) => judge_tree(alloc, case, &tree, tree.is_writable(), tally),
-        Err(_) => Err(case.row.head.problem("a text of this call is not read")),
-    }
+    let text = text_of(case, input)?;
+    let tree = read_of(case, parse_type(alloc, text, FileId(1), 500))?;
+    judge_tree(alloc, case, &tree, tree.is_writable(), tally)
 }
 
 /// Judges what the row asks of its input, read as a document.
@@ -62,10 +60,9 @@ fn by_document(
     input: &[u8],
     tally: &mut Tally,
 ) -> Result<(), Problem> {
-    match document_of(alloc, case, input, FileId(1)) {
-        Ok(document) => by_part(alloc, case, field, &document, tally),
-        Err(problem) => Err(problem),
-    }
+    let text = text_of(case, input)?;
+    let document = read_of(case, parse_document(alloc, text, FileId(1), 500))?;
+    by_part(alloc, case, field, &document, tally)
 }
 
 /// Judges what the row asks of the document, or of its first definition.

@@ -1,42 +1,25 @@
 -- Faults of arguments and of a variable that is given, from what is told of them.
-use Rattle.std.proofs.Common.{◌≡◌, ℕ, ◌⊎◌, ◌↔◌, List, [], ◌∷◌, ◌++◌, subst, inl, inr, None, Contains}
+use Rattle.std.proofs.Common.{◌≡◌, ℕ, ◌↔◌, List, [], ◌∷◌, ◌++◌, sym, ap, subst, ◌∙◌, Contains}
 use Rattle.graphql_names.specs.Placed.{Placed, Place, node_tree}
 use Rattle.graphql_literals.specs.TypeTree.{unplaced_type}
-use Rattle.graphql_directives.specs.DirectiveTree.{ArgumentTree, Arguments, InputValueTree, directive_tree, input_value_tree, unplaced_input_value}
+use Rattle.graphql_directives.specs.DirectiveTree.{ArgumentTree, InputValueTree, directive_tree, input_value_tree, unplaced_input_value}
 use Rattle.graphql_directives.specs.declared.directive.Directive.{Directive}
 use Rattle.graphql_directives.specs.declared.input_value.InputValueDefinition.{InputValueDefinition}
 use Rattle.graphql_names.specs.Node.{content, place}
 use Rattle.graphql_names.specs.declared.node.Node.{Node}
-use Rattle.graphql_rule_definitions.specs.in_components.Lists.{each_place}
 use Rattle.graphql_rule_definitions.specs.Diagnostics.{DisallowedVariableUsage}
 use Rattle.graphql_rule_definitions.specs.Faults.{wrong}
-use Rattle.graphql_rule_definitions.specs.Judged.{judged}
 use Rattle.graphql_rule_definitions.specs.Values.{Variables, defined_name}
-use Rattle.graphql_rule_definitions.specs.Uses.{argument_name, IsVariableUsageAllowed, UniqueArgumentAt}
+use Rattle.graphql_rule_definitions.specs.Uses.{argument_name, IsVariableUsageAllowed}
 use Rattle.graphql_rule_definitions.specs.Told.{PlacedFault}
-use Rattle.graphql_rule_definitions.proofs.Lists.{not_in_nil}
-use Rattle.graphql_use_rules.specs.Trees.{no_schema}
-use Rattle.graphql_use_rules.specs.UseFaults.{repeated_argument}
 use Rattle.graphql_use_rules.specs.Steps.{Lists, DisallowedUsage}
 use Rattle.graphql_use_rules.proofs.Firsts.{first_is_found}
-use Rattle.graphql_use_rules.proofs.Listing.{gains_list, gains_both}
-use Rattle.graphql_use_rules.proofs.Uses.{lists_repeated_arguments}
-use Rattle.graphql_rules.specs.Given.{Each, KeysBreak, ArgumentsBreak, UsageBreaks}
+use Rattle.graphql_use_rules.proofs.Listing.{Gains}
+use Rattle.graphql_rules.specs.Given.{Each, UsageBreaks}
 
 -- what was added to nothing is all that is there
-pub only_added : (none new : List PlacedFault) (R : PlacedFault → Type 0) → none ≡ [] → ((f : PlacedFault) → Contains new f ↔ (Contains none f ⊎ R f)) → (f : PlacedFault) → Contains new f ↔ R f
-only_added none new R e gains f = (
-  λ h. elim ((gains f).0 h) [ inl n ↦ not_in_nil f (subst (λ l. Contains l f) e n) | inr r ↦ r ],
-  λ r. (gains f).1 (inr r),
-)
-
--- repeated arguments, and then repeated keys
-pub arguments_break : (none mid new : List PlacedFault) (given : Arguments Place) → none ≡ [] → mid ≡ none ++ each_place repeated_argument given
-    → ((f : PlacedFault) → Contains new f ↔ (Contains mid f ⊎ KeysBreak given f)) → (f : PlacedFault) → Contains new f ↔ ArgumentsBreak given f
-arguments_break none mid new given e told keys =
-    only_added none new (ArgumentsBreak given) e
-    (gains_both {R = UniqueArgumentAt (λ a. None) (judged no_schema) [] given} {S = KeysBreak given} none mid new
-    (gains_list none mid (each_place repeated_argument given) told (lists_repeated_arguments (λ a. None) (judged no_schema) [] given)) keys)
+pub only_added : (none new : List PlacedFault) (R : PlacedFault → Type 0) → none ≡ [] → Gains none new R → (f : PlacedFault) → Contains new f ↔ R f
+only_added none new R e (added, (is, tells)) = subst (λ l. Lists l R) (sym (is ∙ ap (λ l. l ++ added) e)) tells
 
 -- the first variable of that name is the one that is found
 pub usage_found : (variables : Variables Place) (v : InputValueTree Place) (a : Placed Place (ArgumentTree Place)) (f : PlacedFault) → UsageBreaks variables (unplaced_input_value v) a f ↔ DisallowedUsage variables v a f

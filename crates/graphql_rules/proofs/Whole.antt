@@ -12,18 +12,35 @@ use Rattle.graphql_rule_definitions.specs.Told.{PlacedFault, Told}
 use Rattle.graphql_rule_definitions.proofs.Lists.{not_in_nil, Contains-first}
 use Rattle.graphql_type_rules.specs.TypesBreak.{TypesBreak}
 use Rattle.graphql_cycle_rules.specs.Told.{CyclesFail, CyclesTold}
+use Rattle.graphql_use_rules.proofs.Listing.{Gains}
 use Rattle.graphql_rules.specs.SchemaTold.{Fails, BreaksBesideCycles, IsWithinReferenceBound, TellsSchema}
 use Rattle.graphql_rules.proofs.Stands.{stands}
 
 told_as : {A B : Judged → SchemaFault → Type 0} → ((j : Judged) (g : SchemaFault) → A j g → B j g) → (s : SchemaTree Place) (f : PlacedFault) → Told s A f → Told s B f
 told_as into s f t = (t.0, (into (judged s) t.0 t.1.0, t.1.1))
 
+-- what stands in a list to which something was added
+gained : (old new : List PlacedFault) (R : PlacedFault → Type 0) → Gains old new R → (f : PlacedFault) → Contains new f ↔ (Contains old f ⊎ R f)
+gained old new R (added, (is, tells)) f = (
+  λ h. elim (Contains-append_cases old added f (subst (λ l. Contains l f) is h)) [ inl o ↦ inl o | inr a ↦ inr ((tells f).0 a) ],
+  λ q. subst (λ l. Contains l f) (sym is) (elim q [ inl o ↦ Contains-append_left old added f o | inr r ↦ Contains-append_right old added f ((tells f).1 r) ]),
+)
+
 -- what each check adds to what the one before it left
 module _ (s : SchemaTree Place) (none types interfaces cycles uses : List PlacedFault) (is_none : none ≡ [])
-    (by_types : (f : PlacedFault) → Contains types f ↔ (Contains none f ⊎ Told s TypesBreak f))
-    (by_interfaces : (f : PlacedFault) → Contains interfaces f ↔ (Contains types f ⊎ Told s InterfacesBreak f))
+    (types_added : Gains none types (Told s TypesBreak))
+    (interfaces_added : Gains types interfaces (Told s InterfacesBreak))
     (by_cycles : CyclesTold s interfaces cycles)
-    (by_uses : (f : PlacedFault) → Contains uses f ↔ (Contains cycles f ⊎ Told s SchemaUsesBreak f)) where
+    (uses_added : Gains cycles uses (Told s SchemaUsesBreak)) where
+  by_types : (f : PlacedFault) → Contains types f ↔ (Contains none f ⊎ Told s TypesBreak f)
+  by_types = gained none types (Told s TypesBreak) types_added
+
+  by_interfaces : (f : PlacedFault) → Contains interfaces f ↔ (Contains types f ⊎ Told s InterfacesBreak f)
+  by_interfaces = gained types interfaces (Told s InterfacesBreak) interfaces_added
+
+  by_uses : (f : PlacedFault) → Contains uses f ↔ (Contains cycles f ⊎ Told s SchemaUsesBreak f)
+  by_uses = gained cycles uses (Told s SchemaUsesBreak) uses_added
+
   of_types : (f : PlacedFault) → Contains types f → Told s Fails f
   of_types f h = elim ((by_types f).0 h) [
     | inl n ↦ not_in_nil f (subst (λ l. Contains l f) is_none n)

@@ -1,15 +1,15 @@
--- Rules on arguments alone, and on a variable that is given for one (GraphQL, October 2021, sections 5.4.2, 5.6.3 and 5.8.5).
-use Rattle.std.specs.Prelude.{◌≡◌, ◌⊎◌, List, [], ◌∷◌, ⊤}
+-- What an iterator gives, and the rule on a variable that is given for an argument (GraphQL, October 2021, section 5.8.5).
+use Rattle.std.specs.Prelude.{◌≡◌, List, [], ◌∷◌, ⊤}
 use Rattle.graphql_names.specs.Placed.{Placed, Place, node_tree}
 use Rattle.graphql_names.specs.declared.node.Node.{Node}
 use Rattle.graphql_literals.specs.TypeTree.{unplaced_type}
 use Rattle.graphql_literals.specs.ValueQueries.{variable_name}
-use Rattle.graphql_directives.specs.DirectiveTree.{ArgumentTree, Arguments, DirectiveTree, InputValueTree, directive_tree}
+use Rattle.graphql_directives.specs.DirectiveTree.{ArgumentTree, DirectiveTree, InputValueTree, directive_tree}
 use Rattle.graphql_directives.specs.declared.directive.Directive.{Directive}
-use Rattle.graphql_rule_definitions.specs.Diagnostics.{UniqueArgument, DisallowedVariableUsage}
+use Rattle.graphql_rule_definitions.specs.Diagnostics.{DisallowedVariableUsage}
 use Rattle.graphql_rule_definitions.specs.Faults.{wrong}
-use Rattle.graphql_rule_definitions.specs.Words.{Present, AtSomeIndex, FirstNamed, Repeats}
-use Rattle.graphql_rule_definitions.specs.Values.{Variables, defined_name, UniqueInputValueIn}
+use Rattle.graphql_rule_definitions.specs.Words.{Present, FirstNamed}
+use Rattle.graphql_rule_definitions.specs.Values.{Variables, defined_name}
 use Rattle.graphql_rule_definitions.specs.Uses.{argument_name, IsVariableUsageAllowed}
 use Rattle.graphql_rule_definitions.specs.Told.{PlacedFault}
 
@@ -22,16 +22,6 @@ Each Gives xs ys = ⊥
 -- what leads to a node that is this directive
 abbrev pub LeadsTo : {A : Type 0} → (A → Node Directive → Type 0) → A → Placed Place (DirectiveTree Place) → Type 0
 LeadsTo Gives x d = (n : Node Directive) × (Gives x n × (node_tree directive_tree n ≡ d))
-
--- a key is given twice in the value of an argument
-abbrev pub KeysBreak : Arguments Place → PlacedFault → Type 0
-KeysBreak given fault = AtSomeIndex given (λ i a. UniqueInputValueIn a.it.value.it fault)
-
--- an argument is given twice, or a key in the value of one
-abbrev pub ArgumentsBreak : Arguments Place → PlacedFault → Type 0
-ArgumentsBreak given fault =
-    Repeats argument_name given (λ i first j later. fault ≡ wrong later.place (UniqueArgument (argument_name later) first.place later.place))
-    ⊎ KeysBreak given fault
 
 -- what is given for the argument is a variable that is defined and may not stand there
 abbrev pub UsageBreaks : Variables Place → InputValueTree (Unit {0}) → Placed Place (ArgumentTree Place) → PlacedFault → Type 0

@@ -5,24 +5,21 @@ ghost use Rattle.graphql_names.specs.Node.{content};
 ghost use Rattle.graphql_names.specs.Placed.{Place, node_tree};
 ghost use Rattle.graphql_directives.specs.DirectiveTree.{Directives, argument_tree, input_value_tree, unplaced_input_value};
 ghost use Rattle.graphql_rule_definitions.specs.in_schema_types.Addresses.{place_at};
-ghost use Rattle.graphql_fault_data.specs.FaultView.{faults_of};
-ghost use Rattle.graphql_fault_data.specs.Adds.{Adds};
 ghost use Rattle.graphql_rule_definitions.specs.Judged.{judged};
 ghost use Rattle.graphql_rule_definitions.specs.Uses.{UsesBreak};
 ghost use Rattle.graphql_value_rules.specs.Wanting.{variables_of};
+ghost use Rattle.graphql_use_rules.specs.Alone.{ArgumentsBreak};
 ghost use Rattle.graphql_use_rules.specs.Trees.{arguments_of, directives_of, tree_of};
 ghost use Rattle.graphql_faults.specs.DetailsView.{diagnostics_of, BeginsAs};
 ghost use Rattle.graphql_rules.specs.Appends.{Appends};
-ghost use Rattle.graphql_rules.specs.Given.{Each, LeadsTo, KeysBreak, ArgumentsBreak, UsageBreaks};
+ghost use Rattle.graphql_rules.specs.Given.{Each, LeadsTo, UsageBreaks};
 
 use graphql_directives::{Argument, Directive, DirectiveLocation, InputValueDefinition};
-use graphql_fault_data::Fault;
 use graphql_faults::DiagnosticList;
 use graphql_names::Node;
 use graphql_operations::VariableDefinition;
 use graphql_schema::Schema;
-use graphql_use_rules::{check_directives, disallowed_variable_usage, tell_repeated_arguments};
-use graphql_value_rules::unique_input_values;
+use graphql_use_rules::{check_arguments_alone, check_directives, disallowed_variable_usage};
 use std::alloc::{AllocError, Global};
 use std::ops::Deref;
 
@@ -74,19 +71,8 @@ pub fn validate_arguments(
     ensures begins { OnErr result (BeginsAs (diagnostics_of list.old) (diagnostics_of list.new)) }
 {
     let mut faults = Vec::new(alloc);
-    tell_repeated_arguments(arguments, &mut faults)?;
-    check_keys(arguments, &mut faults)?;
+    check_arguments_alone(arguments, &mut faults)?;
     list.append_faults(faults)
-}
-
-/// Adds each key that stands before in an object inside what is given.
-fn check_keys(arguments: &[Node<Argument>], faults: &mut Vec<Fault>) -> Result<(), AllocError>
-    ensures { OnOk result (Adds faults.old faults.new (KeysBreak (arguments_of arguments.now))) }
-{
-    for argument in arguments {
-        unique_input_values(&argument.content().value, faults)?;
-    }
-    Ok(())
 }
 
 /// Whether what is given for an argument may stand there: false, and told, of a variable among `variables` whose type does

@@ -18,7 +18,10 @@ mod values;
 
 pub use given::{validate_arguments, validate_directives, validate_variable_usage};
 pub use graphql_interface_rules::is_valid_implementation_field_type;
-pub use graphql_use_rules::{Taker, TakerName, check_given, check_taken, check_uses};
+pub use graphql_use_rules::{
+    Taker, TakerName, check_arguments_alone, check_directives_alone, check_given, check_taken,
+    check_uses,
+};
 pub use graphql_value_rules::unique_input_values;
 pub use scalars::BuiltInScalars;
 pub use schema::validate_schema;

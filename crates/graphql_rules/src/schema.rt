@@ -21,8 +21,8 @@ use graphql_use_rules::check_schema_directives;
 use std::alloc::{AllocError, Global};
 
 /// Tells every fault of the rules on schemas (sections 3 and 5), and then keeps of the types all but the built-in scalars
-/// to which no field, argument or input field refers; those of the five that are referred to and missing come last. Where
-/// memory is refused the schema is as before, and some faults may be told.
+/// to which no field, argument or input field refers; those of the five that are referred to and missing come last. The
+/// rest of the schema stays. Where memory is refused the schema is as before, and some faults may be told.
 pub fn validate_schema(
     alloc: Global,
     list: &mut DiagnosticList,
@@ -32,6 +32,7 @@ pub fn validate_schema(
     ensures silent { OnOk result (diagnostics_of list.new ≡ diagnostics_of list.old → SchemaRules (judged (schema_tree schema.old))) }
     ensures accepts { OnOk result (SchemaRules (judged (schema_tree schema.old)) → IsWithinReferenceBound (judged (schema_tree schema.old)) → diagnostics_of list.new ≡ diagnostics_of list.old) }
     ensures kept { OnOk result (schema_tree schema.new ≡ validated (schema_tree schema.old)) }
+    ensures rest { OnOk result (schema.new ≡ record schema.old { types = schema.new.types }) }
     ensures unchanged { OnErr result (schema.new ≡ schema.old) }
     ensures begins { OnErr result (BeginsAs (diagnostics_of list.old) (diagnostics_of list.new)) }
 {

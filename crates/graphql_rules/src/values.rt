@@ -5,7 +5,8 @@ ghost use Rattle.graphql_literals.specs.ValueTree.{value_tree};
 ghost use Rattle.graphql_rule_definitions.specs.in_schema_types.Addresses.{place_at};
 ghost use Rattle.graphql_schema.specs.SchemaOf.{schema_tree};
 ghost use Rattle.graphql_rule_definitions.specs.Judged.{judged};
-ghost use Rattle.graphql_rule_definitions.specs.Values.{Accepts, ValueBreaks};
+ghost use Rattle.graphql_rule_definitions.specs.Accepts.{Accepts};
+ghost use Rattle.graphql_rule_definitions.specs.Values.{ValueBreaks};
 ghost use Rattle.graphql_value_rules.specs.Wanting.{wanted_type, variables_of};
 ghost use Rattle.graphql_faults.specs.DetailsView.{diagnostics_of, BeginsAs};
 ghost use Rattle.graphql_rules.specs.Appends.{Appends};
@@ -30,7 +31,7 @@ pub fn value_of_correct_type(
     variables: &[Node<VariableDefinition>],
 ) -> Result<(), AllocError>
     ensures told { OnOk result (Appends (diagnostics_of list.old) (diagnostics_of list.new) (ValueBreaks (place_at (schema_tree schema.now)) (judged (schema_tree schema.now)) (variables_of variables.now) (wanted_type ty.now) (place value.now) (value_tree (content value.now)))) }
-    ensures silent { OnOk result ((diagnostics_of list.new ≡ diagnostics_of list.old) ↔ Accepts (place_at (schema_tree schema.now)) (judged (schema_tree schema.now)) (variables_of variables.now) (wanted_type ty.now) (place value.now) (value_tree (content value.now))) }
+    ensures silent { OnOk result ((diagnostics_of list.new ≡ diagnostics_of list.old) ↔ Accepts (judged (schema_tree schema.now)) (variables_of variables.now) (wanted_type ty.now).it (value_tree (content value.now))) }
     ensures begins { OnErr result (BeginsAs (diagnostics_of list.old) (diagnostics_of list.new)) }
 {
     let mut faults = Vec::new(alloc);

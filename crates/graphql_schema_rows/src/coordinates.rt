@@ -3,16 +3,15 @@
 use crate::words::{missing_words, named_words, parse_words};
 use graphql_coords::{
     DirectiveArgumentCoordinate, DirectiveCoordinate, FieldArgumentCoordinate, SchemaCoordinate,
-    SchemaCoordinateParseError, TypeAttributeCoordinate, TypeCoordinate,
+    SchemaCoordinateExt, SchemaCoordinateParseError, TypeAttributeCoordinate, TypeCoordinate,
 };
-use graphql_read_rows::text_of;
-use graphql_row_files::{Answer, Case, Field, Problem};
+use graphql_row_files::{Answer, Case, Field, Problem, text_of};
 use graphql_schema::Schema;
 use std::alloc::{AllocError, Global};
 use std::fmt::Display;
 
 /// Adds what the input is, read in the row's form where it has one, and else what it names in the schema.
-pub fn push_coordinate(
+pub(crate) fn push_coordinate(
     alloc: Global,
     case: Case<'_>,
     schema: &Schema,

@@ -1,14 +1,13 @@
 //! Schemas that are built, and written out.
 
-use crate::answers::push_faults;
-use crate::building::Built;
 use graphql_printing::Tree;
-use graphql_row_files::Answer;
+use graphql_row_files::{Answer, push_faults};
+use graphql_row_schemas::Built;
 use graphql_schema::Schema;
 use std::alloc::{AllocError, Global};
 
 /// Adds what is built: the written schema, or its faults. Of `orphans` the answer has all but the status.
-pub fn push_built(
+pub(crate) fn push_built(
     alloc: Global,
     call: &str,
     built: &Built,

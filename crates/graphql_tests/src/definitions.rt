@@ -1,11 +1,16 @@
-//! Each public call once, on the definitions of `built`.
-mod built;
+//! Each public call on definitions, for each of the seventeen forms.
 
-use crate::hold::{hold, is_copied, same_text};
+use crate::hold::{hold, is_copied, read, same_text};
 use graphql_ast::*;
 use std::alloc::AllocError;
 use std::process::Abort;
 use std::test::Fail;
+
+/// A definition of each form, in the order of their numbers.
+const EACH: &str =
+    "{ a } fragment T on T { a } directive @T on FIELD schema { query: T } extend schema @T \
+    scalar T type T { a: T } interface T { a: T } union T = T enum T { A } input T { a: T } \
+    extend scalar T @T extend type T @T extend interface T @T extend union T @T extend enum T @T extend input T @T";
 
 /// Whether the definition is of each form that is neither a type nor an extension of one.
 fn variants(definition: &Definition) -> [bool; 5] {
@@ -74,6 +79,16 @@ fn form_of(definition: &Definition) -> &'static str {
     }
 }
 
+/// What one of the form with this number is to tell of its form.
+fn form_by(number: usize) -> &'static str {
+    match number {
+        0 | 1 => "executable",
+        2 => "a definition without directives",
+        4 | 11..=16 => "an extension",
+        _ => "a definition",
+    }
+}
+
 /// Its name, or nothing.
 fn name_of(definition: &Definition) -> &str {
     match definition.name() {
@@ -82,9 +97,19 @@ fn name_of(definition: &Definition) -> &str {
     }
 }
 
-/// Whether the copy of what is in it equals that, of those that are copied.
+/// The name of the one with this number, or nothing.
+fn name_by(number: usize) -> &'static str {
+    match number {
+        0 | 3 | 4 => "",
+        _ => "T",
+    }
+}
+
+/// Whether the copy of what is in it equals that, of those that are copied; of an operation, whether one made of its copy
+/// equals it.
 fn content_is_copied(definition: &Definition) -> Result<bool, AllocError> {
     match definition {
+        Definition::OperationDefinition(node) => Ok(Definition::from(node.clone()?) == *definition),
         Definition::SchemaDefinition(node) => is_copied(node.content()),
         Definition::SchemaExtension(node) => is_copied(node.content()),
         Definition::ObjectTypeDefinition(node) => is_copied(node.content()),
@@ -94,65 +119,29 @@ fn content_is_copied(definition: &Definition) -> Result<bool, AllocError> {
 }
 
 /// It is of the form with this number alone, and tells its form and name; its copy equals it.
-fn tells(
-    rt: &impl Abort,
-    definition: &Definition,
-    number: usize,
-    form: &str,
-    name: &str,
-) -> Result<(), AllocError> {
+fn tells(rt: &impl Abort, definition: &Definition, number: usize) -> Result<(), AllocError> {
     hold(rt, is_variant(definition, number), "the variant");
-    same_text(rt, form_of(definition), form);
-    same_text(rt, name_of(definition), name);
-    hold(rt, definition.location().is_none(), "no place");
-    hold(rt, is_copied(definition)?, "the copy");
-    hold(rt, content_is_copied(definition)?, "the copy inside");
+    same_text(rt, form_of(definition), form_by(number));
+    same_text(rt, name_of(definition), name_by(number));
+    hold(rt, definition.location().is_some(), "its place");
+    let is_same = is_copied(definition)? && content_is_copied(definition)?;
+    hold(rt, is_same, "the copy, and that inside");
     Ok(())
 }
 
-/// The same of one that is built.
-fn tell(
-    rt: &impl Abort,
-    built: Result<Definition, AllocError>,
-    number: usize,
-    form: &str,
-    name: &str,
-) -> Result<(), Fail> {
-    Ok(tells(rt, &built?, number, form, name)?)
+/// Each tells so.
+fn tell_each(rt: &impl Abort, definitions: &[Definition]) -> Result<(), AllocError> {
+    hold(rt, definitions.len() == 17, "the forms");
+    for (number, definition) in definitions.iter().enumerate() {
+        tells(rt, definition, number)?;
+    }
+    Ok(())
 }
 
 #[test]
-fn tells_operation_definition(rt: HostRuntime) -> Result<(), Fail> {
-    let built = built::operation_definition(rt.alloc());
-    tell(&rt, built, 0, "executable", "")
-}
-
-#[test]
-fn tells_directive_definition(rt: HostRuntime) -> Result<(), Fail> {
-    let built = built::directive_definition(rt.alloc());
-    tell(&rt, built, 2, "a definition without directives", "D")
-}
-
-#[test]
-fn tells_schema_definition(rt: HostRuntime) -> Result<(), Fail> {
-    let built = built::schema_definition(rt.alloc());
-    tell(&rt, built, 3, "a definition", "")
-}
-
-#[test]
-fn tells_schema_extension(rt: HostRuntime) -> Result<(), Fail> {
-    let built = built::schema_extension(rt.alloc());
-    tell(&rt, built, 4, "an extension", "")
-}
-
-#[test]
-fn tells_object_type_definition(rt: HostRuntime) -> Result<(), Fail> {
-    let built = built::object_type_definition(rt.alloc());
-    tell(&rt, built, 6, "a definition", "T")
-}
-
-#[test]
-fn tells_object_type_extension(rt: HostRuntime) -> Result<(), Fail> {
-    let built = built::object_type_extension(rt.alloc());
-    tell(&rt, built, 12, "an extension", "T")
+fn definitions_tell_of_themselves(rt: HostRuntime) -> Result<(), Fail> {
+    match read(rt.alloc(), EACH) {
+        Some(document) => Ok(tell_each(&rt, &document.content().definitions)?),
+        None => Err("the text is not read")?,
+    }
 }

@@ -1,52 +1,16 @@
 //! Directives, their arguments and selections: what is found, copied and written.
 
-use crate::hold::{equals, hold, is_copied, node, same_text};
+use crate::hold::{equals, hold, is_copied, node, read, same_text};
+use graphql_ast::Document;
 use graphql_directives::{
     Argument, ArgumentByNameError, Directive, DirectiveDefinition, DirectiveList,
-    DirectiveLocation, InputValueDefinition, get_named_mut,
+    DirectiveLocation, get_named_mut,
 };
 use graphql_literals::Value;
 use graphql_names::{Name, Node, name};
-use graphql_operations::{Field, OperationType, Selection};
-use graphql_values::ty;
+use graphql_operations::{OperationDefinition, OperationType, Selection};
 use std::alloc::{AllocError, Global};
 use std::test::Fail;
-
-/// `a: Int!`
-fn required(alloc: Global) -> Result<Node<InputValueDefinition>, AllocError> {
-    let ty = node(alloc, ty!(alloc, Int!)?)?;
-    let required = InputValueDefinition {
-        description: None,
-        name: name!("a"),
-        ty,
-        default_value: None,
-        directives: DirectiveList::new(alloc),
-    };
-    node(alloc, required)
-}
-
-/// `directive @d(a: Int!) on QUERY`
-fn definition(alloc: Global) -> Result<Node<DirectiveDefinition>, AllocError> {
-    let arguments = vec![in alloc; required(alloc)?]?;
-    let locations = vec![in alloc; DirectiveLocation::from(OperationType::Query)]?;
-    let definition = DirectiveDefinition {
-        description: None,
-        name: name!("d"),
-        arguments,
-        repeatable: false,
-        locations,
-    };
-    node(alloc, definition)
-}
-
-/// `a: value`
-fn given(alloc: Global, value: Value) -> Result<Node<Argument>, AllocError> {
-    let given = Argument {
-        name: name!("a"),
-        value: node(alloc, value)?,
-    };
-    node(alloc, given)
-}
 
 /// Why the directive has no such argument.
 fn lacks(
@@ -78,22 +42,14 @@ fn lacks_each(directive: &Directive, definition: &DirectiveDefinition) -> bool {
     )
 }
 
-#[test]
-fn finds_no_arguments(rt: HostRuntime) -> Result<(), Fail> {
-    let alloc = rt.alloc();
-    hold(&rt, required(alloc)?.content().is_required(), "required");
-    let directive = node(alloc, Directive::new(alloc, name!("d")))?;
-    let definition = definition(alloc)?;
-    let each = lacks_each(directive.content(), definition.content());
-    hold(&rt, each, "each error");
-    Ok(())
-}
-
-/// `@d(a: null)`
-fn directive_of_null(alloc: Global) -> Result<Node<Directive>, AllocError> {
-    let mut directive = Directive::new(alloc, name!("d"));
-    set_argument(alloc, &mut directive, Value::Null)?;
-    node(alloc, directive)
+/// Whether the definition's argument is required, and the list's directive lacks it.
+fn lacks_required(definition: &DirectiveDefinition, list: &DirectiveList) -> bool {
+    match (definition.arguments.first(), list.0.first()) {
+        (Some(argument), Some(directive)) => {
+            argument.content().is_required() && lacks_each(directive.content(), definition)
+        }
+        _ => false,
+    }
 }
 
 /// Whether it has an argument `a`.
@@ -109,49 +65,75 @@ fn finds_d(list: &DirectiveList) -> bool {
     list.has("d") && list.get("e").is_none() && list.get_all("d").next().is_some()
 }
 
+/// Whether the list's directive has the argument, and is found.
+fn finds_both(list: &DirectiveList) -> bool {
+    match list.0.first() {
+        Some(directive) => finds_a(directive.content()) && finds_d(list),
+        None => false,
+    }
+}
+
+/// Whether it tells that it is a field, with its response name and its place.
+fn tells_selection(selection: &Selection) -> bool {
+    match selection.as_field() {
+        Some(field) => {
+            field.content().response_name().as_str() == "responseField"
+                && selection.as_fragment_spread().is_none()
+                && selection.location().is_some()
+        }
+        None => false,
+    }
+}
+
+/// Whether a selection made of a copy of its field equals it.
+fn is_made_again(selection: &Selection) -> Result<bool, AllocError> {
+    match selection.as_field() {
+        Some(field) => Ok(Selection::from(field.clone()?) == *selection),
+        None => Ok(false),
+    }
+}
+
+/// Whether the operation's first selection tells that, and its copies equal it.
+fn tells_first(operation: &OperationDefinition) -> Result<bool, AllocError> {
+    match operation.selection_set.first() {
+        Some(selection) => Ok(
+            tells_selection(selection) && is_made_again(selection)? && is_copied(selection)?,
+        ),
+        None => Ok(false),
+    }
+}
+
+/// Whether the directives of both operations are found by the definition, and the first one's field tells of itself.
+/// None where these are not there.
+fn tells(document: &Document) -> Option<Result<bool, AllocError>> {
+    let definition = document.definitions.get(0)?.as_directive_definition()?;
+    let bare = document.definitions.get(1)?.as_operation_definition()?;
+    let given = document.definitions.get(2)?.as_operation_definition()?;
+    if lacks_required(definition, &bare.directives) && finds_both(&given.directives) {
+        return Some(tells_first(bare));
+    }
+    None
+}
+
 #[test]
 fn finds_arguments(rt: HostRuntime) -> Result<(), Fail> {
-    let directive = directive_of_null(rt.alloc())?;
-    hold(&rt, finds_a(directive.content()), "a");
-    let mut list = DirectiveList::new(rt.alloc());
-    list.push(directive).map_err(AllocError::from)?;
-    hold(&rt, finds_d(&list), "d");
-    Ok(())
-}
-
-/// `responseField: sourceField`
-fn renamed(alloc: Global) -> Result<Node<Field>, AllocError> {
-    let field = Field {
-        alias: Some(name!("responseField")),
-        name: name!("sourceField"),
-        arguments: Vec::new(alloc),
-        directives: DirectiveList::new(alloc),
-        selection_set: Vec::new(alloc),
-    };
-    node(alloc, field)
-}
-
-/// Whether it tells that it is a field without a place.
-fn tells_selection(selection: &Selection) -> bool {
-    selection.as_field().is_some()
-        && selection.as_fragment_spread().is_none()
-        && selection.location().is_none()
-}
-
-#[test]
-fn asks_selections(rt: HostRuntime) -> Result<(), Fail> {
-    let field = renamed(rt.alloc())?;
-    let name = field.content().response_name().as_str();
-    same_text(&rt, name, "responseField");
-    let selection = node(rt.alloc(), Selection::from(field))?;
-    hold(&rt, tells_selection(selection.content()), "a field");
-    hold(&rt, is_copied(selection.content())?, "the copy");
-    Ok(())
+    let text =
+        "directive @d(a: Int!) on QUERY query A @d { responseField: sourceField } query B @d(a: null) { f }";
+    match read(rt.alloc(), text) {
+        Some(document) => Ok(hold(
+            &rt,
+            tells(document.content()).ok_or("they are not found")??,
+            "arguments and a field",
+        )),
+        None => Err("the text is not read")?,
+    }
 }
 
 #[test]
 fn names_operations_and_locations(rt: HostRuntime) {
     same_text(&rt, OperationType::Mutation.default_type_name(), "Mutation");
+    let location = DirectiveLocation::from(OperationType::Query);
+    same_text(&rt, location.name(), "QUERY");
     same_text(
         &rt,
         DirectiveLocation::InlineFragment.name(),
@@ -169,22 +151,38 @@ fn push_directive(
     Ok(())
 }
 
-/// `@a @b` and the directive of this name.
-fn three_directives(alloc: Global, last: Name) -> Result<Vec<Node<Directive>>, AllocError> {
+/// `@a @b`
+fn two_directives(alloc: Global) -> Result<Vec<Node<Directive>>, AllocError> {
     let mut list = Vec::new(alloc);
     push_directive(alloc, &mut list, name!("a"))?;
     push_directive(alloc, &mut list, name!("b"))?;
+    Ok(list)
+}
+
+/// `@a @b` and the directive of this name.
+fn three_directives(alloc: Global, last: Name) -> Result<Vec<Node<Directive>>, AllocError> {
+    let mut list = two_directives(alloc)?;
     push_directive(alloc, &mut list, last)?;
     Ok(list)
 }
 
+/// `@a @b @a`, the first two at once.
+fn list_of_three(alloc: Global) -> Result<DirectiveList, AllocError> {
+    let mut list = DirectiveList::try_from_iter(alloc, two_directives(alloc)?)?;
+    list.push(node(alloc, Directive::new(alloc, name!("a")))?)?;
+    Ok(list)
+}
+
+/// Whether the list has three, its copy equals it, and `@a @b @c` does not.
+fn tells_copy(alloc: Global, list: &DirectiveList) -> Result<bool, AllocError> {
+    let is_other = equals(&list.0, three_directives(alloc, name!("c")))?;
+    Ok(list.0.len() == 3 && !is_other && is_copied(list)?)
+}
+
 #[test]
 fn copies_directives(rt: HostRuntime) -> Result<(), Fail> {
-    let alloc = rt.alloc();
-    let list = DirectiveList::try_from_iter(alloc, three_directives(alloc, name!("a"))?)?;
-    hold(&rt, list.0.len() == 3 && is_copied(&list)?, "the copy");
-    let is_other = equals(&list.0, three_directives(alloc, name!("c")))?;
-    hold(&rt, !is_other, "another");
+    let list = list_of_three(rt.alloc())?;
+    hold(&rt, tells_copy(rt.alloc(), &list)?, "the copy");
     Ok(())
 }
 
@@ -209,6 +207,15 @@ fn writes_to_the_named(rt: HostRuntime) -> Result<(), Fail> {
     let is_written = equals(&list, three_directives(alloc, name!("c")))?;
     hold(&rt, is_written, "what is written");
     Ok(())
+}
+
+/// `a: value`
+fn given(alloc: Global, value: Value) -> Result<Node<Argument>, AllocError> {
+    let given = Argument {
+        name: name!("a"),
+        value: node(alloc, value)?,
+    };
+    node(alloc, given)
 }
 
 /// Sets the argument `a`: written where it stands, else pushed.

@@ -1,43 +1,20 @@
 //! Documents and members of types: places, sources, arguments and copies.
-ghost use Rattle.std.specs.Prelude.{◌≡◌, ◌+◌, ◌<◌, ◌^◌};
-ghost use Rattle.graphql_names.specs.NameSyntax.{IsName};
 
-use crate::hold::{are_alike, hold, is_copied};
+use crate::hold::{are_alike, hold, is_copied, node, read};
 use graphql_ast::*;
+use graphql_read::parse_document;
 use std::alloc::{AllocError, Global};
 use std::process::Abort;
 use std::test::Fail;
 
-/// `scalar T`, read from a file or not.
-fn scalar(alloc: Global, read: bool) -> Result<Node<ScalarTypeDefinition>, AllocError> {
-    let name = Name::new_static_unchecked("T");
-    let directives = DirectiveList(Vec::new(alloc));
-    if read {
-        let content = ScalarTypeDefinition {
-            description: None,
-            name: name.with_location(place(7, 1)),
-            directives,
-        };
-        return Ok(Node::new_parsed(alloc, content, place(0, 8))?);
-    }
+/// `scalar T`, without a place.
+fn scalar(alloc: Global) -> Result<Node<ScalarTypeDefinition>, AllocError> {
     let content = ScalarTypeDefinition {
         description: None,
-        name,
-        directives,
+        name: Name::new_static_unchecked("T"),
+        directives: DirectiveList(Vec::new(alloc)),
     };
     Ok(Node::new(alloc, content)?)
-}
-
-/// So many bytes of the file from this offset on.
-fn place(offset: usize, length: usize) -> SourceSpan
-    requires { offset + length < 2 ^ 64 }
-    ensures { result.length ≡ length }
-{
-    SourceSpan {
-        file_id: FileId(1),
-        offset,
-        length,
-    }
 }
 
 /// The file.
@@ -47,26 +24,45 @@ fn source(alloc: Global) -> Result<SourceFile, AllocError> {
     Ok(SourceFile { path, text })
 }
 
-/// Adds `scalar T`, and the file where it was read.
-fn push_scalar(alloc: Global, document: &mut Document, read: bool) -> Result<(), AllocError> {
-    let definition = Definition::ScalarTypeDefinition(scalar(alloc, read)?);
+/// The document `scalar T`, without places.
+fn built(alloc: Global) -> Result<Node<Document>, AllocError> {
+    let mut document = Document::new(alloc);
+    let definition = Definition::from(scalar(alloc)?);
     document.definitions.push(definition)?;
-    if read {
-        document.sources.insert(FileId(1), source(alloc)?)?;
-    }
-    Ok(())
+    node(alloc, document)
 }
 
-/// The document `scalar T`, read from a file or not.
-fn scalar_document(alloc: Global, read: bool) -> Result<Node<Document>, AllocError> {
-    let mut document = Document::new(alloc);
-    push_scalar(alloc, &mut document, read)?;
-    Ok(Node::new(alloc, document)?)
+/// The document, which was read from this file.
+fn read_from(
+    alloc: Global,
+    document: Document,
+    source: SourceFile,
+) -> Result<Node<Document>, AllocError> {
+    let mut document = document;
+    document.sources.insert(FileId(1), source)?;
+    node(alloc, document)
+}
+
+/// The document `scalar T`, read from the file.
+fn read_scalar(alloc: Global) -> Result<Option<Node<Document>>, AllocError> {
+    let source = source(alloc)?;
+    match parse_document(alloc, "scalar T", FileId(1), 1) {
+        Ok(document) => Ok(Some(read_from(alloc, document, source)?)),
+        Err(_fault) => Ok(None),
+    }
 }
 
 /// Whether the document is the one without definitions.
 fn is_empty(alloc: Global, document: &Document) -> bool {
     *document == Document::new(alloc)
+}
+
+/// Whether its first definition has a place.
+fn is_placed(document: &Document) -> bool {
+    match document.definitions.first() {
+        Some(definition) => definition.location().is_some(),
+        None => false,
+    }
 }
 
 /// How many files a copy of it has.
@@ -83,6 +79,7 @@ fn ignores(
 ) -> Result<(), AllocError> {
     let same = are_alike(read, built) && laws::equal_documents(read, built);
     hold(rt, same, "places and sources");
+    hold(rt, is_placed(read) && !is_placed(built), "a place");
     hold(rt, !is_empty(alloc, read), "another");
     hold(rt, is_copied(read)?, "the copy");
     hold(rt, copied_sources(read)? == 1, "its file");
@@ -91,54 +88,9 @@ fn ignores(
 
 #[test]
 fn ignores_places_and_sources(rt: HostRuntime) -> Result<(), Fail> {
-    let read = scalar_document(rt.alloc(), true)?;
-    let built = scalar_document(rt.alloc(), false)?;
+    let read = read_scalar(rt.alloc())?.ok_or("the text is not read")?;
+    let built = built(rt.alloc())?;
     Ok(ignores(&rt, rt.alloc(), read.content(), built.content())?)
-}
-
-/// Adds an argument of this name, of the type of that name.
-fn push_argument(
-    alloc: Global,
-    arguments: &mut Vec<Node<InputValueDefinition>>,
-    name: &'static str,
-    type_name: &'static str,
-) -> Result<(), AllocError>
-    requires name { IsName name.now }
-    requires type_name { IsName type_name.now }
-{
-    let ty = Type::Named(Name::new_static_unchecked(type_name));
-    let ty = Node::new(alloc, ty)?;
-    let content = InputValueDefinition {
-        description: None,
-        name: Name::new_static_unchecked(name),
-        ty,
-        default_value: None,
-        directives: DirectiveList(Vec::new(alloc)),
-    };
-    arguments.push(Node::new(alloc, content)?)?;
-    Ok(())
-}
-
-/// `(a: A, b: B, b: C)`
-fn arguments(alloc: Global) -> Result<Vec<Node<InputValueDefinition>>, AllocError> {
-    let mut arguments = Vec::new(alloc);
-    push_argument(alloc, &mut arguments, "a", "A")?;
-    push_argument(alloc, &mut arguments, "b", "B")?;
-    push_argument(alloc, &mut arguments, "b", "C")?;
-    Ok(arguments)
-}
-
-/// `f(a: A, b: B, b: C): T`
-fn field(alloc: Global) -> Result<Node<FieldDefinition>, AllocError> {
-    let arguments = arguments(alloc)?;
-    let field = FieldDefinition {
-        description: None,
-        name: Name::new_static_unchecked("f"),
-        arguments,
-        ty: Type::Named(Name::new_static_unchecked("T")),
-        directives: DirectiveList(Vec::new(alloc)),
-    };
-    Ok(Node::new(alloc, field)?)
 }
 
 /// Whether its first argument `b` is of the type `B`, and it has no `c`.
@@ -159,28 +111,41 @@ fn equals_copy(field: &FieldDefinition) -> Result<bool, AllocError> {
     Ok(laws::equal_field_definitions(&field.clone()?, field))
 }
 
+/// Whether the first field has the first argument of a name, and its copy equals it.
+fn has_first(object: &ObjectTypeDefinition) -> Result<bool, AllocError> {
+    match object.fields.first() {
+        Some(field) => Ok(finds_first(field.content()) && equals_copy(field.content())?),
+        None => Ok(false),
+    }
+}
+
+/// Whether the copy of the first value equals it.
+fn copies_first(values: &EnumTypeDefinition) -> Result<bool, AllocError> {
+    match values.values.first() {
+        Some(value) => is_copied(value.content()),
+        None => Ok(false),
+    }
+}
+
+/// Whether the members of the object and of the enum do so. None where these are not there.
+fn tells_members(document: &Document) -> Option<Result<bool, AllocError>> {
+    let object = document.definitions.get(0)?.as_object_type_definition()?;
+    let values = document.definitions.get(1)?.as_enum_type_definition()?;
+    match has_first(object) {
+        Ok(true) => Some(copies_first(values)),
+        other => Some(other),
+    }
+}
+
 #[test]
 fn finds_the_first_argument_of_a_name(rt: HostRuntime) -> Result<(), Fail> {
-    let field = field(rt.alloc())?;
-    hold(&rt, finds_first(field.content()), "the first b");
-    hold(&rt, equals_copy(field.content())?, "the copy");
-    Ok(())
-}
-
-/// `"the first" A`
-fn enum_value(alloc: Global) -> Result<Node<EnumValueDefinition>, AllocError> {
-    let description = NodeStr::new_str(alloc, "the first")?;
-    let value = EnumValueDefinition {
-        description: Some(description),
-        value: Name::new_static_unchecked("A"),
-        directives: DirectiveList(Vec::new(alloc)),
-    };
-    Ok(Node::new(alloc, value)?)
-}
-
-#[test]
-fn clones_an_enum_value(rt: HostRuntime) -> Result<(), Fail> {
-    let value = enum_value(rt.alloc())?;
-    hold(&rt, is_copied(value.content())?, "the copy");
-    Ok(())
+    let text = "type T { f(a: A, b: B, b: C): T } enum E { \"the first\" A }";
+    match read(rt.alloc(), text) {
+        Some(document) => Ok(hold(
+            &rt,
+            tells_members(document.content()).ok_or("no members")??,
+            "the first b, and copies",
+        )),
+        None => Err("the text is not read")?,
+    }
 }

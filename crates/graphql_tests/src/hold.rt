@@ -1,6 +1,8 @@
 //! What tests assert.
 
-use graphql_names::Node;
+use graphql_ast::Document;
+use graphql_names::{FileId, Node};
+use graphql_read::parse_document;
 use std::alloc::{AllocError, Global};
 use std::hash::{DefaultHasher, Hash, Hasher};
 use std::process::Abort;
@@ -43,4 +45,10 @@ pub(crate) fn equals<T: PartialEq + Drop>(
 /// A node without a place.
 pub(crate) fn node<T: Drop>(alloc: Global, value: T) -> Result<Node<T>, AllocError> {
     Ok(Node::new(alloc, value)?)
+}
+
+/// The document of the text, where it is read.
+pub(crate) fn read(alloc: Global, text: &str) -> Option<Node<Document>> {
+    let document = parse_document(alloc, text, FileId(1), 9).ok()?;
+    node(alloc, document).ok()
 }

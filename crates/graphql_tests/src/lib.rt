@@ -1,5 +1,6 @@
 //! Tests over public calls that no row of text reaches: trees that are built by calls, equality, hash and clones, and each
-//! public call once in ample memory. The rows are those of `graphql_rows`. It has no code but these.
+//! public call once in ample memory. Rows stand in the programs of rows (`FORMAT.md` of `graphql_row_files`). It has no
+//! code but these.
 #![tactic(auto)]
 
 #[cfg(test)]

@@ -2,9 +2,11 @@
 ghost use Rattle.std.specs.Prelude.{◌≡◌, IfOk, None, codes};
 ghost use Rattle.graphql_literals.specs.TypeTree.{NamedTree, ListTree, NonNullListTree, type_tree};
 
-use crate::hold::{are_alike, equals, hold, is_copied, node, same_text};
+use crate::hold::{are_alike, hold, is_copied, node, read, same_text};
+use graphql_ast::Document;
 use graphql_literals::{FloatValue, IntValue, Type, Value};
-use graphql_names::{FileId, Node, SourceSpan, name};
+use graphql_names::FileId;
+use graphql_read::parse_type;
 use graphql_values::ty;
 use std::alloc::{AllocError, Global};
 use std::process::Abort;
@@ -17,54 +19,20 @@ fn nested(alloc: Global) -> Result<Type, AllocError>
     ty!(alloc, [[[Obj ] !]]!)
 }
 
-/// `[item]`, which was read from this place.
-fn list_of(alloc: Global, item: Node<Value>, place: SourceSpan) -> Result<Node<Value>, AllocError> {
-    let list = Value::List(vec![in alloc; item]?);
-    Ok(Node::new_parsed(alloc, list, place)?)
-}
-
-/// `{a: item}`, which was read from this place.
-fn object_of(
-    alloc: Global,
-    item: Node<Value>,
-    place: SourceSpan,
-) -> Result<Node<Value>, AllocError> {
-    let object = Value::Object(vec![in alloc; (name!("a"), item)]?);
-    Ok(Node::new_parsed(alloc, object, place)?)
-}
-
-/// `[{a: [1]}]`, whose nodes were read from `offset`.
-fn list_of_object(alloc: Global, offset: usize) -> Result<Node<Value>, AllocError> {
-    let place = SourceSpan {
-        file_id: FileId(1),
-        offset: offset % 100,
-        length: 1,
-    };
-    let one = Value::Int(IntValue::from_i32(alloc, 1)?);
-    let one = Node::new_parsed(alloc, one, place)?;
-    let inner = list_of(alloc, one, place)?;
-    let object = object_of(alloc, inner, place)?;
-    list_of(alloc, object, place)
-}
-
-/// Whether a value of the one type may stand for one of the other.
-fn is_assignable(
-    from: Result<Type, AllocError>,
-    to: Result<Type, AllocError>,
-) -> Result<bool, AllocError> {
-    Ok(from?.is_assignable_to(&to?))
+/// Whether a value of the one type may stand for one of the other. None where one is not read.
+fn is_assignable(alloc: Global, from: &str, to: &str) -> Option<bool> {
+    let from = parse_type(alloc, from, FileId(1), 9).ok()?;
+    let to = parse_type(alloc, to, FileId(1), 9).ok()?;
+    Some(from.is_assignable_to(&to))
 }
 
 #[test]
-fn assigns_types(rt: HostRuntime) -> Result<(), Fail> {
+fn assigns_types(rt: HostRuntime) {
     let alloc = rt.alloc();
-    let required = is_assignable(ty!(alloc, Int!), ty!(alloc, Int))?;
-    hold(&rt, required, "Int!");
-    let optional = is_assignable(ty!(alloc, Int), ty!(alloc, Int!))?;
-    hold(&rt, !optional, "Int");
-    let list = is_assignable(ty!(alloc, [Int!]), ty!(alloc, [Int]))?;
-    hold(&rt, list, "[Int!]");
-    Ok(())
+    let are_assigned = is_assignable(alloc, "Int!", "Int") == Some(true)
+        && is_assignable(alloc, "Int", "Int!") == Some(false)
+        && is_assignable(alloc, "[Int!]", "[Int]") == Some(true);
+    hold(&rt, are_assigned, "types");
 }
 
 /// Whether it tells that it is a list of objects that is not null.
@@ -76,25 +44,34 @@ fn tells_nested(ty: &Type) -> bool {
         && ty.inner_named_type().as_str() == "Obj"
 }
 
-/// Whether it has these items.
-fn has_items(ty: &Type, wanted: Result<Type, AllocError>) -> Result<bool, AllocError> {
-    equals(ty.item_type(), wanted)
+/// Whether it is the type of the text.
+fn is_type(alloc: Global, ty: &Type, text: &str) -> bool {
+    match parse_type(alloc, text, FileId(1), 9) {
+        Ok(wanted) => *ty == wanted,
+        Err(_fault) => false,
+    }
 }
 
-/// Whether its copy, which may be null, is the type that is wanted.
-fn is_nullable(ty: &Type, wanted: Result<Type, AllocError>) -> Result<bool, AllocError> {
-    equals(&ty.clone()?.nullable(), wanted)
+/// Whether its items, and the type that may be null, are as they must be.
+fn tells_parts(alloc: Global, ty: &Type) -> Result<bool, AllocError> {
+    let nullable = ty.clone()?.nullable();
+    Ok(is_type(alloc, ty.item_type(), "[[Obj]!]") && is_type(alloc, &nullable, "[[[Obj]!]]"))
 }
 
 #[test]
 fn asks_types(rt: HostRuntime) -> Result<(), Fail> {
-    let alloc = rt.alloc();
-    let node = node(alloc, nested(alloc)?)?;
-    let obj = node.content();
-    hold(&rt, tells_nested(obj), "its form");
-    hold(&rt, has_items(obj, ty!(alloc, [[Obj]!]))?, "its items");
-    hold(&rt, is_nullable(obj, ty!(alloc, [[[Obj]!]]))?, "nullable");
+    let node = node(rt.alloc(), nested(rt.alloc())?)?;
+    hold(&rt, tells_nested(node.content()), "its form");
+    hold(&rt, tells_parts(rt.alloc(), node.content())?, "its parts");
     Ok(())
+}
+
+/// The value of the argument `a` of the operation's directive `@d`.
+fn value_in(document: &Document) -> Option<&Value> {
+    let operation = document.definitions.first()?.as_operation_definition()?;
+    let directive = operation.directives.get("d")?;
+    let value = directive.content().specified_argument_by_name("a")?;
+    Some(value.content())
 }
 
 /// It tells that it is a list.
@@ -108,26 +85,48 @@ fn tells_list(value: &Value) -> bool {
         && value.as_variable().is_none()
 }
 
-#[test]
-fn asks_values(rt: HostRuntime) -> Result<(), Fail> {
-    let near = list_of_object(rt.alloc(), 1)?;
-    hold(&rt, tells_list(near.content()), "a list");
-    let far = list_of_object(rt.alloc(), 50)?;
-    hold(&rt, are_alike(near.content(), far.content()), "places");
-    hold(&rt, is_copied(near.content())?, "the copy");
-    Ok(())
+/// Whether the one tells that it is a list, is like the other, and its copy equals it.
+fn tells_alike(near: &Value, far: &Value) -> Result<bool, AllocError> {
+    Ok(tells_list(near) && are_alike(near, far) && is_copied(near)?)
+}
+
+/// Whether the values of the two documents do so.
+fn tells_values(near: &Document, far: &Document) -> Result<bool, AllocError> {
+    match (value_in(near), value_in(far)) {
+        (Some(near), Some(far)) => tells_alike(near, far),
+        _ => Ok(false),
+    }
 }
 
 #[test]
-fn asks_plain_values(rt: HostRuntime) -> Result<(), Fail> {
-    let alloc = rt.alloc();
-    let truth = node(alloc, Value::Boolean(true))?;
-    hold(&rt, truth.content().to_bool() == Some(true), "true");
-    let least = IntValue::from_i32(alloc, -2147483648)?;
-    let least = node(alloc, Value::Int(least))?;
-    let told = least.content().to_i32();
-    hold(&rt, told == Some(-2147483648), "the least");
+fn asks_values(rt: HostRuntime) -> Result<(), Fail> {
+    let near = read(rt.alloc(), "query @d(a: [{a: [1]}]) { f }").ok_or("near")?;
+    let far = read(rt.alloc(), "query Far @d(a: [ { a: [1] } ]) { f }").ok_or("far")?;
+    hold(
+        &rt,
+        tells_values(near.content(), far.content())?,
+        "a list, places, the copy",
+    );
     Ok(())
+}
+
+/// Whether the value is `[true, -2147483648]`.
+fn tells_plain(value: &Value) -> bool {
+    match value.as_list() {
+        Some([truth, least]) => {
+            truth.content().to_bool() == Some(true) && least.content().to_i32() == Some(-2147483648)
+        }
+        _ => false,
+    }
+}
+
+#[test]
+fn asks_plain_values(rt: HostRuntime) {
+    let is_told = match read(rt.alloc(), "query @d(a: [true, -2147483648]) { f }") {
+        Some(document) => value_in(document.content()).is_some_and(tells_plain),
+        None => false,
+    };
+    hold(&rt, is_told, "true, and the least");
 }
 
 /// The text is a token of the one form, of the other, or of neither.
@@ -154,10 +153,16 @@ fn tells_numbers(rt: HostRuntime) {
     are_numbers(&rt, &neither, false, false);
 }
 
+/// Whether the number is given back.
+fn comes_back(alloc: Global, number: i32) -> Result<bool, AllocError> {
+    Ok(IntValue::from_i32(alloc, number)?.try_to_i32() == Some(number))
+}
+
 #[test]
 fn makes_numbers(rt: HostRuntime) -> Result<(), Fail> {
     let alloc = rt.alloc();
     same_text(&rt, IntValue::from_i32(alloc, -305)?.as_str(), "-305");
+    hold(&rt, comes_back(alloc, -2147483648)?, "the least");
     let large = "2147483648";
     if IntValue::valid_syntax(large) {
         let value = IntValue::new_parsed(alloc, large)?;

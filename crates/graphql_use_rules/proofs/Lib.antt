@@ -11,4 +11,5 @@ pub mod Known
 pub mod Again
 pub mod Numbered
 pub mod Uses
+pub mod Alone
 pub mod SchemaSteps

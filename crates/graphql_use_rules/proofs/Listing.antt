@@ -135,28 +135,23 @@ module _ {B : Type 0} where
   -- ---- what is added
 
   abbrev pub Gains : List B → List B → (B → Type 0) → Type 0
-  Gains old new R = (f : B) → Contains new f ↔ (Contains old f ⊎ R f)
+  Gains old new R = (added : List B) × ((new ≡ old ++ added) × Lists added R)
 
   pub gains_list : {R : B → Type 0} (old new l : List B) → new ≡ old ++ l → Lists l R → Gains old new R
-  gains_list old new l e h f = (
-    λ c. elim (Contains-append_cases old l f (subst (λ x. Contains x f) e c)) [ inl o ↦ inl o | inr r ↦ inr ((h f).0 r) ],
-    λ q. subst (λ x. Contains x f) (sym e) (elim q [ inl o ↦ Contains-append_left old l f o | inr r ↦ Contains-append_right old l f ((h f).1 r) ]),
-  )
+  gains_list old new l e h = (l, (e, h))
 
   pub gains_both : {R S : B → Type 0} (a b c : List B) → Gains a b R → Gains b c S → Gains a c (λ f. R f ⊎ S f)
-  gains_both a b c r s f = (
-    λ h. elim ((s f).0 h) [ inl x ↦ elim ((r f).0 x) [ inl o ↦ inl o | inr y ↦ inr (inl y) ] | inr y ↦ inr (inr y) ],
-    λ q. elim q [ inl o ↦ (s f).1 (inl ((r f).1 (inl o))) | inr x ↦ elim x [ inl y ↦ (s f).1 (inl ((r f).1 (inr y))) | inr y ↦ (s f).1 (inr y) ] ],
-  )
+  gains_both a b c (l, (e, h)) (m, (e', h')) = (l ++ m, (e' ∙ ap (λ k. k ++ m) e ∙ append_assoc a l m, lists_both l m h h'))
 
   pub gains_same : {R S : B → Type 0} (a b : List B) → ((f : B) → R f ↔ S f) → Gains a b R → Gains a b S
-  gains_same a b same g f = (
-    λ h. elim ((g f).0 h) [ inl o ↦ inl o | inr r ↦ inr ((same f).0 r) ],
-    λ q. (g f).1 (elim q [ inl o ↦ inl o | inr s ↦ inr ((same f).1 s) ]),
-  )
+  gains_same a b same (l, (e, h)) = (l, (e, lists_same l same h))
 
   pub gains_nothing : (a : List B) (R : B → Type 0) → ((f : B) → R f → ⊥) → Gains a a R
-  gains_nothing a R never f = (λ h. inl h, λ q. elim q [ inl o ↦ o | inr r ↦ absurd (never f r) ])
+  gains_nothing a R never = ([], (sym (append-nil a), lists_nothing R never))
+
+  -- no element of a loop yet
+  pub gains_none : {X : Type 0} (a : List B) (R : ℕ → X → B → Type 0) → Gains a a (λ f. AtSomeIndex [] (λ k x. R k x f))
+  gains_none a R = gains_nothing a (λ f. AtSomeIndex [] (λ k x. R k x f)) (λ f q. true≢false (sym (ap is_some q.1.1.0)))
 
   -- one element more of a loop
   pub gains_more : {X : Type 0} (a b c : List B) (ys zs : List X) (y : X) (R : ℕ → X → B → Type 0) → zs ≡ ys ++ y ∷ [] → Gains a b (λ f. AtSomeIndex ys (λ k x. R k x f)) → Gains b c (R (length ys) y) → Gains a c (λ f. AtSomeIndex zs (λ k x. R k x f))

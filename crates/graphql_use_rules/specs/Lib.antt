@@ -2,6 +2,7 @@ pub mod Moved
 pub mod SchemaUses
 pub mod Laws
 pub mod Trees
+pub mod Alone
 pub mod UseFaults
 pub mod Steps
 -- The crates beneath, for those above.

@@ -12,9 +12,9 @@ use Rattle.graphql_value_rules.specs.in_schema.in_schema_types.SchemaTree.{Schem
 use Rattle.graphql_value_rules.specs.in_schema.in_schema_types.Addresses.{place_at}
 use Rattle.graphql_value_rules.specs.in_rule_definitions.Diagnostics.{DisallowedVariableUsage}
 use Rattle.graphql_value_rules.specs.in_rule_definitions.Faults.{wrong}
-use Rattle.graphql_value_rules.specs.in_rule_definitions.Words.{Present}
+use Rattle.graphql_value_rules.specs.in_rule_definitions.Words.{Present, AtSomeIndex}
 use Rattle.graphql_value_rules.specs.in_rule_definitions.Judged.{judged}
-use Rattle.graphql_value_rules.specs.in_rule_definitions.Values.{Variables, defined_name, UniqueInputValueIn, UndefinedVariableIn, TypeBreaks}
+use Rattle.graphql_value_rules.specs.in_rule_definitions.Values.{Variables, defined_name, UndefinedVariableIn, TypeBreaks}
 use Rattle.graphql_value_rules.specs.in_rule_definitions.Uses.{argument_name, IsVariableUsageAllowed, UnsupportedLocationAt, TakerBreaks, directive_taker}
 use Rattle.graphql_value_rules.specs.in_rule_definitions.Told.{PlacedFault}
 use Rattle.graphql_value_rules.specs.Wanting.{wanted}
@@ -29,9 +29,9 @@ abbrev pub FitsWithDefault : VariableDefinitionTree Place → InputValueTree Pla
 FitsWithDefault x v = ((has_mark x.ty.it ≡ false) × (has_mark v.ty.it ≡ true))
     × (((is_some x.default_value ≡ true) ⊎ (is_some v.default_value ≡ true)) × AreTypesCompatible x.ty.it (nullable_type v.ty.it))
 
--- the keys or the variables in what is given
-abbrev pub ValueGivenBreaks : Variables Place → Placed Place (ArgumentTree Place) → PlacedFault → Type 0
-ValueGivenBreaks variables a f = UniqueInputValueIn a.it.value.it f ⊎ UndefinedVariableIn variables a.it.value.place a.it.value.it f
+-- a variable in what is given for an argument is not defined
+abbrev pub VariablesGivenBreak : Variables Place → Arguments Place → PlacedFault → Type 0
+VariablesGivenBreak variables given f = AtSomeIndex given (λ i a. UndefinedVariableIn variables a.it.value.place a.it.value.it f)
 
 -- a variable that is given may not stand there
 abbrev pub DisallowedUsage : Variables Place → InputValueTree Place → Placed Place (ArgumentTree Place) → PlacedFault → Type 0

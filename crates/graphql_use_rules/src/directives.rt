@@ -16,9 +16,10 @@ ghost use Rattle.graphql_value_rules.specs.in_fault_data.Adds.{Adds};
 ghost use Rattle.graphql_value_rules.specs.Wanting.{variables_of};
 ghost use Rattle.graphql_use_rules.specs.Trees.{directives_of, inputs_of, no_schema, tree_of};
 ghost use Rattle.graphql_use_rules.specs.UseFaults.{undefined_directive, unsupported_location, directive_again, repeated_directive};
+ghost use Rattle.graphql_use_rules.specs.Alone.{DirectiveAloneBreaks, DirectivesAloneBreak};
 ghost use Rattle.graphql_use_rules.specs.Steps.{DefinedUseBreaks};
 
-use crate::given::check_given;
+use crate::given::{check_arguments_alone, check_given, check_variables_given};
 use crate::taken::check_taken;
 use crate::taker::{Taker, TakerName};
 use graphql_directives::{Directive, DirectiveDefinition, DirectiveLocation};
@@ -204,6 +205,32 @@ pub fn check_uses(
     check_each_use(schema, directives, location, variables, faults)
 }
 
+/// Adds the faults of the use of a directive where none is defined, without variables.
+fn check_directive_alone(
+    directive: &Node<Directive>,
+    faults: &mut Vec<Fault>,
+) -> Result<(), AllocError>
+    ensures { OnOk result (Adds faults.old faults.new (DirectiveAloneBreaks (node_tree directive_tree directive.now))) }
+{
+    check_arguments_alone(&directive.content().arguments, faults)?;
+    let fault = undefined_directive(directive)?;
+    tell(faults, Some(fault))
+}
+
+/// Adds the faults of the rules on the use of directives that hold where nothing is known, neither a schema nor variables:
+/// UndefinedDirective of each, and of its arguments those of `check_arguments_alone`.
+pub fn check_directives_alone(
+    directives: &[Node<Directive>],
+    faults: &mut Vec<Fault>,
+) -> Result<(), AllocError>
+    ensures { OnOk result (Adds faults.old faults.new (DirectivesAloneBreak (directives_of directives.now))) }
+{
+    for directive in directives {
+        check_directive_alone(directive, faults)?;
+    }
+    Ok(())
+}
+
 /// Adds the faults of the use of a directive where there is no schema: none is defined.
 fn check_undefined_use(
     directive: &Node<Directive>,
@@ -212,9 +239,8 @@ fn check_undefined_use(
 ) -> Result<(), AllocError>
     ensures { OnOk result ((location : DirectiveLocation) → Adds faults.old faults.new (UseBreaks (place_at no_schema) (judged no_schema) (variables_of variables.now) location (node_tree directive_tree directive.now))) }
 {
-    check_given(&directive.content().arguments, variables, faults)?;
-    let fault = undefined_directive(directive)?;
-    tell(faults, Some(fault))
+    check_directive_alone(directive, faults)?;
+    check_variables_given(&directive.content().arguments, variables, faults)
 }
 
 /// Adds the faults of each use where there is no schema.

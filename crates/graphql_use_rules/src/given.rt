@@ -7,14 +7,14 @@ ghost use Rattle.graphql_directives.specs.DirectiveQueries.{argument_has_name};
 ghost use Rattle.graphql_components.specs.Lists.{each_place};
 ghost use Rattle.graphql_value_rules.specs.in_schema.in_schema_types.Addresses.{Address};
 ghost use Rattle.graphql_value_rules.specs.in_fault_data.FaultView.{fault_of, faults_of};
-ghost use Rattle.graphql_value_rules.specs.in_rule_definitions.Words.{AtSomeIndex};
 ghost use Rattle.graphql_value_rules.specs.in_rule_definitions.Uses.{argument_name, GivenBreaks};
 ghost use Rattle.graphql_value_rules.specs.in_fault_data.Adds.{Adds};
 ghost use Rattle.graphql_value_rules.specs.Firsts.{AreNumbers};
 ghost use Rattle.graphql_value_rules.specs.Wanting.{variables_of};
 ghost use Rattle.graphql_use_rules.specs.Trees.{arguments_of};
 ghost use Rattle.graphql_use_rules.specs.UseFaults.{argument_again, repeated_argument};
-ghost use Rattle.graphql_use_rules.specs.Steps.{ValueGivenBreaks};
+ghost use Rattle.graphql_use_rules.specs.Alone.{KeysBreak, ArgumentsBreak};
+ghost use Rattle.graphql_use_rules.specs.Steps.{VariablesGivenBreak};
 ghost use Rattle.graphql_value_rules.specs.in_rule_definitions.Judged.{Judged};
 
 use graphql_directives::Argument;
@@ -76,7 +76,7 @@ fn unique_argument(
 }
 
 /// Adds a fault for each argument that is given before.
-pub fn tell_repeated_arguments(
+fn tell_repeated_arguments(
     given: &[Node<Argument>],
     faults: &mut Vec<Fault>,
 ) -> Result<(), AllocError>
@@ -94,34 +94,43 @@ pub fn tell_repeated_arguments(
     Ok(())
 }
 
-/// Adds the faults of the keys and the variables in what is given for an argument.
-fn check_value_given(
-    argument: &Node<Argument>,
-    variables: &[Node<VariableDefinition>],
-    faults: &mut Vec<Fault>,
-) -> Result<(), AllocError>
-    ensures { OnOk result (Adds faults.old faults.new (λ f. ValueGivenBreaks (variables_of variables.now) (node_tree argument_tree argument.now) f)) }
-{
-    let value = &argument.content().value;
-    unique_input_values(value, faults)?;
-    undefined_variables(value, variables, faults)
-}
-
-/// Adds the same for each argument.
-fn check_values_given(
-    given: &[Node<Argument>],
-    variables: &[Node<VariableDefinition>],
-    faults: &mut Vec<Fault>,
-) -> Result<(), AllocError>
-    ensures { OnOk result (Adds faults.old faults.new (λ f. AtSomeIndex (arguments_of given.now) (λ i a. ValueGivenBreaks (variables_of variables.now) a f))) }
+/// Adds the faults of the keys in the value of each argument.
+fn check_keys_given(given: &[Node<Argument>], faults: &mut Vec<Fault>) -> Result<(), AllocError>
+    ensures { OnOk result (Adds faults.old faults.new (KeysBreak (arguments_of given.now))) }
 {
     for argument in given {
-        check_value_given(argument, variables, faults)?;
+        unique_input_values(&argument.content().value, faults)?;
     }
     Ok(())
 }
 
-/// Adds the faults of arguments that are given, defined or not: UniqueArgument, and of the value of each UniqueInputValue and
+/// Adds the faults of the rules on arguments that hold of them anywhere, without definitions and without variables:
+/// UniqueArgument, and of the value of each UniqueInputValue.
+pub fn check_arguments_alone(
+    given: &[Node<Argument>],
+    faults: &mut Vec<Fault>,
+) -> Result<(), AllocError>
+    ensures { OnOk result (Adds faults.old faults.new (ArgumentsBreak (arguments_of given.now))) }
+{
+    tell_repeated_arguments(given, faults)?;
+    check_keys_given(given, faults)
+}
+
+/// Adds the faults of the variables in the value of each argument.
+pub(crate) fn check_variables_given(
+    given: &[Node<Argument>],
+    variables: &[Node<VariableDefinition>],
+    faults: &mut Vec<Fault>,
+) -> Result<(), AllocError>
+    ensures { OnOk result (Adds faults.old faults.new (VariablesGivenBreak (variables_of variables.now) (arguments_of given.now))) }
+{
+    for argument in given {
+        undefined_variables(&argument.content().value, variables, faults)?;
+    }
+    Ok(())
+}
+
+/// Adds the faults of arguments that are given, defined or not: those of `check_arguments_alone`, and of the value of each
 /// UndefinedVariable.
 pub fn check_given(
     given: &[Node<Argument>],
@@ -130,6 +139,6 @@ pub fn check_given(
 ) -> Result<(), AllocError>
     ensures { OnOk result ((at : Address → Place) (s : Judged) → Adds faults.old faults.new (GivenBreaks at s (variables_of variables.now) (arguments_of given.now))) }
 {
-    tell_repeated_arguments(given, faults)?;
-    check_values_given(given, variables, faults)
+    check_arguments_alone(given, faults)?;
+    check_variables_given(given, variables, faults)
 }

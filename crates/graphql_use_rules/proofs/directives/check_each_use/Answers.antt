@@ -1,7 +1,7 @@
 use Rattle.std.proofs.Common.{◌<◌, ◌+◌, take, length, subst, arith}
 use Rattle.std.proofs.lemmas.List.{take_all}
-use Rattle.graphql_names.specs.Placed.{node_tree}
-use Rattle.graphql_directives.specs.DirectiveTree.{directive_tree}
+use Rattle.graphql_names.specs.Placed.{node_tree, Placed, Place}
+use Rattle.graphql_directives.specs.DirectiveTree.{directive_tree, DirectiveTree}
 use Rattle.graphql_value_rules.specs.in_schema.in_schema_types.Addresses.{place_at}
 use Rattle.graphql_value_rules.specs.in_fault_data.FaultView.{faults_of}
 use Rattle.graphql_value_rules.specs.in_schema.SchemaOf.{schema_tree}
@@ -11,8 +11,13 @@ use Rattle.graphql_value_rules.specs.in_rule_definitions.Words.{AtSomeIndex}
 use Rattle.graphql_value_rules.specs.in_fault_data.Adds.{Adds}
 use Rattle.graphql_value_rules.specs.Wanting.{variables_of}
 use Rattle.graphql_use_rules.specs.Trees.{directives_of}
-use Rattle.graphql_use_rules.proofs.Listing.{gains_more, mapped_more}
+use Rattle.graphql_use_rules.proofs.Listing.{gains_none, gains_more, mapped_more}
 use Rattle.graphql_use_rules.proofs.directives.check_each_use.Goals as goal
+
+pub loop-directive-init : goal.loop-directive-init
+loop-directive-init c =
+    let s = schema_tree c.args.schema.now in
+    gains_none {X = Placed Place (DirectiveTree Place)} (faults_of c.args.faults.now) (λ k d f. UseBreaks (place_at s) (judged s) (variables_of c.args.variables.now) c.args.location d f)
 
 pub loop-directive-preserved : goal.loop-directive-preserved
 loop-directive-preserved c =

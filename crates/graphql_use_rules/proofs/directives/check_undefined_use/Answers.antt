@@ -1,19 +1,15 @@
-use Rattle.std.proofs.Common.{[], ◌∷◌, ◌++◌, refl, ap, subst, ◌∙◌}
+use Rattle.std.proofs.Common.{ap, subst, ◌∙◌}
 use Rattle.std.proofs.lemmas.Result.{on_ok_weaker}
 use Rattle.graphql_names.specs.Placed.{Place, node_tree}
 use Rattle.graphql_directives.specs.DirectiveTree.{Arguments, directive_tree}
 use Rattle.graphql_directives.specs.declared.directive.Directive.{Directive}
-use Rattle.graphql_value_rules.specs.in_schema.in_schema_types.Addresses.{place_at}
 use Rattle.graphql_value_rules.specs.in_fault_data.FaultView.{faults_of}
-use Rattle.graphql_value_rules.specs.in_rule_definitions.Judged.{judged}
-use Rattle.graphql_value_rules.specs.in_rule_definitions.Uses.{GivenBreaks}
 use Rattle.graphql_value_rules.specs.in_fault_data.Adds.{Adds}
 use Rattle.graphql_value_rules.specs.Wanting.{variables_of}
-use Rattle.graphql_use_rules.specs.Trees.{arguments_of, no_schema}
-use Rattle.graphql_use_rules.specs.UseFaults.{undefined_directive}
-use Rattle.graphql_use_rules.proofs.Listing.{gains_same, gains_both, gains_list, lists_one}
-use Rattle.graphql_value_rules.proofs.in_fault_data.Judgings.{directive_look}
-use Rattle.graphql_use_rules.proofs.Uses.{use_undefined}
+use Rattle.graphql_use_rules.specs.Trees.{arguments_of}
+use Rattle.graphql_use_rules.specs.Steps.{VariablesGivenBreak}
+use Rattle.graphql_use_rules.proofs.Alone.{use_apart}
+use Rattle.graphql_use_rules.proofs.Listing.{gains_same, gains_both}
 use Rattle.graphql_use_rules.proofs.directives.check_undefined_use.Goals as goal
 
 pub returns : goal.returns
@@ -21,11 +17,11 @@ returns c =
     let vs = variables_of c.args.variables.now in
     let d = node_tree directive_tree c.args.directive.now in
     let a = faults_of c.args.faults.now in
-    let b = faults_of c.check_given.new.faults in
-    let e = faults_of c.tell.new.faults in
+    let b = faults_of c.check_directive_alone.new.faults in
+    let e = faults_of c.check_variables_given.new.faults in
     let taken = ap arguments_of c.deref.ensures.value ∙ ap (λ (x : Directive). arguments_of x.arguments.items) c.content.ensures in
-    let given = subst (λ (l : Arguments Place). Adds c.args.faults.now c.check_given.new.faults (GivenBreaks (place_at no_schema) (judged no_schema) vs l)) taken (c.in_ok-check_given.ensures (place_at no_schema) (judged no_schema)) in
-    on_ok_weaker c.tell.result
-    (λ h location. gains_same a e (use_undefined no_schema vs (directive_look no_schema) location d refl)
-    (gains_both a b e given (gains_list b e (undefined_directive d ∷ []) (h ∙ ap (λ x. b ++ x ∷ []) c.in_ok-fault.ensures) (lists_one (undefined_directive d)))))
-    c.tell.ensures.told
+    on_ok_weaker c.check_variables_given.result
+    (λ h location. gains_same a e (use_apart vs location d)
+    (gains_both a b e c.in_ok-check_directive_alone.ensures
+    (subst (λ (l : Arguments Place). Adds c.check_directive_alone.new.faults c.check_variables_given.new.faults (VariablesGivenBreak vs l)) taken h)))
+    c.check_variables_given.ensures

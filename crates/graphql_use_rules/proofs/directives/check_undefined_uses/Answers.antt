@@ -1,7 +1,7 @@
 use Rattle.std.proofs.Common.{◌<◌, ◌+◌, take, length, refl, subst, arith}
 use Rattle.std.proofs.lemmas.List.{take_all}
-use Rattle.graphql_names.specs.Placed.{node_tree}
-use Rattle.graphql_directives.specs.DirectiveTree.{directive_tree}
+use Rattle.graphql_names.specs.Placed.{node_tree, Placed, Place}
+use Rattle.graphql_directives.specs.DirectiveTree.{directive_tree, DirectiveTree}
 use Rattle.graphql_value_rules.specs.in_schema.in_schema_types.Addresses.{place_at}
 use Rattle.graphql_value_rules.specs.in_fault_data.FaultView.{faults_of}
 use Rattle.graphql_value_rules.specs.in_rule_definitions.Words.{AtSomeIndex}
@@ -10,10 +10,14 @@ use Rattle.graphql_value_rules.specs.in_rule_definitions.Uses.{UseBreaks}
 use Rattle.graphql_value_rules.specs.in_fault_data.Adds.{Adds}
 use Rattle.graphql_value_rules.specs.Wanting.{variables_of}
 use Rattle.graphql_use_rules.specs.Trees.{directives_of, no_schema}
-use Rattle.graphql_use_rules.proofs.Listing.{gains_more, gains_same, mapped_more}
+use Rattle.graphql_use_rules.proofs.Listing.{gains_none, gains_more, gains_same, mapped_more}
 use Rattle.graphql_value_rules.proofs.in_fault_data.Judgings.{directive_look}
 use Rattle.graphql_use_rules.proofs.Uses.{uses_undefined}
 use Rattle.graphql_use_rules.proofs.directives.check_undefined_uses.Goals as goal
+
+pub loop-directive-init : goal.loop-directive-init
+loop-directive-init c = λ location.
+    gains_none {X = Placed Place (DirectiveTree Place)} (faults_of c.args.faults.now) (λ k d f. UseBreaks (place_at no_schema) (judged no_schema) (variables_of c.args.variables.now) location d f)
 
 pub loop-directive-preserved : goal.loop-directive-preserved
 loop-directive-preserved c = λ location.

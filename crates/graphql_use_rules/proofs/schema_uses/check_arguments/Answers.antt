@@ -1,7 +1,7 @@
 use Rattle.std.proofs.Common.{◌<◌, ◌+◌, take, length, ap, subst, ◌∙◌, arith}
 use Rattle.std.proofs.lemmas.List.{take_all}
-use Rattle.graphql_names.specs.Placed.{Place, node_tree}
-use Rattle.graphql_directives.specs.DirectiveTree.{Directives, input_value_tree}
+use Rattle.graphql_names.specs.Placed.{Place, node_tree, Placed}
+use Rattle.graphql_directives.specs.DirectiveTree.{Directives, input_value_tree, InputValueTree}
 use Rattle.graphql_directives.specs.declared.directive_location.DirectiveLocation.TheVariants as location
 use Rattle.graphql_directives.specs.declared.input_value.InputValueDefinition.{InputValueDefinition}
 use Rattle.graphql_value_rules.specs.in_fault_data.FaultView.{faults_of}
@@ -9,8 +9,13 @@ use Rattle.graphql_value_rules.specs.in_schema.SchemaOf.{schema_tree}
 use Rattle.graphql_value_rules.specs.in_fault_data.Adds.{Adds}
 use Rattle.graphql_use_rules.specs.Trees.{inputs_of, directives_of}
 use Rattle.graphql_use_rules.specs.SchemaUses.{UsesAt, ArgumentUses}
-use Rattle.graphql_use_rules.proofs.Listing.{gains_more, mapped_more}
+use Rattle.graphql_use_rules.proofs.Listing.{gains_none, gains_more, mapped_more}
 use Rattle.graphql_use_rules.proofs.schema_uses.check_arguments.Goals as goal
+
+pub loop-definition-init : goal.loop-definition-init
+loop-definition-init c =
+    let s = schema_tree c.args.schema.now in
+    gains_none {X = Placed Place (InputValueTree Place)} (faults_of c.args.faults.now) (λ k v f. UsesAt s location.ArgumentDefinition v.it.directives f)
 
 pub loop-definition-preserved : goal.loop-definition-preserved
 loop-definition-preserved c =

@@ -12,9 +12,14 @@ use Rattle.graphql_value_rules.specs.in_fault_data.FaultView.{faults_of}
 use Rattle.graphql_value_rules.specs.in_fault_data.Adds.{Adds}
 use Rattle.graphql_use_rules.specs.Trees.{inputs_of}
 use Rattle.graphql_use_rules.specs.SchemaUses.{ArgumentUses, DefinitionUses}
-use Rattle.graphql_use_rules.proofs.Listing.{gains_more}
+use Rattle.graphql_use_rules.proofs.Listing.{gains_none, gains_more}
 use Rattle.graphql_use_rules.proofs.SchemaSteps.{pairs_more}
 use Rattle.graphql_use_rules.proofs.schema_uses.check_definitions.Goals as goal
+
+pub loop-definition-init : goal.loop-definition-init
+loop-definition-init c =
+    let s = schema_tree c.args.schema.now in
+    gains_none {X = List ℕ × Placed Place (DirectiveDefinitionTree Place)} (faults_of c.args.faults.now) (λ k e f. ArgumentUses s e.1.it.arguments f)
 
 pub loop-definition-preserved : goal.loop-definition-preserved
 loop-definition-preserved c =

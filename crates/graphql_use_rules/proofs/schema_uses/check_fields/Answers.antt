@@ -12,9 +12,14 @@ use Rattle.graphql_value_rules.specs.in_schema.SchemaOf.{schema_tree}
 use Rattle.graphql_value_rules.specs.in_fault_data.FaultView.{faults_of}
 use Rattle.graphql_value_rules.specs.in_fault_data.Adds.{Adds}
 use Rattle.graphql_use_rules.specs.SchemaUses.{FieldUses, FieldsUses}
-use Rattle.graphql_use_rules.proofs.Listing.{gains_more}
+use Rattle.graphql_use_rules.proofs.Listing.{gains_none, gains_more}
 use Rattle.graphql_use_rules.proofs.SchemaSteps.{pairs_more}
 use Rattle.graphql_use_rules.proofs.schema_uses.check_fields.Goals as goal
+
+pub loop-field-init : goal.loop-field-init
+loop-field-init c =
+    let s = schema_tree c.args.schema.now in
+    gains_none {X = List ℕ × Given Place (Placed Place (FieldDefinitionTree Place))} (faults_of c.args.faults.now) (λ k e f. FieldUses s e.1.it.it f)
 
 pub loop-field-preserved : goal.loop-field-preserved
 loop-field-preserved c =

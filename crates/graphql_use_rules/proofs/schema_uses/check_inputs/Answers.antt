@@ -14,9 +14,14 @@ use Rattle.graphql_directives.specs.declared.directive_location.DirectiveLocatio
 use Rattle.graphql_directives.specs.DirectiveTree.{Directives, InputValueTree, input_value_tree}
 use Rattle.graphql_use_rules.specs.Trees.{directives_of}
 use Rattle.graphql_use_rules.specs.SchemaUses.{UsesAt, InputsUses}
-use Rattle.graphql_use_rules.proofs.Listing.{gains_more}
+use Rattle.graphql_use_rules.proofs.Listing.{gains_none, gains_more}
 use Rattle.graphql_use_rules.proofs.SchemaSteps.{pairs_more}
 use Rattle.graphql_use_rules.proofs.schema_uses.check_inputs.Goals as goal
+
+pub loop-field-init : goal.loop-field-init
+loop-field-init c =
+    let s = schema_tree c.args.schema.now in
+    gains_none {X = List ℕ × Given Place (Placed Place (InputValueTree Place))} (faults_of c.args.faults.now) (λ k e f. UsesAt s location.InputFieldDefinition e.1.it.it.directives f)
 
 pub loop-field-preserved : goal.loop-field-preserved
 loop-field-preserved c =

@@ -1,4 +1,4 @@
-use Rattle.std.proofs.Common.{refl, sym, subst, OnOk}
+use Rattle.std.proofs.Common.{refl, sym, ap, subst, OnOk}
 use Rattle.std.proofs.lemmas.Result.{on_ok_weaker}
 use Rattle.graphql_names.specs.Node.{content, place}
 use Rattle.graphql_directives.specs.DirectiveTree.{input_value_tree}
@@ -15,8 +15,8 @@ use Rattle.graphql_value_rules.specs.in_schema.SchemaOf.{schema_tree}
 use Rattle.graphql_value_rules.specs.in_fault_data.FaultView.{faults_of}
 use Rattle.graphql_value_rules.specs.in_fault_data.Adds.{Adds}
 use Rattle.graphql_use_rules.specs.SchemaUses.{FieldsUses, ValuesUses, InputsUses, PartsUses}
-use Rattle.graphql_use_rules.proofs.Listing.{gains_same}
-use Rattle.graphql_use_rules.proofs.SchemaSteps.{only_fields, only_values, only_inputs}
+use Rattle.graphql_use_rules.proofs.Listing.{gains_same, gains_nothing}
+use Rattle.graphql_use_rules.proofs.SchemaSteps.{only_fields, only_values, only_inputs, no_parts}
 use Rattle.graphql_use_rules.proofs.schema_uses.check_parts.Goals as goal
 
 pub returns-in-Object : goal.returns-in-Object
@@ -62,3 +62,17 @@ returns-in-InputObject c =
     (λ h. gains_same (faults_of c.args.faults.now) (faults_of c.check_inputs.new.faults) (only_inputs s t refl refl)
     (subst (λ (x : InputObjectType). Adds c.args.faults.now c.check_inputs.new.faults (InputsUses s (entries_of name_text (component_tree input_value_tree) x.fields))) c.content-in-InputObject.ensures h))
     c.check_inputs.ensures)
+
+pub returns-in-Scalar : goal.returns-in-Scalar
+returns-in-Scalar c =
+    let s = schema_tree c.args.schema.now in
+    let t = extended_type c.args.ty.now in
+    gains_nothing (faults_of c.args.faults.now) (PartsUses s t)
+    (no_parts s t (ap (λ (x : ExtendedType). (extended_type x).fields) c.in-Scalar.is) (ap (λ (x : ExtendedType). (extended_type x).values) c.in-Scalar.is) (ap (λ (x : ExtendedType). (extended_type x).inputs) c.in-Scalar.is))
+
+pub returns-in-Scalar-2 : goal.returns-in-Scalar-2
+returns-in-Scalar-2 c =
+    let s = schema_tree c.args.schema.now in
+    let t = extended_type c.args.ty.now in
+    gains_nothing (faults_of c.args.faults.now) (PartsUses s t)
+    (no_parts s t (ap (λ (x : ExtendedType). (extended_type x).fields) c.in-Scalar.is) (ap (λ (x : ExtendedType). (extended_type x).values) c.in-Scalar.is) (ap (λ (x : ExtendedType). (extended_type x).inputs) c.in-Scalar.is))

@@ -10,9 +10,14 @@ use Rattle.graphql_value_rules.specs.in_schema.SchemaOf.{schema_tree}
 use Rattle.graphql_value_rules.specs.in_fault_data.FaultView.{faults_of}
 use Rattle.graphql_value_rules.specs.in_fault_data.Adds.{Adds}
 use Rattle.graphql_use_rules.specs.SchemaUses.{TypeUses, TypesUses}
-use Rattle.graphql_use_rules.proofs.Listing.{gains_more, gains_both}
+use Rattle.graphql_use_rules.proofs.Listing.{gains_none, gains_more, gains_both}
 use Rattle.graphql_use_rules.proofs.SchemaSteps.{pairs_more}
 use Rattle.graphql_use_rules.proofs.schema_uses.check_types.Goals as goal
+
+pub loop-ty-init : goal.loop-ty-init
+loop-ty-init c =
+    let s = schema_tree c.args.schema.now in
+    gains_none {X = List ℕ × SchemaType Place} (faults_of c.args.faults.now) (λ k e f. TypeUses s e.1 f)
 
 pub loop-ty-preserved : goal.loop-ty-preserved
 loop-ty-preserved c =

@@ -15,9 +15,14 @@ use Rattle.graphql_directives.specs.declared.directive_location.DirectiveLocatio
 use Rattle.graphql_directives.specs.DirectiveTree.{Directives}
 use Rattle.graphql_use_rules.specs.Trees.{directives_of}
 use Rattle.graphql_use_rules.specs.SchemaUses.{UsesAt, ValuesUses}
-use Rattle.graphql_use_rules.proofs.Listing.{gains_more}
+use Rattle.graphql_use_rules.proofs.Listing.{gains_none, gains_more}
 use Rattle.graphql_use_rules.proofs.SchemaSteps.{pairs_more}
 use Rattle.graphql_use_rules.proofs.schema_uses.check_values.Goals as goal
+
+pub loop-value-init : goal.loop-value-init
+loop-value-init c =
+    let s = schema_tree c.args.schema.now in
+    gains_none {X = List ℕ × Given Place (Placed Place (EnumValueTree Place))} (faults_of c.args.faults.now) (λ k e f. UsesAt s location.EnumValue e.1.it.it.directives f)
 
 pub loop-value-preserved : goal.loop-value-preserved
 loop-value-preserved c =

@@ -1,9 +1,9 @@
 use Rattle.std.proofs.Common.{◌<◌, ◌+◌, take, length, sym, ap, subst, ◌∙◌, arith, true≢false}
 use Rattle.std.proofs.lemmas.List.{take_all}
 use Rattle.graphql_names.specs.Node.{content}
-use Rattle.graphql_names.specs.Placed.{node_tree}
+use Rattle.graphql_names.specs.Placed.{node_tree, Placed, Place}
 use Rattle.graphql_names.specs.declared.node.Node.{Node}
-use Rattle.graphql_directives.specs.DirectiveTree.{argument_tree}
+use Rattle.graphql_directives.specs.DirectiveTree.{argument_tree, ArgumentTree}
 use Rattle.graphql_directives.specs.declared.directive.Argument.{Argument}
 use Rattle.graphql_value_rules.specs.in_fault_data.FaultView.{faults_of}
 use Rattle.graphql_value_rules.specs.in_schema.SchemaOf.{schema_tree}
@@ -12,10 +12,15 @@ use Rattle.graphql_value_rules.specs.in_fault_data.Adds.{Adds}
 use Rattle.graphql_value_rules.specs.Wanting.{variables_of}
 use Rattle.graphql_use_rules.specs.Trees.{arguments_of, inputs_of}
 use Rattle.graphql_use_rules.specs.Steps.{DefinedArgumentBreaks, FirstGivenBreaks}
-use Rattle.graphql_use_rules.proofs.Listing.{Gains, gains_more, mapped_more}
+use Rattle.graphql_use_rules.proofs.Listing.{Gains, gains_none, gains_more, mapped_more}
 use Rattle.graphql_use_rules.proofs.Numbered.{first_gains, later_gains}
 use Rattle.graphql_use_rules.proofs.taken.check_arguments.Goals as goal
 use Rattle.graphql_use_rules.proofs.taken.check_arguments.Goals.{then-has_number+in_ok-check_if_defined, else-has_number}
+
+pub loop-index-init : goal.loop-index-init
+loop-index-init c =
+    let s = schema_tree c.args.schema.now in
+    gains_none {X = Placed Place (ArgumentTree Place)} (faults_of c.args.faults.now) (λ j a f. FirstGivenBreaks s (variables_of c.args.variables.now) (inputs_of c.args.taker.now.definitions.now) (take j (arguments_of c.args.taker.now.given.now)) a f)
 
 pub loop-index-preserved : goal.loop-index-preserved
 loop-index-preserved c =

@@ -1,4 +1,4 @@
-use Rattle.std.proofs.Common.{sym, ap, ◌∙◌, find}
+use Rattle.std.proofs.Common.{sym, ap, ◌∙◌, find, is_some, true≢false}
 use Rattle.std.proofs.lemmas.Result.{on_ok_weaker}
 use Rattle.graphql_names.specs.Placed.{node_tree}
 use Rattle.graphql_directives.specs.DirectiveTree.{argument_tree, input_value_tree}
@@ -8,7 +8,8 @@ use Rattle.graphql_value_rules.specs.in_fault_data.FaultView.{faults_of}
 use Rattle.graphql_value_rules.specs.in_schema.SchemaOf.{schema_tree}
 use Rattle.graphql_value_rules.specs.Wanting.{variables_of}
 use Rattle.graphql_use_rules.specs.Trees.{inputs_of}
-use Rattle.graphql_use_rules.proofs.Listing.{gains_same}
+use Rattle.graphql_use_rules.specs.Steps.{DefinedArgumentBreaks}
+use Rattle.graphql_use_rules.proofs.Listing.{gains_same, gains_nothing}
 use Rattle.graphql_use_rules.proofs.Known.{defined_known}
 use Rattle.graphql_use_rules.proofs.taken.check_if_defined.Goals as goal
 
@@ -21,3 +22,11 @@ returns-in-Some c =
     on_ok_weaker c.check_argument.result
     (gains_same (faults_of c.args.faults.now) (faults_of c.check_argument.new.faults) (defined_known s vs definitions (node_tree argument_tree c.args.argument.now) (node_tree input_value_tree c.in-Some.definition.now) found))
     c.check_argument.ensures
+
+pub returns-in-None : goal.returns-in-None
+returns-in-None c =
+    let s = schema_tree c.args.schema.now in
+    let vs = variables_of c.args.variables.now in
+    let definitions = inputs_of c.args.taker.now.definitions.now in
+    let none = ap (λ (x : Argument). find (input_value_has_name x.name.text) definitions) (sym c.content.ensures) ∙ sym c.in-None.ensures in
+    gains_nothing (faults_of c.args.faults.now) (DefinedArgumentBreaks s vs definitions (node_tree argument_tree c.args.argument.now)) (λ f q. true≢false (sym (ap is_some (sym none ∙ q.1.0))))

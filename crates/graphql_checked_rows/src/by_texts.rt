@@ -1,0 +1,119 @@
+//! Rows of schema texts and documents.
+
+use crate::by_calls::{push_calls, push_check_texts, push_series};
+use crate::by_run::by_run;
+use graphql_row_files::{Answer, Case, Problem, Tally, Way, compare, text_of};
+use std::alloc::Global;
+
+/// Judges the row under each of its limits.
+pub(crate) fn by_texts(alloc: Global, case: Case<'_>, tally: &mut Tally) -> Result<(), Problem> {
+    for nesting in &case.given.limits {
+        if case.call == "series" {
+            by_series(alloc, case, *nesting, tally)?;
+        } else {
+            by_documents(alloc, case, *nesting, tally)?;
+        }
+    }
+    Ok(())
+}
+
+/// Judges the answers of one schema to the row's documents.
+fn by_series(
+    alloc: Global,
+    case: Case<'_>,
+    nesting: usize,
+    tally: &mut Tally,
+) -> Result<(), Problem> {
+    let mut schemas = Vec::new(alloc);
+    push_texts(case, &case.given.schemas, &mut schemas)?;
+    let mut documents = Vec::new(alloc);
+    push_texts(case, &case.given.documents, &mut documents)?;
+    push_series(alloc, &schemas, &documents, nesting, &mut tally.answer)?;
+    compare(case, Way::whole(case.call, &[], nesting), tally)
+}
+
+/// Judges the row: each of its documents over its schema texts.
+fn by_documents(
+    alloc: Global,
+    case: Case<'_>,
+    nesting: usize,
+    tally: &mut Tally,
+) -> Result<(), Problem> {
+    for document in &case.given.documents {
+        let way = Way::whole(case.call, document, nesting);
+        by_call(alloc, case, way, tally)?;
+    }
+    Ok(())
+}
+
+/// Judges the answer of each call that the row is for.
+fn by_call(alloc: Global, case: Case<'_>, way: Way<'_>, tally: &mut Tally) -> Result<(), Problem> {
+    match case.call {
+        "run" => by_run(alloc, case, way, tally),
+        "all" => {
+            by_run(alloc, case, way, tally)?;
+            judge_call(alloc, case, "calls", way, tally)?;
+            judge_call(alloc, case, "check_texts", way, tally)
+        }
+        _ => judge_call(alloc, case, case.call, way, tally),
+    }
+}
+
+/// Judges the answer of `check_texts`, or the one call by call. `check_texts` writes no texts: of those accepted the
+/// row's first line is wanted.
+fn judge_call(
+    alloc: Global,
+    case: Case<'_>,
+    call: &str,
+    way: Way<'_>,
+    tally: &mut Tally,
+) -> Result<(), Problem> {
+    let way = Way { call, ..way };
+    push_answer(alloc, case, way, &mut tally.answer)?;
+    let out = if call == "calls" {
+        case.out
+    } else {
+        first_line(case.out)
+    };
+    compare(Case { out, ..case }, way, tally)
+}
+
+/// Adds what `check_texts` answers, or the calls.
+fn push_answer(
+    alloc: Global,
+    case: Case<'_>,
+    way: Way<'_>,
+    answer: &mut Answer,
+) -> Result<(), Problem> {
+    let document = text_of(case, way.document)?;
+    let mut schemas = Vec::new(alloc);
+    push_texts(case, &case.given.schemas, &mut schemas)?;
+    let pushed = if way.call == "calls" {
+        push_calls(alloc, &schemas, document, way.nesting, answer)
+    } else {
+        push_check_texts(alloc, &schemas, document, way.nesting, answer)
+    };
+    Ok(pushed?)
+}
+
+/// Adds the texts of the row, which must be UTF-8.
+fn push_texts<'a>(
+    case: Case<'_>,
+    texts: &'a [Vec<u8>],
+    list: &mut Vec<&'a str>,
+) -> Result<(), Problem> {
+    for bytes in texts {
+        list.push(text_of(case, bytes)?)?;
+    }
+    Ok(())
+}
+
+/// The first line of an output that begins with `accepted`, and every other output whole.
+fn first_line(out: &[u8]) -> &[u8] {
+    let accepted = b"accepted\n".as_slice();
+    if out.starts_with(accepted) {
+        accepted
+    } else {
+        out
+    }
+}

@@ -1,0 +1,35 @@
+//! Rows of schema texts and documents that the checker judges. Its words name the files of its `data/`.
+#![tactic(auto)]
+
+mod by_calls;
+mod by_run;
+mod by_texts;
+
+use crate::by_texts::by_texts;
+use graphql_row_files::{Calls, Case, Problem, Tally, judge_files};
+use std::alloc::Global;
+use std::process::ExitCode;
+
+/// The calls of the checker.
+struct Checking;
+
+impl Calls for Checking {
+    fn names_of(&self, call: &str) -> Option<&'static [&'static str]> {
+        match call {
+            "check_texts" | "calls" | "series" => Some(&["nesting", "schema", "document"]),
+            "all" => Some(&["nesting", "schema", "document", "step"]),
+            "run" => Some(&[
+                "nesting", "schema", "document", "step", "read", "write", "behind",
+            ]),
+            _ => None,
+        }
+    }
+
+    fn judge(&self, alloc: Global, case: Case<'_>, tally: &mut Tally) -> Result<(), Problem> {
+        by_texts(alloc, case, tally)
+    }
+}
+
+fn main(rt: HostRuntime) -> ExitCode {
+    judge_files(&rt, &Checking)
+}

@@ -1,0 +1,28 @@
+//! What a row gives to be judged over its schema.
+
+use graphql_definitions::Document;
+use graphql_names::FileId;
+use graphql_read::parse_document;
+use graphql_row_files::{Case, Problem, read_of, says, text_of};
+use graphql_schema::Schema;
+use std::alloc::Global;
+
+/// The document of a text, which must be read.
+pub fn document_of(
+    alloc: Global,
+    case: Case<'_>,
+    bytes: &[u8],
+    file: FileId,
+) -> Result<Document, Problem> {
+    let text = text_of(case, bytes)?;
+    read_of(case, parse_document(alloc, text, file, 500))
+}
+
+/// The schema, or none where the row says that it stands alone.
+pub fn schema_under<'a>(case: Case<'_>, schema: &'a Schema) -> Result<Option<&'a Schema>, Problem> {
+    if says(case.row, "standalone", "yes")? {
+        Ok(None)
+    } else {
+        Ok(Some(schema))
+    }
+}
