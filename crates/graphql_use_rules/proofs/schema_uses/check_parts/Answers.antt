@@ -1,12 +1,19 @@
-use Rattle.std.proofs.Common.{refl, sym, ap, subst, OnOk}
+use Rattle.std.proofs.Common.{◌≡◌, ◌⊎◌, [], inl, inr, refl, sym, ap, ◌∙◌, subst, OnOk}
 use Rattle.std.proofs.lemmas.Result.{on_ok_weaker}
 use Rattle.graphql_names.specs.Node.{content, place}
+use Rattle.graphql_names.specs.Placed.{Place}
+use Rattle.graphql_names.specs.declared.node.Node.{Node}
 use Rattle.graphql_directives.specs.DirectiveTree.{input_value_tree}
 use Rattle.graphql_type_members.specs.TypeSystemTree.{field_definition_tree, enum_value_tree}
 use Rattle.graphql_components.specs.Names.{entries_of}
 use Rattle.graphql_components.specs.Given.{component_tree}
 use Rattle.graphql_value_rules.specs.in_schema.in_schema_types.TypeView.{name_text, extended_type, object_type, interface_type, enum_type, input_object_type}
 use Rattle.graphql_value_rules.specs.in_schema.in_schema_types.declared.extended_type.ExtendedType.{ExtendedType}
+use Rattle.graphql_value_rules.specs.in_schema.in_schema_types.declared.extended_type.ExtendedType.TheVariants as kind
+use Rattle.graphql_value_rules.specs.in_schema.in_schema_types.SchemaTree.{SchemaTree}
+use Rattle.graphql_value_rules.specs.in_schema.in_schema_types.declared.kinds.ScalarType.{ScalarType}
+use Rattle.graphql_value_rules.specs.in_schema.in_schema_types.declared.kinds.UnionType.{UnionType}
+use Rattle.graphql_value_rules.specs.in_rule_definitions.Told.{PlacedFault}
 use Rattle.graphql_value_rules.specs.in_schema.in_schema_types.declared.kinds.ObjectType.{ObjectType}
 use Rattle.graphql_value_rules.specs.in_schema.in_schema_types.declared.kinds.InterfaceType.{InterfaceType}
 use Rattle.graphql_value_rules.specs.in_schema.in_schema_types.declared.kinds.EnumType.{EnumType}
@@ -63,16 +70,26 @@ returns-in-InputObject c =
     (subst (λ (x : InputObjectType). Adds c.args.faults.now c.check_inputs.new.faults (InputsUses s (entries_of name_text (component_tree input_value_tree) x.fields))) c.content-in-InputObject.ensures h))
     c.check_inputs.ensures)
 
+-- a scalar and a union have no parts
+no_parts_in : (s : SchemaTree Place) (ty : ExtendedType) (x : ExtendedType) → ty ≡ x → (extended_type x).fields ≡ [] → (extended_type x).values ≡ [] → (extended_type x).inputs ≡ []
+    → (f : PlacedFault) → PartsUses s (extended_type ty) f → ⊥
+no_parts_in s ty x same v i n =
+    no_parts s (extended_type ty)
+    (ap (λ (y : ExtendedType). (extended_type y).fields) same ∙ v)
+    (ap (λ (y : ExtendedType). (extended_type y).values) same ∙ i)
+    (ap (λ (y : ExtendedType). (extended_type y).inputs) same ∙ n)
+
+no_parts_there : (s : SchemaTree Place) (ty : ExtendedType) → ((x : Node ScalarType) × (ty ≡ kind.Scalar x)) ⊎ ((x : Node UnionType) × (ty ≡ kind.Union x))
+    → (f : PlacedFault) → PartsUses s (extended_type ty) f → ⊥
+no_parts_there s ty (inl q) = no_parts_in s ty (kind.Scalar q.0) q.1 refl refl refl
+no_parts_there s ty (inr q) = no_parts_in s ty (kind.Union q.0) q.1 refl refl refl
+
 pub returns-in-Scalar : goal.returns-in-Scalar
 returns-in-Scalar c =
     let s = schema_tree c.args.schema.now in
-    let t = extended_type c.args.ty.now in
-    gains_nothing (faults_of c.args.faults.now) (PartsUses s t)
-    (no_parts s t (ap (λ (x : ExtendedType). (extended_type x).fields) c.in-Scalar.is) (ap (λ (x : ExtendedType). (extended_type x).values) c.in-Scalar.is) (ap (λ (x : ExtendedType). (extended_type x).inputs) c.in-Scalar.is))
+    gains_nothing (faults_of c.args.faults.now) (PartsUses s (extended_type c.args.ty.now)) (no_parts_there s c.args.ty.now c.in-Scalar.is)
 
 pub returns-in-Scalar-2 : goal.returns-in-Scalar-2
 returns-in-Scalar-2 c =
     let s = schema_tree c.args.schema.now in
-    let t = extended_type c.args.ty.now in
-    gains_nothing (faults_of c.args.faults.now) (PartsUses s t)
-    (no_parts s t (ap (λ (x : ExtendedType). (extended_type x).fields) c.in-Scalar.is) (ap (λ (x : ExtendedType). (extended_type x).values) c.in-Scalar.is) (ap (λ (x : ExtendedType). (extended_type x).inputs) c.in-Scalar.is))
+    gains_nothing (faults_of c.args.faults.now) (PartsUses s (extended_type c.args.ty.now)) (no_parts_there s c.args.ty.now c.in-Scalar.is)
