@@ -7,6 +7,7 @@ ghost use Rattle.graphql_typed_selections.specs.TypedTree.{typed_set_tree};
 ghost use Rattle.graphql_typing.specs.MeantTree.{meant_of_set, set_on};
 ghost use Rattle.graphql_typing.specs.Meanings.{meanings};
 ghost use Rattle.graphql_typing.specs.KeptSelections.{kept_all};
+ghost use Rattle.graphql_typing.specs.TypedByPlace.{IsSetOn};
 ghost use Rattle.graphql_typing.specs.TypingFaults.{SetFails};
 ghost use Rattle.graphql_typing.specs.FullList.{TellsSet};
 ghost use Rattle.graphql_typing.specs.FaultView.{faults_of};
@@ -19,8 +20,8 @@ use std::alloc::{AllocError, Global};
 
 /// Calls that make a selection set by itself.
 pub trait FieldSetExt {
-    /// The selections that have a meaning under the type of that name, as a set on it, and each way in which a rule of
-    /// typing is broken in it.
+    /// The selections that have a meaning under the type of that name, as a set on it, which is typed by its
+    /// place, and each way in which a rule of typing is broken in it.
     fn from_ast(
         alloc: Global,
         schema: &Schema,
@@ -37,6 +38,7 @@ impl FieldSetExt for FieldSet {
         selections: &[Selection],
     ) -> Result<(FieldSet, Vec<(Option<SourceSpan>, BuildError)>), AllocError>
         ensures set { IfOk result (λ r. meant_of_set (typed_set_tree r.0.selection_set) ≡ set_on type_name.now.text (kept_all (meanings (plain (schema_tree schema.now))) (selection_trees selection_tree selections.now) type_name.now.text)) }
+        ensures typed { IfOk result (λ r. IsSetOn (meanings (plain (schema_tree schema.now))) type_name.now.text (meant_of_set (typed_set_tree r.0.selection_set))) }
         ensures sources { IfOk result (λ r. r.0.sources.entries ≡ []) }
         ensures faults { IfOk result (λ r. (f : _) → Contains (faults_of r.1) f ↔ SetFails (meanings (plain (schema_tree schema.now))) type_name.now.text (selection_trees selection_tree selections.now) f) }
         ensures full { IfOk result (λ r. TellsSet (meanings (plain (schema_tree schema.now))) type_name.now.text (selection_trees selection_tree selections.now) (faults_of r.1)) }

@@ -49,7 +49,7 @@ module _ {X A B : Type 0} (symbol : Symbol A) (unplaced : A → B) (view : X →
   no_syntax : (kind : SyntaxFaultKind) (offset : ℕ) → IsDue symbol nesting text (fault_at kind offset) → ⊥
   no_syntax NoToken offset due =
       let w = ends_whole text due.tokens due.ending r.tokens due.lexed r.lexed in
-      let bad : Ended w.0 ≡ NoTokenAt offset = sym w.1 ∙ due.says in
+      let bad : Ended w.0 ≡ NoTokenAt offset = sym w.1 ∙ due.says.0 in
       absurd cc
   no_syntax Unexpected offset due =
       let w = ends_whole text due.tokens due.ending r.tokens due.lexed r.lexed in
@@ -64,7 +64,7 @@ module _ {X A B : Type 0} (symbol : Symbol A) (unplaced : A → B) (view : X →
   limit Memory due = tt
   limit (Nesting offset) due =
       let w = ends_whole text due.tokens due.ending r.tokens due.lexed r.lexed in
-      (r.tokens, r.lexed, subst (λ (ts : List Token). IsTooDeep ts nesting offset) (sym w.2) due.says)
+      (r.tokens, r.lexed, subst (λ (ts : List Token). IsTooDeep ts nesting offset) (sym w.2) due.says.0)
   limit (Syntax f) due = no_syntax f.kind f.offset due
 
   -- the same tree, or a limit

@@ -17,19 +17,20 @@ fn schema_of(alloc: Global, text: &str) -> Result<CheckedSchema, Refusal> {
 /// Whether the list tells that `Query` has no field `missing`, where that stands, and nothing else.
 fn tells_missing(list: &DiagnosticList) -> bool {
     match list.as_slice() {
-        [
+        [told] => match told {
             (
                 place,
                 Details::UndefinedField {
                     type_name,
                     field_name,
                 },
-            ),
-        ] => {
-            *place == Some(span(2, 2, 7))
-                && type_name.as_str() == "Query"
-                && field_name.as_str() == "missing"
-        }
+            ) => {
+                *place == Some(span(2, 2, 7))
+                    && type_name.as_str() == "Query"
+                    && field_name.as_str() == "missing"
+            }
+            _ => false,
+        },
         _ => false,
     }
 }

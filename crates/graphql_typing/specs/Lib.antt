@@ -1,4 +1,4 @@
-pub mod MeantTree
+pub use Rattle.graphql_meant_documents.specs.MeantTree
 pub mod Meanings
 pub mod KeptSelections
 pub mod KeptDocument

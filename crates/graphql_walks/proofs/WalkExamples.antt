@@ -4,8 +4,8 @@ use Rattle.graphql_names.specs.Placed.{Placed, Text}
 use Rattle.graphql_typed_selections.specs.in_type_members.TypeSystemTree.{FieldDefinitionTree}
 use Rattle.graphql_typed_selections.specs.TypedTree.{TypedSelection, TypedField, TypedSpread, TypedSet, typed_set, TypedSelections, no_typed, typed_then}
 use Rattle.graphql_walks.specs.Reached.{Fragments, IsWalk}
-use Rattle.graphql_walks.specs.Left.{left_fields, at_start}
-use Rattle.graphql_walks.proofs.Whole.{whole}
+use Rattle.graphql_walks.specs.Left.{left_members, fields_among, at_start}
+use Rattle.graphql_walks.proofs.Whole.{whole, fields_walk}
 
 abbrev U : Type 0
 U = Unit {0}
@@ -47,17 +47,21 @@ module _ (d : Placed U (FieldDefinitionTree U)) where
   abbrev fragments : Fragments U
   fragments = (codes "F", set (b ∷ a ∷ [])) ∷ []
 
-  five : left_fields (at_start true fragments start) ≡ a ∷ b ∷ b ∷ a ∷ b ∷ []
+  five : fields_among (left_members (at_start true fragments start)) ≡ a ∷ b ∷ b ∷ a ∷ b ∷ []
   five = refl
 
-  three : left_fields (at_start false fragments start) ≡ a ∷ b ∷ a ∷ []
+  three : fields_among (left_members (at_start false fragments start)) ≡ a ∷ b ∷ a ∷ []
   three = refl
 
   all_are_five : IsWalk true fragments start (a ∷ b ∷ b ∷ a ∷ b ∷ [])
-  all_are_five = subst (IsWalk true fragments start) five (whole true fragments start)
+  all_are_five = subst (IsWalk true fragments start) five (fields_walk true fragments start _ (whole true fragments start))
 
   roots_are_three : IsWalk false fragments start (a ∷ b ∷ a ∷ [])
-  roots_are_three = subst (IsWalk false fragments start) three (whole false fragments start)
+  roots_are_three = subst (IsWalk false fragments start) three (fields_walk false fragments start _ (whole false fragments start))
+
+  -- the same with the types of the sets, root selections alone
+  six : left_members (at_start false fragments start) ≡ (text (codes "Query"), a) ∷ (text (codes "Query"), spread (codes "F")) ∷ (text (codes "Query"), spread (codes "F")) ∷ (text (codes "Query"), b) ∷ (text (codes "Query"), a) ∷ []
+  six = refl
 
   -- { ...F } fragment F on Query { ...F a }
   abbrev cyclic_start : TypedSet U
@@ -66,12 +70,12 @@ module _ (d : Placed U (FieldDefinitionTree U)) where
   abbrev cyclic : Fragments U
   cyclic = (codes "F", set (spread (codes "F") ∷ leaf ∷ [])) ∷ []
 
-  cyclic_once : left_fields (at_start true cyclic cyclic_start) ≡ leaf ∷ []
+  cyclic_once : fields_among (left_members (at_start true cyclic cyclic_start)) ≡ leaf ∷ []
   cyclic_once = refl
 
   cyclic_is_one : IsWalk true cyclic cyclic_start (leaf ∷ [])
-  cyclic_is_one = subst (IsWalk true cyclic cyclic_start) cyclic_once (whole true cyclic cyclic_start)
+  cyclic_is_one = subst (IsWalk true cyclic cyclic_start) cyclic_once (fields_walk true cyclic cyclic_start _ (whole true cyclic cyclic_start))
 
   -- { ...G a } without a fragment G
-  missing_passed : left_fields (at_start true [] (set (spread (codes "G") ∷ leaf ∷ []))) ≡ leaf ∷ []
+  missing_passed : fields_among (left_members (at_start true [] (set (spread (codes "G") ∷ leaf ∷ [])))) ≡ leaf ∷ []
   missing_passed = refl

@@ -6,16 +6,17 @@ use Rattle.std.specs.Borrow.{Bor}
 use Rattle.std.specs.declared.alloc.AllocError.{AllocError}
 use Rattle.graphql_names.specs.Placed.{Place}
 use Rattle.graphql_names.specs.declared.node.Node.{Node}
-use Rattle.graphql_typed_selections.specs.TypedTree.{TypedSelection}
+use Rattle.graphql_typed_selections.specs.TypedTree.{TypedSelection, TypedField, TypedSpread, TypedInline}
 use Rattle.graphql_typed_selections.specs.declared.selection.Field.{Field}
 use Rattle.graphql_typed_operations.specs.TypedDocument.{typed_document_tree}
 use Rattle.graphql_typed_operations.specs.declared.document.ExecutableDocument.{ExecutableDocument}
 use Rattle.graphql_typed_selections.specs.TypedTree.{TypedSet}
-use Rattle.graphql_typed_selections.specs.TypedParts.{typed_field_node}
-use Rattle.graphql_walks.specs.Reached.{NamedSet, Fragments, document_fragments, fields_in, IsWalk, IsReachedField}
+use Rattle.graphql_typed_selections.specs.TypedParts.{typed_field_node, as_typed_field}
+use Rattle.graphql_walks.specs.Reached.{NamedSet, Fragments, Member, document_fragments, fields_in, IsWalk, IsReachedField}
+use Rattle.graphql_walks.specs.Left.{fields_among}
 use Rattle.graphql_walks.specs.WalkView.{fragments_tree}
-use Rattle.graphql_walks.specs.Lending.{LendsNext}
-use Rattle.graphql_walks.proofs.Finding.{not_in_nil, Contains-cons, Contains-first}
+use Rattle.graphql_walks.specs.Lending.{Lends, LendsNext, items_at_most}
+use Rattle.graphql_walks.proofs.Finding.{none_is_some, some_is, not_in_nil, Contains-cons, Contains-first}
 
 map-map : {A B C : Type 0} (f : B → C) (g : A → B) (xs : List A) → map f (map g xs) ≡ map (λ x. f (g x)) xs
 map-map f g [] = refl
@@ -39,32 +40,43 @@ module _ {W : Type 0} (is_over : W → Bool) (left : W → List (TypedSelection 
       → before ++ left old ≡ (before ++ typed_field_node field.now ∷ []) ++ left new
   given_and_left before old new field lent = ap (λ l. before ++ l) lent ∙ sym (append_assoc before (typed_field_node field.now ∷ []) (left new))
 
-  -- after a field was lent, fewer items are to come
-  pub fewer_left : (old new : W) (field : Bor (Node Field)) → LendsNext is_over left old (Some (Ok field)) new
-      → (if is_over new then 0 else suc (length (left new))) < (if is_over old then 0 else suc (length (left old)))
-  fewer_left old new field h =
-      subst (λ n. (if is_over new then 0 else suc (length (left new))) < n)
-      (sym (ap (λ b. if b then 0 else suc (length (left old))) h.0 ∙ ap (λ l. suc (length l)) h.1))
-      (by (is_over new))
-    where
-      by : (b : Bool) → (if b then 0 else suc (length (left new))) < suc (suc (length (left new)))
-      by true = omega arith
-      by false = omega arith
-
   -- where nothing is left, all was given
   pub all_given : {nested : Bool} {fragments : Fragments Place} {start : TypedSet Place} (begun ended : W) (given : List (TypedSelection Place))
       → IsWalk nested fragments start (left begun) → left begun ≡ given ++ left ended → left ended ≡ [] → IsWalk nested fragments start given
   all_given {nested} {fragments} {start} begun ended given walk together none = subst (IsWalk nested fragments start) (together ∙ ap (λ l. given ++ l) none ∙ append-nil given) walk
 
+-- after something was lent, fewer items are to come
+pub fewer_left : {A X W : Type 0} (tree : A → X) (is_over : W → Bool) (left : W → List X) (old new : W) (lent : A) → Lends tree is_over left old (Some (Ok lent)) new
+    → items_at_most (is_over new) (left new) < items_at_most (is_over old) (left old)
+fewer_left tree is_over left old new lent h =
+    subst (λ n. items_at_most (is_over new) (left new) < n)
+    (sym (ap (λ b. items_at_most b (left old)) h.0 ∙ ap (λ l. suc (length l)) h.1))
+    (by (is_over new))
+  where
+    by : (b : Bool) → items_at_most b (left new) < suc (suc (length (left new)))
+    by true = omega arith
+    by false = omega arith
+
+-- a selection that is passed leaves the same fields, or is the first of them
+pub no_field : {P : Type 0} (e : Member P) (left : List (Member P)) → None ≡ as_typed_field e.1 → fields_among (e ∷ left) ≡ fields_among left
+no_field (ty, TypedField p d h s) left is = none_is_some (TypedField p d h s) is
+no_field (ty, TypedSpread p n ds) left is = refl
+no_field (ty, TypedInline p c ds s) left is = refl
+
+pub one_field : {P : Type 0} (e : Member P) (left : List (Member P)) (x : TypedSelection P) → Some x ≡ as_typed_field e.1 → fields_among (e ∷ left) ≡ x ∷ fields_among left
+one_field (ty, TypedField p d h s) left x is = ap (λ y. y ∷ fields_among left) (sym (some_is x (TypedField p d h s) is))
+one_field (ty, TypedSpread p n ds) left x is = none_is_some x (sym is)
+one_field (ty, TypedInline p c ds s) left x is = none_is_some x (sym is)
+
 module _ {A B : Type 0} (f : A → List B) where
-  from_one : (xs : List A) (y : B) → Contains (flat_map f xs) y → (x : A) × (Contains xs x × Contains (f x) y)
+  pub from_one : (xs : List A) (y : B) → Contains (flat_map f xs) y → (x : A) × (Contains xs x × Contains (f x) y)
   from_one [] y c = absurd (not_in_nil y c)
   from_one (x ∷ xs) y c = elim (Contains-append_cases (f x) (flat_map f xs) y c) [
     | inl a ↦ (x, (Contains-first x xs x refl, a))
     | inr b ↦ let r = from_one xs y b in (r.0, (Contains-append_right (x ∷ []) xs r.0 r.1.0, r.1.1))
   ]
 
-  to_all : (xs : List A) (x : A) (y : B) → Contains xs x → Contains (f x) y → Contains (flat_map f xs) y
+  pub to_all : (xs : List A) (x : A) (y : B) → Contains xs x → Contains (f x) y → Contains (flat_map f xs) y
   to_all [] x y c d = absurd (not_in_nil x c)
   to_all (z ∷ xs) x y c d = elim (Contains-cons z xs x c) [
     | inl e ↦ Contains-append_left (f z) (flat_map f xs) y (subst (λ w. Contains (f w) y) (sym e) d)

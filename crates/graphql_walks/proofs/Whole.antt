@@ -1,4 +1,4 @@
--- What is left of a walk at its start: each field of the start and of each reached fragment, once.
+-- What is left of a walk at its start: each selection of the start and of each reached fragment, once.
 use Rattle.std.proofs.Common.{◌≡◌, ◌++◌, ◌+◌, ◌-◌, ◌≤◌, ◌⊎◌, inl, inr, ℕ, zero, suc, Bool, true, false, List, [], ◌∷◌, map, length, refl, ap, sym, ◌∙◌, subst, append_assoc, append-nil, arith, true≢false, Contains}
 use Rattle.std.specs.Prelude.{Option, Some, None, fold, slice_get, nat_eq, ◌||◌, if◌then◌else◌}
 use Rattle.std.specs.List.{flat_map, filter, position, list_any, IsDistinct, AllByRecursion}
@@ -15,10 +15,10 @@ use Rattle.std.proofs.lemmas.Map.Steps.{length-le_from_distinct_below}
 use Rattle.std.proofs.lemmas.Option.{slice_get_past, slice_get_within}
 use Rattle.std.proofs.lemmas.Slice.Eq.{bytes_eq-Decides}
 use Rattle.graphql_typed_selections.specs.TypedTree.{TypedSet}
-use Rattle.graphql_walks.specs.Reached.{NamedSet, Fragments, selections_in, is_field, fields_in, spread_names, Spreads, fragment_named, Reached, by_start, by_fragment, IsWalk}
-use Rattle.graphql_walks.specs.Left.{note, note_all, selections_at, left_after, left_fields, at_start}
+use Rattle.graphql_walks.specs.Reached.{NamedSet, Fragments, Member, members_in, selections_in, is_field, fields_in, spread_names, Spreads, fragment_named, Reached, by_start, by_fragment, IsWalk, IsMemberWalk}
+use Rattle.graphql_walks.specs.Left.{note, note_all, selections_at, members_at, left_after, bare, fields_among, left_members, at_start}
 use Rattle.graphql_walks.proofs.Finding.{position-map, none_is_some, some_is, FoundAt, found_at, place_of_found, not_in_nil, Contains-cons, Contains-first}
-use Rattle.graphql_walks.proofs.Passing.{selections_in-list}
+use Rattle.graphql_walks.proofs.Passing.{map-append, members_in-list, bare_in}
 
 -- a number is among these
 abbrev pub has : ℕ → List ℕ → Bool
@@ -69,7 +69,7 @@ get_mid : {X : Type 0} (xs : List X) (x : X) (ys : List X) → slice_get (xs ++ 
 get_mid [] x ys = refl
 get_mid (y ∷ xs) x ys = get_mid xs x ys
 
-none_twice : {X : Type 0} (eq : X → X → Bool) → IsDistinct eq []
+pub none_twice : {X : Type 0} (eq : X → X → Bool) → IsDistinct eq []
 unfolding IsDistinct
 none_twice eq = tt
 
@@ -116,15 +116,15 @@ abbrev pub entry_if : {P : Type 0} → Option (NamedSet P) → List (NamedSet P)
 entry_if o = option_map_or (λ f. f ∷ []) o []
 
 module _ {P : Type 0} (nested : Bool) (fs : Fragments P) (start : TypedSet P) where
-  left_entering : (room : ℕ) (noted : List ℕ) (e : ℕ) → left_after nested fs room noted e ≡ flat_map (selections_at nested fs) (entering nested fs room noted e)
+  left_entering : (room : ℕ) (noted : List ℕ) (e : ℕ) → left_after nested fs room noted e ≡ flat_map (members_at nested fs) (entering nested fs room noted e)
   left_entering zero noted e = refl
   left_entering (suc room) noted e = by (slice_get noted e) (λ i. left_entering room (note_all fs noted (selections_at nested fs i)) (e + 1))
     where
-      by : (o : Option ℕ) → ((i : ℕ) → left_after nested fs room (note_all fs noted (selections_at nested fs i)) (e + 1) ≡ flat_map (selections_at nested fs) (entering nested fs room (note_all fs noted (selections_at nested fs i)) (e + 1)))
-          → option_map_or (λ i. selections_at nested fs i ++ left_after nested fs room (note_all fs noted (selections_at nested fs i)) (e + 1)) o []
-          ≡ flat_map (selections_at nested fs) (option_map_or (λ i. i ∷ entering nested fs room (note_all fs noted (selections_at nested fs i)) (e + 1)) o [])
+      by : (o : Option ℕ) → ((i : ℕ) → left_after nested fs room (note_all fs noted (selections_at nested fs i)) (e + 1) ≡ flat_map (members_at nested fs) (entering nested fs room (note_all fs noted (selections_at nested fs i)) (e + 1)))
+          → option_map_or (λ i. members_at nested fs i ++ left_after nested fs room (note_all fs noted (selections_at nested fs i)) (e + 1)) o []
+          ≡ flat_map (members_at nested fs) (option_map_or (λ i. i ∷ entering nested fs room (note_all fs noted (selections_at nested fs i)) (e + 1)) o [])
       by None further = refl
-      by (Some i) further = ap (λ l. selections_at nested fs i ++ l) (further i)
+      by (Some i) further = ap (λ l. members_at nested fs i ++ l) (further i)
 
   at_place : (n : List ℕ) (i : ℕ) → place_in fs n ≡ Some i → FoundAt (λ (f : NamedSet P). bytes_eq n f.0) fs i
   at_place n i h = found_at (λ (f : NamedSet P). bytes_eq n f.0) fs i (sym (position-map (λ (f : NamedSet P). f.0) (bytes_eq n) fs) ∙ h)
@@ -264,16 +264,16 @@ module _ {P : Type 0} (nested : Bool) (fs : Fragments P) (start : TypedSet P) wh
       (ends room (done ++ p ∷ []) (ps ++ notes.more) (e + 1) (length_one done p e at) (omega (all, arith)) (subst (Good nested fs start) split notes.good)
       (closed_on done p ps notes.more (note_all fs (done ++ p ∷ ps) (selections_at nested fs p)) notes.is split closed notes.all)))
 
-  -- the fields in the order of the fragments
-  fields_order : (is : List ℕ) → filter is_field (flat_map (selections_at nested fs) is) ≡ flat_map (λ (f : NamedSet P). fields_in nested f.1) (flat_map (λ i. entry_if (slice_get fs i)) is)
-  fields_order [] = refl
-  fields_order (i ∷ is) = by (slice_get fs i) (fields_order is)
+  -- the members in the order of the fragments
+  members_order : (is : List ℕ) → flat_map (members_at nested fs) is ≡ flat_map (λ (f : NamedSet P). members_in nested f.1) (flat_map (λ i. entry_if (slice_get fs i)) is)
+  members_order [] = refl
+  members_order (i ∷ is) = by (slice_get fs i) (members_order is)
     where
-      by : (o : Option (NamedSet P)) → filter is_field (flat_map (selections_at nested fs) is) ≡ flat_map (λ (f : NamedSet P). fields_in nested f.1) (flat_map (λ k. entry_if (slice_get fs k)) is)
-          → filter is_field (option_map_or (λ (f : NamedSet P). selections_in nested f.1) o [] ++ flat_map (selections_at nested fs) is)
-          ≡ flat_map (λ (f : NamedSet P). fields_in nested f.1) (entry_if o ++ flat_map (λ k. entry_if (slice_get fs k)) is)
+      by : (o : Option (NamedSet P)) → flat_map (members_at nested fs) is ≡ flat_map (λ (f : NamedSet P). members_in nested f.1) (flat_map (λ k. entry_if (slice_get fs k)) is)
+          → option_map_or (λ (f : NamedSet P). members_in nested f.1) o [] ++ flat_map (members_at nested fs) is
+          ≡ flat_map (λ (f : NamedSet P). members_in nested f.1) (entry_if o ++ flat_map (λ k. entry_if (slice_get fs k)) is)
       by None rest = rest
-      by (Some f) rest = filter-append is_field (selections_in nested f.1) (flat_map (selections_at nested fs) is) ∙ ap (λ l. fields_in nested f.1 ++ l) rest
+      by (Some f) rest = ap (λ l. members_in nested f.1 ++ l) rest
 
   -- two places have two names
   other_name : (i j : ℕ) (k : Known nested fs start i) (l : Known nested fs start j) → nat_eq i j ≡ false → bytes_eq k.fragment.0 l.fragment.0 ≡ false
@@ -363,15 +363,15 @@ module _ {P : Type 0} (nested : Bool) (fs : Fragments P) (start : TypedSet P) wh
   all_entered : Ends nested fs start first_noted entered_all
   all_entered = ends (length fs) [] first_noted 0 refl (omega arith) start_notes.good (λ i h. absurd (true≢false (sym h)))
 
-  left_of_start : left_fields (at_start nested fs start) ≡ fields_in nested start ++ flat_map (λ (f : NamedSet P). fields_in nested f.1) (flat_map (λ i. entry_if (slice_get fs i)) entered_all)
+  left_of_start : left_members (at_start nested fs start) ≡ members_in nested start ++ flat_map (λ (f : NamedSet P). members_in nested f.1) (flat_map (λ i. entry_if (slice_get fs i)) entered_all)
   left_of_start =
       let room : length fs - 0 ≡ length fs = omega arith in
-      ap (λ l. filter is_field (l ++ left_after nested fs (length fs - 0) (note_all fs [] l) 0)) (sym (selections_in-list nested start))
-      ∙ ap (λ r. filter is_field (selections_in nested start ++ left_after nested fs r first_noted 0)) room
-      ∙ filter-append is_field (selections_in nested start) (left_after nested fs (length fs) first_noted 0)
-      ∙ ap (λ l. fields_in nested start ++ l) (ap (filter is_field) (left_entering (length fs) first_noted 0) ∙ fields_order entered_all)
+      ap (λ l. l ++ left_after nested fs (length fs - 0) (note_all fs [] (bare l)) 0) (sym (members_in-list nested start))
+      ∙ ap (λ l. members_in nested start ++ left_after nested fs (length fs - 0) (note_all fs [] l) 0) (bare_in nested start)
+      ∙ ap (λ r. members_in nested start ++ left_after nested fs r first_noted 0) room
+      ∙ ap (λ l. members_in nested start ++ l) (left_entering (length fs) first_noted 0 ∙ members_order entered_all)
 
-  pub whole : IsWalk nested fs start (left_fields (at_start nested fs start))
+  pub whole : IsMemberWalk nested fs start (left_members (at_start nested fs start))
   whole = record {
     order = flat_map (λ i. entry_if (slice_get fs i)) entered_all;
     reached = λ f. (
@@ -379,5 +379,26 @@ module _ {P : Type 0} (nested : Bool) (fs : Fragments P) (start : TypedSet P) wh
       λ r. let at = stands_in entered_all (λ n h i place. all_entered.kept i (start_notes.all n h i place)) all_entered.closed f r in order_has entered_all at.0 f at.1.0 at.1.1,
     );
     once = once entered_all all_entered.good.known all_entered.good.distinct;
-    fields = left_of_start;
+    members = left_of_start;
+  }
+
+  -- ---- the fields among them
+
+  among_in : (s : TypedSet P) → fields_among (members_in nested s) ≡ fields_in nested s
+  among_in s = ap (filter is_field) (bare_in nested s)
+
+  among-append : (xs ys : List (Member P)) → fields_among (xs ++ ys) ≡ fields_among xs ++ fields_among ys
+  among-append xs ys = ap (filter is_field) (map-append (λ (e : Member P). e.1) xs ys) ∙ filter-append is_field (bare xs) (bare ys)
+
+  among_each : (gs : List (NamedSet P)) → fields_among (flat_map (λ (f : NamedSet P). members_in nested f.1) gs) ≡ flat_map (λ (f : NamedSet P). fields_in nested f.1) gs
+  among_each [] = refl
+  among_each (g ∷ gs) = among-append (members_in nested g.1) (flat_map (λ (f : NamedSet P). members_in nested f.1) gs) ∙ (λ i. among_in g.1 i ++ among_each gs i)
+
+  -- of a walk over selections the fields are a walk over fields
+  pub fields_walk : (given : List (Member P)) → IsMemberWalk nested fs start given → IsWalk nested fs start (fields_among given)
+  fields_walk given walk = record {
+    order = walk.order;
+    reached = walk.reached;
+    once = walk.once;
+    fields = ap fields_among walk.members ∙ among-append (members_in nested start) (flat_map (λ (f : NamedSet P). members_in nested f.1) walk.order) ∙ (λ i. among_in start i ++ among_each walk.order i);
   }

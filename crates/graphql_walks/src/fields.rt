@@ -3,9 +3,9 @@ ghost use Rattle.std.specs.Prelude.{◌≡◌, true, false};
 ghost use Rattle.graphql_typed_selections.specs.TypedTree.{typed_set_tree};
 ghost use Rattle.graphql_walks.specs.Reached.{IsWalk};
 ghost use Rattle.graphql_walks.specs.WalkView.{fragments_tree};
-ghost use Rattle.graphql_walks.specs.Lending.{LendsNext, items_to_lend, all_fields_is_over, all_fields_left, root_fields_is_over, root_fields_left};
+ghost use Rattle.graphql_walks.specs.Lending.{LendsNext, items_to_lend, selections_are_over, fields_left, all_fields_is_over, all_fields_left, root_fields_is_over, root_fields_left};
 
-use crate::lending::Lending;
+use crate::selections::ReachedSelections;
 use graphql_names::Node;
 use graphql_typed_operations::FragmentMap;
 use graphql_typed_selections::{Field, SelectionSet};
@@ -16,12 +16,12 @@ use std::alloc::{AllocError, Global};
 /// document does not have is passed over. An item is an error where memory is refused; after that, and after the end,
 /// nothing is lent any more.
 pub struct AllFields<'doc> {
-    lending: Lending<'doc>,
+    selections: ReachedSelections<'doc>,
 }
 
 impl Drop for AllFields<'_> {
     fn drop(self) {
-        let AllFields { lending: _ } = self;
+        let AllFields { selections: _ } = self;
     }
 }
 
@@ -36,7 +36,7 @@ impl<'doc> AllFields<'doc> {
         ensures is_over { all_fields_is_over result ≡ false }
     {
         AllFields {
-            lending: Lending::new(alloc, true, start, fragments),
+            selections: ReachedSelections::new(alloc, true, start, fragments),
         }
     }
 }
@@ -49,19 +49,19 @@ impl<'doc> Iterator for AllFields<'doc> {
     ghost remaining = { items_to_lend all_fields_is_over all_fields_left };
 
     fn next(&mut self) -> Option<Result<&'doc Node<Field>, AllocError>> {
-        self.lending.lend()
+        next_field(&mut self.selections)
     }
 }
 
 /// Lends each field of a selection set that stands in no other field, and each of every fragment that the set reaches
 /// through such selections, in the order and with the answers of [`AllFields`].
 pub struct RootFields<'doc> {
-    lending: Lending<'doc>,
+    selections: ReachedSelections<'doc>,
 }
 
 impl Drop for RootFields<'_> {
     fn drop(self) {
-        let RootFields { lending: _ } = self;
+        let RootFields { selections: _ } = self;
     }
 }
 
@@ -76,7 +76,7 @@ impl<'doc> RootFields<'doc> {
         ensures is_over { root_fields_is_over result ≡ false }
     {
         RootFields {
-            lending: Lending::new(alloc, false, start, fragments),
+            selections: ReachedSelections::new(alloc, false, start, fragments),
         }
     }
 }
@@ -89,6 +89,25 @@ impl<'doc> Iterator for RootFields<'doc> {
     ghost remaining = { items_to_lend root_fields_is_over root_fields_left };
 
     fn next(&mut self) -> Option<Result<&'doc Node<Field>, AllocError>> {
-        self.lending.lend()
+        next_field(&mut self.selections)
+    }
+}
+
+/// The next field of those that are left.
+#[tactic(auto, using(crate::proofs::WalkLaws::no_field, crate::proofs::WalkLaws::one_field, crate::proofs::WalkLaws::fewer_left))]
+fn next_field<'doc>(
+    selections: &mut ReachedSelections<'doc>,
+) -> Option<Result<&'doc Node<Field>, AllocError>>
+    ensures { LendsNext selections_are_over fields_left selections.old result selections.new }
+{
+    loop {
+        match selections.next()? {
+            Ok((_, selection)) => {
+                if let Some(field) = selection.as_field() {
+                    return Some(Ok(field));
+                }
+            }
+            Err(refused) => return Some(Err(refused)),
+        }
     }
 }

@@ -1,14 +1,17 @@
-//! Walks over the fields that a selection set reaches, in itself and in the fragments that it spreads.
+//! Walks over the selections and over the fields that a selection set reaches, in itself and in the fragments that it
+//! spreads.
 //!
-//! For the layers above: what a walk lends is one list from the start on, each field occurrence of the set and of each
-//! reached fragment once (`IsWalk` of `specs/Reached.antt`), of which each call takes the first (`LendsNext` of
-//! `specs/Lending.antt`). Walks end over cyclic documents too.
+//! For the layers above: what a walk lends is one list from the start on, each selection of the set and of each reached
+//! fragment once (`IsMemberWalk`, and of fields `IsWalk`, of `specs/Reached.antt`), of which each call takes the first
+//! (`LendsNextSelection` and `LendsNext` of `specs/Lending.antt`). What it lends is exactly what is reached
+//! (`IsReached`). Walks end over cyclic documents too.
 //!
-//! Begin with `fields.rt` and `specs/Reached.antt`.
+//! Begin with `selections.rt` and `specs/Reached.antt`.
 #![tactic(auto)]
 
 mod fields;
-mod lending;
+mod selections;
 mod walk;
 
 pub use fields::{AllFields, RootFields};
+pub use selections::{ReachedSelections, reached_fragments};

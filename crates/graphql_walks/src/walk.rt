@@ -1,13 +1,13 @@
 //! A walk over the selections of a set and of the fragments that it reaches.
-ghost use Rattle.std.specs.Prelude.{◌≡◌, ◌∷◌, map, []};
+ghost use Rattle.std.specs.Prelude.{◌≡◌, ◌∷◌, []};
 ghost use Rattle.std.specs.Prelude.{IfOk, OnOk, MatchOption, MatchBool, if◌then◌else◌};
-ghost use Rattle.std.specs.Option.{option_map};
 ghost use Rattle.graphql_names.specs.Node.{content};
+ghost use Rattle.graphql_names.specs.Placed.{name_tree};
 ghost use Rattle.graphql_typed_selections.specs.TypedTree.{typed_selection_tree, typed_set_tree};
-ghost use Rattle.graphql_typed_selections.specs.TypedParts.{typed_field_node};
-ghost use Rattle.graphql_walks.specs.Left.{at_start, with_next, with_more, with_name, left_selections, left_fields};
-ghost use Rattle.graphql_walks.specs.WalkView.{standing, fragments_tree, HasPassed, HasEntered};
+ghost use Rattle.graphql_walks.specs.Left.{at_start, own_members, with_next, with_more, with_name, left_members};
+ghost use Rattle.graphql_walks.specs.WalkView.{standing, fragments_tree, lent_member, HasPassed, HasEntered};
 
+use graphql_literals::NamedType;
 use graphql_names::{Name, Node};
 use graphql_typed_operations::FragmentMap;
 use graphql_typed_selections::{Field, Selection, SelectionSet};
@@ -20,8 +20,9 @@ use std::alloc::{AllocError, Global};
 pub(crate) struct Walk<'doc> {
     nested: bool,
     fragments: &'doc FragmentMap,
+    ty: &'doc NamedType,
     front: &'doc [Selection],
-    outer: Vec<&'doc [Selection]>,
+    outer: Vec<(&'doc NamedType, &'doc [Selection])>,
     noted: IndexSet<usize>,
     entered: usize,
 }
@@ -39,6 +40,7 @@ impl<'doc> Walk<'doc> {
         Walk {
             nested,
             fragments,
+            ty: &start.ty,
             front: start.selections.as_slice(),
             outer: Vec::new(alloc),
             noted: IndexSet::new(alloc),
@@ -47,24 +49,27 @@ impl<'doc> Walk<'doc> {
     }
 
     /// Takes the next selection of the sets that are not passed to their ends.
-    fn take_first(&mut self) -> Option<&'doc Selection>
-        ensures { MatchOption result ((standing self.new ≡ standing self.old) × ((standing self.old).pending ≡ [])) (λ s. standing self.old ≡ with_next (typed_selection_tree s.now) (standing self.new)) }
+    fn take_first(&mut self) -> Option<(&'doc NamedType, &'doc Selection)>
+        ensures { MatchOption result ((standing self.new ≡ standing self.old) × ((standing self.old).pending ≡ [])) (λ e. standing self.old ≡ with_next (lent_member e) (standing self.new)) }
     {
         loop {
             if let Some((first, others)) = self.front.split_first() {
                 self.front = others;
-                return Some(first);
+                return Some((self.ty, first));
             }
-            self.front = self.outer.pop()?;
+            let (ty, front) = self.outer.pop()?;
+            self.ty = ty;
+            self.front = front;
         }
     }
 
-    /// Goes on with these selections, before all others.
-    fn descend(&mut self, selections: &'doc [Selection]) -> Result<(), AllocError>
-        ensures { OnOk result (standing self.new ≡ with_more (map typed_selection_tree selections.now) (standing self.old)) }
+    /// Goes on with the selections of this set, before all others.
+    fn descend(&mut self, set: &'doc SelectionSet) -> Result<(), AllocError>
+        ensures { OnOk result (standing self.new ≡ with_more (own_members (typed_set_tree set.now)) (standing self.old)) }
     {
-        self.outer.push(self.front)?;
-        self.front = selections;
+        self.outer.push((self.ty, self.front))?;
+        self.ty = &set.ty;
+        self.front = set.selections.as_slice();
         Ok(())
     }
 
@@ -80,31 +85,25 @@ impl<'doc> Walk<'doc> {
 
     /// Goes on with what stands in a field, if that is walked over.
     fn enter_field(&mut self, field: &'doc Node<Field>) -> Result<(), AllocError>
-        ensures { OnOk result (standing self.new ≡ with_more (if (standing self.old).nested then map typed_selection_tree (content field.now).selection_set.selections.items else []) (standing self.old)) }
+        ensures { OnOk result (standing self.new ≡ with_more (if (standing self.old).nested then own_members (typed_set_tree (content field.now).selection_set) else []) (standing self.old)) }
     {
         if !self.nested {
             return Ok(());
         }
-        self.descend(field.content().selection_set.selections.as_slice())
+        self.descend(&field.content().selection_set)
     }
 
-    /// Passes a selection: goes on with what stands in it, or notes what it spreads. It is lent if it is a field.
-    fn pass(&mut self, selection: &'doc Selection) -> Result<Option<&'doc Node<Field>>, AllocError>
-        ensures { IfOk result (λ field. HasPassed (typed_selection_tree selection.now) (standing self.old) (option_map (λ f. typed_field_node f.now) field) (standing self.new)) }
+    /// Passes a selection: goes on with what stands in it, or notes what it spreads.
+    fn pass(&mut self, ty: &NamedType, selection: &'doc Selection) -> Result<(), AllocError>
+        ensures { OnOk result (HasPassed (name_tree ty.now, typed_selection_tree selection.now) (standing self.old) (standing self.new)) }
     {
         match selection {
-            Selection::Field(field) => {
-                self.enter_field(field)?;
-                Ok(Some(field))
-            }
+            Selection::Field(field) => self.enter_field(field),
             Selection::FragmentSpread(spread) => {
                 self.note(&spread.content().fragment_name)?;
-                Ok(None)
+                Ok(())
             }
-            Selection::InlineFragment(inline) => {
-                self.descend(inline.content().selection_set.selections.as_slice())?;
-                Ok(None)
-            }
+            Selection::InlineFragment(inline) => self.descend(&inline.content().selection_set),
         }
     }
 
@@ -112,7 +111,7 @@ impl<'doc> Walk<'doc> {
     /// document has.
     fn enter_fragment(&mut self) -> bool
         requires { (standing self.old).pending ≡ [] }
-        ensures { MatchBool result (HasEntered (standing self.old) (standing self.new)) (left_selections (standing self.old) ≡ []) }
+        ensures { MatchBool result (HasEntered (standing self.old) (standing self.new)) (left_members (standing self.old) ≡ []) }
     {
         if self.entered >= self.fragments.len() {
             return false;
@@ -122,21 +121,24 @@ impl<'doc> Walk<'doc> {
         };
         self.entered += 1;
         if let Some((_, fragment)) = self.fragments.get_index(*place) {
-            self.front = fragment.content().selection_set.selections.as_slice();
+            let set = &fragment.content().selection_set;
+            self.ty = &set.ty;
+            self.front = set.selections.as_slice();
         }
         true
     }
 
-    /// The next field.
-    pub(crate) fn next_field(&mut self) -> Result<Option<&'doc Node<Field>>, AllocError>
-        ensures { IfOk result (λ field. MatchOption field (left_fields (standing self.old) ≡ []) (λ f. left_fields (standing self.old) ≡ typed_field_node f.now ∷ left_fields (standing self.new))) }
+    /// The next selection, with the type of its set.
+    pub(crate) fn next_member(
+        &mut self,
+    ) -> Result<Option<(&'doc NamedType, &'doc Selection)>, AllocError>
+        ensures { IfOk result (λ member. MatchOption member (left_members (standing self.old) ≡ []) (λ e. left_members (standing self.old) ≡ lent_member e ∷ left_members (standing self.new))) }
     {
         loop {
             match self.take_first() {
-                Some(selection) => {
-                    if let Some(field) = self.pass(selection)? {
-                        return Ok(Some(field));
-                    }
+                Some((ty, selection)) => {
+                    self.pass(ty, selection)?;
+                    return Ok(Some((ty, selection)));
                 }
                 None if self.enter_fragment() => {}
                 None => return Ok(None),

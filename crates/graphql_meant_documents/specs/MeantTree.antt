@@ -6,7 +6,7 @@ use Rattle.graphql_directives.specs.declared.operation_type.OperationType.{Opera
 use Rattle.graphql_operations.specs.SelectionTree.{FieldHead}
 use Rattle.graphql_operations.specs.OperationTree.{VariableDefinitionTree}
 use Rattle.graphql_type_members.specs.TypeSystemTree.{FieldDefinitionTree, unplaced_field_definition}
-use Rattle.graphql_schema_types.specs.in_components.Names.{Entries}
+use Rattle.graphql_components.specs.Names.{Entries}
 use Rattle.graphql_typed_selections.specs.TypedTree.{TypedSelection, TypedField, TypedSpread, TypedInline, TypedSet, typed_set, TypedSelections, no_typed, typed_then}
 
 -- what the schema says of a field

@@ -1,0 +1,2 @@
+pub mod MeantTree
+pub mod Unplaced
