@@ -1,6 +1,6 @@
 -- Merging along a map of fields, such as one that leaves places out: where chains and what is asked of fields correspond, the
 -- fields merge on one side exactly if they merge on the other.
-use Rattle.std.proofs.Common.{◌≡◌, List, [], ◌∷◌, ◌++◌, map, refl, sym, ap, subst, subst₂, ◌∙◌}
+use Rattle.std.proofs.Common.{◌≡◌, List, [], ◌∷◌, ◌++◌, map, refl, sym, ap, subst, ◌∙◌}
 use Rattle.graphql_document_rule_definitions.specs.Chains.{Chain, GoTogether, Meet, Merge}
 
 module _ {F G : Type 0} (h : F → G) where
@@ -41,12 +41,12 @@ module _ {F G : Type 0} (h : F → G) where
   -- ---- chains
 
   module _ (Below : F → F → Type 0) (Under : G → G → Type 0) where
-    chain_down : ((f g : F) → Below f g → Under (h f) (h g)) → (Starts : F → Type 0) (Begins : G → Type 0) → ((f : F) → Starts f → Begins (h f))
+    pub chain_down : ((f g : F) → Below f g → Under (h f) (h g)) → (Starts : F → Type 0) (Begins : G → Type 0) → ((f : F) → Starts f → Begins (h f))
         → (c : List F) → Chain Below Starts c → Chain Under Begins (map h c)
     chain_down down Starts Begins starts [] p = tt
     chain_down down Starts Begins starts (f ∷ c) p = (starts f p.0, chain_down down (Below f) (Under (h f)) (down f) c p.1)
 
-    chain_up : ((f : F) (y : G) → Under (h f) y → (g : F) × (Below f g × (h g ≡ y))) → (Starts : F → Type 0) (Begins : G → Type 0)
+    pub chain_up : ((f : F) (y : G) → Under (h f) y → (g : F) × (Below f g × (h g ≡ y))) → (Starts : F → Type 0) (Begins : G → Type 0)
         → ((y : G) → Begins y → (f : F) × (Starts f × (h f ≡ y))) → (e : List G) → Chain Under Begins e → (c : List F) × (Chain Below Starts c × (map h c ≡ e))
     chain_up up Starts Begins starts [] p = ([], (tt, refl))
     chain_up up Starts Begins starts (y ∷ e) p =
@@ -54,12 +54,12 @@ module _ {F G : Type 0} (h : F → G) where
         let q = chain_up up (Below f.0) (Under (h f.0)) (up f.0) e (subst (λ w. Chain Under (Under w) e) (sym f.1.1) p.1) in
         (f.0 ∷ q.0, ((f.1.0, q.1.0), ap (λ w. w ∷ map h q.0) f.1.1 ∙ ap (λ l. y ∷ l) q.1.1))
 
-    module _ (Together Agree : F → F → Type 0) (With Match : G → G → Type 0) (Starts : F → Type 0) (Begins : G → Type 0) where
-      -- what merges there merges here
-      pub merge_back : ((f g : F) → Below f g → Under (h f) (h g)) → ((f : F) → Starts f → Begins (h f))
-          → ((f g : F) → Together f g → With (h f) (h g)) → ((f g : F) → Match (h f) (h g) → Agree f g)
-          → Merge Under With Begins Match → Merge Below Together Starts Agree
-      merge_back down starts together agree merge f g (c, (d, (p, (q, t)))) = agree f g (merge (h f) (h g) (
+    -- ---- fields that meet
+
+    module _ (Together : F → F → Type 0) (With : G → G → Type 0) (Starts : F → Type 0) (Begins : G → Type 0) where
+      pub meet_down : ((f g : F) → Below f g → Under (h f) (h g)) → ((f : F) → Starts f → Begins (h f)) → ((f g : F) → Together f g → With (h f) (h g))
+          → (f g : F) → Meet Below Together Starts f g → Meet Under With Begins (h f) (h g)
+      meet_down down starts together f g (c, (d, (p, (q, t)))) = (
         map h c,
         (
           map h d,
@@ -72,30 +72,53 @@ module _ {F G : Type 0} (h : F → G) where
             ),
           ),
         ),
-      ))
+      )
 
-      -- what merges here merges there
-      pub merge_on : ((f : F) (y : G) → Under (h f) y → (g : F) × (Below f g × (h g ≡ y))) → ((y : G) → Begins y → (f : F) × (Starts f × (h f ≡ y)))
-          → ((f g : F) → With (h f) (h g) → Together f g) → ((f g : F) → Agree f g → Match (h f) (h g))
-          → Merge Below Together Starts Agree → Merge Under With Begins Match
-      merge_on up starts together agree merge y z (e, (e', (p, (q, t)))) =
+      pub meet_up : ((f : F) (y : G) → Under (h f) y → (g : F) × (Below f g × (h g ≡ y))) → ((y : G) → Begins y → (f : F) × (Starts f × (h f ≡ y)))
+          → ((f g : F) → With (h f) (h g) → Together f g) → (y z : G) → Meet Under With Begins y z
+          → (f : F) × ((g : F) × (Meet Below Together Starts f g × ((h f ≡ y) × (h g ≡ z))))
+      meet_up up starts together y z (e, (e', (p, (q, t)))) =
           let a = chain_up up Starts Begins starts (e ++ y ∷ []) p in
           let b = chain_up up Starts Begins starts (e' ++ z ∷ []) q in
           let v = comes_from a.0 e y a.1.1 in
           let w = comes_from b.0 e' z b.1.1 in
           let goes : GoTogether Together a.0 b.0 = together_up Together With together a.0 b.0
-          (subst (λ l. GoTogether With (map h a.0) l) (sym b.1.1) (subst (λ l. GoTogether With l (e' ++ z ∷ [])) (sym a.1.1) t)) in
-          let agrees : Agree v.1.0 w.1.0 = merge v.1.0 w.1.0 (
-            v.0,
+          (subst (λ l. GoTogether With (map h a.0) l) (sym b.1.1) (subst (λ l. GoTogether With l (e' ++ z ∷ [])) (sym a.1.1) t)) in (
+            v.1.0,
             (
-              w.0,
+              w.1.0,
               (
-                subst (Chain Below Starts) v.1.1.0 a.1.0,
                 (
-                  subst (Chain Below Starts) w.1.1.0 b.1.0,
-                  subst (λ l. GoTogether Together (v.0 ++ v.1.0 ∷ []) l) w.1.1.0 (subst (λ l. GoTogether Together l b.0) v.1.1.0 goes),
+                  v.0,
+                  (
+                    w.0,
+                    (
+                      subst (Chain Below Starts) v.1.1.0 a.1.0,
+                      (
+                        subst (Chain Below Starts) w.1.1.0 b.1.0,
+                        subst (λ l. GoTogether Together (v.0 ++ v.1.0 ∷ []) l) w.1.1.0 (subst (λ l. GoTogether Together l b.0) v.1.1.0 goes),
+                      ),
+                    ),
+                  ),
                 ),
+                (v.1.1.1.1, w.1.1.1.1),
               ),
             ),
-          ) in
-          subst (λ u. Match y u) w.1.1.1.1 (subst (λ u. Match u (h w.1.0)) v.1.1.1.1 (agree v.1.0 w.1.0 agrees))
+          )
+
+    -- ---- all that meet
+
+    module _ (Together Agree : F → F → Type 0) (With Match : G → G → Type 0) (Starts : F → Type 0) (Begins : G → Type 0) where
+      -- what merges there merges here
+      pub merge_back : ((f g : F) → Below f g → Under (h f) (h g)) → ((f : F) → Starts f → Begins (h f))
+          → ((f g : F) → Together f g → With (h f) (h g)) → ((f g : F) → Match (h f) (h g) → Agree f g)
+          → Merge Under With Begins Match → Merge Below Together Starts Agree
+      merge_back down starts together agree merge f g meet = agree f g (merge (h f) (h g) (meet_down Together With Starts Begins down starts together f g meet))
+
+      -- what merges here merges there
+      pub merge_on : ((f : F) (y : G) → Under (h f) y → (g : F) × (Below f g × (h g ≡ y))) → ((y : G) → Begins y → (f : F) × (Starts f × (h f ≡ y)))
+          → ((f g : F) → With (h f) (h g) → Together f g) → ((f g : F) → Agree f g → Match (h f) (h g))
+          → Merge Below Together Starts Agree → Merge Under With Begins Match
+      merge_on up starts together agree merge y z meet =
+          let m = meet_up Together With Starts Begins up starts together y z meet in
+          subst (λ u. Match y u) m.1.1.1.1 (subst (λ u. Match u (h m.1.0)) m.1.1.1.0 (agree m.0 m.1.0 (merge m.0 m.1.0 m.1.1.0)))

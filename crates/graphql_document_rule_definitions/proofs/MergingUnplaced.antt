@@ -18,7 +18,7 @@ use Rattle.graphql_document_rule_definitions.proofs.Unplaced.{unplaced_field, na
 -- ---- values that are given
 
 mutual
-  twice : {P : Type 0} (v : ValueTree P) → unplaced_value (unplaced_value v) ≡ unplaced_value v
+  pub twice : {P : Type 0} (v : ValueTree P) → unplaced_value (unplaced_value v) ≡ unplaced_value v
   twice NullTree = refl
   twice (EnumTree n) = refl
   twice (VariableTree n) = refl
@@ -38,7 +38,7 @@ mutual
   twice_entries (entry_then n p t ts) = ap₂ (λ v vs. entry_then (unplaced_text n) tt v vs) (twice t) (twice_entries ts)
 
 module _ {P : Type 0} where
-  given_same : (n : List ℕ) (given : Arguments P) → plain_given n (unplaced_arguments given) ≡ plain_given n given
+  pub given_same : (n : List ℕ) (given : Arguments P) → plain_given n (unplaced_arguments given) ≡ plain_given n given
   given_same n [] = refl
   given_same n (a ∷ given) = by (argument_has_name n a) (given_same n given)
     where
@@ -60,40 +60,41 @@ module _ {P : Type 0} where
   alias_same None n = refl
   alias_same (Some a) n = refl
 
-  key_same : (f : StandingField P) → response_key (unplaced_field f) ≡ response_key f
+  pub key_same : (f : StandingField P) → response_key (unplaced_field f) ≡ response_key f
   key_same f = alias_same f.head.alias f.head.name
 
-  key_down : (f g : StandingField P) → SameKey f g → SameKey (unplaced_field f) (unplaced_field g)
+  pub key_down : (f g : StandingField P) → SameKey f g → SameKey (unplaced_field f) (unplaced_field g)
   key_down f g e = key_same f ∙ (e ∙ sym (key_same g))
 
-  key_up : (f g : StandingField P) → SameKey (unplaced_field f) (unplaced_field g) → SameKey f g
+  pub key_up : (f g : StandingField P) → SameKey (unplaced_field f) (unplaced_field g) → SameKey f g
   key_up f g e = sym (key_same f) ∙ (e ∙ key_same g)
 
-module _ {P : Type 0} (s : Judged) (d : MeantDocument P) (o : MeantOperation P) where
-  starts_map : (f : StandingField P) → Starts d o f → Starts (unplaced_document d) (unplaced_operation o) (unplaced_field f)
-  starts_map f p = subst (λ n. IsFieldOf (unplaced_document d) (InOperation n) (unplaced_set o.set) (unplaced_field f)) (sym (name_same o.name)) (field_of_map d (InOperation (operation_name o)) o.set f p)
+module _ {P : Type 0} (d : MeantDocument P) where
+  pub starts_map : (o : MeantOperation P) (f : StandingField P) → Starts d o f → Starts (unplaced_document d) (unplaced_operation o) (unplaced_field f)
+  starts_map o f p = subst (λ n. IsFieldOf (unplaced_document d) (InOperation n) (unplaced_set o.set) (unplaced_field f)) (sym (name_same o.name)) (field_of_map d (InOperation (operation_name o)) o.set f p)
 
-  starts_unmap : (y : StandingField (Unit {0})) → Starts (unplaced_document d) (unplaced_operation o) y → (f : StandingField P) × (Starts d o f × (unplaced_field f ≡ y))
-  starts_unmap y p = field_of_unmap d (InOperation (operation_name o)) o.set y (subst (λ n. IsFieldOf (unplaced_document d) (InOperation n) (unplaced_set o.set) y) (name_same o.name) p)
+  pub starts_unmap : (o : MeantOperation P) (y : StandingField (Unit {0})) → Starts (unplaced_document d) (unplaced_operation o) y → (f : StandingField P) × (Starts d o f × (unplaced_field f ≡ y))
+  starts_unmap o y p = field_of_unmap d (InOperation (operation_name o)) o.set y (subst (λ n. IsFieldOf (unplaced_document d) (InOperation n) (unplaced_set o.set) y) (name_same o.name) p)
 
-  below_map : (f g : StandingField P) → Below d f g → Below (unplaced_document d) (unplaced_field f) (unplaced_field g)
+  pub below_map : (f g : StandingField P) → Below d f g → Below (unplaced_document d) (unplaced_field f) (unplaced_field g)
   below_map f g p = field_of_map d f.position f.set g p
 
-  below_unmap : (f : StandingField P) (y : StandingField (Unit {0})) → Below (unplaced_document d) (unplaced_field f) y → (g : StandingField P) × (Below d f g × (unplaced_field g ≡ y))
+  pub below_unmap : (f : StandingField P) (y : StandingField (Unit {0})) → Below (unplaced_document d) (unplaced_field f) y → (g : StandingField P) × (Below d f g × (unplaced_field g ≡ y))
   below_unmap f y p = field_of_unmap d f.position f.set y p
 
+module _ {P : Type 0} (s : Judged) (d : MeantDocument P) (o : MeantOperation P) where
   pub fields_merge_without_places : FieldsMerge s d o ↔ FieldsMerge s (unplaced_document d) (unplaced_operation o)
   fields_merge_without_places = (
     (λ m. record {
       shapes = merge_on unplaced_field (Below d) (Below (unplaced_document d)) SameKey (SameShape s) SameKey (SameShape s) (Starts d o) (Starts (unplaced_document d) (unplaced_operation o))
-          below_unmap starts_unmap key_up (λ f g a. a) m.shapes;
+          (below_unmap d) (starts_unmap d o) key_up (λ f g a. a) m.shapes;
       selections = merge_on unplaced_field (Below d) (Below (unplaced_document d)) (MayShare s) SameNameAndArguments (MayShare s) SameNameAndArguments (Starts d o) (Starts (unplaced_document d) (unplaced_operation o))
-          below_unmap starts_unmap (λ f g t. (key_up f g t.0, t.1)) (λ f g a. (a.0, arguments_down f.head.arguments g.head.arguments a.1)) m.selections;
+          (below_unmap d) (starts_unmap d o) (λ f g t. (key_up f g t.0, t.1)) (λ f g a. (a.0, arguments_down f.head.arguments g.head.arguments a.1)) m.selections;
     }),
     (λ m. record {
       shapes = merge_back unplaced_field (Below d) (Below (unplaced_document d)) SameKey (SameShape s) SameKey (SameShape s) (Starts d o) (Starts (unplaced_document d) (unplaced_operation o))
-          below_map starts_map key_down (λ f g a. a) m.shapes;
+          (below_map d) (starts_map d o) key_down (λ f g a. a) m.shapes;
       selections = merge_back unplaced_field (Below d) (Below (unplaced_document d)) (MayShare s) SameNameAndArguments (MayShare s) SameNameAndArguments (Starts d o) (Starts (unplaced_document d) (unplaced_operation o))
-          below_map starts_map (λ f g t. (key_down f g t.0, t.1)) (λ f g a. (a.0, arguments_up f.head.arguments g.head.arguments a.1)) m.selections;
+          (below_map d) (starts_map d o) (λ f g t. (key_down f g t.0, t.1)) (λ f g a. (a.0, arguments_up f.head.arguments g.head.arguments a.1)) m.selections;
     }),
   )

@@ -63,12 +63,12 @@ module _ {P : Type 0} where
   field_same at t (MeantSpread p n ds) = refl
   field_same at t (MeantInline p c ds s) = refl
 
-  inline_same : (at : Position) (s : MeantSelection P) → in_inline at (unplaced_meant s) ≡ map unplaced_standing (in_inline at s)
+  pub inline_same : (at : Position) (s : MeantSelection P) → in_inline at (unplaced_meant s) ≡ map unplaced_standing (in_inline at s)
   inline_same at (MeantField p d h s) = refl
   inline_same at (MeantSpread p n ds) = refl
   inline_same at (MeantInline p c ds s) = standing_same at s
 
-  spread_same : (s : MeantSelection P) → spread_name (unplaced_meant s) ≡ spread_name s
+  pub spread_same : (s : MeantSelection P) → spread_name (unplaced_meant s) ≡ spread_name s
   spread_same (MeantField p d h s) = refl
   spread_same (MeantSpread p n ds) = refl
   spread_same (MeantInline p c ds s) = refl
@@ -77,13 +77,13 @@ module _ {P : Type 0} where
   name_same None = refl
   name_same (Some n) = refl
 
-  own_same : (o : MeantOperation P) → own (unplaced_operation o) ≡ map unplaced_standing (own o)
+  pub own_same : (o : MeantOperation P) → own (unplaced_operation o) ≡ map unplaced_standing (own o)
   own_same o = ap (λ n. standing_in (InOperation n) (unplaced_set o.set)) (name_same o.name) ∙ standing_same (InOperation (operation_name o)) o.set
 
-  held_same : (f : MeantFragment P) → held (unplaced_fragment f) ≡ map unplaced_standing (held f)
+  pub held_same : (f : MeantFragment P) → held (unplaced_fragment f) ≡ map unplaced_standing (held f)
   held_same f = standing_same (InFragment f.name.it) f.set
 
-under_same : {A B : Type 0} (g : A → B) (n : List ℕ) (es : Entries A) → under n (map (λ e. (e.0, g e.1)) es) ≡ option_map g (under n es)
+pub under_same : {A B : Type 0} (g : A → B) (n : List ℕ) (es : Entries A) → under n (map (λ e. (e.0, g e.1)) es) ≡ option_map g (under n es)
 under_same g n [] = refl
 under_same {A} {B} g n (e ∷ es) = by (bytes_eq n e.0) (under_same g n es)
   where
@@ -96,10 +96,10 @@ under_same {A} {B} g n (e ∷ es) = by (bytes_eq n e.0) (under_same g n es)
 -- ---- what is reached
 
 module _ {P : Type 0} (d : MeantDocument P) where
-  fragment_same : (n : List ℕ) → fragment_named (unplaced_document d) n ≡ option_map unplaced_fragment (fragment_named d n)
+  pub fragment_same : (n : List ℕ) → fragment_named (unplaced_document d) n ≡ option_map unplaced_fragment (fragment_named d n)
   fragment_same n = under_same unplaced_fragment n d.fragments
 
-  fragments_map : (x y : Standing P) → InFragmentOf d x y → InFragmentOf (unplaced_document d) (unplaced_standing x) (unplaced_standing y)
+  pub fragments_map : (x y : Standing P) → InFragmentOf d x y → InFragmentOf (unplaced_document d) (unplaced_standing x) (unplaced_standing y)
   fragments_map x y (inl h) = inl (subst (λ l. Contains l (unplaced_standing y)) (sym (inline_same x.position x.it)) (contains_map unplaced_standing (in_inline x.position x.it) y h))
   fragments_map x y (inr (n, (e, (g, (k, h))))) = inr (
     n,
@@ -115,7 +115,7 @@ module _ {P : Type 0} (d : MeantDocument P) where
     ),
   )
 
-  fragments_unmap : (x : Standing P) (y : Standing (Unit {0})) → InFragmentOf (unplaced_document d) (unplaced_standing x) y → (z : Standing P) × (InFragmentOf d x z × (unplaced_standing z ≡ y))
+  pub fragments_unmap : (x : Standing P) (y : Standing (Unit {0})) → InFragmentOf (unplaced_document d) (unplaced_standing x) y → (z : Standing P) × (InFragmentOf d x z × (unplaced_standing z ≡ y))
   fragments_unmap x y (inl h) =
       let z = contains_unmap unplaced_standing (in_inline x.position x.it) y (subst (λ l. Contains l y) (inline_same x.position x.it) h) in
       (z.0, (inl z.1.0, z.1.1))
@@ -124,7 +124,7 @@ module _ {P : Type 0} (d : MeantDocument P) where
       let z = contains_unmap unplaced_standing (held m.0) y (subst (λ l. Contains l y) (held_same m.0) (subst (λ f. Contains (held f) y) m.1.1 h)) in
       (z.0, (inr (n, (sym (spread_same x.it) ∙ e, (m.0, (m.1.0, z.1.0)))), z.1.1))
 
-  leads_map : (x y : Standing P) → LeadsInto d x y → LeadsInto (unplaced_document d) (unplaced_standing x) (unplaced_standing y)
+  pub leads_map : (x y : Standing P) → LeadsInto d x y → LeadsInto (unplaced_document d) (unplaced_standing x) (unplaced_standing y)
   leads_map x y (inl (f, (e, h))) = inl (
     unplaced_field f,
     (
@@ -134,7 +134,7 @@ module _ {P : Type 0} (d : MeantDocument P) where
   )
   leads_map x y (inr p) = inr (fragments_map x y p)
 
-  leads_unmap : (x : Standing P) (y : Standing (Unit {0})) → LeadsInto (unplaced_document d) (unplaced_standing x) y → (z : Standing P) × (LeadsInto d x z × (unplaced_standing z ≡ y))
+  pub leads_unmap : (x : Standing P) (y : Standing (Unit {0})) → LeadsInto (unplaced_document d) (unplaced_standing x) y → (z : Standing P) × (LeadsInto d x z × (unplaced_standing z ≡ y))
   leads_unmap x y (inl (g, (e, h))) =
       let m = mapped_some unplaced_field (as_field x) g (sym (field_same x.position x.parent x.it) ∙ e) in
       let z = contains_unmap unplaced_standing (standing_in m.0.position m.0.set) y

@@ -17,5 +17,7 @@ pub mod DocumentRules
 pub mod FieldSets
 pub mod Standalone
 pub mod Verdict
+pub mod FaultsUnplaced
+pub mod Named
 pub mod Told
 pub mod Laws
