@@ -3,3 +3,4 @@ pub mod Whole
 pub mod Appended
 pub mod GivenFacts
 pub mod Putting
+pub mod Lawful

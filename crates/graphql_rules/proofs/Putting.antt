@@ -1,6 +1,5 @@
 -- Types that are put under names one after another are what a validated schema has, where no two stand under one name.
 use Rattle.std.proofs.Common.{◌≡◌, ℕ, Bool, true, false, cond, not, ◌&&◌, ◌||◌, List, [], ◌∷◌, ◌++◌, map, filter, fold, bytes_eq, is_none, Option, None, Some, option_map, refl, sym, ap, subst, ◌∙◌, true≢false, if◌then◌else◌}
-use Rattle.std.specs.Bool.{Decides}
 use Rattle.std.specs.List.{list_any, IsDistinct, AllByRecursion, find}
 use Rattle.std.specs.Map.{keys_of, values_of}
 use Rattle.std.proofs.lemmas.List.{append-nil, append_assoc}

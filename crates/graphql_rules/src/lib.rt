@@ -2,7 +2,8 @@
 //!
 //! For the layers above: a check adds to a list the faults by which the rules of its name break, at their places, and no
 //! others (`specs/Appends.antt`); what breaks a rule is a predicate named after its variant, in `graphql_rule_definitions`.
-//! Of a schema `validate_schema` tells all of them (`specs/SchemaTold.antt`), and leaves the types that are kept.
+//! Of a schema `validate_schema` tells all of them (`specs/SchemaTold.antt`), and leaves the types that are kept. Where it
+//! tells nothing, implementing is a strict order on interfaces, and each input type has a literal (`graphql_schema_laws`).
 //!
 //! The rules stand in inner crates side by side: `graphql_type_rules`, `graphql_interface_rules`, `graphql_cycle_rules`,
 //! `graphql_use_rules`, `graphql_value_rules`. Begin with `schema.rt`.

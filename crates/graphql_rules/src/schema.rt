@@ -7,6 +7,8 @@ ghost use Rattle.graphql_rule_definitions.specs.Judged.{judged};
 ghost use Rattle.graphql_rule_definitions.specs.Kept.{validated};
 ghost use Rattle.graphql_rule_definitions.specs.Rules.{SchemaRules};
 ghost use Rattle.graphql_faults.specs.DetailsView.{diagnostics_of, BeginsAs};
+ghost use Rattle.graphql_schema_laws.specs.Implementing.{ImplementsInOrder};
+ghost use Rattle.graphql_schema_laws.specs.Literals.{HasTheFiveAlone, HasNoKeywordValue, InputTypesHaveLiterals};
 ghost use Rattle.graphql_rules.specs.SchemaTold.{IsWithinReferenceBound, TellsSchema, SchemaTold};
 
 use crate::kept::kept_types;
@@ -23,6 +25,12 @@ use std::alloc::{AllocError, Global};
 /// Tells every fault of the rules on schemas (sections 3 and 5), and then keeps of the types all but the built-in scalars
 /// to which no field, argument or input field refers; those of the five that are referred to and missing come last. The
 /// rest of the schema stays. Where memory is refused the schema is as before, and some faults may be told.
+///
+/// Where nothing is told, implementing is a strict order on interfaces (sections 3.6 and 3.7). And each input type of the
+/// schema that is left, non-null ones too, has a literal: a text of a value that may be given for it (sections 2.9, 3.4.2 and
+/// 5.6); this where the built-in scalars of the schema are among the five, and no enum value is `true`, `false` or `null`, as
+/// holds of what is read under other numbers than [`FileId::BUILT_IN`](graphql_names::FileId::BUILT_IN)
+/// (`laws::read_texts_meet_the_premises`).
 pub fn validate_schema(
     alloc: Global,
     list: &mut DiagnosticList,
@@ -32,6 +40,9 @@ pub fn validate_schema(
     ensures silent { OnOk result (diagnostics_of list.new ≡ diagnostics_of list.old → SchemaRules (judged (schema_tree schema.old))) }
     ensures accepts { OnOk result (SchemaRules (judged (schema_tree schema.old)) → IsWithinReferenceBound (judged (schema_tree schema.old)) → diagnostics_of list.new ≡ diagnostics_of list.old) }
     ensures kept { OnOk result (schema_tree schema.new ≡ validated (schema_tree schema.old)) }
+    ensures was_ordered { OnOk result (diagnostics_of list.new ≡ diagnostics_of list.old → ImplementsInOrder (judged (schema_tree schema.old))) }
+    ensures ordered { OnOk result (diagnostics_of list.new ≡ diagnostics_of list.old → ImplementsInOrder (judged (schema_tree schema.new))) }
+    ensures literals { OnOk result (diagnostics_of list.new ≡ diagnostics_of list.old → HasTheFiveAlone (judged (schema_tree schema.old)) → HasNoKeywordValue (judged (schema_tree schema.old)) → InputTypesHaveLiterals (judged (schema_tree schema.new))) }
     ensures rest { OnOk result (schema.new ≡ record schema.old { types = schema.new.types }) }
     ensures unchanged { OnErr result (schema.new ≡ schema.old) }
     ensures begins { OnErr result (BeginsAs (diagnostics_of list.old) (diagnostics_of list.new)) }

@@ -1,0 +1,13 @@
+pub mod Ordered
+pub mod Grounded
+pub mod Placeless
+pub mod Keys
+pub mod Given
+pub mod Written
+pub mod Grounds
+pub mod Validated
+pub mod Named
+pub mod Fine
+pub mod ReadTexts
+pub mod Others
+pub mod Small

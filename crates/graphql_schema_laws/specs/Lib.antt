@@ -1,0 +1,6 @@
+pub mod Implementing
+pub mod Literals
+pub mod ReadTexts
+pub mod Named
+pub mod Laws
+pub mod Small
