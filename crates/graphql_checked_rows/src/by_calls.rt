@@ -15,12 +15,12 @@ pub(crate) fn push_check_texts(
     document: &str,
     nesting: usize,
     answer: &mut Answer,
-) -> Result<(), AllocError> {
+) {
     match check_texts(alloc, schemas, document, Limits { nesting }) {
         Ok(Verdict::Accepted) => answer.show("0", &"accepted\n"),
         Ok(Verdict::Refused(list)) => push_refused(&list, answer),
         Err(CheckError::NotYet { file, offset }) => push_not_yet(file, offset, answer),
-        Err(CheckError::Memory) => answer.status.push_str("4 out of memory"),
+        Err(CheckError::Memory) => answer.status.put("4 out of memory"),
     }
 }
 
@@ -31,7 +31,7 @@ pub(crate) fn push_calls(
     document: &str,
     nesting: usize,
     answer: &mut Answer,
-) -> Result<(), AllocError> {
+) {
     match schema_of(alloc, schemas, nesting) {
         Ok(schema) => push_check(&schema, document, answer),
         Err(refusal) => push_refusal(&refusal, answer),
@@ -45,7 +45,7 @@ pub(crate) fn push_series(
     documents: &[&str],
     nesting: usize,
     answer: &mut Answer,
-) -> Result<(), AllocError> {
+) {
     match schema_of(alloc, schemas, nesting) {
         Ok(schema) => push_around(&schema, documents, answer),
         Err(refusal) => push_refusal(&refusal, answer),
@@ -53,34 +53,25 @@ pub(crate) fn push_series(
 }
 
 /// Adds the answers to the documents, while what the first gives is kept, and last what that is written as.
-fn push_around(
-    schema: &CheckedSchema,
-    documents: &[&str],
-    answer: &mut Answer,
-) -> Result<(), AllocError> {
+fn push_around(schema: &CheckedSchema, documents: &[&str], answer: &mut Answer) {
     let Some(first) = documents.first() else {
-        return Ok(());
+        return;
     };
     match schema.check(first) {
         Ok(checked) => {
-            push_each(schema, documents, answer)?;
-            push_accepted(schema, &checked, answer)
+            push_each(schema, documents, answer);
+            push_accepted(schema, &checked, answer);
         }
         Err(refusal) => push_refusal(&refusal, answer),
     }
 }
 
 /// Adds the answer to each document, and a comma to its status.
-fn push_each(
-    schema: &CheckedSchema,
-    documents: &[&str],
-    answer: &mut Answer,
-) -> Result<(), AllocError> {
+fn push_each(schema: &CheckedSchema, documents: &[&str], answer: &mut Answer) {
     for document in documents {
-        push_check(schema, document, answer)?;
-        answer.status.push_str(", ")?;
+        push_check(schema, document, answer);
+        answer.status.put(", ");
     }
-    Ok(())
 }
 
 /// The schema of the texts, by a checker.
@@ -93,11 +84,7 @@ fn schema_of(alloc: Global, schemas: &[&str], nesting: usize) -> Result<CheckedS
 }
 
 /// Adds the answer of a schema's `check`.
-fn push_check(
-    schema: &CheckedSchema,
-    document: &str,
-    answer: &mut Answer,
-) -> Result<(), AllocError> {
+fn push_check(schema: &CheckedSchema, document: &str, answer: &mut Answer) {
     match schema.check(document) {
         Ok(checked) => push_accepted(schema, &checked, answer),
         Err(refusal) => push_refusal(&refusal, answer),
@@ -105,34 +92,38 @@ fn push_check(
 }
 
 /// Adds the answer that has both texts.
-fn push_accepted(
-    schema: &CheckedSchema,
-    document: &CheckedDocument<'_>,
-    answer: &mut Answer,
-) -> Result<(), AllocError> {
-    let schema_text = schema.written(Layout::OneLine)?;
-    let document_text = document.written(Layout::OneLine)?;
-    write!(answer.text, "accepted\n{schema_text}\n{document_text}\n")?;
-    answer.status.push_str("0")
+fn push_accepted(schema: &CheckedSchema, document: &CheckedDocument<'_>, answer: &mut Answer) {
+    answer.show("0", &"accepted\n");
+    push_written(schema.written(Layout::OneLine), answer);
+    push_written(document.written(Layout::OneLine), answer);
+}
+
+/// Adds a text that is written.
+fn push_written(written: Result<String, AllocError>, answer: &mut Answer) {
+    match written {
+        Ok(text) => answer.text.show_between("", &text, "\n"),
+        Err(_) => answer.status.put("4 out of memory"),
+    }
 }
 
 /// Adds the answer of a refusal.
-fn push_refusal(refusal: &Refusal, answer: &mut Answer) -> Result<(), AllocError> {
+fn push_refusal(refusal: &Refusal, answer: &mut Answer) {
     match refusal {
         Refusal::Faults(list) => push_refused(list, answer),
         Refusal::NotYet { file, offset } => push_not_yet(*file, *offset, answer),
-        Refusal::Memory => answer.status.push_str("4 out of memory"),
-        Refusal::Failed => answer.status.push_str("4 failed"),
+        Refusal::Memory => answer.status.put("4 out of memory"),
+        Refusal::Failed => answer.status.put("4 failed"),
     }
 }
 
 /// Adds the answer that tells these faults.
-fn push_refused(list: &DiagnosticList, answer: &mut Answer) -> Result<(), AllocError> {
-    answer.text.push_str("refused\n")?;
-    push_faults(list.as_slice(), answer)
+fn push_refused(list: &DiagnosticList, answer: &mut Answer) {
+    answer.text.put("refused\n");
+    push_faults(list.as_slice(), answer);
 }
 
 /// Adds the answer that a text is not judged yet.
-fn push_not_yet(file: FileId, offset: usize, answer: &mut Answer) -> Result<(), AllocError> {
-    write!(answer.status, "5 not yet {}:{offset}", file.0)
+fn push_not_yet(file: FileId, offset: usize, answer: &mut Answer) {
+    answer.status.show_between("5 not yet ", &file.0, ":");
+    answer.status.show(&offset);
 }

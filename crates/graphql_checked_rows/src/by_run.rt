@@ -6,7 +6,7 @@ ghost use Rattle.graphql_names.specs.Device.{device_failed};
 use graphql_checked::{Layout, Limits, Outcome, RunFault, exit_status, run};
 use graphql_names::{Cut, Device};
 use graphql_row_files::{
-    Answer, Case, Plan, Problem, Tally, Way, compare_cut, device, reader, says,
+    Answer, Case, Lines, Plan, Problem, Tally, Way, compare_cut, device, reader, says,
 };
 use std::alloc::{AllocError, Global};
 
@@ -66,7 +66,8 @@ fn reader_ends(
     tally: &mut Tally,
 ) -> Result<(), Problem> {
     let text = way.plan.text;
-    let status = format!(in alloc; "3 file {text} cannot be read")?;
+    let mut status = Lines::new(alloc);
+    status.show_between("3 file ", &text, " cannot be read");
     let wanted = Case {
         status: status.as_str(),
         out: &[],
@@ -105,11 +106,12 @@ fn run_by(
     );
     let failures = told_failures(answer);
     if failures.0 != failed_reader(&schemas, document.failed()) || failures.1 != writer.failed() {
-        return told
-            .status
-            .push_str("another device has failed than the answer tells");
+        told.status
+            .put("another device has failed than the answer tells");
+    } else {
+        push_status(answer, &mut told.status);
     }
-    push_status(answer, &mut told.status)
+    Ok(())
 }
 
 /// The readers of the schema texts.
@@ -151,14 +153,15 @@ fn told_failures(answer: Result<Outcome, RunFault>) -> (usize, bool) {
 }
 
 /// Adds the status in words: the program's status, what it tells, and for whom the place or the number of bytes.
-fn push_status(answer: Result<Outcome, RunFault>, words: &mut String) -> Result<(), AllocError> {
-    let status = exit_status(&answer);
+fn push_status(answer: Result<Outcome, RunFault>, words: &mut Lines) {
+    words.show(&exit_status(&answer));
     match answer {
-        Ok(_) => write!(words, "{status}"),
+        Ok(_) => {}
         Err(RunFault::NotYet { file, offset }) => {
-            write!(words, "{status} not yet {}:{offset}", file.0)
+            words.show_between(" not yet ", &file.0, ":");
+            words.show(&offset);
         }
-        Err(RunFault::Writer(out)) => write!(words, "{status} output failed {out}"),
-        Err(fault) => write!(words, "{status} {fault}"),
+        Err(RunFault::Writer(out)) => words.show_between(" output failed ", &out, ""),
+        Err(fault) => words.show_between(" ", &fault, ""),
     }
 }

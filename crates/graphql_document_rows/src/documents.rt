@@ -47,8 +47,8 @@ fn add_document(
     file: FileId,
     builder: &mut ExecutableDocumentBuilder<'_>,
 ) -> Result<(), Problem> {
-    let document = document_of(alloc, case, text, file)?;
-    match builder.add_ast_document(&document) {
+    let given = document_of(alloc, case, text, file)?;
+    match builder.add_ast_document(&given.document) {
         Ok(()) => Ok(()),
         Err(_) => Err(Problem::Memory),
     }
@@ -65,5 +65,6 @@ fn push_typed(
     answer: &mut Answer,
 ) -> Result<(), AllocError> {
     push_kept(alloc, call, &typed.0, &mut answer.text)?;
-    push_faults(&typed.1, answer)
+    push_faults(&typed.1, answer);
+    Ok(())
 }

@@ -1,8 +1,8 @@
 //! Sets of fields by themselves.
 
 use crate::outline::push_set;
-use graphql_documents::{BuildError, FieldSet, FieldSetExt};
-use graphql_names::{FileId, Name, SourceSpan};
+use graphql_documents::{FieldSet, FieldSetExt};
+use graphql_names::{FileId, Name};
 use graphql_operations::Selection;
 use graphql_read::parse_selections;
 use graphql_row_files::{Answer, Case, Problem, push_faults, read_of, text_of};
@@ -47,14 +47,7 @@ fn push_under(
     answer: &mut Answer,
 ) -> Result<(), AllocError> {
     let typed = FieldSet::from_ast(alloc, schema, name, selections)?;
-    push_typed(&typed, answer)
-}
-
-/// Adds the lines of what is kept, and those of the faults.
-fn push_typed(
-    typed: &(FieldSet, Vec<(Option<SourceSpan>, BuildError)>),
-    answer: &mut Answer,
-) -> Result<(), AllocError> {
-    push_set(&typed.0.selection_set, 0, &mut answer.text)?;
-    push_faults(&typed.1, answer)
+    push_set(&typed.0.selection_set, 0, &mut answer.text);
+    push_faults(&typed.1, answer);
+    Ok(())
 }

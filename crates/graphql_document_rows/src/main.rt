@@ -34,7 +34,7 @@ impl Calls for Typing {
 
     fn judge(&self, alloc: Global, case: Case<'_>, tally: &mut Tally) -> Result<(), Problem> {
         match build(alloc, case, &mut tally.answer)? {
-            Some(built) => by_schema(alloc, case, &built.0, tally),
+            Some(built) => by_schema(alloc, case, &built.schema, tally),
             None => judge(case, &[], tally),
         }
     }

@@ -5,7 +5,7 @@ use graphql_documents::{Field, FieldExt, NewFieldError, SelectionSet, SelectionS
 use graphql_names::Name;
 use graphql_row_files::{Answer, Case, Problem, text_of};
 use graphql_schema::{ExtendedType, FieldLookupError, Schema};
-use std::alloc::{AllocError, Global};
+use std::alloc::Global;
 
 /// Adds the field that a set on the row's type makes of the input, which is a name, or why it makes none.
 pub(crate) fn push_new_field(
@@ -39,46 +39,39 @@ fn push_by_set(
     answer: &mut Answer,
 ) -> Result<(), Problem> {
     let name = name_of(alloc, case, name)?;
-    Ok(push_made(schema, set.new_field(alloc, schema, name), answer)?)
+    push_made(schema, set.new_field(alloc, schema, name), answer);
+    Ok(())
 }
 
 /// Adds the field, or why it is not made.
-fn push_made(
-    schema: &Schema,
-    made: Result<Field, NewFieldError<'_>>,
-    answer: &mut Answer,
-) -> Result<(), AllocError> {
+fn push_made(schema: &Schema, made: Result<Field, NewFieldError<'_>>, answer: &mut Answer) {
     match made {
         Ok(field) => push_typed(schema, &field, answer),
         Err(NewFieldError::Lookup(error)) => push_missing(error, answer),
-        Err(NewFieldError::Memory) => answer.status.push_str("4 out of memory"),
+        Err(NewFieldError::Memory) => answer.status.put("4 out of memory"),
     }
 }
 
 /// Adds the line of the field, and that of the type inside its own, if the schema has it.
-fn push_typed(schema: &Schema, field: &Field, answer: &mut Answer) -> Result<(), AllocError> {
-    push_field("", field, &mut answer.text)?;
+fn push_typed(schema: &Schema, field: &Field, answer: &mut Answer) {
+    push_field("", field, &mut answer.text);
     match field.inner_type_def(schema) {
         Some(ty) => push_type("0", ty.name(), ty, answer),
-        None => answer.status.push_str("0 no such type"),
+        None => answer.status.put("0 no such type"),
     }
 }
 
 /// Adds why the set's type has no such field.
-fn push_missing(error: FieldLookupError<'_>, answer: &mut Answer) -> Result<(), AllocError> {
+fn push_missing(error: FieldLookupError<'_>, answer: &mut Answer) {
     match error {
-        FieldLookupError::NoSuchType => answer.status.push_str("1 no such type"),
+        FieldLookupError::NoSuchType => answer.status.put("1 no such type"),
         FieldLookupError::NoSuchField(name, ty) => push_type("1 no such field", name, ty, answer),
     }
 }
 
 /// Adds the status, and of which kind the type of this name is.
-fn push_type(
-    status: &str,
-    name: &Name,
-    ty: &ExtendedType,
-    answer: &mut Answer,
-) -> Result<(), AllocError> {
-    answer.status.push_str(status)?;
-    write!(answer.text, "{name} is {}\n", ty.describe())
+fn push_type(status: &str, name: &Name, ty: &ExtendedType, answer: &mut Answer) {
+    answer.status.put(status);
+    answer.text.show_between("", name, " is ");
+    answer.text.show_between("", &ty.describe(), "\n");
 }

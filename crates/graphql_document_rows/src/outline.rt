@@ -2,46 +2,36 @@
 
 use crate::lines::{push_field, push_inline, push_spread};
 use graphql_documents::{Selection, SelectionSet};
-use std::alloc::AllocError;
+use graphql_row_files::Lines;
 
 /// Adds the lines of the selections of a set, which stands so deep.
 #[cycle(outline)]
-pub(crate) fn push_set(
-    set: &SelectionSet,
-    depth: usize,
-    lines: &mut String,
-) -> Result<(), AllocError> {
+pub(crate) fn push_set(set: &SelectionSet, depth: usize, lines: &mut Lines) {
     for selection in &set.selections {
-        push_depth(depth, lines)?;
-        push_selection(selection, depth.saturating_add(1), lines)?;
+        push_depth(depth, lines);
+        push_selection(selection, depth.saturating_add(1), lines);
     }
-    Ok(())
 }
 
 /// Adds the line of a selection, and those of what is in it, so deep.
 #[cycle(outline)]
-fn push_selection(
-    selection: &Selection,
-    depth: usize,
-    lines: &mut String,
-) -> Result<(), AllocError> {
+fn push_selection(selection: &Selection, depth: usize, lines: &mut Lines) {
     match selection {
         Selection::Field(field) => {
-            push_field("", field.content(), lines)?;
-            push_set(&field.content().selection_set, depth, lines)
+            push_field("", field.content(), lines);
+            push_set(&field.content().selection_set, depth, lines);
         }
         Selection::FragmentSpread(spread) => push_spread(spread.content(), lines),
         Selection::InlineFragment(inline) => {
-            push_inline(inline.content(), lines)?;
-            push_set(&inline.content().selection_set, depth, lines)
+            push_inline(inline.content(), lines);
+            push_set(&inline.content().selection_set, depth, lines);
         }
     }
 }
 
 /// Adds two spaces for each level.
-fn push_depth(depth: usize, lines: &mut String) -> Result<(), AllocError> {
+fn push_depth(depth: usize, lines: &mut Lines) {
     for _ in 0..depth {
-        lines.push_str("  ")?;
+        lines.put("  ");
     }
-    Ok(())
 }

@@ -3,115 +3,103 @@
 use crate::parts::{field, int_node, interface_name, other_type_name, type_name};
 use crate::show::show;
 use graphql_fault_data::DiagnosticData;
+use graphql_row_files::Lines;
 use std::alloc::{AllocError, Global};
-use std::io;
 
-/// How many samples there are.
-const SAMPLES: u32 = 13;
-
-/// Prints what breaks the rules of documents.
-pub(crate) fn show_documents(rt: &HostRuntime) -> io::Result<()> {
-    for index in 0..SAMPLES {
-        if let Some((variant, data)) = sample(rt.alloc(), index)? {
-            show(rt, variant, data)?;
-        }
-    }
+/// Adds what breaks the rules of documents.
+pub(crate) fn show_documents(alloc: Global, lines: &mut Lines) -> Result<(), AllocError> {
+    show_float(alloc, lines)?;
+    show_variables(alloc, lines)?;
+    show_selections(lines);
+    show_targets(lines);
+    show_spreads(lines);
+    show_cycles(alloc, lines);
     Ok(())
 }
 
-/// The sample of that number, with its variant's name: what breaks a rule of documents. Where a fragment may have a
-/// name, it stands with one and without.
-fn sample(alloc: Global, index: u32) -> Result<Option<(&'static str, DiagnosticData)>, AllocError> {
-    Ok(Some(match index {
-        0 => {
-            let value = String::from_str(alloc, "1e999")?;
-            (
-                "FloatCoercionError",
-                DiagnosticData::FloatCoercionError { value },
-            )
-        }
-        1 => (
-            "UniqueVariable",
-            DiagnosticData::UniqueVariable {
-                name: type_name(),
-                original_definition: None,
-                redefined_definition: None,
-            },
-        ),
-        2 => {
-            let ty = int_node(alloc)?;
-            (
-                "VariableInputType",
-                DiagnosticData::VariableInputType {
-                    name: type_name(),
-                    ty,
-                    describe_type: "an object type",
-                },
-            )
-        }
-        3 => (
-            "UnusedVariable",
-            DiagnosticData::UnusedVariable { name: type_name() },
-        ),
-        4 => (
-            "MissingSubselection",
-            DiagnosticData::MissingSubselection {
-                coordinate: field(),
-                output_type: type_name(),
-                describe_type: "an object type",
-            },
-        ),
-        5 => (
-            "UndefinedFragment",
-            DiagnosticData::UndefinedFragment { name: type_name() },
-        ),
-        6 => (
-            "InvalidFragmentTarget",
-            DiagnosticData::InvalidFragmentTarget {
-                name: Some(type_name()),
-                ty: other_type_name(),
-            },
-        ),
-        7 => (
-            "InvalidFragmentTarget",
-            DiagnosticData::InvalidFragmentTarget {
-                name: None,
-                ty: other_type_name(),
-            },
-        ),
-        8 => (
-            "InvalidFragmentSpread",
-            DiagnosticData::InvalidFragmentSpread {
-                name: Some(type_name()),
-                type_name: other_type_name(),
-                type_condition: interface_name(),
-                fragment_location: None,
-                type_location: None,
-            },
-        ),
-        9 => (
-            "InvalidFragmentSpread",
-            DiagnosticData::InvalidFragmentSpread {
-                name: None,
-                type_name: other_type_name(),
-                type_condition: interface_name(),
-                fragment_location: None,
-                type_location: None,
-            },
-        ),
-        10 => (
-            "UnusedFragment",
-            DiagnosticData::UnusedFragment { name: type_name() },
-        ),
-        11 => (
-            "RecursiveFragmentDefinition",
-            DiagnosticData::RecursiveFragmentDefinition {
-                head_location: None,
-                name: type_name(),
-                trace: Vec::new(alloc),
-            },
-        ),
-        12 => ("RecursionError", DiagnosticData::RecursionError),
-        _ => return Ok(None),
-    }))
+/// Adds a number that is too large.
+fn show_float(alloc: Global, lines: &mut Lines) -> Result<(), AllocError> {
+    let value = String::from_str(alloc, "1e999")?;
+    let data = DiagnosticData::FloatCoercionError { value };
+    show(lines, "FloatCoercionError", data);
+    Ok(())
+}
+
+/// Adds what breaks the rules of variables.
+fn show_variables(alloc: Global, lines: &mut Lines) -> Result<(), AllocError> {
+    let ty = int_node(alloc)?;
+    let data = DiagnosticData::UniqueVariable {
+        name: type_name(),
+        original_definition: None,
+        redefined_definition: None,
+    };
+    show(lines, "UniqueVariable", data);
+    let data = DiagnosticData::VariableInputType {
+        name: type_name(),
+        ty,
+        describe_type: "an object type",
+    };
+    show(lines, "VariableInputType", data);
+    let data = DiagnosticData::UnusedVariable { name: type_name() };
+    show(lines, "UnusedVariable", data);
+    Ok(())
+}
+
+/// Adds a field without selections, and a spread without a fragment.
+fn show_selections(lines: &mut Lines) {
+    let data = DiagnosticData::MissingSubselection {
+        coordinate: field(),
+        output_type: type_name(),
+        describe_type: "an object type",
+    };
+    show(lines, "MissingSubselection", data);
+    let data = DiagnosticData::UndefinedFragment { name: type_name() };
+    show(lines, "UndefinedFragment", data);
+}
+
+/// Adds fragments on a type without fields, one with a name and one without.
+fn show_targets(lines: &mut Lines) {
+    let data = DiagnosticData::InvalidFragmentTarget {
+        name: Some(type_name()),
+        ty: other_type_name(),
+    };
+    show(lines, "InvalidFragmentTarget", data);
+    let data = DiagnosticData::InvalidFragmentTarget {
+        name: None,
+        ty: other_type_name(),
+    };
+    show(lines, "InvalidFragmentTarget", data);
+}
+
+/// Adds fragments that no type of their place can be, one with a name and one without.
+fn show_spreads(lines: &mut Lines) {
+    let data = DiagnosticData::InvalidFragmentSpread {
+        name: Some(type_name()),
+        type_name: other_type_name(),
+        type_condition: interface_name(),
+        fragment_location: None,
+        type_location: None,
+    };
+    show(lines, "InvalidFragmentSpread", data);
+    let data = DiagnosticData::InvalidFragmentSpread {
+        name: None,
+        type_name: other_type_name(),
+        type_condition: interface_name(),
+        fragment_location: None,
+        type_location: None,
+    };
+    show(lines, "InvalidFragmentSpread", data);
+}
+
+/// Adds a fragment that is not used, one that spreads itself, and a walk that is too deep.
+fn show_cycles(alloc: Global, lines: &mut Lines) {
+    let data = DiagnosticData::UnusedFragment { name: type_name() };
+    show(lines, "UnusedFragment", data);
+    let data = DiagnosticData::RecursiveFragmentDefinition {
+        head_location: None,
+        name: type_name(),
+        trace: Vec::new(alloc),
+    };
+    show(lines, "RecursiveFragmentDefinition", data);
+    show(lines, "RecursionError", DiagnosticData::RecursionError);
 }

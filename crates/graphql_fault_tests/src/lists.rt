@@ -8,60 +8,71 @@ use graphql_faults::{CommaSeparated, Details, DiagnosticList, NameOrAnon};
 use graphql_folding::BuildError as SchemaError;
 use graphql_names::Name;
 use graphql_read::SyntaxFaultKind;
-use std::io;
+use graphql_row_files::Lines;
+use std::alloc::{AllocError, Global};
 
-/// Prints details of each kind.
-pub(crate) fn show_kinds(rt: &HostRuntime) -> io::Result<()> {
-    show_details(rt, "Syntax", Details::Syntax(SyntaxFaultKind::NoToken))?;
-    show_details(rt, "Syntax", Details::Syntax(SyntaxFaultKind::Unexpected))?;
-    show_details(rt, "Syntax", Details::Syntax(SyntaxFaultKind::End))?;
-    show_details(rt, "Nesting", Details::Nesting)?;
-    show_details(rt, "Spent", Details::Spent)?;
-    show_details(rt, "RecursionLimitError", Details::RecursionLimitError)?;
-    show_built(rt)?;
+/// Adds details of each kind.
+pub(crate) fn show_kinds(lines: &mut Lines) {
+    show_details(lines, "Syntax", Details::Syntax(SyntaxFaultKind::NoToken));
+    show_details(
+        lines,
+        "Syntax",
+        Details::Syntax(SyntaxFaultKind::Unexpected),
+    );
+    show_details(lines, "Syntax", Details::Syntax(SyntaxFaultKind::End));
+    show_details(lines, "Nesting", Details::Nesting);
+    show_details(lines, "Spent", Details::Spent);
+    show_details(lines, "RecursionLimitError", Details::RecursionLimitError);
+    show_built(lines);
     let unused = DiagnosticData::UnusedVariable { name: type_name() };
-    show_details(rt, "Data", Details::Data(unused))
+    show_details(lines, "Data", Details::Data(unused));
 }
 
-/// Prints details of an error of folding, and of one of typing.
-fn show_built(rt: &HostRuntime) -> io::Result<()> {
+/// Adds details of an error of folding, and of one of typing.
+fn show_built(lines: &mut Lines) {
     let collision = SchemaError::TypeDefinitionCollision { name: type_name() };
-    show_details(rt, "SchemaBuild", Details::SchemaBuild(collision))?;
+    show_details(lines, "SchemaBuild", Details::SchemaBuild(collision));
     let collision = DocumentError::FragmentNameCollision { name: type_name() };
-    show_details(rt, "DocumentBuild", Details::DocumentBuild(collision))
+    show_details(lines, "DocumentBuild", Details::DocumentBuild(collision));
 }
 
-/// Prints a list of two, of which one is a copy, behind its length.
-pub(crate) fn show_list(rt: &HostRuntime) -> io::Result<()> {
-    let mut list = DiagnosticList::new(rt.alloc());
+/// Adds a list of two, of which one is a copy, behind its length.
+pub(crate) fn show_list(alloc: Global, lines: &mut Lines) -> Result<(), AllocError> {
+    let mut list = DiagnosticList::new(alloc);
     list.push(None, Details::Nesting)?;
     let unused = Fault {
         location: None,
         data: DiagnosticData::UnusedFragment { name: type_name() },
     };
     list.push_fault(unused.clone()?)?;
-    println!(rt; "DiagnosticList: {}", list.len())?;
+    lines.show_between("DiagnosticList: ", &list.len(), "\n");
     for diagnostic in list.iter() {
-        println!(rt; "- {}", diagnostic.1)?;
+        lines.show_between("- ", &diagnostic.1, "\n");
     }
     Ok(())
 }
 
-/// Prints names in words: three of them, one, none, and what stands in the place of one.
-pub(crate) fn show_words(rt: &HostRuntime) -> io::Result<()> {
+/// Adds names in words: three of them, one, none, and what stands in the place of one.
+pub(crate) fn show_words(lines: &mut Lines) {
     let names = [type_name(), other_type_name(), field_name()];
-    println!(rt; "CommaSeparated: [{}]", CommaSeparated(&names[..]))?;
-    println!(rt; "CommaSeparated: [{}]", CommaSeparated(&names[..1]))?;
-    println!(rt; "CommaSeparated: [{}]", CommaSeparated(&names[..0]))?;
-    println!(rt; "NameOrAnon: {}", fragment(Some(&names[0])))?;
-    println!(rt; "NameOrAnon: {}", fragment(None))
+    show_names(lines, &names[..]);
+    show_names(lines, &names[..1]);
+    show_names(lines, &names[..0]);
+    show_fragment(lines, Some(&names[0]));
+    show_fragment(lines, None);
 }
 
-/// A fragment by its name, or without one.
-fn fragment(name: Option<&Name>) -> NameOrAnon<'_, Name> {
-    NameOrAnon {
+/// Adds the names with commas between them.
+fn show_names(lines: &mut Lines, names: &[Name]) {
+    lines.show_between("CommaSeparated: [", &CommaSeparated(names), "]\n");
+}
+
+/// Adds a fragment by its name, or without one.
+fn show_fragment(lines: &mut Lines, name: Option<&Name>) {
+    let words = NameOrAnon {
         name,
         if_some_prefix: "fragment",
         if_none: "inline fragment",
-    }
+    };
+    lines.show_between("NameOrAnon: ", &words, "\n");
 }

@@ -8,12 +8,23 @@ mod merging;
 mod parts;
 mod show;
 
+use graphql_row_files::Lines;
+use std::alloc::{AllocError, Global};
 use std::io;
 
 fn main(rt: HostRuntime) -> io::Result<()> {
-    documents::show_documents(&rt)?;
-    lists::show_kinds(&rt)?;
-    merging::show_merging(&rt)?;
-    lists::show_list(&rt)?;
-    lists::show_words(&rt)
+    let mut lines = Lines::new(rt.alloc());
+    show_all(rt.alloc(), &mut lines)?;
+    let text = lines.as_str();
+    print!(rt; "{text}")
+}
+
+/// Adds each.
+fn show_all(alloc: Global, lines: &mut Lines) -> Result<(), AllocError> {
+    documents::show_documents(alloc, lines)?;
+    lists::show_kinds(lines);
+    merging::show_merging(alloc, lines)?;
+    lists::show_list(alloc, lines)?;
+    lists::show_words(lines);
+    Ok(())
 }

@@ -7,81 +7,62 @@ use graphql_document_faults::{
 };
 use graphql_faults::Details;
 use graphql_operations::OperationType;
+use graphql_row_files::Lines;
 use std::alloc::{AllocError, Global};
-use std::io;
 
-/// How many samples there are.
-const SAMPLES: u32 = 10;
-
-/// Prints what breaks the rules of merging, of subscriptions and of `@defer`.
-pub(crate) fn show_merging(rt: &HostRuntime) -> io::Result<()> {
-    for index in 0..SAMPLES {
-        if let Some((variant, error)) = sample(rt.alloc(), index)? {
-            show_details(rt, variant, Details::DocumentBuild(error))?;
-        }
-    }
-    Ok(())
+/// Adds what breaks the rules of merging, of subscriptions and of `@defer`.
+pub(crate) fn show_merging(alloc: Global, lines: &mut Lines) -> Result<(), AllocError> {
+    let fault = Box::new(alloc, conflicting_name())?;
+    let error = BuildError::ConflictingFieldName(fault);
+    show(lines, "ConflictingFieldName", error);
+    let fault = Box::new(alloc, conflicting_argument())?;
+    let error = BuildError::ConflictingFieldArgument(fault);
+    show(lines, "ConflictingFieldArgument", error);
+    let fault = Box::new(alloc, conflicting_type())?;
+    let error = BuildError::ConflictingFieldType(fault);
+    show(lines, "ConflictingFieldType", error);
+    show_subscriptions(alloc, lines);
+    show_defer(alloc, lines)
 }
 
-/// The sample of that number, with its variant's name: what breaks such a rule.
-fn sample(alloc: Global, index: u32) -> Result<Option<(&'static str, BuildError)>, AllocError> {
-    Ok(Some(match index {
-        0 => (
-            "ConflictingFieldName",
-            BuildError::ConflictingFieldName(Box::new(alloc, conflicting_name())?),
-        ),
-        1 => (
-            "ConflictingFieldArgument",
-            BuildError::ConflictingFieldArgument(Box::new(alloc, conflicting_argument())?),
-        ),
-        2 => (
-            "ConflictingFieldType",
-            BuildError::ConflictingFieldType(Box::new(alloc, conflicting_type())?),
-        ),
-        3 => (
-            "SubscriptionUsesMultipleFields",
-            BuildError::SubscriptionUsesMultipleFields {
-                name: None,
-                fields: Vec::new(alloc),
-            },
-        ),
-        4 => (
-            "SubscriptionUsesIntrospection",
-            BuildError::SubscriptionUsesIntrospection {
-                name: None,
-                field: reserved_name(),
-            },
-        ),
-        5 => (
-            "SubscriptionUsesConditionalSelection",
-            BuildError::SubscriptionUsesConditionalSelection { name: None },
-        ),
-        6 => (
-            "DeferLabelMustNotBeVariable",
-            BuildError::DeferLabelMustNotBeVariable,
-        ),
-        7 => {
-            let label = String::from_str(alloc, "l")?;
-            (
-                "DuplicateDeferLabel",
-                BuildError::DuplicateDeferLabel {
-                    label,
-                    original_location: None,
-                },
-            )
-        }
-        8 => (
-            "DeferOnRootMutationOrSubscriptionField",
-            BuildError::DeferOnRootMutationOrSubscriptionField {
-                operation_type: OperationType::Subscription,
-            },
-        ),
-        9 => (
-            "DeferInSubscriptionMustBeConditional",
-            BuildError::DeferInSubscriptionMustBeConditional,
-        ),
-        _ => return Ok(None),
-    }))
+/// Adds what the error tells, behind the name of its variant.
+fn show(lines: &mut Lines, variant: &str, error: BuildError) {
+    show_details(lines, variant, Details::DocumentBuild(error));
+}
+
+/// Adds what breaks the rules of subscriptions.
+fn show_subscriptions(alloc: Global, lines: &mut Lines) {
+    let error = BuildError::SubscriptionUsesMultipleFields {
+        name: None,
+        fields: Vec::new(alloc),
+    };
+    show(lines, "SubscriptionUsesMultipleFields", error);
+    let error = BuildError::SubscriptionUsesIntrospection {
+        name: None,
+        field: reserved_name(),
+    };
+    show(lines, "SubscriptionUsesIntrospection", error);
+    let error = BuildError::SubscriptionUsesConditionalSelection { name: None };
+    show(lines, "SubscriptionUsesConditionalSelection", error);
+}
+
+/// Adds what breaks the rules of `@defer`.
+fn show_defer(alloc: Global, lines: &mut Lines) -> Result<(), AllocError> {
+    let label = String::from_str(alloc, "l")?;
+    let error = BuildError::DeferLabelMustNotBeVariable;
+    show(lines, "DeferLabelMustNotBeVariable", error);
+    let error = BuildError::DuplicateDeferLabel {
+        label,
+        original_location: None,
+    };
+    show(lines, "DuplicateDeferLabel", error);
+    let error = BuildError::DeferOnRootMutationOrSubscriptionField {
+        operation_type: OperationType::Subscription,
+    };
+    show(lines, "DeferOnRootMutationOrSubscriptionField", error);
+    let error = BuildError::DeferInSubscriptionMustBeConditional;
+    show(lines, "DeferInSubscriptionMustBeConditional", error);
+    Ok(())
 }
 
 /// Two fields of one name that are different fields.

@@ -2,17 +2,26 @@
 
 use graphql_fault_data::DiagnosticData;
 use graphql_faults::Details;
-use std::io;
+use graphql_row_files::Lines;
 
-/// Prints what the data tell, behind the name of their variant, and what a copy of them tells.
-pub(crate) fn show(rt: &HostRuntime, variant: &str, data: DiagnosticData) -> io::Result<()> {
-    println!(rt; "{variant}: {data}")?;
-    let copy = data.clone()?;
-    let verdict = if copy == data { "equal" } else { "unequal" };
-    println!(rt; "- {verdict} copy: {copy}")
+/// Adds what the data tell, behind the name of their variant, and what a copy of them tells.
+pub(crate) fn show(lines: &mut Lines, variant: &str, data: DiagnosticData) {
+    lines.show_between(variant, &": ", "");
+    lines.show_between("", &data, "\n");
+    match data.clone() {
+        Ok(copy) => show_copy(lines, &copy, copy == data),
+        Err(_refused) => lines.put("- no copy\n"),
+    }
 }
 
-/// Prints what the details tell, behind the name of their variant.
-pub(crate) fn show_details(rt: &HostRuntime, variant: &str, details: Details) -> io::Result<()> {
-    println!(rt; "{variant}: {details}")
+/// Adds what a copy tells, and whether it equals what was copied.
+fn show_copy(lines: &mut Lines, copy: &DiagnosticData, is_equal: bool) {
+    lines.put(if is_equal { "- equal" } else { "- unequal" });
+    lines.show_between(" copy: ", copy, "\n");
+}
+
+/// Adds what the details tell, behind the name of their variant.
+pub(crate) fn show_details(lines: &mut Lines, variant: &str, details: Details) {
+    lines.show_between(variant, &": ", "");
+    lines.show_between("", &details, "\n");
 }

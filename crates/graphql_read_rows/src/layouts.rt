@@ -4,8 +4,8 @@ use crate::print::{Form, form_named, laid_out};
 use graphql_definitions::Document;
 use graphql_names::FileId;
 use graphql_read::parse_document;
-use graphql_row_files::{Answer, Case, Problem, Tally, Way, compare, text_of};
-use std::alloc::{AllocError, Global};
+use graphql_row_files::{Answer, Case, Lines, Problem, Tally, Way, compare, text_of};
+use std::alloc::Global;
 
 /// The layouts, by their words.
 const LAYOUTS: [&str; 4] = ["line", "two", "four", "tab"];
@@ -31,7 +31,7 @@ fn by_layout(
     input: &[u8],
     tally: &mut Tally,
 ) -> Result<(), Problem> {
-    push_answer(alloc, text_of(case, input)?, layout, &mut tally.answer)?;
+    push_answer(alloc, text_of(case, input)?, layout, &mut tally.answer);
     let out = match layout {
         "line" => flat,
         "two" => case.out,
@@ -45,29 +45,19 @@ fn by_layout(
 }
 
 /// Adds what is printed of the text under the layout, and whether that reads as it was and is printed alike.
-fn push_answer(
-    alloc: Global,
-    text: &str,
-    layout: &str,
-    answer: &mut Answer,
-) -> Result<(), AllocError> {
+fn push_answer(alloc: Global, text: &str, layout: &str, answer: &mut Answer) {
     let form = form_named(layout).unwrap_or(Form::Unsaid);
     match parse_document(alloc, text, FileId(1), usize::MAX) {
         Ok(document) => push_printed(alloc, &document, form, answer),
-        Err(_) => answer.status.push_str("1 the input is not read"),
+        Err(_) => answer.status.put("1 the input is not read"),
     }
 }
 
 /// Adds what is printed of the document, and whether that reads as it and is printed alike.
-fn push_printed(
-    alloc: Global,
-    document: &Document,
-    form: Form,
-    answer: &mut Answer,
-) -> Result<(), AllocError> {
-    answer.show("", &laid_out(document, form, 0))?;
-    let status = read_again(alloc, document, form, &answer.text);
-    answer.status.push_str(status)
+fn push_printed(alloc: Global, document: &Document, form: Form, answer: &mut Answer) {
+    answer.text.show(&laid_out(document, form, 0));
+    let status = read_again(alloc, document, form, answer.text.as_str());
+    answer.status.put(status);
 }
 
 /// Whether what is printed of the document reads as it, places aside, and is printed alike.
@@ -81,9 +71,11 @@ fn read_again(alloc: Global, document: &Document, form: Form, printed: &str) -> 
 
 /// Whether the document that was read again is printed alike.
 fn printed_twice(alloc: Global, again: &Document, form: Form, printed: &str) -> &'static str {
-    match laid_out(again, form, 0).to_string(alloc) {
-        Ok(twice) if twice.as_str() == printed => "0",
-        Ok(_) => "1 what was read again is printed otherwise",
-        Err(_) => "4 out of memory",
+    let mut twice = Lines::new(alloc);
+    twice.show(&laid_out(again, form, 0));
+    if twice.as_str() == printed {
+        "0"
+    } else {
+        "1 what was read again is printed otherwise"
     }
 }

@@ -2,9 +2,9 @@
 
 use graphql_printing::{Cause, Serialize, Tree, WriteFault};
 use graphql_row_files::{
-    Answer, Case, Plan, Problem, Tally, Way, compare, compare_cut, device, number,
+    Answer, Case, Lines, Plan, Problem, Tally, Way, compare, compare_cut, device, number,
 };
-use std::alloc::{AllocError, Global};
+use std::alloc::Global;
 
 /// How a tree is laid out.
 #[derive(Clone, Copy)]
@@ -61,11 +61,11 @@ pub(crate) fn judge_tree<T: Tree>(
     if case.call == "print" {
         return prints(alloc, case, tree, tally);
     }
-    tally.answer.status.push_str(if is_writable {
+    tally.answer.status.put(if is_writable {
         "0 writable"
     } else {
         "1 not writable"
-    })?;
+    });
     compare(case, Way::whole("is_writable", &[], 0), tally)
 }
 
@@ -76,9 +76,9 @@ fn prints<T: Tree>(
     tree: &T,
     tally: &mut Tally,
 ) -> Result<(), Problem> {
-    let shown = laid_out(tree, form_of(case)?, number(case.row, "level", 0)?);
+    let shown = laid_out(tree, form_of(case)?, number(case.row, "level", "0")?);
     if case.status == "0" {
-        tally.answer.show("0", &shown)?;
+        tally.answer.show("0", &shown);
         compare(case, Way::whole("print by Display", &[], 0), tally)?;
     }
     for plan in &case.given.plans {
@@ -95,7 +95,7 @@ fn writes<T: Tree>(
     plan: Plan,
     tally: &mut Tally,
 ) -> Result<(), Problem> {
-    write_by(shown, plan, &mut tally.answer)?;
+    write_by(shown, plan, &mut tally.answer);
     let way = Way {
         plan,
         ..Way::whole("print by write_to", &[], 0)
@@ -104,26 +104,26 @@ fn writes<T: Tree>(
 }
 
 /// Writes the text by the plan, and adds the status of that.
-fn write_by<T: Tree>(
-    shown: Serialize<'_, T>,
-    plan: Plan,
-    answer: &mut Answer,
-) -> Result<(), AllocError> {
+fn write_by<T: Tree>(shown: Serialize<'_, T>, plan: Plan, answer: &mut Answer) {
     let mut writer = device(&mut answer.written, plan, plan.write);
     let written = shown.write_to(&mut writer);
-    if writer.failed() != written.is_err() {
-        return answer
+    if writer.failed() == written.is_err() {
+        push_written(written, &mut answer.status);
+    } else {
+        answer
             .status
-            .push_str("the device tells otherwise than the answer");
+            .put("the device tells otherwise than the answer");
     }
-    match written {
-        Ok(()) => answer.status.push_str("0"),
-        Err(
-            WriteFault {
-                cause: Cause::Writer,
-                out,
-            },
-        ) => write!(answer.status, "3 output failed {out}"),
-        Err(WriteFault { out, .. }) => write!(answer.status, "3 too long {out}"),
-    }
+}
+
+/// Adds the status of a text that is written.
+fn push_written(written: Result<(), WriteFault>, status: &mut Lines) {
+    let Err(WriteFault { cause, out }) = written else {
+        return status.put("0");
+    };
+    let words = match cause {
+        Cause::Writer => "3 output failed ",
+        _ => "3 too long ",
+    };
+    status.show_between(words, &out, "");
 }

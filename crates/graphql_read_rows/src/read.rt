@@ -4,10 +4,11 @@ use graphql_names::FileId;
 use graphql_operations::Selection;
 use graphql_printing::Tree;
 use graphql_read::{
-    NextToken, ReadFault, SyntaxFaultKind, next_token, parse_document, parse_selections, parse_type,
+    NextToken, ReadFault, SyntaxFaultKind, Token, next_token, parse_document, parse_selections,
+    parse_type,
 };
-use graphql_row_files::{Answer, Case, Problem, Tally, Way, compare, text_of};
-use std::alloc::{AllocError, Global};
+use graphql_row_files::{Answer, Case, Lines, Problem, Tally, Way, compare, text_of};
+use std::alloc::Global;
 
 /// Judges the row: each of its inputs, under each of its limits.
 pub(crate) fn by_read(alloc: Global, case: Case<'_>, tally: &mut Tally) -> Result<(), Problem> {
@@ -28,7 +29,7 @@ fn by_input(
     tally: &mut Tally,
 ) -> Result<(), Problem> {
     let text = text_of(case, input)?;
-    push_answer(alloc, case.call, text, nesting, &mut tally.answer)?;
+    push_answer(alloc, case.call, text, nesting, &mut tally.answer);
     let (status, out) = if case.status == "0 as it stands" {
         ("0", input)
     } else {
@@ -43,13 +44,7 @@ fn by_input(
 }
 
 /// Adds the answer of the call.
-fn push_answer(
-    alloc: Global,
-    call: &str,
-    text: &str,
-    nesting: usize,
-    answer: &mut Answer,
-) -> Result<(), AllocError> {
+fn push_answer(alloc: Global, call: &str, text: &str, nesting: usize, answer: &mut Answer) {
     match call {
         "parse_type" => push_type(alloc, text, nesting, answer),
         "parse_selections" => push_selections(alloc, text, nesting, answer),
@@ -59,12 +54,7 @@ fn push_answer(
 }
 
 /// Adds what a document that is read prints on one line.
-fn push_document(
-    alloc: Global,
-    text: &str,
-    nesting: usize,
-    answer: &mut Answer,
-) -> Result<(), AllocError> {
+fn push_document(alloc: Global, text: &str, nesting: usize, answer: &mut Answer) {
     match parse_document(alloc, text, FileId(1), nesting) {
         Ok(document) => answer.show("0", &document.serialize().no_indent()),
         Err(fault) => push_fault(fault, &mut answer.status),
@@ -72,12 +62,7 @@ fn push_document(
 }
 
 /// Adds what a type that is read prints.
-fn push_type(
-    alloc: Global,
-    text: &str,
-    nesting: usize,
-    answer: &mut Answer,
-) -> Result<(), AllocError> {
+fn push_type(alloc: Global, text: &str, nesting: usize, answer: &mut Answer) {
     match parse_type(alloc, text, FileId(1), nesting) {
         Ok(ty) => answer.show("0", &ty),
         Err(fault) => push_fault(fault, &mut answer.status),
@@ -85,12 +70,7 @@ fn push_type(
 }
 
 /// Adds what each selection that is read prints on a line of its own.
-fn push_selections(
-    alloc: Global,
-    text: &str,
-    nesting: usize,
-    answer: &mut Answer,
-) -> Result<(), AllocError> {
+fn push_selections(alloc: Global, text: &str, nesting: usize, answer: &mut Answer) {
     match parse_selections(alloc, text, FileId(1), nesting) {
         Ok(selections) => push_lines(&selections, answer),
         Err(fault) => push_fault(fault, &mut answer.status),
@@ -98,57 +78,60 @@ fn push_selections(
 }
 
 /// Adds each selection on a line of its own.
-fn push_lines(selections: &[Selection], answer: &mut Answer) -> Result<(), AllocError> {
+fn push_lines(selections: &[Selection], answer: &mut Answer) {
     for selection in selections {
-        write!(answer.text, "{}\n", selection.serialize().no_indent())?;
+        let shown = selection.serialize().no_indent();
+        answer.text.show_between("", &shown, "\n");
     }
-    answer.status.push_str("0")
+    answer.status.put("0");
 }
 
 /// Adds a fault and its place.
-fn push_fault(fault: ReadFault, status: &mut String) -> Result<(), AllocError> {
+fn push_fault(fault: ReadFault, status: &mut Lines) {
     match fault {
         ReadFault::Syntax(fault) => push_place(kind_words(fault.kind), fault.offset, status),
-        ReadFault::Nesting { offset } => push_place("nesting", offset, status),
-        ReadFault::Memory => status.push_str("4 out of memory"),
+        ReadFault::Nesting { offset } => push_place("1 nesting ", offset, status),
+        ReadFault::Memory => status.put("4 out of memory"),
     }
 }
 
 /// Adds these words and a place.
-fn push_place(words: &str, offset: usize, status: &mut String) -> Result<(), AllocError> {
-    write!(status, "1 {words} {offset}")
+fn push_place(words: &str, offset: usize, status: &mut Lines) {
+    status.show_between(words, &offset, "");
 }
 
 /// A fault of the tokens in words.
 fn kind_words(kind: SyntaxFaultKind) -> &'static str {
     match kind {
-        SyntaxFaultKind::NoToken => "no token",
-        SyntaxFaultKind::Unexpected => "unexpected",
-        SyntaxFaultKind::End => "end",
+        SyntaxFaultKind::NoToken => "1 no token ",
+        SyntaxFaultKind::Unexpected => "1 unexpected ",
+        SyntaxFaultKind::End => "1 end ",
     }
 }
 
 /// Adds the offset, the kind and the text of each token on a line of its own, up to the end or to where none starts, and
 /// the place of that.
-fn push_tokens(text: &str, answer: &mut Answer) -> Result<(), AllocError> {
+fn push_tokens(text: &str, answer: &mut Answer) {
     let mut at = 0;
     for _ in 0..=text.len() {
         match token_at(text, at) {
             NextToken::Token(token) => {
-                write!(
-                    answer.text,
-                    "{} {:?} {}\n",
-                    token.offset, token.kind, token.text
-                )?;
+                push_token(token, &mut answer.text);
                 at = token.offset.saturating_add(token.text.len());
             }
-            NextToken::End => return answer.status.push_str("0"),
+            NextToken::End => return answer.status.put("0"),
             NextToken::NoToken(offset) => {
-                return push_place("no token", offset, &mut answer.status);
+                return push_place("1 no token ", offset, &mut answer.status);
             }
         }
     }
-    push_place("no token", at, &mut answer.status)
+}
+
+/// Adds the offset, the kind and the text of a token.
+fn push_token(token: Token<'_>, lines: &mut Lines) {
+    lines.show_between("", &token.offset, " ");
+    lines.debug(&token.kind);
+    lines.show_between(" ", &token.text, "\n");
 }
 
 /// The next token from this offset on.

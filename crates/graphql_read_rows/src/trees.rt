@@ -6,50 +6,61 @@ use graphql_directives::{Directive, DirectiveDefinition, DirectiveList};
 use graphql_names::{FileId, Name, Node};
 use graphql_operations::{FragmentDefinition, OperationDefinition};
 use graphql_read::{parse_document, parse_type};
-use graphql_row_files::{Case, Field, Problem, Tally, read_of, text_of};
+use graphql_row_files::{Case, Field, Problem, Tally, text_of};
 use std::alloc::{AllocError, Global};
 
 /// Judges what the row asks of the tree that it names: what is printed of it, or whether it is writable.
 pub(crate) fn by_tree(alloc: Global, case: Case<'_>, tally: &mut Tally) -> Result<(), Problem> {
     let field = case.row.needed("tree")?;
     match field.value {
-        "directive without locations" => {
-            let tree = directive(alloc);
-            judge_tree(alloc, case, &tree, tree.is_writable(), tally)
-        }
-        "document without definitions" => {
-            let tree = Document::new(alloc);
-            judge_tree(alloc, case, &tree, tree.is_writable(), tally)
-        }
-        "type" => by_type(alloc, case, input_of(case)?, tally),
-        _ => by_document(alloc, case, field, input_of(case)?, tally),
+        "directive without locations" => by_directive(alloc, case, tally),
+        "document without definitions" => by_no_definitions(alloc, case, tally),
+        _ => by_text(alloc, case, field, tally),
     }
 }
 
-/// `directive @d on`
-fn directive(alloc: Global) -> DirectiveDefinition {
-    DirectiveDefinition {
+/// Judges what the row asks of `directive @d on`.
+fn by_directive(alloc: Global, case: Case<'_>, tally: &mut Tally) -> Result<(), Problem> {
+    let tree = DirectiveDefinition {
         description: None,
         name: Name::new_static_unchecked("d"),
         arguments: Vec::new(alloc),
         repeatable: false,
         locations: Vec::new(alloc),
-    }
+    };
+    judge_tree(alloc, case, &tree, tree.is_writable(), tally)
 }
 
-/// The row's input, which must be one.
-fn input_of<'a>(case: Case<'a>) -> Result<&'a [u8], Problem> {
-    match case.given.inputs.as_slice() {
-        [input] => Ok(input.as_slice()),
-        _ => Err(case.row.head.problem("this tree has one input")),
+/// Judges what the row asks of the document without definitions.
+fn by_no_definitions(alloc: Global, case: Case<'_>, tally: &mut Tally) -> Result<(), Problem> {
+    let tree = Document::new(alloc);
+    judge_tree(alloc, case, &tree, tree.is_writable(), tally)
+}
+
+/// Judges what the row asks of its one input, which is read as a type or as a document.
+fn by_text(
+    alloc: Global,
+    case: Case<'_>,
+    field: Field<'_>,
+    tally: &mut Tally,
+) -> Result<(), Problem> {
+    let [input] = case.given.inputs.as_slice() else {
+        return Err(field.problem("this tree has one input"));
+    };
+    let text = text_of(case, input)?;
+    if field.value == "type" {
+        by_type(alloc, case, text, tally)
+    } else {
+        by_document(alloc, case, field, text, tally)
     }
 }
 
 /// Judges what the row asks of its input, read as a type.
-fn by_type(alloc: Global, case: Case<'_>, input: &[u8], tally: &mut Tally) -> Result<(), Problem> {
-    let text = text_of(case, input)?;
-    let tree = read_of(case, parse_type(alloc, text, FileId(1), 500))?;
-    judge_tree(alloc, case, &tree, tree.is_writable(), tally)
+fn by_type(alloc: Global, case: Case<'_>, text: &str, tally: &mut Tally) -> Result<(), Problem> {
+    match parse_type(alloc, text, FileId(1), 500) {
+        Ok(tree) => judge_tree(alloc, case, &tree, tree.is_writable(), tally),
+        Err(_) => Err(case.row.head.problem("the input is not read")),
+    }
 }
 
 /// Judges what the row asks of its input, read as a document.
@@ -57,12 +68,13 @@ fn by_document(
     alloc: Global,
     case: Case<'_>,
     field: Field<'_>,
-    input: &[u8],
+    text: &str,
     tally: &mut Tally,
 ) -> Result<(), Problem> {
-    let text = text_of(case, input)?;
-    let document = read_of(case, parse_document(alloc, text, FileId(1), 500))?;
-    by_part(alloc, case, field, &document, tally)
+    match parse_document(alloc, text, FileId(1), 500) {
+        Ok(document) => by_part(alloc, case, field, &document, tally),
+        Err(_) => Err(case.row.head.problem("the input is not read")),
+    }
 }
 
 /// Judges what the row asks of the document, or of its first definition.

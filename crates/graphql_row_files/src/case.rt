@@ -1,16 +1,17 @@
 //! Answers, and whether they are as a row wants them.
 
 use crate::given::Given;
+use crate::lines::Lines;
 use crate::plan::{Plan, whole};
 use crate::problem::Problem;
 use crate::row_file::Row;
-use std::alloc::{AllocError, Global};
+use std::alloc::Global;
 use std::fmt::Display;
 
 /// What a call answers: the status in words, and the output, which is a text or what a writer took.
 pub struct Answer {
-    pub status: String,
-    pub text: String,
+    pub status: Lines,
+    pub text: Lines,
     pub written: Vec<u8>,
 }
 
@@ -26,18 +27,35 @@ impl Drop for Answer {
 
 impl Answer {
     /// Adds this status, and the text that is shown.
-    pub fn show<T: Display>(&mut self, status: &str, shown: &T) -> Result<(), AllocError> {
-        self.status.push_str(status)?;
-        write!(self.text, "{shown}")
+    pub fn show<T: Display>(&mut self, status: &str, shown: &T) {
+        self.status.put(status);
+        self.text.show(shown);
     }
 
     /// The bytes of the output.
     fn out(&self) -> &[u8] {
-        if self.text.is_empty() {
+        let text = self.text.as_str();
+        if text.is_empty() {
             self.written.as_slice()
         } else {
-            self.text.as_bytes()
+            text.as_bytes()
         }
+    }
+
+    /// Whether it is as the row wants it.
+    fn is_wanted(&self, case: Case<'_>) -> bool {
+        self.status.as_str() == case.status && self.out() == case.out
+    }
+
+    /// Makes it empty. It is no answer where memory was refused.
+    fn clear(&mut self) -> Result<(), Problem> {
+        self.status.clear();
+        self.text.clear();
+        self.written.clear();
+        if self.status.is_refused() || self.text.is_refused() {
+            return Err(Problem::Memory);
+        }
+        Ok(())
     }
 }
 
@@ -82,8 +100,12 @@ pub struct Tally {
     pub differences: u64,
     /// What the call answers, until it is compared.
     pub answer: Answer,
-    /// The first difference of the row, in lines, or nothing.
-    pub told: String,
+    /// The differences, of a row the first one, and what is wrong with files, in lines.
+    pub told: Lines,
+    /// Whether a difference of this row is told.
+    pub is_row_told: bool,
+    /// Whether rows were not judged, since a file is not as it must be.
+    pub is_stopped: bool,
 }
 
 impl Drop for Tally {
@@ -95,6 +117,8 @@ impl Drop for Tally {
             differences: _,
             answer: _,
             told: _,
+            is_row_told: _,
+            is_stopped: _,
         } = self;
     }
 }
@@ -108,11 +132,13 @@ impl Tally {
             answers: 0,
             differences: 0,
             answer: Answer {
-                status: String::new(alloc),
-                text: String::new(alloc),
+                status: Lines::new(alloc),
+                text: Lines::new(alloc),
                 written: Vec::new(alloc),
             },
-            told: String::new(alloc),
+            told: Lines::new(alloc),
+            is_row_told: false,
+            is_stopped: false,
         }
     }
 }
@@ -121,50 +147,50 @@ impl Tally {
 /// answer.
 pub fn compare(case: Case<'_>, way: Way<'_>, tally: &mut Tally) -> Result<(), Problem> {
     tally.answers = tally.answers.saturating_add(1);
-    if tally.answer.status.as_str() != case.status || tally.answer.out() != case.out {
+    if !tally.answer.is_wanted(case) {
         tally.differences = tally.differences.saturating_add(1);
-        if tally.told.is_empty() {
-            tell_difference(case, way, &tally.answer, &mut tally.told)?;
+        if !tally.is_row_told {
+            tell_difference(case, way, &tally.answer, &mut tally.told);
         }
+        tally.is_row_told = true;
     }
-    tally.answer.status.clear();
-    tally.answer.text.clear();
-    tally.answer.written.clear();
-    Ok(())
+    tally.answer.clear()
 }
 
 /// Tells of a difference: which row it is, in which way it was run, what was wanted and what came.
-fn tell_difference(
-    case: Case<'_>,
-    way: Way<'_>,
-    answer: &Answer,
-    told: &mut String,
-) -> Result<(), AllocError> {
+fn tell_difference(case: Case<'_>, way: Way<'_>, answer: &Answer, told: &mut Lines) {
     let head = case.row.head;
-    write!(told, "{}:{}: {}\n", case.file, head.line, head.value)?;
-    tell_way(way, told)?;
-    tell_answer("wanted", case.status, case.out, told)?;
-    tell_answer("got", answer.status.as_str(), answer.out(), told)
+    tell_place(case.file, head.line, head.value, told);
+    tell_way(way, told);
+    tell_answer("  wanted: ", case.status, case.out, told);
+    tell_answer("  got: ", answer.status.as_str(), answer.out(), told);
 }
 
-/// Tells in which way it was run, and where devices end.
-fn tell_way(way: Way<'_>, told: &mut String) -> Result<(), AllocError> {
+/// Tells of a place in a file.
+pub(crate) fn tell_place(file: &str, line: usize, what: &str, told: &mut Lines) {
+    told.show_between(file, &":", "");
+    told.show_between("", &line, ": ");
+    told.show_between(what, &"\n", "");
+}
+
+/// Tells in which way it was run, and where devices end: how many bytes a call, the number of the text that ends, after
+/// how many bytes it does, and after how many the output.
+fn tell_way(way: Way<'_>, told: &mut Lines) {
     let plan = way.plan;
-    write!(
-        told,
-        "  {}, nesting {}, document `{}`\n",
-        way.call,
-        way.nesting,
-        way.document.escape_ascii()
-    )?;
-    write!(
-        told,
-        "  {} bytes a call, text {} ends after {}, output after {}\n",
-        plan.step, plan.text, plan.read, plan.write
-    )
+    told.show_between("  ", &way.call, " of ");
+    told.show_between(
+        "`",
+        &way.document.escape_ascii(),
+        "`, nesting, step, text, read, write:",
+    );
+    for number in [way.nesting, plan.step, plan.text, plan.read, plan.write] {
+        told.show_between(" ", &number, "");
+    }
+    told.put("\n");
 }
 
 /// Tells an answer.
-fn tell_answer(word: &str, status: &str, out: &[u8], told: &mut String) -> Result<(), AllocError> {
-    write!(told, "  {word}: {status} `{}`\n", out.escape_ascii())
+fn tell_answer(word: &str, status: &str, out: &[u8], told: &mut Lines) {
+    told.show_between(word, &status, " ");
+    told.show_between("`", &out.escape_ascii(), "`\n");
 }

@@ -57,35 +57,42 @@ impl Given {
 
     /// Adds what the row gives and the output that it wants.
     pub fn add(&mut self, alloc: Global, row: Row<'_>) -> Result<(), Problem> {
-        push_output(row, &mut self.out)?;
-        push_texts(alloc, row, "schema", &mut self.schemas)?;
-        push_texts(alloc, row, "document", &mut self.documents)?;
-        push_texts(alloc, row, "input", &mut self.inputs)?;
-        push_texts(alloc, row, "flat", &mut self.flat)?;
-        push_numbers(row, "nesting", 500, &mut self.limits)?;
-        push_numbers(row, "step", usize::MAX, &mut self.steps)?;
+        self.add_fields(alloc, row)?;
+        push_numbers(row, "nesting", "500", &mut self.limits)?;
+        push_numbers(row, "step", "most", &mut self.steps)?;
         push_plans(row, &self.steps, self.out.len(), &mut self.plans)
+    }
+
+    /// Adds the row's own fields, and those in common of which it has none itself.
+    fn add_fields(&mut self, alloc: Global, row: Row<'_>) -> Result<(), Problem> {
+        for field in row.own {
+            self.add_field(alloc, *field)?;
+        }
+        for field in row.common {
+            if !row.has(field.name) {
+                self.add_field(alloc, *field)?;
+            }
+        }
+        Ok(())
+    }
+
+    /// Adds what the field gives, if that is a text: of the output each `line` with an LF, and each `text` as it is.
+    fn add_field(&mut self, alloc: Global, field: Field<'_>) -> Result<(), Problem> {
+        match field.name {
+            "schema" => push_text(alloc, field, &mut self.schemas),
+            "document" => push_text(alloc, field, &mut self.documents),
+            "input" => push_text(alloc, field, &mut self.inputs),
+            "flat" => push_text(alloc, field, &mut self.flat),
+            "text" => push_bytes(field, &mut self.out),
+            "line" => push_line(field, &mut self.out),
+            _ => Ok(()),
+        }
     }
 
     /// The number of the first text behind the schema texts, which are numbered from 1.
     pub fn next_file(&self) -> u64 {
         (self.schemas.len() as u64).wrapping_add(1)
     }
-}
-
-/// Adds the texts of the fields of this name.
-fn push_texts(
-    alloc: Global,
-    row: Row<'_>,
-    name: &str,
-    list: &mut Vec<Vec<u8>>,
-) -> Result<(), Problem> {
-    for field in row.part(name) {
-        if field.name == name {
-            push_text(alloc, *field, list)?;
-        }
-    }
-    Ok(())
 }
 
 /// Adds the text that the field stands for.
@@ -95,17 +102,8 @@ fn push_text(alloc: Global, field: Field<'_>, list: &mut Vec<Vec<u8>>) -> Result
     Ok(list.push(text)?)
 }
 
-/// Adds the output that the row wants: each `line` with an LF, and each `text` as it is.
-fn push_output(row: Row<'_>, out: &mut Vec<u8>) -> Result<(), Problem> {
-    for field in row.own {
-        match field.name {
-            "line" => {
-                push_bytes(*field, out)?;
-                out.push(b'\n')?;
-            }
-            "text" => push_bytes(*field, out)?,
-            _ => {}
-        }
-    }
-    Ok(())
+/// Adds the bytes that the field stands for, and an LF.
+fn push_line(field: Field<'_>, out: &mut Vec<u8>) -> Result<(), Problem> {
+    push_bytes(field, out)?;
+    Ok(out.push(b'\n')?)
 }

@@ -1,6 +1,7 @@
 //! The plans that a row asks for, and what it wants by each.
 
 use crate::case::{Case, Tally, Way, compare};
+use crate::lines::Lines;
 use crate::plan::{Plan, endings, whole};
 use crate::problem::Problem;
 use crate::row_file::Row;
@@ -15,7 +16,7 @@ pub(crate) fn push_plans(
     out: usize,
     list: &mut Vec<Plan>,
 ) -> Result<(), Problem> {
-    let text = number(row, "behind", usize::MAX)?;
+    let text = number(row, "behind", "most")?;
     let is_each = says(row, "write", "each")?;
     let least = if is_each { 0 } else { out };
     for step in steps {
@@ -58,7 +59,8 @@ pub fn compare_cut(
     let write = way.plan.write;
     match case.out.get(..write) {
         Some(out) if out.len() < case.out.len() => {
-            let status = format!(in alloc; "3 output failed {write}")?;
+            let mut status = Lines::new(alloc);
+            status.show_between("3 output failed ", &write, "");
             let status = status.as_str();
             let wanted = Case {
                 status,

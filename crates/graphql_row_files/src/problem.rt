@@ -1,14 +1,13 @@
 //! Why rows are not judged.
 
 use std::alloc::{AllocError, AllocFailed};
-use std::io;
 
 /// Why rows are not judged.
 #[derive(Clone, Copy)]
 pub enum Problem {
     /// Memory ran out.
     Memory,
-    /// A file cannot be read, or the output failed.
+    /// A file cannot be read.
     Device,
     /// A row file is not one: at this line, counted from 1.
     Malformed { line: usize, what: &'static str },
@@ -19,7 +18,7 @@ impl Problem {
     pub fn what(self) -> &'static str {
         match self {
             Problem::Memory => "out of memory",
-            Problem::Device => "input or output failed",
+            Problem::Device => "the file cannot be read",
             Problem::Malformed { what, .. } => what,
         }
     }
@@ -42,11 +41,5 @@ impl From<AllocError> for Problem {
 impl<T: Drop> From<AllocFailed<T>> for Problem {
     fn from(_refused: AllocFailed<T>) -> Problem {
         Problem::Memory
-    }
-}
-
-impl From<io::Error> for Problem {
-    fn from(_failed: io::Error) -> Problem {
-        Problem::Device
     }
 }

@@ -2,10 +2,10 @@
 //! it, and last counts files, rows, answers and differences.
 
 use crate::calls::{Calls, call_of};
-use crate::case::{Case, Tally};
+use crate::case::{Case, Tally, tell_place};
 use crate::given::Given;
 use crate::problem::Problem;
-use crate::row_file::{Field, Row, fields_of, rows_of};
+use crate::row_file::{Field, Row, body, fields_of};
 use std::alloc::Global;
 use std::fs;
 use std::process::ExitCode;
@@ -13,93 +13,90 @@ use std::process::ExitCode;
 /// Judges the files that the words name by these calls, and prints what there is to tell. The status is 0 where there
 /// are rows and each is as it must be, 1 where that is not so, and 2 where they are not judged.
 pub fn judge_files<C: Calls>(rt: &HostRuntime, calls: &C) -> ExitCode {
-    match judge_all(rt, calls) {
-        Ok(true) => ExitCode::from(0),
-        Ok(false) => ExitCode::from(1),
+    let mut tally = Tally::new(rt.alloc());
+    judge_words(rt, calls, &mut tally);
+    tell_counts(&mut tally);
+    let told = tally.told.as_str();
+    if print!(rt; "{told}").is_err() {
+        return ExitCode::from(2);
+    }
+    ExitCode::from(status_of(&tally))
+}
+
+/// The status of what was judged.
+fn status_of(tally: &Tally) -> u8 {
+    if tally.is_stopped || tally.told.is_refused() {
+        2
+    } else if tally.rows == 0 || tally.differences > 0 {
+        1
+    } else {
+        0
+    }
+}
+
+/// Judges the files that the words name.
+fn judge_words<C: Calls>(rt: &HostRuntime, calls: &C, tally: &mut Tally) {
+    match std::env::args(rt) {
+        Ok(words) => {
+            for file in words.skip(1) {
+                judge_file(rt, calls, &file, tally);
+            }
+        }
+        Err(_) => tally.is_stopped = true,
+    }
+}
+
+/// Reads the file and judges its rows. Where it is not as it must be, it tells that.
+fn judge_file<C: Calls>(rt: &HostRuntime, calls: &C, file: &str, tally: &mut Tally) {
+    let judged = match fs::read_to_string(rt, file) {
+        Ok(text) => judge_text(rt.alloc(), calls, file, &text, tally),
+        Err(_) => Err(Problem::Device),
+    };
+    match judged {
+        Ok(()) => tally.files = tally.files.saturating_add(1),
         Err(problem) => {
-            let what = problem.what();
-            let _ = eprintln!(rt; "{what}");
-            ExitCode::from(2)
+            tally.is_stopped = true;
+            tell_place(file, problem.line(), problem.what(), &mut tally.told);
         }
     }
 }
 
-/// Judges the files and prints the counts. True where there are rows, and each is as it must be.
-fn judge_all<C: Calls>(rt: &HostRuntime, calls: &C) -> Result<bool, Problem> {
-    let mut tally = Tally::new(rt.alloc());
-    open_files(rt, calls, &mut tally)?;
-    tell_counts(rt, &tally)?;
-    Ok(tally.rows > 0 && tally.differences == 0)
-}
-
-/// Judges the files that the words name.
-fn open_files<C: Calls>(rt: &HostRuntime, calls: &C, tally: &mut Tally) -> Result<(), Problem> {
-    for file in std::env::args(rt)?.skip(1) {
-        open_file(rt, calls, &file, tally)?;
-    }
-    Ok(())
-}
-
-/// Reads the file and judges its rows. Where it is not as it must be, it tells that.
-fn open_file<C: Calls>(
-    rt: &HostRuntime,
-    calls: &C,
-    file: &str,
-    tally: &mut Tally,
-) -> Result<(), Problem> {
-    let judged = match fs::read_to_string(rt, file) {
-        Ok(text) => judge_file(rt, calls, file, &text, tally),
-        Err(failed) => Err(Problem::from(failed)),
-    };
-    if let Err(problem) = judged {
-        let line = problem.line();
-        let what = problem.what();
-        println!(rt; "{file}:{line}: {what}")?;
-    }
-    judged
-}
-
-/// Judges the rows of a file.
-fn judge_file<C: Calls>(
-    rt: &HostRuntime,
+/// Judges the rows of a file's text.
+fn judge_text<C: Calls>(
+    alloc: Global,
     calls: &C,
     file: &str,
     text: &str,
     tally: &mut Tally,
 ) -> Result<(), Problem> {
-    let fields = fields_of(rt.alloc(), text)?;
-    judge_rows(rt, calls, file, &fields, tally)?;
-    tally.files = tally.files.saturating_add(1);
-    Ok(())
+    match fields_of(alloc, text) {
+        Ok(fields) => judge_fields(alloc, calls, file, &fields, tally),
+        Err(problem) => Err(problem),
+    }
 }
 
-/// Judges the rows that the fields make.
-fn judge_rows<C: Calls>(
-    rt: &HostRuntime,
+/// Judges the rows that the fields make, which begin with a head.
+fn judge_fields<C: Calls>(
+    alloc: Global,
     calls: &C,
     file: &str,
     fields: &[Field<'_>],
     tally: &mut Tally,
 ) -> Result<(), Problem> {
-    for row in &rows_of(rt.alloc(), fields)? {
-        tell_row(rt, calls, file, *row, tally)?;
+    let mut common = body(fields, 0);
+    if let Some(field) = common.first() {
+        return Err(field.problem("a field stands before the first row"));
+    }
+    for (index, head) in fields.iter().enumerate() {
+        let own = body(fields, index.saturating_add(1));
+        if head.name == "common" {
+            common = own;
+        } else if head.name == "row" {
+            let head = *head;
+            judge_row(alloc, calls, file, Row { head, common, own }, tally)?;
+        }
     }
     Ok(())
-}
-
-/// Judges the row, and tells what is to be told of it.
-fn tell_row<C: Calls>(
-    rt: &HostRuntime,
-    calls: &C,
-    file: &str,
-    row: Row<'_>,
-    tally: &mut Tally,
-) -> Result<(), Problem> {
-    let judged = judge_row(rt.alloc(), calls, file, row, tally);
-    let told = tally.told.as_str();
-    print!(rt; "{told}")?;
-    tally.told.clear();
-    judged
 }
 
 /// Judges the row.
@@ -133,6 +130,7 @@ fn judge_case<C: Calls>(
     tally: &mut Tally,
 ) -> Result<(), Problem> {
     let answers = tally.answers;
+    tally.is_row_told = false;
     calls.judge(alloc, case, tally)?;
     if tally.answers == answers {
         return Err(case.row.head.problem("the row asks for no answer"));
@@ -141,12 +139,14 @@ fn judge_case<C: Calls>(
     Ok(())
 }
 
-/// Prints the counts.
-fn tell_counts(rt: &HostRuntime, tally: &Tally) -> Result<(), Problem> {
-    let files = tally.files;
-    let rows = tally.rows;
-    let answers = tally.answers;
-    let differences = tally.differences;
-    println!(rt; "{files} files, {rows} rows, {answers} answers, {differences} differences")?;
-    Ok(())
+/// Tells the counts, where all rows were judged.
+fn tell_counts(tally: &mut Tally) {
+    if !tally.is_stopped {
+        tally.told.show_between("", &tally.files, " files, ");
+        tally.told.show_between("", &tally.rows, " rows, ");
+        tally.told.show_between("", &tally.answers, " answers, ");
+        tally
+            .told
+            .show_between("", &tally.differences, " differences\n");
+    }
 }

@@ -45,29 +45,25 @@ fn push_field<'a>(
     if content.is_empty() || content.starts_with('#') {
         return Ok(());
     }
-    Ok(fields.push(field_of(line, content)?)?)
-}
-
-/// The field in a line.
-fn field_of<'a>(line: usize, content: &'a str) -> Result<Field<'a>, Problem> {
-    if content.ends_with(' ') {
-        let what = "a line ends with a space";
-        return Err(Problem::Malformed { line, what });
-    }
-    if let Some((name, value)) = content.split_once(": ") {
-        return Ok(Field { line, name, value });
-    }
-    match content.strip_suffix(':') {
-        Some(name) => Ok(Field {
-            line,
-            name,
-            value: "",
-        }),
+    match field_of(line, content) {
+        Some(field) => Ok(fields.push(field)?),
         None => {
-            let what = "a line is `name: value`";
+            let what = "a line is `name: value`, without a space at its end";
             Err(Problem::Malformed { line, what })
         }
     }
+}
+
+/// The field in a line.
+fn field_of<'a>(line: usize, content: &'a str) -> Option<Field<'a>> {
+    if content.ends_with(' ') {
+        return None;
+    }
+    let (name, value) = match content.split_once(": ") {
+        Some(parts) => parts,
+        None => (content.strip_suffix(':')?, ""),
+    };
+    Some(Field { line, name, value })
 }
 
 /// A row: its name, its own fields, and the fields of the `common` that it stands under.
@@ -79,14 +75,23 @@ pub struct Row<'a> {
 }
 
 impl<'a> Row<'a> {
-    /// The fields among which those of this name stand: the row's own, and where none of these has it those in common.
-    pub fn part(self, name: &str) -> &'a [Field<'a>] {
+    /// Whether the row itself has a field of this name.
+    pub(crate) fn has(self, name: &str) -> bool {
         for field in self.own {
             if field.name == name {
-                return self.own;
+                return true;
             }
         }
-        self.common
+        false
+    }
+
+    /// The fields among which those of this name stand: the row's own, and where none of these has it those in common.
+    fn part(self, name: &str) -> &'a [Field<'a>] {
+        if self.has(name) {
+            self.own
+        } else {
+            self.common
+        }
     }
 
     /// The one field of this name, if there is one.
@@ -103,6 +108,17 @@ impl<'a> Row<'a> {
         Ok(found)
     }
 
+    /// The one field of this name, or one in the row's line with this value where there is none.
+    pub(crate) fn one_or(self, name: &str, other: &'static str) -> Result<Field<'a>, Problem> {
+        match self.one(name)? {
+            Some(field) => Ok(field),
+            None => Ok(Field {
+                value: other,
+                ..self.head
+            }),
+        }
+    }
+
     /// The one field of this name, which must be there.
     pub fn needed(self, name: &str) -> Result<Field<'a>, Problem> {
         match self.one(name)? {
@@ -112,27 +128,8 @@ impl<'a> Row<'a> {
     }
 }
 
-/// The rows of a file, in order.
-pub fn rows_of<'a>(alloc: Global, fields: &'a [Field<'a>]) -> Result<Vec<Row<'a>>, Problem> {
-    let mut rows = Vec::new(alloc);
-    let mut common = body(fields, 0);
-    if let Some(field) = common.first() {
-        return Err(field.problem("a field stands before the first row"));
-    }
-    for (index, head) in fields.iter().enumerate() {
-        let own = body(fields, index.saturating_add(1));
-        if head.name == "common" {
-            common = own;
-        } else if head.name == "row" {
-            let head = *head;
-            rows.push(Row { head, common, own })?;
-        }
-    }
-    Ok(rows)
-}
-
 /// The fields from this one on, up to the next head.
-fn body<'a>(fields: &'a [Field<'a>], from: usize) -> &'a [Field<'a>] {
+pub(crate) fn body<'a>(fields: &'a [Field<'a>], from: usize) -> &'a [Field<'a>] {
     let rest = fields.get(from..).unwrap_or(&[]);
     for (count, field) in rest.iter().enumerate() {
         if field.is_head() {

@@ -15,11 +15,9 @@ fn number_of(field: Field<'_>, text: &str) -> Result<usize, Problem> {
 }
 
 /// The number of the field of this name, or `other` where there is none.
-pub fn number(row: Row<'_>, name: &str, other: usize) -> Result<usize, Problem> {
-    match row.one(name)? {
-        Some(field) => number_of(field, field.value),
-        None => Ok(other),
-    }
+pub fn number(row: Row<'_>, name: &str, other: &'static str) -> Result<usize, Problem> {
+    let field = row.one_or(name, other)?;
+    number_of(field, field.value)
 }
 
 /// Adds the numbers of the field of this name, which stand there with a space between each two, or `other` alone
@@ -27,12 +25,10 @@ pub fn number(row: Row<'_>, name: &str, other: usize) -> Result<usize, Problem> 
 pub(crate) fn push_numbers(
     row: Row<'_>,
     name: &str,
-    other: usize,
+    other: &'static str,
     list: &mut Vec<usize>,
 ) -> Result<(), Problem> {
-    let Some(field) = row.one(name)? else {
-        return Ok(list.push(other)?);
-    };
+    let field = row.one_or(name, other)?;
     for word in field.value.split_whitespace() {
         list.push(number_of(field, word)?)?;
     }

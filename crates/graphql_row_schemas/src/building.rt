@@ -2,12 +2,24 @@
 
 use crate::given::document_of;
 use graphql_names::{FileId, SourceSpan};
-use graphql_row_files::{Answer, Case, Problem, number, says};
+use graphql_row_files::{Answer, Case, Lines, Problem, number, says};
 use graphql_schema::{BuildError, BuilderRefusal, Extensions, Schema, SchemaBuilder};
-use std::alloc::{AllocError, Global};
+use std::alloc::Global;
 
 /// A schema, and the faults of its texts.
-pub type Built = (Schema, Vec<(Option<SourceSpan>, BuildError)>);
+pub struct Built {
+    pub schema: Schema,
+    pub faults: Vec<(Option<SourceSpan>, BuildError)>,
+}
+
+impl Drop for Built {
+    fn drop(self) {
+        let Built {
+            schema: _,
+            faults: _,
+        } = self;
+    }
+}
 
 /// What the row's schema texts build. Where the builder refuses that, the status tells why. Of `orphans` the answer has
 /// the names that have an extension and no definition.
@@ -15,9 +27,9 @@ pub fn build(alloc: Global, case: Case<'_>, answer: &mut Answer) -> Result<Optio
     let mut builder = builder_of(alloc, case)?;
     add_texts(alloc, case, &mut builder, answer)?;
     match builder.build() {
-        Ok(built) => Ok(Some(built)),
+        Ok((schema, faults)) => Ok(Some(Built { schema, faults })),
         Err(refusal) => {
-            push_refusal(refusal, &mut answer.status)?;
+            push_refusal(refusal, &mut answer.status);
             Ok(None)
         }
     }
@@ -34,7 +46,7 @@ fn builder_of(alloc: Global, case: Case<'_>) -> Result<SchemaBuilder, Problem> {
 
 /// The numbers of extensions, from the one that the row says on.
 fn extensions_of(case: Case<'_>) -> Result<Extensions, Problem> {
-    let first = number(case.row, "first", 1)?;
+    let first = number(case.row, "first", "1")?;
     if first == 0 {
         return Err(case.row.head.problem("extensions are counted from 1 on"));
     }
@@ -72,7 +84,7 @@ fn add_texts(
         file = file.wrapping_add(1);
     }
     if case.call == "orphans" {
-        push_orphans(builder, &mut answer.text)?;
+        push_orphans(builder, &mut answer.text);
     }
     Ok(())
 }
@@ -84,31 +96,29 @@ fn add_text(
     text: &[u8],
     file: FileId,
     builder: &mut SchemaBuilder,
-    status: &mut String,
+    status: &mut Lines,
 ) -> Result<(), Problem> {
-    let document = document_of(alloc, case, text, file)?;
-    if let Err(refusal) = builder.add_ast(&document) {
-        push_refusal(refusal, status)?;
+    let given = document_of(alloc, case, text, file)?;
+    if let Err(refusal) = builder.add_ast(&given.document) {
+        push_refusal(refusal, status);
     }
     Ok(())
 }
 
 /// Tells why a builder refuses, where it is the first time.
-fn push_refusal(refusal: BuilderRefusal, status: &mut String) -> Result<(), AllocError> {
-    if !status.is_empty() {
-        return Ok(());
+fn push_refusal(refusal: BuilderRefusal, status: &mut Lines) {
+    if status.as_str().is_empty() {
+        status.put(match refusal {
+            BuilderRefusal::Memory => "4 out of memory",
+            BuilderRefusal::Spent => "3 spent",
+            BuilderRefusal::Failed => "4 failed",
+        });
     }
-    status.push_str(match refusal {
-        BuilderRefusal::Memory => "4 out of memory",
-        BuilderRefusal::Spent => "3 spent",
-        BuilderRefusal::Failed => "4 failed",
-    })
 }
 
 /// Adds the names that have an extension and no definition, a line each.
-fn push_orphans(builder: &SchemaBuilder, lines: &mut String) -> Result<(), AllocError> {
+fn push_orphans(builder: &SchemaBuilder, lines: &mut Lines) {
     for name in builder.iter_orphan_extension_types() {
-        write!(lines, "{name}\n")?;
+        lines.show_between("", name, "\n");
     }
-    Ok(())
 }

@@ -3,9 +3,20 @@
 use graphql_definitions::Document;
 use graphql_names::FileId;
 use graphql_read::parse_document;
-use graphql_row_files::{Case, Problem, read_of, says, text_of};
+use graphql_row_files::{Case, Problem, says, text_of};
 use graphql_schema::Schema;
 use std::alloc::Global;
+
+/// A document that a row gives.
+pub struct Given {
+    pub document: Document,
+}
+
+impl Drop for Given {
+    fn drop(self) {
+        let Given { document: _ } = self;
+    }
+}
 
 /// The document of a text, which must be read.
 pub fn document_of(
@@ -13,9 +24,12 @@ pub fn document_of(
     case: Case<'_>,
     bytes: &[u8],
     file: FileId,
-) -> Result<Document, Problem> {
+) -> Result<Given, Problem> {
     let text = text_of(case, bytes)?;
-    read_of(case, parse_document(alloc, text, file, 500))
+    match parse_document(alloc, text, file, 500) {
+        Ok(document) => Ok(Given { document }),
+        Err(_) => Err(case.row.head.problem("a text of this call is not read")),
+    }
 }
 
 /// The schema, or none where the row says that it stands alone.

@@ -8,4 +8,4 @@ mod building;
 mod given;
 
 pub use building::{Built, build};
-pub use given::{document_of, schema_under};
+pub use given::{Given, document_of, schema_under};

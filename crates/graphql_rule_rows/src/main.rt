@@ -32,7 +32,7 @@ impl Calls for Judging {
 
     fn judge(&self, alloc: Global, case: Case<'_>, tally: &mut Tally) -> Result<(), Problem> {
         match build(alloc, case, &mut tally.answer)? {
-            Some(mut built) => by_schema(alloc, case, &mut built.0, tally),
+            Some(mut built) => by_schema(alloc, case, &mut built.schema, tally),
             None => judge(case, &[], tally),
         }
     }

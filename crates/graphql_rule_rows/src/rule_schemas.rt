@@ -2,10 +2,10 @@
 
 use crate::told::push_told;
 use graphql_faults::DiagnosticList;
-use graphql_row_files::{Answer, Case, Problem, number};
+use graphql_row_files::{Answer, Case, Lines, Problem, number};
 use graphql_rules::validate_schema;
 use graphql_schema::Schema;
-use std::alloc::{AllocError, Global};
+use std::alloc::Global;
 
 /// Adds what breaks a rule in the schema, or in so many of its types as the row says, behind the scalars that are left
 /// where the call asks for them.
@@ -15,23 +15,20 @@ pub(crate) fn push_rules(
     schema: &mut Schema,
     answer: &mut Answer,
 ) -> Result<(), Problem> {
-    schema
-        .types
-        .truncate(number(case.row, "types", usize::MAX)?);
+    schema.types.truncate(number(case.row, "types", "most")?);
     let mut list = DiagnosticList::new(alloc);
     validate_schema(alloc, &mut list, schema)?;
     if case.call == "kept" {
-        push_scalars(schema, &mut answer.text)?;
+        push_scalars(schema, &mut answer.text);
     }
     Ok(push_told(alloc, &list, answer)?)
 }
 
 /// Adds the name of each scalar among the types, a line each.
-fn push_scalars(schema: &Schema, lines: &mut String) -> Result<(), AllocError> {
+fn push_scalars(schema: &Schema, lines: &mut Lines) {
     for ty in schema.types.values() {
         if ty.is_scalar() {
-            write!(lines, "{}\n", ty.name())?;
+            lines.show_between("", ty.name(), "\n");
         }
     }
-    Ok(())
 }

@@ -27,8 +27,8 @@ pub(crate) fn push_use(
         return push_covariant(alloc, case, schema, text_of(case, input)?, answer);
     }
     let file = FileId(case.given.next_file());
-    let document = document_of(alloc, case, input, file)?;
-    push_faults_of(alloc, case, schema, &document, answer)
+    let given = document_of(alloc, case, input, file)?;
+    push_faults_of(alloc, case, schema, &given.document, answer)
 }
 
 /// Adds whether a field of this type serves where an interface has one of the row's type.
@@ -46,7 +46,8 @@ fn push_covariant(
     } else {
         "0 no"
     };
-    Ok(answer.status.push_str(status)?)
+    answer.status.put(status);
+    Ok(())
 }
 
 /// Adds what the call tells of the document's first definition, an operation: a line for each fault.

@@ -7,7 +7,7 @@ use graphql_coords::{
 };
 use graphql_row_files::{Answer, Case, Field, Problem, text_of};
 use graphql_schema::Schema;
-use std::alloc::{AllocError, Global};
+use std::alloc::Global;
 use std::fmt::Display;
 
 /// Adds what the input is, read in the row's form where it has one, and else what it names in the schema.
@@ -20,21 +20,16 @@ pub(crate) fn push_coordinate(
 ) -> Result<(), Problem> {
     let text = text_of(case, input)?;
     match case.row.one("form")? {
-        None => Ok(push_any(alloc, schema, text, answer)?),
+        None => Ok(push_any(alloc, schema, text, answer)),
         Some(form) => push_form(alloc, form, text, answer),
     }
 }
 
 /// Adds what a coordinate of any form names, or why it names nothing, and what it prints.
-fn push_any(
-    alloc: Global,
-    schema: &Schema,
-    text: &str,
-    answer: &mut Answer,
-) -> Result<(), AllocError> {
+fn push_any(alloc: Global, schema: &Schema, text: &str, answer: &mut Answer) {
     match SchemaCoordinate::from_str(alloc, text) {
         Ok(coordinate) => answer.show(looked_up(&coordinate, schema), &coordinate),
-        Err(error) => answer.status.push_str(parse_words(error)),
+        Err(error) => answer.status.put(parse_words(error)),
     }
 }
 
@@ -53,26 +48,23 @@ fn push_form(
     text: &str,
     answer: &mut Answer,
 ) -> Result<(), Problem> {
-    let pushed = match form.value {
+    match form.value {
         "type" => push_read(TypeCoordinate::from_str(alloc, text), answer),
         "attribute" => push_read(TypeAttributeCoordinate::from_str(alloc, text), answer),
         "field argument" => push_read(FieldArgumentCoordinate::from_str(alloc, text), answer),
         "directive" => push_read(DirectiveCoordinate::from_str(alloc, text), answer),
         "directive argument" => {
-            push_read(DirectiveArgumentCoordinate::from_str(alloc, text), answer)
+            push_read(DirectiveArgumentCoordinate::from_str(alloc, text), answer);
         }
         _ => return Err(form.problem("there is no such form")),
-    };
-    Ok(pushed?)
+    }
+    Ok(())
 }
 
 /// Adds what a coordinate prints, or why the text is none.
-fn push_read<T: Display + Drop>(
-    read: Result<T, SchemaCoordinateParseError>,
-    answer: &mut Answer,
-) -> Result<(), AllocError> {
+fn push_read<T: Display + Drop>(read: Result<T, SchemaCoordinateParseError>, answer: &mut Answer) {
     match read {
         Ok(coordinate) => answer.show("0", &coordinate),
-        Err(error) => answer.status.push_str(parse_words(error)),
+        Err(error) => answer.status.put(parse_words(error)),
     }
 }

@@ -44,7 +44,7 @@ fn by_built(
         return judge(case, &[], tally);
     }
     for input in &case.given.inputs {
-        push_coordinate(alloc, case, &built.0, input, &mut tally.answer)?;
+        push_coordinate(alloc, case, &built.schema, input, &mut tally.answer)?;
         judge(case, input, tally)?;
     }
     Ok(())

@@ -14,12 +14,13 @@ pub(crate) fn push_built(
     answer: &mut Answer,
 ) -> Result<(), AllocError> {
     if call == "orphans" {
-        answer.status.push_str("0")
-    } else if built.1.is_empty() {
-        push_schema(alloc, &built.0, answer)
+        answer.status.put("0");
+    } else if built.faults.is_empty() {
+        push_schema(alloc, &built.schema, answer)?;
     } else {
-        push_faults(&built.1, answer)
+        push_faults(&built.faults, answer);
     }
+    Ok(())
 }
 
 /// Adds the schema on one line, as it is written, and whether that is writable.
@@ -30,5 +31,6 @@ fn push_schema(alloc: Global, schema: &Schema, answer: &mut Answer) -> Result<()
     } else {
         "0 not writable"
     };
-    answer.show(status, &document.serialize().no_indent())
+    answer.show(status, &document.serialize().no_indent());
+    Ok(())
 }

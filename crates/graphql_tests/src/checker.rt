@@ -1,11 +1,10 @@
 //! The checker's lists, and what its faults are made of, which no row of text shows.
 ghost use Rattle.std.specs.Prelude.{◌+◌, ◌<◌, ◌^◌};
 
-use crate::hold::{hold, same_text};
+use crate::hold::{got, hold, same_text};
 use graphql_checked::{CheckedSchema, Checker, Details, DiagnosticList, Limits, Refusal, RunFault};
 use graphql_names::{FileId, SourceSpan};
 use std::alloc::{AllocError, Global};
-use std::test::Fail;
 
 /// The schema of the text.
 fn schema_of(alloc: Global, text: &str) -> Result<CheckedSchema, Refusal> {
@@ -70,8 +69,7 @@ fn has_nothing(list: &DiagnosticList) -> bool {
 /// Adds two faults, one without a place.
 fn push_two(list: &mut DiagnosticList) -> Result<(), AllocError> {
     list.push(Some(span(3, 7, 1)), Details::Nesting)?;
-    list.push(None, Details::Spent)?;
-    Ok(())
+    list.push(None, Details::Spent)
 }
 
 /// Whether the list has the two, in order.
@@ -85,20 +83,18 @@ fn has_two(list: &DiagnosticList) -> bool {
 }
 
 #[test]
-fn grows_at_its_end(rt: HostRuntime) -> Result<(), Fail> {
+fn grows_at_its_end(rt: HostRuntime) {
     let mut list = DiagnosticList::new(rt.alloc());
     hold(&rt, has_nothing(&list), "nothing");
-    push_two(&mut list)?;
+    got(&rt, push_two(&mut list));
     hold(&rt, has_two(&list), "both are there, in order");
-    Ok(())
 }
 
 /// No text can spend the numbers, so no row has this message.
 #[test]
-fn prints_that_numbers_are_spent(rt: HostRuntime) -> Result<(), Fail> {
-    let text = Details::Spent.to_string(rt.alloc())?;
+fn prints_that_numbers_are_spent(rt: HostRuntime) {
+    let text = got(&rt, Details::Spent.to_string(rt.alloc()));
     same_text(&rt, &text, "numbers are spent");
-    Ok(())
 }
 
 #[test]

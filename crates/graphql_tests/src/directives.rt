@@ -1,6 +1,6 @@
 //! Directives, their arguments and selections: what is found, copied and written.
 
-use crate::hold::{equals, hold, is_copied, node, read, same_text};
+use crate::hold::{equals, got, hold, is_copied, node, read, same_text};
 use graphql_ast::Document;
 use graphql_directives::{
     Argument, ArgumentByNameError, Directive, DirectiveDefinition, DirectiveList,
@@ -10,7 +10,7 @@ use graphql_literals::Value;
 use graphql_names::{Name, Node, name};
 use graphql_operations::{OperationDefinition, OperationType, Selection};
 use std::alloc::{AllocError, Global};
-use std::test::Fail;
+use std::process::Abort;
 
 /// Why the directive has no such argument.
 fn lacks(
@@ -86,47 +86,43 @@ fn tells_selection(selection: &Selection) -> bool {
 }
 
 /// Whether a selection made of a copy of its field equals it.
-fn is_made_again(selection: &Selection) -> Result<bool, AllocError> {
+fn is_made_again(selection: &Selection) -> bool {
     match selection.as_field() {
-        Some(field) => Ok(Selection::from(field.clone()?) == *selection),
-        None => Ok(false),
+        Some(field) => match field.clone() {
+            Ok(copy) => Selection::from(copy) == *selection,
+            Err(_refused) => false,
+        },
+        None => false,
     }
 }
 
 /// Whether the operation's first selection tells that, and its copies equal it.
-fn tells_first(operation: &OperationDefinition) -> Result<bool, AllocError> {
+fn tells_first(operation: &OperationDefinition) -> bool {
     match operation.selection_set.first() {
-        Some(selection) => Ok(
-            tells_selection(selection) && is_made_again(selection)? && is_copied(selection)?,
-        ),
-        None => Ok(false),
+        Some(selection) => {
+            tells_selection(selection) & is_made_again(selection) & is_copied(selection)
+        }
+        None => false,
     }
 }
 
 /// Whether the directives of both operations are found by the definition, and the first one's field tells of itself.
 /// None where these are not there.
-fn tells(document: &Document) -> Option<Result<bool, AllocError>> {
+fn tells(document: &Document) -> Option<bool> {
     let definition = document.definitions.get(0)?.as_directive_definition()?;
     let bare = document.definitions.get(1)?.as_operation_definition()?;
     let given = document.definitions.get(2)?.as_operation_definition()?;
-    if lacks_required(definition, &bare.directives) && finds_both(&given.directives) {
-        return Some(tells_first(bare));
-    }
-    None
+    let is_found = lacks_required(definition, &bare.directives) & finds_both(&given.directives);
+    Some(is_found & tells_first(bare))
 }
 
 #[test]
-fn finds_arguments(rt: HostRuntime) -> Result<(), Fail> {
+fn finds_arguments(rt: HostRuntime) {
     let text =
         "directive @d(a: Int!) on QUERY query A @d { responseField: sourceField } query B @d(a: null) { f }";
-    match read(rt.alloc(), text) {
-        Some(document) => Ok(hold(
-            &rt,
-            tells(document.content()).ok_or("they are not found")??,
-            "arguments and a field",
-        )),
-        None => Err("the text is not read")?,
-    }
+    let document = read(&rt, rt.alloc(), text);
+    let is_so = tells(document.content()) == Some(true);
+    hold(&rt, is_so, "arguments and a field");
 }
 
 #[test]
@@ -147,8 +143,7 @@ fn push_directive(
     list: &mut Vec<Node<Directive>>,
     name: Name,
 ) -> Result<(), AllocError> {
-    list.push(node(alloc, Directive::new(alloc, name))?)?;
-    Ok(())
+    Ok(list.push(node(alloc, Directive::new(alloc, name))?)?)
 }
 
 /// `@a @b`
@@ -174,16 +169,15 @@ fn list_of_three(alloc: Global) -> Result<DirectiveList, AllocError> {
 }
 
 /// Whether the list has three, its copy equals it, and `@a @b @c` does not.
-fn tells_copy(alloc: Global, list: &DirectiveList) -> Result<bool, AllocError> {
-    let is_other = equals(&list.0, three_directives(alloc, name!("c")))?;
-    Ok(list.0.len() == 3 && !is_other && is_copied(list)?)
+fn tells_copy(alloc: Global, list: &DirectiveList) -> bool {
+    let is_other = equals(&list.0, three_directives(alloc, name!("c")));
+    (list.0.len() == 3) & !is_other & is_copied(list)
 }
 
 #[test]
-fn copies_directives(rt: HostRuntime) -> Result<(), Fail> {
-    let list = list_of_three(rt.alloc())?;
-    hold(&rt, tells_copy(rt.alloc(), &list)?, "the copy");
-    Ok(())
+fn copies_directives(rt: HostRuntime) {
+    let list = got(&rt, list_of_three(rt.alloc()));
+    hold(&rt, tells_copy(rt.alloc(), &list), "the copy");
 }
 
 /// Whether `@a @b @a` lends neither a third `a` nor a `c`.
@@ -192,21 +186,22 @@ fn lends_none(list: &mut Vec<Node<Directive>>) -> bool {
 }
 
 /// Writes `@c` to the last of `@a @b @a`.
-fn write_last(alloc: Global, list: &mut Vec<Node<Directive>>) -> Result<(), Fail> {
-    let last = get_named_mut(list, "a", 1).ok_or("a")?;
-    *last = node(alloc, Directive::new(alloc, name!("c")))?;
-    Ok(())
+fn write_last(rt: &impl Abort, alloc: Global, list: &mut Vec<Node<Directive>>) {
+    let directive = got(rt, node(alloc, Directive::new(alloc, name!("c"))));
+    match get_named_mut(list, "a", 1) {
+        Some(last) => *last = directive,
+        None => hold(rt, false, "the second a"),
+    }
 }
 
 #[test]
-fn writes_to_the_named(rt: HostRuntime) -> Result<(), Fail> {
+fn writes_to_the_named(rt: HostRuntime) {
     let alloc = rt.alloc();
-    let mut list = three_directives(alloc, name!("a"))?;
+    let mut list = got(&rt, three_directives(alloc, name!("a")));
     hold(&rt, lends_none(&mut list), "no third a and no c");
-    write_last(alloc, &mut list)?;
-    let is_written = equals(&list, three_directives(alloc, name!("c")))?;
+    write_last(&rt, alloc, &mut list);
+    let is_written = equals(&list, three_directives(alloc, name!("c")));
     hold(&rt, is_written, "what is written");
-    Ok(())
 }
 
 /// `a: value`
@@ -237,12 +232,14 @@ fn is_set(directive: &Directive, value: bool) -> bool {
 }
 
 #[test]
-fn writes_to_an_argument(rt: HostRuntime) -> Result<(), Fail> {
+fn writes_to_an_argument(rt: HostRuntime) {
     let alloc = rt.alloc();
     let mut directive = Directive::new(alloc, name!("d"));
     for value in [false, true] {
-        set_argument(alloc, &mut directive, Value::Boolean(value))?;
+        got(
+            &rt,
+            set_argument(alloc, &mut directive, Value::Boolean(value)),
+        );
         hold(&rt, is_set(&directive, value), "the argument");
     }
-    Ok(())
 }

@@ -1,11 +1,10 @@
 //! Documents and members of types: places, sources, arguments and copies.
 
-use crate::hold::{are_alike, hold, is_copied, node, read};
+use crate::hold::{are_alike, got, hold, is_copied, node, read};
 use graphql_ast::*;
 use graphql_read::parse_document;
 use std::alloc::{AllocError, Global};
 use std::process::Abort;
-use std::test::Fail;
 
 /// `scalar T`, without a place.
 fn scalar(alloc: Global) -> Result<Node<ScalarTypeDefinition>, AllocError> {
@@ -32,24 +31,12 @@ fn built(alloc: Global) -> Result<Node<Document>, AllocError> {
     node(alloc, document)
 }
 
-/// The document, which was read from this file.
-fn read_from(
-    alloc: Global,
-    document: Document,
-    source: SourceFile,
-) -> Result<Node<Document>, AllocError> {
-    let mut document = document;
-    document.sources.insert(FileId(1), source)?;
-    node(alloc, document)
-}
-
 /// The document `scalar T`, read from the file.
-fn read_scalar(alloc: Global) -> Result<Option<Node<Document>>, AllocError> {
-    let source = source(alloc)?;
-    match parse_document(alloc, "scalar T", FileId(1), 1) {
-        Ok(document) => Ok(Some(read_from(alloc, document, source)?)),
-        Err(_fault) => Ok(None),
-    }
+fn read_scalar(rt: &impl Abort, alloc: Global) -> Node<Document> {
+    let mut document = got(rt, parse_document(alloc, "scalar T", FileId(1), 1));
+    let source = got(rt, source(alloc));
+    got(rt, document.sources.insert(FileId(1), source));
+    got(rt, node(alloc, document))
 }
 
 /// Whether the document is the one without definitions.
@@ -66,31 +53,28 @@ fn is_placed(document: &Document) -> bool {
 }
 
 /// How many files a copy of it has.
-fn copied_sources(document: &Document) -> Result<usize, AllocError> {
-    Ok(document.clone()?.sources.len())
+fn copied_sources(document: &Document) -> usize {
+    match document.clone() {
+        Ok(copy) => copy.sources.len(),
+        Err(_refused) => 0,
+    }
 }
 
 /// What is read is what is built, by the law too, and is not nothing; its copy equals it and has its file.
-fn ignores(
-    rt: &impl Abort,
-    alloc: Global,
-    read: &Document,
-    built: &Document,
-) -> Result<(), AllocError> {
-    let same = are_alike(read, built) && laws::equal_documents(read, built);
+fn ignores(rt: &impl Abort, alloc: Global, read: &Document, built: &Document) {
+    let same = are_alike(read, built) & laws::equal_documents(read, built);
     hold(rt, same, "places and sources");
-    hold(rt, is_placed(read) && !is_placed(built), "a place");
+    hold(rt, is_placed(read) & !is_placed(built), "a place");
     hold(rt, !is_empty(alloc, read), "another");
-    hold(rt, is_copied(read)?, "the copy");
-    hold(rt, copied_sources(read)? == 1, "its file");
-    Ok(())
+    let is_copied = is_copied(read) & (copied_sources(read) == 1);
+    hold(rt, is_copied, "the copy, and its file");
 }
 
 #[test]
-fn ignores_places_and_sources(rt: HostRuntime) -> Result<(), Fail> {
-    let read = read_scalar(rt.alloc())?.ok_or("the text is not read")?;
-    let built = built(rt.alloc())?;
-    Ok(ignores(&rt, rt.alloc(), read.content(), built.content())?)
+fn ignores_places_and_sources(rt: HostRuntime) {
+    let read = read_scalar(&rt, rt.alloc());
+    let built = got(&rt, built(rt.alloc()));
+    ignores(&rt, rt.alloc(), read.content(), built.content());
 }
 
 /// Whether its first argument `b` is of the type `B`, and it has no `c`.
@@ -107,45 +91,40 @@ fn finds_first(field: &FieldDefinition) -> bool {
 }
 
 /// Whether its copy equals it by the law.
-fn equals_copy(field: &FieldDefinition) -> Result<bool, AllocError> {
-    Ok(laws::equal_field_definitions(&field.clone()?, field))
+fn equals_copy(field: &FieldDefinition) -> bool {
+    match field.clone() {
+        Ok(copy) => laws::equal_field_definitions(&copy, field),
+        Err(_refused) => false,
+    }
 }
 
 /// Whether the first field has the first argument of a name, and its copy equals it.
-fn has_first(object: &ObjectTypeDefinition) -> Result<bool, AllocError> {
+fn has_first(object: &ObjectTypeDefinition) -> bool {
     match object.fields.first() {
-        Some(field) => Ok(finds_first(field.content()) && equals_copy(field.content())?),
-        None => Ok(false),
+        Some(field) => finds_first(field.content()) & equals_copy(field.content()),
+        None => false,
     }
 }
 
 /// Whether the copy of the first value equals it.
-fn copies_first(values: &EnumTypeDefinition) -> Result<bool, AllocError> {
+fn copies_first(values: &EnumTypeDefinition) -> bool {
     match values.values.first() {
         Some(value) => is_copied(value.content()),
-        None => Ok(false),
+        None => false,
     }
 }
 
 /// Whether the members of the object and of the enum do so. None where these are not there.
-fn tells_members(document: &Document) -> Option<Result<bool, AllocError>> {
+fn tells_members(document: &Document) -> Option<bool> {
     let object = document.definitions.get(0)?.as_object_type_definition()?;
     let values = document.definitions.get(1)?.as_enum_type_definition()?;
-    match has_first(object) {
-        Ok(true) => Some(copies_first(values)),
-        other => Some(other),
-    }
+    Some(has_first(object) & copies_first(values))
 }
 
 #[test]
-fn finds_the_first_argument_of_a_name(rt: HostRuntime) -> Result<(), Fail> {
+fn finds_the_first_argument_of_a_name(rt: HostRuntime) {
     let text = "type T { f(a: A, b: B, b: C): T } enum E { \"the first\" A }";
-    match read(rt.alloc(), text) {
-        Some(document) => Ok(hold(
-            &rt,
-            tells_members(document.content()).ok_or("no members")??,
-            "the first b, and copies",
-        )),
-        None => Err("the text is not read")?,
-    }
+    let document = read(&rt, rt.alloc(), text);
+    let is_so = tells_members(document.content()) == Some(true);
+    hold(&rt, is_so, "the first b, and copies");
 }

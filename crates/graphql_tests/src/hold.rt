@@ -30,16 +30,19 @@ fn hash_of<T: Hash>(value: &T) -> u64 {
 }
 
 /// Whether the value's copy equals it.
-pub(crate) fn is_copied<T: Clone + PartialEq>(value: &T) -> Result<bool, AllocError> {
-    Ok(value.clone()? == *value)
+pub(crate) fn is_copied<T: Clone + PartialEq>(value: &T) -> bool {
+    match value.clone() {
+        Ok(copy) => copy == *value,
+        Err(_refused) => false,
+    }
 }
 
 /// Whether the value equals the one that is wanted.
-pub(crate) fn equals<T: PartialEq + Drop>(
-    value: &T,
-    wanted: Result<T, AllocError>,
-) -> Result<bool, AllocError> {
-    Ok(*value == wanted?)
+pub(crate) fn equals<T: PartialEq + Drop>(value: &T, wanted: Result<T, AllocError>) -> bool {
+    match wanted {
+        Ok(wanted) => *value == wanted,
+        Err(_refused) => false,
+    }
 }
 
 /// A node without a place.
@@ -47,8 +50,13 @@ pub(crate) fn node<T: Drop>(alloc: Global, value: T) -> Result<Node<T>, AllocErr
     Ok(Node::new(alloc, value)?)
 }
 
-/// The document of the text, where it is read.
-pub(crate) fn read(alloc: Global, text: &str) -> Option<Node<Document>> {
-    let document = parse_document(alloc, text, FileId(1), 9).ok()?;
-    node(alloc, document).ok()
+/// What is made where memory is ample.
+pub(crate) fn got<T: Drop, E: Drop>(rt: &impl Abort, made: Result<T, E>) -> T {
+    made.ok().expect(rt, "it is made")
+}
+
+/// The document of the text.
+pub(crate) fn read(rt: &impl Abort, alloc: Global, text: &str) -> Node<Document> {
+    let document = got(rt, parse_document(alloc, text, FileId(1), 9));
+    got(rt, node(alloc, document))
 }

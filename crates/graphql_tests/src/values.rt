@@ -2,7 +2,7 @@
 ghost use Rattle.std.specs.Prelude.{◌≡◌, IfOk, None, codes};
 ghost use Rattle.graphql_literals.specs.TypeTree.{NamedTree, ListTree, NonNullListTree, type_tree};
 
-use crate::hold::{are_alike, hold, is_copied, node, read, same_text};
+use crate::hold::{are_alike, got, hold, is_copied, node, read, same_text};
 use graphql_ast::Document;
 use graphql_literals::{FloatValue, IntValue, Type, Value};
 use graphql_names::FileId;
@@ -10,7 +10,6 @@ use graphql_read::parse_type;
 use graphql_values::ty;
 use std::alloc::{AllocError, Global};
 use std::process::Abort;
-use std::test::Fail;
 
 /// `[[[Obj]!]]!`
 fn nested(alloc: Global) -> Result<Type, AllocError>
@@ -53,17 +52,22 @@ fn is_type(alloc: Global, ty: &Type, text: &str) -> bool {
 }
 
 /// Whether its items, and the type that may be null, are as they must be.
-fn tells_parts(alloc: Global, ty: &Type) -> Result<bool, AllocError> {
-    let nullable = ty.clone()?.nullable();
-    Ok(is_type(alloc, ty.item_type(), "[[Obj]!]") && is_type(alloc, &nullable, "[[[Obj]!]]"))
+fn tells_parts(alloc: Global, ty: &Type) -> bool {
+    match ty.clone() {
+        Ok(copy) => {
+            is_type(alloc, ty.item_type(), "[[Obj]!]")
+                & is_type(alloc, &copy.nullable(), "[[[Obj]!]]")
+        }
+        Err(_refused) => false,
+    }
 }
 
 #[test]
-fn asks_types(rt: HostRuntime) -> Result<(), Fail> {
-    let node = node(rt.alloc(), nested(rt.alloc())?)?;
+fn asks_types(rt: HostRuntime) {
+    let ty = got(&rt, nested(rt.alloc()));
+    let node = got(&rt, node(rt.alloc(), ty));
     hold(&rt, tells_nested(node.content()), "its form");
-    hold(&rt, tells_parts(rt.alloc(), node.content())?, "its parts");
-    Ok(())
+    hold(&rt, tells_parts(rt.alloc(), node.content()), "its parts");
 }
 
 /// The value of the argument `a` of the operation's directive `@d`.
@@ -86,28 +90,24 @@ fn tells_list(value: &Value) -> bool {
 }
 
 /// Whether the one tells that it is a list, is like the other, and its copy equals it.
-fn tells_alike(near: &Value, far: &Value) -> Result<bool, AllocError> {
-    Ok(tells_list(near) && are_alike(near, far) && is_copied(near)?)
+fn tells_alike(near: &Value, far: &Value) -> bool {
+    tells_list(near) & are_alike(near, far) & is_copied(near)
 }
 
 /// Whether the values of the two documents do so.
-fn tells_values(near: &Document, far: &Document) -> Result<bool, AllocError> {
+fn tells_values(near: &Document, far: &Document) -> bool {
     match (value_in(near), value_in(far)) {
         (Some(near), Some(far)) => tells_alike(near, far),
-        _ => Ok(false),
+        _ => false,
     }
 }
 
 #[test]
-fn asks_values(rt: HostRuntime) -> Result<(), Fail> {
-    let near = read(rt.alloc(), "query @d(a: [{a: [1]}]) { f }").ok_or("near")?;
-    let far = read(rt.alloc(), "query Far @d(a: [ { a: [1] } ]) { f }").ok_or("far")?;
-    hold(
-        &rt,
-        tells_values(near.content(), far.content())?,
-        "a list, places, the copy",
-    );
-    Ok(())
+fn asks_values(rt: HostRuntime) {
+    let near = read(&rt, rt.alloc(), "query @d(a: [{a: [1]}]) { f }");
+    let far = read(&rt, rt.alloc(), "query Far @d(a: [ { a: [1] } ]) { f }");
+    let is_so = tells_values(near.content(), far.content());
+    hold(&rt, is_so, "a list, places, the copy");
 }
 
 /// Whether the value is `[true, -2147483648]`.
@@ -122,10 +122,8 @@ fn tells_plain(value: &Value) -> bool {
 
 #[test]
 fn asks_plain_values(rt: HostRuntime) {
-    let is_told = match read(rt.alloc(), "query @d(a: [true, -2147483648]) { f }") {
-        Some(document) => value_in(document.content()).is_some_and(tells_plain),
-        None => false,
-    };
+    let document = read(&rt, rt.alloc(), "query @d(a: [true, -2147483648]) { f }");
+    let is_told = value_in(document.content()).is_some_and(tells_plain);
     hold(&rt, is_told, "true, and the least");
 }
 
@@ -153,26 +151,36 @@ fn tells_numbers(rt: HostRuntime) {
     are_numbers(&rt, &neither, false, false);
 }
 
-/// Whether the number is given back.
-fn comes_back(alloc: Global, number: i32) -> Result<bool, AllocError> {
-    Ok(IntValue::from_i32(alloc, number)?.try_to_i32() == Some(number))
+/// The number has this text, and is given back.
+fn comes_back(rt: &impl Abort, alloc: Global, number: i32, text: &str) {
+    let value = got(rt, IntValue::from_i32(alloc, number));
+    let is_so = (value.as_str() == text) & (value.try_to_i32() == Some(number));
+    hold(rt, is_so, text);
+}
+
+/// The token is too large for a number.
+fn is_large(rt: &impl Abort, alloc: Global, text: &str) {
+    if IntValue::valid_syntax(text) {
+        let value = got(rt, IntValue::new_parsed(alloc, text));
+        hold(rt, value.try_to_i32().is_none(), text);
+    }
+    is_number(rt, text, true, false);
+}
+
+/// The token is one of a float, and its value has this text.
+fn is_kept(rt: &impl Abort, alloc: Global, text: &str) {
+    if FloatValue::valid_syntax(text) {
+        let value = got(rt, FloatValue::new_parsed(alloc, text));
+        same_text(rt, value.as_str(), text);
+    }
+    is_number(rt, text, false, true);
 }
 
 #[test]
-fn makes_numbers(rt: HostRuntime) -> Result<(), Fail> {
+fn makes_numbers(rt: HostRuntime) {
     let alloc = rt.alloc();
-    same_text(&rt, IntValue::from_i32(alloc, -305)?.as_str(), "-305");
-    hold(&rt, comes_back(alloc, -2147483648)?, "the least");
-    let large = "2147483648";
-    if IntValue::valid_syntax(large) {
-        let value = IntValue::new_parsed(alloc, large)?;
-        hold(&rt, value.try_to_i32().is_none(), large);
-    }
-    let half = "0.5";
-    if FloatValue::valid_syntax(half) {
-        same_text(&rt, FloatValue::new_parsed(alloc, half)?.as_str(), half);
-    }
-    is_number(&rt, large, true, false);
-    is_number(&rt, half, false, true);
-    Ok(())
+    comes_back(&rt, alloc, -305, "-305");
+    comes_back(&rt, alloc, -2147483648, "-2147483648");
+    is_large(&rt, alloc, "2147483648");
+    is_kept(&rt, alloc, "0.5");
 }

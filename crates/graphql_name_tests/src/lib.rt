@@ -1,0 +1,6 @@
+//! Tests of names, places, shared nodes and devices: each public call of `graphql_names` once, and devices that stop at each
+//! byte. It has no code but these.
+#![tactic(auto)]
+
+#[cfg(test)]
+mod tests;

@@ -1,0 +1,6 @@
+pub mod FieldKinds
+pub mod FieldPlaces
+pub mod SameUses
+pub mod Members
+pub mod Takers
+pub mod Selecting

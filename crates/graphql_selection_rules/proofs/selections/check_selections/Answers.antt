@@ -1,0 +1,49 @@
+use Rattle.std.proofs.Common.{◌∙◌, ap, subst}
+use Rattle.std.proofs.lemmas.Result.{on_ok_weaker}
+use Rattle.graphql_names.specs.Placed.{node_tree}
+use Rattle.graphql_directives.specs.DirectiveTree.{directives_tree}
+use Rattle.graphql_directives.specs.OperationQueries.{location_of_operation}
+use Rattle.graphql_directives.specs.declared.directive_location.DirectiveLocation.TheVariants as location
+use Rattle.graphql_schema_types.specs.Plain.{plain}
+use Rattle.graphql_schema_types.specs.Addresses.{place_at}
+use Rattle.graphql_schema.specs.SchemaOf.{schema_tree}
+use Rattle.graphql_typed_operations.specs.TypedDocument.{typed_operation_tree}
+use Rattle.graphql_typed_operations.specs.declared.operation.Operation.{Operation}
+use Rattle.graphql_typing.specs.DocumentView.{meant_by_operation}
+use Rattle.graphql_typing.specs.Meanings.{meanings}
+use Rattle.graphql_fault_data.specs.FaultView.{faults_of}
+use Rattle.graphql_fault_data.specs.Adds.{Adds}
+use Rattle.graphql_rule_definitions.specs.Words.{AtSomeIndex}
+use Rattle.graphql_rule_definitions.specs.Judged.{judged}
+use Rattle.graphql_rule_definitions.specs.Uses.{UsesBreak}
+use Rattle.graphql_value_rules.specs.Wanting.{variables_of}
+use Rattle.graphql_use_rules.specs.Trees.{directives_of}
+use Rattle.graphql_use_rules.proofs.Listing.{gains_both, gains_same}
+use Rattle.graphql_reach.specs.Reach.{reached_members, reached_fragments_of}
+use Rattle.graphql_reach.proofs.TypedReached.{typed_member}
+use Rattle.graphql_selection_rules.specs.Steps.{SelectionBreaks}
+use Rattle.graphql_selection_rules.proofs.Selecting.{selections_break}
+use Rattle.graphql_selection_rules.proofs.selections.check_selections.Goals as goal
+
+pub returns : goal.returns
+returns c =
+    let s = schema_tree c.args.schema.now in
+    let o = meant_by_operation (node_tree typed_operation_tree c.args.operation.now) in
+    let r = c.args.reach.now in
+    let is = c.content-operation.ensures in
+    let a = faults_of c.args.faults.now in
+    let b = faults_of c.check_uses.new.faults in
+    let d = faults_of c.check_each_selection.new.faults in
+    let e = faults_of c.check_fragments.new.faults in
+    let vs = ap variables_of c.as_slice-variables.ensures.value ∙ ap (λ (x : Operation). variables_of x.variables.items) is in
+    let used = ap directives_of c.deref.ensures.value ∙ ap (λ (x : Operation). directives_tree x.directives) is in
+    let at = c.from-location.ensures ∙ ap (λ (x : Operation). location_of_operation x.operation_type) is in
+    on_ok_weaker c.check_fragments.result
+    (λ h doc reaches typed among. gains_same a e (selections_break doc o (reached_members r) (reached_fragments_of r) reaches s)
+    (gains_both a b e
+    (subst (λ (X : Type 0). X) (λ i. Adds c.args.faults.now c.check_uses.new.faults (UsesBreak (place_at s) (judged s) (vs i) (at i) (used i))) c.in_ok-check_uses.ensures)
+    (gains_both b d e
+    (subst (λ (X : Type 0). X) (λ i. Adds c.check_uses.new.faults c.check_each_selection.new.faults (λ f. AtSomeIndex (reached_members r) (λ k x. SelectionBreaks s (vs i) x f)))
+    (c.in_ok-check_each_selection.ensures (λ x k. typed_member (meanings (plain s)) doc typed o among (reached_members r) (reached_fragments_of r) reaches x k)))
+    (subst (λ (X : Type 0). X) (λ i. Adds c.check_each_selection.new.faults c.check_fragments.new.faults (λ f. AtSomeIndex (reached_fragments_of r) (λ k x. UsesBreak (place_at s) (judged s) (vs i) location.FragmentDefinition x.directives f))) h))))
+    c.check_fragments.ensures

@@ -1,0 +1,15 @@
+//! Rules on each selection that an operation reaches (sections 5.3.3, 5.4, 5.6, 5.7 and 5.8): fields of composite types select
+//! some of their fields, and arguments and directives keep the rules on uses.
+//!
+//! For the layers above: each check adds exactly the faults by which the rules of its name break, over what the operation
+//! reaches in a document: `SelectionsBreak` under a schema, `GivenInBreaks` without one.
+//!
+//! Begin with `selections.rt`, then `fields.rt`.
+#![tactic(auto)]
+
+mod alone;
+mod fields;
+mod selections;
+
+pub use alone::check_selections_alone;
+pub use selections::check_selections;

@@ -1,0 +1,17 @@
+pub mod Inside
+pub mod Positions
+pub mod Closing
+pub mod Lookups
+pub mod Rooted
+pub mod Lent
+pub mod Telling
+pub mod Staying
+pub mod Found
+pub mod Listing
+pub mod Subscribed
+pub mod Deferred
+pub mod Nested
+pub mod Sets
+pub mod Bounded
+pub mod Entering
+pub mod Introspected
