@@ -23,8 +23,6 @@ mod node_laws;
 mod node_str;
 mod places;
 mod span;
-#[cfg(test)]
-mod tests;
 
 pub use clones::{copies_of_five, copies_of_four, copies_of_three, copies_of_two};
 pub use cut::{Cut, Ending};
