@@ -1,0 +1,5 @@
+pub mod Settled
+pub mod Going
+pub mod Sharing
+pub mod Contents
+pub mod Laws
