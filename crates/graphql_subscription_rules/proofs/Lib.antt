@@ -15,3 +15,4 @@ pub mod Sets
 pub mod Bounded
 pub mod Entering
 pub mod Introspected
+pub mod Labelled

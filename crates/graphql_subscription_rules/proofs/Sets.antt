@@ -4,7 +4,7 @@ use Rattle.std.specs.Prelude.{if◌then◌else◌, not}
 use Rattle.std.specs.Borrow.{Bor}
 use Rattle.std.specs.List.{flat_map, list_any, cons_option}
 use Rattle.std.specs.Map.{values_of}
-use Rattle.std.specs.Option.{option_map, option_map_or}
+use Rattle.std.specs.Option.{option_map}
 use Rattle.graphql_names.specs.Node.{content}
 use Rattle.graphql_names.specs.Placed.{Placed, Place, node_tree}
 use Rattle.graphql_names.specs.NameValue.{NameValue}
@@ -30,12 +30,12 @@ use Rattle.graphql_document_rule_definitions.specs.Limits.{path_bound}
 use Rattle.graphql_subscription_rules.specs.Told.{document_meant}
 use Rattle.graphql_subscription_rules.specs.Inside.{contents_in, contents_along, contents_of, contents_below}
 use Rattle.graphql_subscription_rules.specs.Nested.{deeper_in, deeper_along, deeper_of, some_nests}
-use Rattle.graphql_subscription_rules.specs.Rooted.{lent, operation_set, fragment_set, alone_so}
+use Rattle.graphql_subscription_rules.specs.Rooted.{lent, operation_set, fragment_set, alone_so, alone_told}
 use Rattle.std.proofs.lemmas.List.{take_all}
 use Rattle.graphql_subscription_rules.proofs.Telling.{any_there}
 use Rattle.std.proofs.lemmas.Grind.{flat_map-append}
 
-flat_map-flat_map : {A B C : Type 0} (f : B → List C) (g : A → List B) (xs : List A) → flat_map f (flat_map g xs) ≡ flat_map (λ x. flat_map f (g x)) xs
+pub flat_map-flat_map : {A B C : Type 0} (f : B → List C) (g : A → List B) (xs : List A) → flat_map f (flat_map g xs) ≡ flat_map (λ x. flat_map f (g x)) xs
 flat_map-flat_map f g [] = refl
 flat_map-flat_map f g (x ∷ xs) = flat_map-append f (g x) (flat_map g xs) ∙ ap (λ l. flat_map f (g x) ++ l) (flat_map-flat_map f g xs)
 
@@ -109,18 +109,14 @@ module _ {B : Type 0} (h : MeantSet Place → List B) where
   fragments_told [] = refl
   fragments_told (e ∷ es) = ap (λ l. h (fragment_set e.1) ++ l) (fragments_told es)
 
-  -- what the operation without a name tells
-  abbrev pub told_alone : Option (Node Operation) → List B
-  told_alone o = option_map_or (λ n. h (operation_set n)) o []
-
-  with_alone : (o : Option (Node Operation)) (os : List (MeantOperation Place)) → flat_map (λ (o : MeantOperation Place). h o.set) (cons_option (option_map meant_by_operation (option_map (node_tree typed_operation_tree) o)) os) ≡ told_alone o ++ flat_map (λ (o : MeantOperation Place). h o.set) os
+  with_alone : (o : Option (Node Operation)) (os : List (MeantOperation Place)) → flat_map (λ (o : MeantOperation Place). h o.set) (cons_option (option_map meant_by_operation (option_map (node_tree typed_operation_tree) o)) os) ≡ alone_told h o ++ flat_map (λ (o : MeantOperation Place). h o.set) os
   with_alone None os = refl
   with_alone (Some n) os = refl
 
   -- the sets of all operations and fragments
   pub document_told : (d : ExecutableDocument) → flat_map (λ (o : MeantOperation Place). h o.set) (operations (document_meant d)) ++ flat_map (λ (f : MeantFragment Place). h f.set) (fragments (document_meant d))
-      ≡ (told_alone d.operations.anonymous ++ flat_map (λ n. h (operation_set n)) (values_of d.operations.named.entries)) ++ flat_map (λ n. h (fragment_set n)) (values_of d.fragments.entries)
-  document_told d = λ i. (with_alone d.operations.anonymous (named_operations d.operations.named.entries) ∙ ap (λ l. told_alone d.operations.anonymous ++ l) (operations_told d.operations.named.entries)) i ++ fragments_told d.fragments.entries i
+      ≡ (alone_told h d.operations.anonymous ++ flat_map (λ n. h (operation_set n)) (values_of d.operations.named.entries)) ++ flat_map (λ n. h (fragment_set n)) (values_of d.fragments.entries)
+  document_told d = λ i. (with_alone d.operations.anonymous (named_operations d.operations.named.entries) ∙ ap (λ l. alone_told h d.operations.anonymous ++ l) (operations_told d.operations.named.entries)) i ++ fragments_told d.fragments.entries i
 
 module _ (h : MeantSet Place → Bool) where
   any_operation : (es : List (NameValue × Node Operation)) → list_any (λ (o : MeantOperation Place). h o.set) (named_operations es) ≡ list_any (λ n. h (operation_set n)) (values_of es)

@@ -5,3 +5,4 @@ pub mod Listed
 pub mod Nested
 pub mod Rooted
 pub mod Always
+pub mod Labels

@@ -1,15 +1,14 @@
--- What each rule tells of one selection, directive or label, as a list (private: it leads to `Subscriptions.antt` and `Defer.antt` of the
+-- What each rule tells of one selection or directive, as a list (private: it leads to `Subscriptions.antt` and `Defer.antt` of the
 -- rules' definitions).
-use Rattle.std.specs.Prelude.{ℕ, ◌++◌, Bool, true, false, ◌&&◌, ◌||◌, not, nat_lt, List, [], ◌∷◌, length, map, flat_map, filter_map, find, codes, bytes_eq, is_some, Option, None, Some, option_map, option_to_list, unwrap_or, if◌then◌else◌}
+use Rattle.std.specs.Prelude.{ℕ, ◌++◌, Bool, true, false, ◌&&◌, ◌||◌, not, nat_lt, List, [], ◌∷◌, length, flat_map, codes, bytes_eq, is_some, unwrap_or, if◌then◌else◌}
 use Rattle.std.specs.List.{list_any}
 use Rattle.std.specs.Option.{option_map_or}
-use Rattle.graphql_names.specs.Placed.{Placed, Text}
+use Rattle.graphql_names.specs.Placed.{Placed}
 use Rattle.graphql_literals.specs.ValueTree.{ValueTree}
-use Rattle.graphql_literals.specs.ValueQueries.{variable_name, string_text, boolean_value}
-use Rattle.graphql_directives.specs.DirectiveTree.{DirectiveTree, Directives}
-use Rattle.graphql_directives.specs.DirectiveQueries.{given_value, directive_has_name}
+use Rattle.graphql_literals.specs.ValueQueries.{variable_name, boolean_value}
+use Rattle.graphql_directives.specs.DirectiveTree.{DirectiveTree}
 use Rattle.graphql_meant_documents.specs.MeantTree.{MeantSelection, MeantField, MeantSpread, MeantInline, MeantOperation}
-use Rattle.graphql_document_faults.specs.DocumentBreaches.{SubscriptionUsesMultipleFields, SubscriptionUsesIntrospection, SubscriptionUsesConditionalSelection, DeferLabelMustNotBeVariable, DuplicateDeferLabel, DeferOnRootMutationOrSubscriptionField, DeferInSubscriptionMustBeConditional}
+use Rattle.graphql_document_faults.specs.DocumentBreaches.{SubscriptionUsesMultipleFields, SubscriptionUsesIntrospection, SubscriptionUsesConditionalSelection, DeferOnRootMutationOrSubscriptionField, DeferInSubscriptionMustBeConditional}
 use Rattle.graphql_rule_definitions.specs.Uses.{directive_name}
 use Rattle.graphql_document_rule_definitions.specs.DocumentFaults.{Broken, broken}
 use Rattle.graphql_document_rule_definitions.specs.Selected.{operation_name, selection_directives}
@@ -75,32 +74,3 @@ module _ {P : Type 0} where
 
   abbrev pub always_deferred : MeantSelection P → List (Broken P)
   always_deferred s = flat_map deferred_always (selection_directives s)
-
-  -- ---- labels
-
-  abbrev pub label_of : Placed P (DirectiveTree P) → List (Placed P (ValueTree P))
-  label_of e = if is_directive (codes "defer") e then option_to_list (given_value (codes "label") e.it.arguments) else []
-
-  abbrev pub labels_of : MeantSelection P → List (Placed P (ValueTree P))
-  labels_of s = flat_map label_of (selection_directives s)
-
-  -- the label, if it is a string
-  abbrev pub string_label : Placed P (ValueTree P) → List (Text P)
-  string_label v = option_map_or (λ t. record { it = t; place = v.place } ∷ []) (string_text v.it) []
-
-  abbrev pub variable_label : Placed P (ValueTree P) → List (Broken P)
-  variable_label v = option_map_or (λ n. broken v.place DeferLabelMustNotBeVariable ∷ []) (variable_name v.it) []
-
-  -- a string label at a place, where the first of its text before it has this place
-  abbrev pub label_again : P → List ℕ → Option P → List (Broken P)
-  label_again place text first = option_map_or (λ p. broken place (DuplicateDeferLabel text p) ∷ []) first []
-
-  -- the place of the first of that text
-  abbrev pub first_place : List ℕ → List (Text P) → Option P
-  first_place text ts = option_map (λ t. t.place) (find (λ t. bytes_eq text t.it) ts)
-
-  abbrev pub duplicate_label : List (Placed P (ValueTree P)) → Placed P (ValueTree P) → List (Broken P)
-  duplicate_label before v = option_map_or (λ t. label_again v.place t (first_place t (flat_map string_label before))) (string_text v.it) []
-
-  abbrev pub label_breaks : List (Placed P (ValueTree P)) → Placed P (ValueTree P) → List (Broken P)
-  label_breaks before v = variable_label v ++ duplicate_label before v

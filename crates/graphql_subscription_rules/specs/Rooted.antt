@@ -32,6 +32,10 @@ fragment_set n = meant_of_set (typed_set_tree (content n).selection_set)
 abbrev pub alone_so : (MeantSet Place → Bool) → Option (Node Operation) → Bool
 alone_so h o = option_map_or (λ n. h (operation_set n)) o false
 
+-- what is told of it, if there is one
+abbrev pub alone_told : {B : Type 0} → (MeantSet Place → List B) → Option (Node Operation) → List B
+alone_told h o = option_map_or (λ n. h (operation_set n)) o []
+
 -- nothing stands in it twice
 abbrev pub Apart : {X : Type 0} → List X → Type 0
 Apart [] = Unit {0}
