@@ -1,0 +1,4 @@
+pub mod ContentEquality
+pub mod MeantStandings
+pub mod FieldBridge
+pub mod Pushed
