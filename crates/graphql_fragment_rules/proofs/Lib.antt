@@ -1,0 +1,4 @@
+pub mod Telling
+pub mod Members
+pub mod Undefined
+pub mod Targeted
