@@ -1,0 +1,7 @@
+pub mod Noting
+pub mod Operations
+pub mod Fragments
+pub mod Data
+pub mod Ordered
+pub mod WholeAlone
+pub mod Telling

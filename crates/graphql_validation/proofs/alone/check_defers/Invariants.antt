@@ -1,0 +1,13 @@
+use Rattle.std.proofs.Common.{◌≡◌, ◌++◌, map}
+use Rattle.graphql_document_rule_definitions.specs.Defer.{DeferBreaks}
+use Rattle.graphql_typed_operations.specs.OperationsByName.{left_operations}
+use Rattle.graphql_rule_definitions.specs.Words.{AtSomeIndex}
+use Rattle.graphql_document_rule_definitions.specs.Selected.{operations}
+use Rattle.graphql_subscription_rules.specs.Told.{document_meant, operation_meant}
+use Rattle.graphql_reach.specs.Broken.{AddsBroken}
+use Rattle.graphql_validation.proofs.Operations.{lent_operations}
+use Rattle.graphql_validation.proofs.alone.check_defers.Given as goal
+
+abbrev pub invariant-loop-operation : goal.invariant-loop-operation
+invariant-loop-operation l = AddsBroken l.fn.breaches l.breaches (λ f. AtSomeIndex (lent_operations l.yielded) (λ k o. DeferBreaks (document_meant l.document) o f))
+    × (lent_operations l.yielded ++ map operation_meant (left_operations l.operation-iterator) ≡ operations (document_meant l.document))

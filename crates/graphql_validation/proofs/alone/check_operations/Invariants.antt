@@ -1,0 +1,15 @@
+use Rattle.std.proofs.Common.{◌≡◌, ◌++◌, map}
+use Rattle.graphql_fault_data.specs.Adds.{Adds}
+use Rattle.graphql_typed_operations.specs.OperationsByName.{left_operations}
+use Rattle.graphql_rule_definitions.specs.Words.{AtSomeIndex}
+use Rattle.graphql_document_rule_definitions.specs.Selected.{operations}
+use Rattle.graphql_subscription_rules.specs.Told.{document_meant, operation_meant}
+use Rattle.graphql_fragment_cycles.specs.Used.{names_of}
+use Rattle.graphql_validation.specs.Operations.{OperationFailsAlone, ReachesNamed, NotesNames}
+use Rattle.graphql_validation.proofs.Operations.{lent_operations}
+use Rattle.graphql_validation.proofs.alone.check_operations.Given as goal
+
+abbrev pub invariant-loop-operation : goal.invariant-loop-operation
+invariant-loop-operation l = Adds l.fn.found.faults l.found.faults (λ f. AtSomeIndex (lent_operations l.yielded) (λ k o. OperationFailsAlone (document_meant l.document) o f))
+    × (NotesNames (names_of l.fn.found.used) (names_of l.found.used) (λ n. AtSomeIndex (lent_operations l.yielded) (λ k o. ReachesNamed (document_meant l.document) o n)))
+    × (lent_operations l.yielded ++ map operation_meant (left_operations l.operation-iterator) ≡ operations (document_meant l.document))

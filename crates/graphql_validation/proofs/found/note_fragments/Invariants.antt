@@ -1,0 +1,8 @@
+use Rattle.std.proofs.Common.{◌≡◌, drop, map}
+use Rattle.graphql_fragment_cycles.specs.Used.{names_of}
+use Rattle.graphql_reach.specs.Reach.{fragment_of}
+use Rattle.graphql_validation.specs.Operations.{with_fragments}
+use Rattle.graphql_validation.proofs.found.note_fragments.Given as goal
+
+abbrev pub invariant-loop-index : goal.invariant-loop-index
+invariant-loop-index l = with_fragments (names_of l.fn.names) (map fragment_of l.reach.fragments.items) ≡ with_fragments (names_of l.names) (map fragment_of (drop l.index l.reach.fragments.items))
