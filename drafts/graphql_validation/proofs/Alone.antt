@@ -1,0 +1,69 @@
+-- Of a document without a schema: what is told in parts tells all, and what is silent is valid.
+use Rattle.std.proofs.Common.{◌≡◌, ◌↔◌, ◌⊎◌, inl, inr, ◌++◌, ℕ, Bool, true, false, List, [], ◌∷◌, map, refl, ap, sym, ◌∙◌, subst, Contains}
+use Rattle.std.specs.Prelude.{IsTrue}
+use Rattle.std.specs.List.{IsDistinct}
+use Rattle.std.specs.Map.{keys_of}
+use Rattle.std.specs.Str.{bytes_eq}
+use Rattle.std.proofs.lemmas.List.Elements.{Contains-append_left, Contains-append_right, Contains-append_cases}
+use Rattle.graphql_names.specs.Placed.{Place}
+use Rattle.graphql_rule_definitions.proofs.Lists.{not_in_nil, only, Contains-first}
+use Rattle.graphql_meant_documents.specs.MeantTree.{MeantOperation, MeantFragment, MeantDocument}
+use Rattle.graphql_meant_documents.specs.Unplaced.{unplaced_document}
+use Rattle.graphql_rule_definitions.specs.Told.{PlacedFault}
+use Rattle.graphql_document_rule_definitions.specs.DocumentFaults.{Broken, DocumentFault, OfData, OfDocument, OfLimit}
+use Rattle.graphql_document_rule_definitions.specs.DocumentRules.{DeferredBreaks}
+use Rattle.graphql_document_rule_definitions.specs.Fragments.{ReachesItself}
+use Rattle.graphql_document_rule_definitions.specs.Limits.{PassesPathBound}
+use Rattle.graphql_document_rule_definitions.specs.Reached.{AtOperation}
+use Rattle.graphql_document_rule_definitions.specs.Verdict.{WithinBounds}
+use Rattle.graphql_document_rule_definitions.specs.Named.{AreNamed}
+use Rattle.graphql_document_rule_definitions.specs.Told.{PlacedDocumentFault, DocumentFailsAlone, DocumentBoundFails, IsValidAlone}
+use Rattle.graphql_document_rule_definitions.proofs.Verdicts.{valid_alone_where_nothing_is_told, within_bounds_where_nothing_is_told}
+use Rattle.graphql_fragment_cycles.specs.Used.{IsUsed}
+use Rattle.graphql_reach.proofs.Bridge.{from_map, to_map}
+use Rattle.graphql_validation.specs.Operations.{TellsData, AllAlone, OperationFailsAlone, bound_told, all_told}
+use Rattle.graphql_validation.proofs.Telling.{data_in, broken_in, told_cases, bound_is}
+use Rattle.graphql_validation.proofs.Ordered.{beside_alone}
+use Rattle.graphql_validation.specs.Told.{FailsAloneBesideCycles, AnswersFragment, TellsAlone}
+
+module _ (d : MeantDocument Place) where
+  pub tells_alone : (faults : List PlacedFault) (breaches : List (Broken Place)) (is_passed : Bool) → TellsData d (AllAlone d) (OperationFailsAlone d) faults → ((f : Broken Place) → Contains breaches f ↔ DeferredBreaks d f) → (IsTrue is_passed → PassesPathBound d)
+      → TellsAlone d (all_told faults breaches is_passed)
+  tells_alone faults breaches is_passed parts deferred passes = record { right = right; full = full; cycles = cycles }
+    where
+      right : (f : PlacedDocumentFault) → Contains (all_told faults breaches is_passed) f → DocumentFailsAlone d f ⊎ DocumentBoundFails d f
+      right f c = elim (told_cases faults breaches is_passed f c) [
+        | inl g ↦ subst (λ x. DocumentFailsAlone d x ⊎ DocumentBoundFails d x) g.1.1 (elim (parts.right g.0 g.1.0) [ inl h ↦ inl h | inr h ↦ inr (inl h) ])
+        | inr r ↦ elim r [
+          | inl b ↦ subst (λ x. DocumentFailsAlone d x ⊎ DocumentBoundFails d x) b.1.1 (inl ((deferred b.0).0 b.1.0))
+          | inr k ↦ let b = bound_is is_passed f k in inr (inr (inl (passes b.0, inr b.1)))
+        ]
+      ]
+
+      full : (f : PlacedDocumentFault) → FailsAloneBesideCycles d f → Contains (all_told faults breaches is_passed) f
+      full (OfData f) h = data_in faults breaches is_passed f (parts.full f h)
+      full (OfDocument b) h = broken_in faults breaches is_passed b ((deferred b).1 h)
+      full (OfLimit place) h = absurd h
+
+      cycles : (g : MeantFragment Place) → IsUsed d g → ReachesItself d g → (f : PlacedDocumentFault) × (Contains (all_told faults breaches is_passed) f × AnswersFragment g f)
+      cycles g reached itself = let f = parts.cycles g reached itself in (OfData f.0, (data_in faults breaches is_passed f.0 f.1.0, (f.0, (refl, f.1.1))))
+
+  never : TellsAlone d [] → (f : PlacedDocumentFault) → DocumentFailsAlone d f → ⊥
+  never tells (OfData f) (inl at) = elim (beside_alone d at.0 f at.1.1) [
+    | inl h ↦ not_in_nil (OfData f) (tells.full (OfData f) (inl (at.0, (at.1.0, h))))
+    | inr g ↦ let t = tells.cycles g.0 (at.0, (at.1.0, g.1.0)) g.1.1 in not_in_nil t.0 t.1.0
+  ]
+  never tells (OfData f) (inr h) = not_in_nil (OfData f) (tells.full (OfData f) (inr h))
+  never tells (OfDocument b) h = not_in_nil (OfDocument b) (tells.full (OfDocument b) h)
+  never tells (OfLimit place) h = h
+
+  pub silent_is_valid : AreNamed d → TellsAlone d [] → IsValidAlone d
+  silent_is_valid named tells = (valid_alone_where_nothing_is_told d named).1 (never tells)
+
+  -- nothing is told of what is valid and within the bounds
+  pub valid_is_silent : AreNamed d → (told : List PlacedDocumentFault) → TellsAlone d told → IsValidAlone d → WithinBounds (unplaced_document d) → told ≡ []
+  valid_is_silent named [] tells valid within = refl
+  valid_is_silent named (f ∷ fs) tells valid within = elim (tells.right f (Contains-first f fs f refl)) [
+    | inl h ↦ absurd ((valid_alone_where_nothing_is_told d named).0 valid f h)
+    | inr h ↦ absurd ((within_bounds_where_nothing_is_told d).0 within f h)
+  ]

@@ -1,0 +1,81 @@
+-- What is told, in order, as one list.
+use Rattle.std.proofs.Common.{◌≡◌, ◌⊎◌, inl, inr, ◌++◌, Contains, Bool, true, false, List, [], ◌∷◌, length, arith, append-nil, map, None, refl, ap, sym, ◌∙◌, append_assoc}
+use Rattle.std.proofs.lemmas.List.{map-append, length-append, length-map, nil_from_length}
+use Rattle.std.specs.Prelude.{IsTrue}
+use Rattle.std.proofs.lemmas.List.Elements.{Contains-append_left, Contains-append_right, Contains-append_cases}
+use Rattle.graphql_names.specs.Placed.{Place}
+use Rattle.graphql_rule_definitions.specs.Told.{PlacedFault}
+use Rattle.graphql_faults.specs.DetailsTree.{DetailsAt, of_rule}
+use Rattle.graphql_document_rule_definitions.specs.DocumentFaults.{Broken, OfData, OfDocument, OfLimit}
+use Rattle.graphql_document_rule_definitions.specs.Told.{PlacedDocumentFault}
+use Rattle.graphql_rule_definitions.proofs.Lists.{not_in_nil, only}
+use Rattle.graphql_reach.proofs.Bridge.{from_map, to_map}
+use Rattle.graphql_validation.specs.Operations.{bound_told, all_told}
+use Rattle.graphql_validation.specs.Told.{Telling, of_document}
+
+data_told : (faults : List PlacedFault) → map of_document (map OfData faults) ≡ map of_rule faults
+data_told [] = refl
+data_told (f ∷ fs) = ap (λ l. of_rule f ∷ l) (data_told fs)
+
+breaches_told : (breaches : List (Broken Place)) → map of_document (map OfDocument breaches) ≡ map (λ b. of_document (OfDocument b)) breaches
+breaches_told [] = refl
+breaches_told (b ∷ bs) = ap (λ l. of_document (OfDocument b) ∷ l) (breaches_told bs)
+
+-- one part behind another
+pub told_in_turn : (old one two new : Telling) (faults : List PlacedFault) (breaches : List (Broken Place)) (is_passed : Bool)
+    → one ≡ old ++ map of_rule faults → two ≡ one ++ map (λ b. of_document (OfDocument b)) breaches → new ≡ two ++ map of_document (bound_told is_passed)
+    → new ≡ old ++ map of_document (all_told faults breaches is_passed)
+told_in_turn old one two new faults breaches is_passed a b c =
+    let fs = map of_rule faults in
+    let bs = map (λ b. of_document (OfDocument b)) breaches in
+    let l = map of_document (bound_told is_passed) in
+    c ∙ ap (λ t. t ++ l) (b ∙ ap (λ t. t ++ bs) a)
+    ∙ append_assoc (old ++ fs) bs l ∙ append_assoc old fs (bs ++ l)
+    ∙ ap (λ t. old ++ t) (sym (
+      map-append of_document (map OfData faults) (map OfDocument breaches ++ bound_told is_passed)
+      ∙ (λ i. data_told faults i ++ (map-append of_document (map OfDocument breaches) (bound_told is_passed) ∙ ap (λ t. t ++ l) (breaches_told breaches)) i)
+    ))
+
+-- ---- what is in the list
+
+module _ (faults : List PlacedFault) (breaches : List (Broken Place)) (is_passed : Bool) where
+  abbrev All : List PlacedDocumentFault
+  All = all_told faults breaches is_passed
+
+  -- a fault with data, another one
+  pub data_in : (f : PlacedFault) → Contains faults f → Contains All (OfData f)
+  data_in f c = Contains-append_left (map OfData faults) (map OfDocument breaches ++ bound_told is_passed) (OfData f) (to_map OfData faults f c)
+
+  pub broken_in : (b : Broken Place) → Contains breaches b → Contains All (OfDocument b)
+  broken_in b c =
+      Contains-append_right (map OfData faults) (map OfDocument breaches ++ bound_told is_passed) (OfDocument b)
+      (Contains-append_left (map OfDocument breaches) (bound_told is_passed) (OfDocument b) (to_map OfDocument breaches b c))
+
+  -- what is told is one of the three
+  pub told_cases : (f : PlacedDocumentFault) → Contains All f
+      → ((g : PlacedFault) × (Contains faults g × (OfData g ≡ f))) ⊎ (((b : Broken Place) × (Contains breaches b × (OfDocument b ≡ f))) ⊎ Contains (bound_told is_passed) f)
+  told_cases f c = elim (Contains-append_cases (map OfData faults) (map OfDocument breaches ++ bound_told is_passed) f c) [
+    | inl h ↦ inl (from_map OfData faults f h)
+    | inr h ↦ elim (Contains-append_cases (map OfDocument breaches) (bound_told is_passed) f h) [
+      | inl k ↦ inr (inl (from_map OfDocument breaches f k))
+      | inr k ↦ inr (inr k)
+    ]
+  ]
+
+-- the bound stands without a place
+pub bound_is : (is_passed : Bool) (f : PlacedDocumentFault) → Contains (bound_told is_passed) f → IsTrue is_passed × (f ≡ OfLimit None)
+bound_is false f c = absurd (not_in_nil f c)
+bound_is true f c = (refl, only (OfLimit None) f c)
+
+-- ---- behind what was told
+
+-- where nothing is added, nothing is told; and back
+pub nothing_told : (old new : Telling) (told : List PlacedDocumentFault) → new ≡ old ++ map of_document told → new ≡ old → told ≡ []
+nothing_told old new told is same =
+    let whole = ap length (sym is ∙ same) in
+    let parts = length-append old (map of_document told) in
+    let long = length-map told of_document in
+    nil_from_length told (omega (arith, whole, parts, long))
+
+pub told_nothing : (old new : Telling) (told : List PlacedDocumentFault) → new ≡ old ++ map of_document told → told ≡ [] → new ≡ old
+told_nothing old new told is none = is ∙ ap (λ l. old ++ map of_document l) none ∙ append-nil old

@@ -1,0 +1,72 @@
+-- What is judged operation by operation, and what is noted of the fragments (private: it leads to `specs/Told.antt`).
+use Rattle.std.specs.Prelude.{◌≡◌, ◌↔◌, ◌++◌, ℕ, Bool, true, false, List, [], ◌∷◌, map, Contains, None, ◌⊎◌}
+use Rattle.graphql_names.specs.Placed.{Place}
+use Rattle.graphql_schema_types.specs.SchemaTree.{SchemaTree}
+use Rattle.graphql_schema_types.specs.Plain.{plain}
+use Rattle.graphql_typing.specs.Meanings.{meanings}
+use Rattle.graphql_selection_rules.specs.Typed.{ReachesTyped}
+use Rattle.graphql_meant_documents.specs.MeantTree.{MeantOperation, MeantFragment, MeantDocument}
+use Rattle.graphql_rule_definitions.specs.Judged.{judged}
+use Rattle.graphql_rule_definitions.specs.Told.{PlacedFault}
+use Rattle.graphql_document_rule_definitions.specs.DocumentFaults.{Broken, OfData, OfDocument, OfLimit}
+use Rattle.graphql_document_rule_definitions.specs.Selected.{operations}
+use Rattle.graphql_document_rule_definitions.specs.Limits.{SpreadBoundFails}
+use Rattle.graphql_document_rule_definitions.specs.Reached.{ReachesFragment, AtOperation}
+use Rattle.graphql_document_rule_definitions.specs.Variables.{VariablesBreak, UniqueVariableAt, UniqueDefaultKeyAt, UnusedVariableAt}
+use Rattle.graphql_document_rule_definitions.specs.Fragments.{ReachesItself, UndefinedFragmentAt, UnusedFragmentAt, InvalidFragmentTargetAt, InvalidFragmentSpreadAt, FragmentsBreak}
+use Rattle.graphql_document_rule_definitions.specs.Selections.{SelectionsBreak}
+use Rattle.graphql_document_rule_definitions.specs.Standalone.{GivenInBreaks, OperationBreaksAlone}
+use Rattle.graphql_document_rule_definitions.specs.Told.{PlacedDocumentFault, places_in, places_alone}
+use Rattle.graphql_fragment_cycles.specs.Told.{Answers, TellsCycles}
+use Rattle.graphql_fragment_cycles.specs.Used.{IsUsed}
+
+module _ (d : MeantDocument Place) (o : MeantOperation Place) where
+  -- a rule without a schema fails so in an operation, that on fragments that reach themselves aside
+  abbrev pub OperationFailsAlone : PlacedFault → Type 0
+  OperationFailsAlone fault =
+      UniqueVariableAt o fault ⊎ (UniqueDefaultKeyAt o fault ⊎ (UnusedVariableAt o fault places_alone d
+      ⊎ (UndefinedFragmentAt d fault o ⊎ GivenInBreaks places_alone d fault o)))
+
+  -- the same under a schema
+  abbrev pub OperationFails : SchemaTree Place → PlacedFault → Type 0
+  OperationFails s fault =
+      VariablesBreak (places_in s) (judged s) d o fault ⊎ (SelectionsBreak (places_in s) (judged s) d o fault
+      ⊎ (UndefinedFragmentAt d fault o ⊎ (InvalidFragmentTargetAt (judged s) d o fault ⊎ InvalidFragmentSpreadAt (judged s) d o fault (places_in s))))
+
+  -- the operation reaches a fragment of this name
+  abbrev pub ReachesNamed : List ℕ → Type 0
+  ReachesNamed n = (f : MeantFragment Place) × (ReachesFragment d o f × (f.name.it ≡ n))
+
+-- what operations reach is typed
+abbrev pub AreReachesTyped : SchemaTree Place → MeantDocument Place → Type 0
+AreReachesTyped s d = (o : MeantOperation Place) → Contains (operations d) o → ReachesTyped (meanings (plain s)) d o
+
+-- to the names that were noted come those of which this holds, and no others
+abbrev pub NotesNames : List (List ℕ) → List (List ℕ) → (List ℕ → Type 0) → Type 0
+NotesNames old new Q = (n : List ℕ) → Contains new n ↔ (Contains old n ⊎ Q n)
+
+-- behind these faults those of the fragments that no operation reaches, and then those of the fragments that reach themselves
+abbrev pub FragmentsTold : MeantDocument Place → List PlacedFault → List PlacedFault → Type 0
+FragmentsTold d old new = (unused : List PlacedFault) × (((f : PlacedFault) → Contains unused f ↔ UnusedFragmentAt d f) × TellsCycles d (old ++ unused) new)
+
+-- the faults with data of a document: `All` are those of an operation, `Beside` those but that fragments reach themselves
+pub record TellsData (d : MeantDocument Place) (All Beside : MeantOperation Place → PlacedFault → Type 0) (told : List PlacedFault) : Type 0 where
+  pub right : (f : PlacedFault) → Contains told f → (AtOperation d (λ o. All o f) ⊎ UnusedFragmentAt d f) ⊎ SpreadBoundFails places_alone d (OfData f)
+  pub full : (f : PlacedFault) → AtOperation d (λ o. Beside o f) ⊎ UnusedFragmentAt d f → Contains told f
+  pub cycles : (g : MeantFragment Place) → IsUsed d g → ReachesItself d g → (f : PlacedFault) × (Contains told f × Answers g f)
+
+-- all rules without a schema, all rules under one, with data, on an operation
+abbrev pub AllAlone : MeantDocument Place → MeantOperation Place → PlacedFault → Type 0
+AllAlone d o f = OperationBreaksAlone places_alone d f o
+
+abbrev pub AllUnder : SchemaTree Place → MeantDocument Place → MeantOperation Place → PlacedFault → Type 0
+AllUnder s d o f = VariablesBreak (places_in s) (judged s) d o f ⊎ (SelectionsBreak (places_in s) (judged s) d o f ⊎ FragmentsBreak (places_in s) (judged s) d o f)
+
+-- ---- what is told, in order: faults with data, then others, then the bound on how deep selections nest
+
+abbrev pub bound_told : Bool → List PlacedDocumentFault
+bound_told true = OfLimit None ∷ []
+bound_told false = []
+
+abbrev pub all_told : List PlacedFault → List (Broken Place) → Bool → List PlacedDocumentFault
+all_told faults breaches is_passed = map OfData faults ++ (map OfDocument breaches ++ bound_told is_passed)

@@ -1,0 +1,83 @@
+//! What is found in a document: faults, and the fragments that operations reach; and the rules on all fragments of it.
+ghost use Rattle.std.specs.Prelude.{◌≡◌, [], fold, map, IfOk, OnOk};
+ghost use Rattle.std.specs.List.{IsDistinct};
+ghost use Rattle.std.specs.Map.{keys_of};
+ghost use Rattle.std.specs.Str.{bytes_eq};
+ghost use Rattle.indexmap.specs.IndexSet.{insert_key};
+ghost use Rattle.graphql_reach.specs.Reach.{reached_fragments_of};
+ghost use Rattle.graphql_fault_data.specs.FaultView.{faults_of};
+ghost use Rattle.graphql_fragment_cycles.specs.Used.{AreUnderOwnNames, AreUsed, names_of};
+ghost use Rattle.graphql_subscription_rules.specs.Told.{document_meant};
+ghost use Rattle.graphql_validation.specs.Operations.{FragmentsTold};
+
+use graphql_fault_data::Fault;
+use graphql_fragment_cycles::{check_cycles, check_unused};
+use graphql_names::Name;
+use graphql_reach::Reach;
+use graphql_typed_operations::ExecutableDocument;
+use indexmap::IndexSet;
+use std::alloc::{AllocError, Global};
+
+/// The faults that were found so far, and the names of the fragments that the operations so far reach.
+#[derive(Drop)]
+pub(crate) struct Found {
+    pub(crate) faults: Vec<Fault>,
+    pub(crate) used: IndexSet<Name>,
+}
+
+impl Found {
+    /// Nothing.
+    pub(crate) fn new(alloc: Global) -> Found
+        ensures faults { result.faults.items ≡ [] }
+        ensures used { result.used.keys ≡ [] }
+    {
+        Found {
+            faults: Vec::new(alloc),
+            used: IndexSet::new(alloc),
+        }
+    }
+}
+
+/// Adds a name, unless it is there.
+fn note(name: &Name, names: &mut IndexSet<Name>) -> Result<(), AllocError>
+    ensures { OnOk result (names_of names.new ≡ insert_key bytes_eq (names_of names.old) name.now.text) }
+{
+    let name = name.clone()?;
+    names.insert(name)?;
+    Ok(())
+}
+
+/// Adds the name of each fragment that is reached.
+pub(crate) fn note_fragments(
+    reach: &Reach<'_>,
+    names: &mut IndexSet<Name>,
+) -> Result<(), AllocError>
+    ensures { OnOk result (names_of names.new ≡ fold (insert_key bytes_eq) (names_of names.old) (map (λ f. f.name.it) (reached_fragments_of reach.now))) }
+{
+    for index in 0..reach.fragments.len() {
+        note(&reach.fragments[index].content().name, names)?;
+    }
+    Ok(())
+}
+
+/// No two fragments of a document stand under one name. It says nothing else.
+pub(crate) fn fragments_differ(document: &ExecutableDocument)
+    ensures { IsDistinct bytes_eq (keys_of (document_meant document.now).fragments) }
+{
+    let _ = document.fragments.len();
+}
+
+/// The faults that were found, and behind them those of all fragments of the document: UnusedFragment, and
+/// RecursiveFragmentDefinition of those that an operation reaches.
+pub(crate) fn check_fragments(
+    document: &ExecutableDocument,
+    found: Found,
+) -> Result<Vec<Fault>, AllocError>
+    ensures { IfOk result (λ r. AreUnderOwnNames (document_meant document.now) → AreUsed (document_meant document.now) (names_of found.used) → FragmentsTold (document_meant document.now) (faults_of found.faults) (faults_of r)) }
+{
+    let Found { mut faults, used } = found;
+    let alloc = *faults.allocator();
+    check_unused(&document.fragments, &used, &mut faults)?;
+    check_cycles(alloc, &document.fragments, &used, &mut faults)?;
+    Ok(faults)
+}

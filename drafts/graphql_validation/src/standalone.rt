@@ -1,0 +1,39 @@
+//! Every rule on a document without a schema.
+ghost use Rattle.std.specs.Prelude.{◌≡◌, OnErr, OnOk};
+ghost use Rattle.graphql_meant_documents.specs.Unplaced.{unplaced_document};
+ghost use Rattle.graphql_document_rule_definitions.specs.Verdict.{WithinBounds};
+ghost use Rattle.graphql_document_rule_definitions.specs.Told.{IsValidAlone};
+ghost use Rattle.graphql_faults.specs.DetailsView.{diagnostics_of, BeginsAs};
+ghost use Rattle.graphql_fragment_cycles.specs.Used.{AreUnderOwnNames};
+ghost use Rattle.graphql_subscription_rules.specs.Told.{document_meant};
+ghost use Rattle.graphql_validation.specs.Told.{AloneTold};
+
+use crate::alone::{deferred_breaches, faults_alone};
+use crate::found::fragments_differ;
+use crate::told::append_all;
+use graphql_faults::DiagnosticList;
+use graphql_subscription_rules::passes_path_bound;
+use graphql_typed_operations::ExecutableDocument;
+use std::alloc::{AllocError, Global};
+
+/// Tells what breaks the rules that need no schema (sections 5.4.2, 5.5, 5.6.3, 5.7.1 and 5.8): UniqueArgument,
+/// UniqueInputValue, UniqueVariable, UnusedVariable, UndefinedFragment, UnusedFragment, RecursiveFragmentDefinition, those on
+/// `@defer`, and each directive that is used as UndefinedDirective. Nothing is told exactly where they hold, the bounds on
+/// how deep spreads and selections nest aside. Fragments stand under their own names, as in each document that is built.
+/// Where memory is refused the list begins as before.
+pub fn validate_standalone_executable(
+    alloc: Global,
+    list: &mut DiagnosticList,
+    document: &ExecutableDocument,
+) -> Result<(), AllocError>
+    ensures told { OnOk result (AreUnderOwnNames (document_meant document.now) → AloneTold (document_meant document.now) (diagnostics_of list.old) (diagnostics_of list.new)) }
+    ensures silent { OnOk result (AreUnderOwnNames (document_meant document.now) → diagnostics_of list.new ≡ diagnostics_of list.old → IsValidAlone (document_meant document.now)) }
+    ensures accepts { OnOk result (AreUnderOwnNames (document_meant document.now) → IsValidAlone (document_meant document.now) → WithinBounds (unplaced_document (document_meant document.now)) → diagnostics_of list.new ≡ diagnostics_of list.old) }
+    ensures begins { OnErr result (BeginsAs (diagnostics_of list.old) (diagnostics_of list.new)) }
+{
+    fragments_differ(document);
+    let faults = faults_alone(alloc, document)?;
+    let breaches = deferred_breaches(alloc, document)?;
+    let is_passed = passes_path_bound(document);
+    append_all(list, faults, breaches, is_passed)
+}

@@ -1,0 +1,55 @@
+//! Adding what is told to a list.
+ghost use Rattle.std.specs.Prelude.{◌≡◌, ◌++◌, map, OnErr, OnOk};
+ghost use Rattle.graphql_document_rule_definitions.specs.DocumentFaults.{OfDocument};
+ghost use Rattle.graphql_fault_data.specs.FaultView.{faults_of};
+ghost use Rattle.graphql_faults.specs.DetailsView.{diagnostics_of, BeginsAs};
+ghost use Rattle.graphql_reach.specs.Broken.{brokens_of};
+ghost use Rattle.graphql_validation.specs.Operations.{bound_told, all_told};
+ghost use Rattle.graphql_validation.specs.Told.{of_document};
+
+use graphql_document_faults::BuildError;
+use graphql_fault_data::Fault;
+use graphql_faults::{Details, DiagnosticList};
+use graphql_names::SourceSpan;
+use std::alloc::AllocError;
+
+/// What breaks a rule of documents that has no data of its own, and where.
+pub(crate) type Breach = (Option<SourceSpan>, BuildError);
+
+/// Adds the breaches at the end, in order. After a refusal the list begins as before.
+fn append_breaches(list: &mut DiagnosticList, breaches: Vec<Breach>) -> Result<(), AllocError>
+    ensures added { OnOk result (diagnostics_of list.new ≡ diagnostics_of list.old ++ map (λ b. of_document (OfDocument b)) (brokens_of breaches)) }
+    ensures begins { OnErr result (BeginsAs (diagnostics_of list.old) (diagnostics_of list.new)) }
+{
+    for (place, breach) in breaches {
+        list.push(place, Details::DocumentBuild(breach))?;
+    }
+    Ok(())
+}
+
+/// Adds that selections are nested too deeply, if they are.
+fn append_bound(list: &mut DiagnosticList, is_passed: bool) -> Result<(), AllocError>
+    ensures added { OnOk result (diagnostics_of list.new ≡ diagnostics_of list.old ++ map of_document (bound_told is_passed)) }
+    ensures kept { OnErr result (diagnostics_of list.new ≡ diagnostics_of list.old) }
+{
+    if is_passed {
+        list.push(None, Details::RecursionLimitError)?;
+    }
+    Ok(())
+}
+
+/// Adds all that is told of a document at the end: faults, then breaches, then the bound. After a refusal the list begins as
+/// before.
+pub(crate) fn append_all(
+    list: &mut DiagnosticList,
+    faults: Vec<Fault>,
+    breaches: Vec<Breach>,
+    is_passed: bool,
+) -> Result<(), AllocError>
+    ensures added { OnOk result (diagnostics_of list.new ≡ diagnostics_of list.old ++ map of_document (all_told (faults_of faults) (brokens_of breaches) is_passed)) }
+    ensures begins { OnErr result (BeginsAs (diagnostics_of list.old) (diagnostics_of list.new)) }
+{
+    list.append_faults(faults)?;
+    append_breaches(list, breaches)?;
+    append_bound(list, is_passed)
+}
