@@ -2,3 +2,8 @@ pub mod Telling
 pub mod Members
 pub mod Undefined
 pub mod Targeted
+pub mod Noted
+pub mod Objects
+pub mod Sharing
+pub mod Applying
+pub mod Spread

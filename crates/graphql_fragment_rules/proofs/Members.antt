@@ -1,5 +1,5 @@
 -- Spreads and inline fragments among typed selections, and what is under a name among fragments.
-use Rattle.std.proofs.Common.{◌≡◌, ◌∙◌, Bool, List, refl, ap, sym, Option, None, Some, true≢false, is_some}
+use Rattle.std.proofs.Common.{◌≡◌, ◌∙◌, refl, ap, sym, Option, None, Some, true≢false, is_some}
 use Rattle.std.specs.Option.{option_map}
 use Rattle.std.specs.Map.{lookup}
 use Rattle.std.specs.Str.{bytes_eq}

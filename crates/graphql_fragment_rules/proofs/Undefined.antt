@@ -1,5 +1,5 @@
 -- What is told of spreads is what breaks UndefinedFragment.
-use Rattle.std.proofs.Common.{◌≡◌, ◌∙◌, ℕ, Bool, true, false, List, [], ◌∷◌, refl, ap, sym, subst, Option, None, Some, is_some, true≢false}
+use Rattle.std.proofs.Common.{◌≡◌, ◌∙◌, ℕ, true, false, List, [], ◌∷◌, refl, ap, sym, subst, Option, None, Some, is_some, true≢false}
 use Rattle.std.specs.List.{flat_map}
 use Rattle.std.specs.Option.{option_map_or}
 use Rattle.graphql_names.specs.Node.{content, place}

@@ -1,1 +1,4 @@
 pub mod Listed
+pub mod Possible
+pub mod Noting
+pub mod Applied

@@ -109,7 +109,7 @@ fn check_inline_targets(
 
 /// Adds InvalidFragmentTarget for each fragment that is reached, by name or inline, on a type that is not composite. Fails where
 /// memory is refused.
-pub fn check_targets(
+pub(crate) fn check_targets(
     schema: &Schema,
     reach: &Reach<'_>,
     faults: &mut Vec<Fault>,

@@ -1,5 +1,4 @@
-use Rattle.std.proofs.Common.{◌≡◌, ◌∷◌, [], ap, sym, ◌∙◌, is_some}
-use Rattle.graphql_names.specs.Node.{content}
+use Rattle.std.proofs.Common.{◌∷◌, [], ap, sym, ◌∙◌, is_some}
 use Rattle.graphql_names.specs.NameValue.{NameValue}
 use Rattle.graphql_schema_types.specs.Addresses.{under}
 use Rattle.graphql_typed_selections.specs.TypedTree.{typed_selection_tree}
