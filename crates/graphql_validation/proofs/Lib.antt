@@ -3,5 +3,11 @@ pub mod Operations
 pub mod Fragments
 pub mod Data
 pub mod Ordered
+pub mod Subscribed
 pub mod WholeAlone
+pub mod OneSet
+pub mod FieldSets
 pub mod Telling
+pub mod Conflicts
+pub mod MergedOperations
+pub mod WholeDocuments

@@ -19,7 +19,7 @@ data_told : (faults : List PlacedFault) → map of_document (map OfData faults) 
 data_told [] = refl
 data_told (f ∷ fs) = ap (λ l. of_rule f ∷ l) (data_told fs)
 
-breaches_told : (breaches : List (Broken Place)) → map of_document (map OfDocument breaches) ≡ map (λ b. of_document (OfDocument b)) breaches
+pub breaches_told : (breaches : List (Broken Place)) → map of_document (map OfDocument breaches) ≡ map (λ b. of_document (OfDocument b)) breaches
 breaches_told [] = refl
 breaches_told (b ∷ bs) = ap (λ l. of_document (OfDocument b) ∷ l) (breaches_told bs)
 

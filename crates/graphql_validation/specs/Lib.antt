@@ -1,2 +1,5 @@
 pub mod Operations
 pub mod Told
+pub mod Merged
+pub mod Merger
+pub mod TellsDocument

@@ -17,7 +17,10 @@ use std::alloc::AllocError;
 pub(crate) type Breach = (Option<SourceSpan>, BuildError);
 
 /// Adds the breaches at the end, in order. After a refusal the list begins as before.
-fn append_breaches(list: &mut DiagnosticList, breaches: Vec<Breach>) -> Result<(), AllocError>
+pub(crate) fn append_breaches(
+    list: &mut DiagnosticList,
+    breaches: Vec<Breach>,
+) -> Result<(), AllocError>
     ensures added { OnOk result (diagnostics_of list.new ≡ diagnostics_of list.old ++ map (λ b. of_document (OfDocument b)) (brokens_of breaches)) }
     ensures begins { OnErr result (BeginsAs (diagnostics_of list.old) (diagnostics_of list.new)) }
 {

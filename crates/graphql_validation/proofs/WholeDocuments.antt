@@ -1,0 +1,160 @@
+-- Of a document under a schema: what is told in parts tells all, and what is silent is valid.
+use Rattle.std.proofs.Common.{◌≡◌, inl, inr, Bool, true, false, List, [], ◌∷◌, ◌++◌, map, None, refl, sym, subst, Contains}
+use Rattle.std.proofs.lemmas.List.Elements.{Contains-append_right}
+use Rattle.std.specs.Prelude.{IsTrue}
+use Rattle.graphql_names.specs.Placed.{Place}
+use Rattle.graphql_schema_types.specs.SchemaTree.{SchemaTree}
+use Rattle.graphql_schema_types.specs.Plain.{plain}
+use Rattle.graphql_meant_documents.specs.MeantTree.{MeantOperation, MeantFragment, MeantDocument}
+use Rattle.graphql_meant_documents.specs.Unplaced.{unplaced_document}
+use Rattle.graphql_rule_definitions.proofs.Lists.{not_in_nil, Contains-first}
+use Rattle.graphql_rule_definitions.specs.Judged.{judged}
+use Rattle.graphql_rule_definitions.specs.Told.{PlacedFault}
+use Rattle.graphql_document_rule_definitions.specs.DocumentFaults.{Broken, OfData, OfDocument, OfLimit}
+use Rattle.graphql_document_rule_definitions.specs.Fragments.{ReachesItself}
+use Rattle.graphql_document_rule_definitions.specs.Limits.{PassesPathBound}
+use Rattle.graphql_document_rule_definitions.specs.Merging.{FieldsMerge}
+use Rattle.graphql_document_rule_definitions.specs.Named.{AreNamed}
+use Rattle.graphql_document_rule_definitions.specs.Reached.{AtOperation}
+use Rattle.graphql_document_rule_definitions.specs.Selected.{operations}
+use Rattle.graphql_document_rule_definitions.specs.Subscriptions.{SubscriptionBreaks}
+use Rattle.graphql_document_rule_definitions.specs.Told.{PlacedDocumentFault, DocumentFails, DocumentMergingFails, IsValidDocument}
+use Rattle.graphql_document_rule_definitions.specs.Verdict.{WithinBounds}
+use Rattle.graphql_document_rule_definitions.proofs.MergingFacts.{merging_breaks_nothing}
+use Rattle.graphql_document_rule_definitions.proofs.Verdicts.{valid_where_nothing_is_told, within_bounds_where_nothing_is_told}
+use Rattle.graphql_fragment_cycles.specs.Used.{AreUnderOwnNames, IsUsed}
+use Rattle.graphql_selection_rules.proofs.Typing.{document_reaches_typed}
+use Rattle.graphql_subscription_rules.specs.Nested.{NestsTooDeep}
+use Rattle.graphql_subscription_rules.specs.Told.{AreAlike}
+use Rattle.graphql_typing.specs.Meanings.{meanings}
+use Rattle.graphql_validation.specs.Merged.{MergingFailsAt}
+use Rattle.graphql_validation.specs.Operations.{AreReachesTyped, TellsData, AllUnder, OperationFails, TellsBreaches, bound_told, all_told}
+use Rattle.graphql_validation.specs.Told.{AnswersFragment}
+use Rattle.graphql_validation.specs.TellsDocument.{IsTypedUnder, FailsBesides, SomeFails, TellsDocument}
+use Rattle.graphql_validation.proofs.Ordered.{beside_under}
+use Rattle.graphql_validation.proofs.Telling.{data_in, broken_in, told_cases, bound_is}
+
+-- the bound is told
+limit_in : (faults : List PlacedFault) (breaches : List (Broken Place)) (is_passed : Bool) → IsTrue is_passed → Contains (all_told faults breaches is_passed) (OfLimit None)
+limit_in faults breaches is_passed passed =
+    Contains-append_right (map OfData faults) (map OfDocument breaches ++ bound_told is_passed) (OfLimit None)
+    (Contains-append_right (map OfDocument breaches) (bound_told is_passed) (OfLimit None)
+    (subst (λ b. Contains (bound_told b) (OfLimit None)) (sym passed) (Contains-first (OfLimit None) [] (OfLimit None) refl)))
+
+module _ (s : SchemaTree Place) (d : MeantDocument Place) where
+  -- ---- what is known of a typed document
+
+  pub own_names : IsTypedUnder s d → AreUnderOwnNames d
+  own_names typed e c = (typed.fragments e c).0
+
+  pub reaches_typed : IsTypedUnder s d → AreReachesTyped s d
+  reaches_typed typed o among = document_reaches_typed (meanings (plain s)) d typed o among
+
+  -- ---- what is told
+
+  -- the rules but those on merging, and the bounds
+  module _ (faults : List PlacedFault) (breaches : List (Broken Place)) (is_passed : Bool)
+      (parts : TellsData d (AllUnder s d) (λ o. OperationFails d o s) faults) (told : TellsBreaches d breaches) (passes : IsTrue is_passed → PassesPathBound d) (found : NestsTooDeep d → IsTrue is_passed) where
+    abbrev All : List PlacedDocumentFault
+    All = all_told faults breaches is_passed
+
+    pub tells_document : TellsDocument s d (all_told faults breaches is_passed)
+    tells_document = record { right = right; full = full; cycles = cycles; subscriptions = subscriptions; bound = bound }
+      where
+        right : (f : PlacedDocumentFault) → Contains All f → SomeFails s d f
+        right f c = elim (told_cases faults breaches is_passed f c) [
+          | inl g ↦ subst (SomeFails s d) g.1.1 (elim (parts.right g.0 g.1.0) [ inl h ↦ inl h | inr h ↦ inr (inr (inl h)) ])
+          | inr r ↦ elim r [
+            | inl b ↦ subst (SomeFails s d) b.1.1 (inl (told.right b.0 b.1.0))
+            | inr k ↦ let b = bound_is is_passed f k in inr (inr (inr (inl (passes b.0, inr b.1))))
+          ]
+        ]
+
+        full : (f : PlacedDocumentFault) → FailsBesides s d f → Contains All f
+        full (OfData f) h = data_in faults breaches is_passed f (parts.full f h)
+        full (OfDocument b) h = broken_in faults breaches is_passed b (told.deferred b h)
+        full (OfLimit place) h = absurd h
+
+        cycles : (g : MeantFragment Place) → IsUsed d g → ReachesItself d g → (f : PlacedDocumentFault) × (Contains All f × AnswersFragment g f)
+        cycles g used itself = let f = parts.cycles g used itself in (OfData f.0, (data_in faults breaches is_passed f.0 f.1.0, (f.0, (refl, f.1.1))))
+
+        subscriptions : (o : MeantOperation Place) → Contains (operations d) o → (b : Broken Place) → SubscriptionBreaks d o b → (g : Broken Place) × (Contains All (OfDocument g) × AreAlike d o b g)
+        subscriptions o among b breaks = let g = told.subscriptions o among b breaks in (g.0, (broken_in faults breaches is_passed g.0 g.1.0, g.1.1))
+
+        bound : NestsTooDeep d → Contains All (OfLimit None)
+        bound nests = limit_in faults breaches is_passed (found nests)
+
+  -- where they tell nothing, what merging tells is all
+  pub tells_merging : TellsDocument s d [] → (told : List PlacedDocumentFault) → ((f : PlacedDocumentFault) → Contains told f → AtOperation d (λ o. MergingFailsAt (judged s) d o f)) → TellsDocument s d told
+  tells_merging tells told conflicts = record { right = right; full = full; cycles = cycles; subscriptions = subscriptions; bound = bound }
+    where
+      fails : (f : PlacedDocumentFault) → AtOperation d (λ o. MergingFailsAt (judged s) d o f) → SomeFails s d f
+      fails (OfData f) at = absurd at.1.1
+      fails (OfDocument b) at = inr (inl at)
+      fails (OfLimit place) (o, (among, (passes, is))) = inr (inr (inr (inr (o, (among, (passes, λ i. OfLimit (is i)))))))
+
+      right : (f : PlacedDocumentFault) → Contains told f → SomeFails s d f
+      right f c = fails f (conflicts f c)
+
+      full : (f : PlacedDocumentFault) → FailsBesides s d f → Contains told f
+      full f h = absurd (not_in_nil f (tells.full f h))
+
+      cycles : (g : MeantFragment Place) → IsUsed d g → ReachesItself d g → (f : PlacedDocumentFault) × (Contains told f × AnswersFragment g f)
+      cycles g used itself = let f = tells.cycles g used itself in absurd (not_in_nil f.0 f.1.0)
+
+      subscriptions : (o : MeantOperation Place) → Contains (operations d) o → (b : Broken Place) → SubscriptionBreaks d o b → (g : Broken Place) × (Contains told (OfDocument g) × AreAlike d o b g)
+      subscriptions o among b breaks = let g = tells.subscriptions o among b breaks in absurd (not_in_nil (OfDocument g.0) g.1.0)
+
+      bound : NestsTooDeep d → Contains told (OfLimit None)
+      bound nests = absurd (not_in_nil _ (tells.bound nests))
+
+  -- ---- what is silent
+
+  no_rule : TellsDocument s d [] → (f : PlacedDocumentFault) → DocumentFails s d f → ⊥
+  no_rule tells (OfData f) (inl at) = elim (beside_under d at.0 f s at.1.1) [
+    | inl h ↦ not_in_nil (OfData f) (tells.full (OfData f) (inl (at.0, (at.1.0, h))))
+    | inr g ↦ let t = tells.cycles g.0 (at.0, (at.1.0, g.1.0)) g.1.1 in not_in_nil t.0 t.1.0
+  ]
+  no_rule tells (OfData f) (inr h) = not_in_nil (OfData f) (tells.full (OfData f) (inr h))
+  no_rule tells (OfDocument b) (inl at) = let g = tells.subscriptions at.0 at.1.0 b at.1.1 in not_in_nil (OfDocument g.0) g.1.0
+  no_rule tells (OfDocument b) (inr h) = not_in_nil (OfDocument b) (tells.full (OfDocument b) h)
+  no_rule tells (OfLimit place) h = h
+
+  no_conflict : ((o : MeantOperation Place) → Contains (operations d) o → FieldsMerge (judged s) d o) → (f : PlacedDocumentFault) → DocumentMergingFails s d f → ⊥
+  no_conflict merge (OfData f) h = h
+  no_conflict merge (OfDocument b) (o, (among, breaks)) = merging_breaks_nothing (judged s) d o (merge o among) b breaks
+  no_conflict merge (OfLimit place) h = h
+
+  pub silent_is_valid : AreNamed d → TellsDocument s d [] → ((o : MeantOperation Place) → Contains (operations d) o → FieldsMerge (judged s) d o) → IsValidDocument s d
+  silent_is_valid named tells merge = (valid_where_nothing_is_told s d named).1 (λ f q. elim q [ inl h ↦ no_rule tells f h | inr h ↦ no_conflict merge f h ])
+
+  -- nothing is told of what is valid and within the bounds
+  pub valid_is_silent : AreNamed d → (told : List PlacedDocumentFault) → TellsDocument s d told → IsValidDocument s d → WithinBounds (unplaced_document d) → told ≡ []
+  valid_is_silent named [] tells valid within = refl
+  valid_is_silent named (f ∷ fs) tells valid within = elim (tells.right f (Contains-first f fs f refl)) [
+    | inl h ↦ absurd ((valid_where_nothing_is_told s d named).0 valid f (inl h))
+    | inr r ↦ elim r [
+      | inl h ↦ absurd ((valid_where_nothing_is_told s d named).0 valid f (inr h))
+      | inr h ↦ absurd ((within_bounds_where_nothing_is_told d).0 within f h)
+    ]
+  ]
+
+-- ---- where nothing is told
+
+module _ (faults : List PlacedFault) (breaches : List (Broken Place)) (is_passed : Bool) where
+  pub all_none : (faults ≡ []) × ((breaches ≡ []) × (is_passed ≡ false)) → all_told faults breaches is_passed ≡ []
+  all_none (a, (b, e)) = λ i. all_told (a i) (b i) (e i)
+
+  pub only_none : all_told faults breaches is_passed ≡ [] → (faults ≡ []) × ((breaches ≡ []) × (is_passed ≡ false))
+  only_none none = (
+    no_member faults (λ f c. not_in_nil (OfData f) (subst (λ l. Contains l (OfData f)) none (data_in faults breaches is_passed f c))),
+    (no_member breaches (λ b c. not_in_nil (OfDocument b) (subst (λ l. Contains l (OfDocument b)) none (broken_in faults breaches is_passed b c))), not_passed is_passed refl),
+  )
+    where
+      no_member : {A : Type 0} (xs : List A) → ((x : A) → Contains xs x → ⊥) → xs ≡ []
+      no_member [] never = refl
+      no_member (x ∷ xs) never = absurd (never x (Contains-first x xs x refl))
+
+      not_passed : (b : Bool) → is_passed ≡ b → b ≡ false
+      not_passed false is = refl
+      not_passed true is = absurd (not_in_nil _ (subst (λ l. Contains l (OfLimit None)) none (limit_in faults breaches is_passed is)))

@@ -1,0 +1,18 @@
+use Rattle.std.proofs.Common.{◌≡◌, ◌++◌, map}
+use Rattle.graphql_document_rule_definitions.specs.Selected.{operations}
+use Rattle.graphql_faults.specs.DetailsView.{diagnostics_of}
+use Rattle.graphql_rule_definitions.specs.Judged.{judged}
+use Rattle.graphql_schema.specs.SchemaOf.{schema_tree}
+use Rattle.graphql_subscription_rules.specs.Told.{document_meant, operation_meant}
+use Rattle.graphql_typed_operations.specs.OperationsByName.{left_operations}
+use Rattle.graphql_validation.specs.Merged.{DocumentMergingTold}
+use Rattle.graphql_validation.specs.Merger.{merger_of}
+use Rattle.graphql_validation.proofs.MergedOperations.{MergeSoFar}
+use Rattle.graphql_validation.proofs.Operations.{lent_operations}
+use Rattle.graphql_validation.proofs.document.merge_operations.Given as goal
+
+abbrev pub invariant-loop-operation : goal.invariant-loop-operation
+invariant-loop-operation l = DocumentMergingTold (judged (schema_tree l.fn.schema)) (document_meant l.fn.document) (diagnostics_of l.fn.list) (diagnostics_of l.list)
+    × (MergeSoFar (judged (schema_tree l.fn.schema)) (document_meant l.fn.document) (lent_operations l.yielded) (merger_of l.merger).is_clean (diagnostics_of l.fn.list) (diagnostics_of l.list)
+    × (((merger_of l.merger).schema ≡ judged (schema_tree l.fn.schema)) × (((merger_of l.merger).document ≡ document_meant l.fn.document)
+    × (lent_operations l.yielded ++ map operation_meant (left_operations l.operation-iterator) ≡ operations (document_meant l.fn.document)))))

@@ -1,0 +1,106 @@
+use Rattle.std.proofs.Common.{[], ◌∙◌, sym, subst, true≢false}
+use Rattle.std.proofs.lemmas.Result.{on_ok_weaker}
+use Rattle.graphql_document_rule_definitions.proofs.UnplacedFragments.{named_if_own}
+use Rattle.graphql_fault_data.specs.FaultView.{faults_of}
+use Rattle.graphql_faults.specs.DetailsView.{diagnostics_of}
+use Rattle.graphql_reach.specs.Broken.{brokens_of}
+use Rattle.graphql_schema.specs.SchemaOf.{schema_tree}
+use Rattle.graphql_subscription_rules.specs.Told.{document_meant}
+use Rattle.graphql_validation.specs.Operations.{all_told}
+use Rattle.graphql_validation.specs.TellsDocument.{IsTypedUnder, TellsDocument}
+use Rattle.graphql_validation.proofs.Telling.{nothing_told, told_nothing, begins_same, refused_so}
+use Rattle.graphql_validation.proofs.WholeDocuments.{own_names, reaches_typed, tells_document, tells_merging, silent_is_valid, valid_is_silent, all_none, only_none}
+use Rattle.graphql_validation.proofs.document.validate_executable_document.Goals as goal
+
+pub returns-in_err-faults-clause-begins : goal.returns-in_err-faults-clause-begins
+returns-in_err-faults-clause-begins c = refused_so _ (begins_same (diagnostics_of c.args.list.now))
+
+pub returns-in_err-breaches-clause-begins : goal.returns-in_err-breaches-clause-begins
+returns-in_err-breaches-clause-begins c = refused_so _ (begins_same (diagnostics_of c.args.list.now))
+
+-- ---- where nothing is told before merging
+
+pub returns-then-is_nothing-clause-told : goal.returns-then-is_nothing-clause-told
+returns-then-is_nothing-clause-told c =
+    let s = schema_tree c.args.schema.now in
+    let d = document_meant c.args.document.now in
+    let fs = faults_of c.in_ok-faults.faults in
+    let bs = brokens_of c.in_ok-breaches.breaches in
+    let p = c.passes_path_bound-is_passed.result in
+    let bound = c.passes_path_bound-is_passed.ensures in
+    let none : IsTypedUnder s d → TellsDocument s d [] = λ typed. subst (TellsDocument s d) (all_none fs bs p (c.is_nothing.ensures.0 c.if-is_nothing.true))
+    (tells_document s d fs bs p (c.in_ok-faults.ensures (reaches_typed s d typed) (own_names s d typed)) (c.in_ok-breaches.ensures (own_names s d typed)) bound.right bound.found) in
+    on_ok_weaker c.merge_operations.result (λ h typed. (h.0, (h.1.0, tells_merging s d (none typed) h.0 h.1.1))) c.merge_operations.ensures.told
+
+pub returns-then-is_nothing-clause-silent : goal.returns-then-is_nothing-clause-silent
+returns-then-is_nothing-clause-silent c =
+    let s = schema_tree c.args.schema.now in
+    let d = document_meant c.args.document.now in
+    let fs = faults_of c.in_ok-faults.faults in
+    let bs = brokens_of c.in_ok-breaches.breaches in
+    let p = c.passes_path_bound-is_passed.result in
+    let bound = c.passes_path_bound-is_passed.ensures in
+    let none : IsTypedUnder s d → TellsDocument s d [] = λ typed. subst (TellsDocument s d) (all_none fs bs p (c.is_nothing.ensures.0 c.if-is_nothing.true))
+    (tells_document s d fs bs p (c.in_ok-faults.ensures (reaches_typed s d typed) (own_names s d typed)) (c.in_ok-breaches.ensures (own_names s d typed)) bound.right bound.found) in
+    on_ok_weaker c.merge_operations.result
+    (λ merged typed same. silent_is_valid s d (named_if_own d c.fragments_differ.ensures (own_names s d typed)) (none typed) (merged same)) c.merge_operations.ensures.merged
+
+pub returns-then-is_nothing-clause-accepts : goal.returns-then-is_nothing-clause-accepts
+returns-then-is_nothing-clause-accepts c =
+    let s = schema_tree c.args.schema.now in
+    let d = document_meant c.args.document.now in
+    let fs = faults_of c.in_ok-faults.faults in
+    let bs = brokens_of c.in_ok-breaches.breaches in
+    let p = c.passes_path_bound-is_passed.result in
+    let bound = c.passes_path_bound-is_passed.ensures in
+    let none : IsTypedUnder s d → TellsDocument s d [] = λ typed. subst (TellsDocument s d) (all_none fs bs p (c.is_nothing.ensures.0 c.if-is_nothing.true))
+    (tells_document s d fs bs p (c.in_ok-faults.ensures (reaches_typed s d typed) (own_names s d typed)) (c.in_ok-breaches.ensures (own_names s d typed)) bound.right bound.found) in
+    on_ok_weaker c.merge_operations.result
+    (λ h typed valid within. told_nothing (diagnostics_of c.args.list.now) (diagnostics_of c.merge_operations.new.list) h.0 h.1.0
+    (valid_is_silent s d (named_if_own d c.fragments_differ.ensures (own_names s d typed)) h.0 (tells_merging s d (none typed) h.0 h.1.1) valid within))
+    c.merge_operations.ensures.told
+
+-- ---- where something is told
+
+pub returns-clause-told : goal.returns-clause-told
+returns-clause-told c =
+    let s = schema_tree c.args.schema.now in
+    let d = document_meant c.args.document.now in
+    let fs = faults_of c.in_ok-faults.faults in
+    let bs = brokens_of c.in_ok-breaches.breaches in
+    let p = c.passes_path_bound-is_passed.result in
+    let bound = c.passes_path_bound-is_passed.ensures in
+    on_ok_weaker c.append_all.result
+    (λ h typed. (
+      all_told fs bs p,
+      (
+        h,
+        tells_document s d fs bs p (c.in_ok-faults.ensures (reaches_typed s d typed) (own_names s d typed)) (c.in_ok-breaches.ensures (own_names s d typed)) bound.right bound.found,
+      ),
+    ))
+    c.append_all.ensures.added
+
+pub returns-clause-silent : goal.returns-clause-silent
+returns-clause-silent c =
+    let fs = faults_of c.in_ok-faults.faults in
+    let bs = brokens_of c.in_ok-breaches.breaches in
+    let p = c.passes_path_bound-is_passed.result in
+    on_ok_weaker c.append_all.result
+    (λ h typed same. absurd (true≢false (
+    sym (c.is_nothing.ensures.1 (only_none fs bs p (nothing_told (diagnostics_of c.args.list.now) (diagnostics_of c.append_all.new.list) (all_told fs bs p) h same)))
+    ∙ c.if-is_nothing.false)))
+    c.append_all.ensures.added
+
+pub returns-clause-accepts : goal.returns-clause-accepts
+returns-clause-accepts c =
+    let s = schema_tree c.args.schema.now in
+    let d = document_meant c.args.document.now in
+    let fs = faults_of c.in_ok-faults.faults in
+    let bs = brokens_of c.in_ok-breaches.breaches in
+    let p = c.passes_path_bound-is_passed.result in
+    let bound = c.passes_path_bound-is_passed.ensures in
+    on_ok_weaker c.append_all.result
+    (λ h typed valid within. told_nothing (diagnostics_of c.args.list.now) (diagnostics_of c.append_all.new.list) (all_told fs bs p) h
+    (valid_is_silent s d (named_if_own d c.fragments_differ.ensures (own_names s d typed)) (all_told fs bs p)
+    (tells_document s d fs bs p (c.in_ok-faults.ensures (reaches_typed s d typed) (own_names s d typed)) (c.in_ok-breaches.ensures (own_names s d typed)) bound.right bound.found) valid within))
+    c.append_all.ensures.added

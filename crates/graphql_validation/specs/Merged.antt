@@ -1,0 +1,40 @@
+-- What merging tells of an operation, and what it keeps (GraphQL, October 2021, section 5.3.2).
+use Rattle.std.specs.Prelude.{◌≡◌, ◌++◌, ◌∷◌, Bool, true, false, List, [], map, Contains}
+use Rattle.graphql_names.specs.Placed.{Place}
+use Rattle.graphql_meant_documents.specs.MeantTree.{MeantOperation, MeantDocument}
+use Rattle.graphql_rule_definitions.specs.Judged.{Judged}
+use Rattle.graphql_document_rule_definitions.specs.DocumentFaults.{Broken, OfData, OfDocument, OfLimit}
+use Rattle.graphql_document_rule_definitions.specs.Merging.{MergingBreaks}
+use Rattle.graphql_document_rule_definitions.specs.Limits.{PassesChainBound}
+use Rattle.graphql_document_rule_definitions.specs.Reached.{AtOperation}
+use Rattle.graphql_document_rule_definitions.specs.Told.{PlacedDocumentFault}
+use Rattle.graphql_merging.specs.Verdict.{AreBothSettled}
+use Rattle.graphql_merging.specs.declared.operation.Examined.{Examined}
+use Rattle.graphql_validation.specs.Told.{Telling, of_document}
+
+module _ (s : Judged) (d : MeantDocument Place) where
+  -- a rule on merging fails so in the operation, or the bound on its chains of fields is passed
+  abbrev pub MergingFailsAt : MeantOperation Place → PlacedDocumentFault → Type 0
+  MergingFailsAt o (OfData fault) = ⊥
+  MergingFailsAt o (OfDocument fault) = MergingBreaks s d o fault
+  MergingFailsAt o (OfLimit place) = PassesChainBound d o × (place ≡ o.place)
+
+  -- behind what was told stand only such
+  abbrev pub MergingTold : MeantOperation Place → Telling → Telling → Type 0
+  MergingTold o old new = (added : List PlacedDocumentFault) × ((new ≡ old ++ map of_document added) × ((f : PlacedDocumentFault) → Contains added f → MergingFailsAt o f))
+
+  -- the same of the operations of the document
+  abbrev pub DocumentMergingTold : Telling → Telling → Type 0
+  DocumentMergingTold old new = (added : List PlacedDocumentFault) × ((new ≡ old ++ map of_document added) × ((f : PlacedDocumentFault) → Contains added f → AtOperation d (λ o. MergingFailsAt o f)))
+
+  -- the lists that were examined are settled, if this is so
+  abbrev pub AreSettledIf : Bool → Examined → Type 0
+  AreSettledIf is_clean examined = is_clean ≡ true → AreBothSettled s d examined
+
+-- what is told of an operation, in order: what breaks the rules, then the bound on chains
+abbrev pub limit_told : Place → Bool → List PlacedDocumentFault
+limit_told place true = OfLimit place ∷ []
+limit_told place false = []
+
+abbrev pub conflicts_told : List (Broken Place) → Place → Bool → List PlacedDocumentFault
+conflicts_told breaches place left = map OfDocument breaches ++ limit_told place left

@@ -1,0 +1,33 @@
+-- What contracts see of a `FieldsInSetCanMerge`.
+use Rattle.std.specs.Prelude.{ℕ, Bool, List}
+use Rattle.graphql_names.specs.Placed.{Place}
+use Rattle.graphql_schema.specs.SchemaOf.{schema_tree}
+use Rattle.graphql_meant_documents.specs.MeantTree.{MeantDocument}
+use Rattle.graphql_rule_definitions.specs.Judged.{Judged, judged}
+use Rattle.graphql_merging_laws.specs.Contents.{PlainField}
+use Rattle.graphql_merging.specs.Counted.{IsCountedBy}
+use Rattle.graphql_merging.specs.Verdict.{document_meant, lists_examined, comparisons_of}
+use Rattle.graphql_validation.specs.declared.merging.FieldsInSetCanMerge.{FieldsInSetCanMerge}
+
+pub record Merger : Type 0 where
+  pub schema : Judged
+  pub document : MeantDocument Place
+  -- whether each call so far ended and told nothing
+  pub is_clean : Bool
+  -- the lists of fields that were examined for shapes, and how often the shapes of two fields were compared
+  pub lists : List (List PlainField)
+  pub comparisons : ℕ
+
+abbrev pub merger_of : FieldsInSetCanMerge → Merger
+merger_of m = record {
+  schema = judged (schema_tree m.schema.now);
+  document = document_meant m.document.now;
+  is_clean = m.is_clean;
+  lists = lists_examined m.examined;
+  comparisons = comparisons_of m.examined;
+}
+
+-- shapes were compared at most as often as the lists are long in all; no two lists are the same, each is without equal members, and
+-- all members are last fields of chains of the document
+abbrev pub IsCountedMerger : Merger → Type 0
+IsCountedMerger m = IsCountedBy m.document m.lists m.comparisons

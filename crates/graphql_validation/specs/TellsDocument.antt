@@ -1,0 +1,50 @@
+-- What is told of a document under a schema (GraphQL, October 2021, section 5).
+use Rattle.std.specs.Prelude.{◌≡◌, ◌++◌, List, map, Contains, ◌⊎◌, None}
+use Rattle.graphql_names.specs.Placed.{Place}
+use Rattle.graphql_schema_types.specs.SchemaTree.{SchemaTree}
+use Rattle.graphql_schema_types.specs.Plain.{plain}
+use Rattle.graphql_meant_documents.specs.MeantTree.{MeantOperation, MeantFragment, MeantDocument}
+use Rattle.graphql_typing.specs.Meanings.{meanings}
+use Rattle.graphql_typing.specs.TypedByPlace.{IsTypedDocument}
+use Rattle.graphql_document_rule_definitions.specs.DocumentFaults.{Broken, OfData, OfDocument, OfLimit}
+use Rattle.graphql_document_rule_definitions.specs.DocumentRules.{DeferredBreaks}
+use Rattle.graphql_document_rule_definitions.specs.Fragments.{ReachesItself, UnusedFragmentAt}
+use Rattle.graphql_document_rule_definitions.specs.Reached.{AtOperation}
+use Rattle.graphql_document_rule_definitions.specs.Selected.{operations}
+use Rattle.graphql_document_rule_definitions.specs.Subscriptions.{SubscriptionBreaks}
+use Rattle.graphql_document_rule_definitions.specs.Told.{PlacedDocumentFault, DocumentFails, DocumentMergingFails, DocumentBoundFails}
+use Rattle.graphql_fragment_cycles.specs.Used.{IsUsed}
+use Rattle.graphql_subscription_rules.specs.Nested.{NestsTooDeep}
+use Rattle.graphql_subscription_rules.specs.Told.{AreAlike}
+use Rattle.graphql_validation.specs.Operations.{OperationFails}
+use Rattle.graphql_validation.specs.Told.{Telling, of_document, AnswersFragment}
+
+module _ (s : SchemaTree Place) (d : MeantDocument Place) where
+  -- the document is typed under the schema, as each that is built
+  abbrev pub IsTypedUnder : Type 0
+  IsTypedUnder = IsTypedDocument (meanings (plain s)) d
+
+  -- a rule fails so, those on fragments that reach themselves, on subscriptions and on merging aside
+  abbrev pub FailsBesides : PlacedDocumentFault → Type 0
+  FailsBesides (OfData fault) = AtOperation d (λ o. OperationFails d o s fault) ⊎ UnusedFragmentAt d fault
+  FailsBesides (OfDocument fault) = DeferredBreaks d fault
+  FailsBesides (OfLimit place) = ⊥
+
+  -- a rule on documents or on merging fails so, or a bound is passed
+  abbrev pub SomeFails : PlacedDocumentFault → Type 0
+  SomeFails f = DocumentFails s d f ⊎ (DocumentMergingFails s d f ⊎ DocumentBoundFails d f)
+
+  -- these tell what fails of the document, and all of it: of cycles, each fragment that reaches itself; of subscriptions, each fault
+  -- or one that tells the same root fields; of bounds, that on paths where it is passed in one text. What does not merge may be told
+  -- in part, and not where anything else is told
+  pub record TellsDocument (told : List PlacedDocumentFault) : Type 0 where
+    pub right : (f : PlacedDocumentFault) → Contains told f → SomeFails f
+    pub full : (f : PlacedDocumentFault) → FailsBesides f → Contains told f
+    pub cycles : (g : MeantFragment Place) → IsUsed d g → ReachesItself d g → (f : PlacedDocumentFault) × (Contains told f × AnswersFragment g f)
+    pub subscriptions : (o : MeantOperation Place) → Contains (operations d) o → (b : Broken Place) → SubscriptionBreaks d o b
+        → (g : Broken Place) × (Contains told (OfDocument g) × AreAlike d o b g)
+    pub bound : NestsTooDeep d → Contains told (OfLimit None)
+
+  -- behind what was told stands what is told of the document
+  abbrev pub DocumentTold : Telling → Telling → Type 0
+  DocumentTold old new = (added : List PlacedDocumentFault) × ((new ≡ old ++ map of_document added) × TellsDocument added)

@@ -1,0 +1,78 @@
+//! Every rule on a document under a schema.
+ghost use Rattle.std.specs.Prelude.{◌≡◌, ◌↔◌, [], false, Contains, IsTrue, OnErr, OnOk};
+ghost use Rattle.graphql_names.specs.Placed.{Place};
+ghost use Rattle.graphql_schema.specs.SchemaOf.{schema_tree};
+ghost use Rattle.graphql_meant_documents.specs.MeantTree.{MeantOperation};
+ghost use Rattle.graphql_meant_documents.specs.Unplaced.{unplaced_document};
+ghost use Rattle.graphql_rule_definitions.specs.Judged.{judged};
+ghost use Rattle.graphql_document_rule_definitions.specs.Merging.{FieldsMerge};
+ghost use Rattle.graphql_document_rule_definitions.specs.Selected.{operations};
+ghost use Rattle.graphql_document_rule_definitions.specs.Told.{IsValidDocument};
+ghost use Rattle.graphql_document_rule_definitions.specs.Verdict.{WithinBounds};
+ghost use Rattle.graphql_fault_data.specs.FaultView.{faults_of};
+ghost use Rattle.graphql_faults.specs.DetailsView.{diagnostics_of, BeginsAs};
+ghost use Rattle.graphql_reach.specs.Broken.{brokens_of};
+ghost use Rattle.graphql_subscription_rules.specs.Told.{document_meant};
+ghost use Rattle.graphql_validation.specs.Merged.{DocumentMergingTold};
+ghost use Rattle.graphql_validation.specs.TellsDocument.{IsTypedUnder, DocumentTold};
+
+use crate::found::fragments_differ;
+use crate::merging::FieldsInSetCanMerge;
+use crate::told::{Breach, append_all};
+use crate::under_schema::{breaches_under, faults_under};
+use graphql_fault_data::Fault;
+use graphql_faults::DiagnosticList;
+use graphql_schema::Schema;
+use graphql_subscription_rules::passes_path_bound;
+use graphql_typed_operations::ExecutableDocument;
+use std::alloc::{AllocError, Global};
+
+/// Whether there is nothing to tell.
+fn is_nothing(faults: &Vec<Fault>, breaches: &Vec<Breach>, is_passed: bool) -> bool
+    ensures { IsTrue result ↔ ((faults_of faults.now ≡ []) × ((brokens_of breaches.now ≡ []) × (is_passed ≡ false))) }
+{
+    faults.is_empty() && breaches.is_empty() && !is_passed
+}
+
+/// Adds what does not merge in each operation.
+fn merge_operations(
+    alloc: Global,
+    list: &mut DiagnosticList,
+    schema: &Schema,
+    document: &ExecutableDocument,
+) -> Result<(), AllocError>
+    ensures told { OnOk result (DocumentMergingTold (judged (schema_tree schema.now)) (document_meant document.now) (diagnostics_of list.old) (diagnostics_of list.new)) }
+    ensures merged { OnOk result (diagnostics_of list.new ≡ diagnostics_of list.old → (o : MeantOperation Place) → Contains (operations (document_meant document.now)) o → FieldsMerge (judged (schema_tree schema.now)) (document_meant document.now) o) }
+    ensures begins { OnErr result (BeginsAs (diagnostics_of list.old) (diagnostics_of list.new)) }
+{
+    let mut merger = FieldsInSetCanMerge::new(alloc, schema, document);
+    for operation in document.operations.iter() {
+        merger.validate_operation(operation, list)?;
+    }
+    Ok(())
+}
+
+/// Tells what breaks the rules on a document under a schema (section 5, from 5.2.3 on, and the rules on `@defer`). Where all
+/// other rules hold, the fields of each operation are merged (section 5.3.2). Nothing is told exactly where all rules hold, the
+/// bounds on how deep spreads, selections and fields nest aside, if the document is typed, as each that is built. Where memory
+/// is refused the list begins as before.
+pub fn validate_executable_document(
+    alloc: Global,
+    list: &mut DiagnosticList,
+    schema: &Schema,
+    document: &ExecutableDocument,
+) -> Result<(), AllocError>
+    ensures told { OnOk result (IsTypedUnder (schema_tree schema.now) (document_meant document.now) → DocumentTold (schema_tree schema.now) (document_meant document.now) (diagnostics_of list.old) (diagnostics_of list.new)) }
+    ensures silent { OnOk result (IsTypedUnder (schema_tree schema.now) (document_meant document.now) → diagnostics_of list.new ≡ diagnostics_of list.old → IsValidDocument (schema_tree schema.now) (document_meant document.now)) }
+    ensures accepts { OnOk result (IsTypedUnder (schema_tree schema.now) (document_meant document.now) → IsValidDocument (schema_tree schema.now) (document_meant document.now) → WithinBounds (unplaced_document (document_meant document.now)) → diagnostics_of list.new ≡ diagnostics_of list.old) }
+    ensures begins { OnErr result (BeginsAs (diagnostics_of list.old) (diagnostics_of list.new)) }
+{
+    fragments_differ(document);
+    let faults = faults_under(alloc, schema, document)?;
+    let breaches = breaches_under(alloc, document)?;
+    let is_passed = passes_path_bound(document);
+    if is_nothing(&faults, &breaches, is_passed) {
+        return merge_operations(alloc, list, schema, document);
+    }
+    append_all(list, faults, breaches, is_passed)
+}

@@ -1,0 +1,148 @@
+//! Whether the fields of operations merge.
+ghost use Rattle.std.specs.Prelude.{◌≡◌, ◌↔◌, ◌++◌, [], false, map, Contains, IsTrue, OnOk, OnErr};
+ghost use Rattle.graphql_document_rule_definitions.specs.Merging.{FieldsMerge};
+ghost use Rattle.graphql_document_rule_definitions.specs.Selected.{operations};
+ghost use Rattle.graphql_faults.specs.DetailsView.{diagnostics_of, BeginsAs};
+ghost use Rattle.graphql_reach.specs.Broken.{brokens_of};
+ghost use Rattle.graphql_rule_definitions.specs.Judged.{judged};
+ghost use Rattle.graphql_schema.specs.SchemaOf.{schema_tree};
+ghost use Rattle.graphql_subscription_rules.specs.Told.{document_meant, operation_meant};
+ghost use Rattle.graphql_validation.specs.Merged.{MergingTold, AreSettledIf, limit_told, conflicts_told};
+ghost use Rattle.graphql_validation.specs.Told.{of_document};
+
+use crate::told::{Breach, append_breaches};
+use graphql_faults::{Details, DiagnosticList};
+use graphql_merging::{Examined, examine_operation};
+use graphql_names::Node;
+use graphql_schema::Schema;
+use graphql_typed_operations::{ExecutableDocument, Operation};
+use std::alloc::{AllocError, Global};
+
+/// Whether the fields of operations merge (section 5.3.2, "FieldsInSetCanMerge"). What was examined is kept over all
+/// operations of a document, so that no list of fields is examined twice.
+///
+/// A value is clean at first, and after each call on a clean one that ends and adds nothing.
+pub struct FieldsInSetCanMerge<'doc> {
+    alloc: Global,
+    schema: &'doc Schema,
+    document: &'doc ExecutableDocument,
+    examined: Examined<'doc>,
+    is_clean: bool,
+    ghost settled: { ∥ AreSettledIf (judged (schema_tree schema.now)) (document_meant document.now) is_clean examined ∥₁ },
+}
+
+impl Drop for FieldsInSetCanMerge<'_> {
+    fn drop(self) {
+        let FieldsInSetCanMerge {
+            alloc: _,
+            schema: _,
+            document: _,
+            examined: _,
+            is_clean: _,
+        } = self;
+    }
+}
+
+impl<'doc> FieldsInSetCanMerge<'doc> {
+    ghost use Rattle.graphql_validation.specs.Merger.{merger_of, IsCountedMerger};
+
+    /// A clean value, for the operations of the document.
+    pub fn new(
+        alloc: Global,
+        schema: &'doc Schema,
+        document: &'doc ExecutableDocument,
+    ) -> FieldsInSetCanMerge<'doc>
+        ensures schema { (merger_of result).schema ≡ judged (schema_tree schema.now) }
+        ensures document { (merger_of result).document ≡ document_meant document.now }
+        ensures clean { IsTrue (merger_of result).is_clean }
+        ensures counted { IsCountedMerger (merger_of result) }
+    {
+        FieldsInSetCanMerge {
+            alloc,
+            schema,
+            document,
+            examined: Examined::new(alloc),
+            is_clean: true,
+        }
+    }
+
+    /// Whether the value is clean: each call on it ended, and none added anything.
+    pub fn is_clean(&self) -> bool
+        ensures { result ≡ (merger_of self.now).is_clean }
+    {
+        self.is_clean
+    }
+
+    /// How often the shapes of two fields were compared, in all calls; where this is the greatest number, at least as often.
+    pub fn comparisons(&self) -> u128
+        ensures { result ≡ (merger_of self.now).comparisons }
+    {
+        self.examined.comparisons()
+    }
+
+    /// Tells what does not merge in the operation: ConflictingFieldType where fields of one response key differ in shape,
+    /// ConflictingFieldName and ConflictingFieldArgument where one object may have both; each at the later field. Behind 128
+    /// levels of fields it tells the bound, at the operation, and what lies below is not examined. A clean value that adds
+    /// nothing has shown that the fields merge. Where memory is refused the list begins as before, and the value is not clean.
+    pub fn validate_operation(
+        &mut self,
+        operation: &'doc Node<Operation>,
+        list: &mut DiagnosticList,
+    ) -> Result<(), AllocError>
+        ensures told { OnOk result (MergingTold (merger_of self.old).schema (merger_of self.old).document (operation_meant operation.now) (diagnostics_of list.old) (diagnostics_of list.new)) }
+        ensures merged { OnOk result (IsTrue (merger_of self.old).is_clean → diagnostics_of list.new ≡ diagnostics_of list.old → FieldsMerge (merger_of self.old).schema (merger_of self.old).document (operation_meant operation.now)) }
+        ensures clean { OnOk result (IsTrue (merger_of self.new).is_clean ↔ (IsTrue (merger_of self.old).is_clean × (diagnostics_of list.new ≡ diagnostics_of list.old))) }
+        ensures refused { OnErr result ((merger_of self.new).is_clean ≡ false) }
+        ensures begins { OnErr result (BeginsAs (diagnostics_of list.old) (diagnostics_of list.new)) }
+        ensures schema { (merger_of self.new).schema ≡ (merger_of self.old).schema }
+        ensures document { (merger_of self.new).document ≡ (merger_of self.old).document }
+        ensures counted { Contains (operations (merger_of self.old).document) (operation_meant operation.now) → IsCountedMerger (merger_of self.old) → IsCountedMerger (merger_of self.new) }
+    {
+        let was_clean = self.is_clean;
+        self.is_clean = false;
+        let mut breaches = Vec::new(self.alloc);
+        let (schema, document) = (self.schema, self.document);
+        let examined = &mut self.examined;
+        let left = examine_operation(schema, document, operation, examined, &mut breaches)?;
+        let stays = stays_clean(was_clean, &breaches, left);
+        append_conflicts(list, operation, breaches, left)?;
+        self.is_clean = stays;
+        Ok(())
+    }
+}
+
+/// Whether a value stays clean: it was, nothing is told, and no list of fields is left.
+fn stays_clean(was_clean: bool, breaches: &Vec<Breach>, left: bool) -> bool
+    ensures { IsTrue result ↔ (IsTrue was_clean × ((brokens_of breaches.now ≡ []) × (left ≡ false))) }
+{
+    was_clean && breaches.is_empty() && !left
+}
+
+/// Adds that the chains of fields of the operation are too long, if lists of fields are left.
+fn append_limit(
+    list: &mut DiagnosticList,
+    operation: &Node<Operation>,
+    left: bool,
+) -> Result<(), AllocError>
+    ensures added { OnOk result (diagnostics_of list.new ≡ diagnostics_of list.old ++ map of_document (limit_told (operation_meant operation.now).place left)) }
+    ensures kept { OnErr result (diagnostics_of list.new ≡ diagnostics_of list.old) }
+{
+    if left {
+        list.push(operation.location(), Details::RecursionLimitError)?;
+    }
+    Ok(())
+}
+
+/// Adds all that merging tells of the operation at the end. After a refusal the list begins as before.
+fn append_conflicts(
+    list: &mut DiagnosticList,
+    operation: &Node<Operation>,
+    breaches: Vec<Breach>,
+    left: bool,
+) -> Result<(), AllocError>
+    ensures added { OnOk result (diagnostics_of list.new ≡ diagnostics_of list.old ++ map of_document (conflicts_told (brokens_of breaches) (operation_meant operation.now).place left)) }
+    ensures begins { OnErr result (BeginsAs (diagnostics_of list.old) (diagnostics_of list.new)) }
+{
+    append_breaches(list, breaches)?;
+    append_limit(list, operation, left)
+}
