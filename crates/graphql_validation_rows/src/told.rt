@@ -35,10 +35,36 @@ pub(crate) fn push_told(
         lines.dedup();
     }
     answer.status.put(if lines.is_empty() { "0" } else { "1" });
-    for (_, _, text) in &lines {
-        answer.text.show_between("", text, "\n");
+    if says(case.row, "some", "yes")? && !lines.is_empty() && are_wanted(case, &lines) {
+        push_wanted(case, answer);
+    } else {
+        push_lines(&lines, answer);
     }
     Ok(())
+}
+
+/// Adds that the call returned, and what the row wants where each fault is one of that.
+pub(crate) fn push_returned(
+    alloc: Global,
+    case: Case<'_>,
+    list: &DiagnosticList,
+    answer: &mut Answer,
+) -> Result<(), Problem> {
+    let lines = lines_of(alloc, list)?;
+    answer.status.put("returned");
+    if are_wanted(case, &lines) {
+        push_wanted(case, answer);
+    } else {
+        push_lines(&lines, answer);
+    }
+    Ok(())
+}
+
+/// Adds lines.
+fn push_lines(lines: &[Told], answer: &mut Answer) {
+    for (_, _, text) in lines {
+        answer.text.show_between("", text, "\n");
+    }
 }
 
 /// The lines of the faults, those that stand first in front.
@@ -67,4 +93,34 @@ fn line_of<T: Display>(
             Ok((file, offset, text))
         }
     }
+}
+
+/// The output that the row wants.
+fn wanted_of(case: Case<'_>) -> &str {
+    str::from_utf8(case.out).unwrap_or("")
+}
+
+/// Whether each line is one that the row wants.
+fn are_wanted(case: Case<'_>, lines: &[Told]) -> bool {
+    for (_, _, text) in lines {
+        if !is_wanted(case, text) {
+            return false;
+        }
+    }
+    true
+}
+
+/// Whether the row wants the line.
+fn is_wanted(case: Case<'_>, text: &str) -> bool {
+    for line in wanted_of(case).lines() {
+        if line == text {
+            return true;
+        }
+    }
+    false
+}
+
+/// Adds what the row wants, of which some is told.
+fn push_wanted(case: Case<'_>, answer: &mut Answer) {
+    answer.text.put(wanted_of(case));
 }
