@@ -4,3 +4,4 @@ pub mod SameUses
 pub mod Members
 pub mod Takers
 pub mod Selecting
+pub mod Typing

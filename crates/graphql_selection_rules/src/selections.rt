@@ -16,12 +16,13 @@ ghost use Rattle.graphql_typed_selections.specs.TypedTree.{typed_selection_tree}
 ghost use Rattle.graphql_typed_operations.specs.TypedDocument.{typed_fragment_tree, typed_operation_tree};
 ghost use Rattle.graphql_typing.specs.DocumentView.{meant_by_operation};
 ghost use Rattle.graphql_typing.specs.Meanings.{meanings};
-ghost use Rattle.graphql_typing.specs.TypedByPlace.{IsTyped, IsTypedDocument};
-ghost use Rattle.graphql_document_rule_definitions.specs.Selected.{operations, selection_location};
+ghost use Rattle.graphql_typing.specs.TypedByPlace.{IsTyped};
+ghost use Rattle.graphql_document_rule_definitions.specs.Selected.{selection_location};
 ghost use Rattle.graphql_document_rule_definitions.specs.Selections.{SelectionsBreak};
 ghost use Rattle.graphql_document_rule_definitions.specs.Told.{places_in};
 ghost use Rattle.graphql_reach.specs.Reach.{Member, reached_members, reached_fragments_of, Reaches};
 ghost use Rattle.graphql_selection_rules.specs.Steps.{SelectionBreaks};
+ghost use Rattle.graphql_selection_rules.specs.Typed.{ReachesTyped};
 
 use crate::fields::check_field;
 use graphql_directives::DirectiveLocation;
@@ -120,7 +121,7 @@ fn check_fragments(
     Ok(())
 }
 
-/// Adds the faults of what an operation of a typed document reaches: MissingSubselection, the rules on arguments of those of
+/// Adds the faults of what an operation reaches, where that is typed: MissingSubselection, the rules on arguments of those of
 /// fields, and the rules on directives of those of the operation, of each selection and of each fragment.
 pub fn check_selections(
     schema: &Schema,
@@ -128,7 +129,7 @@ pub fn check_selections(
     reach: &Reach<'_>,
     faults: &mut Vec<Fault>,
 ) -> Result<(), AllocError>
-    ensures { OnOk result ((d : MeantDocument Place) → Reaches d (meant_by_operation (node_tree typed_operation_tree operation.now)) reach.now → IsTypedDocument (meanings (plain (schema_tree schema.now))) d → Contains (operations d) (meant_by_operation (node_tree typed_operation_tree operation.now)) → Adds faults.old faults.new (λ fault. SelectionsBreak (places_in (schema_tree schema.now)) (judged (schema_tree schema.now)) d (meant_by_operation (node_tree typed_operation_tree operation.now)) fault)) }
+    ensures { OnOk result ((d : MeantDocument Place) → Reaches d (meant_by_operation (node_tree typed_operation_tree operation.now)) reach.now → ReachesTyped (meanings (plain (schema_tree schema.now))) d (meant_by_operation (node_tree typed_operation_tree operation.now)) → Adds faults.old faults.new (λ fault. SelectionsBreak (places_in (schema_tree schema.now)) (judged (schema_tree schema.now)) d (meant_by_operation (node_tree typed_operation_tree operation.now)) fault)) }
 {
     let operation = operation.content();
     let variables = operation.variables.as_slice();

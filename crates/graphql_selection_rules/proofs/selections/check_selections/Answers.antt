@@ -20,7 +20,7 @@ use Rattle.graphql_value_rules.specs.Wanting.{variables_of}
 use Rattle.graphql_use_rules.specs.Trees.{directives_of}
 use Rattle.graphql_use_rules.proofs.Listing.{gains_both, gains_same}
 use Rattle.graphql_reach.specs.Reach.{reached_members, reached_fragments_of}
-use Rattle.graphql_reach.proofs.TypedReached.{typed_member}
+use Rattle.graphql_selection_rules.proofs.Typing.{member_typed}
 use Rattle.graphql_selection_rules.specs.Steps.{SelectionBreaks}
 use Rattle.graphql_selection_rules.proofs.Selecting.{selections_break}
 use Rattle.graphql_selection_rules.proofs.selections.check_selections.Goals as goal
@@ -39,11 +39,11 @@ returns c =
     let used = ap directives_of c.deref.ensures.value ∙ ap (λ (x : Operation). directives_tree x.directives) is in
     let at = c.from-location.ensures ∙ ap (λ (x : Operation). location_of_operation x.operation_type) is in
     on_ok_weaker c.check_fragments.result
-    (λ h doc reaches typed among. gains_same a e (selections_break doc o (reached_members r) (reached_fragments_of r) reaches s)
+    (λ h doc reaches typed. gains_same a e (selections_break doc o (reached_members r) (reached_fragments_of r) reaches s)
     (gains_both a b e
     (subst (λ (X : Type 0). X) (λ i. Adds c.args.faults.now c.check_uses.new.faults (UsesBreak (place_at s) (judged s) (vs i) (at i) (used i))) c.in_ok-check_uses.ensures)
     (gains_both b d e
     (subst (λ (X : Type 0). X) (λ i. Adds c.check_uses.new.faults c.check_each_selection.new.faults (λ f. AtSomeIndex (reached_members r) (λ k x. SelectionBreaks s (vs i) x f)))
-    (c.in_ok-check_each_selection.ensures (λ x k. typed_member (meanings (plain s)) doc typed o among (reached_members r) (reached_fragments_of r) reaches x k)))
+    (c.in_ok-check_each_selection.ensures (λ x k. member_typed (meanings (plain s)) doc o (reached_members r) (reached_fragments_of r) reaches typed x k)))
     (subst (λ (X : Type 0). X) (λ i. Adds c.check_each_selection.new.faults c.check_fragments.new.faults (λ f. AtSomeIndex (reached_fragments_of r) (λ k x. UsesBreak (place_at s) (judged s) (vs i) location.FragmentDefinition x.directives f))) h))))
     c.check_fragments.ensures

@@ -1,0 +1,84 @@
+-- Groups of a list by names.
+use Rattle.std.proofs.Common.{◌≡◌, ◌⊎◌, ◌∙◌, ℕ, Bool, true, false, List, [], ◌∷◌, ◌++◌, map, Option, None, Some, Vec, Contains, refl, sym, ap, subst, inl, inr, cond, filter, true≢false}
+use Rattle.std.specs.Map.{lookup, keys_of}
+use Rattle.std.specs.List.{IsDistinct}
+use Rattle.std.specs.Option.{option_map_or}
+use Rattle.std.specs.Str.{bytes_eq}
+use Rattle.std.specs.Cmp.Lexicographic.{nat_list_eq_equiv}
+use Rattle.std.specs.Cmp.{on_equiv}
+use Rattle.std.specs.declared.alloc.Global.{Global}
+use Rattle.std.proofs.lemmas.Map.Views.{lookup-from_Contains}
+use Rattle.std.proofs.lemmas.Slice.Eq.{bytes_eq-Decides}
+use Rattle.std.proofs.lemmas.Option.{same_Some}
+use Rattle.graphql_names.specs.NameValue.{NameValue}
+use Rattle.graphql_components.proofs.Places.{not_in_nil, Contains-cons, Contains-first, Contains-rest}
+use Rattle.graphql_document_rule_definitions.proofs.Unplaced.{contains_map, contains_unmap}
+use Rattle.graphql_merging.specs.Grouped.{has, AreFiled}
+
+-- ---- filters
+
+module _ {X : Type 0} (test : X → Bool) where
+  pub in_filter : (xs : List X) (x : X) → Contains xs x → test x ≡ true → Contains (filter test xs) x
+  in_filter [] x c t = not_in_nil x c
+  in_filter (y ∷ xs) x c t = by (test y) refl (Contains-cons y xs x c)
+    where
+      by : (b : Bool) → test y ≡ b → (y ≡ x) ⊎ Contains xs x → Contains (cond b (y ∷ filter test xs) (filter test xs)) x
+      by true e (inl i) = Contains-first y (filter test xs) x i
+      by true e (inr r) = Contains-rest y (filter test xs) x (in_filter xs x r t)
+      by false e (inl i) = absurd (true≢false (sym t ∙ ap test (sym i) ∙ e))
+      by false e (inr r) = in_filter xs x r t
+
+  pub of_filter : (xs : List X) (x : X) → Contains (filter test xs) x → Contains xs x × (test x ≡ true)
+  of_filter [] x c = not_in_nil x c
+  of_filter (y ∷ xs) x c = by (test y) refl c
+    where
+      by : (b : Bool) → test y ≡ b → Contains (cond b (y ∷ filter test xs) (filter test xs)) x → Contains (y ∷ xs) x × (test x ≡ true)
+      by true e k = elim (Contains-cons y (filter test xs) x k) [
+        | inl i ↦ (Contains-first y xs x i, ap test (sym i) ∙ e)
+        | inr r ↦ let p = of_filter xs x r in (Contains-rest y xs x p.0, p.1)
+      ]
+      by false e k = let p = of_filter xs x k in (Contains-rest y xs x p.0, p.1)
+
+-- ---- look-ups
+
+abbrev named : List ℕ → NameValue → Bool
+named n k = bytes_eq n k.text
+
+abbrev same_name : NameValue → NameValue → Bool
+same_name a b = bytes_eq a.text b.text
+
+found_among : {V : Type 0} (test : NameValue → Bool) (es : List (NameValue × V)) (v : V) → lookup test es ≡ Some v → Contains (map (λ e. e.1) es) v
+found_among test [] v e = cc
+found_among {V} test (f ∷ es) v e = by (test f.0) e (found_among test es v)
+  where
+    by : (b : Bool) → cond b (Some f.1) (lookup test es) ≡ Some v → (lookup test es ≡ Some v → Contains (map (λ e. e.1) es) v) → Contains (f.1 ∷ map (λ e. e.1) es) v
+    by true i rest = Contains-first f.1 (map (λ e. e.1) es) v (same_Some _ _ i)
+    by false i rest = Contains-rest f.1 (map (λ e. e.1) es) v (rest i)
+
+module _ {X : Type 0} (name : X → List ℕ) (list : List X) (es : List (NameValue × Vec X Global)) where
+  abbrev items : Option (Vec X Global) → List X
+  items o = option_map_or (λ v. v.items) o []
+
+  module _ (is : (n : List ℕ) → items (lookup (named n) es) ≡ filter (has name n) list) where
+    -- what has something is found
+    found_items : (o : Option (Vec X Global)) (l : List X) (x : X) → items o ≡ l → Contains l x → (v : Vec X Global) × ((o ≡ Some v) × (v.items ≡ l))
+    found_items None l x e c = not_in_nil x (subst (λ m. Contains m x) (sym e) c)
+    found_items (Some v) l x e c = (v, (refl, e))
+
+    has_its : (n m : List ℕ) → n ≡ m → bytes_eq n m ≡ true
+    has_its n m e = (bytes_eq-Decides n m).1 e
+
+    pub filed : IsDistinct same_name (keys_of es) → (groups : List (List X)) → groups ≡ map (λ v. v.items) (map (λ e. e.1) es) → AreFiled name list groups
+    filed once groups all = record {
+      has_all = λ x c.
+          let l = filter (has name (name x)) list in
+          let v = found_items (lookup (named (name x)) es) l x (is (name x)) (in_filter (has name (name x)) list x c (has_its (name x) (name x) refl)) in
+          subst (λ gs. Contains gs l) (sym all)
+          (subst (Contains (map (λ v. v.items) (map (λ e. e.1) es))) v.1.1
+          (contains_map (λ v. v.items) (map (λ e. e.1) es) v.0 (found_among (named (name x)) es v.0 v.1.0)));
+      only = λ group c.
+          let v = contains_unmap (λ (v : Vec X Global). v.items) (map (λ e. e.1) es) group (subst (λ gs. Contains gs group) all c) in
+          let e = contains_unmap (λ (e : NameValue × Vec X Global). e.1) es v.0 v.1.0 in
+          let found = lookup-from_Contains (on_equiv (λ (a : NameValue). a.text) nat_list_eq_equiv) e.0.0 e.0.1 es once e.1.0 in
+          (e.0.0.text, sym v.1.1 ∙ ap (λ (w : Vec X Global). w.items) (sym e.1.1) ∙ sym (ap items found) ∙ is e.0.0.text);
+    }

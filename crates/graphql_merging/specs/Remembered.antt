@@ -1,0 +1,18 @@
+-- The lists that were examined, by their contents (private: it leads to the laws of merging).
+use Rattle.std.specs.Prelude.{◌≡◌, ◌++◌, ◌∷◌, [], Bool, true, false, List, map, Contains}
+use Rattle.graphql_field_selections.specs.Fields.{fields_of}
+use Rattle.graphql_field_selections.specs.declared.field_selection.FieldSelection.{FieldSelection}
+use Rattle.graphql_merging_laws.specs.Contents.{PlainField, unplaced_content}
+use Rattle.graphql_merging.specs.declared.remembered.Remembered.{Remembered}
+
+abbrev pub contents_of : List FieldSelection → List PlainField
+contents_of xs = map unplaced_content (fields_of xs)
+
+-- what stands there
+abbrev pub remembered : Remembered → List (List PlainField)
+remembered r = map (λ v. contents_of v.items) r.lists.keys
+
+-- a list of contents that is new is put last; one that is not stands there
+abbrev pub Remembers : List (List PlainField) → List PlainField → Bool → List (List PlainField) → Type 0
+Remembers old list true new = (Contains old list → ⊥) × (new ≡ old ++ list ∷ [])
+Remembers old list false new = Contains old list × (new ≡ old)
