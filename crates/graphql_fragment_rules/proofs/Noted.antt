@@ -98,13 +98,13 @@ module _ {S T : Type 0} where
           subst (λ l. Contains (map name_text v.keys) x ↔ (Contains l x ⊎ (object.text ≡ x))) before
           (subst (λ ks. Contains (map name_text ks) x ↔ (Contains (map name_text (unwrap_or o none).keys) x ⊎ (object.text ≡ x))) (sym added) (in_set (unwrap_or o none).keys object x))
 
-      the_pair : n ≡ k.text → (object.text ≡ x) ↔ Contains ((k.text, object.text) ∷ []) (n, x)
+      the_pair : n ≡ k.text → (object.text ≡ x) ↔ Contains {X = List ℕ × List ℕ} ((k.text, object.text) ∷ []) (n, x)
       the_pair same = (
         λ e. Contains-first (k.text, object.text) [] (n, x) (λ i. (sym same i, e i)),
         λ c. elim (Contains-cons (k.text, object.text) [] (n, x) c) [ inl e ↦ ap (λ (p : List ℕ × List ℕ). p.1) e | inr none ↦ not_in_nil (n, x) none ],
       )
 
-      by : (b : Bool) → bytes_eq n k.text ≡ b → Contains (noted_under new n) x ↔ (Contains (noted_under old n) x ⊎ Contains ((k.text, object.text) ∷ []) (n, x))
+      by : (b : Bool) → bytes_eq n k.text ≡ b → Contains (noted_under new n) x ↔ (Contains (noted_under old n) x ⊎ Contains {X = List ℕ × List ℕ} ((k.text, object.text) ∷ []) (n, x))
       by true is =
           let same = (bytes_eq-Decides n k.text).0 is in
           let pair = the_pair same in

@@ -50,10 +50,10 @@ module _ (ks : List NameValue) (ys : List (List ℕ)) (i : ℕ) (k : NameValue) 
   next = ap (λ l. share_one (map name_text l) ys) (drop_more ks i k within ∙ ap (λ x. x ∷ drop (i + 1) ks) (sym is))
 
   pub passed : is_among k.text ys ≡ false → share_one (map name_text (drop i ks)) ys ≡ share_one (map name_text (drop (i + 1) ks)) ys
-  passed no = next ∙ ap (λ b. b || share_one (map name_text (drop (i + 1) ks)) ys) no
+  passed missing = next ∙ ap (λ b. b || share_one (map name_text (drop (i + 1) ks)) ys) missing
 
   pub met : is_among k.text ys ≡ true → share_one (map name_text (drop i ks)) ys ≡ true
-  met yes = next ∙ ap (λ b. b || share_one (map name_text (drop (i + 1) ks)) ys) yes
+  met there = next ∙ ap (λ b. b || share_one (map name_text (drop (i + 1) ks)) ys) there
 
 -- ---- what the rule says
 

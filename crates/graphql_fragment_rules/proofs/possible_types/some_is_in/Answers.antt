@@ -12,16 +12,16 @@ pub loop-name-preserved : goal.loop-name-preserved
 loop-name-preserved c =
     let xs = c.as_slice-name-items.result.now in
     let i = c.loop-name.name-index in
-    let x = c.loop-name-item.result in
+    let x = c.name-item.result in
     let ks = c.args.set.now.keys in
     let h : i < length xs = omega arith in
-    c.loop-name.invariant ∙ passed xs (map name_text ks) i x h c.loop-name-item.is (sym (any_text x ks) ∙ sym c.contains.ensures ∙ c.if-contains.false)
+    c.loop-name.invariant ∙ passed xs (map name_text ks) i x h c.name-item.is (sym (any_text x ks) ∙ sym c.contains.ensures ∙ c.if-contains.false)
 
 pub returns-then-contains : goal.returns-then-contains
 returns-then-contains c =
     let xs = c.as_slice-name-items.result.now in
     let i = c.loop-name.name-index in
-    let x = c.loop-name-item.result in
+    let x = c.name-item.result in
     let ks = c.args.set.now.keys in
     let h : i < length xs = omega arith in
-    sym (c.loop-name.invariant ∙ met xs (map name_text ks) i x h c.loop-name-item.is (sym (any_text x ks) ∙ sym c.contains.ensures ∙ c.if-contains.true))
+    sym (c.loop-name.invariant ∙ met xs (map name_text ks) i x h c.name-item.is (sym (any_text x ks) ∙ sym c.contains.ensures ∙ c.if-contains.true))
