@@ -1,7 +1,7 @@
 -- Groups of a list by names.
-use Rattle.std.proofs.Common.{◌≡◌, ◌⊎◌, ◌∙◌, ℕ, Bool, true, false, List, [], ◌∷◌, ◌++◌, map, Option, None, Some, Vec, Contains, refl, sym, ap, subst, inl, inr, cond, filter, true≢false}
-use Rattle.std.specs.Map.{lookup, keys_of}
-use Rattle.std.specs.List.{IsDistinct}
+use Rattle.std.proofs.Common.{◌≡◌, ◌⊎◌, ◌∙◌, ℕ, ◌+◌, Bool, true, false, ◌||◌, List, [], ◌∷◌, ◌++◌, map, Option, None, Some, Vec, Contains, refl, sym, ap, subst, inl, inr, cond, filter, length, true≢false, arith}
+use Rattle.std.specs.Map.{lookup, set_value, keys_of}
+use Rattle.std.specs.List.{IsDistinct, sum, list_any}
 use Rattle.std.specs.Option.{option_map_or}
 use Rattle.std.specs.Str.{bytes_eq}
 use Rattle.std.specs.Cmp.Lexicographic.{nat_list_eq_equiv}
@@ -9,6 +9,7 @@ use Rattle.std.specs.Cmp.{on_equiv}
 use Rattle.std.specs.declared.alloc.Global.{Global}
 use Rattle.std.proofs.lemmas.Map.Views.{lookup-from_Contains}
 use Rattle.std.proofs.lemmas.Slice.Eq.{bytes_eq-Decides}
+use Rattle.std.proofs.lemmas.List.{length-append}
 use Rattle.std.proofs.lemmas.Option.{same_Some}
 use Rattle.graphql_names.specs.NameValue.{NameValue}
 use Rattle.graphql_components.proofs.Places.{not_in_nil, Contains-cons, Contains-first, Contains-rest}
@@ -38,6 +39,25 @@ module _ {X : Type 0} (test : X → Bool) where
         | inr r ↦ let p = of_filter xs x r in (Contains-rest y xs x p.0, p.1)
       ]
       by false e k = let p = of_filter xs x k in (Contains-rest y xs x p.0, p.1)
+
+  -- ---- one that passes
+
+  pub any_in : (xs : List X) (x : X) → Contains xs x → test x ≡ true → list_any test xs ≡ true
+  any_in [] x c t = not_in_nil x c
+  any_in (y ∷ xs) x c t = by (test y) refl (Contains-cons y xs x c)
+    where
+      by : (b : Bool) → test y ≡ b → (y ≡ x) ⊎ Contains xs x → (b || list_any test xs) ≡ true
+      by true e k = refl
+      by false e (inl i) = absurd (true≢false (sym t ∙ ap test (sym i) ∙ e))
+      by false e (inr r) = any_in xs x r t
+
+  pub any_of : (xs : List X) → list_any test xs ≡ true → (x : X) × (Contains xs x × (test x ≡ true))
+  any_of [] e = absurd (true≢false (sym e))
+  any_of (y ∷ xs) e = by (test y) refl e
+    where
+      by : (b : Bool) → test y ≡ b → (b || list_any test xs) ≡ true → (x : X) × (Contains (y ∷ xs) x × (test x ≡ true))
+      by true i h = (y, (Contains-first y xs y refl, i))
+      by false i h = let p = any_of xs h in (p.0, (Contains-rest y xs p.0 p.1.0, p.1.1))
 
 -- ---- look-ups
 
@@ -82,3 +102,43 @@ module _ {X : Type 0} (name : X → List ℕ) (list : List X) (es : List (NameVa
           let found = lookup-from_Contains (on_equiv (λ (a : NameValue). a.text) nat_list_eq_equiv) e.0.0 e.0.1 es once e.1.0 in
           (e.0.0.text, sym v.1.1 ∙ ap (λ (w : Vec X Global). w.items) (sym e.1.1) ∙ sym (ap items found) ∙ is e.0.0.text);
     }
+
+-- ---- how many items stand in an index
+
+module _ {X : Type 0} where
+  abbrev lists : List (NameValue × Vec X Global) → List (List X)
+  lists es = map (λ v. v.items) (map (λ e. e.1) es)
+
+  abbrev count : List (NameValue × Vec X Global) → ℕ
+  count es = sum (map length (lists es))
+
+  one_more : (w : Vec X Global) (xs : List X) (item : X) → w.items ≡ xs ++ item ∷ [] → length w.items ≡ length xs + 1
+  one_more w xs item e = ap length e ∙ length-append xs (item ∷ [])
+
+  written : (test : NameValue → Bool) (w : Vec X Global) (n : ℕ) (es : List (NameValue × Vec X Global))
+      → (v : Vec X Global) → lookup test es ≡ Some v → length w.items ≡ length v.items + n → count (set_value test es w) ≡ count es + n
+  written test w n [] v found long = cc
+  written test w n (e ∷ es) v found long = by (test e.0) found (written test w n es v)
+    where
+      by : (b : Bool) → cond b (Some e.1) (lookup test es) ≡ Some v → (lookup test es ≡ Some v → length w.items ≡ length v.items + n → count (set_value test es w) ≡ count es + n)
+          → count (cond b ((e.0, w) ∷ es) (e ∷ set_value test es w)) ≡ length e.1.items + count es + n
+      by true h rest =
+          let same : length v.items ≡ length e.1.items = ap (λ (u : Vec X Global). length u.items) (sym (same_Some _ _ h)) in
+          omega (arith, long, same)
+      by false h rest = omega (arith, rest h long)
+
+  -- behind those that stand under a name
+  pub count_pushed : (test : NameValue → Bool) (old new : List (NameValue × Vec X Global)) (v w : Vec X Global) (item : X) → lookup test old ≡ Some v → w.items ≡ v.items ++ item ∷ [] → new ≡ set_value test old w
+      → count new ≡ count old + 1
+  count_pushed test old new v w item found added is = ap count is ∙ written test w 1 old v found (one_more w v.items item added)
+
+  -- where nothing stands under it
+  pub count_new : (name : NameValue) (w : Vec X Global) (item : X) → w.items ≡ item ∷ [] → (es new : List (NameValue × Vec X Global)) → new ≡ es ++ (name, w) ∷ [] → count new ≡ count es + 1
+  count_new name w item is es new e = ap count e ∙ behind es
+    where
+      one : length w.items ≡ 1
+      one = ap length is
+
+      behind : (es : List (NameValue × Vec X Global)) → count (es ++ (name, w) ∷ []) ≡ count es + 1
+      behind [] = omega (arith, one)
+      behind (f ∷ es) = omega (arith, behind es)

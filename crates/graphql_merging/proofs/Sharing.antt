@@ -1,15 +1,12 @@
 -- Groups by keys, and by keys and parents, of field selections.
-use Rattle.std.proofs.Common.{◌≡◌, ◌⊎◌, ◌∙◌, ℕ, Bool, true, false, not, List, [], ◌∷◌, ◌++◌, map, Option, None, Some, Contains, refl, sym, ap, subst, inl, inr, filter, true≢false}
-use Rattle.std.specs.Option.{option_map_or}
+use Rattle.std.proofs.Common.{◌≡◌, ◌⊎◌, ◌∙◌, ℕ, Bool, true, false, ◌&&◌, ◌||◌, not, List, [], ◌∷◌, ◌++◌, map, Contains, refl, sym, ap, subst, inl, inr, filter, true≢false}
+use Rattle.std.specs.List.{list_any}
 use Rattle.std.specs.Str.{bytes_eq}
-use Rattle.std.proofs.lemmas.Option.{same_Some}
 use Rattle.std.proofs.lemmas.List.Elements.{Contains-append_left, Contains-append_right, Contains-append_cases}
 use Rattle.std.proofs.lemmas.Slice.Eq.{bytes_eq-Decides}
+use Rattle.graphql_names.specs.NameValue.{NameValue}
 use Rattle.graphql_names.specs.Placed.{Place}
-use Rattle.graphql_schema_types.specs.Looks.{TypeLooks}
-use Rattle.graphql_schema_types.specs.declared.type_kind.TypeKind.{TypeKind}
-use Rattle.graphql_schema_types.specs.declared.type_kind.TypeKind.TheVariants as kind
-use Rattle.graphql_components.proofs.Places.{not_in_nil, only, Contains-cons, Contains-first, Contains-rest}
+use Rattle.graphql_components.proofs.Places.{not_in_nil, only, Contains-first}
 use Rattle.graphql_rule_definitions.specs.Judged.{Judged}
 use Rattle.graphql_document_rule_definitions.specs.Selected.{StandingField, response_key}
 use Rattle.graphql_document_rule_definitions.specs.Merging.{IsAbstract}
@@ -17,9 +14,10 @@ use Rattle.graphql_document_rule_definitions.proofs.Unplaced.{contains_map, cont
 use Rattle.graphql_field_selections.specs.Fields.{field_of, fields_of}
 use Rattle.graphql_field_selections.specs.declared.field_selection.FieldSelection.{FieldSelection}
 use Rattle.graphql_merging_laws.specs.Sharing.{AreKeyGroups, AreShareGroups, IsOn}
-use Rattle.graphql_merging.specs.Kinds.{is_abstract_kind, is_abstract}
-use Rattle.graphql_merging.specs.Grouped.{key_of, parent_of, has, is_on, AreFiled, AreParentGroups, IsOnOne}
-use Rattle.graphql_merging.proofs.Filing.{in_filter, of_filter}
+use Rattle.graphql_merging.specs.Kinds.{is_abstract}
+use Rattle.graphql_merging.specs.Grouped.{key_of, parent_of, has, is_own_parent, is_on_one, AreFiled, AreParentGroups, IsOnOne}
+use Rattle.graphql_merging.proofs.Filing.{in_filter, of_filter, any_in, any_of}
+use Rattle.graphql_merging.proofs.Shaped.{is_abstract_so, so_is_abstract}
 
 named_so : (n m : List ℕ) → bytes_eq n m ≡ true → n ≡ m
 named_so n m e = (bytes_eq-Decides n m).0 e
@@ -54,115 +52,85 @@ are_key_groups list groups filed = record {
       );
 }
 
--- ---- abstract types
+-- ---- by parents
 
 module _ (s : Judged) where
-  kind_so : (k : TypeKind) → is_abstract_kind k ≡ true → (k ≡ kind.Interface) ⊎ (k ≡ kind.Union)
-  kind_so kind.Interface e = inl refl
-  kind_so kind.Union e = inr refl
-  kind_so kind.Scalar e = cc
-  kind_so kind.Object e = cc
-  kind_so kind.Enum e = cc
-  kind_so kind.InputObject e = cc
-
-  so_kind : (k : TypeKind) → (k ≡ kind.Interface) ⊎ (k ≡ kind.Union) → is_abstract_kind k ≡ true
-  so_kind k (inl e) = ap is_abstract_kind e
-  so_kind k (inr e) = ap is_abstract_kind e
-
-  pub is_abstract_so : (n : List ℕ) → is_abstract s n ≡ true → IsAbstract s n
-  is_abstract_so n e = by (s.type_named n) refl e
+  so_on_one : (n : List ℕ) (y : FieldSelection) → IsOnOne s n y → is_on_one s n y ≡ true
+  so_on_one n y (inl i) = ap (λ b. b || is_abstract s (parent_of y)) (so_named n (parent_of y) (sym i))
+  so_on_one n y (inr a) = by (bytes_eq n (parent_of y))
     where
-      by : (o : Option TypeLooks) → s.type_named n ≡ o → option_map_or (λ (t : TypeLooks). is_abstract_kind t.kind) o false ≡ true → IsAbstract s n
-      by None i h = cc
-      by (Some t) i h = (t, (i, kind_so t.kind h))
+      by : (b : Bool) → (b || is_abstract s (parent_of y)) ≡ true
+      by true = refl
+      by false = so_is_abstract s (parent_of y) a
 
-  pub so_is_abstract : (n : List ℕ) → IsAbstract s n → is_abstract s n ≡ true
-  so_is_abstract n (t, (i, h)) = ap (λ o. option_map_or (λ (t : TypeLooks). is_abstract_kind t.kind) o false) i ∙ so_kind t.kind h
-
-  -- ---- by parents
-
-  not_true : (b : Bool) → not b ≡ true → b ≡ false
-  not_true true e = sym e
-  not_true false e = refl
-
-  -- those on abstract types, those on others
-  on_abstract : (x : FieldSelection) → is_on s true x ≡ true → IsAbstract s (parent_of x)
-  on_abstract x e = is_abstract_so (parent_of x) e
-
-  -- where all are on abstract types
-  pub all_shared : (list : List FieldSelection) → filter (is_on s false) list ≡ [] → AreParentGroups s list (filter (is_on s true) list ∷ [])
-  all_shared list none = record {
-    has_all = λ x c. (
-      filter (is_on s true) list,
-      (
-        Contains-first (filter (is_on s true) list) [] (filter (is_on s true) list) refl,
-        λ y k on. in_filter (is_on s true) list y k (shared y k (is_abstract s (parent_of y)) refl),
-      ),
-    );
-    only = λ group c. (
-      [],
-      λ y k.
-          let p = of_filter (is_on s true) list y (subst (λ l. Contains l y) (only (filter (is_on s true) list) group c) k) in
-          (p.0, inr (on_abstract y p.1)),
-    );
-  }
+  on_one_so : (n : List ℕ) (y : FieldSelection) → is_on_one s n y ≡ true → IsOnOne s n y
+  on_one_so n y e = by (bytes_eq n (parent_of y)) refl e
     where
-      shared : (y : FieldSelection) → Contains list y → (b : Bool) → is_abstract s (parent_of y) ≡ b → b ≡ true
-      shared y k true e = refl
-      shared y k false e = not_in_nil y (subst (λ l. Contains l y) none (in_filter (is_on s false) list y k (ap not e)))
+      by : (b : Bool) → bytes_eq n (parent_of y) ≡ b → (b || is_abstract s (parent_of y)) ≡ true → IsOnOne s n y
+      by true i h = inl (sym (named_so n (parent_of y) i))
+      by false i h = inr (is_abstract_so s (parent_of y) h)
 
-  module _ (list : List FieldSelection) where
-    abbrev shared_in : List FieldSelection
-    shared_in = filter (is_on s true) list
+  own : (y : FieldSelection) → is_abstract s (parent_of y) ≡ false → is_own_parent s (parent_of y) y ≡ true
+  own y i = ap (λ b. b && not (is_abstract s (parent_of y))) (so_named (parent_of y) (parent_of y) refl) ∙ ap not i
 
-    abbrev others_in : List FieldSelection
-    others_in = filter (is_on s false) list
+  -- where no type is noted, all are on abstract types
+  none_own : (list : List FieldSelection) (y : FieldSelection) → Contains list y → list_any (is_own_parent s (parent_of y)) list ≡ false → is_abstract s (parent_of y) ≡ true
+  none_own list y c e = by (is_abstract s (parent_of y)) refl
+    where
+      by : (b : Bool) → is_abstract s (parent_of y) ≡ b → b ≡ true
+      by true i = refl
+      by false i = absurd (true≢false (sym (any_in (is_own_parent s (parent_of y)) list y c (own y i)) ∙ e))
 
-    -- some are on others
-    pub some_others : (first : FieldSelection) → Contains others_in first → (own : List (List FieldSelection)) → AreFiled parent_of others_in own
-        → AreParentGroups s list (map (λ g. g ++ shared_in) own)
-    some_others first here own filed = record {
-      has_all = λ x c. by x c (is_abstract s (parent_of x)) refl;
+  module _ (list : List FieldSelection) (parents : List NameValue) (noted : (n : List ℕ) → list_any (λ (k : NameValue). bytes_eq n k.text) parents ≡ list_any (is_own_parent s n) list) where
+    -- where there is none, the list is the one group
+    pub all_shared : parents ≡ [] → AreParentGroups s list (list ∷ [])
+    all_shared none = record {
+      has_all = λ x c. (list, (Contains-first list [] list refl, λ y k on. k));
+      only = λ group c. (
+        [],
+        λ y k.
+            let in_list = subst (λ l. Contains l y) (only list group c) k in
+            let found : list_any (is_own_parent s (parent_of y)) list ≡ false = sym (noted (parent_of y)) ∙ ap (list_any (λ (k : NameValue). bytes_eq (parent_of y) k.text)) none in
+            (in_list, inr (is_abstract_so s (parent_of y) (none_own list y in_list found))),
+      );
+    }
+
+    -- one of these types
+    its_parent : (x : FieldSelection) → Contains list x → is_abstract s (parent_of x) ≡ false → (k : NameValue) × (Contains parents k × (parent_of x ≡ k.text))
+    its_parent x c e =
+        let p = any_of (λ (k : NameValue). bytes_eq (parent_of x) k.text) parents (noted (parent_of x) ∙ any_in (is_own_parent s (parent_of x)) list x c (own x e)) in
+        (p.0, (p.1.0, named_so (parent_of x) p.0.text p.1.1))
+
+    in_group : (k : NameValue) (y : FieldSelection) → Contains list y → IsOnOne s k.text y → Contains (filter (is_on_one s k.text) list) y
+    in_group k y c on = in_filter (is_on_one s k.text) list y c (so_on_one k.text y on)
+
+    -- a field on an abstract type is in each group, any other in that of its type
+    has_all_on : (first : NameValue) → Contains parents first → (x : FieldSelection) → Contains list x → (b : Bool) → is_abstract s (parent_of x) ≡ b
+        → (k : NameValue) × (Contains parents k × ((y : FieldSelection) → Contains list y → IsOnOne s (parent_of x) y → IsOnOne s k.text y))
+    has_all_on first here x c true e = (first, (here, by))
+      where
+        by : (y : FieldSelection) → Contains list y → IsOnOne s (parent_of x) y → IsOnOne s first.text y
+        by y k (inl i) = inr (subst (IsAbstract s) (sym i) (is_abstract_so s (parent_of x) e))
+        by y k (inr a) = inr a
+    has_all_on first here x c false e = let p = its_parent x c e in (p.0, (p.1.0, λ y k on. subst (λ n. IsOnOne s n y) p.1.1 on))
+
+    -- where there are some, each has a group
+    pub some_own : (first : NameValue) → Contains parents first → AreParentGroups s list (map (λ (k : NameValue). filter (is_on_one s k.text) list) parents)
+    some_own first here = record {
+      has_all = λ x c.
+          let p = has_all_on first here x c (is_abstract s (parent_of x)) refl in (
+            filter (is_on_one s p.0.text) list,
+            (
+              contains_map (λ (k : NameValue). filter (is_on_one s k.text) list) parents p.0 p.1.0,
+              λ y k on. in_group p.0 y k (p.1.1 y k on),
+            ),
+          );
       only = λ group c.
-          let g = contains_unmap (λ g. g ++ shared_in) own group c in
-          let n = filed.only g.0 g.1.0 in (
-            n.0,
-            λ y k. elim (Contains-append_cases g.0 shared_in y (subst (λ l. Contains l y) (sym g.1.1) k)) [
-              | inl a ↦
-                  let p = of_filter (has parent_of n.0) others_in y (subst (λ l. Contains l y) n.1 a) in
-                  ((of_filter (is_on s false) list y p.0).0, inl (sym (named_so n.0 (parent_of y) p.1)))
-              | inr b ↦ let p = of_filter (is_on s true) list y b in (p.0, inr (on_abstract y p.1))
-            ],
+          let k = contains_unmap (λ (k : NameValue). filter (is_on_one s k.text) list) parents group c in (
+            k.0.text,
+            λ y m. let p = of_filter (is_on_one s k.0.text) list y (subst (λ l. Contains l y) (sym k.1.1) m) in (p.0, on_one_so k.0.text y p.1),
           );
     }
-      where
-        -- the group of those on a type that is not abstract
-        the_group : (z : FieldSelection) → Contains others_in z → List FieldSelection
-        the_group z c = filter (has parent_of (parent_of z)) others_in ++ shared_in
-
-        is_group : (z : FieldSelection) (c : Contains others_in z) → Contains (map (λ g. g ++ shared_in) own) (the_group z c)
-        is_group z c = contains_map (λ g. g ++ shared_in) own (filter (has parent_of (parent_of z)) others_in) (filed.has_all z c)
-
-        is_shared : (z : FieldSelection) (c : Contains others_in z) (y : FieldSelection) → Contains list y → IsAbstract s (parent_of y) → Contains (the_group z c) y
-        is_shared z c y k a = Contains-append_right (filter (has parent_of (parent_of z)) others_in) shared_in y (in_filter (is_on s true) list y k (so_is_abstract (parent_of y) a))
-
-        by : (x : FieldSelection) → Contains list x → (b : Bool) → is_abstract s (parent_of x) ≡ b
-            → (group : List FieldSelection) × (Contains (map (λ g. g ++ shared_in) own) group × ((y : FieldSelection) → Contains list y → IsOnOne s (parent_of x) y → Contains group y))
-        by x c true e = (the_group first here, (is_group first here, λ y k on. is_shared first here y k (abstract_too y on)))
-          where
-            abstract_too : (y : FieldSelection) → IsOnOne s (parent_of x) y → IsAbstract s (parent_of y)
-            abstract_too y (inl i) = subst (IsAbstract s) (sym i) (is_abstract_so (parent_of x) e)
-            abstract_too y (inr a) = a
-        by x c false e =
-            let z = in_filter (is_on s false) list x c (ap not e) in
-            (the_group x z, (is_group x z, λ y k on. own_or_shared z y k on (is_abstract s (parent_of y)) refl))
-          where
-            own_or_shared : (z : Contains others_in x) (y : FieldSelection) → Contains list y → IsOnOne s (parent_of x) y → (b : Bool) → is_abstract s (parent_of y) ≡ b → Contains (the_group x z) y
-            own_or_shared z y k on true i = is_shared x z y k (is_abstract_so (parent_of y) i)
-            own_or_shared z y k (inr a) false i = is_shared x z y k a
-            own_or_shared z y k (inl j) false i =
-                Contains-append_left (filter (has parent_of (parent_of x)) others_in) shared_in y
-                (in_filter (has parent_of (parent_of x)) others_in y (in_filter (is_on s false) list y k (ap not i)) (so_named (parent_of x) (parent_of y) (sym j)))
 
   -- ---- by keys and parents
 

@@ -1,10 +1,12 @@
 -- Groups of a list of field selections (private: it leads to `Sharing.antt` of the laws of merging).
-use Rattle.std.specs.Prelude.{◌≡◌, ℕ, Bool, true, false, not, List, [], map, filter, Vec, Contains, ◌⊎◌}
+use Rattle.std.specs.Prelude.{◌≡◌, ℕ, Bool, ◌&&◌, ◌||◌, not, List, [], map, filter, length, Vec, Contains, ◌⊎◌}
+use Rattle.std.specs.List.{sum, list_any}
 use Rattle.std.specs.Map.{lookup}
 use Rattle.std.specs.Option.{option_map_or}
 use Rattle.std.specs.Str.{bytes_eq}
 use Rattle.std.specs.declared.alloc.Global.{Global}
-use Rattle.indexmap.specs.IndexMap.{IndexMap}
+use Rattle.indexmap.specs.IndexMap.{IndexMap, values}
+use Rattle.indexmap.specs.IndexSet.{IndexSet}
 use Rattle.graphql_names.specs.NameValue.{NameValue}
 use Rattle.graphql_rule_definitions.specs.Judged.{Judged}
 use Rattle.graphql_document_rule_definitions.specs.Selected.{response_key}
@@ -16,6 +18,13 @@ use Rattle.graphql_merging.specs.Kinds.{is_abstract}
 -- what stands under a name, none if there is no entry
 abbrev pub items_under : {X S : Type 0} → List ℕ → IndexMap NameValue (Vec X Global) S → List X
 items_under n m = option_map_or (λ v. v.items) (lookup (λ k. bytes_eq n k.text) m.entries) []
+
+-- the lists that it has, and how many items stand in them
+abbrev pub lists_in : {X S : Type 0} → IndexMap NameValue (Vec X Global) S → List (List X)
+lists_in m = map (λ v. v.items) (values m)
+
+abbrev pub count_in : {X S : Type 0} → IndexMap NameValue (Vec X Global) S → ℕ
+count_in m = sum (map length (lists_in m))
 
 abbrev pub lists_of : {X : Type 0} → Vec (Vec X Global) Global → List (List X)
 lists_of lists = map (λ v. v.items) lists.items
@@ -31,10 +40,17 @@ parent_of x = (field_of x).parent
 abbrev pub has : {X : Type 0} → (X → List ℕ) → List ℕ → X → Bool
 has name n x = bytes_eq n (name x)
 
--- it is selected on an abstract type, or it is not
-abbrev pub is_on : Judged → Bool → FieldSelection → Bool
-is_on s true x = is_abstract s (parent_of x)
-is_on s false x = not (is_abstract s (parent_of x))
+-- the name is among these
+abbrev pub is_noted : {S : Type 0} → List ℕ → IndexSet NameValue S → Bool
+is_noted n names = list_any (λ k. bytes_eq n k.text) names.keys
+
+-- it is selected on this type, which is not abstract
+abbrev pub is_own_parent : Judged → List ℕ → FieldSelection → Bool
+is_own_parent s n x = bytes_eq n (parent_of x) && not (is_abstract s (parent_of x))
+
+-- it is selected on this type, or on an abstract one
+abbrev pub is_on_one : Judged → List ℕ → FieldSelection → Bool
+is_on_one s n x = bytes_eq n (parent_of x) || is_abstract s (parent_of x)
 
 -- for each name that is had, those that have it, and no other groups
 pub record AreFiled {X : Type 0} (name : X → List ℕ) (list : List X) (groups : List (List X)) : Type 0 where

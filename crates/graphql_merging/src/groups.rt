@@ -1,7 +1,8 @@
 //! Groups of the fields of a list.
-ghost use Rattle.std.specs.Prelude.{◌≡◌, ℕ, ◌++◌, ◌∷◌, [], List, map, filter, if◌then◌else◌, IfOk, OnOk};
+ghost use Rattle.std.specs.Prelude.{◌≡◌, ◌≤◌, ◌+◌, ℕ, ◌++◌, ◌∷◌, [], List, map, filter, length, ◌||◌, if◌then◌else◌, IfOk, OnOk};
+ghost use Rattle.std.specs.List.{sum, list_any};
 ghost use Rattle.std.specs.Str.{bytes_eq};
-ghost use Rattle.indexmap.specs.IndexMap.{get, values, IsUnique};
+ghost use Rattle.indexmap.specs.IndexMap.{get, IsUnique};
 ghost use Rattle.graphql_components.specs.Names.{same_text};
 ghost use Rattle.graphql_schema_types.specs.TypeView.{name_text};
 ghost use Rattle.graphql_schema.specs.SchemaOf.{schema_tree};
@@ -9,8 +10,9 @@ ghost use Rattle.graphql_rule_definitions.specs.Judged.{judged};
 ghost use Rattle.graphql_document_rule_definitions.specs.Groups.{AreGroups};
 ghost use Rattle.graphql_field_selections.specs.Fields.{fields_of};
 ghost use Rattle.graphql_merging_laws.specs.Sharing.{AreShareGroups};
+ghost use Rattle.graphql_merging.specs.Counted.{compared};
 ghost use Rattle.graphql_merging.specs.Passes.{Together};
-ghost use Rattle.graphql_merging.specs.Grouped.{items_under, key_of, parent_of, has, is_on, lists_of, AreFiled, AreParentGroups};
+ghost use Rattle.graphql_merging.specs.Grouped.{items_under, count_in, key_of, has, is_noted, is_own_parent, is_on_one, lists_in, lists_of, AreFiled, AreParentGroups};
 
 use crate::kinds::is_abstract;
 use crate::pass::Pass;
@@ -18,38 +20,40 @@ use graphql_field_selections::FieldSelection;
 use graphql_folding::insert_new;
 use graphql_names::Name;
 use graphql_schema::Schema;
-use indexmap::IndexMap;
+use indexmap::{IndexMap, IndexSet};
 use std::alloc::{AllocError, Global};
 
-/// Adds an item behind those under the name.
-fn push_under<T: Drop>(
+/// Adds a field behind those under the name.
+fn push_under<'doc>(
     alloc: Global,
-    index: &mut IndexMap<Name, Vec<T>>,
+    index: &mut IndexMap<Name, Vec<FieldSelection<'doc>>>,
     name: &Name,
-    item: T,
+    field: FieldSelection<'doc>,
 ) -> Result<(), AllocError>
-    ensures { OnOk result ((n : List ℕ) → items_under n index.new ≡ items_under n index.old ++ (if bytes_eq n name.now.text then item ∷ [] else [])) }
+    ensures under { OnOk result ((n : List ℕ) → items_under n index.new ≡ items_under n index.old ++ (if bytes_eq n name.now.text then field.entry ∷ [] else [])) }
+    ensures counted { OnOk result (count_in index.new ≡ count_in index.old + 1) }
 {
-    if let Some(items) = index.get_mut(name) {
-        items.push(item)?;
+    if let Some(fields) = index.get_mut(name) {
+        fields.push(field)?;
         return Ok(());
     }
-    insert_under(alloc, index, name, item)
+    insert_under(alloc, index, name, field)
 }
 
-/// Adds an item under a name that nothing stands under.
-fn insert_under<T: Drop>(
+/// Adds a field under a name that nothing stands under.
+fn insert_under<'doc>(
     alloc: Global,
-    index: &mut IndexMap<Name, Vec<T>>,
+    index: &mut IndexMap<Name, Vec<FieldSelection<'doc>>>,
     name: &Name,
-    item: T,
+    field: FieldSelection<'doc>,
 ) -> Result<(), AllocError>
     requires { get (same_text name_text) index.old name.now ≡ None }
-    ensures { OnOk result ((n : List ℕ) → items_under n index.new ≡ items_under n index.old ++ (if bytes_eq n name.now.text then item ∷ [] else [])) }
+    ensures under { OnOk result ((n : List ℕ) → items_under n index.new ≡ items_under n index.old ++ (if bytes_eq n name.now.text then field.entry ∷ [] else [])) }
+    ensures counted { OnOk result (count_in index.new ≡ count_in index.old + 1) }
 {
-    let mut items = Vec::new(alloc);
-    items.push(item)?;
-    insert_new(index, name, items)
+    let mut fields = Vec::new(alloc);
+    fields.push(field)?;
+    insert_new(index, name, fields)
 }
 
 /// The fields of the list under their response keys.
@@ -57,25 +61,12 @@ fn index_by_key<'doc>(
     alloc: Global,
     list: &[FieldSelection<'doc>],
 ) -> Result<IndexMap<Name, Vec<FieldSelection<'doc>>>, AllocError>
-    ensures { IfOk result (λ m. (n : List ℕ) → items_under n m ≡ filter (has key_of n) list.now) }
+    ensures under { IfOk result (λ m. (n : List ℕ) → items_under n m ≡ filter (has key_of n) list.now) }
+    ensures counted { IfOk result (λ m. count_in m ≡ length list.now) }
 {
     let mut index = IndexMap::new(alloc);
     for field in list {
         push_under(alloc, &mut index, field.response_key(), *field)?;
-    }
-    Ok(index)
-}
-
-/// The fields of the list under the names of the types that they are selected on.
-fn index_by_parent<'doc>(
-    alloc: Global,
-    list: &[FieldSelection<'doc>],
-) -> Result<IndexMap<Name, Vec<FieldSelection<'doc>>>, AllocError>
-    ensures { IfOk result (λ m. (n : List ℕ) → items_under n m ≡ filter (has parent_of n) list.now) }
-{
-    let mut index = IndexMap::new(alloc);
-    for field in list {
-        push_under(alloc, &mut index, field.parent_type, *field)?;
     }
     Ok(index)
 }
@@ -85,7 +76,7 @@ fn groups_in<'doc>(
     alloc: Global,
     index: IndexMap<Name, Vec<FieldSelection<'doc>>>,
 ) -> Result<Vec<Vec<FieldSelection<'doc>>>, AllocError>
-    ensures all { IfOk result (λ groups. lists_of groups ≡ map (λ v. v.items) (values index.entry)) }
+    ensures all { IfOk result (λ groups. lists_of groups ≡ lists_in index.entry) }
     ensures unique { IfOk result (λ groups. IsUnique (same_text name_text) index.entry) }
 {
     let mut groups = Vec::with_capacity(alloc, index.len())?;
@@ -100,87 +91,101 @@ fn key_groups<'doc>(
     alloc: Global,
     list: &[FieldSelection<'doc>],
 ) -> Result<Vec<Vec<FieldSelection<'doc>>>, AllocError>
-    ensures { IfOk result (λ groups. AreFiled key_of list.now (lists_of groups)) }
+    ensures filed { IfOk result (λ groups. AreFiled key_of list.now (lists_of groups)) }
+    ensures counted { IfOk result (λ groups. sum (map length (lists_of groups)) ≡ length list.now) }
 {
     let index = index_by_key(alloc, list)?;
     groups_in(alloc, index)
 }
 
-/// The groups of the list by the types that its fields are selected on.
-fn parent_groups<'doc>(
-    alloc: Global,
-    list: &[FieldSelection<'doc>],
-) -> Result<Vec<Vec<FieldSelection<'doc>>>, AllocError>
-    ensures { IfOk result (λ groups. AreFiled parent_of list.now (lists_of groups)) }
-{
-    let index = index_by_parent(alloc, list)?;
-    groups_in(alloc, index)
-}
-
-/// Adds the field where it is selected on an abstract type, or where it is not, as is wanted.
-fn push_on<'doc>(
+/// Notes the type that the field is selected on, unless it is abstract.
+fn note_parent(
     schema: &Schema,
-    field: FieldSelection<'doc>,
-    wanted: bool,
-    found: &mut Vec<FieldSelection<'doc>>,
+    field: FieldSelection<'_>,
+    parents: &mut IndexSet<Name>,
 ) -> Result<(), AllocError>
-    ensures { OnOk result (found.new.items ≡ found.old.items ++ (if is_on (judged (schema_tree schema.now)) wanted field.entry then field.entry ∷ [] else [])) }
+    ensures { OnOk result ((n : List ℕ) → is_noted n parents.new ≡ (is_noted n parents.old || is_own_parent (judged (schema_tree schema.now)) n field.entry)) }
 {
-    if is_abstract(schema, field.parent_type) == wanted {
-        found.push(field)?;
+    if is_abstract(schema, field.parent_type) {
+        return Ok(());
     }
+    let name = field.parent_type.clone()?;
+    parents.insert(name)?;
     Ok(())
 }
 
-/// The fields of the list that are selected on interfaces and unions, or those that are not, as is wanted.
-fn fields_on<'doc>(
+/// The types that the fields of the list are selected on, in order, without those that are abstract.
+fn parents_of(
+    alloc: Global,
+    schema: &Schema,
+    list: &[FieldSelection<'_>],
+) -> Result<IndexSet<Name>, AllocError>
+    ensures { IfOk result (λ parents. (n : List ℕ) → is_noted n parents ≡ list_any (is_own_parent (judged (schema_tree schema.now)) n) list.now) }
+{
+    let mut parents = IndexSet::new(alloc);
+    for field in list {
+        note_parent(schema, *field, &mut parents)?;
+    }
+    Ok(parents)
+}
+
+/// Whether the field is selected on that type or on an abstract one.
+fn is_on_one(schema: &Schema, field: FieldSelection<'_>, parent: &Name) -> bool
+    ensures { result ≡ is_on_one (judged (schema_tree schema.now)) parent.now.text field.entry }
+{
+    parent.as_str() == field.parent_type.as_str() || is_abstract(schema, field.parent_type)
+}
+
+/// The fields of the list that are selected on that type or on an abstract one, in the order of the list.
+fn fields_on_one<'doc>(
     alloc: Global,
     schema: &Schema,
     list: &[FieldSelection<'doc>],
-    wanted: bool,
+    parent: &Name,
 ) -> Result<Vec<FieldSelection<'doc>>, AllocError>
-    ensures { IfOk result (λ v. v.items ≡ filter (is_on (judged (schema_tree schema.now)) wanted) list.now) }
+    ensures { IfOk result (λ v. v.items ≡ filter (is_on_one (judged (schema_tree schema.now)) parent.now.text) list.now) }
 {
     let mut found = Vec::new(alloc);
     for field in list {
-        push_on(schema, *field, wanted, &mut found)?;
+        if is_on_one(schema, *field, parent) {
+            found.push(*field)?;
+        }
     }
     Ok(found)
 }
 
-/// Adds groups, each with the shared fields behind its own.
-fn push_sharing<'doc>(
-    shared: &[FieldSelection<'doc>],
-    own: Vec<Vec<FieldSelection<'doc>>>,
+/// Adds for each of these types the fields of the list that are on it or on abstract types.
+fn push_groups_on<'doc>(
+    schema: &Schema,
+    list: &[FieldSelection<'doc>],
+    parents: &IndexSet<Name>,
     groups: &mut Vec<Vec<FieldSelection<'doc>>>,
 ) -> Result<(), AllocError>
-    ensures { OnOk result (lists_of groups.new ≡ lists_of groups.old ++ map (λ g. g ++ shared.now) (lists_of own.entry)) }
+    ensures { OnOk result (lists_of groups.new ≡ lists_of groups.old ++ map (λ n. filter (is_on_one (judged (schema_tree schema.now)) n.text) list.now) parents.now.keys) }
 {
-    for mut group in own {
-        group.extend_from_slice(shared)?;
-        groups.push(group)?;
+    let alloc = *groups.allocator();
+    for parent in parents {
+        groups.push(fields_on_one(alloc, schema, list, parent)?)?;
     }
     Ok(())
 }
 
-/// Adds the groups of a list of one key that one object may have: for each type that is not abstract its fields with those on
-/// abstract types, or if there is none, these alone ("the parent types are equal or either is not an Object Type").
+/// Adds the groups of a list of one key that one object may have: for each type that is not abstract the fields on it or on
+/// abstract types, or if there is none, the list ("the parent types are equal or either is not an Object Type").
 fn push_share_groups<'doc>(
     schema: &Schema,
-    list: &[FieldSelection<'doc>],
+    list: Vec<FieldSelection<'doc>>,
     groups: &mut Vec<Vec<FieldSelection<'doc>>>,
 ) -> Result<(), AllocError>
-    ensures { OnOk result ((added : _) × ((lists_of groups.new ≡ lists_of groups.old ++ added) × AreParentGroups (judged (schema_tree schema.now)) list.now added)) }
+    ensures { OnOk result ((added : _) × ((lists_of groups.new ≡ lists_of groups.old ++ added) × AreParentGroups (judged (schema_tree schema.now)) list.entry.items added)) }
 {
     let alloc = *groups.allocator();
-    let shared = fields_on(alloc, schema, list, true)?;
-    let others = fields_on(alloc, schema, list, false)?;
-    if others.is_empty() {
-        groups.push(shared)?;
+    let parents = parents_of(alloc, schema, &list)?;
+    if parents.is_empty() {
+        groups.push(list)?;
         return Ok(());
     }
-    let own = parent_groups(alloc, &others)?;
-    push_sharing(&shared, own, groups)
+    push_groups_on(schema, &list, &parents, groups)
 }
 
 /// The groups of the list that one object may have ("fieldsForName", and parent types that are equal or of which one is not an
@@ -194,20 +199,22 @@ fn share_groups<'doc>(
 {
     let mut groups = Vec::new(alloc);
     let keyed = key_groups(alloc, list)?;
-    for group in &keyed {
+    for group in keyed {
         push_share_groups(schema, group, &mut groups)?;
     }
     Ok(groups)
 }
 
-/// The groups of the list in which fields are compared in a pass.
+/// The groups of the list in which fields are compared in a pass. Those in which shapes are compared have together as many
+/// fields as the list.
 pub(crate) fn groups_of<'doc>(
     alloc: Global,
     pass: Pass,
     schema: &Schema,
     list: &[FieldSelection<'doc>],
 ) -> Result<Vec<Vec<FieldSelection<'doc>>>, AllocError>
-    ensures { IfOk result (λ groups. AreGroups (Together pass (judged (schema_tree schema.now))) (fields_of list.now) (map fields_of (lists_of groups))) }
+    ensures groups { IfOk result (λ groups. AreGroups (Together pass (judged (schema_tree schema.now))) (fields_of list.now) (map fields_of (lists_of groups))) }
+    ensures counted { IfOk result (λ groups. sum (map (compared pass) (lists_of groups)) ≤ compared pass list.now) }
 {
     match pass {
         Pass::Shapes => key_groups(alloc, list),
