@@ -4,6 +4,7 @@ use Rattle.std.proofs.lemmas.List.{map-append}
 use Rattle.std.proofs.lemmas.List.Elements.{Contains-append_left, Contains-append_right, Contains-append_cases}
 use Rattle.graphql_names.specs.Placed.{Place}
 use Rattle.graphql_components.proofs.Places.{not_in_nil, only, Contains-cons, Contains-first, Contains-rest}
+use Rattle.graphql_cycles.specs.Paths.{HasNoRepeat}
 use Rattle.graphql_meant_documents.specs.MeantTree.{MeantOperation, MeantDocument}
 use Rattle.graphql_rule_definitions.specs.Judged.{Judged}
 use Rattle.graphql_document_rule_definitions.specs.DocumentFaults.{Broken}
@@ -26,7 +27,7 @@ use Rattle.graphql_merging.specs.declared.pass.Pass.{Pass}
 use Rattle.graphql_merging.specs.declared.pass.Pass.TheVariants.{Shapes, Selections}
 use Rattle.graphql_merging.specs.Passes.{Together, Agree, Conflict, TellsGroup}
 use Rattle.graphql_merging.specs.Below.{IsMergedIn}
-use Rattle.graphql_merging.specs.Remembered.{contents_of, HaveSame, Remembers}
+use Rattle.graphql_merging.specs.Remembered.{contents_of, Remembers}
 use Rattle.graphql_merging.specs.Examined.{HasFields, if_any, all_contents, AreStarting, AreSettled, AreUnderWay, GroupExamined, TellsOf, LiesUnder, GroupsExamined, ListExamined, TellsIn, IsGroupIn, ComesFrom, ListsExamined, AllExamined}
 
 -- ---- lists
@@ -68,6 +69,7 @@ module _ (pass : Pass) (s : Judged) (d : MeantDocument Place) where
   no_groups = record {
     right = λ fault c. not_in_nil fault c;
     under = λ list c. not_in_nil list c;
+    apart = λ list c. not_in_nil list c;
     agree = λ e group c. not_in_nil group c;
     below = λ group c. not_in_nil group c;
   }
@@ -80,6 +82,10 @@ module _ (pass : Pass) (s : Judged) (d : MeantDocument Place) where
         (y, subst (λ l. Contains l y) (sym same) (Contains-first y ys y refl)),
         λ x k. merged.within x (subst (λ l. Contains (fields_of l) x) same k),
       )
+
+  apart_group : (group : List (StandingField Place)) (list : List FieldSelection) → IsMergedIn d group list → (next : List FieldSelection) → Contains (if_any list) next → HasNoRepeat (contents_of next)
+  apart_group group [] merged next c = absurd (not_in_nil next c)
+  apart_group group (y ∷ ys) merged next c = subst (λ l. HasNoRepeat (contents_of l)) (sym (only (y ∷ ys) next c)) merged.apart
 
   below_group : (group : List (StandingField Place)) (list : List FieldSelection) → IsMergedIn d group list → (old : List (List FieldSelection))
       → (l : List FieldSelection) × (Contains ([] ∷ (old ++ if_any list)) l × ((f x : StandingField Place) → Contains group f → ContentBelow d f x → Contains (contents_of l) (unplaced_content x)))
@@ -111,6 +117,10 @@ module _ (pass : Pass) (s : Judged) (d : MeantDocument Place) where
     under = λ list c. elim (Contains-append_cases next below list c) [
       | inl a ↦ let u = so_far.under list a in (u.0, (u.1.0, (Contains-append_left groups (group ∷ []) u.1.0 u.1.1.0, u.1.1.1)))
       | inr b ↦ let u = under_group group here.list here.merged list (subst (λ l. Contains l list) here.is b) in (u.0, (group, (in_last groups group, u.1)))
+    ];
+    apart = λ list c. elim (Contains-append_cases next below list c) [
+      | inl a ↦ so_far.apart list a
+      | inr b ↦ apart_group group here.list here.merged list (subst (λ l. Contains l list) here.is b)
     ];
     agree = λ e g c. elim (Contains-append_cases groups (group ∷ []) g c) [
       | inl a ↦ so_far.agree (left_empty added more e) g a
@@ -146,18 +156,6 @@ module _ (pass : Pass) (s : Judged) (d : MeantDocument Place) where
   into Shapes list groups next is = shapes_examined d s list groups next is
   into Selections list groups next is = selections_examined d s list groups next is
 
-  -- the same of a list with the same members
-  same_into : (list kept : List PlainField) (groups next : List (List PlainField)) → HaveSame list kept → IsExaminedInto (PlainBelow d) (Together pass s) (Agree pass s) list groups next
-      → IsExaminedInto (PlainBelow d) (Together pass s) (Agree pass s) kept groups next
-  same_into list kept groups next same is = record {
-    covers = record {
-      covered = λ f g a b t. is.covers.covered f g (same.back f a) (same.back g b) t;
-      within = λ group f g c a b. let w = is.covers.within group f g c a b in (same.there f w.0, w.1);
-    };
-    agree = is.agree;
-    below = is.below;
-  }
-
   twice : (lists : List (List FieldSelection)) → map (map unplaced_content) (map fields_of lists) ≡ all_contents lists
   twice [] = refl
   twice (l ∷ lists) = ap (λ k. contents_of l ∷ k) (twice lists)
@@ -165,7 +163,7 @@ module _ (pass : Pass) (s : Judged) (d : MeantDocument Place) where
   -- a list that is new
   pub new_list : (list : List FieldSelection) (added : List (Broken Place)) (next : List (List FieldSelection)) (old new : List (List PlainField))
       → ListExamined pass s d list added next → Remembers old (contents_of list) true new → ListsExamined pass s d (list ∷ []) old new added next
-  new_list list added next old new h (kept, (same, is)) = record {
+  new_list list added next old new h (none, is) = record {
     right = λ fault c.
         let t = h.examined.right fault c in
         let w = h.are.within t.0 t.1.1.0 t.1.1.1.0 t.1.0 t.1.1.1.1.0 t.1.1.1.1.1.0 in
@@ -174,20 +172,20 @@ module _ (pass : Pass) (s : Judged) (d : MeantDocument Place) where
     under = λ l c.
         let u = h.examined.under l c in
         (u.0, (list, (Contains-first list [] list refl, (u.1.0, ((λ f g a b. h.are.within u.1.0 f g u.1.1.0 a b), u.1.1.1)))));
+    apart = h.examined.apart;
     settled = λ e o left under.
         let whole : ListExamined pass s d list [] next = subst (λ a. ListExamined pass s d list a next) e h in
-        let is_into : IsExaminedInto (PlainBelow d) (Together pass s) (Agree pass s) kept (map (map unplaced_content) whole.groups) ([] ∷ all_contents next) =
-        same_into (contents_of list) kept (map (map unplaced_content) whole.groups) ([] ∷ all_contents next) same
-        (subst (λ ns. IsExaminedInto (PlainBelow d) (Together pass s) (Agree pass s) (contents_of list) (map (map unplaced_content) whole.groups) ([] ∷ ns)) (twice next)
-        (into pass (fields_of list) whole.groups (map fields_of ([] ∷ next)) (examined_by list next whole))) in
+        let is_into : IsExaminedInto (PlainBelow d) (Together pass s) (Agree pass s) (contents_of list) (map (map unplaced_content) whole.groups) ([] ∷ all_contents next) =
+        subst (λ ns. IsExaminedInto (PlainBelow d) (Together pass s) (Agree pass s) (contents_of list) (map (map unplaced_content) whole.groups) ([] ∷ ns)) (twice next)
+        (into pass (fields_of list) whole.groups (map fields_of ([] ∷ next)) (examined_by list next whole)) in
         let later : List (List PlainField) = left ++ all_contents next in
-        let all : IsUnderWay (PlainBelow d) (Together pass s) (Agree pass s) (PlainStarts d o) ([] ∷ later) (([] ∷ old) ++ kept ∷ []) =
+        let all : IsUnderWay (PlainBelow d) (Together pass s) (Agree pass s) (PlainStarts d o) ([] ∷ later) (([] ∷ old) ++ contents_of list ∷ []) =
         examined_anyhow (PlainBelow d) (Together pass s) (Agree pass s) (PlainStarts d o) (agree_sym pass s) (agree_trans pass s)
-        left ([] ∷ later) ([] ∷ old) (contents_of list) kept (map (map unplaced_content) whole.groups) ([] ∷ all_contents next) same.there is_into
+        left ([] ∷ later) ([] ∷ old) (contents_of list) (contents_of list) (map (map unplaced_content) whole.groups) ([] ∷ all_contents next) (λ x c. c) is_into
         (λ l c. Contains-rest [] later l (Contains-append_left left (all_contents next) l c))
         (λ l c. onto left l (Contains-cons [] (all_contents next) l c)) under in
         subst (AreUnderWay d pass s o later) (sym is)
-        (dropped (PlainBelow d) (Together pass s) (Agree pass s) (PlainStarts d o) later (([] ∷ old) ++ kept ∷ []) [] [] (Contains-first [] (old ++ kept ∷ []) [] refl) (λ f c. c) all);
+        (dropped (PlainBelow d) (Together pass s) (Agree pass s) (PlainStarts d o) later (([] ∷ old) ++ contents_of list ∷ []) [] [] (Contains-first [] (old ++ contents_of list ∷ []) [] refl) (λ f c. c) all);
   }
     where
       onto : (left : List (List PlainField)) (l : List PlainField) → ([] ≡ l) ⊎ Contains (all_contents next) l → Contains ([] ∷ (left ++ all_contents next)) l
@@ -196,13 +194,14 @@ module _ (pass : Pass) (s : Judged) (d : MeantDocument Place) where
 
   -- a list that is known
   pub known_list : (list : List FieldSelection) (old new : List (List PlainField)) → Remembers old (contents_of list) false new → ListsExamined pass s d (list ∷ []) old new [] []
-  known_list list old new (kept, (same, (there, is))) = record {
+  known_list list old new (there, is) = record {
     right = λ fault c. not_in_nil fault c;
     under = λ l c. not_in_nil l c;
+    apart = λ l c. not_in_nil l c;
     settled = λ e o left under.
         subst (λ l. AreUnderWay d pass s o l new) (sym (append-nil left))
         (subst (AreUnderWay d pass s o left) (sym is)
-        (dropped (PlainBelow d) (Together pass s) (Agree pass s) (PlainStarts d o) left ([] ∷ old) (contents_of list) kept (Contains-rest [] old kept there) same.there under));
+        (dropped (PlainBelow d) (Together pass s) (Agree pass s) (PlainStarts d o) left ([] ∷ old) (contents_of list) (contents_of list) (Contains-rest [] old (contents_of list) there) (λ x c. c) under));
   }
 
   -- ---- lists, one after the other
@@ -211,6 +210,7 @@ module _ (pass : Pass) (s : Judged) (d : MeantDocument Place) where
   no_lists old = record {
     right = λ fault c. not_in_nil fault c;
     under = λ l c. not_in_nil l c;
+    apart = λ l c. not_in_nil l c;
     settled = λ e o left under. subst (λ l. AreUnderWay d pass s o l old) (sym (append-nil left)) under;
   }
 
@@ -225,6 +225,7 @@ module _ (pass : Pass) (s : Judged) (d : MeantDocument Place) where
       | inl a ↦ let u = first.under l a in (u.0, (u.1.0, (Contains-append_left lists (list ∷ []) u.1.0 u.1.1.0, u.1.1.1)))
       | inr b ↦ let u = then'.under l b in (u.0, (u.1.0, (Contains-append_right lists (list ∷ []) u.1.0 u.1.1.0, u.1.1.1)))
     ];
+    apart = λ l c. elim (Contains-append_cases next below l c) [ inl a ↦ first.apart l a | inr b ↦ then'.apart l b ];
     settled = λ e o left under.
         let begin : AreUnderWay d pass s o (all_contents lists ++ (contents_of list ∷ left)) old =
         subst (λ l. AreUnderWay d pass s o l old) (ap (λ l. l ++ left) (map-append contents_of lists (list ∷ [])) ∙ append_assoc (all_contents lists) (contents_of list ∷ []) left) under in
@@ -274,7 +275,7 @@ module _ (pass : Pass) (s : Judged) (d : MeantDocument Place) where
       };
       fields = λ less list c. absurd (omega (arith, less));
       right = λ fault c. not_in_nil fault c;
-      settled = λ e ok. begun (PlainBelow d) (Together pass s) (Agree pass s) (PlainStarts d o) ([] ∷ old) (contents_of start) (start_list d o (fields_of start) starting.1) ok;
+      settled = λ e ok. begun (PlainBelow d) (Together pass s) (Agree pass s) (PlainStarts d o) ([] ∷ old) (contents_of start) (start_list d o (fields_of start) starting.1.0) ok;
     }
 
     pub next_level : (start old new : List (List PlainField)) (length : ℕ) (added more : List (Broken Place)) (level next : List (List FieldSelection))

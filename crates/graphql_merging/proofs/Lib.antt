@@ -4,3 +4,4 @@ pub mod Examining
 pub mod Telling
 pub mod Shaped
 pub mod Lists
+pub mod Counting

@@ -1,14 +1,19 @@
 -- Lists below groups, and lists that are remembered.
-use Rattle.std.proofs.Common.{◌≡◌, ◌↔◌, ◌⊎◌, ◌∙◌, Bool, true, false, None, ◌&&◌, ◌||◌, not, List, [], ◌∷◌, ◌++◌, map, Vec, Contains, refl, sym, ap, subst, inl, inr, if◌then◌else◌, true≢false}
+use Rattle.std.proofs.Common.{◌≡◌, ◌↔◌, ◌⊎◌, ◌∙◌, ℕ, ◌<◌, Bool, true, false, None, Some, ◌&&◌, ◌||◌, not, List, [], ◌∷◌, ◌++◌, length, get_or, map, Vec, Contains, refl, sym, ap, subst, inl, inr, if◌then◌else◌, true≢false, arith}
+use Rattle.std.specs.Prelude.{slice_get}
 use Rattle.std.specs.List.{list_any}
 use Rattle.std.specs.Cmp.Lexicographic.{pointwise}
 use Rattle.std.specs.declared.alloc.Global.{Global}
-use Rattle.std.proofs.lemmas.List.{map-append}
+use Rattle.std.proofs.lemmas.Bool.{cases_lt}
+use Rattle.std.proofs.lemmas.List.{map-append, length_push, get_or_append_left}
 use Rattle.std.proofs.lemmas.List.Elements.{Contains-append_left, Contains-append_right, Contains-append_cases}
+use Rattle.std.proofs.lemmas.Option.{slice_get_within, slice_get-get_or, get_or_from_slice_get}
+use Rattle.std.proofs.Math.Seq.{get_or-append_seam}
 use Rattle.indexmap.specs.IndexSet.{insert_key}
 use Rattle.graphql_names.specs.Placed.{Place}
 use Rattle.graphql_components.specs.Names.{Entries}
 use Rattle.graphql_components.proofs.Places.{not_in_nil, only, Contains-cons, Contains-first, Contains-rest}
+use Rattle.graphql_cycles.specs.Paths.{HasNoRepeat}
 use Rattle.graphql_meant_documents.specs.MeantTree.{MeantFragment, MeantOperation, MeantDocument}
 use Rattle.graphql_document_rule_definitions.specs.Selected.{StandingField, InOperation}
 use Rattle.graphql_document_rule_definitions.specs.Contents.{ContentBelow, ContentStarts}
@@ -17,26 +22,87 @@ use Rattle.graphql_field_selections.specs.Fields.{field_of, fields_of, content_o
 use Rattle.graphql_field_selections.specs.declared.field_selection.FieldSelection.{FieldSelection}
 use Rattle.graphql_field_selections.proofs.ContentEquality.{selection_eq, selection_eq-Decides}
 use Rattle.graphql_merging_laws.specs.Contents.{PlainField, unplaced_content}
-use Rattle.graphql_merging_laws.specs.Settled.{HasAllOf}
 use Rattle.graphql_merging.specs.Below.{AreBelow, IsDistinctOf, IsMergedIn, IsMerged}
-use Rattle.graphql_merging.specs.Remembered.{contents_of, HaveSame, Remembers}
+use Rattle.graphql_merging.specs.Remembered.{contents_of, Remembers}
 use Rattle.graphql_merging.specs.Examined.{AreStarting}
 
 any_among : {X : Type 0} (test : X → Bool) (xs : List X) → list_any test xs ≡ true → (y : X) × (Contains xs y × (test y ≡ true))
 any_among test [] e = absurd (true≢false (sym e))
-any_among {X} test (x ∷ xs) e = by (test x) refl e
+any_among {X} test (x ∷ xs) e = by (test x) refl e (any_among test xs)
   where
-    by : (b : Bool) → test x ≡ b → (b || list_any test xs) ≡ true → (y : X) × (Contains (x ∷ xs) y × (test y ≡ true))
-    by true i h = (x, (Contains-first x xs x refl, i))
-    by false i h = let r = any_among test xs h in (r.0, (Contains-rest x xs r.0 r.1.0, r.1.1))
+    by : (b : Bool) → test x ≡ b → (b || list_any test xs) ≡ true → (list_any test xs ≡ true → (y : X) × (Contains xs y × (test y ≡ true))) → (y : X) × (Contains (x ∷ xs) y × (test y ≡ true))
+    by true i h rest = (x, (Contains-first x xs x refl, i))
+    by false i h rest = let r = rest h in (r.0, (Contains-rest x xs r.0 r.1.0, r.1.1))
+
+none_among : {X : Type 0} (test : X → Bool) (xs : List X) → list_any test xs ≡ false → (y : X) → Contains xs y → test y ≡ true → ⊥
+none_among test [] e y c t = not_in_nil y c
+none_among {X} test (x ∷ xs) e y c t = by (test x) refl e (none_among test xs)
+  where
+    by : (b : Bool) → test x ≡ b → (b || list_any test xs) ≡ false → (list_any test xs ≡ false → (z : X) → Contains xs z → test z ≡ true → ⊥) → ⊥
+    by true i h rest = absurd (true≢false h)
+    by false i h rest = elim (Contains-cons x xs y c) [
+      | inl s ↦ absurd (true≢false (sym t ∙ ap test (sym s) ∙ i))
+      | inr r ↦ rest h y r t
+    ]
 
 in_last : {X : Type 0} (xs : List X) (x : X) → Contains (xs ++ x ∷ []) x
 in_last xs x = Contains-append_right xs (x ∷ []) x (Contains-first x [] x refl)
 
+-- ---- no member twice
+
+slice_get-push_cases : {X : Type 0} (xs : List X) (x : X) (i : ℕ) (y : X) → slice_get (xs ++ x ∷ []) i ≡ Some y → (slice_get xs i ≡ Some y) ⊎ ((i ≡ length xs) × (y ≡ x))
+slice_get-push_cases xs x i y h =
+    let within : i < length (xs ++ x ∷ []) = slice_get_within (xs ++ x ∷ []) i y h in
+    let is : get_or (xs ++ x ∷ []) i y ≡ y = get_or_from_slice_get (xs ++ x ∷ []) i y y h in
+    elim (cases_lt i (length xs)) [
+      | inl low ↦ inl (slice_get-get_or xs i y low ∙ ap (λ a. Some a) (sym (get_or_append_left xs (x ∷ []) y i low) ∙ is))
+      | inr high ↦
+          let last : i ≡ length xs = omega (arith, length_push xs x) in
+          inr (last, sym is ∙ ap (λ k. get_or (xs ++ x ∷ []) k y) last ∙ get_or-append_seam xs x [] y)
+    ]
+
+contains_from_get : {X : Type 0} (xs : List X) (i : ℕ) (x : X) → slice_get xs i ≡ Some x → Contains xs x
+contains_from_get xs i x h = (i, slice_get_within xs i x h, get_or_from_slice_get xs i x x h)
+
+pub none_twice : {X : Type 0} → HasNoRepeat {X = X} []
+none_twice i j x h k = absurd (omega (arith, slice_get_within [] i x h))
+
+pub apart_more : {X : Type 0} (xs : List X) (x : X) → HasNoRepeat xs → (Contains xs x → ⊥) → HasNoRepeat (xs ++ x ∷ [])
+apart_more xs x apart new i j y h k =
+    elim (slice_get-push_cases xs x i y h) [
+      | inl a ↦ elim (slice_get-push_cases xs x j y k) [
+        | inl b ↦ apart i j y a b
+        | inr b ↦ absurd (new (subst (Contains xs) b.1 (contains_from_get xs i y a)))
+      ]
+      | inr a ↦ elim (slice_get-push_cases xs x j y k) [
+        | inl b ↦ absurd (new (subst (Contains xs) a.1 (contains_from_get xs j y b)))
+        | inr b ↦ a.0 ∙ sym b.0
+      ]
+    ]
+
 -- ---- one of each content
 
+contents_append : (xs ys : List FieldSelection) → contents_of (xs ++ ys) ≡ contents_of xs ++ contents_of ys
+contents_append [] ys = refl
+contents_append (x ∷ xs) ys = ap (λ l. content_of x ∷ l) (contents_append xs ys)
+
+pub in_contents : (xs : List FieldSelection) (x : FieldSelection) → Contains xs x → Contains (contents_of xs) (content_of x)
+in_contents xs x c = contains_map unplaced_content (fields_of xs) (field_of x) (contains_map field_of xs x c)
+
+of_contents : (xs : List FieldSelection) (y : PlainField) → Contains (contents_of xs) y → (x : FieldSelection) × (Contains xs x × (content_of x ≡ y))
+of_contents xs y c =
+    let f = contains_unmap unplaced_content (fields_of xs) y c in
+    let x = contains_unmap field_of xs f.0 f.1.0 in
+    (x.0, (x.1.0, ap unplaced_content x.1.1 ∙ f.1.1))
+
 pub none_distinct : IsDistinctOf [] []
-none_distinct = record { within = λ x c. c; covers = λ x c. not_in_nil x c }
+none_distinct = record { within = λ x c. c; covers = λ x c. not_in_nil x c; apart = none_twice }
+
+-- no content of the list is that of a field that none of the list equals
+new_content : (kept : List FieldSelection) (x : FieldSelection) → list_any (selection_eq x) kept ≡ false → Contains (contents_of kept) (content_of x) → ⊥
+new_content kept x e c =
+    let y = of_contents kept (content_of x) c in
+    none_among (selection_eq x) kept e y.0 y.1.0 ((selection_eq-Decides x y.0).1 (sym y.1.1))
 
 pub distinct_more : (taken kept : List FieldSelection) (x : FieldSelection) → IsDistinctOf taken kept → IsDistinctOf (taken ++ x ∷ []) (insert_key selection_eq kept x)
 distinct_more taken kept x so_far = by (list_any (selection_eq x) kept) refl
@@ -50,6 +116,7 @@ distinct_more taken kept x so_far = by (list_any (selection_eq x) kept) refl
             | inl a ↦ so_far.covers z a
             | inr r ↦ (y.0, (y.1.0, sym ((selection_eq-Decides x y.0).0 y.1.1) ∙ ap content_of (sym (only x z r))))
           ];
+          apart = so_far.apart;
         }
     by false e = record {
       within = λ z c. elim (Contains-append_cases kept (x ∷ []) z c) [
@@ -60,6 +127,7 @@ distinct_more taken kept x so_far = by (list_any (selection_eq x) kept) refl
         | inl a ↦ let y = so_far.covers z a in (y.0, (Contains-append_left kept (x ∷ []) y.0 y.1.0, y.1.1))
         | inr r ↦ (z, (Contains-append_right kept (x ∷ []) z r, refl))
       ];
+      apart = subst HasNoRepeat (sym (contents_append kept (x ∷ []))) (apart_more (contents_of kept) (content_of x) so_far.apart (new_content kept x e));
     }
 
 -- ---- what lies below a group
@@ -89,6 +157,7 @@ merged fragments group found kept are distinct d same = record {
       let y = contains_unmap field_of found x ((are d same x).1 (f, (c, b))) in
       let z = distinct.covers y.0 y.1.0 in
       (field_of z.0, (contains_map field_of kept z.0 z.1.0, z.1.1 ∙ ap unplaced_content y.1.1));
+  apart = distinct.apart;
 }
 
 -- ---- what an operation starts with
@@ -96,13 +165,16 @@ merged fragments group found kept are distinct d same = record {
 pub starting : (fragments : Entries (MeantFragment Place)) (d : MeantDocument Place) (o : MeantOperation Place) (found kept : List FieldSelection) → d.fragments ≡ fragments
     → AddsFieldsOf fragments o.set [] found → IsDistinctOf found kept → AreStarting d o kept
 starting fragments d o found kept same (added, (is, are)) distinct = (
-  (λ x c.
+  λ x c.
       let y = contains_unmap field_of kept x c in
-      (are d (InOperation None) same x).0 (subst (λ l. Contains l x) is (subst (Contains (fields_of found)) y.1.1 (contains_map field_of found y.0 (distinct.within y.0 y.1.0))))),
-  (λ x b.
-      let y = contains_unmap field_of found x (subst (λ l. Contains l x) (sym is) ((are d (InOperation None) same x).1 b)) in
-      let z = distinct.covers y.0 y.1.0 in
-      subst (Contains (contents_of kept)) (z.1.1 ∙ ap unplaced_content y.1.1) (contains_map unplaced_content (fields_of kept) (field_of z.0) (contains_map field_of kept z.0 z.1.0))),
+      (are d (InOperation None) same x).0 (subst (λ l. Contains l x) is (subst (Contains (fields_of found)) y.1.1 (contains_map field_of found y.0 (distinct.within y.0 y.1.0)))),
+  (
+    λ x b.
+        let y = contains_unmap field_of found x (subst (λ l. Contains l x) (sym is) ((are d (InOperation None) same x).1 b)) in
+        let z = distinct.covers y.0 y.1.0 in
+        subst (Contains (contents_of kept)) (z.1.1 ∙ ap unplaced_content y.1.1) (in_contents kept z.0 z.1.0),
+    distinct.apart,
+  ),
 )
 
 -- ---- lists that are remembered
@@ -111,40 +183,42 @@ pub same_contents : (xs ys : List FieldSelection) → pointwise selection_eq xs 
 same_contents [] [] e = refl
 same_contents [] (y ∷ ys) e = cc
 same_contents (x ∷ xs) [] e = cc
-same_contents (x ∷ xs) (y ∷ ys) e = by (selection_eq x y) refl e
+same_contents (x ∷ xs) (y ∷ ys) e = by (selection_eq x y) refl e (same_contents xs ys)
   where
-    by : (b : Bool) → selection_eq x y ≡ b → (b && pointwise selection_eq xs ys) ≡ true → contents_of (x ∷ xs) ≡ contents_of (y ∷ ys)
-    by true i h = λ j. (selection_eq-Decides x y).0 i j ∷ same_contents xs ys h j
-    by false i h = cc
+    by : (b : Bool) → selection_eq x y ≡ b → (b && pointwise selection_eq xs ys) ≡ true → (pointwise selection_eq xs ys ≡ true → contents_of xs ≡ contents_of ys) → contents_of (x ∷ xs) ≡ contents_of (y ∷ ys)
+    by true i h rest = let first = (selection_eq-Decides x y).0 i in let others = rest h in λ j. first j ∷ others j
+    by false i h rest = cc
 
-abbrev list_eq : Vec FieldSelection Global → Vec FieldSelection Global → Bool
+equal_lists : (xs ys : List FieldSelection) → contents_of xs ≡ contents_of ys → pointwise selection_eq xs ys ≡ true
+equal_lists [] [] e = refl
+equal_lists [] (y ∷ ys) e = cc
+equal_lists (x ∷ xs) [] e = cc
+equal_lists (x ∷ xs) (y ∷ ys) e =
+    let first : content_of x ≡ content_of y = cc in
+    let others : contents_of xs ≡ contents_of ys = cc in
+    ap (λ b. b && pointwise selection_eq xs ys) ((selection_eq-Decides x y).1 first) ∙ equal_lists xs ys others
+
+abbrev pub list_eq : Vec FieldSelection Global → Vec FieldSelection Global → Bool
 list_eq a b = pointwise selection_eq a.items b.items
 
-have_same : (a b : List PlainField) → a ≡ b → HaveSame a b
-have_same a b e = record { there = λ x c. subst (λ l. Contains l x) e c; back = λ x c. subst (λ l. Contains l x) (sym e) c }
+abbrev pub contents_in : Vec FieldSelection Global → List PlainField
+contents_in v = contents_of v.items
 
 pub remembers : (old new : List (Vec FieldSelection Global)) (list : Vec FieldSelection Global) (is_new : Bool) → is_new ≡ not (list_any (list_eq list) old) → new ≡ insert_key list_eq old list
-    → Remembers (map (λ v. contents_of v.items) old) (contents_of list.items) is_new (map (λ v. contents_of v.items) new)
+    → Remembers (map contents_in old) (contents_of list.items) is_new (map contents_in new)
 remembers old new list is_new e is = by (list_any (list_eq list) old) refl is_new e
   where
-    by : (b : Bool) → list_any (list_eq list) old ≡ b → (r : Bool) → r ≡ not b → Remembers (map (λ v. contents_of v.items) old) (contents_of list.items) r (map (λ v. contents_of v.items) new)
+    by : (b : Bool) → list_any (list_eq list) old ≡ b → (r : Bool) → r ≡ not b → Remembers (map contents_in old) (contents_of list.items) r (map contents_in new)
     by true i true k = cc
     by true i false k =
         let y = any_among (list_eq list) old i in (
-          contents_of y.0.items,
-          (
-            have_same (contents_of list.items) (contents_of y.0.items) (same_contents list.items y.0.items y.1.1),
-            (
-              contains_map (λ v. contents_of v.items) old y.0 y.1.0,
-              ap (map (λ v. contents_of v.items)) (is ∙ ap (λ b. if b then old else old ++ list ∷ []) i),
-            ),
-          ),
+          subst (Contains (map contents_in old)) (sym (same_contents list.items y.0.items y.1.1)) (contains_map contents_in old y.0 y.1.0),
+          ap (map contents_in) (is ∙ ap (λ b. if b then old else old ++ list ∷ []) i),
         )
     by false i true k = (
-      contents_of list.items,
-      (
-        have_same (contents_of list.items) (contents_of list.items) refl,
-        ap (map (λ v. contents_of v.items)) (is ∙ ap (λ b. if b then old else old ++ list ∷ []) i) ∙ map-append (λ v. contents_of v.items) old (list ∷ []),
-      ),
+      λ c.
+          let y = contains_unmap contents_in old (contents_of list.items) c in
+          none_among (list_eq list) old i y.0 y.1.0 (equal_lists list.items y.0.items (sym y.1.1)),
+      ap (map contents_in) (is ∙ ap (λ b. if b then old else old ++ list ∷ []) i) ∙ map-append contents_in old (list ∷ []),
     )
     by false i false k = cc
