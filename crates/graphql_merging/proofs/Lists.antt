@@ -14,7 +14,7 @@ use Rattle.graphql_names.specs.Placed.{Place}
 use Rattle.graphql_components.specs.Names.{Entries}
 use Rattle.graphql_components.proofs.Places.{not_in_nil, only, Contains-cons, Contains-first, Contains-rest}
 use Rattle.graphql_cycles.specs.Paths.{HasNoRepeat}
-use Rattle.graphql_meant_documents.specs.MeantTree.{MeantFragment, MeantOperation, MeantDocument}
+use Rattle.graphql_meant_documents.specs.MeantTree.{MeantSet, MeantFragment, MeantOperation, MeantDocument}
 use Rattle.graphql_document_rule_definitions.specs.Selected.{StandingField, InOperation}
 use Rattle.graphql_document_rule_definitions.specs.Contents.{ContentBelow, ContentStarts}
 use Rattle.graphql_document_rule_definitions.proofs.Unplaced.{contains_map, contains_unmap}
@@ -24,7 +24,7 @@ use Rattle.graphql_field_selections.proofs.ContentEquality.{selection_eq, select
 use Rattle.graphql_merging_laws.specs.Contents.{PlainField, unplaced_content}
 use Rattle.graphql_merging.specs.Below.{AreBelow, IsDistinctOf, IsMergedIn, IsMerged}
 use Rattle.graphql_merging.specs.Remembered.{contents_of, Remembers}
-use Rattle.graphql_merging.specs.Examined.{AreStarting}
+use Rattle.graphql_merging.specs.Examined.{AreStarting, AreStartingWith}
 
 any_among : {X : Type 0} (test : X → Bool) (xs : List X) → list_any test xs ≡ true → (y : X) × (Contains xs y × (test y ≡ true))
 any_among test [] e = absurd (true≢false (sym e))
@@ -162,9 +162,9 @@ merged fragments group found kept are distinct d same = record {
 
 -- ---- what an operation starts with
 
-pub starting : (fragments : Entries (MeantFragment Place)) (d : MeantDocument Place) (o : MeantOperation Place) (found kept : List FieldSelection) → d.fragments ≡ fragments
+starting_of : (fragments : Entries (MeantFragment Place)) (d : MeantDocument Place) (o : MeantOperation Place) (found kept : List FieldSelection) → d.fragments ≡ fragments
     → AddsFieldsOf fragments o.set [] found → IsDistinctOf found kept → AreStarting d o kept
-starting fragments d o found kept same (added, (is, are)) distinct = (
+starting_of fragments d o found kept same (added, (is, are)) distinct = (
   λ x c.
       let y = contains_unmap field_of kept x c in
       (are d (InOperation None) same x).0 (subst (λ l. Contains l x) is (subst (Contains (fields_of found)) y.1.1 (contains_map field_of found y.0 (distinct.within y.0 y.1.0)))),
@@ -176,6 +176,9 @@ starting fragments d o found kept same (added, (is, are)) distinct = (
     distinct.apart,
   ),
 )
+
+pub starting : (fragments : Entries (MeantFragment Place)) (set : MeantSet Place) (found kept : List FieldSelection) → AddsFieldsOf fragments set [] found → IsDistinctOf found kept → AreStartingWith fragments set kept
+starting fragments set found kept adds distinct d o same is = starting_of fragments d o found kept same (subst (λ t. AddsFieldsOf fragments t [] found) (sym is) adds) distinct
 
 -- ---- lists that are remembered
 

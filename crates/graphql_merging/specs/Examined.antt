@@ -5,7 +5,8 @@ use Rattle.graphql_names.specs.Placed.{Place}
 use Rattle.graphql_cycles.specs.Paths.{HasNoRepeat}
 use Rattle.graphql_document_faults.specs.declared.build_error.BuildError.{BuildError}
 use Rattle.graphql_schema.specs.SchemaOf.{schema_tree}
-use Rattle.graphql_meant_documents.specs.MeantTree.{MeantOperation, MeantDocument}
+use Rattle.graphql_components.specs.Names.{Entries}
+use Rattle.graphql_meant_documents.specs.MeantTree.{MeantSet, MeantOperation, MeantFragment, MeantDocument}
 use Rattle.graphql_typing.specs.DocumentView.{meant_document}
 use Rattle.graphql_typed_operations.specs.TypedDocument.{typed_document_tree}
 use Rattle.graphql_rule_definitions.specs.Judged.{Judged, judged}
@@ -59,6 +60,10 @@ module _ (d : MeantDocument Place) where
 
   abbrev pub AreUnderWay : Pass → Judged → MeantOperation Place → List (List PlainField) → List (List PlainField) → Type 0
   AreUnderWay pass s o left lists = IsUnderWay (PlainBelow d) (Together pass s) (Agree pass s) (PlainStarts d o) left ([] ∷ lists)
+
+-- these start, in every document with these fragments and for every operation with this set
+abbrev pub AreStartingWith : Entries (MeantFragment Place) → MeantSet Place → List FieldSelection → Type 0
+AreStartingWith fragments set list = (d : MeantDocument Place) (o : MeantOperation Place) → d.fragments ≡ fragments → o.set ≡ set → AreStarting d o list
 
 module _ (pass : Pass) (s : Judged) (d : MeantDocument Place) where
   -- ---- a group

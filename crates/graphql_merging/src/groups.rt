@@ -1,5 +1,6 @@
 //! Groups of the fields of a list.
-ghost use Rattle.std.specs.Prelude.{◌≡◌, ℕ, ◌++◌, ◌∷◌, [], List, map, filter, if◌then◌else◌, IfOk, OnOk};
+ghost use Rattle.std.specs.Prelude.{◌≡◌, ◌≤◌, ℕ, ◌++◌, ◌∷◌, [], List, map, filter, if◌then◌else◌, IfOk, OnOk};
+ghost use Rattle.std.specs.List.{sum};
 ghost use Rattle.std.specs.Str.{bytes_eq};
 ghost use Rattle.indexmap.specs.IndexMap.{get, values, IsUnique};
 ghost use Rattle.graphql_components.specs.Names.{same_text};
@@ -10,6 +11,7 @@ ghost use Rattle.graphql_document_rule_definitions.specs.Groups.{AreGroups};
 ghost use Rattle.graphql_field_selections.specs.Fields.{fields_of};
 ghost use Rattle.graphql_merging_laws.specs.Sharing.{AreShareGroups};
 ghost use Rattle.graphql_merging.specs.Passes.{Together};
+ghost use Rattle.graphql_merging.specs.Counted.{compared};
 ghost use Rattle.graphql_merging.specs.Grouped.{items_under, key_of, parent_of, has, is_on, lists_of, AreFiled, AreParentGroups};
 
 use crate::kinds::is_abstract;
@@ -207,7 +209,8 @@ pub(crate) fn groups_of<'doc>(
     schema: &Schema,
     list: &[FieldSelection<'doc>],
 ) -> Result<Vec<Vec<FieldSelection<'doc>>>, AllocError>
-    ensures { IfOk result (λ groups. AreGroups (Together pass (judged (schema_tree schema.now))) (fields_of list.now) (map fields_of (lists_of groups))) }
+    ensures groups { IfOk result (λ groups. AreGroups (Together pass (judged (schema_tree schema.now))) (fields_of list.now) (map fields_of (lists_of groups))) }
+    ensures counted { IfOk result (λ groups. sum (map (compared pass) (lists_of groups)) ≤ compared pass list.now) }
 {
     match pass {
         Pass::Shapes => key_groups(alloc, list),

@@ -3,10 +3,12 @@ ghost use Rattle.std.specs.Prelude.{◌≡◌, Contains, IfOk};
 ghost use Rattle.graphql_schema.specs.SchemaOf.{schema_tree};
 ghost use Rattle.graphql_rule_definitions.specs.Judged.{judged};
 ghost use Rattle.graphql_names.specs.Placed.{Place};
-ghost use Rattle.graphql_meant_documents.specs.MeantTree.{MeantDocument};
+ghost use Rattle.graphql_typed_selections.specs.TypedTree.{typed_set_tree};
+ghost use Rattle.graphql_meant_documents.specs.MeantTree.{MeantDocument, meant_of_set};
+ghost use Rattle.graphql_field_selections.specs.Fields.{meant_fragments};
 ghost use Rattle.graphql_rule_definitions.specs.Judged.{Judged};
 ghost use Rattle.graphql_document_rule_definitions.specs.Selected.{operations};
-ghost use Rattle.graphql_merging.specs.Examined.{AreStarting};
+ghost use Rattle.graphql_merging.specs.Examined.{AreStartingWith};
 ghost use Rattle.graphql_merging.specs.Verdict.{document_meant, operation_meant, comparisons_of, AreBothSettled, IsCounted, ExaminesOperation};
 
 use crate::below::distinct;
@@ -17,7 +19,8 @@ use crate::remembered::Remembered;
 use graphql_field_selections::{FieldSelection, push_fields};
 use graphql_names::Node;
 use graphql_schema::Schema;
-use graphql_typed_operations::{ExecutableDocument, Operation};
+use graphql_typed_operations::{ExecutableDocument, FragmentMap, Operation};
+use graphql_typed_selections::SelectionSet;
 use std::alloc::{AllocError, Global};
 
 /// The lists that were examined in each pass, over all operations so far, and how often shapes were compared.
@@ -50,17 +53,16 @@ impl<'doc> Examined<'doc> {
     }
 }
 
-/// The fields that the operation selects, through fragments, each content once.
+/// The fields that a set selects, through fragments, each content once.
 fn starting_list<'doc>(
     alloc: Global,
-    document: &'doc ExecutableDocument,
-    operation: &'doc Node<Operation>,
+    fragments: &'doc FragmentMap,
+    set: &'doc SelectionSet,
 ) -> Result<Vec<FieldSelection<'doc>>, AllocError>
-    ensures { IfOk result (λ list. AreStarting (document_meant document.now) (operation_meant operation.now) list.items) }
+    ensures { IfOk result (λ list. AreStartingWith (meant_fragments fragments.now) (meant_of_set (typed_set_tree set.now)) list.items) }
 {
     let mut found = Vec::new(alloc);
-    let set = &operation.content().selection_set;
-    push_fields(set, &document.fragments, &mut found)?;
+    push_fields(set, fragments, &mut found)?;
     distinct(alloc, &found)
 }
 
@@ -76,7 +78,8 @@ pub fn examine_operation<'doc>(
     ensures counted { Contains (operations (document_meant document.now)) (operation_meant operation.now) → IsCounted (document_meant document.now) examined.old → IsCounted (document_meant document.now) examined.new }
 {
     let alloc = *breaches.allocator();
-    let start = starting_list(alloc, document, operation)?;
+    let set = &operation.content().selection_set;
+    let start = starting_list(alloc, &document.fragments, set)?;
     let again = Vec::from_slice(alloc, &start)?;
     let by_shape = Examination {
         pass: Pass::Shapes,
