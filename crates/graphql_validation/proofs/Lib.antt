@@ -3,5 +3,7 @@ pub mod Operations
 pub mod Fragments
 pub mod Data
 pub mod Ordered
+pub mod Subscribed
 pub mod WholeAlone
+pub mod FieldSets
 pub mod Telling

@@ -1,8 +1,9 @@
 -- The operations of a document, walked one by one.
-use Rattle.std.proofs.Common.{◌≡◌, ◌++◌, ℕ, List, [], ◌∷◌, map, Option, Some, None, refl, ap, sym, ◌∙◌, append_assoc, append-nil}
+use Rattle.std.proofs.Common.{◌≡◌, ◌++◌, ℕ, List, [], ◌∷◌, map, Option, Some, None, refl, ap, sym, ◌∙◌, subst, Contains, append_assoc, append-nil}
 use Rattle.std.specs.Borrow.{Bor}
 use Rattle.std.specs.List.{cons_option}
 use Rattle.std.specs.Option.{option_map}
+use Rattle.std.proofs.lemmas.List.Elements.{Contains-append_right}
 use Rattle.graphql_names.specs.Placed.{Placed, Place, node_tree}
 use Rattle.graphql_names.specs.declared.node.Node.{Node}
 use Rattle.graphql_schema_types.specs.in_components.Names.{Entries}
@@ -12,6 +13,7 @@ use Rattle.graphql_typed_operations.specs.declared.operation.Operation.{Operatio
 use Rattle.graphql_typed_operations.specs.declared.document.ExecutableDocument.{ExecutableDocument}
 use Rattle.graphql_meant_documents.specs.MeantTree.{MeantOperation}
 use Rattle.graphql_typing.specs.DocumentView.{meant_by_operation}
+use Rattle.graphql_rule_definitions.proofs.Lists.{Contains-first}
 use Rattle.graphql_document_rule_definitions.specs.Selected.{operations}
 use Rattle.graphql_subscription_rules.specs.Told.{document_meant, operation_meant}
 
@@ -58,3 +60,10 @@ lent_more os o all left rest is so_far =
 
 pub lent_all : (os : List (Bor (Node Operation))) (all : List (MeantOperation Place)) (left : List (Node Operation)) → left ≡ [] → lent_operations os ++ map operation_meant left ≡ all → lent_operations os ≡ all
 lent_all os all left none so_far = sym (append-nil (lent_operations os)) ∙ ap (λ l. lent_operations os ++ map operation_meant l) (sym none) ∙ so_far
+
+-- the next one is one of them
+pub lent_among : (os : List (Bor (Node Operation))) (o : Bor (Node Operation)) (all : List (MeantOperation Place)) (left rest : List (Node Operation)) → left ≡ o.now ∷ rest
+    → lent_operations os ++ map operation_meant left ≡ all → Contains all (lent_operation o)
+lent_among os o all left rest is so_far =
+    subst (λ l. Contains l (lent_operation o)) (ap (λ l. lent_operations os ++ map operation_meant l) (sym is) ∙ so_far)
+    (Contains-append_right (lent_operations os) (lent_operation o ∷ map operation_meant rest) (lent_operation o) (Contains-first (lent_operation o) (map operation_meant rest) (lent_operation o) refl))

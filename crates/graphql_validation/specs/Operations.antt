@@ -1,17 +1,30 @@
 -- What is judged operation by operation, and what is noted of the fragments (private: it leads to `specs/Told.antt`).
-use Rattle.std.specs.Prelude.{◌≡◌, ◌↔◌, ◌++◌, ℕ, Bool, true, false, List, [], ◌∷◌, map, fold, Contains, None, ◌⊎◌}
+use Rattle.std.specs.Prelude.{◌≡◌, ◌↔◌, ◌++◌, ℕ, Bool, true, false, List, [], ◌∷◌, map, fold, Vec, Contains, None, ◌⊎◌}
 use Rattle.std.specs.Str.{bytes_eq}
+use Rattle.std.specs.declared.alloc.Global.{Global}
 use Rattle.indexmap.specs.IndexSet.{insert_key}
 use Rattle.graphql_names.specs.Placed.{Place}
+use Rattle.graphql_schema_types.specs.SchemaTree.{SchemaTree}
+use Rattle.graphql_schema_types.specs.Plain.{plain}
+use Rattle.graphql_typing.specs.Meanings.{meanings}
+use Rattle.graphql_document_faults.specs.declared.build_error.BuildError.{BuildError}
 use Rattle.graphql_meant_documents.specs.MeantTree.{MeantOperation, MeantFragment, MeantDocument}
+use Rattle.graphql_rule_definitions.specs.Judged.{judged}
 use Rattle.graphql_rule_definitions.specs.Told.{PlacedFault}
 use Rattle.graphql_document_rule_definitions.specs.DocumentFaults.{Broken, OfData, OfDocument, OfLimit}
+use Rattle.graphql_document_rule_definitions.specs.DocumentRules.{DeferredBreaks}
 use Rattle.graphql_document_rule_definitions.specs.Limits.{SpreadBoundFails}
 use Rattle.graphql_document_rule_definitions.specs.Reached.{ReachesFragment, AtOperation}
-use Rattle.graphql_document_rule_definitions.specs.Variables.{UniqueVariableAt, UniqueDefaultKeyAt, UnusedVariableAt}
-use Rattle.graphql_document_rule_definitions.specs.Fragments.{ReachesItself, UndefinedFragmentAt, UnusedFragmentAt}
+use Rattle.graphql_document_rule_definitions.specs.Selected.{operations}
+use Rattle.graphql_document_rule_definitions.specs.Selections.{SelectionsBreak}
+use Rattle.graphql_document_rule_definitions.specs.Subscriptions.{SubscriptionBreaks}
+use Rattle.graphql_document_rule_definitions.specs.Variables.{VariablesBreak, UniqueVariableAt, UniqueDefaultKeyAt, UnusedVariableAt}
+use Rattle.graphql_document_rule_definitions.specs.Fragments.{ReachesItself, UndefinedFragmentAt, UnusedFragmentAt, InvalidFragmentTargetAt, InvalidFragmentSpreadAt, FragmentsBreak}
 use Rattle.graphql_document_rule_definitions.specs.Standalone.{GivenInBreaks, OperationBreaksAlone}
-use Rattle.graphql_document_rule_definitions.specs.Told.{PlacedDocumentFault, places_alone}
+use Rattle.graphql_document_rule_definitions.specs.Told.{PlacedDocumentFault, places_in, places_alone}
+use Rattle.graphql_reach.specs.Broken.{brokens_of}
+use Rattle.graphql_selection_rules.specs.Typed.{ReachesTyped}
+use Rattle.graphql_subscription_rules.specs.Told.{AreAlike}
 use Rattle.graphql_fragment_cycles.specs.Told.{Answers, TellsCycles}
 use Rattle.graphql_fragment_cycles.specs.Used.{IsUsed}
 
@@ -22,9 +35,19 @@ module _ (d : MeantDocument Place) (o : MeantOperation Place) where
       UniqueVariableAt o fault ⊎ (UniqueDefaultKeyAt o fault ⊎ (UnusedVariableAt o fault places_alone d
       ⊎ (UndefinedFragmentAt d fault o ⊎ GivenInBreaks places_alone d fault o)))
 
+  -- the same under a schema
+  abbrev pub OperationFails : SchemaTree Place → PlacedFault → Type 0
+  OperationFails s fault =
+      VariablesBreak (places_in s) (judged s) d o fault ⊎ (SelectionsBreak (places_in s) (judged s) d o fault
+      ⊎ (UndefinedFragmentAt d fault o ⊎ (InvalidFragmentTargetAt (judged s) d o fault ⊎ InvalidFragmentSpreadAt (judged s) d o fault (places_in s))))
+
   -- the operation reaches a fragment of this name
   abbrev pub ReachesNamed : List ℕ → Type 0
   ReachesNamed n = (f : MeantFragment Place) × (ReachesFragment d o f × (f.name.it ≡ n))
+
+-- what operations reach is typed
+abbrev pub AreReachesTyped : SchemaTree Place → MeantDocument Place → Type 0
+AreReachesTyped s d = (o : MeantOperation Place) → Contains (operations d) o → ReachesTyped (meanings (plain s)) d o
 
 -- to the names that were noted come those of which this holds, and no others
 abbrev pub NotesNames : List (List ℕ) → List (List ℕ) → (List ℕ → Type 0) → Type 0
@@ -44,9 +67,30 @@ pub record TellsData (d : MeantDocument Place) (All Beside : MeantOperation Plac
   pub full : (f : PlacedFault) → AtOperation d (λ o. Beside o f) ⊎ UnusedFragmentAt d f → Contains told f
   pub cycles : (g : MeantFragment Place) → IsUsed d g → ReachesItself d g → (f : PlacedFault) × (Contains told f × Answers g f)
 
--- all rules without a schema, with data, on an operation
+-- all rules without a schema, all rules under one, with data, on an operation
 abbrev pub AllAlone : MeantDocument Place → MeantOperation Place → PlacedFault → Type 0
 AllAlone d o f = OperationBreaksAlone places_alone d f o
+
+abbrev pub AllUnder : SchemaTree Place → MeantDocument Place → MeantOperation Place → PlacedFault → Type 0
+AllUnder s d o f = VariablesBreak (places_in s) (judged s) d o f ⊎ (SelectionsBreak (places_in s) (judged s) d o f ⊎ FragmentsBreak (places_in s) (judged s) d o f)
+
+-- ---- what breaks the rules on subscriptions and on `@defer`
+
+module _ (d : MeantDocument Place) where
+  -- each of these breaks a rule on subscriptions in one of the operations; and whatever breaks one is told, or one that is alike
+  pub record TellsSubscriptions (os : List (MeantOperation Place)) (told : List (Broken Place)) : Type 0 where
+    pub right : (f : Broken Place) → Contains told f → (o : MeantOperation Place) × (Contains os o × SubscriptionBreaks d o f)
+    pub full : (o : MeantOperation Place) → Contains os o → (f : Broken Place) → SubscriptionBreaks d o f → (g : Broken Place) × (Contains told g × AreAlike d o f g)
+
+  -- each of these breaks a rule on subscriptions or on `@defer`; all on `@defer` are told, those on subscriptions as above
+  pub record TellsBreaches (told : List (Broken Place)) : Type 0 where
+    pub right : (f : Broken Place) → Contains told f → AtOperation d (λ o. SubscriptionBreaks d o f) ⊎ DeferredBreaks d f
+    pub subscriptions : (o : MeantOperation Place) → Contains (operations d) o → (f : Broken Place) → SubscriptionBreaks d o f → (g : Broken Place) × (Contains told g × AreAlike d o f g)
+    pub deferred : (f : Broken Place) → DeferredBreaks d f → Contains told f
+
+-- the breaches that were there, as they stood, and behind them those on subscriptions of these operations
+abbrev pub AddsSubscriptions : Vec (Place × BuildError) Global → Vec (Place × BuildError) Global → MeantDocument Place → List (MeantOperation Place) → Type 0
+AddsSubscriptions old new d os = (added : List (Broken Place)) × ((brokens_of new ≡ brokens_of old ++ added) × TellsSubscriptions d os added)
 
 -- ---- what is told, in order: faults with data, then others, then the bound on how deep selections nest
 

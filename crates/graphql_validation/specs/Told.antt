@@ -1,13 +1,19 @@
--- What is told of a document (GraphQL, October 2021, section 5).
-use Rattle.std.specs.Prelude.{◌≡◌, List, ◌++◌, map, Contains, ◌⊎◌}
+-- What is told of a document, and of a field set (GraphQL, October 2021, section 5).
+use Rattle.std.specs.Prelude.{◌≡◌, ℕ, List, ◌++◌, map, Contains, ◌⊎◌}
 use Rattle.graphql_names.specs.Placed.{Place}
-use Rattle.graphql_meant_documents.specs.MeantTree.{MeantFragment, MeantDocument}
+use Rattle.graphql_schema_types.specs.SchemaTree.{SchemaTree}
+use Rattle.graphql_schema_types.specs.Plain.{plain}
+use Rattle.graphql_typed_selections.specs.TypedTree.{typed_set_tree}
+use Rattle.graphql_typed_operations.specs.declared.document.FieldSet.{FieldSet}
+use Rattle.graphql_meant_documents.specs.MeantTree.{MeantSet, MeantFragment, MeantDocument, meant_of_set}
+use Rattle.graphql_typing.specs.Meanings.{meanings}
+use Rattle.graphql_typing.specs.TypedByPlace.{IsSetOn}
 use Rattle.graphql_rule_definitions.specs.Told.{PlacedFault}
 use Rattle.graphql_document_rule_definitions.specs.DocumentFaults.{OfData, OfDocument, OfLimit}
 use Rattle.graphql_document_rule_definitions.specs.Reached.{AtOperation}
 use Rattle.graphql_document_rule_definitions.specs.Fragments.{ReachesItself, UnusedFragmentAt}
 use Rattle.graphql_document_rule_definitions.specs.DocumentRules.{DeferredBreaks}
-use Rattle.graphql_document_rule_definitions.specs.Told.{PlacedDocumentFault, DocumentBoundFails, DocumentFailsAlone}
+use Rattle.graphql_document_rule_definitions.specs.Told.{PlacedDocumentFault, SetRulesFail, SetBoundFails, DocumentBoundFails, DocumentFailsAlone}
 use Rattle.graphql_faults.specs.DetailsTree.{DetailsAt, DocumentBuild, RecursionLimitError, of_rule}
 use Rattle.graphql_fragment_cycles.specs.Used.{IsUsed}
 use Rattle.graphql_fragment_cycles.specs.Told.{Answers}
@@ -42,3 +48,22 @@ pub record TellsAlone (d : MeantDocument Place) (told : List PlacedDocumentFault
 -- behind what was told stands what is told of the document without a schema
 abbrev pub AloneTold : MeantDocument Place → Telling → Telling → Type 0
 AloneTold d old new = (added : List PlacedDocumentFault) × ((new ≡ old ++ map of_document added) × TellsAlone d added)
+
+-- what a field set means; it is typed on some type of the schema, as each that is made from selections
+abbrev pub set_meant : FieldSet → MeantSet Place
+set_meant set = meant_of_set (typed_set_tree set.selection_set)
+
+abbrev pub IsTypedSet : SchemaTree Place → MeantSet Place → Type 0
+IsTypedSet s set = (t : List ℕ) × IsSetOn (meanings (plain s)) t set
+
+-- a rule on field sets fails so: they have no fragments of their own
+abbrev pub SetFails : SchemaTree Place → MeantSet Place → PlacedDocumentFault → Type 0
+SetFails s set f = SetRulesFail s set f ⊎ SetBoundFails set f
+
+-- these tell what fails of the field set, and all of it but the bound
+pub record TellsFieldSet (s : SchemaTree Place) (set : MeantSet Place) (told : List PlacedDocumentFault) : Type 0 where
+  pub right : (f : PlacedDocumentFault) → Contains told f → SetFails s set f
+  pub full : (f : PlacedDocumentFault) → SetRulesFail s set f → Contains told f
+
+abbrev pub FieldSetTold : SchemaTree Place → MeantSet Place → Telling → Telling → Type 0
+FieldSetTold s set old new = (added : List PlacedDocumentFault) × ((new ≡ old ++ map of_document added) × TellsFieldSet s set added)

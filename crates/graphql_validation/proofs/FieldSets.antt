@@ -1,0 +1,80 @@
+-- Of a field set: what is told in parts tells all, and what is silent is valid.
+use Rattle.std.proofs.Common.{◌≡◌, ◌⊎◌, inl, inr, ◌++◌, Bool, List, [], ◌∷◌, None, refl, ap, sym, subst, Contains, true≢false, is_some}
+use Rattle.std.specs.Prelude.{IsTrue}
+use Rattle.graphql_names.specs.Placed.{Place}
+use Rattle.graphql_schema_types.specs.SchemaTree.{SchemaTree}
+use Rattle.graphql_rule_definitions.proofs.Lists.{not_in_nil, Contains-first}
+use Rattle.graphql_meant_documents.specs.MeantTree.{MeantSet, MeantOperation, MeantFragment, MeantDocument}
+use Rattle.graphql_meant_documents.specs.Unplaced.{unplaced_set}
+use Rattle.graphql_rule_definitions.specs.Told.{PlacedFault}
+use Rattle.graphql_document_rule_definitions.specs.DocumentFaults.{Broken, OfData, OfDocument, OfLimit}
+use Rattle.graphql_document_rule_definitions.specs.FieldSets.{document_of_set}
+use Rattle.graphql_document_rule_definitions.specs.Limits.{PassesPathBound}
+use Rattle.graphql_document_rule_definitions.specs.Reached.{ReachesFragment}
+use Rattle.graphql_document_rule_definitions.specs.Verdict.{FieldSetWithinBounds}
+use Rattle.graphql_document_rule_definitions.specs.Told.{PlacedDocumentFault, SetRulesFail, IsValidFieldSet}
+use Rattle.graphql_document_rule_definitions.proofs.Verdicts.{set_valid_where_nothing_is_told, set_within_bounds_where_nothing_is_told}
+use Rattle.graphql_fragment_cycles.specs.Used.{AreUnderOwnNames}
+use Rattle.graphql_selection_rules.proofs.Typing.{field_set_reaches_typed}
+use Rattle.graphql_typing.specs.Meanings.{meanings}
+use Rattle.graphql_schema_types.specs.Plain.{plain}
+use Rattle.graphql_validation.specs.Operations.{AreReachesTyped, TellsData, AllUnder, OperationFails, all_told}
+use Rattle.graphql_validation.specs.Told.{IsTypedSet, SetFails, TellsFieldSet}
+use Rattle.graphql_validation.proofs.Telling.{data_in, told_cases, bound_is}
+use Rattle.graphql_validation.proofs.Ordered.{beside_under}
+
+module _ (s : SchemaTree Place) (set : MeantSet Place) where
+  abbrev Doc : MeantDocument Place
+  Doc = document_of_set None set
+
+  -- it has no fragments, and all that it reaches is typed
+  pub own_names : AreUnderOwnNames Doc
+  own_names e c = absurd (not_in_nil e c)
+
+  pub reaches_typed : IsTypedSet s set → AreReachesTyped s Doc
+  reaches_typed typed o among = field_set_reaches_typed (meanings (plain s)) None typed.0 set typed.1 o among
+
+  no_fragment : (o : MeantOperation Place) (g : MeantFragment Place) → ReachesFragment Doc o g → ⊥
+  no_fragment o g reaches = true≢false (sym (ap is_some reaches.1.1.1.1))
+
+  pub tells_field_set : (faults : List PlacedFault) (is_passed : Bool) → TellsData Doc (AllUnder s Doc) (λ o. OperationFails Doc o s) faults → (IsTrue is_passed → PassesPathBound Doc)
+      → TellsFieldSet s set (all_told faults [] is_passed)
+  tells_field_set faults is_passed parts passes = record { right = right; full = full }
+    where
+      right : (f : PlacedDocumentFault) → Contains (all_told faults [] is_passed) f → SetFails s set f
+      right f c = elim (told_cases faults [] is_passed f c) [
+        | inl g ↦ subst (λ x. SetFails s set x) g.1.1 (elim (parts.right g.0 g.1.0) [ inl h ↦ inl h | inr h ↦ absurd (not_in_nil h.0 h.1.0) ])
+        | inr r ↦ elim r [
+          | inl b ↦ absurd (not_in_nil b.0 b.1.0)
+          | inr k ↦ let b = bound_is is_passed f k in inr (passes b.0, inr b.1)
+        ]
+      ]
+
+      full : (f : PlacedDocumentFault) → SetRulesFail s set f → Contains (all_told faults [] is_passed) f
+      full (OfData f) (inl at) = elim (beside_under Doc at.0 f s at.1.1) [
+        | inl h ↦ data_in faults [] is_passed f (parts.full f (inl (at.0, (at.1.0, h))))
+        | inr g ↦ absurd (no_fragment at.0 g.0 g.1.0)
+      ]
+      full (OfData f) (inr h) = data_in faults [] is_passed f (parts.full f (inr h))
+      full (OfDocument b) h = absurd h
+      full (OfLimit place) h = absurd h
+
+  -- where the document is that of the set, and nothing is told but faults with data and the bound
+  pub told_of_set : (d : MeantDocument Place) (faults : List PlacedFault) (breaches : List (Broken Place)) (is_passed : Bool) → d ≡ Doc → breaches ≡ []
+      → (AreReachesTyped s d → AreUnderOwnNames d → TellsData d (AllUnder s d) (λ o. OperationFails d o s) faults) → (IsTrue is_passed → PassesPathBound d) → IsTypedSet s set
+      → TellsFieldSet s set (all_told faults breaches is_passed)
+  told_of_set d faults breaches is_passed is none parts passes typed =
+      subst (λ bs. TellsFieldSet s set (all_told faults bs is_passed)) (sym none)
+      (tells_field_set faults is_passed
+      (subst (λ d. AreReachesTyped s d → AreUnderOwnNames d → TellsData d (AllUnder s d) (λ o. OperationFails d o s) faults) is parts (reaches_typed typed) own_names)
+      (subst (λ d. IsTrue is_passed → PassesPathBound d) is passes))
+
+  pub silent_set : TellsFieldSet s set [] → IsValidFieldSet s set
+  silent_set tells = (set_valid_where_nothing_is_told s set).1 (λ f h. not_in_nil f (tells.full f h))
+
+  pub valid_set : (told : List PlacedDocumentFault) → TellsFieldSet s set told → IsValidFieldSet s set → FieldSetWithinBounds (unplaced_set set) → told ≡ []
+  valid_set [] tells valid within = refl
+  valid_set (f ∷ fs) tells valid within = elim (tells.right f (Contains-first f fs f refl)) [
+    | inl h ↦ absurd ((set_valid_where_nothing_is_told s set).0 valid f h)
+    | inr h ↦ absurd ((set_within_bounds_where_nothing_is_told set).0 within f h)
+  ]

@@ -1,0 +1,59 @@
+use Rattle.std.proofs.Common.{map, ap, subst}
+use Rattle.std.proofs.lemmas.Result.{on_ok_weaker}
+use Rattle.graphql_fault_data.specs.FaultView.{faults_of}
+use Rattle.graphql_faults.specs.DetailsView.{diagnostics_of}
+use Rattle.graphql_reach.specs.Broken.{broken_of, brokens_of}
+use Rattle.graphql_schema.specs.SchemaOf.{schema_tree}
+use Rattle.graphql_subscription_rules.specs.Told.{document_meant}
+use Rattle.graphql_validation.specs.Operations.{all_told}
+use Rattle.graphql_validation.specs.Told.{set_meant, TellsFieldSet}
+use Rattle.graphql_validation.proofs.FieldSets.{told_of_set, silent_set, valid_set}
+use Rattle.graphql_validation.proofs.Telling.{nothing_told, told_nothing, begins_same, refused_so}
+use Rattle.graphql_validation.proofs.field_set.validate_field_set.Goals as goal
+
+pub returns-in_err-document-clause-begins : goal.returns-in_err-document-clause-begins
+returns-in_err-document-clause-begins c = refused_so _ (begins_same (diagnostics_of c.args.list.now))
+
+pub returns-in_err-faults-clause-begins : goal.returns-in_err-faults-clause-begins
+returns-in_err-faults-clause-begins c = refused_so _ (begins_same (diagnostics_of c.args.list.now))
+
+pub returns-clause-told : goal.returns-clause-told
+returns-clause-told c =
+    let s = schema_tree c.args.schema.now in
+    let set = set_meant c.args.field_set.now in
+    let d = document_meant c.in_ok-document.document in
+    let fs = faults_of c.in_ok-faults.faults in
+    let bs = brokens_of c.new.result in
+    let p = c.passes_path_bound-is_passed.result in
+    on_ok_weaker c.append_all.result
+    (λ h typed. (all_told fs bs p, (h, told_of_set s set d fs bs p c.in_ok-document.ensures (ap (map broken_of) c.new.ensures.items) c.in_ok-faults.ensures c.passes_path_bound-is_passed.ensures.right typed)))
+    c.append_all.ensures.added
+
+pub returns-clause-silent : goal.returns-clause-silent
+returns-clause-silent c =
+    let s = schema_tree c.args.schema.now in
+    let set = set_meant c.args.field_set.now in
+    let d = document_meant c.in_ok-document.document in
+    let fs = faults_of c.in_ok-faults.faults in
+    let bs = brokens_of c.new.result in
+    let p = c.passes_path_bound-is_passed.result in
+    on_ok_weaker c.append_all.result
+    (λ h typed same. silent_set s set
+    (subst (λ told. TellsFieldSet s set told) (nothing_told (diagnostics_of c.args.list.now) (diagnostics_of c.append_all.new.list) (all_told fs bs p) h same)
+    (told_of_set s set d fs bs p c.in_ok-document.ensures (ap (map broken_of) c.new.ensures.items) c.in_ok-faults.ensures c.passes_path_bound-is_passed.ensures.right typed)))
+    c.append_all.ensures.added
+
+pub returns-clause-accepts : goal.returns-clause-accepts
+returns-clause-accepts c =
+    let s = schema_tree c.args.schema.now in
+    let set = set_meant c.args.field_set.now in
+    let d = document_meant c.in_ok-document.document in
+    let fs = faults_of c.in_ok-faults.faults in
+    let bs = brokens_of c.new.result in
+    let p = c.passes_path_bound-is_passed.result in
+    on_ok_weaker c.append_all.result
+    (λ h typed valid within. told_nothing (diagnostics_of c.args.list.now) (diagnostics_of c.append_all.new.list) (all_told fs bs p) h
+    (valid_set s set (all_told fs bs p)
+    (told_of_set s set d fs bs p c.in_ok-document.ensures (ap (map broken_of) c.new.ensures.items) c.in_ok-faults.ensures c.passes_path_bound-is_passed.ensures.right typed)
+    valid within))
+    c.append_all.ensures.added

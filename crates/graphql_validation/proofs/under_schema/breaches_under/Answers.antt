@@ -1,0 +1,9 @@
+use Rattle.graphql_reach.specs.Broken.{brokens_of}
+use Rattle.graphql_subscription_rules.specs.Told.{document_meant}
+use Rattle.graphql_validation.proofs.Subscribed.{tells_breaches}
+use Rattle.graphql_validation.proofs.under_schema.breaches_under.Goals as goal
+
+pub returns : goal.returns
+returns c = λ own.
+    tells_breaches (document_meant c.args.document.now) (brokens_of c.in_ok-breaches.breaches) (brokens_of c.check_subscriptions.new.breaches) c.in_ok-breaches.ensures
+    (c.in_ok-check_subscriptions.ensures own)

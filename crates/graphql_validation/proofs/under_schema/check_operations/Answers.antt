@@ -1,0 +1,63 @@
+use Rattle.std.proofs.Common.{◌∙◌, ◌∷◌, [], ◌++◌, map, subst}
+use Rattle.graphql_fault_data.specs.FaultView.{faults_of}
+use Rattle.graphql_fault_data.specs.Adds.{Adds}
+use Rattle.graphql_names.specs.Placed.{Place}
+use Rattle.graphql_schema.specs.SchemaOf.{schema_tree}
+use Rattle.graphql_typed_operations.specs.OperationsByName.{left_operations}
+use Rattle.graphql_meant_documents.specs.MeantTree.{MeantOperation}
+use Rattle.graphql_rule_definitions.specs.Words.{AtSomeIndex}
+use Rattle.graphql_document_rule_definitions.specs.Selected.{operations}
+use Rattle.graphql_fragment_cycles.specs.Used.{names_of}
+use Rattle.graphql_use_rules.proofs.Listing.{gains_none, gains_more, gains_same}
+use Rattle.graphql_reach.proofs.AtReaches.{some_index}
+use Rattle.graphql_subscription_rules.specs.Told.{document_meant, operation_meant}
+use Rattle.graphql_validation.specs.Operations.{OperationFails, ReachesNamed, NotesNames}
+use Rattle.graphql_validation.proofs.Noting.{notes_none, notes_more, notes_same}
+use Rattle.graphql_validation.proofs.Operations.{lent_operation, lent_operations, all_operations, one_behind, lent_more, lent_all, lent_among}
+use Rattle.graphql_validation.proofs.under_schema.check_operations.Goals as goal
+
+pub loop-operation-init : goal.loop-operation-init
+loop-operation-init c =
+    let s = schema_tree c.args.schema.now in
+    let d = document_meant c.args.document.now in (
+      λ typed possible. gains_none {X = MeantOperation Place} (faults_of c.args.found.now.faults) (λ k o f. OperationFails d o s f),
+      notes_none (λ o n. ReachesNamed d o n) (names_of c.args.found.now.used),
+      (λ i. map operation_meant (left_operations (c.into_iter-operation-iterator.ensures.into_iter_gives i)))
+          ∙ all_operations c.args.document.now (left_operations c.iter-operation-items.result) c.iter-operation-items.ensures,
+    )
+
+pub loop-operation-preserved : goal.loop-operation-preserved
+loop-operation-preserved c =
+    let s = schema_tree c.args.schema.now in
+    let d = document_meant c.args.document.now in
+    let at = c.loop-operation in
+    let x = c.in-Some.operation in
+    let left = left_operations at.operation-iterator in
+    let rest = left_operations c.next.new.self in
+    let before = lent_operations at.yielded in
+    let behind = lent_operations (at.yielded ++ x ∷ []) in
+    let among = lent_among at.yielded x (operations d) left rest c.in-Some.ensures.steps at.invariant.2 in (
+      λ typed possible. gains_more (faults_of c.args.found.now.faults) (faults_of at.found.faults) (faults_of c.check_operation.new.found.faults) before behind (lent_operation x) (λ k o f. OperationFails d o s f)
+          (one_behind at.yielded x) (at.invariant.0 typed possible) (c.in_ok-check_operation.ensures.told (typed (lent_operation x) among) possible),
+      notes_more (λ o n. ReachesNamed d o n) (names_of c.args.found.now.used) (names_of at.found.used) (names_of c.check_operation.new.found.used) before behind (lent_operation x)
+          (one_behind at.yielded x) at.invariant.1 c.in_ok-check_operation.ensures.noted,
+      lent_more at.yielded x (operations d) left rest c.in-Some.ensures.steps at.invariant.2,
+    )
+
+pub returns-clause-told : goal.returns-clause-told
+returns-clause-told c =
+    let s = schema_tree c.args.schema.now in
+    let d = document_meant c.args.document.now in
+    let at = c.loop-operation in
+    let all = lent_all at.yielded (operations d) (left_operations at.operation-iterator) c.in-None.ensures.steps.0 at.invariant.2 in
+    λ typed possible. gains_same (faults_of c.args.found.now.faults) (faults_of at.found.faults) (λ f. some_index (operations d) (λ o. OperationFails d o s f))
+    (subst (λ l. Adds c.args.found.now.faults at.found.faults (λ f. AtSomeIndex l (λ k o. OperationFails d o s f))) all (at.invariant.0 typed possible))
+
+pub returns-clause-noted : goal.returns-clause-noted
+returns-clause-noted c =
+    let d = document_meant c.args.document.now in
+    let at = c.loop-operation in
+    let all = lent_all at.yielded (operations d) (left_operations at.operation-iterator) c.in-None.ensures.steps.0 at.invariant.2 in
+    notes_same (λ (o : MeantOperation Place) n. ReachesNamed d o n) (names_of c.args.found.now.used) (names_of at.found.used)
+    (λ n. AtSomeIndex (operations d) (λ k o. ReachesNamed d o n)) _ (λ n. some_index (operations d) (λ o. ReachesNamed d o n))
+    (subst (λ l. NotesNames (names_of c.args.found.now.used) (names_of at.found.used) (λ n. AtSomeIndex l (λ k o. ReachesNamed d o n))) all at.invariant.1)

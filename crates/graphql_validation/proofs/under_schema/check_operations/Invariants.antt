@@ -1,0 +1,19 @@
+use Rattle.std.proofs.Common.{◌≡◌, ◌++◌, map}
+use Rattle.graphql_fault_data.specs.Adds.{Adds}
+use Rattle.graphql_schema.specs.SchemaOf.{schema_tree}
+use Rattle.graphql_typed_operations.specs.OperationsByName.{left_operations}
+use Rattle.graphql_rule_definitions.specs.Words.{AtSomeIndex}
+use Rattle.graphql_rule_definitions.specs.Judged.{judged}
+use Rattle.graphql_document_rule_definitions.specs.Selected.{operations}
+use Rattle.graphql_fragment_rules.specs.Possible.{ArePossible}
+use Rattle.graphql_subscription_rules.specs.Told.{document_meant, operation_meant}
+use Rattle.graphql_fragment_cycles.specs.Used.{names_of}
+use Rattle.graphql_validation.specs.Operations.{OperationFails, AreReachesTyped, ReachesNamed, NotesNames}
+use Rattle.graphql_validation.proofs.Operations.{lent_operations}
+use Rattle.graphql_validation.proofs.under_schema.check_operations.Given as goal
+
+abbrev pub invariant-loop-operation : goal.invariant-loop-operation
+invariant-loop-operation l = (AreReachesTyped (schema_tree l.schema) (document_meant l.document) → ArePossible (judged (schema_tree l.schema)) l.possible
+        → Adds l.fn.found.faults l.found.faults (λ f. AtSomeIndex (lent_operations l.yielded) (λ k o. OperationFails (document_meant l.document) o (schema_tree l.schema) f)))
+    × (NotesNames (names_of l.fn.found.used) (names_of l.found.used) (λ n. AtSomeIndex (lent_operations l.yielded) (λ k o. ReachesNamed (document_meant l.document) o n)))
+    × (lent_operations l.yielded ++ map operation_meant (left_operations l.operation-iterator) ≡ operations (document_meant l.document))

@@ -1,0 +1,12 @@
+use Rattle.std.proofs.Common.{◌≡◌, ◌++◌, map}
+use Rattle.graphql_typed_operations.specs.OperationsByName.{left_operations}
+use Rattle.graphql_document_rule_definitions.specs.Selected.{operations}
+use Rattle.graphql_fragment_cycles.specs.Used.{AreUnderOwnNames}
+use Rattle.graphql_subscription_rules.specs.Told.{document_meant, operation_meant}
+use Rattle.graphql_validation.specs.Operations.{AddsSubscriptions}
+use Rattle.graphql_validation.proofs.Operations.{lent_operations}
+use Rattle.graphql_validation.proofs.under_schema.check_subscriptions.Given as goal
+
+abbrev pub invariant-loop-operation : goal.invariant-loop-operation
+invariant-loop-operation l = (AreUnderOwnNames (document_meant l.document) → AddsSubscriptions l.fn.breaches l.breaches (document_meant l.document) (lent_operations l.yielded))
+    × (lent_operations l.yielded ++ map operation_meant (left_operations l.operation-iterator) ≡ operations (document_meant l.document))

@@ -1,0 +1,25 @@
+use Rattle.std.proofs.Common.{◌↔◌, ◌∙◌, ◌++◌, map, sym, ap, subst, Contains}
+use Rattle.std.proofs.lemmas.Result.{IfOk-weaker}
+use Rattle.graphql_fault_data.specs.FaultView.{fault_of, faults_of}
+use Rattle.graphql_schema.specs.SchemaOf.{schema_tree}
+use Rattle.graphql_document_rule_definitions.specs.Reached.{AtOperation}
+use Rattle.graphql_fragment_cycles.specs.Used.{names_of}
+use Rattle.graphql_subscription_rules.specs.Told.{document_meant}
+use Rattle.graphql_validation.specs.Operations.{OperationFails, ReachesNamed, NotesNames, AllUnder}
+use Rattle.graphql_validation.proofs.Data.{are_used, tells_data}
+use Rattle.graphql_validation.proofs.Ordered.{all_under, recursive_under}
+use Rattle.graphql_validation.proofs.under_schema.faults_under.Goals as goal
+
+pub returns : goal.returns
+returns c =
+    let s = schema_tree c.args.schema.now in
+    let d = document_meant c.args.document.now in
+    let new = c.check_operations.new.found in
+    let used = are_used d (names_of new.used) (subst (λ l. NotesNames l (names_of new.used) (λ n. AtOperation d (λ o. ReachesNamed d o n))) (ap (map (λ k. k.text)) c.new-found.ensures.used) c.in_ok-check_operations.ensures.noted) in
+    IfOk-weaker c.check_fragments.result _ _
+    (λ r h typed own.
+      let t = c.in_ok-check_operations.ensures.told typed c.in_ok-possible.ensures in
+      let is = t.1.0 ∙ ap (λ l. map fault_of l ++ t.0) c.new-found.ensures.faults in
+      tells_data d (AllUnder s d) (λ o. OperationFails d o s) (λ o f. all_under d o f s) (λ o f. recursive_under d o f s) (faults_of new.faults) (faults_of r)
+      (λ f. subst (λ l. Contains l f ↔ AtOperation d (λ o. OperationFails d o s f)) (sym is) (t.1.1 f)) (h own used))
+    c.check_fragments.ensures

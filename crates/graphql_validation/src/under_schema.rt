@@ -1,0 +1,107 @@
+//! What is judged under a schema, operation by operation.
+ghost use Rattle.std.specs.Prelude.{IfOk, OnOk};
+ghost use Rattle.graphql_document_rule_definitions.specs.Reached.{AtOperation};
+ghost use Rattle.graphql_document_rule_definitions.specs.Selected.{operations};
+ghost use Rattle.graphql_fault_data.specs.Adds.{Adds};
+ghost use Rattle.graphql_fault_data.specs.FaultView.{faults_of};
+ghost use Rattle.graphql_fragment_cycles.specs.Used.{AreUnderOwnNames, names_of};
+ghost use Rattle.graphql_fragment_rules.specs.Possible.{ArePossible};
+ghost use Rattle.graphql_reach.specs.Broken.{brokens_of};
+ghost use Rattle.graphql_rule_definitions.specs.Judged.{judged};
+ghost use Rattle.graphql_schema.specs.SchemaOf.{schema_tree};
+ghost use Rattle.graphql_schema_types.specs.Plain.{plain};
+ghost use Rattle.graphql_selection_rules.specs.Typed.{ReachesTyped};
+ghost use Rattle.graphql_subscription_rules.specs.Told.{document_meant, operation_meant};
+ghost use Rattle.graphql_typing.specs.Meanings.{meanings};
+ghost use Rattle.graphql_validation.specs.Operations.{OperationFails, ReachesNamed, NotesNames, AreReachesTyped, TellsData, AllUnder, AddsSubscriptions, TellsBreaches};
+
+use crate::alone::deferred_breaches;
+use crate::found::{Found, check_fragments, note_fragments};
+use crate::told::Breach;
+use graphql_fault_data::Fault;
+use graphql_fragment_rules::{PossibleTypes, check_applications, check_spreads};
+use graphql_names::Node;
+use graphql_reach::reach;
+use graphql_schema::Schema;
+use graphql_selection_rules::check_selections;
+use graphql_subscription_rules::check_subscription;
+use graphql_typed_operations::{ExecutableDocument, Operation};
+use graphql_variable_rules::{check_variables, check_variables_alone};
+use std::alloc::{AllocError, Global};
+
+/// Adds the faults of an operation under a schema, and notes the fragments that it reaches.
+fn check_operation(
+    schema: &Schema,
+    possible: &PossibleTypes,
+    document: &ExecutableDocument,
+    operation: &Node<Operation>,
+    found: &mut Found,
+) -> Result<(), AllocError>
+    ensures told { OnOk result (ReachesTyped (meanings (plain (schema_tree schema.now))) (document_meant document.now) (operation_meant operation.now) → ArePossible (judged (schema_tree schema.now)) possible.now → Adds found.old.faults found.new.faults (OperationFails (document_meant document.now) (operation_meant operation.now) (schema_tree schema.now))) }
+    ensures noted { OnOk result (NotesNames (names_of found.old.used) (names_of found.new.used) (ReachesNamed (document_meant document.now) (operation_meant operation.now))) }
+{
+    let alloc = *found.faults.allocator();
+    let fragments = &document.fragments;
+    let reach = reach(alloc, &operation.content().selection_set, fragments)?;
+    check_variables_alone(operation, &reach, &mut found.faults)?;
+    check_variables(schema, operation, &mut found.faults)?;
+    check_selections(schema, operation, &reach, &mut found.faults)?;
+    check_spreads(fragments, &reach, &mut found.faults)?;
+    check_applications(schema, possible, fragments, &reach, &mut found.faults)?;
+    note_fragments(&reach, &mut found.used)
+}
+
+/// Adds the faults of each operation under a schema, and notes the fragments that one of them reaches.
+fn check_operations(
+    schema: &Schema,
+    possible: &PossibleTypes,
+    document: &ExecutableDocument,
+    found: &mut Found,
+) -> Result<(), AllocError>
+    ensures told { OnOk result (AreReachesTyped (schema_tree schema.now) (document_meant document.now) → ArePossible (judged (schema_tree schema.now)) possible.now → Adds found.old.faults found.new.faults (λ f. AtOperation (document_meant document.now) (λ o. OperationFails (document_meant document.now) o (schema_tree schema.now) f))) }
+    ensures noted { OnOk result (NotesNames (names_of found.old.used) (names_of found.new.used) (λ n. AtOperation (document_meant document.now) (λ o. ReachesNamed (document_meant document.now) o n))) }
+{
+    for operation in document.operations.iter() {
+        check_operation(schema, possible, document, operation, found)?;
+    }
+    Ok(())
+}
+
+/// The faults of a document under a schema.
+pub(crate) fn faults_under(
+    alloc: Global,
+    schema: &Schema,
+    document: &ExecutableDocument,
+) -> Result<Vec<Fault>, AllocError>
+    ensures { IfOk result (λ r. AreReachesTyped (schema_tree schema.now) (document_meant document.now) → AreUnderOwnNames (document_meant document.now) → TellsData (document_meant document.now) (AllUnder (schema_tree schema.now) (document_meant document.now)) (λ o. OperationFails (document_meant document.now) o (schema_tree schema.now)) (faults_of r)) }
+{
+    let possible = PossibleTypes::new(alloc, schema)?;
+    let mut found = Found::new(alloc);
+    check_operations(schema, &possible, document, &mut found)?;
+    check_fragments(document, found)
+}
+
+/// Adds what breaks the rules on subscriptions in each operation.
+fn check_subscriptions(
+    document: &ExecutableDocument,
+    breaches: &mut Vec<Breach>,
+) -> Result<(), AllocError>
+    ensures { OnOk result (AreUnderOwnNames (document_meant document.now) → AddsSubscriptions breaches.old breaches.new (document_meant document.now) (operations (document_meant document.now))) }
+{
+    for operation in document.operations.iter() {
+        check_subscription(document, operation, breaches)?;
+    }
+    Ok(())
+}
+
+/// What breaks the rules on `@defer`, and behind it what breaks those on subscriptions (section 5.2.3).
+pub(crate) fn breaches_under(
+    alloc: Global,
+    document: &ExecutableDocument,
+) -> Result<Vec<Breach>, AllocError>
+    ensures { IfOk result (λ r. AreUnderOwnNames (document_meant document.now) → TellsBreaches (document_meant document.now) (brokens_of r)) }
+{
+    let mut breaches = deferred_breaches(alloc, document)?;
+    check_subscriptions(document, &mut breaches)?;
+    Ok(breaches)
+}
