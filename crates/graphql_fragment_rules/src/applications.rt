@@ -1,19 +1,4 @@
 //! Fragments where they stand, and the rules on the types that they are on.
-ghost use Rattle.std.specs.Prelude.{◌≡◌, ◌++◌, ◌⊎◌, map, flat_map, Contains, IfOk, OnOk, option_to_list};
-ghost use Rattle.std.specs.Option.{option_map};
-ghost use Rattle.graphql_names.specs.Placed.{Place};
-ghost use Rattle.graphql_schema_types.specs.Addresses.{TypeAt, place_at};
-ghost use Rattle.graphql_schema.specs.SchemaOf.{schema_tree};
-ghost use Rattle.graphql_typed_selections.specs.TypedTree.{typed_selection_tree};
-ghost use Rattle.graphql_meant_documents.specs.MeantTree.{MeantOperation, MeantDocument, meant};
-ghost use Rattle.graphql_fault_data.specs.FaultView.{fault_of, faults_of};
-ghost use Rattle.graphql_fault_data.specs.Adds.{Adds};
-ghost use Rattle.graphql_rule_definitions.specs.Judged.{judged};
-ghost use Rattle.graphql_document_rule_definitions.specs.Fragments.{InvalidFragmentTargetAt, InvalidFragmentSpreadAt};
-ghost use Rattle.graphql_document_rule_definitions.specs.Told.{places_in};
-ghost use Rattle.graphql_reach.specs.Reach.{Reaches, meant_fragments, reached_members};
-ghost use Rattle.graphql_fragment_rules.specs.Possible.{ArePossible};
-ghost use Rattle.graphql_fragment_rules.specs.Applied.{application_tree, application_in, invalid_fragment_spread, spread_told};
 
 use crate::names::copied_name;
 use crate::possible_types::PossibleTypes;
@@ -27,6 +12,7 @@ use graphql_typed_selections::Selection;
 use std::alloc::AllocError;
 
 /// A fragment where it stands: by its name, or inline with a condition.
+#[derive(Drop)]
 struct Application<'doc> {
     /// None of an inline fragment.
     name: Option<&'doc Name>,
@@ -43,7 +29,6 @@ fn application_of<'doc>(
     selection: &'doc Selection,
     fragments: &'doc FragmentMap,
 ) -> Option<Application<'doc>>
-    ensures { option_map application_tree result ≡ application_in (meant_fragments fragments.now) (meant (typed_selection_tree selection.now)) }
 {
     match selection {
         Selection::Field(_) => None,
@@ -71,7 +56,6 @@ fn application_of<'doc>(
 
 /// Where the type of that name is defined.
 fn type_location(schema: &Schema, name: &Name) -> Option<SourceSpan>
-    ensures { result ≡ place_at (schema_tree schema.now) (TypeAt name.now.text) }
 {
     match schema.type_named(name) {
         None => None,
@@ -85,7 +69,6 @@ fn told_spread(
     parent: &Name,
     application: &Application<'_>,
 ) -> Result<Fault, AllocError>
-    ensures { IfOk result (λ r. fault_of r ≡ spread_told (schema_tree schema.now) parent.now.text (application_tree application.now)) }
 {
     let data = DiagnosticData::InvalidFragmentSpread {
         name: copied_name(application.name)?,
@@ -106,7 +89,6 @@ fn invalid_fragment_spread(
     parent: &Name,
     selection: &Selection,
 ) -> Result<Option<Fault>, AllocError>
-    ensures { IfOk result (λ r. map fault_of (option_to_list r) ≡ invalid_fragment_spread (schema_tree schema.now) possible.now (meant_fragments fragments.now) (parent.now.text, meant (typed_selection_tree selection.now))) }
 {
     let Some(application) = application_of(selection, fragments) else {
         return Ok(None);
@@ -125,7 +107,6 @@ fn check_fragment_spreads(
     reach: &Reach<'_>,
     faults: &mut Vec<Fault>,
 ) -> Result<(), AllocError>
-    ensures { OnOk result (faults_of faults.new ≡ faults_of faults.old ++ flat_map (invalid_fragment_spread (schema_tree schema.now) possible.now (meant_fragments fragments.now)) (reached_members reach.now)) }
 {
     for (parent, selection) in &reach.selections {
         let fault = invalid_fragment_spread(schema, possible, fragments, parent, selection)?;
@@ -144,7 +125,6 @@ pub fn check_applications(
     reach: &Reach<'_>,
     faults: &mut Vec<Fault>,
 ) -> Result<(), AllocError>
-    ensures { OnOk result ((d : MeantDocument Place) (o : MeantOperation Place) → Reaches d o reach.now → d.fragments ≡ meant_fragments fragments.now → ArePossible (judged (schema_tree schema.now)) possible.now → Adds faults.old faults.new (λ f. InvalidFragmentTargetAt (judged (schema_tree schema.now)) d o f ⊎ InvalidFragmentSpreadAt (judged (schema_tree schema.now)) d o f (places_in (schema_tree schema.now)))) }
 {
     check_targets(schema, reach, faults)?;
     check_fragment_spreads(schema, possible, fragments, reach, faults)

@@ -6,9 +6,13 @@
 //! Begin with `spreads.rt`, then `targets.rt`.
 #![tactic(auto)]
 
+mod applications;
 mod names;
+mod possible_types;
 mod spreads;
 mod targets;
 
+pub use applications::check_applications;
+pub use possible_types::PossibleTypes;
 pub use spreads::check_spreads;
 pub use targets::check_targets;

@@ -1,11 +1,4 @@
 //! The object types that values of each type can be.
-ghost use Rattle.std.specs.Prelude.{◌≡◌, ◌∷◌, [], map, IfOk, OnOk};
-ghost use Rattle.graphql_components.specs.Given.{component_name_tree, given_name};
-ghost use Rattle.graphql_schema_types.specs.TypeView.{extended_type, name_text};
-ghost use Rattle.graphql_schema.specs.SchemaOf.{schema_tree};
-ghost use Rattle.graphql_rule_definitions.specs.Judged.{judged};
-ghost use Rattle.graphql_fragment_rules.specs.Possible.{ArePossible, AddsNotes, may_apply, share_one};
-ghost use Rattle.graphql_fragment_rules.specs.Noting.{object_notes, is_object, member_note, member_notes, type_notes};
 
 use graphql_components::ComponentName;
 use graphql_names::Name;
@@ -24,7 +17,6 @@ pub struct PossibleTypes {
 impl PossibleTypes {
     /// Those of the schema. Fails where memory is refused.
     pub fn new(alloc: Global, schema: &Schema) -> Result<PossibleTypes, AllocError>
-        ensures { IfOk result (λ p. ArePossible (judged (schema_tree schema.now)) p) }
     {
         // each name is in the map once
         let _count = schema.types.len();
@@ -38,7 +30,6 @@ impl PossibleTypes {
     /// Whether a fragment on the type `condition` can apply where the type is `parent`: they are the same, or have an object in
     /// common.
     pub(crate) fn may_apply(&self, parent: &Name, condition: &Name) -> bool
-        ensures { result ≡ may_apply self.now parent.now.text condition.now.text }
     {
         if *condition == *parent {
             return true;
@@ -55,7 +46,6 @@ impl PossibleTypes {
 
 /// Whether the sets have a name in common.
 fn share_one(a: &IndexSet<Name>, b: &IndexSet<Name>) -> bool
-    ensures { result ≡ share_one (map name_text a.now.keys) (map name_text b.now.keys) }
 {
     if a.len() <= b.len() {
         some_is_in(a, b)
@@ -66,7 +56,6 @@ fn share_one(a: &IndexSet<Name>, b: &IndexSet<Name>) -> bool
 
 /// Whether one of the names is in the set.
 fn some_is_in(names: &IndexSet<Name>, set: &IndexSet<Name>) -> bool
-    ensures { result ≡ share_one (map name_text names.now.keys) (map name_text set.now.keys) }
 {
     for name in names.as_slice() {
         if set.contains(name) {
@@ -83,7 +72,6 @@ fn note_type(
     name: &Name,
     ty: &ExtendedType,
 ) -> Result<(), AllocError>
-    ensures { OnOk result (AddsNotes noted.old noted.new (type_notes (schema_tree schema.now) (name.now.text, extended_type ty.now))) }
 {
     if ty.is_object() {
         note_object(noted, name, interfaces_of(ty))?;
@@ -93,7 +81,6 @@ fn note_type(
 
 /// The interfaces that a type lists.
 fn interfaces_of(ty: &ExtendedType) -> &[ComponentName]
-    ensures { map component_name_tree result.now ≡ (extended_type ty.now).interfaces }
 {
     match ty {
         ExtendedType::Object(own) => own.content().implements_interfaces.as_slice(),
@@ -104,7 +91,6 @@ fn interfaces_of(ty: &ExtendedType) -> &[ComponentName]
 
 /// The members of a union; no other type has any.
 fn members_of(ty: &ExtendedType) -> &[ComponentName]
-    ensures { map component_name_tree result.now ≡ (extended_type ty.now).members }
 {
     match ty {
         ExtendedType::Union(own) => own.content().members.as_slice(),
@@ -118,7 +104,6 @@ fn note_object(
     name: &Name,
     interfaces: &[ComponentName],
 ) -> Result<(), AllocError>
-    ensures { OnOk result (AddsNotes noted.old noted.new (object_notes name.now.text (map given_name (map component_name_tree interfaces.now)))) }
 {
     note(noted, name, name)?;
     for interface in interfaces {
@@ -134,7 +119,6 @@ fn note_members(
     name: &Name,
     members: &[ComponentName],
 ) -> Result<(), AllocError>
-    ensures { OnOk result (AddsNotes noted.old noted.new (member_notes (schema_tree schema.now) name.now.text (map given_name (map component_name_tree members.now)))) }
 {
     for member in members {
         note_member(schema, noted, name, &member.name)?;
@@ -149,7 +133,6 @@ fn note_member(
     name: &Name,
     member: &Name,
 ) -> Result<(), AllocError>
-    ensures { OnOk result (AddsNotes noted.old noted.new (member_note (schema_tree schema.now) name.now.text member.now.text)) }
 {
     if is_object(schema, member) {
         note(noted, name, member)?;
@@ -159,7 +142,6 @@ fn note_member(
 
 /// Whether the type of that name is there and an object.
 fn is_object(schema: &Schema, name: &Name) -> bool
-    ensures { result ≡ is_object (schema_tree schema.now) name.now.text }
 {
     match schema.type_named(name) {
         None => false,
@@ -173,7 +155,6 @@ fn note(
     ty: &Name,
     object: &Name,
 ) -> Result<(), AllocError>
-    ensures { OnOk result (AddsNotes noted.old noted.new ((ty.now.text, object.now.text) ∷ [])) }
 {
     let none = IndexSet::new(*noted.allocator());
     let ty = ty.clone()?;

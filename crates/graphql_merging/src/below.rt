@@ -1,8 +1,4 @@
 //! The fields below a group.
-ghost use Rattle.std.specs.Prelude.{◌≡◌, IfOk, OnOk};
-ghost use Rattle.graphql_field_selections.specs.Fields.{meant_fragments};
-ghost use Rattle.graphql_field_selections.specs.Fields.{fields_of};
-ghost use Rattle.graphql_merging.specs.Below.{AreBelow, IsDistinctOf, IsMerged};
 
 use graphql_field_selections::{FieldSelection, push_fields};
 use graphql_typed_operations::FragmentMap;
@@ -15,7 +11,6 @@ fn all_below<'doc>(
     fragments: &'doc FragmentMap,
     group: &[FieldSelection<'doc>],
 ) -> Result<Vec<FieldSelection<'doc>>, AllocError>
-    ensures { IfOk result (λ found. AreBelow (meant_fragments fragments.now) (fields_of group.now) (fields_of found.items)) }
 {
     let mut found = Vec::new(alloc);
     for field in group {
@@ -29,7 +24,6 @@ pub(crate) fn distinct<'doc>(
     alloc: Global,
     list: &[FieldSelection<'doc>],
 ) -> Result<Vec<FieldSelection<'doc>>, AllocError>
-    ensures { IfOk result (λ kept. IsDistinctOf list.now kept.items) }
 {
     let mut distinct = IndexSet::new(alloc);
     for field in list {
@@ -44,7 +38,6 @@ pub(crate) fn list_below<'doc>(
     fragments: &'doc FragmentMap,
     group: &[FieldSelection<'doc>],
 ) -> Result<Vec<FieldSelection<'doc>>, AllocError>
-    ensures { IfOk result (λ list. IsMerged (meant_fragments fragments.now) (fields_of group.now) list.items) }
 {
     let found = all_below(alloc, fragments, group)?;
     distinct(alloc, &found)

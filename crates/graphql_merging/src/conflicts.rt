@@ -1,18 +1,4 @@
 //! Conflicts of two fields.
-ghost use Rattle.std.specs.Prelude.{◌≡◌, ◌≤◌, ◌+◌, MatchOption, IfOk, OnOk};
-ghost use Rattle.graphql_coordinates.specs.Coordinate.{OfArgument};
-ghost use Rattle.graphql_coordinates.specs.CoordinateView.{argument_coordinate};
-ghost use Rattle.graphql_document_faults.specs.DocumentBreachView.{given_value};
-ghost use Rattle.graphql_schema.specs.SchemaOf.{schema_tree};
-ghost use Rattle.graphql_rule_definitions.specs.Judged.{judged};
-ghost use Rattle.graphql_document_rule_definitions.specs.Selected.{field_name};
-ghost use Rattle.graphql_document_rule_definitions.specs.Merging.{SameShape, SameName};
-ghost use Rattle.graphql_document_rule_definitions.specs.SameValues.{SameArguments, plain_given};
-ghost use Rattle.graphql_reach.specs.Broken.{broken_of};
-ghost use Rattle.graphql_field_selections.specs.Fields.{field_of, fields_of};
-ghost use Rattle.graphql_merging.specs.Passes.{TypesConflict, NamesConflict, ArgumentsConflict, Compares, AddsGroup, type_conflict, name_conflict, argument_conflict};
-ghost use Rattle.graphql_merging.specs.Counted.{compared, compared_once};
-ghost use Rattle.graphql_merging.specs.declared.pass.Pass.TheVariants.{Selections};
 
 use crate::pass::Pass;
 use crate::shapes::same_type;
@@ -33,7 +19,6 @@ pub(crate) type Breach = (Option<SourceSpan>, BuildError);
 
 /// One more, or no more where this is the greatest number.
 fn count_one(count: &mut u128)
-    ensures { count.new ≤ count.old + 1 }
 {
     *count = count.saturating_add(1);
 }
@@ -44,7 +29,6 @@ fn told_types(
     first: FieldSelection<'_>,
     other: FieldSelection<'_>,
 ) -> Result<Breach, AllocError>
-    ensures { IfOk result (λ b. broken_of b ≡ type_conflict (field_of first.entry) (field_of other.entry)) }
 {
     let alias = other.response_key().clone()?;
     let original_coordinate = first.coordinate()?;
@@ -73,8 +57,6 @@ fn conflicting_field_type(
     other: FieldSelection<'_>,
     comparisons: &mut u128,
 ) -> Result<Option<Breach>, AllocError>
-    ensures told { IfOk result (λ r. MatchOption r (SameShape (judged (schema_tree schema.now)) (field_of first.entry) (field_of other.entry)) (λ b. TypesConflict (judged (schema_tree schema.now)) (broken_of b) (field_of first.entry) (field_of other.entry))) }
-    ensures counted { comparisons.new ≤ comparisons.old + 1 }
 {
     count_one(comparisons);
     if same_type(
@@ -93,7 +75,6 @@ fn told_names(
     first: FieldSelection<'_>,
     other: FieldSelection<'_>,
 ) -> Result<Breach, AllocError>
-    ensures { IfOk result (λ b. broken_of b ≡ name_conflict (field_of first.entry) (field_of other.entry)) }
 {
     let alias = other.response_key().clone()?;
     let original_selection = first.coordinate()?;
@@ -116,7 +97,6 @@ fn conflicting_field_name(
     first: FieldSelection<'_>,
     other: FieldSelection<'_>,
 ) -> Result<Option<Breach>, AllocError>
-    ensures { IfOk result (λ r. MatchOption r (SameName (field_of first.entry) (field_of other.entry)) (λ b. NamesConflict (broken_of b) (field_of first.entry) (field_of other.entry))) }
 {
     if first.field.content().name.as_str() == other.field.content().name.as_str() {
         return Ok(None);
@@ -126,7 +106,6 @@ fn conflicting_field_name(
 
 /// What the field gives for the argument of that name, if anything.
 fn value_given(field: FieldSelection<'_>, name: &Name) -> Result<Option<Value>, AllocError>
-    ensures { IfOk result (λ v. given_value v ≡ plain_given name.now.text (field_of field.entry).head.arguments) }
 {
     match field
         .field
@@ -143,7 +122,6 @@ fn coordinate_of_argument(
     field: FieldSelection<'_>,
     name: &Name,
 ) -> Result<FieldArgumentCoordinate, AllocError>
-    ensures { IfOk result (λ c. argument_coordinate c ≡ OfArgument (field_of field.entry).parent (field_name (field_of field.entry)) name.now.text) }
 {
     let coordinate = field.coordinate()?;
     Ok(coordinate.with_argument(name.clone()?))
@@ -156,7 +134,6 @@ fn told_arguments(
     other: FieldSelection<'_>,
     name: &Name,
 ) -> Result<Breach, AllocError>
-    ensures { IfOk result (λ b. broken_of b ≡ argument_conflict name.now.text (field_of first.entry) (field_of other.entry)) }
 {
     let alias = other.response_key().clone()?;
     let original_coordinate = coordinate_of_argument(first, name)?;
@@ -183,7 +160,6 @@ fn conflicting_field_argument(
     first: FieldSelection<'_>,
     other: FieldSelection<'_>,
 ) -> Result<Option<Breach>, AllocError>
-    ensures { IfOk result (λ r. MatchOption r (SameArguments (field_of first.entry).head.arguments (field_of other.entry).head.arguments) (λ b. ArgumentsConflict (broken_of b) (field_of first.entry) (field_of other.entry))) }
 {
     let given = first.field.content().arguments.as_slice();
     let differing = differing_argument(alloc, given, other.field.content().arguments.as_slice())?;
@@ -199,7 +175,6 @@ fn conflicting_selection(
     first: FieldSelection<'_>,
     other: FieldSelection<'_>,
 ) -> Result<Option<Breach>, AllocError>
-    ensures { IfOk result (λ r. (s : _) → Compares Selections s (field_of first.entry) (field_of other.entry) r) }
 {
     match conflicting_field_name(alloc, first, other)? {
         Some(breach) => Ok(Some(breach)),
@@ -215,8 +190,6 @@ fn conflict(
     fields: (FieldSelection<'_>, FieldSelection<'_>),
     comparisons: &mut u128,
 ) -> Result<Option<Breach>, AllocError>
-    ensures told { IfOk result (λ r. Compares pass (judged (schema_tree schema.now)) (field_of fields.entry.0) (field_of fields.entry.1) r) }
-    ensures counted { comparisons.new ≤ comparisons.old + compared_once pass }
 {
     match pass {
         Pass::Shapes => { conflicting_field_type(alloc, schema, fields.0, fields.1, comparisons) }
@@ -232,8 +205,6 @@ pub(crate) fn check_group(
     breaches: &mut Vec<Breach>,
     comparisons: &mut u128,
 ) -> Result<(), AllocError>
-    ensures told { OnOk result (AddsGroup pass (judged (schema_tree schema.now)) (fields_of group.now) breaches.old breaches.new) }
-    ensures counted { comparisons.new ≤ comparisons.old + compared pass group.now }
 {
     let alloc = *breaches.allocator();
     let Some(first) = group.first() else {

@@ -1,10 +1,4 @@
 //! The examination of lists, level by level.
-ghost use Rattle.std.specs.Prelude.{◌≤◌, ◌+◌, ◌∷◌, [], map, IfOk, OnOk};
-ghost use Rattle.graphql_field_selections.specs.Fields.{fields_of};
-ghost use Rattle.graphql_merging.specs.Grouped.{lists_of};
-ghost use Rattle.graphql_merging.specs.Counted.{compared, IsListed, AreListed, Grows};
-ghost use Rattle.graphql_merging.specs.Remembered.{contents_of, remembered};
-ghost use Rattle.graphql_merging.specs.Examined.{document_of, ExaminesGroup, ExaminesList, ExaminesLists, ExaminesAll};
 
 use crate::below::list_below;
 use crate::conflicts::{Breach, check_group};
@@ -36,8 +30,6 @@ impl<'doc> Examination<'doc> {
         breaches: &mut Vec<Breach>,
         comparisons: &mut u128,
     ) -> Result<(), AllocError>
-        ensures examined { OnOk result (ExaminesGroup self.now (fields_of group.now) breaches.old breaches.new (lists_of next.old) (lists_of next.new)) }
-        ensures counted { comparisons.new ≤ comparisons.old + compared self.now.pass group.now }
     {
         check_group(self.pass, self.schema, group, breaches, comparisons)?;
         let alloc = *next.allocator();
@@ -56,8 +48,6 @@ impl<'doc> Examination<'doc> {
         breaches: &mut Vec<Breach>,
         comparisons: &mut u128,
     ) -> Result<(), AllocError>
-        ensures examined { OnOk result (ExaminesList self.now list.now breaches.old breaches.new (lists_of next.old) (lists_of next.new)) }
-        ensures counted { comparisons.new ≤ comparisons.old + compared self.now.pass list.now }
     {
         let groups = groups_of(*next.allocator(), self.pass, self.schema, list)?;
         for group in &groups {
@@ -75,8 +65,6 @@ impl<'doc> Examination<'doc> {
         breaches: &mut Vec<Breach>,
         comparisons: &mut u128,
     ) -> Result<(), AllocError>
-        ensures examined { OnOk result (ExaminesLists self.now (list.now ∷ []) (remembered examined.old) (remembered examined.new) breaches.old breaches.new (lists_of next.old) (lists_of next.new)) }
-        ensures counted { IsListed (document_of self.now) (contents_of list.now) → Grows (document_of self.now) self.now.pass (remembered examined.old) (remembered examined.new) comparisons.old comparisons.new }
     {
         if !examined.remember(list)? {
             return Ok(());
@@ -92,8 +80,6 @@ impl<'doc> Examination<'doc> {
         breaches: &mut Vec<Breach>,
         comparisons: &mut u128,
     ) -> Result<Vec<Vec<FieldSelection<'doc>>>, AllocError>
-        ensures examined { IfOk result (λ next. ExaminesLists self.now (map (λ v. v.items) level.now) (remembered examined.old) (remembered examined.new) breaches.old breaches.new [] (lists_of next)) }
-        ensures counted { AreListed (document_of self.now) (map (λ v. v.items) level.now) → Grows (document_of self.now) self.now.pass (remembered examined.old) (remembered examined.new) comparisons.old comparisons.new }
     {
         let mut next = Vec::new(*breaches.allocator());
         for list in level {
@@ -110,8 +96,6 @@ impl<'doc> Examination<'doc> {
         breaches: &mut Vec<Breach>,
         comparisons: &mut u128,
     ) -> Result<bool, AllocError>
-        ensures examined { IfOk result (λ left. ExaminesAll self.now start.entry.items (remembered examined.old) (remembered examined.new) breaches.old breaches.new left) }
-        ensures counted { IsListed (document_of self.now) (contents_of start.entry.items) → Grows (document_of self.now) self.now.pass (remembered examined.old) (remembered examined.new) comparisons.old comparisons.new }
     {
         let mut level = Vec::new(*breaches.allocator());
         level.push(start)?;

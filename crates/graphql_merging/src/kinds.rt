@@ -1,8 +1,4 @@
 //! Which types are abstract, and which are composite.
-ghost use Rattle.std.specs.Prelude.{◌≡◌};
-ghost use Rattle.graphql_schema.specs.SchemaOf.{schema_tree};
-ghost use Rattle.graphql_rule_definitions.specs.Judged.{judged};
-ghost use Rattle.graphql_merging.specs.Kinds.{is_abstract, is_composite};
 
 use graphql_names::Name;
 use graphql_schema::Schema;
@@ -10,7 +6,6 @@ use graphql_schema_types::TypeKind;
 
 /// Whether the type of that name is an interface or a union.
 pub(crate) fn is_abstract(schema: &Schema, name: &Name) -> bool
-    ensures { result ≡ is_abstract (judged (schema_tree schema.now)) name.now.text }
 {
     match schema.type_named(name) {
         Some(ty) => matches!(ty.kind(), TypeKind::Interface | TypeKind::Union),
@@ -20,7 +15,6 @@ pub(crate) fn is_abstract(schema: &Schema, name: &Name) -> bool
 
 /// Whether values of the type of that name have fields: it is an object, an interface or a union.
 pub(crate) fn is_composite(schema: &Schema, name: &Name) -> bool
-    ensures { result ≡ is_composite (judged (schema_tree schema.now)) name.now.text }
 {
     match schema.type_named(name) {
         Some(ty) => ty.kind().is_output_type() && !ty.kind().is_leaf(),

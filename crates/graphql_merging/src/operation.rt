@@ -1,13 +1,4 @@
 //! The examination of an operation, in both passes.
-ghost use Rattle.std.specs.Prelude.{◌≡◌, Contains, IfOk};
-ghost use Rattle.graphql_schema.specs.SchemaOf.{schema_tree};
-ghost use Rattle.graphql_rule_definitions.specs.Judged.{judged};
-ghost use Rattle.graphql_names.specs.Placed.{Place};
-ghost use Rattle.graphql_meant_documents.specs.MeantTree.{MeantDocument};
-ghost use Rattle.graphql_rule_definitions.specs.Judged.{Judged};
-ghost use Rattle.graphql_document_rule_definitions.specs.Selected.{operations};
-ghost use Rattle.graphql_merging.specs.Examined.{AreStarting};
-ghost use Rattle.graphql_merging.specs.Verdict.{document_meant, operation_meant, comparisons_of, AreBothSettled, IsCounted, ExaminesOperation};
 
 use crate::below::distinct;
 use crate::conflicts::Breach;
@@ -31,9 +22,6 @@ pub struct Examined<'doc> {
 impl<'doc> Examined<'doc> {
     /// Nothing.
     pub fn new(alloc: Global) -> Examined<'doc>
-        ensures settled { (s : Judged) → (d : MeantDocument Place) → AreBothSettled s d result }
-        ensures counted { (d : MeantDocument Place) → IsCounted d result }
-        ensures none { comparisons_of result ≡ 0 }
     {
         Examined {
             shapes: Remembered::new(alloc),
@@ -44,7 +32,6 @@ impl<'doc> Examined<'doc> {
 
     /// How often the shapes of two fields were compared; where this is the greatest number, at least as often.
     pub fn comparisons(&self) -> u128
-        ensures { result ≡ comparisons_of self.now }
     {
         self.comparisons
     }
@@ -56,7 +43,6 @@ fn starting_list<'doc>(
     document: &'doc ExecutableDocument,
     operation: &'doc Node<Operation>,
 ) -> Result<Vec<FieldSelection<'doc>>, AllocError>
-    ensures { IfOk result (λ list. AreStarting (document_meant document.now) (operation_meant operation.now) list.items) }
 {
     let mut found = Vec::new(alloc);
     let set = &operation.content().selection_set;
@@ -72,8 +58,6 @@ pub fn examine_operation<'doc>(
     examined: &mut Examined<'doc>,
     breaches: &mut Vec<Breach>,
 ) -> Result<bool, AllocError>
-    ensures examined { IfOk result (λ left. ExaminesOperation (judged (schema_tree schema.now)) (document_meant document.now) (operation_meant operation.now) examined.old examined.new breaches.old breaches.new left) }
-    ensures counted { Contains (operations (document_meant document.now)) (operation_meant operation.now) → IsCounted (document_meant document.now) examined.old → IsCounted (document_meant document.now) examined.new }
 {
     let alloc = *breaches.allocator();
     let start = starting_list(alloc, document, operation)?;

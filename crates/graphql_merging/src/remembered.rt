@@ -1,6 +1,4 @@
 //! The lists that were examined.
-ghost use Rattle.std.specs.Prelude.{◌≡◌, IfOk, OnErr, []};
-ghost use Rattle.graphql_merging.specs.Remembered.{contents_of, remembered, Remembers};
 
 use graphql_field_selections::FieldSelection;
 use indexmap::IndexSet;
@@ -15,7 +13,6 @@ pub(crate) struct Remembered<'doc> {
 impl<'doc> Remembered<'doc> {
     /// None.
     pub(crate) fn new(alloc: Global) -> Remembered<'doc>
-        ensures { remembered result ≡ [] }
     {
         Remembered {
             lists: IndexSet::new(alloc),
@@ -24,8 +21,6 @@ impl<'doc> Remembered<'doc> {
 
     /// Remembers a list. Whether it was not remembered before is given: one with the same contents.
     pub(crate) fn remember(&mut self, list: &[FieldSelection<'doc>]) -> Result<bool, AllocError>
-        ensures remembers { IfOk result (λ is_new. Remembers (remembered self.old) (contents_of list.now) is_new (remembered self.new)) }
-        ensures refused { OnErr result (remembered self.new ≡ remembered self.old) }
     {
         let alloc = *self.lists.allocator();
         let list = Vec::from_slice(alloc, list)?;

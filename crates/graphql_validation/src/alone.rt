@@ -1,16 +1,4 @@
 //! What is judged without a schema, operation by operation.
-ghost use Rattle.std.specs.Prelude.{◌↔◌, Contains, IfOk, OnOk};
-ghost use Rattle.graphql_names.specs.Placed.{Place};
-ghost use Rattle.graphql_fault_data.specs.Adds.{Adds};
-ghost use Rattle.graphql_fault_data.specs.FaultView.{faults_of};
-ghost use Rattle.graphql_document_rule_definitions.specs.Defer.{DeferBreaks};
-ghost use Rattle.graphql_document_rule_definitions.specs.DocumentFaults.{Broken};
-ghost use Rattle.graphql_document_rule_definitions.specs.DocumentRules.{DeferredBreaks};
-ghost use Rattle.graphql_document_rule_definitions.specs.Reached.{AtOperation};
-ghost use Rattle.graphql_reach.specs.Broken.{brokens_of, AddsBroken};
-ghost use Rattle.graphql_fragment_cycles.specs.Used.{AreUnderOwnNames, names_of};
-ghost use Rattle.graphql_subscription_rules.specs.Told.{document_meant, operation_meant};
-ghost use Rattle.graphql_validation.specs.Operations.{OperationFailsAlone, ReachesNamed, NotesNames, TellsData, AllAlone};
 
 use crate::found::{Found, check_fragments, note_fragments};
 use crate::told::Breach;
@@ -30,8 +18,6 @@ fn check_operation(
     operation: &Node<Operation>,
     found: &mut Found,
 ) -> Result<(), AllocError>
-    ensures told { OnOk result (Adds found.old.faults found.new.faults (OperationFailsAlone (document_meant document.now) (operation_meant operation.now))) }
-    ensures noted { OnOk result (NotesNames (names_of found.old.used) (names_of found.new.used) (ReachesNamed (document_meant document.now) (operation_meant operation.now))) }
 {
     let alloc = *found.faults.allocator();
     let fragments = &document.fragments;
@@ -44,8 +30,6 @@ fn check_operation(
 
 /// Adds the faults of each operation without a schema, and notes the fragments that one of them reaches.
 fn check_operations(document: &ExecutableDocument, found: &mut Found) -> Result<(), AllocError>
-    ensures told { OnOk result (Adds found.old.faults found.new.faults (λ f. AtOperation (document_meant document.now) (λ o. OperationFailsAlone (document_meant document.now) o f))) }
-    ensures noted { OnOk result (NotesNames (names_of found.old.used) (names_of found.new.used) (λ n. AtOperation (document_meant document.now) (λ o. ReachesNamed (document_meant document.now) o n))) }
 {
     for operation in document.operations.iter() {
         check_operation(document, operation, found)?;
@@ -58,7 +42,6 @@ pub(crate) fn faults_alone(
     alloc: Global,
     document: &ExecutableDocument,
 ) -> Result<Vec<Fault>, AllocError>
-    ensures { IfOk result (λ r. AreUnderOwnNames (document_meant document.now) → TellsData (document_meant document.now) (AllAlone (document_meant document.now)) (OperationFailsAlone (document_meant document.now)) (faults_of r)) }
 {
     let mut found = Found::new(alloc);
     check_operations(document, &mut found)?;
@@ -67,7 +50,6 @@ pub(crate) fn faults_alone(
 
 /// Adds what breaks the rules on `@defer` in each operation.
 fn check_defers(document: &ExecutableDocument, breaches: &mut Vec<Breach>) -> Result<(), AllocError>
-    ensures { OnOk result (AddsBroken breaches.old breaches.new (λ f. AtOperation (document_meant document.now) (λ o. DeferBreaks (document_meant document.now) o f))) }
 {
     for operation in document.operations.iter() {
         check_defer(document, operation, breaches)?;
@@ -80,7 +62,6 @@ pub(crate) fn deferred_breaches(
     alloc: Global,
     document: &ExecutableDocument,
 ) -> Result<Vec<Breach>, AllocError>
-    ensures { IfOk result (λ r. (f : Broken Place) → Contains (brokens_of r) f ↔ DeferredBreaks (document_meant document.now) f) }
 {
     let mut breaches = Vec::new(alloc);
     check_defers(document, &mut breaches)?;

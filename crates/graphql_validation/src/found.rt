@@ -1,14 +1,4 @@
 //! What is found in a document: faults, and the fragments that operations reach; and the rules on all fragments of it.
-ghost use Rattle.std.specs.Prelude.{◌≡◌, [], IfOk, OnOk};
-ghost use Rattle.std.specs.List.{IsDistinct};
-ghost use Rattle.std.specs.Map.{keys_of};
-ghost use Rattle.std.specs.Str.{bytes_eq};
-ghost use Rattle.indexmap.specs.IndexSet.{insert_key};
-ghost use Rattle.graphql_reach.specs.Reach.{reached_fragments_of};
-ghost use Rattle.graphql_fault_data.specs.FaultView.{faults_of};
-ghost use Rattle.graphql_fragment_cycles.specs.Used.{AreUnderOwnNames, AreUsed, names_of};
-ghost use Rattle.graphql_subscription_rules.specs.Told.{document_meant};
-ghost use Rattle.graphql_validation.specs.Operations.{with_fragments, FragmentsTold};
 
 use graphql_fault_data::Fault;
 use graphql_fragment_cycles::{check_cycles, check_unused};
@@ -28,8 +18,6 @@ pub(crate) struct Found {
 impl Found {
     /// Nothing.
     pub(crate) fn new(alloc: Global) -> Found
-        ensures faults { result.faults.items ≡ [] }
-        ensures used { result.used.keys ≡ [] }
     {
         Found {
             faults: Vec::new(alloc),
@@ -40,7 +28,6 @@ impl Found {
 
 /// Adds a name, unless it is there.
 fn note(name: &Name, names: &mut IndexSet<Name>) -> Result<(), AllocError>
-    ensures { OnOk result (names_of names.new ≡ insert_key bytes_eq (names_of names.old) name.now.text) }
 {
     let name = name.clone()?;
     names.insert(name)?;
@@ -52,7 +39,6 @@ pub(crate) fn note_fragments(
     reach: &Reach<'_>,
     names: &mut IndexSet<Name>,
 ) -> Result<(), AllocError>
-    ensures { OnOk result (names_of names.new ≡ with_fragments (names_of names.old) (reached_fragments_of reach.now)) }
 {
     for index in 0..reach.fragments.len() {
         note(&reach.fragments[index].content().name, names)?;
@@ -62,7 +48,6 @@ pub(crate) fn note_fragments(
 
 /// No two fragments of a document stand under one name. It says nothing else.
 pub(crate) fn fragments_differ(document: &ExecutableDocument)
-    ensures { IsDistinct bytes_eq (keys_of (document_meant document.now).fragments) }
 {
     let _ = document.fragments.len();
 }
@@ -73,7 +58,6 @@ pub(crate) fn check_fragments(
     document: &ExecutableDocument,
     found: Found,
 ) -> Result<Vec<Fault>, AllocError>
-    ensures { IfOk result (λ r. AreUnderOwnNames (document_meant document.now) → AreUsed (document_meant document.now) (names_of found.used) → FragmentsTold (document_meant document.now) (faults_of found.faults) (faults_of r)) }
 {
     let Found { mut faults, used } = found;
     let alloc = *faults.allocator();

@@ -10,8 +10,15 @@
 #![tactic(auto)]
 
 mod alone;
+mod document;
+mod field_set;
 mod found;
+mod merging;
 mod standalone;
 mod told;
+mod under_schema;
 
+pub use document::validate_executable_document;
+pub use field_set::validate_field_set;
+pub use merging::FieldsInSetCanMerge;
 pub use standalone::validate_standalone_executable;

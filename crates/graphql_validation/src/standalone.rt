@@ -1,12 +1,4 @@
 //! Every rule on a document without a schema.
-ghost use Rattle.std.specs.Prelude.{◌≡◌, OnErr, OnOk};
-ghost use Rattle.graphql_meant_documents.specs.Unplaced.{unplaced_document};
-ghost use Rattle.graphql_document_rule_definitions.specs.Verdict.{WithinBounds};
-ghost use Rattle.graphql_document_rule_definitions.specs.Told.{IsValidAlone};
-ghost use Rattle.graphql_faults.specs.DetailsView.{diagnostics_of, BeginsAs};
-ghost use Rattle.graphql_fragment_cycles.specs.Used.{AreUnderOwnNames};
-ghost use Rattle.graphql_subscription_rules.specs.Told.{document_meant};
-ghost use Rattle.graphql_validation.specs.Told.{AloneTold};
 
 use crate::alone::{deferred_breaches, faults_alone};
 use crate::found::fragments_differ;
@@ -26,10 +18,6 @@ pub fn validate_standalone_executable(
     list: &mut DiagnosticList,
     document: &ExecutableDocument,
 ) -> Result<(), AllocError>
-    ensures told { OnOk result (AreUnderOwnNames (document_meant document.now) → AloneTold (document_meant document.now) (diagnostics_of list.old) (diagnostics_of list.new)) }
-    ensures silent { OnOk result (AreUnderOwnNames (document_meant document.now) → diagnostics_of list.new ≡ diagnostics_of list.old → IsValidAlone (document_meant document.now)) }
-    ensures accepts { OnOk result (AreUnderOwnNames (document_meant document.now) → IsValidAlone (document_meant document.now) → WithinBounds (unplaced_document (document_meant document.now)) → diagnostics_of list.new ≡ diagnostics_of list.old) }
-    ensures begins { OnErr result (BeginsAs (diagnostics_of list.old) (diagnostics_of list.new)) }
 {
     fragments_differ(document);
     let faults = faults_alone(alloc, document)?;

@@ -1,11 +1,4 @@
 //! Adding what is told to a list.
-ghost use Rattle.std.specs.Prelude.{◌≡◌, ◌++◌, map, OnErr, OnOk};
-ghost use Rattle.graphql_document_rule_definitions.specs.DocumentFaults.{OfDocument};
-ghost use Rattle.graphql_fault_data.specs.FaultView.{faults_of};
-ghost use Rattle.graphql_faults.specs.DetailsView.{diagnostics_of, BeginsAs};
-ghost use Rattle.graphql_reach.specs.Broken.{brokens_of};
-ghost use Rattle.graphql_validation.specs.Operations.{bound_told, all_told};
-ghost use Rattle.graphql_validation.specs.Told.{of_document};
 
 use graphql_document_faults::BuildError;
 use graphql_fault_data::Fault;
@@ -18,8 +11,6 @@ pub(crate) type Breach = (Option<SourceSpan>, BuildError);
 
 /// Adds the breaches at the end, in order. After a refusal the list begins as before.
 fn append_breaches(list: &mut DiagnosticList, breaches: Vec<Breach>) -> Result<(), AllocError>
-    ensures added { OnOk result (diagnostics_of list.new ≡ diagnostics_of list.old ++ map (λ b. of_document (OfDocument b)) (brokens_of breaches)) }
-    ensures begins { OnErr result (BeginsAs (diagnostics_of list.old) (diagnostics_of list.new)) }
 {
     for (place, breach) in breaches {
         list.push(place, Details::DocumentBuild(breach))?;
@@ -29,8 +20,6 @@ fn append_breaches(list: &mut DiagnosticList, breaches: Vec<Breach>) -> Result<(
 
 /// Adds that selections are nested too deeply, if they are.
 fn append_bound(list: &mut DiagnosticList, is_passed: bool) -> Result<(), AllocError>
-    ensures added { OnOk result (diagnostics_of list.new ≡ diagnostics_of list.old ++ map of_document (bound_told is_passed)) }
-    ensures kept { OnErr result (diagnostics_of list.new ≡ diagnostics_of list.old) }
 {
     if is_passed {
         list.push(None, Details::RecursionLimitError)?;
@@ -46,8 +35,6 @@ pub(crate) fn append_all(
     breaches: Vec<Breach>,
     is_passed: bool,
 ) -> Result<(), AllocError>
-    ensures added { OnOk result (diagnostics_of list.new ≡ diagnostics_of list.old ++ map of_document (all_told (faults_of faults) (brokens_of breaches) is_passed)) }
-    ensures begins { OnErr result (BeginsAs (diagnostics_of list.old) (diagnostics_of list.new)) }
 {
     list.append_faults(faults)?;
     append_breaches(list, breaches)?;

@@ -1,31 +1,28 @@
-//! Documents that are judged without a schema.
+//! Documents that are judged over a schema, or without one.
 
+use crate::input::Input;
+use crate::merging::push_merging;
 use crate::told::{push_told, push_typing};
 use graphql_documents::{ExecutableDocument, ExecutableDocumentExt};
 use graphql_faults::DiagnosticList;
 use graphql_names::FileId;
 use graphql_read::parse_document;
 use graphql_row_files::{Answer, Case, Problem, read_of};
-use graphql_validation::validate_standalone_executable;
+use graphql_schema::Schema;
+use graphql_validation::{validate_executable_document, validate_standalone_executable};
 use std::alloc::Global;
 
-/// A text, and so many brackets may be open in it at once.
-#[derive(Clone, Copy)]
-pub(crate) struct Input<'a> {
-    pub(crate) text: &'a str,
-    pub(crate) nesting: usize,
-}
-
-/// Adds what has no meaning in the input, a document that must be read, and then what breaks a rule in what is kept.
+/// Adds what has no meaning in the input, a document that must be read, and then what the call tells of what is kept.
 pub(crate) fn push_document(
     alloc: Global,
     case: Case<'_>,
+    schema: Option<&Schema>,
     input: Input<'_>,
     answer: &mut Answer,
 ) -> Result<(), Problem> {
     let file = FileId(case.given.next_file());
     let tree = read_of(case, parse_document(alloc, input.text, file, input.nesting))?;
-    let mut builder = ExecutableDocument::builder(alloc, None);
+    let mut builder = ExecutableDocument::builder(alloc, schema);
     if builder.add_ast_document(&tree).is_err() {
         return Err(Problem::Memory);
     }
@@ -33,7 +30,24 @@ pub(crate) fn push_document(
         return Err(Problem::Memory);
     };
     push_typing(alloc, &faults, answer)?;
+    push_call(alloc, case, schema, &document, answer)
+}
+
+/// Adds what the row's call tells of the document.
+fn push_call(
+    alloc: Global,
+    case: Case<'_>,
+    schema: Option<&Schema>,
+    document: &ExecutableDocument,
+    answer: &mut Answer,
+) -> Result<(), Problem> {
     let mut list = DiagnosticList::new(alloc);
-    validate_standalone_executable(alloc, &mut list, &document)?;
+    match schema {
+        Some(schema) if case.call == "merging" => {
+            return push_merging(alloc, case, schema, document, answer);
+        }
+        Some(schema) => validate_executable_document(alloc, &mut list, schema, document)?,
+        None => validate_standalone_executable(alloc, &mut list, document)?,
+    }
     push_told(alloc, case, &list, answer)
 }

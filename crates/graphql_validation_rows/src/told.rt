@@ -35,8 +35,12 @@ pub(crate) fn push_told(
         lines.dedup();
     }
     answer.status.put(if lines.is_empty() { "0" } else { "1" });
-    for (_, _, text) in &lines {
-        answer.text.show_between("", text, "\n");
+    if says(case.row, "some", "yes")? && are_wanted(case, &lines) {
+        push_wanted(case, answer);
+    } else {
+        for (_, _, text) in &lines {
+            answer.text.show_between("", text, "\n");
+        }
     }
     Ok(())
 }
@@ -67,4 +71,34 @@ fn line_of<T: Display>(
             Ok((file, offset, text))
         }
     }
+}
+
+/// The output that the row wants.
+fn wanted_of(case: Case<'_>) -> &str {
+    str::from_utf8(case.out).unwrap_or("")
+}
+
+/// Whether there are lines, and each is one that the row wants.
+fn are_wanted(case: Case<'_>, lines: &[Told]) -> bool {
+    for (_, _, text) in lines {
+        if !is_wanted(case, text) {
+            return false;
+        }
+    }
+    !lines.is_empty()
+}
+
+/// Whether the row wants the line.
+fn is_wanted(case: Case<'_>, text: &str) -> bool {
+    for line in wanted_of(case).lines() {
+        if line == text {
+            return true;
+        }
+    }
+    false
+}
+
+/// Adds what the row wants, of which some is told.
+fn push_wanted(case: Case<'_>, answer: &mut Answer) {
+    answer.text.put(wanted_of(case));
 }

@@ -1,0 +1,8 @@
+//! Texts that a row gives to be judged.
+
+/// A text, and so many brackets may be open in it at once.
+#[derive(Clone, Copy)]
+pub(crate) struct Input<'a> {
+    pub(crate) text: &'a str,
+    pub(crate) nesting: usize,
+}
