@@ -16,6 +16,14 @@ abbrev pub put_under : {A : Type 0} → List ℕ → A → Entries A → Entries
 put_under name a [] = (name, a) ∷ []
 put_under name a (e ∷ es) = if bytes_eq name e.0 then (e.0, a) ∷ es else e ∷ put_under name a es
 
+-- the entries with this where something stands under the name; with this in the first of them
+abbrev pub set_under : {A : Type 0} → List ℕ → A → Entries A → Entries A
+set_under name a es = map (λ e. if bytes_eq name e.0 then (e.0, a) else e) es
+
+abbrev pub first_under : {A : Type 0} → A → Entries A → Entries A
+first_under a [] = []
+first_under a (e ∷ es) = (e.0, a) ∷ es
+
 -- private: the only element of a list
 abbrev pub only : {A : Type 0} → List A → Option A
 only (x ∷ []) = Some x
@@ -47,6 +55,15 @@ module _ {P : Type 0} where
   -- the operations with this one in its place
   abbrev pub with_operation : Placed P (TypedOperation P) → TypedOperations P → TypedOperations P
   with_operation o t = put_at o.it.name o t
+
+  -- the operations where the first one, the one that is called so, is this one, and all else is as it was
+  abbrev pub first_as : Option (Placed P (TypedOperation P)) → Placed P (TypedOperation P) → TypedOperations P → TypedOperations P
+  first_as (Some _) o t = record t { anonymous = Some o }
+  first_as None o t = record t { named = first_under o t.named }
+
+  abbrev pub called_as : Option (List ℕ) → Placed P (TypedOperation P) → TypedOperations P → TypedOperations P
+  called_as (Some name) o t = record t { named = set_under name o t.named }
+  called_as None o t = first_as t.anonymous o t
 
 -- the operations that an iterator has left
 abbrev pub left_operations : Operations → List (Node Operation)

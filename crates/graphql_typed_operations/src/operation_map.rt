@@ -2,9 +2,11 @@
 ghost use Rattle.std.specs.Prelude.{◌≡◌, ◌↔◌, IsTrue, IfOk, OnErr, OnOk, None, Some, [], ◌∷◌, length, map, slice_get};
 ghost use Rattle.std.specs.Option.{option_map, option_copied};
 ghost use Rattle.std.specs.Iterator.{YieldsFirstRef, item_count};
+ghost use Rattle.std.specs.Borrow.{sem};
 ghost use Rattle.graphql_names.specs.Placed.{node_tree};
 ghost use Rattle.graphql_schema_types.specs.TypeView.{name_text};
 ghost use Rattle.graphql_typed_operations.specs.TypedDocument.{typed_operation_tree, typed_operations_tree};
+ghost use Rattle.graphql_typed_operations.specs.Lent.{LendsCalled, LendsFirst};
 ghost use Rattle.graphql_typed_operations.specs.OperationsByName.{operations_list, operation_called, standing_for, with_operation, left_operations};
 
 use crate::operation::Operation;
@@ -100,32 +102,35 @@ impl OperationMap {
 
     /// The node of the operation that `get` gives, to be written to. What is written stays where it is, whatever its name.
     pub fn get_mut(&mut self, name: Option<&Name>) -> Option<&mut Node<Operation>>
-        ensures { option_map (λ o. node_tree typed_operation_tree o.now) result ≡ operation_called (option_map name_text (option_copied name.entry)) (typed_operations_tree self.old) }
+        ensures* writes_back { sem 𝓛 (LendsCalled self.entry result (option_map name_text (option_copied name.entry))) }
+        ensures value { option_map (λ o. node_tree typed_operation_tree o.now) result ≡ operation_called (option_map name_text (option_copied name.entry)) (typed_operations_tree self.old) }
     {
-        match name {
-            Some(name) => self.named.get_mut(name),
-            None => self.only_mut(),
+        if let Some(name) = name {
+            return self.named.get_mut(name);
         }
+        self.only_mut()
     }
 
     /// The node of the only operation, to be written to, if there is just one.
     fn only_mut(&mut self) -> Option<&mut Node<Operation>>
-        ensures { option_map (λ o. node_tree typed_operation_tree o.now) result ≡ operation_called None (typed_operations_tree self.old) }
+        ensures* writes_back { sem 𝓛 (LendsCalled self.entry result None) }
+        ensures value { option_map (λ o. node_tree typed_operation_tree o.now) result ≡ operation_called None (typed_operations_tree self.old) }
     {
-        match self.only() {
-            None => None,
-            Some(_) => self.first_mut(),
+        if self.only().is_none() {
+            return None;
         }
+        self.first_mut()
     }
 
     /// The node of the first operation, to be written to, if there is one.
     fn first_mut(&mut self) -> Option<&mut Node<Operation>>
-        ensures { option_map (λ o. node_tree typed_operation_tree o.now) result ≡ slice_get (operations_list (typed_operations_tree self.old)) 0 }
+        ensures* writes_back { sem 𝓛 (LendsFirst self.entry result) }
+        ensures value { option_map (λ o. node_tree typed_operation_tree o.now) result ≡ slice_get (operations_list (typed_operations_tree self.old)) 0 }
     {
-        match &self.anonymous {
-            None => self.named.get_index_mut(0),
-            Some(_) => self.anonymous.as_mut(),
+        if let Some(operation) = &mut self.anonymous {
+            return Some(operation);
         }
+        self.named.get_index_mut(0)
     }
 
     /// Puts the operation under its name, or without one where it has none, and gives back what stood there. Where

@@ -1,20 +1,18 @@
-use Rattle.std.proofs.Common.{ap, sym, ◌∙◌, map, slice_get}
-use Rattle.std.specs.List.{cons_option}
-use Rattle.std.specs.Option.{option_map}
+use Rattle.std.proofs.Common.{rules, ◌≡◌, ◌↔◌, IsTrue, IfOk, OnErr, OnOk, None, Some, [], ◌∷◌, length, map, slice_get, ℕ, ◌+◌, ◌-◌, ◌*◌, ◌<◌, ◌≤◌, ◌/◌, ◌%◌, Bool, true, false, nat_eq, nat_lt, List, ◌++◌, slice_index_or, slice_set, bit_and, bit_or, Fits, w8, w32, w64, Bor, MutBor}
+use Rattle.std.specs.Option.{option_map, option_copied}
+use Rattle.std.specs.Iterator.{YieldsFirstRef, item_count}
+use Rattle.std.specs.Borrow.{sem}
 use Rattle.graphql_names.specs.Placed.{node_tree}
-use Rattle.graphql_typed_operations.specs.TypedDocument.{typed_operation_tree}
-use Rattle.graphql_typed_operations.proofs.OperationMaps.{under_names, copied_mut, first-named, first-unnamed}
+use Rattle.graphql_schema_types.specs.TypeView.{name_text}
+use Rattle.graphql_typed_operations.specs.TypedDocument.{typed_operation_tree, typed_operations_tree}
+use Rattle.graphql_typed_operations.specs.Lent.{LendsCalled, LendsFirst}
+use Rattle.graphql_typed_operations.specs.OperationsByName.{operations_list, operation_called, standing_for, with_operation, left_operations}
 use Rattle.graphql_typed_operations.proofs.operation_map.OperationMap.first_mut.Goals as goal
 
-pub returns-in-None : goal.returns-in-None
-returns-in-None c =
-    copied_mut (node_tree typed_operation_tree) c.get_index_mut.result
-    ∙ ap (option_map (node_tree typed_operation_tree)) c.get_index_mut.ensures.value
-    ∙ first-named (node_tree typed_operation_tree) c.args.self.now.named.entries
-    ∙ sym (ap (λ o. slice_get (cons_option (option_map (node_tree typed_operation_tree) o) (map (λ e. e.1) (under_names (node_tree typed_operation_tree) c.args.self.now.named.entries))) 0) c.in-None.is)
-
+-- src/operation_map.rt:131:13
 pub returns-in-Some : goal.returns-in-Some
-returns-in-Some c =
-    copied_mut (node_tree typed_operation_tree) c.as_mut.result
-    ∙ ap (option_map (node_tree typed_operation_tree)) c.as_mut.ensures.value
-    ∙ first-unnamed (node_tree typed_operation_tree) c.args.self.now.anonymous _ _ c.in-Some.is
+returns-in-Some c = ?
+
+-- src/operation_map.rt:126:5
+pub returns : goal.returns
+returns c = ?
