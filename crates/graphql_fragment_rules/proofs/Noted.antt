@@ -17,7 +17,7 @@ use Rattle.graphql_components.specs.declared.component_name.ComponentName.{Compo
 use Rattle.graphql_schema_types.specs.TypeView.{name_text}
 use Rattle.graphql_rule_definitions.proofs.Lists.{not_in_nil, Contains-cons, Contains-first}
 use Rattle.graphql_rule_definitions.proofs.Lookups.{text_given}
-use Rattle.graphql_use_rules.proofs.Listing.{mapped_more}
+use Rattle.graphql_rule_definitions.proofs.Listing.{mapped_more}
 use Rattle.graphql_fragment_rules.specs.Possible.{texts_of, noted_in, noted_under, AddsEntries, AddsNotes}
 use Rattle.graphql_fragment_rules.specs.Noting.{Notes}
 

@@ -15,8 +15,8 @@ use Rattle.graphql_rule_definitions.specs.Words.{Present}
 use Rattle.graphql_document_rule_definitions.specs.Selected.{spread_name, inline_condition, selection_place, own}
 use Rattle.graphql_document_rule_definitions.specs.Fragments.{MayApply, InvalidFragmentTargetAt, InvalidFragmentSpreadAt}
 use Rattle.graphql_document_rule_definitions.specs.Told.{places_in, place_or_built_in}
-use Rattle.graphql_use_rules.proofs.Known.{present_known}
-use Rattle.graphql_use_rules.proofs.Listing.{Lists, lists_same, lists_nothing, lists_unless, lists_index, Gains, gains_list, gains_both}
+use Rattle.graphql_rule_definitions.proofs.Listing.{present_known}
+use Rattle.graphql_rule_definitions.proofs.Listing.{Lists, lists_same, lists_nothing, lists_unless, lists_index, Gains, gains_list, gains_both}
 use Rattle.graphql_reach.specs.Reach.{Member, IsReach}
 use Rattle.graphql_reach.proofs.AtReaches.{at_reached}
 use Rattle.graphql_fragment_rules.specs.Possible.{ArePossible, may_apply}

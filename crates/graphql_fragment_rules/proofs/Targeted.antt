@@ -21,7 +21,7 @@ use Rattle.graphql_rule_definitions.specs.Told.{PlacedFault}
 use Rattle.graphql_rule_definitions.specs.Words.{Present}
 use Rattle.graphql_document_rule_definitions.specs.Selected.{selection_place, inline_condition, own}
 use Rattle.graphql_document_rule_definitions.specs.Fragments.{IsNoCompositeType, IsNotComposite, InvalidFragmentTargetAt}
-use Rattle.graphql_use_rules.proofs.Listing.{Lists, lists_same, lists_present, lists_when, lists_index, Gains, gains_list, gains_both}
+use Rattle.graphql_rule_definitions.proofs.Listing.{Lists, lists_same, lists_present, lists_when, lists_index, Gains, gains_list, gains_both}
 use Rattle.graphql_reach.specs.Reach.{Member, IsReach}
 use Rattle.graphql_reach.proofs.AtReaches.{at_reached, at_reached_fragment}
 use Rattle.graphql_fragment_rules.specs.Listed.{is_no_composite, invalid_fragment_target, fragment_target, inline_target}

@@ -3,7 +3,7 @@ use Rattle.std.proofs.Common.{◌≡◌, ◌+◌, ◌<◌, ◌≤◌, ◌∙◌,
 use Rattle.std.specs.List.{flat_map}
 use Rattle.std.proofs.lemmas.List.{take_all}
 use Rattle.std.proofs.lemmas.Grind.{flat_map-append}
-use Rattle.graphql_use_rules.proofs.Listing.{mapped_more}
+use Rattle.graphql_rule_definitions.proofs.Listing.{mapped_more}
 
 module _ {A X B : Type 0} (f : A → X) (tells : X → List B) where
   -- of the next element too

@@ -17,7 +17,7 @@ use Rattle.graphql_rule_definitions.specs.Told.{PlacedFault}
 use Rattle.graphql_rule_definitions.specs.Words.{Present}
 use Rattle.graphql_document_rule_definitions.specs.Selected.{selection_place, spread_name, fragment_named, own}
 use Rattle.graphql_document_rule_definitions.specs.Fragments.{UndefinedFragmentAt}
-use Rattle.graphql_use_rules.proofs.Listing.{Lists, lists_same, lists_present, lists_absent, lists_index}
+use Rattle.graphql_rule_definitions.proofs.Listing.{Lists, lists_same, lists_present, lists_absent, lists_index}
 use Rattle.graphql_reach.specs.Reach.{Member, IsReach}
 use Rattle.graphql_reach.proofs.AtReaches.{at_reached}
 use Rattle.graphql_fragment_rules.specs.Listed.{undefined_fragment}

@@ -5,7 +5,7 @@ use Rattle.std.specs.declared.alloc.Global.{Global}
 use Rattle.graphql_names.specs.Placed.{Place}
 use Rattle.graphql_document_faults.specs.declared.build_error.BuildError.{BuildError}
 use Rattle.graphql_rule_definitions.specs.Words.{AtSomeIndex}
-use Rattle.graphql_use_rules.proofs.Listing.{gains_both, gains_same, gains_nothing, gains_none, gains_more, lists_one}
+use Rattle.graphql_rule_definitions.proofs.Listing.{gains_both, gains_same, gains_nothing, gains_none, gains_more, lists_one}
 use Rattle.graphql_document_rule_definitions.specs.DocumentFaults.{Broken}
 use Rattle.graphql_reach.specs.Broken.{brokens_of, AddsBroken}
 

@@ -23,7 +23,7 @@ use Rattle.graphql_typing.specs.DocumentView.{meant_by_fragment}
 use Rattle.graphql_document_rule_definitions.specs.Selected.{Position, Standing, standing_in}
 use Rattle.graphql_reach.specs.Reach.{Member, member_of, meant_fragments, IsReach}
 use Rattle.graphql_reach.specs.Gathered.{fragments_under}
-use Rattle.graphql_use_rules.proofs.Listing.{mapped_more}
+use Rattle.graphql_rule_definitions.proofs.Listing.{mapped_more}
 use Rattle.graphql_reach.proofs.Bridge.{is_reach}
 
 map_twice : {A B C : Type 0} (g : B → C) (f : A → B) (xs : List A) → map g (map f xs) ≡ map (λ x. g (f x)) xs

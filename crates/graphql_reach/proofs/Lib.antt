@@ -6,4 +6,4 @@ pub mod TypedReached
 pub mod OfDocuments
 pub mod AddingBroken
 -- Lists of what rules tell, for the layers above.
-pub use Rattle.graphql_use_rules.proofs.Listing
+pub use Rattle.graphql_rule_definitions.proofs.Listing

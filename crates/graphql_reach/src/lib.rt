@@ -6,7 +6,7 @@
 //! (`proofs/OfDocuments.antt`). What is said of the members of the lists is said at all that is reached, and back
 //! (`proofs/AtReaches.antt`). What is reached in a typed document or field set is typed (`proofs/TypedReached.antt`).
 //! What a check adds to a list of breaches of documents is `AddsBroken` of `specs/Broken.antt`, with its lemmas in
-//! `proofs/AddingBroken.antt`; those on lists of any faults are `graphql_use_rules`' `Listing`, handed on.
+//! `proofs/AddingBroken.antt`; those on lists of any faults are `graphql_rule_definitions`' `Listing`, handed on.
 //!
 //! Begin with `specs/Reach.antt` and `reaching.rt`.
 #![tactic(auto)]

@@ -5,3 +5,5 @@ pub mod Examples
 pub use Rattle.graphql_cycles.proofs.Lists
 pub mod Lookups
 pub mod Tells
+pub mod Listing
+pub mod Firsts

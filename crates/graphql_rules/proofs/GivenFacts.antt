@@ -13,8 +13,8 @@ use Rattle.graphql_rule_definitions.specs.Values.{Variables, defined_name}
 use Rattle.graphql_rule_definitions.specs.Uses.{argument_name, IsVariableUsageAllowed}
 use Rattle.graphql_rule_definitions.specs.Told.{PlacedFault}
 use Rattle.graphql_use_rules.specs.Steps.{Lists, DisallowedUsage}
-use Rattle.graphql_use_rules.proofs.Firsts.{first_is_found}
-use Rattle.graphql_use_rules.proofs.Listing.{Gains}
+use Rattle.graphql_rule_definitions.proofs.Firsts.{first_is_found}
+use Rattle.graphql_rule_definitions.proofs.Listing.{Gains}
 use Rattle.graphql_rules.specs.Given.{Each, UsageBreaks}
 
 -- what was added to nothing is all that is there

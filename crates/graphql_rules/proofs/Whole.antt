@@ -12,7 +12,7 @@ use Rattle.graphql_rule_definitions.specs.Told.{PlacedFault, Told}
 use Rattle.graphql_rule_definitions.proofs.Lists.{not_in_nil, Contains-first}
 use Rattle.graphql_type_rules.specs.TypesBreak.{TypesBreak}
 use Rattle.graphql_cycle_rules.specs.Told.{CyclesFail, CyclesTold}
-use Rattle.graphql_use_rules.proofs.Listing.{Gains}
+use Rattle.graphql_rule_definitions.proofs.Listing.{Gains}
 use Rattle.graphql_rules.specs.SchemaTold.{Fails, BreaksBesideCycles, IsWithinReferenceBound, TellsSchema}
 use Rattle.graphql_rules.proofs.Stands.{stands}
 

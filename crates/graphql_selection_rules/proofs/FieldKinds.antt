@@ -24,7 +24,7 @@ use Rattle.graphql_meant_documents.specs.MeantTree.{MeantSet, meant_set, no_mean
 use Rattle.graphql_document_rule_definitions.specs.Selected.{StandingField}
 use Rattle.graphql_document_rule_definitions.specs.Fragments.{IsCompositeType}
 use Rattle.graphql_document_rule_definitions.specs.Selections.{HasNone}
-use Rattle.graphql_use_rules.proofs.Listing.{Lists, lists_same, lists_nothing, lists_one}
+use Rattle.graphql_rule_definitions.proofs.Listing.{Lists, lists_same, lists_nothing, lists_one}
 use Rattle.graphql_selection_rules.specs.Steps.{selects_none, without_subselection, missing_on, missing_subselection, MissesSubselection}
 
 -- the kind of a type of a schema is the one that rules read

@@ -17,7 +17,7 @@ use Rattle.graphql_typing.specs.Meanings.{meanings}
 use Rattle.graphql_typing.specs.TypedByPlace.{IsTyped}
 use Rattle.graphql_rule_definitions.specs.Words.{Present}
 use Rattle.graphql_document_rule_definitions.specs.Selected.{StandingField, selection_directives, selection_location}
-use Rattle.graphql_use_rules.proofs.Known.{present_known}
+use Rattle.graphql_rule_definitions.proofs.Listing.{present_known}
 use Rattle.graphql_reach.specs.Reach.{field_of}
 use Rattle.graphql_reach.proofs.Bridge.{to_map}
 use Rattle.graphql_selection_rules.specs.Steps.{standing_field, IsDefined}

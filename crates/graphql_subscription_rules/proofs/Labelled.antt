@@ -27,8 +27,8 @@ use Rattle.graphql_rule_definitions.specs.Words.{Present, AtSomeIndex, FirstName
 use Rattle.graphql_document_rule_definitions.specs.DocumentFaults.{Broken, broken}
 use Rattle.graphql_document_rule_definitions.specs.Selected.{Position, InOperation, InFragment, SelectionAt, Standing, all_in, all_from, all_below, all_selections, operation_name, operations, fragments, selection_directives}
 use Rattle.graphql_document_rule_definitions.specs.Defer.{defers, labels, string_labels, LabelsBreak}
-use Rattle.graphql_use_rules.proofs.Firsts.{earlier_is_found}
-use Rattle.graphql_use_rules.proofs.Listing.{Lists, lists_same, lists_both, lists_one, lists_present, lists_index, lists_places, places_more, mapped_more}
+use Rattle.graphql_rule_definitions.proofs.Firsts.{earlier_is_found}
+use Rattle.graphql_rule_definitions.proofs.Listing.{Lists, lists_same, lists_both, lists_one, lists_present, lists_index, lists_places, places_more, mapped_more}
 use Rattle.graphql_subscription_rules.specs.Inside.{contents_along, contents_below}
 use Rattle.graphql_subscription_rules.specs.Labels.{values_meant, label_of, labels_of, labels_in, text_label, string_label, variable_label, label_again, first_place, duplicate_label, label_breaks, AreFirstPlaces, NotesFirst, NotesLabel, told_again}
 use Rattle.graphql_subscription_rules.specs.Listed.{is_directive, all_stay}

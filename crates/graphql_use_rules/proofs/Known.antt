@@ -1,7 +1,6 @@
 -- What is told where look-ups are known.
 use Rattle.std.proofs.Common.{◌≡◌, ◌↔◌, false, [], ◌∷◌, refl, sym, ap, subst, ◌∙◌, Option, None, Some, is_some, find, bytes_eq, true≢false}
 use Rattle.std.specs.Option.{option_map}
-use Rattle.std.proofs.lemmas.Option.{same_Some}
 use Rattle.graphql_names.specs.Placed.{Placed, Place, Text}
 use Rattle.graphql_literals.specs.TypeTree.{unplaced_type}
 use Rattle.graphql_literals.specs.ValueQueries.{variable_name}
@@ -16,10 +15,7 @@ use Rattle.graphql_value_rules.specs.in_rule_definitions.Values.{Variables, defi
 use Rattle.graphql_value_rules.specs.in_rule_definitions.Uses.{argument_name, IsVariableUsageAllowed}
 use Rattle.graphql_value_rules.specs.in_rule_definitions.Told.{PlacedFault}
 use Rattle.graphql_use_rules.specs.Steps.{DisallowedUsage, GivenArgumentBreaks, DefinedArgumentBreaks}
-use Rattle.graphql_use_rules.proofs.Listing.{Lists, lists_same, lists_nothing, lists_where}
-
-pub present_known : {X : Type 0} (o : Option X) (x : X) (P : X → Type 0) → o ≡ Some x → P x ↔ Present o P
-present_known o x P e = (λ p. (x, (e, p)), λ h. subst P (sym (same_Some x h.0 (sym e ∙ h.1.0))) h.1.1)
+use Rattle.graphql_value_rules.proofs.in_rule_definitions.Listing.{Lists, lists_same, lists_nothing, lists_where, present_known}
 
 pub absent : {X Y : Type 0} (f : X → Y) (o : Option X) → is_some o ≡ false → option_map f o ≡ None
 absent f None e = refl

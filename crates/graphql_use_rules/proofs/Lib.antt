@@ -3,8 +3,6 @@ pub mod MovedValues
 pub mod MovedUses
 pub mod SpottedUses
 pub mod SchemaTold
-pub mod Firsts
-pub mod Listing
 pub mod Types
 pub mod ReadPlaces
 pub mod Known

@@ -17,7 +17,7 @@ use Rattle.graphql_value_rules.specs.Firsts.{first_told, AreNumbers}
 use Rattle.graphql_value_rules.proofs.Noted.{number_first, number_here, there, as_long}
 use Rattle.graphql_use_rules.specs.Trees.{arguments_of}
 use Rattle.graphql_use_rules.specs.Steps.{DefinedArgumentBreaks, FirstGivenBreaks}
-use Rattle.graphql_use_rules.proofs.Listing.{Gains, gains_same, gains_nothing}
+use Rattle.graphql_value_rules.proofs.in_rule_definitions.Listing.{Gains, gains_same, gains_nothing}
 
 mapped : {A B : Type 0} (f : A → B) (xs : List A) (i : ℕ) (x : A) → slice_get xs i ≡ Some x → slice_get (map f xs) i ≡ Some (f x)
 mapped f [] i x e = absurd (true≢false (sym (ap is_some e)))

@@ -28,8 +28,8 @@ use Rattle.graphql_use_rules.specs.UseFaults.{undefined_directive, repeated_argu
 use Rattle.graphql_use_rules.specs.Steps.{DisallowedUsage, GivenArgumentBreaks, FirstGivenBreaks, DefinedUseBreaks}
 use Rattle.graphql_use_rules.proofs.Moves.{both_ways, same_index_there, each_index, same_lacks, same_first_named}
 use Rattle.graphql_use_rules.proofs.ReadPlaces.{same_type_breaks}
-use Rattle.graphql_use_rules.proofs.Firsts.{lacks_found, lacks_given, first_is_found, earlier_is_found, not_found, none_found}
-use Rattle.graphql_use_rules.proofs.Listing.{Lists, lists_same, lists_one, lists_present, lists_absent, lists_when, lists_unless, lists_index, lists_places, lists_nothing}
+use Rattle.graphql_value_rules.proofs.in_rule_definitions.Firsts.{lacks_found, lacks_given, first_is_found, earlier_is_found, not_found, none_found}
+use Rattle.graphql_value_rules.proofs.in_rule_definitions.Listing.{Lists, lists_same, lists_one, lists_present, lists_absent, lists_when, lists_unless, lists_index, lists_places, lists_nothing}
 
 swap : {A B : Type 0} → A ↔ B → B ↔ A
 swap h = (h.1, h.0)

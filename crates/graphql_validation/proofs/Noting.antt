@@ -10,7 +10,7 @@ use Rattle.graphql_rule_definitions.proofs.Lists.{not_in_nil, Contains-cons, Con
 use Rattle.graphql_meant_documents.specs.MeantTree.{MeantOperation, MeantFragment, MeantDocument}
 use Rattle.graphql_rule_definitions.specs.Words.{AtSomeIndex}
 use Rattle.graphql_document_rule_definitions.specs.Selected.{own}
-use Rattle.graphql_use_rules.proofs.Listing.{index_append}
+use Rattle.graphql_rule_definitions.proofs.Listing.{index_append}
 use Rattle.graphql_reach.specs.Reach.{Member, IsReach}
 use Rattle.graphql_reach.proofs.Bridge.{from_map, to_map}
 use Rattle.graphql_validation.specs.Operations.{ReachesNamed, NotesNames, with_fragments}

@@ -23,8 +23,8 @@ use Rattle.graphql_document_rule_definitions.specs.Variables.{wanted_by}
 use Rattle.graphql_value_rules.specs.Firsts.{first_told}
 use Rattle.graphql_value_rules.proofs.Noted.{told_found}
 use Rattle.graphql_value_rules.proofs.Looking.{inner_unplaced, type_absent, type_present}
-use Rattle.graphql_use_rules.proofs.Firsts.{earlier_is_found}
-use Rattle.graphql_use_rules.proofs.Listing.{Lists, lists_same, lists_nothing, lists_one, lists_where, lists_present, lists_unless, lists_places}
+use Rattle.graphql_rule_definitions.proofs.Firsts.{earlier_is_found}
+use Rattle.graphql_rule_definitions.proofs.Listing.{Lists, lists_same, lists_nothing, lists_one, lists_where, lists_present, lists_unless, lists_places}
 use Rattle.graphql_variable_rules.specs.VariableFaults.{Defined, repeated_variable, variable_again, UnusedAmong, type_name, told_input_type, undefined_definition, variable_input_type, UndefinedType, NoInputType}
 use Rattle.graphql_variable_rules.proofs.Spans.{one_way}
 

@@ -6,7 +6,7 @@ use Rattle.graphql_fault_data.specs.FaultView.{faults_of}
 use Rattle.graphql_fault_data.specs.Adds.{Adds}
 use Rattle.graphql_rule_definitions.specs.Words.{AtSomeIndex}
 use Rattle.graphql_use_rules.specs.Alone.{DirectivesAloneBreak}
-use Rattle.graphql_use_rules.proofs.Listing.{gains_none, gains_more, mapped_more}
+use Rattle.graphql_rule_definitions.proofs.Listing.{gains_none, gains_more, mapped_more}
 use Rattle.graphql_reach.specs.Reach.{fragment_of}
 use Rattle.graphql_selection_rules.proofs.alone.check_fragments_alone.Goals as goal
 

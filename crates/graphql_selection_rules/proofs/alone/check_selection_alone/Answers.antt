@@ -8,7 +8,7 @@ use Rattle.graphql_fault_data.specs.FaultView.{faults_of}
 use Rattle.graphql_fault_data.specs.Adds.{Adds}
 use Rattle.graphql_use_rules.specs.Alone.{ArgumentsBreak, DirectivesAloneBreak}
 use Rattle.graphql_use_rules.specs.Trees.{arguments_of, directives_of}
-use Rattle.graphql_use_rules.proofs.Listing.{gains_both, gains_same, gains_nothing}
+use Rattle.graphql_rule_definitions.proofs.Listing.{gains_both, gains_same, gains_nothing}
 use Rattle.graphql_selection_rules.proofs.Members.{directives_meant, no_field, one_field}
 use Rattle.graphql_selection_rules.proofs.alone.check_selection_alone.Goals as goal
 

@@ -12,7 +12,7 @@ use Rattle.graphql_rule_definitions.specs.Values.{Variables}
 use Rattle.graphql_value_rules.specs.Wanting.{variables_of}
 use Rattle.graphql_use_rules.specs.Alone.{DirectivesAloneBreak}
 use Rattle.graphql_use_rules.specs.Trees.{directives_of}
-use Rattle.graphql_use_rules.proofs.Listing.{gains_both, gains_same}
+use Rattle.graphql_rule_definitions.proofs.Listing.{gains_both, gains_same}
 use Rattle.graphql_reach.specs.Reach.{reached_members, reached_fragments_of}
 use Rattle.graphql_selection_rules.proofs.Selecting.{given_in_breaks}
 use Rattle.graphql_selection_rules.proofs.alone.check_selections_alone.Goals as goal

@@ -10,7 +10,7 @@ use Rattle.graphql_rule_definitions.specs.Words.{AtSomeIndex}
 use Rattle.graphql_value_rules.specs.Wanting.{variables_of}
 use Rattle.graphql_use_rules.specs.Alone.{DirectivesAloneBreak}
 use Rattle.graphql_use_rules.specs.Trees.{directives_of}
-use Rattle.graphql_use_rules.proofs.Listing.{gains_none, gains_more, mapped_more}
+use Rattle.graphql_rule_definitions.proofs.Listing.{gains_none, gains_more, mapped_more}
 use Rattle.graphql_selection_rules.proofs.alone.check_variables_alone.Goals as goal
 
 pub loop-variable-init : goal.loop-variable-init

@@ -11,7 +11,7 @@ use Rattle.graphql_rule_definitions.specs.Uses.{GivenBreaks}
 use Rattle.graphql_value_rules.specs.Wanting.{variables_of}
 use Rattle.graphql_document_rule_definitions.specs.Told.{place_or_built_in}
 use Rattle.graphql_use_rules.specs.Trees.{arguments_of}
-use Rattle.graphql_use_rules.proofs.Listing.{gains_both, gains_list}
+use Rattle.graphql_rule_definitions.proofs.Listing.{gains_both, gains_list}
 use Rattle.graphql_selection_rules.specs.Steps.{standing_field, missing_subselection}
 use Rattle.graphql_selection_rules.proofs.FieldKinds.{lists_missing}
 use Rattle.graphql_selection_rules.proofs.fields.check_field.Goals as goal

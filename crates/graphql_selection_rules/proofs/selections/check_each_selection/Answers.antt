@@ -7,7 +7,7 @@ use Rattle.graphql_fault_data.specs.Adds.{Adds}
 use Rattle.graphql_rule_definitions.specs.Words.{AtSomeIndex}
 use Rattle.graphql_value_rules.specs.Wanting.{variables_of}
 use Rattle.graphql_reach.specs.Reach.{Member, member_of}
-use Rattle.graphql_use_rules.proofs.Listing.{gains_none, gains_more, mapped_more}
+use Rattle.graphql_rule_definitions.proofs.Listing.{gains_none, gains_more, mapped_more}
 use Rattle.graphql_selection_rules.specs.Steps.{SelectionBreaks}
 use Rattle.graphql_selection_rules.proofs.Members.{comes_to}
 use Rattle.graphql_selection_rules.proofs.selections.check_each_selection.Goals as goal

@@ -11,7 +11,7 @@ use Rattle.graphql_rule_definitions.specs.Words.{AtSomeIndex}
 use Rattle.graphql_rule_definitions.specs.Judged.{judged}
 use Rattle.graphql_rule_definitions.specs.Uses.{UsesBreak}
 use Rattle.graphql_value_rules.specs.Wanting.{variables_of}
-use Rattle.graphql_use_rules.proofs.Listing.{gains_none, gains_more, mapped_more}
+use Rattle.graphql_rule_definitions.proofs.Listing.{gains_none, gains_more, mapped_more}
 use Rattle.graphql_reach.specs.Reach.{fragment_of}
 use Rattle.graphql_selection_rules.proofs.selections.check_fragments.Goals as goal
 

@@ -9,7 +9,7 @@ use Rattle.graphql_rule_definitions.specs.Judged.{judged}
 use Rattle.graphql_rule_definitions.specs.Uses.{UsesBreak}
 use Rattle.graphql_value_rules.specs.Wanting.{variables_of}
 use Rattle.graphql_use_rules.specs.Trees.{directives_of}
-use Rattle.graphql_use_rules.proofs.Listing.{gains_both, gains_same, gains_nothing}
+use Rattle.graphql_rule_definitions.proofs.Listing.{gains_both, gains_same, gains_nothing}
 use Rattle.graphql_selection_rules.specs.Steps.{FieldBreaks}
 use Rattle.graphql_selection_rules.proofs.Members.{directives_meant, no_field, one_field, typed_there}
 use Rattle.graphql_selection_rules.proofs.selections.check_selection.Goals as goal

@@ -18,7 +18,7 @@ use Rattle.graphql_rule_definitions.specs.Judged.{judged}
 use Rattle.graphql_rule_definitions.specs.Uses.{UsesBreak}
 use Rattle.graphql_value_rules.specs.Wanting.{variables_of}
 use Rattle.graphql_use_rules.specs.Trees.{directives_of}
-use Rattle.graphql_use_rules.proofs.Listing.{gains_both, gains_same}
+use Rattle.graphql_rule_definitions.proofs.Listing.{gains_both, gains_same}
 use Rattle.graphql_reach.specs.Reach.{reached_members, reached_fragments_of}
 use Rattle.graphql_selection_rules.proofs.Typing.{member_typed}
 use Rattle.graphql_selection_rules.specs.Steps.{SelectionBreaks}

@@ -15,7 +15,7 @@ use Rattle.graphql_value_rules.specs.in_fault_data.Adds.{Adds}
 use Rattle.graphql_value_rules.specs.Wanting.{variables_of}
 use Rattle.graphql_use_rules.specs.Trees.{arguments_of, inputs_of}
 use Rattle.graphql_use_rules.specs.UseFaults.{unsupported_location}
-use Rattle.graphql_use_rules.proofs.Listing.{gains_both, gains_list}
+use Rattle.graphql_value_rules.proofs.in_rule_definitions.Listing.{gains_both, gains_list}
 use Rattle.graphql_value_rules.proofs.in_fault_data.Judgings.{directive_look}
 use Rattle.graphql_use_rules.proofs.Uses.{same_taker, stands_in, lists_unsupported_location}
 use Rattle.graphql_use_rules.proofs.directives.check_defined_use.Goals as goal

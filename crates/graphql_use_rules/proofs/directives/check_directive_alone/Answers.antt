@@ -8,7 +8,7 @@ use Rattle.graphql_value_rules.specs.in_fault_data.Adds.{Adds}
 use Rattle.graphql_use_rules.specs.Trees.{arguments_of}
 use Rattle.graphql_use_rules.specs.Alone.{ArgumentsBreak}
 use Rattle.graphql_use_rules.specs.UseFaults.{undefined_directive}
-use Rattle.graphql_use_rules.proofs.Listing.{gains_both, gains_list, lists_one}
+use Rattle.graphql_value_rules.proofs.in_rule_definitions.Listing.{gains_both, gains_list, lists_one}
 use Rattle.graphql_use_rules.proofs.directives.check_directive_alone.Goals as goal
 
 pub returns : goal.returns

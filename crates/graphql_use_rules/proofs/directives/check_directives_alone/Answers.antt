@@ -6,7 +6,7 @@ use Rattle.graphql_value_rules.specs.in_fault_data.FaultView.{faults_of}
 use Rattle.graphql_value_rules.specs.in_fault_data.Adds.{Adds}
 use Rattle.graphql_use_rules.specs.Trees.{directives_of}
 use Rattle.graphql_use_rules.specs.Alone.{DirectiveAloneBreaks, DirectivesAloneBreak}
-use Rattle.graphql_use_rules.proofs.Listing.{gains_none, gains_more, mapped_more}
+use Rattle.graphql_value_rules.proofs.in_rule_definitions.Listing.{gains_none, gains_more, mapped_more}
 use Rattle.graphql_use_rules.proofs.directives.check_directives_alone.Goals as goal
 
 pub loop-directive-init : goal.loop-directive-init

@@ -9,7 +9,7 @@ use Rattle.graphql_value_rules.specs.Wanting.{variables_of}
 use Rattle.graphql_use_rules.specs.Trees.{arguments_of}
 use Rattle.graphql_use_rules.specs.Steps.{VariablesGivenBreak}
 use Rattle.graphql_use_rules.proofs.Alone.{use_apart}
-use Rattle.graphql_use_rules.proofs.Listing.{gains_same, gains_both}
+use Rattle.graphql_value_rules.proofs.in_rule_definitions.Listing.{gains_same, gains_both}
 use Rattle.graphql_use_rules.proofs.directives.check_undefined_use.Goals as goal
 
 pub returns : goal.returns

@@ -10,7 +10,7 @@ use Rattle.graphql_value_rules.specs.in_rule_definitions.Uses.{UseBreaks}
 use Rattle.graphql_value_rules.specs.in_fault_data.Adds.{Adds}
 use Rattle.graphql_value_rules.specs.Wanting.{variables_of}
 use Rattle.graphql_use_rules.specs.Trees.{directives_of, no_schema}
-use Rattle.graphql_use_rules.proofs.Listing.{gains_none, gains_more, gains_same, mapped_more}
+use Rattle.graphql_value_rules.proofs.in_rule_definitions.Listing.{gains_none, gains_more, gains_same, mapped_more}
 use Rattle.graphql_value_rules.proofs.in_fault_data.Judgings.{directive_look}
 use Rattle.graphql_use_rules.proofs.Uses.{uses_undefined}
 use Rattle.graphql_use_rules.proofs.directives.check_undefined_uses.Goals as goal

@@ -12,7 +12,7 @@ use Rattle.graphql_value_rules.specs.in_fault_data.Adds.{Adds}
 use Rattle.graphql_value_rules.specs.Wanting.{variables_of}
 use Rattle.graphql_use_rules.specs.Trees.{arguments_of}
 use Rattle.graphql_use_rules.specs.UseFaults.{undefined_directive}
-use Rattle.graphql_use_rules.proofs.Listing.{gains_same, gains_both, gains_list, lists_one}
+use Rattle.graphql_value_rules.proofs.in_rule_definitions.Listing.{gains_same, gains_both, gains_list, lists_one}
 use Rattle.graphql_value_rules.proofs.in_fault_data.Judgings.{directive_look}
 use Rattle.graphql_use_rules.proofs.Uses.{use_undefined, use_found}
 use Rattle.graphql_use_rules.proofs.directives.check_use.Goals as goal

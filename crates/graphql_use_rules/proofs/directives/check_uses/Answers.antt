@@ -7,7 +7,7 @@ use Rattle.graphql_value_rules.specs.in_rule_definitions.Uses.{directive_name}
 use Rattle.graphql_value_rules.specs.Wanting.{variables_of}
 use Rattle.graphql_use_rules.specs.Trees.{directives_of}
 use Rattle.graphql_use_rules.specs.UseFaults.{repeated_directive}
-use Rattle.graphql_use_rules.proofs.Listing.{gains_both, gains_list}
+use Rattle.graphql_value_rules.proofs.in_rule_definitions.Listing.{gains_both, gains_list}
 use Rattle.graphql_use_rules.proofs.Uses.{lists_repeated_directives}
 use Rattle.graphql_value_rules.proofs.in_fault_data.Judgings.{directive_look}
 use Rattle.graphql_use_rules.proofs.directives.check_uses.Goals as goal

@@ -13,7 +13,7 @@ use Rattle.graphql_value_rules.proofs.Noted.{noted_next}
 use Rattle.graphql_use_rules.specs.Trees.{directives_of}
 use Rattle.graphql_use_rules.specs.UseFaults.{repeated_directive}
 use Rattle.graphql_use_rules.proofs.Again.{few, directive_first, directive_again_is}
-use Rattle.graphql_use_rules.proofs.Listing.{places_more}
+use Rattle.graphql_value_rules.proofs.in_rule_definitions.Listing.{places_more}
 use Rattle.graphql_use_rules.proofs.directives.tell_repeated_directives.Goals as goal
 
 pub loop-directive-preserved : goal.loop-directive-preserved

@@ -5,7 +5,7 @@ use Rattle.graphql_value_rules.specs.in_fault_data.FaultView.{faults_of}
 use Rattle.graphql_value_rules.specs.in_rule_definitions.Judged.{judged}
 use Rattle.graphql_use_rules.specs.Trees.{arguments_of, no_schema}
 use Rattle.graphql_use_rules.specs.UseFaults.{repeated_argument}
-use Rattle.graphql_use_rules.proofs.Listing.{gains_both, gains_list}
+use Rattle.graphql_value_rules.proofs.in_rule_definitions.Listing.{gains_both, gains_list}
 use Rattle.graphql_use_rules.proofs.Uses.{lists_repeated_arguments}
 use Rattle.graphql_use_rules.proofs.given.check_arguments_alone.Goals as goal
 

@@ -2,7 +2,7 @@ use Rattle.std.proofs.lemmas.Result.{on_ok_weaker}
 use Rattle.graphql_value_rules.specs.in_fault_data.FaultView.{faults_of}
 use Rattle.graphql_value_rules.specs.Wanting.{variables_of}
 use Rattle.graphql_use_rules.specs.Trees.{arguments_of}
-use Rattle.graphql_use_rules.proofs.Listing.{gains_both, gains_same}
+use Rattle.graphql_value_rules.proofs.in_rule_definitions.Listing.{gains_both, gains_same}
 use Rattle.graphql_use_rules.proofs.Alone.{given_apart}
 use Rattle.graphql_use_rules.proofs.given.check_given.Goals as goal
 

@@ -10,7 +10,7 @@ use Rattle.graphql_value_rules.specs.in_fault_data.Adds.{Adds}
 use Rattle.graphql_value_rules.specs.in_rule_definitions.Values.{UniqueInputValueIn}
 use Rattle.graphql_use_rules.specs.Trees.{arguments_of}
 use Rattle.graphql_use_rules.specs.Alone.{KeysBreak}
-use Rattle.graphql_use_rules.proofs.Listing.{gains_none, gains_more, mapped_more}
+use Rattle.graphql_value_rules.proofs.in_rule_definitions.Listing.{gains_none, gains_more, mapped_more}
 use Rattle.graphql_use_rules.proofs.given.check_keys_given.Goals as goal
 
 pub loop-argument-init : goal.loop-argument-init

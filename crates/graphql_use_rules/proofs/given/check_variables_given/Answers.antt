@@ -11,7 +11,7 @@ use Rattle.graphql_value_rules.specs.in_rule_definitions.Values.{UndefinedVariab
 use Rattle.graphql_value_rules.specs.Wanting.{variables_of}
 use Rattle.graphql_use_rules.specs.Trees.{arguments_of}
 use Rattle.graphql_use_rules.specs.Steps.{VariablesGivenBreak}
-use Rattle.graphql_use_rules.proofs.Listing.{gains_none, gains_more, mapped_more}
+use Rattle.graphql_value_rules.proofs.in_rule_definitions.Listing.{gains_none, gains_more, mapped_more}
 use Rattle.graphql_use_rules.proofs.given.check_variables_given.Goals as goal
 
 pub loop-argument-init : goal.loop-argument-init

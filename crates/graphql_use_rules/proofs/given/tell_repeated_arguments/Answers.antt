@@ -10,7 +10,7 @@ use Rattle.graphql_value_rules.proofs.Noted.{noted_next}
 use Rattle.graphql_use_rules.specs.Trees.{arguments_of}
 use Rattle.graphql_use_rules.specs.UseFaults.{repeated_argument}
 use Rattle.graphql_use_rules.proofs.Again.{few, argument_first, argument_again_is}
-use Rattle.graphql_use_rules.proofs.Listing.{places_more}
+use Rattle.graphql_value_rules.proofs.in_rule_definitions.Listing.{places_more}
 use Rattle.graphql_use_rules.proofs.given.tell_repeated_arguments.Goals as goal
 
 pub loop-argument-preserved : goal.loop-argument-preserved

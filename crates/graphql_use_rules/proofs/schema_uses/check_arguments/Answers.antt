@@ -9,7 +9,7 @@ use Rattle.graphql_value_rules.specs.in_schema.SchemaOf.{schema_tree}
 use Rattle.graphql_value_rules.specs.in_fault_data.Adds.{Adds}
 use Rattle.graphql_use_rules.specs.Trees.{inputs_of, directives_of}
 use Rattle.graphql_use_rules.specs.SchemaUses.{UsesAt, ArgumentUses}
-use Rattle.graphql_use_rules.proofs.Listing.{gains_none, gains_more, mapped_more}
+use Rattle.graphql_value_rules.proofs.in_rule_definitions.Listing.{gains_none, gains_more, mapped_more}
 use Rattle.graphql_use_rules.proofs.schema_uses.check_arguments.Goals as goal
 
 pub loop-definition-init : goal.loop-definition-init

@@ -8,7 +8,7 @@ use Rattle.graphql_value_rules.specs.in_fault_data.FaultView.{faults_of}
 use Rattle.graphql_value_rules.specs.in_fault_data.Adds.{Adds}
 use Rattle.graphql_use_rules.specs.Trees.{directives_of, inputs_of}
 use Rattle.graphql_use_rules.specs.SchemaUses.{UsesAt, ArgumentUses}
-use Rattle.graphql_use_rules.proofs.Listing.{gains_both}
+use Rattle.graphql_value_rules.proofs.in_rule_definitions.Listing.{gains_both}
 use Rattle.graphql_use_rules.proofs.schema_uses.check_field.Goals as goal
 
 pub returns : goal.returns

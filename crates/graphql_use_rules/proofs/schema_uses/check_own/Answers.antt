@@ -13,7 +13,7 @@ use Rattle.graphql_value_rules.specs.in_fault_data.FaultView.{faults_of}
 use Rattle.graphql_value_rules.specs.in_fault_data.Adds.{Adds}
 use Rattle.graphql_value_rules.specs.in_rule_definitions.Rules.{type_location}
 use Rattle.graphql_use_rules.specs.SchemaUses.{UsesAt, is_built_in_scalar}
-use Rattle.graphql_use_rules.proofs.Listing.{gains_same}
+use Rattle.graphql_value_rules.proofs.in_rule_definitions.Listing.{gains_same}
 use Rattle.graphql_use_rules.proofs.SchemaSteps.{own_judged, first_fails, second_fails}
 use Rattle.graphql_use_rules.proofs.schema_uses.check_own.Goals as goal
 use Rattle.graphql_use_rules.proofs.schema_uses.check_own.Goals.{else-is_scalar-via-then-is_scalar+else-is_built_in, else-is_scalar-via-else-is_scalar}

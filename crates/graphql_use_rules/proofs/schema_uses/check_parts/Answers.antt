@@ -22,7 +22,7 @@ use Rattle.graphql_value_rules.specs.in_schema.SchemaOf.{schema_tree}
 use Rattle.graphql_value_rules.specs.in_fault_data.FaultView.{faults_of}
 use Rattle.graphql_value_rules.specs.in_fault_data.Adds.{Adds}
 use Rattle.graphql_use_rules.specs.SchemaUses.{FieldsUses, ValuesUses, InputsUses, PartsUses}
-use Rattle.graphql_use_rules.proofs.Listing.{gains_same, gains_nothing}
+use Rattle.graphql_value_rules.proofs.in_rule_definitions.Listing.{gains_same, gains_nothing}
 use Rattle.graphql_use_rules.proofs.SchemaSteps.{only_fields, only_values, only_inputs, no_parts}
 use Rattle.graphql_use_rules.proofs.schema_uses.check_parts.Goals as goal
 

@@ -8,7 +8,7 @@ use Rattle.graphql_value_rules.specs.in_schema.SchemaOf.{schema_tree}
 use Rattle.graphql_value_rules.specs.in_fault_data.FaultView.{faults_of}
 use Rattle.graphql_value_rules.specs.in_fault_data.Adds.{Adds}
 use Rattle.graphql_use_rules.specs.SchemaUses.{UsesAt}
-use Rattle.graphql_use_rules.proofs.Listing.{gains_both, gains_same}
+use Rattle.graphql_value_rules.proofs.in_rule_definitions.Listing.{gains_both, gains_same}
 use Rattle.graphql_use_rules.proofs.SchemaTold.{schema_uses_told}
 use Rattle.graphql_use_rules.proofs.schema_uses.check_schema_directives.Goals as goal
 

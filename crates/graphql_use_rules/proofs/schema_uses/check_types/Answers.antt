@@ -10,7 +10,7 @@ use Rattle.graphql_value_rules.specs.in_schema.SchemaOf.{schema_tree}
 use Rattle.graphql_value_rules.specs.in_fault_data.FaultView.{faults_of}
 use Rattle.graphql_value_rules.specs.in_fault_data.Adds.{Adds}
 use Rattle.graphql_use_rules.specs.SchemaUses.{TypeUses, TypesUses}
-use Rattle.graphql_use_rules.proofs.Listing.{gains_none, gains_more, gains_both}
+use Rattle.graphql_value_rules.proofs.in_rule_definitions.Listing.{gains_none, gains_more, gains_both}
 use Rattle.graphql_use_rules.proofs.SchemaSteps.{pairs_more}
 use Rattle.graphql_use_rules.proofs.schema_uses.check_types.Goals as goal
 

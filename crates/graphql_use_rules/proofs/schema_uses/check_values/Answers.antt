@@ -15,7 +15,7 @@ use Rattle.graphql_directives.specs.declared.directive_location.DirectiveLocatio
 use Rattle.graphql_directives.specs.DirectiveTree.{Directives}
 use Rattle.graphql_use_rules.specs.Trees.{directives_of}
 use Rattle.graphql_use_rules.specs.SchemaUses.{UsesAt, ValuesUses}
-use Rattle.graphql_use_rules.proofs.Listing.{gains_none, gains_more}
+use Rattle.graphql_value_rules.proofs.in_rule_definitions.Listing.{gains_none, gains_more}
 use Rattle.graphql_use_rules.proofs.SchemaSteps.{pairs_more}
 use Rattle.graphql_use_rules.proofs.schema_uses.check_values.Goals as goal
 

@@ -9,7 +9,7 @@ use Rattle.graphql_value_rules.specs.in_schema.SchemaOf.{schema_tree}
 use Rattle.graphql_value_rules.specs.in_fault_data.Adds.{Adds}
 use Rattle.graphql_value_rules.specs.Wanting.{variables_of}
 use Rattle.graphql_use_rules.specs.Steps.{Lists, DisallowedUsage, GivenArgumentBreaks}
-use Rattle.graphql_use_rules.proofs.Listing.{gains_both, gains_list}
+use Rattle.graphql_value_rules.proofs.in_rule_definitions.Listing.{gains_both, gains_list}
 use Rattle.graphql_use_rules.proofs.taken.check_argument.Goals as goal
 
 pub returns : goal.returns

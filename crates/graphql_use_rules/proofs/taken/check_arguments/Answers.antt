@@ -12,7 +12,7 @@ use Rattle.graphql_value_rules.specs.in_fault_data.Adds.{Adds}
 use Rattle.graphql_value_rules.specs.Wanting.{variables_of}
 use Rattle.graphql_use_rules.specs.Trees.{arguments_of, inputs_of}
 use Rattle.graphql_use_rules.specs.Steps.{DefinedArgumentBreaks, FirstGivenBreaks}
-use Rattle.graphql_use_rules.proofs.Listing.{Gains, gains_none, gains_more, mapped_more}
+use Rattle.graphql_value_rules.proofs.in_rule_definitions.Listing.{Gains, gains_none, gains_more, mapped_more}
 use Rattle.graphql_use_rules.proofs.Numbered.{first_gains, later_gains}
 use Rattle.graphql_use_rules.proofs.taken.check_arguments.Goals as goal
 use Rattle.graphql_use_rules.proofs.taken.check_arguments.Goals.{then-has_number+in_ok-check_if_defined, else-has_number}

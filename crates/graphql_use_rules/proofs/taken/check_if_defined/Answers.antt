@@ -9,7 +9,7 @@ use Rattle.graphql_value_rules.specs.in_schema.SchemaOf.{schema_tree}
 use Rattle.graphql_value_rules.specs.Wanting.{variables_of}
 use Rattle.graphql_use_rules.specs.Trees.{inputs_of}
 use Rattle.graphql_use_rules.specs.Steps.{DefinedArgumentBreaks}
-use Rattle.graphql_use_rules.proofs.Listing.{gains_same, gains_nothing}
+use Rattle.graphql_value_rules.proofs.in_rule_definitions.Listing.{gains_same, gains_nothing}
 use Rattle.graphql_use_rules.proofs.Known.{defined_known}
 use Rattle.graphql_use_rules.proofs.taken.check_if_defined.Goals as goal
 

@@ -9,7 +9,7 @@ use Rattle.graphql_use_rules.specs.Trees.{arguments_of, inputs_of, taker_of}
 use Rattle.graphql_use_rules.specs.UseFaults.{undefined_argument, required_argument}
 use Rattle.graphql_value_rules.specs.in_rule_definitions.Words.{AtSomeIndex}
 use Rattle.graphql_use_rules.specs.Steps.{FirstGivenBreaks}
-use Rattle.graphql_use_rules.proofs.Listing.{empty_is, nowhere, gains_both, gains_list, gains_same, gains_nothing}
+use Rattle.graphql_value_rules.proofs.in_rule_definitions.Listing.{empty_is, nowhere, gains_both, gains_list, gains_same, gains_nothing}
 use Rattle.graphql_use_rules.proofs.Uses.{lists_undefined_arguments, lists_required_arguments, given_arguments}
 use Rattle.graphql_use_rules.proofs.taken.check_taken.Goals as goal
 

@@ -7,7 +7,7 @@ use Rattle.graphql_meant_documents.specs.MeantTree.{MeantOperation}
 use Rattle.graphql_rule_definitions.specs.Words.{AtSomeIndex}
 use Rattle.graphql_document_rule_definitions.specs.Selected.{operations}
 use Rattle.graphql_fragment_cycles.specs.Used.{names_of}
-use Rattle.graphql_use_rules.proofs.Listing.{gains_none, gains_more, gains_same}
+use Rattle.graphql_rule_definitions.proofs.Listing.{gains_none, gains_more, gains_same}
 use Rattle.graphql_reach.proofs.AtReaches.{some_index}
 use Rattle.graphql_subscription_rules.specs.Told.{document_meant, operation_meant}
 use Rattle.graphql_validation.specs.Operations.{OperationFailsAlone, ReachesNamed, NotesNames}

@@ -6,7 +6,7 @@ use Rattle.graphql_typed_selections.specs.TypedTree.{typed_set_tree}
 use Rattle.graphql_typed_operations.specs.declared.operation.Operation.{Operation}
 use Rattle.graphql_document_rule_definitions.specs.Told.{place_or_built_in}
 use Rattle.graphql_fragment_cycles.specs.Used.{names_of}
-use Rattle.graphql_use_rules.proofs.Listing.{gains_both, gains_same}
+use Rattle.graphql_rule_definitions.proofs.Listing.{gains_both, gains_same}
 use Rattle.graphql_reach.specs.Reach.{reached_members, reached_fragments_of}
 use Rattle.graphql_reach.proofs.OfDocuments.{ReachesFrom, operation_reaches}
 use Rattle.graphql_subscription_rules.specs.Told.{document_meant, operation_meant}

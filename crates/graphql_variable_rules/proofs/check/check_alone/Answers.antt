@@ -2,7 +2,7 @@ use Rattle.std.proofs.lemmas.Result.{on_ok_weaker}
 use Rattle.graphql_components.specs.Lists.{each_place}
 use Rattle.graphql_value_rules.specs.in_fault_data.FaultView.{faults_of}
 use Rattle.graphql_value_rules.specs.Wanting.{variables_of}
-use Rattle.graphql_use_rules.proofs.Listing.{gains_both, gains_list}
+use Rattle.graphql_rule_definitions.proofs.Listing.{gains_both, gains_list}
 use Rattle.graphql_variable_rules.specs.VariableFaults.{repeated_variable}
 use Rattle.graphql_variable_rules.proofs.Told.{lists_repeated_variables}
 use Rattle.graphql_variable_rules.proofs.check.check_alone.Goals as goal

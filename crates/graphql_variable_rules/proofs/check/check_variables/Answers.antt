@@ -10,7 +10,7 @@ use Rattle.graphql_value_rules.specs.in_schema.SchemaOf.{schema_tree}
 use Rattle.graphql_value_rules.specs.in_fault_data.FaultView.{faults_of}
 use Rattle.graphql_value_rules.specs.in_fault_data.Adds.{Adds}
 use Rattle.graphql_value_rules.specs.Wanting.{variables_of}
-use Rattle.graphql_use_rules.proofs.Listing.{gains_same}
+use Rattle.graphql_rule_definitions.proofs.Listing.{gains_same}
 use Rattle.graphql_variable_rules.specs.VariableFaults.{VariableBreaks}
 use Rattle.graphql_variable_rules.proofs.Under.{breaks_under}
 use Rattle.graphql_variable_rules.proofs.check.check_variables.Goals as goal

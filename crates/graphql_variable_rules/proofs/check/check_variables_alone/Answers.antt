@@ -8,7 +8,7 @@ use Rattle.graphql_rule_definitions.specs.Values.{Variables}
 use Rattle.graphql_value_rules.specs.in_fault_data.FaultView.{faults_of}
 use Rattle.graphql_value_rules.specs.in_fault_data.Adds.{Adds}
 use Rattle.graphql_value_rules.specs.Wanting.{variables_of}
-use Rattle.graphql_use_rules.proofs.Listing.{gains_same}
+use Rattle.graphql_rule_definitions.proofs.Listing.{gains_same}
 use Rattle.graphql_reach.specs.Reach.{reached_members, reached_fragments_of}
 use Rattle.graphql_variable_rules.specs.UsedNames.{noted_names, with_used}
 use Rattle.graphql_variable_rules.specs.VariableFaults.{AloneBreaks}

@@ -12,7 +12,7 @@ use Rattle.graphql_rule_definitions.specs.Judged.{judged}
 use Rattle.graphql_value_rules.specs.in_fault_data.FaultView.{faults_of}
 use Rattle.graphql_value_rules.specs.in_fault_data.Adds.{Adds}
 use Rattle.graphql_value_rules.specs.Wanting.{wanted_type, variables_of}
-use Rattle.graphql_use_rules.proofs.Listing.{gains_same}
+use Rattle.graphql_rule_definitions.proofs.Listing.{gains_same}
 use Rattle.graphql_variable_rules.specs.VariableFaults.{DefaultBreaks}
 use Rattle.graphql_variable_rules.proofs.Told.{of_default}
 use Rattle.graphql_variable_rules.proofs.types.check_default.Goals as goal

@@ -7,7 +7,7 @@ use Rattle.graphql_value_rules.specs.in_schema.SchemaOf.{schema_tree}
 use Rattle.graphql_value_rules.specs.in_fault_data.FaultView.{faults_of}
 use Rattle.graphql_value_rules.specs.in_fault_data.Adds.{Adds}
 use Rattle.graphql_value_rules.specs.Wanting.{variables_of}
-use Rattle.graphql_use_rules.proofs.Listing.{gains_none, gains_more, mapped_more}
+use Rattle.graphql_rule_definitions.proofs.Listing.{gains_none, gains_more, mapped_more}
 use Rattle.graphql_variable_rules.specs.VariableFaults.{Defined, VariableBreaks}
 use Rattle.graphql_variable_rules.proofs.types.check_each_variable.Goals as goal
 

@@ -14,7 +14,7 @@ use Rattle.graphql_value_rules.specs.in_fault_data.FaultView.{faults_of}
 use Rattle.graphql_value_rules.specs.in_fault_data.Adds.{Adds}
 use Rattle.graphql_value_rules.specs.Wanting.{variables_of}
 use Rattle.graphql_use_rules.specs.Trees.{directives_of}
-use Rattle.graphql_use_rules.proofs.Listing.{gains_both, gains_list}
+use Rattle.graphql_rule_definitions.proofs.Listing.{gains_both, gains_list}
 use Rattle.graphql_variable_rules.specs.VariableFaults.{undefined_definition, variable_input_type}
 use Rattle.graphql_variable_rules.proofs.Told.{lists_undefined, lists_input_type}
 use Rattle.graphql_variable_rules.proofs.types.check_variable.Goals as goal

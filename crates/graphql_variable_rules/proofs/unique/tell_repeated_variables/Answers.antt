@@ -7,7 +7,7 @@ use Rattle.graphql_value_rules.specs.in_fault_data.FaultView.{faults_of}
 use Rattle.graphql_value_rules.specs.Firsts.{first_told}
 use Rattle.graphql_value_rules.specs.Wanting.{variables_of}
 use Rattle.graphql_value_rules.proofs.Noted.{noted_next}
-use Rattle.graphql_use_rules.proofs.Listing.{places_more}
+use Rattle.graphql_rule_definitions.proofs.Listing.{places_more}
 use Rattle.graphql_variable_rules.specs.VariableFaults.{repeated_variable}
 use Rattle.graphql_variable_rules.proofs.Told.{variable_again_is}
 use Rattle.graphql_variable_rules.proofs.unique.tell_repeated_variables.Goals as goal

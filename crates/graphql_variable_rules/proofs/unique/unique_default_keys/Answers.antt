@@ -6,7 +6,7 @@ use Rattle.graphql_operations.specs.declared.operation.VariableDefinition.{Varia
 use Rattle.graphql_rule_definitions.specs.Values.{UniqueInputValueIn}
 use Rattle.graphql_value_rules.specs.in_fault_data.FaultView.{faults_of}
 use Rattle.graphql_value_rules.specs.in_fault_data.Adds.{Adds}
-use Rattle.graphql_use_rules.proofs.Listing.{gains_same}
+use Rattle.graphql_rule_definitions.proofs.Listing.{gains_same}
 use Rattle.graphql_variable_rules.specs.VariableFaults.{DefaultKeyBreaks}
 use Rattle.graphql_variable_rules.proofs.Told.{of_default}
 use Rattle.graphql_variable_rules.proofs.unique.unique_default_keys.Goals as goal

@@ -6,7 +6,7 @@ use Rattle.graphql_rule_definitions.specs.Words.{AtSomeIndex}
 use Rattle.graphql_value_rules.specs.in_fault_data.FaultView.{faults_of}
 use Rattle.graphql_value_rules.specs.in_fault_data.Adds.{Adds}
 use Rattle.graphql_value_rules.specs.Wanting.{variables_of}
-use Rattle.graphql_use_rules.proofs.Listing.{gains_none, gains_more, gains_list, mapped_more}
+use Rattle.graphql_rule_definitions.proofs.Listing.{gains_none, gains_more, gains_list, mapped_more}
 use Rattle.graphql_variable_rules.specs.UsedNames.{noted_names}
 use Rattle.graphql_variable_rules.specs.VariableFaults.{Defined, UnusedAmong}
 use Rattle.graphql_variable_rules.proofs.unused.tell_unused_variables.Goals as goal

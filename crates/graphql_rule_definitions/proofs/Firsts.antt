@@ -2,7 +2,7 @@
 use Rattle.std.proofs.Common.{◌≡◌, ℕ, ◌<◌, ◌↔◌, Bool, true, false, cond, List, [], ◌∷◌, take, length, refl, sym, ap, subst, ◌∙◌, Option, None, Some, zero, suc, slice_get, find, bytes_eq, arith, true≢false, is_some}
 use Rattle.std.proofs.lemmas.Slice.Eq.{bytes_eq-Decides}
 use Rattle.std.proofs.lemmas.Option.{same_Some}
-use Rattle.graphql_value_rules.specs.in_rule_definitions.Words.{Present, Lacks, IsFirst, FirstNamed}
+use Rattle.graphql_rule_definitions.specs.Words.{Present, Lacks, IsFirst, FirstNamed}
 
 no_some : {X A : Type 0} (x : X) → None ≡ Some x → A
 no_some x e = absurd (true≢false (sym (ap is_some e)))

@@ -3,12 +3,13 @@ use Rattle.std.proofs.Common.{◌≡◌, ℕ, ◌+◌, ◌<◌, ◌⊎◌, ◌�
 use Rattle.std.specs.List.{flat_map}
 use Rattle.std.specs.Option.{option_map_or}
 use Rattle.std.proofs.lemmas.Bool.{eqb-true}
+use Rattle.std.proofs.lemmas.Option.{same_Some}
 use Rattle.std.proofs.lemmas.List.{append-nil, map-append, take_more}
 use Rattle.std.proofs.lemmas.List.Elements.{Contains-append_left, Contains-append_right, Contains-append_cases}
 use Rattle.graphql_components.specs.Lists.{each_place_after, each_place}
 use Rattle.graphql_components.proofs.Places.{each_place-push}
-use Rattle.graphql_value_rules.proofs.in_rule_definitions.Lists.{not_in_nil, only, is_only}
-use Rattle.graphql_value_rules.specs.in_rule_definitions.Words.{Present, AtSomeIndex}
+use Rattle.graphql_cycles.proofs.Lists.{not_in_nil, only, is_only}
+use Rattle.graphql_rule_definitions.specs.Words.{Present, AtSomeIndex}
 
 -- x stands at an index, or behind the others
 module _ {X : Type 0} where
@@ -30,6 +31,10 @@ module _ {X : Type 0} where
       back : (i : ℕ) (z : X) → slice_get (x ∷ ys) i ≡ Some z → R i z → (AtSomeIndex ys (λ i. R (suc i)) ⊎ R (suc (length ys)) y → AtSomeIndex (ys ++ y ∷ []) (λ i. R (suc i))) → AtSomeIndex (x ∷ (ys ++ y ∷ [])) R
       back zero z e r rest = (0, (z, (e, r)))
       back (suc i) z e r rest = let q = rest (inl (i, (z, (e, r)))) in (suc q.0, q.1)
+
+-- what is there, if it is known
+pub present_known : {X : Type 0} (o : Option X) (x : X) (P : X → Type 0) → o ≡ Some x → P x ↔ Present o P
+present_known o x P e = (λ p. (x, (e, p)), λ h. subst P (sym (same_Some x h.0 (sym e ∙ h.1.0))) h.1.1)
 
 -- an empty list, and what stands in it
 pub empty_is : {X : Type 0} (xs : List X) → (length xs == 0) ≡ true → xs ≡ []
