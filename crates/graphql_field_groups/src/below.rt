@@ -1,5 +1,5 @@
 //! The list that a selection set starts with, and the list below a group.
-ghost use Rattle.std.specs.Prelude.{◌≡◌, IfOk, OnOk};
+ghost use Rattle.std.specs.Prelude.{IfOk};
 ghost use Rattle.graphql_typed_selections.specs.TypedTree.{typed_set_tree};
 ghost use Rattle.graphql_meant_documents.specs.MeantTree.{meant_of_set};
 ghost use Rattle.graphql_field_selections.specs.Fields.{fields_of, meant_fragments};
