@@ -1,5 +1,5 @@
 -- What the rules of the program's arguments say of them, and of what clap reads.
-use Rattle.std.proofs.Common.{ℕ, zero, suc, ◌≡◌, ◌∙◌, ◌<◌, ◌≤◌, ◌&&◌, Bool, true, false, not, refl, sym, ap, subst, List, [], ◌∷◌, map, length, Option, Some, None, is_some, inl, inr, codes, arith, true≢false, rules}
+use Rattle.std.proofs.Common.{ℕ, zero, suc, ◌≡◌, ◌∙◌, ◌<◌, ◌≤◌, ◌&&◌, Bool, true, false, not, refl, sym, ap, subst, List, [], ◌∷◌, map, length, Option, Some, None, is_some, inl, inr, codes, arith}
 use Rattle.std.specs.Prelude.{option_map, slice_get, unwrap_or}
 use Rattle.std.specs.List.{All, list_all, slice_index_or}
 use Rattle.std.specs.Str.{bytes_eq}
@@ -25,7 +25,7 @@ use Rattle.clap.specs.declared.builder.value_parser.ValueParser.TheVariants.{Uns
 use Rattle.clap.specs.declared.parser.matches.MatchedArg.{MatchedArg}
 use Rattle.clap.specs.declared.parser.matches.ArgMatches.{ArgMatches}
 use Rattle.clap.proofs.WalkLemmas.{both}
-use Rattle.clap.proofs.SimpleLemmas.{is_nil, is_false, plain_fields, ready_simple, simple_groups, all_simple}
+use Rattle.clap.proofs.SimpleLemmas.{is_nil, is_false, ready_simple, simple_groups, all_simple}
 use Rattle.clap.proofs.CallerLemmas.{entry_by_id, required_has_value, same_rules_by_id}
 use Rattle.graphql_settings.specs.Program.{document_rule, nesting_rule, schemas_rule, program}
 
@@ -81,6 +81,17 @@ only_nesting names (suc zero) r lt e = refl
 only_nesting names (suc (suc zero)) r lt e = cc
 only_nesting names (suc (suc (suc zero))) r lt e = cc
 only_nesting names (suc (suc (suc (suc j)))) r lt e = absurd (omega arith)
+
+no_help : codes "nesting" ≡ codes "help" → ⊥
+no_help e = cc
+
+no_version : codes "nesting" ≡ codes "version" → ⊥
+no_version e =
+    let first : ◌≡◌ {A = ℕ} 110 118 = ap (λ (t : List ℕ). slice_index_or t 0 0) e in
+    absurd (omega arith)
+
+no_empty : codes "nesting" ≡ [] → ⊥
+no_empty e = cc
 
 module _ (c : Command) (names : ValueParser) (is : app_of c ≡ program names) where
   rules_are : map rule_of (args_of c) ≡ (program names).top.rules
@@ -144,8 +155,8 @@ module _ (c : Command) (names : ValueParser) (is : app_of c ≡ program names) w
       (λ j e under same. only_nesting names j (rule_of e) (rw (← four) under)
       (subst (λ (x : Rule). bytes_eq x.id (codes "nesting") ≡ true) (rule_at j e) (subst (λ (x : List ℕ). bytes_eq (slice_index_or (args_of c) j e).id.now x ≡ true) id same)))
       (λ auto. elim auto [
-        | inl h ↦ let bad : codes "nesting" ≡ codes "help" = sym id ∙ h in cc
-        | inr h ↦ let bad : codes "nesting" ≡ codes "version" = sym id ∙ h in cc
+        | inl h ↦ no_help (sym id ∙ h)
+        | inr h ↦ no_version (sym id ∙ h)
       ])
       pass.0 pass.1 pass.2 pass.3 (subst (λ (x : List ℕ). bytes_eq pass.1.id.now x ≡ true) (sym id) pass.4.0) in
       let is_range : parser_of pass.1 ≡ Unsigned 1 1000 = ap parser_of_value (s.parser (Unsigned 1 1000) (ap (λ (x : Rule). x.parser) at)) in
@@ -161,8 +172,8 @@ module _ (c : Command) (names : ValueParser) (is : app_of c ≡ program names) w
       (λ j e under same. only_nesting names j (rule_of e) (rw (← four) under)
       (subst (λ (x : Rule). bytes_eq x.id (codes "nesting") ≡ true) (rule_at j e) (subst (λ (x : List ℕ). bytes_eq (slice_index_or (args_of c) j e).id.now x ≡ true) id same)))
       (λ auto. elim auto [
-        | inl h ↦ let bad : codes "nesting" ≡ codes "help" = sym id ∙ h in cc
-        | inr h ↦ let bad : codes "nesting" ≡ codes "version" = sym id ∙ h in cc
+        | inl h ↦ no_help (sym id ∙ h)
+        | inr h ↦ no_version (sym id ∙ h)
       ])
       pass.0 pass.1 pass.2 pass.3 (subst (λ (x : List ℕ). bytes_eq pass.1.id.now x ≡ true) (sym id) pass.4.0) in
       let is_range : parser_of pass.1 ≡ Unsigned 1 1000 = ap parser_of_value (s.parser (Unsigned 1 1000) (ap (λ (x : Rule). x.parser) at)) in
@@ -179,7 +190,7 @@ module _ (c : Command) (names : ValueParser) (is : app_of c ≡ program names) w
       → option_map (λ v. read_as x.reading v.now) (slice_get x.vals.items 0) ≡ Some t → IsUnsignedIn 1 1000 t
   entry_accepted m p e x t same key pass text =
       let no_group : e.1.is_group ≡ true → ⊥ = λ g. elim (pass.3 g) [
-        | inl empty ↦ let bad : codes "nesting" ≡ [] = sym key ∙ empty in cc
+        | inl empty ↦ no_empty (sym key ∙ empty)
         | inr has ↦
             let bad : 0 < 0 = subst (λ (gs : List ArgGroup). 0 < length gs) (p.from.plain plain).1 has in
             absurd (omega arith)

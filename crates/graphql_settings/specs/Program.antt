@@ -1,5 +1,5 @@
 -- The program's arguments, as clap reads them: [--indent LAYOUT] [--nesting N] DOCUMENT SCHEMA...
-use Rattle.std.specs.Prelude.{◌≡◌, ℕ, true, List, [], ◌∷◌, map, codes, Some, None}
+use Rattle.std.specs.Prelude.{◌≡◌, true, [], ◌∷◌, map, codes, Some}
 use Rattle.clap.specs.Lexer.{usize_max}
 use Rattle.clap.specs.Words.{App, Rule, new_app, new_rule, with_rule}
 use Rattle.clap.specs.declared.builder.action.ArgAction.TheVariants.{Set}

@@ -1,5 +1,5 @@
 -- Settings, by what clap reads of the words.
-use Rattle.std.specs.Prelude.{◌≡◌, ◌⊎◌, ℕ, List, [], ◌∷◌, map, codes, string_bytes, Option, Some, None, MatchOption, Result, IfOk, if◌then◌else◌, option_map, unwrap_or}
+use Rattle.std.specs.Prelude.{◌≡◌, ◌⊎◌, ℕ, List, [], map, codes, string_bytes, Option, Some, None, MatchOption, Result, IfOk, if◌then◌else◌, option_map, unwrap_or}
 use Rattle.std.specs.Str.{bytes_eq}
 use Rattle.std.specs.Str.Parse.{digits_value, without_leading_plus}
 use Rattle.clap.specs.Words.{FailsBy, IsUnsignedIn, Row, all_of, fault_of, first_of, first_value, matched_of, matches_of, one_of, one_text, raw_values}

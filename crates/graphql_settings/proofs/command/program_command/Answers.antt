@@ -1,8 +1,8 @@
 -- Each argument is added with its rule, since none is global.
-use Rattle.std.proofs.Common.{◌∙◌, ◌≡◌, ap, ap₂, codes, refl, rules}
+use Rattle.std.proofs.Common.{◌∙◌, ◌≡◌, ap₂, codes, refl, rules}
 use Rattle.std.proofs.lemmas.Result.{IfOk-weaker}
-use Rattle.clap.specs.Words.{App, Rule, app_of, new_app, rule_of, with_rule}
-use Rattle.graphql_settings.specs.Program.{layout_rule, nesting_rule, document_rule, schemas_rule, program}
+use Rattle.clap.specs.Words.{app_of, new_app, rule_of, with_rule}
+use Rattle.graphql_settings.specs.Program.{layout_rule, nesting_rule, document_rule, schemas_rule}
 use Rattle.graphql_settings.proofs.Arguments.{local_arg}
 use Rattle.graphql_settings.proofs.command.program_command.Goals as goal
 

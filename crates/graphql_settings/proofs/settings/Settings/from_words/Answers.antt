@@ -1,5 +1,5 @@
 -- The command is the program's, so its matches are those of the words, with a value for each argument that has to be there.
-use Rattle.std.proofs.Common.{◌∙◌, ◌≡◌, ap, map, refl, rules, sym, true, inl, string_bytes}
+use Rattle.std.proofs.Common.{◌∙◌, ◌≡◌, ap, map, sym, string_bytes}
 use Rattle.clap.specs.Words.{App, app_of, fault_of, is_simple, is_simple_and_free, found_of, matches_of}
 use Rattle.graphql_settings.specs.Program.{program}
 use Rattle.graphql_settings.specs.Read.{IsReadOf}
@@ -21,8 +21,7 @@ returns-clause-read c =
     let m = c.in_ok-matches.matches in
     let p = c.in_ok-matches.ensures.parsed in
     let words = map string_bytes c.args.words.now in
-    let rows = (c.in_ok-matches.ensures.matches (ap is_simple is)).0 in
-    (
+    let rows = (c.in_ok-matches.ensures.matches (ap is_simple is)).0 in (
       names,
       c.in_ok-program_command.ensures.1,
       sym (ap (λ (a : App). fault_of a words) is) ∙ c.in_ok-matches.ensures.kinds (ap is_simple_and_free is),
