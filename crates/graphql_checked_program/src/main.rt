@@ -1,43 +1,31 @@
 //! Checks the document and the schema texts in the files that it is given, and writes what it finds.
 //!
-//! Its words are `DOCUMENT SCHEMA...`. The library does the work: this file reads the words, opens the
-//! files, and tells of faults.
+//! Its words are `[--indent line|two|four|tab] [--nesting N] DOCUMENT SCHEMA...`. The libraries read them and do
+//! the work: this file opens the files, and tells of faults.
 #![tactic(auto)]
 
-ghost use Rattle.std.specs.Prelude.{◌≡◌, false, IfOk};
+ghost use Rattle.std.specs.Prelude.{◌≡◌, ◌≢◌, false, IfOk};
+ghost use Rattle.clap.specs.Words.{kind_of};
 ghost use Rattle.graphql_names.specs.Device.{device_failed};
-ghost use Rattle.graphql_checked.specs.ExitStatus.{status_of};
+ghost use Rattle.graphql_answers.specs.ExitStatus.{status_of};
 
-use graphql_checked::{Layout, Limits, Outcome, RunFault, exit_status, run};
+use clap::Error;
+use clap::error::ErrorKind;
+use graphql_checked::{Limits, Outcome, RunFault, Settings, exit_status, run};
 use graphql_names::Device;
 use std::fs::File;
 use std::io;
 use std::process::ExitCode;
 
-/// How many brackets may be open at once.
-const NESTING: usize = 500;
-
-/// The status where the words name no document and schemas.
+/// The status where the words are wrong.
 const WRONG_WORDS: u8 = 2;
 
-/// The words after the program's name; none where one of them is not UTF-8.
-fn words(rt: &HostRuntime) -> Result<Vec<String>, RunFault> {
+/// The words, the program's name first; none where one of them is not UTF-8.
+fn words(rt: &HostRuntime) -> Result<Option<Vec<String>>, RunFault> {
     match std::env::args(rt) {
-        Ok(args) => Ok(args.skip(1).collect(rt.alloc())?),
+        Ok(args) => Ok(Some(args.collect(rt.alloc())?)),
         Err(error) if error.kind() == io::ErrorKind::OutOfMemory => Err(RunFault::Memory),
-        Err(_) => Ok(Vec::new(rt.alloc())),
-    }
-}
-
-/// The paths of the document and of the schemas. None where the words are fewer than two, or one begins
-/// with `--`.
-fn paths(words: &[String]) -> Option<(&String, &[String])> {
-    if words.iter().any(|word| word.starts_with("--")) {
-        return None;
-    }
-    match words.split_first() {
-        Some((document, schemas)) if !schemas.is_empty() => Some((document, schemas)),
-        _ => None,
+        Err(_) => Ok(None),
     }
 }
 
@@ -53,21 +41,23 @@ fn open(rt: &HostRuntime, path: &str, number: usize) -> Result<Device<File>, Run
 }
 
 /// Opens the files, the schemas first and in order, and then runs over them, onto standard output.
-fn run_files(rt: &HostRuntime, document: &str, schemas: &[String]) -> Result<Outcome, RunFault> {
+fn run_files(rt: &HostRuntime, settings: &Settings) -> Result<Outcome, RunFault> {
     let mut readers = Vec::new(rt.alloc());
-    for path in schemas {
+    for path in &settings.schemas {
         readers.push(open(rt, path, readers.len().saturating_add(1))?)?;
     }
     let number = readers.len().saturating_add(1);
-    let mut document = open(rt, document, number)?;
+    let mut document = open(rt, &settings.document, number)?;
     let mut out = Device::new(rt.stdout());
-    let limits = Limits { nesting: NESTING };
+    let limits = Limits {
+        nesting: settings.nesting,
+    };
     run(
         rt.alloc(),
         &mut readers,
         &mut document,
         limits,
-        Layout::OneLine,
+        settings.layout,
         &mut out,
     )
 }
@@ -82,21 +72,40 @@ fn told(rt: &impl Eprint, answer: Result<Outcome, RunFault>) -> u8
     exit_status(&answer)
 }
 
-/// Runs over the files that the words name, and gives the status. Where the words are wrong, it tells how
-/// they are to be.
+/// Tells why there are no settings, and gives the status. The help goes to standard output, as it was asked for.
+fn told_of_words(rt: &HostRuntime, error: &Error) -> u8
+    ensures memory { kind_of error.now ≡ ErrorKind.OutOfMemory → result ≡ 4 }
+    ensures mistake { kind_of error.now ≢ ErrorKind.OutOfMemory → kind_of error.now ≢ ErrorKind.DisplayHelp
+        → kind_of error.now ≢ ErrorKind.DisplayVersion → result ≡ 2 }
+{
+    if error.kind() == ErrorKind::OutOfMemory {
+        return told(rt, Err(RunFault::Memory));
+    }
+    let printed = error.print(rt);
+    if error.use_stderr() {
+        return WRONG_WORDS;
+    }
+    match printed {
+        Ok(()) => 0,
+        Err(_) => told(rt, Err(RunFault::Writer(0))),
+    }
+}
+
+/// Runs over the files that the words name, and gives the status.
 fn status(rt: &HostRuntime, words: &[String]) -> u8 {
-    match paths(words) {
-        Some((document, schemas)) => told(rt, run_files(rt, document, schemas)),
-        None => {
-            let _ = eprintln!(rt; "usage: graphql-checked DOCUMENT SCHEMA...");
-            WRONG_WORDS
-        }
+    match Settings::from_words(rt.alloc(), words) {
+        Ok(settings) => told(rt, run_files(rt, &settings)),
+        Err(error) => told_of_words(rt, &error),
     }
 }
 
 fn main(rt: HostRuntime) -> ExitCode {
     let status = match words(&rt) {
-        Ok(words) => status(&rt, &words),
+        Ok(Some(words)) => status(&rt, &words),
+        Ok(None) => {
+            let _ = eprintln!(rt; "error: a word is not UTF-8");
+            WRONG_WORDS
+        }
         Err(fault) => told(&rt, Err(fault)),
     };
     ExitCode::from(status)
