@@ -1,1 +1,2 @@
 pub mod ReadDevices
+pub mod Ordering

@@ -1,3 +1,4 @@
 pub mod Devices
+pub mod Order
 pub mod ReadFaults
 pub mod ExitStatus

@@ -6,6 +6,7 @@
 //! Begin with `specs/Devices.antt`.
 #![tactic(auto)]
 
+mod order;
 mod read_device;
 mod run_fault;
 mod status;
