@@ -5,7 +5,7 @@ use Rattle.std.specs.List.Sorted.{IsPermutation, IsSortedBy, IsStableBy, ties}
 use Rattle.std.proofs.lemmas.List.{get_or-map, length-map}
 use Rattle.std.proofs.lemmas.List.Sorted.{IsPermutation-map}
 use Rattle.graphql_names.specs.Placed.{Place}
-use Rattle.graphql_answers.specs.Order.{InOrder, stands_before}
+use Rattle.graphql_verdict.specs.Order.{InOrder, stands_before}
 
 module _ {X Y : Type 0} (f : X → Y) where
   -- what f gives is sorted as what it is given

@@ -1,4 +1,3 @@
 pub mod Devices
-pub mod Order
 pub mod ReadFaults
 pub mod ExitStatus

@@ -1,14 +1,14 @@
 //! What is told, in the order of places.
 
 ghost use Rattle.std.specs.Prelude.{◌≡◌, IfOk, map};
-ghost use Rattle.graphql_answers.specs.Order.{InOrder, position_of};
+ghost use Rattle.graphql_verdict.specs.Order.{InOrder, position_of};
 
 use graphql_names::{FileId, SourceSpan};
 use std::alloc::{AllocError, Global};
 
 /// What is told, in the order of texts and of offsets in them. What has no place, or one in what is built in, comes first; of
 /// what stands at one place, what was told first.
-pub(crate) fn in_order<T>(
+pub fn in_order<T>(
     alloc: Global,
     told: &[(Option<SourceSpan>, T)],
 ) -> Result<Vec<&(Option<SourceSpan>, T)>, AllocError>

@@ -1,6 +1,6 @@
 use Rattle.std.proofs.Common.{map, rules, subst}
 use Rattle.std.proofs.lemmas.List.Sorted.{answers_always}
-use Rattle.graphql_answers.specs.Order.{InOrder, position_of}
+use Rattle.graphql_verdict.specs.Order.{InOrder, position_of}
 use Rattle.graphql_answers.proofs.Ordering.{InOrder-map, sorted_references}
 use Rattle.graphql_answers.proofs.order.in_order.Goals as goal
 
