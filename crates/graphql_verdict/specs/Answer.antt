@@ -68,25 +68,24 @@ fault_line fault = place_text fault.place ++ codes ": " ++ details_message fault
 
 -- ---- written texts
 
-module _ (terms : Terms) (layout : Layout) where
-  -- the written schema of texts
-  abbrev pub WritesSchema : List Text → List ℕ → Type 0
-  WritesSchema schemas bytes = (trees : List Tree) × (ReadsAll terms.first_text schemas trees × (bytes ≡ layout_text layout (Out terms trees)))
+-- the written schema of texts
+abbrev pub WritesSchema : Terms → Layout → List Text → List ℕ → Type 0
+WritesSchema terms layout schemas bytes = (trees : List Tree) × (ReadsAll terms.first_text schemas trees × (bytes ≡ layout_text layout (Out terms trees)))
 
-  -- the written document behind schema texts
-  abbrev pub WritesDocument : List Text → Text → List ℕ → Type 0
-  WritesDocument schemas document bytes = (tree : Tree) × (ReadsText (document_number terms schemas) document tree × (bytes ≡ layout_text layout (OutDoc tree)))
+-- the written document of a text with this number
+abbrev pub WritesDocument : Layout → ℕ → Text → List ℕ → Type 0
+WritesDocument layout number document bytes = (tree : Tree) × (ReadsText number document tree × (bytes ≡ layout_text layout (OutDoc tree)))
 
-  -- ---- the bytes of an answer
+-- ---- the bytes of an answer
 
-  -- `accepted` and the written texts, each ending with a line feed
-  pub record AcceptedBytes (schemas : List Text) (document : Text) (bytes : List ℕ) : Type 0 where
-    pub accepted : IsAccepted terms schemas document
-    pub written_schema : List ℕ
-    pub written_document : List ℕ
-    pub writes_schema : WritesSchema schemas written_schema
-    pub writes_document : WritesDocument schemas document written_document
-    pub is : bytes ≡ codes "accepted\n" ++ as_lines layout written_schema ++ as_lines layout written_document
+-- `accepted` and the written texts, each ending with a line feed
+pub record AcceptedBytes (terms : Terms) (layout : Layout) (schemas : List Text) (document : Text) (bytes : List ℕ) : Type 0 where
+  pub accepted : IsAccepted terms schemas document
+  pub written_schema : List ℕ
+  pub written_document : List ℕ
+  pub writes_schema : WritesSchema terms layout schemas written_schema
+  pub writes_document : WritesDocument layout (document_number terms schemas) document written_document
+  pub is : bytes ≡ codes "accepted\n" ++ as_lines layout written_schema ++ as_lines layout written_document
 
 -- `refused` and a line for each fault
 pub record RefusedBytes (terms : Terms) (schemas : List Text) (document : Text) (bytes : List ℕ) : Type 0 where
