@@ -1,0 +1,5 @@
+pub mod Deciding
+pub mod Adding
+pub mod TextsReading
+pub mod Refusing
+pub mod Finishing
