@@ -2,4 +2,5 @@ pub mod Deciding
 pub mod Adding
 pub mod TextsReading
 pub mod Refusing
+pub mod Filling
 pub mod Finishing
