@@ -1,88 +1,150 @@
--- What the texts of a checker come to.
-use Rattle.std.proofs.Common.{inl, inr, ◌≡◌, ◌≢◌, ℕ, ◌+◌, ◌<◌, ◌^◌, arith, List, [], ◌++◌, Option, None, Some, refl, sym, ◌∙◌, subst}
-use Rattle.std.specs.Prelude.{Contains, ◌↔◌}
-use Rattle.std.proofs.Math.Nat.{lt_irrefl}
-use Rattle.graphql_names.specs.declared.span.FileId.{FileId}
-use Rattle.graphql_definitions.specs.DefinitionTree.{document_tree}
-use Rattle.graphql_thin.specs.Fold.{built_in_definitions, definition_list}
-use Rattle.graphql_thin.specs.Faults.{Fault, FoldingFails, SchemaFails}
-use Rattle.graphql_thin.specs.FaultView.{faults_of}
-use Rattle.graphql_thin.specs.SchemaView.{IsSchemaOf}
-use Rattle.graphql_checked.specs.Added.{AreDefinitionsOf, AreKept, IsNextNumber, IsDocumentNumber}
-use Rattle.graphql_checked.specs.TextsView.{texts_of, IsReadingOf}
-use Rattle.graphql_checked.specs.Judge.{AreRead}
-use Rattle.graphql_checked.specs.Answer.{AllWithinBounds, UnreadFaults}
-use Rattle.graphql_checked.specs.Accepted.{IsAcceptedSchema}
+-- What schema texts come to.
+use Rattle.std.proofs.Common.{inl, inr, ◌≡◌, ◌≢◌, ◌⊎◌, ℕ, List, [], ◌∷◌, Contains, refl, sym, ap, ◌∙◌, subst}
+use Rattle.graphql_names.specs.Placed.{Place}
+use Rattle.graphql_schema_types.specs.SchemaTree.{SchemaTree}
+use Rattle.graphql_built_in.specs.Table.{built_in_definitions}
+use Rattle.graphql_folding.specs.BuildErrors as folding
+use Rattle.graphql_folding.specs.BuildErrors.{FoldingRules}
+use Rattle.graphql_folding.specs.Fold.{fold}
+use Rattle.graphql_schema_building.specs.BuilderValue.{BuilderValue}
+use Rattle.graphql_schema_building.specs.Building.{plain_settings, counted, folded, FailsIn}
+use Rattle.graphql_schema_building.specs.Numbers.{HaveNumbers}
+use Rattle.graphql_schema_types.specs.Out.{written}
+use Rattle.graphql_rule_definitions.specs.Judged as rules
+use Rattle.graphql_rule_definitions.specs.Kept.{validated}
+use Rattle.graphql_rule_definitions.specs.Rules.{SchemaRules, RulesFail, BoundFails}
+use Rattle.graphql_rule_definitions.specs.Told.{PlacedFault}
+use Rattle.graphql_faults.specs.DetailsTree.{of_rule}
+use Rattle.graphql_verdict.specs.Texts.{Text, Tree, Terms, ReadsAll, document_number, AreRead}
+use Rattle.graphql_verdict.specs.Judge.{definitions_of, schema_of}
+use Rattle.graphql_verdict.specs.Says.{Fault, of_folding, spent, FoldingFails, SchemaFails}
+use Rattle.graphql_verdict.specs.Answer.{UnreadFaults, RefusesSchemas}
+use Rattle.graphql_checked.specs.Added.{IsNextNumber, AreAdded}
+use Rattle.graphql_checked.specs.CheckerValue.{IsCheckedSchemaOf}
+use Rattle.graphql_checked.specs.Finishing.{IsFilled, RefusesFolding, RefusesSchemaRules, IsJudgedSchema, RefusesBuilder, RefusalOfNumbers, RefusalOfBuilder}
 use Rattle.graphql_checked.specs.Refusals.{RefusalOfSchemas}
-use Rattle.graphql_thin.specs.declared.faults.DiagnosticList.{DiagnosticList}
-use Rattle.graphql_checked.specs.declared.refusal.Refusal.TheVariants.{Faults, NotYet}
-use Rattle.graphql_thin.specs.declared.schema.Schema.{Schema}
-use Rattle.graphql_checked.specs.declared.schema_texts.SchemaTexts.{SchemaTexts}
-use Rattle.graphql_checked.proofs.Adding.{read_unread, within_read}
-use Rattle.graphql_thin.proofs.Places.{not_in_nil}
-use Rattle.graphql_checked.proofs.Deciding.{all_unique}
-use Rattle.graphql_checked.proofs.Saying.{unread_schemas}
+use Rattle.graphql_checked.specs.declared.refusal.Refusal.{Refusal}
+use Rattle.graphql_checked.specs.declared.refusal.Refusal.TheVariants.{Faults, Memory, Failed}
+use Rattle.graphql_faults.specs.DetailsView.{diagnostics_of}
+use Rattle.graphql_components.proofs.Places.{not_in_nil, Contains-cons}
+use Rattle.graphql_checked.proofs.Deciding.{no_member, one_list, are_read, are_within, no_unread, read_unread, says_unread}
 
--- the next number, and that it is spent
-pub number_left : (texts : List (List ℕ)) (number : ℕ) (file : FileId) → IsNextNumber texts number → file.0 ≡ number → number + 1 < 2 ^ 64 → IsDocumentNumber texts (Some file)
-number_left texts number file (inl e) is left = (is ∙ e, λ passes. lt_irrefl (number + 1) (omega (arith, e, passes, left)))
-number_left texts number file (inr (spent, le)) is left = absurd (lt_irrefl (number + 1) (omega (arith, spent, left)))
+-- ---- a builder that has the definitions of the texts
 
-pub number_spent : (texts : List (List ℕ)) (number : ℕ) → IsNextNumber texts number → number + 1 ≡ 2 ^ 64 → IsDocumentNumber texts None
-number_spent texts number (inl e) spent = omega (arith, e, spent)
-number_spent texts number (inr (_, le)) spent = omega (arith, le, spent)
+counted_of : (b : BuilderValue) (ds : Tree) → b.settings ≡ plain_settings → b.texts ≡ ds → counted b ≡ ds
+counted_of b ds plain are = ap (λ s. counted (record b { settings = s })) plain ∙ are
 
--- an empty list has no member
-pub no_member : (xs : List Fault) (f : Fault) → xs ≡ [] → Contains xs f → ⊥
-no_member xs f e h = not_in_nil f (subst (λ l. Contains l f) e h)
+module _ (terms : Terms) (trees : List Tree) (b : BuilderValue) (filled : IsFilled terms.first_extension trees b) where
+  counts : counted b ≡ definitions_of trees
+  counts = counted_of b (definitions_of trees) filled.plain filled.are
 
--- nothing is there
-pub is_none : {X : Type 0} (o : Option X) → ((x : X) → o ≡ Some x → ⊥) → o ≡ None
-is_none None h = refl
-is_none (Some x) h = absurd (h x refl)
+  pub folds_to : folded b ≡ schema_of terms trees
+  folds_to = ap (λ n. fold built_in_definitions n (counted b)) filled.first ∙ ap (fold built_in_definitions terms.first_extension) counts
 
-module _ (s : SchemaTexts) (is : IsReadingOf (texts_of s) s) where
-  -- some text is not read
-  pub unread_refusal : faults_of s.unread ≢ [] → RefusalOfSchemas s.nesting (texts_of s) (Faults s.unread)
-  unread_refusal some = unread_schemas s.nesting (texts_of s) (faults_of s.unread) some is.unread
+  fails_so : (f : folding.Fault) → FailsIn b f → FoldingFails terms trees f
+  fails_so f h = subst (λ ds. folding.Fails built_in_definitions terms.first_extension ds f) counts (subst (λ n. folding.Fails built_in_definitions n (counted b) f) filled.first h)
 
-  module _ (silent : faults_of s.unread ≡ []) where
-    read : AreRead s.nesting 1 (texts_of s)
-    read = read_unread s.nesting 1 (texts_of s) (subst (UnreadFaults s.nesting 1 (texts_of s)) silent is.unread)
+  fails_here : (f : folding.Fault) → FoldingFails terms trees f → FailsIn b f
+  fails_here f h = subst (λ n. folding.Fails built_in_definitions n (counted b) f) (sym filled.first) (subst (λ ds. folding.Fails built_in_definitions terms.first_extension ds f) (sym counts) h)
 
-    -- some text is not thin
-    pub not_yet_refusal : (file : FileId) (offset : ℕ) → s.not_yet ≡ Some (file, offset) → RefusalOfSchemas s.nesting (texts_of s) (NotYet file offset)
-    not_yet_refusal file offset some = record { read = read; leaves = subst (AreKept (texts_of s) (document_tree s.document)) some (is.kept silent) }
+-- ---- refusals
 
-  module _ (none : s.not_yet ≡ None) (silent : faults_of s.unread ≡ []) (list : DiagnosticList)
-      (told : (f : Fault) → Contains (faults_of list) f ↔ SchemaFails (built_in_definitions ++ document_tree s.document) f) where
-    within : AllWithinBounds s.nesting 1 (texts_of s)
-    within = within_read s.nesting 1 (texts_of s) (read silent)
+-- some text is not read
+pub unread_refused : (terms : Terms) (texts : List Text) (faults : List Fault) → faults ≢ [] → UnreadFaults terms.nesting terms.first_text texts faults → RefusesSchemas terms texts faults
+unread_refused terms texts faults some unread = record {
+  some = some;
+  says = λ fault h. inl (says_unread terms.nesting terms.first_text texts faults unread fault h);
+  alone = inl unread;
+  full = λ within trees reads. absurd (some (no_unread terms.nesting terms.first_text texts faults (are_read terms.nesting terms.first_text texts trees reads within) unread));
+}
 
-    definitions : AreDefinitionsOf (texts_of s) (document_tree s.document)
-    definitions = subst (AreKept (texts_of s) (document_tree s.document)) none (is.kept silent)
+none_alone : spent ∷ [] ≢ []
+none_alone e = absurd cc
 
-    told_here : (f : Fault) → Contains (faults_of list) f ↔ SchemaFails (definition_list definitions.trees) f
-    told_here = subst (λ ds. (f : Fault) → Contains (faults_of list) f ↔ SchemaFails (built_in_definitions ++ ds) f) (sym definitions.are) told
+module _ (terms : Terms) (texts : List Text) (trees : List Tree) (read : AreRead terms.nesting terms.first_text texts) (reads : ReadsAll terms.first_text texts trees) where
+  -- what is said of the schema is said of the texts
+  says_schema : (faults : List Fault) → faults ≢ [] → ((fault : Fault) → Contains faults fault → SchemaFails terms trees fault)
+      → (faults ≡ spent ∷ []) ⊎ ((f : folding.Fault) → FoldingFails terms trees f → Contains faults (of_folding f)) → RefusesSchemas terms texts faults
+  says_schema faults some right full = record {
+    some = some;
+    says = λ fault h. inr (trees, (reads, right fault h));
+    alone = inr read;
+    full = λ within others reads'. subst (λ ts. (faults ≡ spent ∷ []) ⊎ ((f : folding.Fault) → FoldingFails terms ts f → Contains faults (of_folding f)))
+    (one_list terms.first_text texts trees others reads reads') full;
+  }
 
-    -- a rule is broken
-    pub built_refusal : faults_of list ≢ [] → RefusalOfSchemas s.nesting (texts_of s) (Faults list)
-    built_refusal some = record {
-      some = some;
-      says = λ f h. inr (definitions.trees, (definitions.read, (told_here f).0 h));
-      alone = inr (read silent);
-      full = λ bounds trees read f fails. (told_here f).1 (inl (subst (λ ts. FoldingFails (definition_list ts) f) (all_unique 1 (texts_of s) trees definitions.trees read definitions.read) fails));
-    }
+  -- no number is left for an extension
+  spent_refused : (faults : List Fault) → faults ≡ spent ∷ [] → (HaveNumbers terms.first_extension (definitions_of trees) → ⊥) → RefusesSchemas terms texts faults
+  spent_refused faults is none =
+      says_schema faults (subst (λ fs. fs ≢ []) (sym is) none_alone)
+      (λ fault h. inl (only_spent fault (subst (λ fs. Contains fs fault) is h), none)) (inl is)
+    where
+      only_spent : (fault : Fault) → Contains (spent ∷ []) fault → fault ≡ spent
+      only_spent fault h = elim (Contains-cons spent [] fault h) [ inl same ↦ sym same | inr other ↦ absurd (not_in_nil fault other) ]
+
+  pub numbers_refusal : (refusal : Refusal) → RefusalOfNumbers terms.first_extension trees refusal → RefusalOfSchemas terms texts refusal
+  numbers_refusal (Faults list) (is, none) = spent_refused (diagnostics_of list) is none
+  numbers_refusal Memory h = tt
+  numbers_refusal Failed h = h
+
+  module _ (b : BuilderValue) (filled : IsFilled terms.first_extension trees b) where
+    -- folding rules are broken
+    folding_refused : (faults : List Fault) → RefusesFolding b faults → RefusesSchemas terms texts faults
+    folding_refused faults refused = says_schema faults refused.some
+        (λ fault h. let told = refused.right fault h in inr (inl (told.0, (told.1.0, fails_so terms trees b filled told.0 told.1.1))))
+        (inr (λ f fails. refused.full f (fails_here terms trees b filled f fails)))
+
+    -- rules on schemas are broken
+    rule_fails : (fault : Fault) → (f : PlacedFault) × ((fault ≡ of_rule f) × (RulesFail (folded b) f ⊎ BoundFails (folded b) f)) → SchemaFails terms trees fault
+    rule_fails fault (f, (is, fails)) = inr (inr (f, (is, subst (λ s. RulesFail s f ⊎ BoundFails s f) (folds_to terms trees b filled) fails)))
+
+    rules_refused : (faults : List Fault) → FoldingRules built_in_definitions b.first (counted b) → RefusesSchemaRules (folded b) faults → RefusesSchemas terms texts faults
+    rules_refused faults folds refused = says_schema faults refused.some
+        (λ fault h. rule_fails fault (refused.right fault h))
+        (inr (λ f fails. absurd (folds f (fails_here terms trees b filled f fails))))
+
+    builder_refused : (faults : List Fault) → RefusesBuilder b faults → RefusesSchemas terms texts faults
+    builder_refused faults (inl folding) = folding_refused faults folding
+    builder_refused faults (inr (folds, rules)) = rules_refused faults folds rules
+
+    pub builder_refusal : (refusal : Refusal) → RefusalOfBuilder b refusal → RefusalOfSchemas terms texts refusal
+    builder_refusal (Faults list) h = builder_refused (diagnostics_of list) h
+    builder_refusal Memory h = tt
+    builder_refusal Failed h = h
 
     -- every rule holds
-    pub accepted : faults_of list ≡ [] → (schema : Schema) (number : Option FileId) → IsSchemaOf (built_in_definitions ++ document_tree s.document) schema → IsDocumentNumber (texts_of s) number
-        → IsAcceptedSchema s.nesting (texts_of s) number (document_tree s.document) schema
-    accepted no_fault schema number built next = record {
-      accepts = record {
-        judged = record { trees = definitions.trees; read = definitions.read; holds = λ f h. no_member (faults_of list) f no_fault ((told_here f).1 h) };
-        within = within;
+    pub accepted : (number : ℕ) (schema : SchemaTree Place) (out : Tree) → number ≡ document_number terms texts → IsJudgedSchema b schema out
+        → IsCheckedSchemaOf terms texts (record { nesting = terms.nesting; number = number; schema = schema; written = out })
+    accepted number schema out next judged = record {
+      accepted = record {
+        judged = record {
+          trees = trees;
+          read = reads;
+          folds = λ f fails. judged.folds f (fails_here terms trees b filled f fails);
+          holds = subst (λ s. SchemaRules (rules.judged s)) (folds_to terms trees b filled) judged.holds;
+        };
+        within = are_within terms.nesting terms.first_text texts read;
+        numbered = filled.numbered;
       };
-      are = definitions.are;
-      schema_is = subst (λ ds. IsSchemaOf (built_in_definitions ++ ds) schema) (sym definitions.are) built;
-      number_is = next;
+      nesting = refl;
+      number = next;
+      at_hand = judged.at_hand ∙ ap validated (folds_to terms trees b filled);
+      written = judged.written ∙ ap written (folds_to terms trees b filled);
     }
+
+-- ---- what a checker has read
+
+module _ (terms : Terms) (texts : List Text) (number : ℕ) (trees : List Tree) (faults : List Fault) (added : AreAdded terms texts number trees faults) where
+  pub unread_refusal : faults ≢ [] → RefusesSchemas terms texts faults
+  unread_refusal some = unread_refused terms texts faults some added.unread
+
+  module _ (silent : faults ≡ []) where
+    pub are_all_read : AreRead terms.nesting terms.first_text texts
+    are_all_read = read_unread terms.nesting terms.first_text texts (subst (UnreadFaults terms.nesting terms.first_text texts) silent added.unread)
+
+    pub number_behind : number ≡ document_number terms texts
+    number_behind = by added.next
+      where
+        by : IsNextNumber terms texts faults number → number ≡ document_number terms texts
+        by (inl e) = e
+        by (inr h) = absurd (h.1.1 silent)

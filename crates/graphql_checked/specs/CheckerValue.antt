@@ -1,18 +1,49 @@
--- What a contract sees of a checker, of a checked schema and of a checked document.
-use Rattle.std.specs.Prelude.{ℕ, Bool, List}
+-- What contracts see of a checker, of a checked schema and of a checked document.
+use Rattle.std.specs.Prelude.{◌≡◌, ℕ, Bool, List}
+use Rattle.graphql_names.specs.Placed.{Place}
+use Rattle.graphql_schema_types.specs.SchemaTree.{SchemaTree}
+use Rattle.graphql_typing.specs.OutDoc.{written_document}
+use Rattle.graphql_meant_documents.specs.MeantTree.{MeantDocument}
+use Rattle.graphql_verdict.specs.Texts.{Text, Tree, Terms, ReadsText, document_number}
+use Rattle.graphql_verdict.specs.Judge.{schema_of, schema_at_hand, document_over, AreSchemasAccepted, IsDocumentAccepted}
+use Rattle.graphql_verdict.specs.Out.{Out, OutDoc}
 
--- a checker: its nesting limit, the schema texts that it was given in order, and whether memory ran out
+-- a checker: its terms, the schema texts that it was given in order, and whether memory ran out
 pub record CheckerValue : Type 0 where
-  pub nesting : ℕ
-  pub texts : List (List ℕ)
+  pub terms : Terms
+  pub texts : List Text
   pub failed : Bool
 
--- a checked schema: the nesting limit, and its texts in order
+-- a checked schema: how many brackets may be open at once, the number of a document, the schema over which documents are
+-- judged, and what is written of the schema as it was built
 pub record CheckedSchemaValue : Type 0 where
   pub nesting : ℕ
-  pub texts : List (List ℕ)
+  pub number : ℕ
+  pub schema : SchemaTree Place
+  pub written : Tree
 
--- a checked document: its schema, and its text
+-- a checked document: its schema, its text, what it means over the schema, and what is written of it
 pub record CheckedDocumentValue : Type 0 where
   pub schema : CheckedSchemaValue
-  pub text : List ℕ
+  pub text : Text
+  pub document : MeantDocument Place
+
+-- The checked schema is that of these texts, which are accepted.
+pub record IsCheckedSchemaOf (terms : Terms) (schemas : List Text) (schema : CheckedSchemaValue) : Type 0 where
+  pub accepted : AreSchemasAccepted terms schemas
+  pub nesting : schema.nesting ≡ terms.nesting
+  pub number : schema.number ≡ document_number terms schemas
+  pub at_hand : schema.schema ≡ schema_at_hand terms accepted.judged.trees
+  pub written : schema.written ≡ Out terms accepted.judged.trees
+
+-- The document of this text is accepted over the checked schema, and this is what it means.
+pub record IsCheckedDocumentOf (schema : CheckedSchemaValue) (text : Text) (document : MeantDocument Place) : Type 0 where
+  pub accepted : IsDocumentAccepted schema.schema schema.nesting schema.number text
+  pub is : document ≡ document_over schema.schema accepted.judged.tree
+  pub written : written_document document ≡ OutDoc accepted.judged.tree
+
+-- The schema is that of some accepted texts.
+pub record IsOfAcceptedTexts (schema : CheckedSchemaValue) : Type 0 where
+  pub terms : Terms
+  pub schemas : List Text
+  pub is : IsCheckedSchemaOf terms schemas schema

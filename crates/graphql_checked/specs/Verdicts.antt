@@ -1,29 +1,27 @@
 -- What the verdict on whole texts says.
-use Rattle.std.specs.Prelude.{ℕ, List, ◌⊎◌, Result, Ok, Err}
-use Rattle.graphql_checked.specs.Judge.{NotYetSchema, NotYetDocument}
-use Rattle.graphql_checked.specs.Answer.{RefusesSchemas, RefusesDocument}
-use Rattle.graphql_thin.specs.FaultView.{faults_of}
-use Rattle.graphql_checked.specs.Refusals.{AreSchemasAccepted, IsAccepted}
+use Rattle.std.specs.Prelude.{ℕ, List, Result, Ok, Err}
+use Rattle.graphql_faults.specs.DetailsView.{diagnostics_of}
+use Rattle.graphql_verdict.specs.Texts.{Text, Terms}
+use Rattle.graphql_verdict.specs.Judge.{IsAccepted}
+use Rattle.graphql_verdict.specs.Answer.{Refuses}
 use Rattle.graphql_checked.specs.declared.refusal.Refusal.{Refusal}
 use Rattle.graphql_checked.specs.declared.refusal.Refusal.TheVariants as refusal
 use Rattle.graphql_checked.specs.declared.verdict.Verdict.{Verdict}
 use Rattle.graphql_checked.specs.declared.verdict.Verdict.TheVariants.{Accepted, Refused}
 use Rattle.graphql_checked.specs.declared.verdict.CheckError.{CheckError}
-use Rattle.graphql_checked.specs.declared.verdict.CheckError.TheVariants.{Memory, NotYet}
+use Rattle.graphql_checked.specs.declared.verdict.CheckError.TheVariants.{Memory}
+
+-- texts and extensions are counted from 1
+abbrev pub first_terms : ℕ → Terms
+first_terms nesting = record { nesting = nesting; first_text = 1; first_extension = 1 }
 
 -- The verdict is right.
-abbrev pub IsVerdict : ℕ → List (List ℕ) → List ℕ → Verdict → Type 0
-IsVerdict nesting schemas document Accepted = IsAccepted nesting schemas document
-IsVerdict nesting schemas document (Refused list) = RefusesSchemas nesting schemas (faults_of list) ⊎ RefusesDocument nesting schemas document (faults_of list)
-
--- There is a reason for no verdict.
-abbrev pub IsCheckError : ℕ → List (List ℕ) → List ℕ → CheckError → Type 0
-IsCheckError nesting schemas document Memory = Unit {0}
-IsCheckError nesting schemas document (NotYet file offset) = NotYetSchema nesting schemas file.0 offset ⊎ (AreSchemasAccepted nesting schemas × NotYetDocument nesting schemas document file.0 offset)
+abbrev pub IsVerdict : Terms → List Text → Text → Verdict → Type 0
+IsVerdict terms schemas document Accepted = IsAccepted terms schemas document
+IsVerdict terms schemas document (Refused list) = Refuses terms schemas document (diagnostics_of list)
 
 -- the verdict of a refusal, where a checker that has failed wants memory
 abbrev pub refusal_verdict : Refusal → Result Verdict CheckError
 refusal_verdict (refusal.Faults list) = Ok (Refused list)
-refusal_verdict (refusal.NotYet file offset) = Err (NotYet file offset)
 refusal_verdict refusal.Memory = Err Memory
 refusal_verdict refusal.Failed = Err Memory

@@ -1,71 +1,90 @@
 //! Schemas of which every rule holds.
 
-ghost use Rattle.std.specs.Prelude.{◌≡◌, Some, OnOk, IfOk, IfErr, string_bytes};
+ghost use Rattle.std.specs.Prelude.{◌≡◌, [], OnOk, IfOk, IfErr, string_bytes};
 ghost use Rattle.graphql_definitions.specs.DefinitionTree.{document_tree};
-ghost use Rattle.graphql_checked.specs.Added.{IsDocumentNumber};
-ghost use Rattle.graphql_checked.specs.Accepted.{IsReadBehind, IsUnreadBehind, TellsOnly};
-ghost use Rattle.graphql_checked.specs.Answer.{WritesSchema};
-ghost use Rattle.graphql_thin.specs.FaultView.{fault_of};
-ghost use Rattle.graphql_checked.specs.Layouts.{layout_text};
-ghost use Rattle.graphql_checked.specs.Refusals.{AreSchemasAccepted, IsAccepted, RefusalOfDocument};
+ghost use Rattle.graphql_faults.specs.DetailsView.{details_at, diagnostics_of};
+ghost use Rattle.graphql_schema.specs.SchemaOf.{schema_tree};
+ghost use Rattle.graphql_layouts.specs.Prefixes.{prefix_of};
+ghost use Rattle.graphql_typing.specs.DocumentView.{meant_document};
+ghost use Rattle.graphql_typed_operations.specs.TypedDocument.{typed_document_tree};
+ghost use Rattle.graphql_verdict.specs.Judge.{IsDocumentCertain};
+ghost use Rattle.graphql_verdict.specs.Out.{layout_text};
+ghost use Rattle.graphql_checked.specs.CheckerValue.{IsOfAcceptedTexts, IsCheckedDocumentOf};
+ghost use Rattle.graphql_document_rule_definitions.specs.Told.{IsValidDocument};
+ghost use Rattle.graphql_subscription_rules.specs.Told.{document_meant};
+ghost use Rattle.graphql_validation.specs.TellsDocument.{IsTypedUnder};
+ghost use Rattle.graphql_checked.specs.Refusals.{RefusalOfDocument};
+ghost use Rattle.graphql_checked.specs.Checking.{IsReadDocument, IsUnreadDocument, TellsOnly, TypesDocument, RefusalOfTyping, RefusalOfRules};
 ghost use Rattle.graphql_checked.specs.declared.refusal.Refusal.TheVariants.{Memory};
 
+use crate::build_errors::document_errors;
 use crate::checked_document::CheckedDocument;
-use crate::layout::{Layout, written};
+use crate::read_text::{Unread, read};
 use crate::refusal::Refusal;
 use graphql_definitions::Document;
+use graphql_faults::{Details, DiagnosticList};
+use graphql_layouts::{Layout, written};
 use graphql_names::{FileId, SourceSpan};
-use graphql_thin::{
-    Details, DiagnosticList, Schema, Unread, check_document, document_outside, read,
-};
+use graphql_schema::Schema;
+use graphql_typed_operations::ExecutableDocument;
+use graphql_typing::{BuilderRefusal, ExecutableDocumentBuilder};
+use graphql_validation::validate_executable_document;
 use std::alloc::{AllocError, Global};
 use std::marker::Model;
 
-/// A schema of texts that are accepted: they are read, every rule holds of them, and no bound is passed.
+/// A schema of texts that are accepted: they are read, every rule holds of them, and no bound of brackets or numbers is passed.
 #[derive(Drop)]
 pub struct CheckedSchema {
     pub(crate) alloc: Global,
     pub(crate) nesting: usize,
-    /// The number of a document behind the texts, if one is left for it.
-    pub(crate) number: Option<FileId>,
-    pub(crate) texts: Vec<String>,
-    /// The definitions of the texts, in order.
-    pub(crate) document: Document,
+    /// The number of a document behind the texts; `u64::MAX`, which no text gets, where none is left for it.
+    pub(crate) number: u64,
+    /// The schema as it is written: as it was built, before built-in scalars to which nothing refers were dropped. It shares
+    /// its nodes with the schema.
+    pub(crate) written: Document,
+    /// The schema over which documents are judged.
     pub(crate) schema: Schema,
 }
 
 impl Model for CheckedSchema {
-    ghost use Rattle.std.specs.Prelude.{map, string_bytes};
     ghost use Rattle.graphql_definitions.specs.DefinitionTree.{document_tree};
-    ghost use Rattle.graphql_checked.specs.CheckerValue.{CheckedSchemaValue};
-    ghost use Rattle.graphql_checked.specs.Accepted.{IsAcceptedSchema};
+    ghost use Rattle.graphql_schema.specs.SchemaOf.{schema_tree};
+    ghost use Rattle.graphql_checked.specs.CheckerValue.{CheckedSchemaValue, IsOfAcceptedTexts};
 
     ghost Value = { CheckedSchemaValue };
 
-    ghost view = { λ s. record { nesting = s.nesting; texts = map string_bytes s.texts.items } };
+    ghost view = { λ s. record { nesting = s.nesting; number = s.number; schema = schema_tree s.schema; written = document_tree s.written } };
 
-    ghost invariant = { λ s. IsAcceptedSchema s.nesting (map string_bytes s.texts.items) s.number (document_tree s.document) s.schema };
+    ghost invariant = { λ s. IsOfAcceptedTexts (record { nesting = s.nesting; number = s.number; schema = schema_tree s.schema; written = document_tree s.written }) };
 }
 
 impl CheckedSchema {
+    /// The schema over which documents are judged: without each built-in scalar to which no field, argument or input field
+    /// refers. Every rule of section 3 holds of it.
+    pub fn schema(&self) -> &Schema
+        ensures schema { schema_tree result.now ≡ self.now.schema }
+        ensures accepted { IsOfAcceptedTexts self.now }
+    {
+        &self.schema
+    }
+
     /// The document, if it is accepted over the schema: it is read, every rule holds of it, and no bound is
     /// passed. Its number is the one behind those of the schema texts. The schema stays as it is.
     ///
-    /// Otherwise it tells what is wrong: a fault, alone, where the text is not read; [`Refusal::NotYet`] where it is
-    /// outside the language that is judged so far; else each rule that is broken. It never answers
+    /// Otherwise it tells what is wrong: a fault, alone, where the text is not read; else each rule of typing that is broken;
+    /// where none is, the rules on documents that are; and where none is, the fields that do not merge. It never answers
     /// [`Refusal::Failed`].
     pub fn check(&self, text: &str) -> Result<CheckedDocument<'_>, Refusal>
-        ensures document { IfOk result (λ d. d ≡ record { schema = self.now; text = text.now }) }
-        ensures accepted { OnOk result (IsAccepted self.now.nesting self.now.texts text.now) }
-        ensures refused { IfErr result (RefusalOfDocument self.now.nesting self.now.texts text.now) }
+        ensures schema { IfOk result (λ d. d.schema ≡ self.now) }
+        ensures text { IfOk result (λ d. d.text ≡ text.now) }
+        ensures accepted { IfOk result (λ d. IsCheckedDocumentOf self.now text.now d.document) }
+        ensures refused { IfErr result (RefusalOfDocument self.now text.now) }
         ensures complete { IfErr result (λ refusal.
-            IsAccepted self.now.nesting self.now.texts text.now → refusal ≡ Memory) }
+            IsDocumentCertain self.now.schema self.now.nesting self.now.number text.now → refusal ≡ Memory) }
     {
-        let document = read_document(self.alloc, text, self.number, self.nesting)?;
-        let faults = check_document(self.alloc, &self.schema, &document)?;
-        if !faults.is_empty() {
-            return Err(Refusal::Faults(faults));
-        }
+        let tree = read_document(self, text)?;
+        let document = typed(self, &tree)?;
+        validate(self, &document)?;
         Ok(CheckedDocument {
             schema: self,
             text: String::from_str(self.alloc, text)?,
@@ -73,59 +92,80 @@ impl CheckedSchema {
         })
     }
 
-    /// The text of the schema as it was built, under the layout: each definition of the texts, in order.
-    pub fn written(&self, layout: Layout) -> Result<String, AllocError>
-        ensures accepted { AreSchemasAccepted self.now.nesting self.now.texts }
-        ensures text { IfOk result (λ text. WritesSchema (layout_text layout) self.now.texts (string_bytes text)) }
+    /// The text of the schema as it was built, under the layout: its definition unless it is implicit, the definitions of
+    /// directives, and each type with its extensions, without what is built in.
+    pub fn written(&self, layout: Layout<'_>) -> Result<String, AllocError>
+        ensures { IfOk result (λ text. string_bytes text ≡ layout_text (prefix_of layout) self.now.written) }
     {
-        written(self.alloc, &self.document, layout)
+        written(self.alloc, &self.written, layout)
     }
 }
 
 /// Reads a document with its number, if one is left for it.
-fn read_document(
-    alloc: Global,
-    text: &str,
-    number: Option<FileId>,
-    nesting: usize,
-) -> Result<Document, Refusal>
-    ensures read { IfOk result (λ d. (texts : _) → IsDocumentNumber texts number → IsReadBehind nesting texts text.now (document_tree d)) }
-    ensures unread { IfErr result (λ refusal. (texts : _) → IsDocumentNumber texts number → IsUnreadBehind nesting texts text.now refusal) }
+fn read_document(schema: &CheckedSchema, text: &str) -> Result<Document, Refusal>
+    ensures read { IfOk result (λ d. IsReadDocument schema.now text.now (document_tree d)) }
+    ensures unread { IfErr result (IsUnreadDocument schema.now text.now) }
 {
-    match number {
-        Some(file) => read_numbered(alloc, text, file, nesting),
-        None => Err(only(alloc, None, Details::Spent)),
+    if schema.number == u64::MAX {
+        return Err(only(schema.alloc, None, Details::Spent));
     }
-}
-
-/// Reads a document with this number.
-fn read_numbered(
-    alloc: Global,
-    text: &str,
-    file: FileId,
-    nesting: usize,
-) -> Result<Document, Refusal>
-    ensures read { IfOk result (λ d. (texts : _) → IsDocumentNumber texts (Some file) → IsReadBehind nesting texts text.now (document_tree d)) }
-    ensures unread { IfErr result (λ refusal. (texts : _) → IsDocumentNumber texts (Some file) → IsUnreadBehind nesting texts text.now refusal) }
-{
-    let document = match read(alloc, text, file, nesting) {
-        Ok(document) => document,
-        Err(Unread::Fault { place, details }) => return Err(only(alloc, Some(place), details)),
-        Err(Unread::Memory) => return Err(Refusal::Memory),
-    };
-    match document_outside(&document) {
-        None => Ok(document),
-        Some(offset) => Err(Refusal::NotYet { file, offset }),
+    match read(schema.alloc, text, FileId(schema.number), schema.nesting) {
+        Ok(document) => Ok(document),
+        Err(Unread::Fault { place, details }) => Err(only(schema.alloc, Some(place), details)),
+        Err(Unread::Memory) => Err(Refusal::Memory),
     }
 }
 
 /// The refusal that tells this alone.
-fn only(alloc: Global, place: Option<SourceSpan>, details: Details) -> Refusal
-    ensures { TellsOnly (fault_of (place, details)) result }
+pub(crate) fn only(alloc: Global, place: Option<SourceSpan>, details: Details) -> Refusal
+    ensures { TellsOnly (details_at (place, details)) result }
 {
     let mut list = DiagnosticList::new(alloc);
     match list.push(place, details) {
         Ok(()) => Refusal::Faults(list),
         Err(_) => Refusal::Memory,
     }
+}
+
+/// What is kept of the definitions over the schema, and each way in which a rule of typing is broken.
+fn build(
+    schema: &CheckedSchema,
+    tree: &Document,
+) -> Result<(ExecutableDocument, DiagnosticList), AllocError>
+    ensures { IfOk result (λ r. TypesDocument schema.now.schema (document_tree tree.now) (meant_document (typed_document_tree r.0)) (diagnostics_of r.1)) }
+{
+    let mut builder = ExecutableDocumentBuilder::new(schema.alloc, Some(&schema.schema));
+    match builder.add_ast_document(tree) {
+        Ok(()) => {}
+        Err(BuilderRefusal::Memory | BuilderRefusal::Failed) => return Err(AllocError),
+    }
+    match builder.build() {
+        Ok((document, errors)) => Ok((document, document_errors(schema.alloc, errors)?)),
+        Err(BuilderRefusal::Memory | BuilderRefusal::Failed) => Err(AllocError),
+    }
+}
+
+/// What is kept of the definitions over the schema, where no rule of typing is broken.
+fn typed(schema: &CheckedSchema, tree: &Document) -> Result<ExecutableDocument, Refusal>
+    ensures typed { IfOk result (λ d. TypesDocument schema.now.schema (document_tree tree.now) (meant_document (typed_document_tree d)) []) }
+    ensures refused { IfErr result (RefusalOfTyping schema.now.schema (document_tree tree.now)) }
+{
+    let (document, faults) = build(schema, tree)?;
+    if !faults.is_empty() {
+        return Err(Refusal::Faults(faults));
+    }
+    Ok(document)
+}
+
+/// Whether every rule on documents and on merging holds of a document that is typed.
+fn validate(schema: &CheckedSchema, document: &ExecutableDocument) -> Result<(), Refusal>
+    ensures valid { IsTypedUnder schema.now.schema (document_meant document.now) → OnOk result (IsValidDocument schema.now.schema (document_meant document.now)) }
+    ensures refused { IsTypedUnder schema.now.schema (document_meant document.now) → IfErr result (RefusalOfRules schema.now.schema (document_meant document.now)) }
+{
+    let mut faults = DiagnosticList::new(schema.alloc);
+    validate_executable_document(schema.alloc, &mut faults, &schema.schema, document)?;
+    if !faults.is_empty() {
+        return Err(Refusal::Faults(faults));
+    }
+    Ok(())
 }

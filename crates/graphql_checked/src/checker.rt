@@ -1,13 +1,16 @@
 //! The checker of schema texts.
 
 ghost use Rattle.std.specs.Prelude.{◌≡◌, ◌++◌, ◌∷◌, [], true, false, OnOk, IfOk, IfErr};
-ghost use Rattle.graphql_checked.specs.Refusals.{AreSchemasAccepted, RefusalOfSchemas};
+ghost use Rattle.graphql_verdict.specs.Judge.{AreSchemasCertain};
+ghost use Rattle.graphql_checked.specs.CheckerValue.{IsCheckedSchemaOf};
 ghost use Rattle.graphql_checked.specs.CheckerAnswers.{IsAddRefusal, IsFinishRefusal};
 ghost use Rattle.graphql_checked.specs.declared.refusal.Refusal.TheVariants.{Memory};
 
 use crate::checked_schema::CheckedSchema;
 use crate::refusal::Refusal;
 use crate::schema_texts::SchemaTexts;
+use graphql_components::Extensions;
+use graphql_names::Files;
 use std::alloc::Global;
 use std::marker::Model;
 
@@ -20,7 +23,7 @@ pub struct Limits {
 
 /// Takes schema texts one by one, and gives the schema of them all where every rule holds of it.
 ///
-/// Texts are numbered from 1 in the order in which they are added.
+/// Texts are numbered in the order in which they are added, from 1 if not said otherwise.
 #[derive(Drop)]
 pub struct Checker {
     texts: SchemaTexts,
@@ -30,22 +33,34 @@ pub struct Checker {
 impl Model for Checker {
     ghost use Rattle.std.specs.Prelude.{◌≡◌, false};
     ghost use Rattle.graphql_checked.specs.CheckerValue.{CheckerValue};
-    ghost use Rattle.graphql_checked.specs.TextsView.{texts_of, IsReadingOf};
+    ghost use Rattle.graphql_checked.specs.TextsView.{terms_of, texts_of, IsReadingOf};
 
     ghost Value = { CheckerValue };
 
-    ghost view = { λ c. record { nesting = c.texts.nesting; texts = texts_of c.texts; failed = c.failed } };
+    ghost view = { λ c. record { terms = terms_of c.texts; texts = texts_of c.texts; failed = c.failed } };
 
     ghost invariant = { λ c. c.failed ≡ false → IsReadingOf (texts_of c.texts) c.texts };
 }
 
 impl Checker {
-    /// A checker of no texts. It takes no memory.
+    /// A checker of no texts, which numbers them from 1. It takes no memory.
     pub fn new(alloc: Global, limits: Limits) -> Checker
-        ensures { result ≡ record { nesting = limits.nesting; texts = []; failed = false } }
+        ensures { result ≡ record { terms = record { nesting = limits.nesting; first_text = 1; first_extension = 1 }; texts = []; failed = false } }
+    {
+        Checker::with_numbers(alloc, limits, Files::new(), Extensions::new())
+    }
+
+    /// A checker of no texts, which takes the numbers of texts and of extensions from these. It takes no memory.
+    pub fn with_numbers(
+        alloc: Global,
+        limits: Limits,
+        files: Files,
+        extensions: Extensions,
+    ) -> Checker
+        ensures { result ≡ record { terms = record { nesting = limits.nesting; first_text = files; first_extension = extensions }; texts = []; failed = false } }
     {
         Checker {
-            texts: SchemaTexts::new(alloc, limits.nesting),
+            texts: SchemaTexts::new(alloc, limits.nesting, files, extensions),
             failed: false,
         }
     }
@@ -74,15 +89,14 @@ impl Checker {
     /// The schema of the texts, if they are accepted: they are read, every rule holds of them, and no bound
     /// is passed.
     ///
-    /// Otherwise it tells what is wrong: a fault for each text that is not read, alone; else [`Refusal::NotYet`] of
-    /// the first text outside the language that is judged so far; else each rule that is broken.
+    /// Otherwise it tells what is wrong: a fault for each text that is not read, alone; else each folding rule that is broken;
+    /// where none is, each rule on schemas that is.
     pub fn finish(self) -> Result<CheckedSchema, Refusal>
-        ensures schema { IfOk result (λ s. s ≡ record { nesting = self.nesting; texts = self.texts }) }
+        ensures schema { IfOk result (IsCheckedSchemaOf self.terms self.texts) }
         ensures running { OnOk result (self.failed ≡ false) }
-        ensures accepted { OnOk result (AreSchemasAccepted self.nesting self.texts) }
         ensures refused { IfErr result (IsFinishRefusal self) }
         ensures complete { IfErr result (λ refusal.
-            self.failed ≡ false → AreSchemasAccepted self.nesting self.texts → refusal ≡ Memory) }
+            self.failed ≡ false → AreSchemasCertain self.terms self.texts → refusal ≡ Memory) }
     {
         if self.failed {
             return Err(Refusal::Failed);

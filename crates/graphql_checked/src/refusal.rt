@@ -1,7 +1,6 @@
 //! Why texts are not accepted.
 
-use graphql_names::FileId;
-use graphql_thin::DiagnosticList;
+use graphql_faults::DiagnosticList;
 use std::alloc::AllocError;
 
 /// Why texts are not accepted.
@@ -9,9 +8,6 @@ use std::alloc::AllocError;
 pub enum Refusal {
     /// What is wrong with them; the list is never empty.
     Faults(DiagnosticList),
-    /// A text is read and is outside the language that is judged so far; its first definition outside begins at
-    /// this byte.
-    NotYet { file: FileId, offset: usize },
     /// Memory ran out.
     Memory,
     /// Memory ran out at an earlier call.

@@ -1,18 +1,23 @@
 //! The schema texts that a checker was given, and what reading them gave.
 
-ghost use Rattle.std.specs.Prelude.{◌≡◌, ◌++◌, ◌∷◌, [], ℕ, List, OnOk, OnErr, IfOk, IfErr};
+ghost use Rattle.std.specs.Prelude.{◌≡◌, ◌≢◌, ◌++◌, ◌∷◌, [], ℕ, List, OnOk, OnErr, IfOk, IfErr};
 ghost use Rattle.graphql_definitions.specs.DefinitionTree.{document_tree};
-ghost use Rattle.graphql_thin.specs.ReadText.{ReadsText, PassesNesting};
-ghost use Rattle.graphql_thin.specs.FaultView.{faults_of};
-ghost use Rattle.graphql_checked.specs.Added.{IsToldBehind, IsNextNumber, IsDocumentNumber};
-ghost use Rattle.graphql_checked.specs.Refusals.{AreSchemasAccepted, RefusalOfSchemas};
-ghost use Rattle.graphql_checked.specs.TextsView.{texts_of, IsReadingOf, IsBefore};
+ghost use Rattle.graphql_read.specs.Reads.{NestingBound};
+ghost use Rattle.graphql_faults.specs.DetailsView.{diagnostics_of};
+ghost use Rattle.graphql_verdict.specs.Texts.{ReadsText};
+ghost use Rattle.graphql_checked.specs.Added.{IsToldBehind};
+ghost use Rattle.graphql_checked.specs.CheckerValue.{IsCheckedSchemaOf};
+ghost use Rattle.graphql_checked.specs.Refusals.{RefusalOfSchemas};
+ghost use Rattle.graphql_checked.specs.TextsView.{terms_of, texts_of, IsReadingOf, IsBefore};
 
 use crate::checked_schema::CheckedSchema;
+use crate::finish::{filled, judge};
+use crate::read_text::{Unread, read};
 use crate::refusal::Refusal;
+use graphql_components::Extensions;
 use graphql_definitions::Document;
+use graphql_faults::{Details, DiagnosticList};
 use graphql_names::{FileId, Files, Spent};
-use graphql_thin::{Details, DiagnosticList, Unread, build, read, schema_outside};
 use std::alloc::{AllocError, Global};
 
 /// Schema texts in order, and what reading them gave.
@@ -21,42 +26,49 @@ pub(crate) struct SchemaTexts {
     pub(crate) alloc: Global,
     /// How many brackets may be open at once.
     pub(crate) nesting: usize,
+    /// The number of the first text.
+    pub(crate) first: u64,
     /// The number of the next text.
     pub(crate) files: Files,
+    /// The numbers of extensions, of which none is given yet.
+    pub(crate) extensions: Extensions,
     /// The texts.
     pub(crate) texts: Vec<String>,
-    /// The definitions of those that were read, in order, up to the first that is outside the language that is
-    /// judged so far.
-    pub(crate) document: Document,
-    /// A fault of each that is not read.
+    /// What each text is, in order, as long as each is read.
+    pub(crate) documents: Vec<Document>,
+    /// A fault of each text that is not read.
     pub(crate) unread: DiagnosticList,
-    /// The first that was read and is outside the language that is judged so far: its number, and where its first
-    /// definition outside begins.
-    pub(crate) not_yet: Option<(FileId, usize)>,
 }
 
 impl SchemaTexts {
-    /// No texts.
-    pub(crate) fn new(alloc: Global, nesting: usize) -> SchemaTexts
-        ensures nesting { result.nesting ≡ nesting }
+    /// No texts; they and their extensions are counted from these numbers on.
+    pub(crate) fn new(
+        alloc: Global,
+        nesting: usize,
+        files: Files,
+        extensions: Extensions,
+    ) -> SchemaTexts
+        ensures terms { terms_of result ≡ record { nesting = nesting; first_text = files; first_extension = extensions } }
         ensures texts { texts_of result ≡ [] }
         ensures reading { IsReadingOf [] result }
     {
+        let first = next_number(files);
         SchemaTexts {
             alloc,
             nesting,
-            files: Files::new(),
+            first,
+            files: Files::starting_at(first),
+            extensions,
             texts: Vec::new(alloc),
-            document: Document::new(alloc),
+            documents: Vec::new(alloc),
             unread: DiagnosticList::new(alloc),
-            not_yet: None,
         }
     }
 
     /// Adds a text behind the others. After a refusal the texts are as they were, but what was read may not be.
     pub(crate) fn add(&mut self, text: &str) -> Result<(), AllocError>
         requires { IsReadingOf (texts_of self.old) self.old }
-        ensures nesting { self.new.nesting ≡ self.old.nesting }
+        ensures terms { OnOk result (terms_of self.new ≡ terms_of self.old) }
         ensures texts { OnOk result (texts_of self.new ≡ texts_of self.old ++ text.now ∷ []) }
         ensures kept { OnErr result (texts_of self.new ≡ texts_of self.old) }
         ensures reading { OnOk result (IsReadingOf (texts_of self.new) self.new) }
@@ -70,7 +82,7 @@ impl SchemaTexts {
     /// Reads the text that comes next, if a number is left for it.
     fn read_next(&mut self, text: &str) -> Result<(), AllocError>
         requires { IsReadingOf (texts_of self.old) self.old }
-        ensures nesting { self.new.nesting ≡ self.old.nesting }
+        ensures terms { OnOk result (terms_of self.new ≡ terms_of self.old) }
         ensures texts { self.new.texts ≡ self.old.texts }
         ensures reading { OnOk result (IsReadingOf (texts_of self.old ++ text.now ∷ []) self.new) }
     {
@@ -83,7 +95,7 @@ impl SchemaTexts {
     /// Reads the text with this number.
     fn read_numbered(&mut self, text: &str, file: FileId) -> Result<(), AllocError>
         requires { IsBefore (texts_of self.old) file self.old }
-        ensures nesting { self.new.nesting ≡ self.old.nesting }
+        ensures terms { OnOk result (terms_of self.new ≡ terms_of self.old) }
         ensures texts { self.new.texts ≡ self.old.texts }
         ensures reading { OnOk result (IsReadingOf (texts_of self.old ++ text.now ∷ []) self.new) }
     {
@@ -93,58 +105,45 @@ impl SchemaTexts {
         }
     }
 
-    /// Keeps the definitions of the text with this number, or where the first begins that is outside the language
-    /// that is judged so far. Behind a text outside nothing more is kept.
+    /// Keeps what the text with this number is, as long as each text is read.
     fn keep(&mut self, document: Document, file: FileId) -> Result<(), AllocError>
         requires { IsBefore (texts_of self.old) file self.old }
-        ensures nesting { self.new.nesting ≡ self.old.nesting }
+        ensures terms { OnOk result (terms_of self.new ≡ terms_of self.old) }
         ensures texts { self.new.texts ≡ self.old.texts }
-        ensures reading { OnOk result ((text : List ℕ) → ReadsText file.0 text (document_tree document) → (PassesNesting self.old.nesting text → ⊥)
+        ensures reading { OnOk result ((text : List ℕ) → ReadsText file.0 text (document_tree document) → (NestingBound self.old.nesting text → ⊥)
             → IsReadingOf (texts_of self.old ++ text ∷ []) self.new) }
     {
-        if self.not_yet.is_some() {
+        if !self.unread.is_empty() {
             return Ok(());
         }
-        match schema_outside(&document) {
-            None => append(&mut self.document, document),
-            Some(offset) => {
-                self.not_yet = Some((file, offset));
-                Ok(())
-            }
-        }
+        self.documents.push(document)?;
+        Ok(())
     }
 
     /// The schema of the texts, if they are accepted.
     pub(crate) fn finish(self) -> Result<CheckedSchema, Refusal>
         requires { IsReadingOf (texts_of self) self }
-        ensures schema { IfOk result (λ s. s ≡ record { nesting = self.nesting; texts = texts_of self }) }
-        ensures accepted { OnOk result (AreSchemasAccepted self.nesting (texts_of self)) }
-        ensures refused { IfErr result (RefusalOfSchemas self.nesting (texts_of self)) }
+        ensures schema { IfOk result (IsCheckedSchemaOf (terms_of self) (texts_of self)) }
+        ensures refused { IfErr result (RefusalOfSchemas (terms_of self) (texts_of self)) }
     {
         if !self.unread.is_empty() {
             return Err(Refusal::Faults(self.unread));
         }
-        if let Some((file, offset)) = self.not_yet {
-            return Err(Refusal::NotYet { file, offset });
-        }
-        let built = build(self.alloc, &self.document)?;
-        if !built.faults.is_empty() {
-            return Err(Refusal::Faults(built.faults));
-        }
+        let builder = filled(self.alloc, self.extensions, &self.documents)?;
+        let (schema, written) = judge(self.alloc, builder)?;
         Ok(CheckedSchema {
             alloc: self.alloc,
             nesting: self.nesting,
             number: next_number(self.files),
-            texts: self.texts,
-            document: self.document,
-            schema: built.schema,
+            written,
+            schema,
         })
     }
 }
 
 /// Tells why a text is not read, behind the faults of the list.
 fn tell(list: &mut DiagnosticList, unread: Unread) -> Result<(), AllocError>
-    ensures { OnOk result (IsToldBehind unread (faults_of list.old) (faults_of list.new)) }
+    ensures { OnOk result (IsToldBehind unread (diagnostics_of list.old) (diagnostics_of list.new)) }
 {
     match unread {
         Unread::Fault { place, details } => list.push(Some(place), details),
@@ -152,22 +151,13 @@ fn tell(list: &mut DiagnosticList, unread: Unread) -> Result<(), AllocError>
     }
 }
 
-/// The number of a document behind the texts, if one is left for it.
-fn next_number(mut files: Files) -> Option<FileId>
-    ensures { (texts : _) → IsNextNumber texts files → IsDocumentNumber texts result }
+/// The number that comes next; the greatest of 64 bits is given to no text.
+fn next_number(mut files: Files) -> u64
+    ensures is { result ≡ files }
+    ensures some { result ≢ 0 }
 {
     match files.next() {
-        Ok(file) => Some(file),
-        Err(Spent) => None,
+        Ok(file) => file.0,
+        Err(Spent) => u64::MAX,
     }
-}
-
-/// Adds the definitions of a document behind those of another.
-fn append(document: &mut Document, more: Document) -> Result<(), AllocError>
-    ensures { OnOk result (document_tree document.new ≡ document_tree document.old ++ document_tree more) }
-{
-    for definition in more.definitions {
-        document.definitions.push(definition)?;
-    }
-    Ok(())
 }

@@ -1,8 +1,10 @@
 //! The verdict on whole texts.
 
-ghost use Rattle.std.specs.Prelude.{◌≡◌, ◌⊎◌, Ok, Err, map, OnOk, IfOk, IfErr};
-ghost use Rattle.graphql_checked.specs.Refusals.{AreSchemasAccepted, IsAccepted, RefusalOfSchemas};
-ghost use Rattle.graphql_checked.specs.Verdicts.{IsVerdict, IsCheckError, refusal_verdict};
+ghost use Rattle.std.specs.Prelude.{◌≡◌, ◌⊎◌, Ok, Err, map, IfOk, IfErr};
+ghost use Rattle.graphql_verdict.specs.Judge.{AreSchemasCertain, IsCertain};
+ghost use Rattle.graphql_checked.specs.CheckerValue.{IsCheckedSchemaOf};
+ghost use Rattle.graphql_checked.specs.Refusals.{RefusalOfSchemas};
+ghost use Rattle.graphql_checked.specs.Verdicts.{first_terms, IsVerdict, refusal_verdict};
 ghost use Rattle.graphql_checked.specs.declared.refusal.Refusal.TheVariants as refusal;
 ghost use Rattle.graphql_checked.specs.declared.verdict.Verdict.TheVariants.{Accepted};
 ghost use Rattle.graphql_checked.specs.declared.verdict.CheckError.TheVariants.{Memory};
@@ -10,8 +12,7 @@ ghost use Rattle.graphql_checked.specs.declared.verdict.CheckError.TheVariants.{
 use crate::checked_schema::CheckedSchema;
 use crate::checker::{Checker, Limits};
 use crate::refusal::Refusal;
-use graphql_names::FileId;
-use graphql_thin::DiagnosticList;
+use graphql_faults::DiagnosticList;
 use std::alloc::Global;
 use std::convert::AsStr;
 
@@ -29,9 +30,6 @@ pub enum Verdict {
 pub enum CheckError {
     /// Memory ran out.
     Memory,
-    /// A text is read and is outside the language that is judged so far; its first definition outside begins at
-    /// this byte.
-    NotYet { file: FileId, offset: usize },
 }
 
 /// Judges schema texts and a document over them. A refused schema leaves the document unread.
@@ -41,9 +39,8 @@ pub fn check_texts(
     document: &str,
     limits: Limits,
 ) -> Result<Verdict, CheckError>
-    ensures verdict { IfOk result (IsVerdict limits.nesting (map (λ t. t.now) schemas.now) document.now) }
-    ensures error { IfErr result (IsCheckError limits.nesting (map (λ t. t.now) schemas.now) document.now) }
-    ensures complete { IsAccepted limits.nesting (map (λ t. t.now) schemas.now) document.now
+    ensures verdict { IfOk result (IsVerdict (first_terms limits.nesting) (map (λ t. t.now) schemas.now) document.now) }
+    ensures complete { IsCertain (first_terms limits.nesting) (map (λ t. t.now) schemas.now) document.now
         → (result ≡ Ok Accepted) ⊎ (result ≡ Err Memory) }
 {
     let schema = match schema_of(alloc, schemas, limits) {
@@ -62,10 +59,9 @@ pub(crate) fn schema_of<T: AsStr>(
     texts: &[T],
     limits: Limits,
 ) -> Result<CheckedSchema, Refusal>
-    ensures schema { IfOk result (λ s. s ≡ record { nesting = limits.nesting; texts = map T.text texts.now }) }
-    ensures accepted { OnOk result (AreSchemasAccepted limits.nesting (map T.text texts.now)) }
-    ensures refused { IfErr result (RefusalOfSchemas limits.nesting (map T.text texts.now)) }
-    ensures complete { IfErr result (λ r. AreSchemasAccepted limits.nesting (map T.text texts.now) → r ≡ refusal.Memory) }
+    ensures schema { IfOk result (IsCheckedSchemaOf (first_terms limits.nesting) (map T.text texts.now)) }
+    ensures refused { IfErr result (RefusalOfSchemas (first_terms limits.nesting) (map T.text texts.now)) }
+    ensures complete { IfErr result (λ r. AreSchemasCertain (first_terms limits.nesting) (map T.text texts.now) → r ≡ refusal.Memory) }
 {
     let mut checker = Checker::new(alloc, limits);
     for text in texts {
@@ -80,7 +76,6 @@ fn verdict_of(refusal: Refusal) -> Result<Verdict, CheckError>
 {
     match refusal {
         Refusal::Faults(list) => Ok(Verdict::Refused(list)),
-        Refusal::NotYet { file, offset } => Err(CheckError::NotYet { file, offset }),
         Refusal::Memory | Refusal::Failed => Err(CheckError::Memory),
     }
 }

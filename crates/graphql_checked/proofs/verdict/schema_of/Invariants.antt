@@ -1,5 +1,0 @@
-use Rattle.std.proofs.Common.{◌≡◌, map, take, false}
-use Rattle.graphql_checked.proofs.verdict.schema_of.Given as goal
-
-abbrev pub invariant-loop-text : goal.invariant-loop-text
-invariant-loop-text g l = l.checker ≡ record { nesting = l.fn.limits.nesting; texts = map g.T.AsStr.text (take l.text-index l.texts); failed = false }

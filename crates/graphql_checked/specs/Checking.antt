@@ -1,0 +1,71 @@
+-- Private: leads to `RefusalOfDocument`. What the steps of checking a document find.
+use Rattle.std.specs.Prelude.{◌≡◌, ◌≢◌, ◌↔◌, ℕ, List, [], ◌∷◌, Contains}
+use Rattle.graphql_names.specs.Placed.{Place}
+use Rattle.graphql_schema_types.specs.SchemaTree.{SchemaTree}
+use Rattle.graphql_meant_documents.specs.MeantTree.{MeantDocument}
+use Rattle.graphql_typing.specs.TypingFaults as typing
+use Rattle.graphql_typing.specs.OutDoc.{written_document, out_doc}
+use Rattle.graphql_document_rule_definitions.specs.Told.{PlacedDocumentFault, IsValidDocument}
+use Rattle.graphql_document_rule_definitions.specs.Verdict.{WithinBounds}
+use Rattle.graphql_meant_documents.specs.Unplaced.{unplaced_document}
+use Rattle.graphql_faults.specs.DetailsView.{diagnostics_of}
+use Rattle.graphql_validation.specs.TellsDocument.{IsTypedUnder, SomeFails}
+use Rattle.graphql_verdict.specs.Texts.{Text, Tree, ReadsText, IsWithin}
+use Rattle.graphql_verdict.specs.Judge.{document_over}
+use Rattle.graphql_verdict.specs.Says.{Fault, of_typing, of_document, TypingFailsOver}
+use Rattle.graphql_verdict.specs.Answer.{UnreadAlone}
+use Rattle.graphql_checked.specs.CheckerValue.{CheckedSchemaValue}
+use Rattle.graphql_checked.specs.declared.refusal.Refusal.{Refusal}
+use Rattle.graphql_checked.specs.declared.refusal.Refusal.TheVariants.{Faults, Memory, Failed}
+
+-- ---- reading a document with the number that it has behind the schema texts, if one is left for it
+
+-- the document is read, and passes no bound
+abbrev pub IsReadDocument : CheckedSchemaValue → Text → Tree → Type 0
+IsReadDocument schema text tree = ReadsText schema.number text tree × IsWithin schema.nesting schema.number text
+
+-- the document is not read
+abbrev pub IsUnreadDocument : CheckedSchemaValue → Text → Refusal → Type 0
+IsUnreadDocument schema text (Faults list) = UnreadAlone schema.nesting schema.number text (diagnostics_of list)
+IsUnreadDocument schema text Memory = Unit {0}
+IsUnreadDocument schema text Failed = ⊥
+
+-- this fault is all that is told, or memory ran out
+abbrev pub TellsOnly : Fault → Refusal → Type 0
+TellsOnly fault (Faults list) = diagnostics_of list ≡ fault ∷ []
+TellsOnly fault Memory = Unit {0}
+TellsOnly fault Failed = ⊥
+
+-- ---- typing it
+
+-- This is what is kept of the document over the schema, and these are all faults of typing.
+pub record TypesDocument (schema : SchemaTree Place) (tree : Tree) (document : MeantDocument Place) (faults : List Fault) : Type 0 where
+  pub is : document ≡ document_over schema tree
+  pub typed : IsTypedUnder schema document
+  pub whole : faults ≡ [] → written_document document ≡ out_doc tree
+  pub right : (fault : Fault) → Contains faults fault → (f : typing.Fault Place) × ((fault ≡ of_typing f) × TypingFailsOver schema tree f)
+  pub full : (f : typing.Fault Place) → TypingFailsOver schema tree f → Contains faults (of_typing f)
+
+-- rules of typing are broken, and all that breaks them is told
+pub record RefusesTyping (schema : SchemaTree Place) (tree : Tree) (faults : List Fault) : Type 0 where
+  pub some : faults ≢ []
+  pub right : (fault : Fault) → Contains faults fault → (f : typing.Fault Place) × ((fault ≡ of_typing f) × TypingFailsOver schema tree f)
+  pub full : (f : typing.Fault Place) → TypingFailsOver schema tree f → Contains faults (of_typing f)
+
+abbrev pub RefusalOfTyping : SchemaTree Place → Tree → Refusal → Type 0
+RefusalOfTyping schema tree (Faults list) = RefusesTyping schema tree (diagnostics_of list)
+RefusalOfTyping schema tree Memory = Unit {0}
+RefusalOfTyping schema tree Failed = ⊥
+
+-- ---- judging it
+
+-- rules on documents or on merging are broken so, or bounds are passed; a document that is valid is refused by bounds alone
+pub record RefusesRules (schema : SchemaTree Place) (document : MeantDocument Place) (faults : List Fault) : Type 0 where
+  pub some : faults ≢ []
+  pub right : (fault : Fault) → Contains faults fault → (f : PlacedDocumentFault) × ((fault ≡ of_document f) × SomeFails schema document f)
+  pub bounds : IsValidDocument schema document → WithinBounds (unplaced_document document) → ⊥
+
+abbrev pub RefusalOfRules : SchemaTree Place → MeantDocument Place → Refusal → Type 0
+RefusalOfRules schema document (Faults list) = RefusesRules schema document (diagnostics_of list)
+RefusalOfRules schema document Memory = Unit {0}
+RefusalOfRules schema document Failed = ⊥

@@ -1,0 +1,41 @@
+//! What builders find, as lists of faults.
+
+ghost use Rattle.std.specs.Prelude.{◌≡◌, map, IfOk};
+ghost use Rattle.graphql_folding.specs.FaultView.{faults_of};
+ghost use Rattle.graphql_typing.specs.FaultView as typing;
+ghost use Rattle.graphql_faults.specs.DetailsView.{diagnostics_of};
+ghost use Rattle.graphql_verdict.specs.Says.{of_folding, of_typing};
+
+use graphql_document_faults::BuildError as DocumentError;
+use graphql_faults::{Details, DiagnosticList};
+use graphql_folding::BuildError as SchemaError;
+use graphql_names::SourceSpan;
+use std::alloc::{AllocError, Global};
+
+/// What breaks rules of folding, in order.
+pub(crate) fn schema_errors(
+    alloc: Global,
+    errors: Vec<(Option<SourceSpan>, SchemaError)>,
+) -> Result<DiagnosticList, AllocError>
+    ensures { IfOk result (λ list. diagnostics_of list ≡ map of_folding (faults_of errors)) }
+{
+    let mut list = DiagnosticList::new(alloc);
+    for (place, error) in errors {
+        list.push(place, Details::SchemaBuild(error))?;
+    }
+    Ok(list)
+}
+
+/// What breaks rules of typing, in order.
+pub(crate) fn document_errors(
+    alloc: Global,
+    errors: Vec<(Option<SourceSpan>, DocumentError)>,
+) -> Result<DiagnosticList, AllocError>
+    ensures { IfOk result (λ list. diagnostics_of list ≡ map of_typing (typing.faults_of errors)) }
+{
+    let mut list = DiagnosticList::new(alloc);
+    for (place, error) in errors {
+        list.push(place, Details::DocumentBuild(error))?;
+    }
+    Ok(list)
+}
