@@ -1,13 +1,13 @@
 -- What is written of an accepted list has a definition.
 use Rattle.std.proofs.Common.{◌≡◌, ℕ, Bool, true, false, cond, List, [], ◌∷◌, ◌++◌, ◌&&◌, map, flat_map, Option, Some, None, refl, sym, ap, subst, ◌∙◌, not, is_none, true≢false}
-use Rattle.std.specs.List.{find, AllByRecursion}
+use Rattle.std.specs.List.{find, list_all, AllByRecursion}
 use Rattle.std.specs.Option.{option_map_or}
 use Rattle.std.specs.Str.{bytes_eq}
 use Rattle.std.proofs.lemmas.List.{append-nil}
 use Rattle.graphql_names.specs.Places.{is_built_in}
 use Rattle.graphql_names.specs.Placed.{Place, Text}
 use Rattle.graphql_definitions.specs.DefinitionTree.{DefinitionTree}
-use Rattle.graphql_definitions.specs.Writable.{has_some}
+use Rattle.graphql_definitions.specs.Writable.{has_some, definition_writable}
 use Rattle.graphql_components.specs.Names.{Entries}
 use Rattle.graphql_components.specs.Lists.{firsts}
 use Rattle.graphql_components.specs.in_values.OperationQueries.{default_root_name}
@@ -24,11 +24,11 @@ use Rattle.graphql_written_laws.specs.Arranged.{arranged}
 use Rattle.graphql_written_laws.specs.Whole.{classes, extensions_in, whole_definition, whole_extension, whole_type}
 use Rattle.graphql_written_laws.specs.WholeSchema.{roots_of, schema_classes, schema_extensions_in, implicit_of, left_out}
 use Rattle.graphql_written_laws.specs.Table.{IsTable, AreOwn, HasNoQuery}
-use Rattle.graphql_written_laws.specs.Twice.{Out}
+use Rattle.graphql_written_laws.specs.Twice.{Out, WrittenIsWritable}
 use Rattle.graphql_written_laws.proofs.Accepted.{types_whole}
 use Rattle.graphql_written_laws.proofs.TypesTwice.{all_types}
 use Rattle.graphql_written_laws.proofs.SchemaTwice.{schema_written, accepted_applied, accepted_at_most, written_by}
-use Rattle.graphql_written_laws.proofs.OutWritable.{some_first, some_second}
+use Rattle.graphql_written_laws.proofs.OutWritable.{some_first, some_second, out_writable}
 
 module _ {X Y : Type 0} where
   some_in : (f : X → List Y) (xs : List X) (x : X) (ys : List X) → has_some (f x) ≡ true → has_some (flat_map f (xs ++ x ∷ ys)) ≡ true
@@ -113,3 +113,8 @@ module _ (built_in : Definitions) (first : ℕ) (texts : Definitions) (table : I
       by false e = some_first (written_schema (fold built_in first texts) ++ flat_map written_directive (fold built_in first texts).directives) (flat_map written_type (folded_types first ds))
           (some_first (written_schema (fold built_in first texts)) (flat_map written_directive (fold built_in first texts).directives)
           (subst (λ l. has_some l ≡ true) (sym (written false e)) refl))
+
+pub written_writable : WrittenIsWritable
+written_writable built_in first texts can =
+    ap (λ b. b && list_all definition_writable (Out built_in first texts)) (out_some built_in first texts can.table can.no_query can.own can.rules)
+    ∙ out_writable built_in first texts can.table can.own can.rules can.defined can.writable
