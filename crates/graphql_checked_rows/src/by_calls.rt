@@ -1,11 +1,13 @@
 //! Answers of `check_texts`, and of the checker call by call.
 
+use crate::asked::Asked;
 use graphql_checked::{
-    CheckError, CheckedDocument, CheckedSchema, Checker, DiagnosticList, Layout, Limits, Refusal,
-    Verdict, check_texts,
+    CheckError, CheckedDocument, CheckedSchema, Checker, DiagnosticList, Layout, Refusal, Verdict,
+    check_texts,
 };
-use graphql_names::FileId;
-use graphql_row_files::{Answer, push_faults};
+use graphql_components::Extensions;
+use graphql_names::{FileId, Files, SourceSpan};
+use graphql_row_files::{Answer, Lines};
 use std::alloc::{AllocError, Global};
 
 /// Adds the answer of `check_texts`.
@@ -13,13 +15,12 @@ pub(crate) fn push_check_texts(
     alloc: Global,
     schemas: &[&str],
     document: &str,
-    nesting: usize,
+    asked: Asked,
     answer: &mut Answer,
 ) {
-    match check_texts(alloc, schemas, document, Limits { nesting }) {
+    match check_texts(alloc, schemas, document, asked.limits) {
         Ok(Verdict::Accepted) => answer.show("0", &"accepted\n"),
         Ok(Verdict::Refused(list)) => push_refused(&list, answer),
-        Err(CheckError::NotYet { file, offset }) => push_not_yet(file, offset, answer),
         Err(CheckError::Memory) => answer.status.put("4 out of memory"),
     }
 }
@@ -29,11 +30,11 @@ pub(crate) fn push_calls(
     alloc: Global,
     schemas: &[&str],
     document: &str,
-    nesting: usize,
+    asked: Asked,
     answer: &mut Answer,
 ) {
-    match schema_of(alloc, schemas, nesting) {
-        Ok(schema) => push_check(&schema, document, answer),
+    match schema_of(alloc, schemas, asked) {
+        Ok(schema) => push_check(&schema, document, asked.layout, answer),
         Err(refusal) => push_refusal(&refusal, answer),
     }
 }
@@ -43,40 +44,60 @@ pub(crate) fn push_series(
     alloc: Global,
     schemas: &[&str],
     documents: &[&str],
-    nesting: usize,
+    asked: Asked,
     answer: &mut Answer,
 ) {
-    match schema_of(alloc, schemas, nesting) {
-        Ok(schema) => push_around(&schema, documents, answer),
+    match schema_of(alloc, schemas, asked) {
+        Ok(schema) => push_around(&schema, documents, asked.layout, answer),
         Err(refusal) => push_refusal(&refusal, answer),
     }
 }
 
 /// Adds the answers to the documents, while what the first gives is kept, and last what that is written as.
-fn push_around(schema: &CheckedSchema, documents: &[&str], answer: &mut Answer) {
+fn push_around(
+    schema: &CheckedSchema,
+    documents: &[&str],
+    layout: Layout<'_>,
+    answer: &mut Answer,
+) {
     let Some(first) = documents.first() else {
         return;
     };
     match schema.check(first) {
         Ok(checked) => {
-            push_each(schema, documents, answer);
-            push_accepted(schema, &checked, answer);
+            push_each(schema, documents, layout, answer);
+            push_accepted(schema, &checked, layout, answer);
         }
         Err(refusal) => push_refusal(&refusal, answer),
     }
 }
 
 /// Adds the answer to each document, and a comma to its status.
-fn push_each(schema: &CheckedSchema, documents: &[&str], answer: &mut Answer) {
+fn push_each(
+    schema: &CheckedSchema,
+    documents: &[&str],
+    layout: Layout<'_>,
+    answer: &mut Answer,
+) {
     for document in documents {
-        push_check(schema, document, answer);
+        push_check(schema, document, layout, answer);
         answer.status.put(", ");
     }
 }
 
+/// The checker that the row asks for.
+fn checker_of(alloc: Global, asked: Asked) -> Checker {
+    if asked.text < 2 && asked.extension < 2 {
+        return Checker::new(alloc, asked.limits);
+    }
+    let files = Files::starting_at(asked.text.max(1));
+    let extensions = Extensions::starting_at(asked.extension.max(1));
+    Checker::with_numbers(alloc, asked.limits, files, extensions)
+}
+
 /// The schema of the texts, by a checker.
-fn schema_of(alloc: Global, schemas: &[&str], nesting: usize) -> Result<CheckedSchema, Refusal> {
-    let mut checker = Checker::new(alloc, Limits { nesting });
+fn schema_of(alloc: Global, schemas: &[&str], asked: Asked) -> Result<CheckedSchema, Refusal> {
+    let mut checker = checker_of(alloc, asked);
     for text in schemas {
         checker.add_schema(text)?;
     }
@@ -84,24 +105,33 @@ fn schema_of(alloc: Global, schemas: &[&str], nesting: usize) -> Result<CheckedS
 }
 
 /// Adds the answer of a schema's `check`.
-fn push_check(schema: &CheckedSchema, document: &str, answer: &mut Answer) {
+fn push_check(schema: &CheckedSchema, document: &str, layout: Layout<'_>, answer: &mut Answer) {
     match schema.check(document) {
-        Ok(checked) => push_accepted(schema, &checked, answer),
+        Ok(checked) => push_accepted(schema, &checked, layout, answer),
         Err(refusal) => push_refusal(&refusal, answer),
     }
 }
 
 /// Adds the answer that has both texts.
-fn push_accepted(schema: &CheckedSchema, document: &CheckedDocument<'_>, answer: &mut Answer) {
+fn push_accepted(
+    schema: &CheckedSchema,
+    document: &CheckedDocument<'_>,
+    layout: Layout<'_>,
+    answer: &mut Answer,
+) {
     answer.show("0", &"accepted\n");
-    push_written(schema.written(Layout::OneLine), answer);
-    push_written(document.written(Layout::OneLine), answer);
+    let end = match layout {
+        Layout::OneLine => "\n",
+        Layout::Indented(_) => "",
+    };
+    push_written(schema.written(layout), end, answer);
+    push_written(document.written(layout), end, answer);
 }
 
-/// Adds a text that is written.
-fn push_written(written: Result<String, AllocError>, answer: &mut Answer) {
+/// Adds a text that is written, with this behind it.
+fn push_written(written: Result<String, AllocError>, end: &str, answer: &mut Answer) {
     match written {
-        Ok(text) => answer.text.show_between("", &text, "\n"),
+        Ok(text) => answer.text.show_between("", &text, end),
         Err(_) => answer.status.put("4 out of memory"),
     }
 }
@@ -110,7 +140,6 @@ fn push_written(written: Result<String, AllocError>, answer: &mut Answer) {
 fn push_refusal(refusal: &Refusal, answer: &mut Answer) {
     match refusal {
         Refusal::Faults(list) => push_refused(list, answer),
-        Refusal::NotYet { file, offset } => push_not_yet(*file, *offset, answer),
         Refusal::Memory => answer.status.put("4 out of memory"),
         Refusal::Failed => answer.status.put("4 failed"),
     }
@@ -119,11 +148,20 @@ fn push_refusal(refusal: &Refusal, answer: &mut Answer) {
 /// Adds the answer that tells these faults.
 fn push_refused(list: &DiagnosticList, answer: &mut Answer) {
     answer.text.put("refused\n");
-    push_faults(list.as_slice(), answer);
+    for (place, details) in list.iter() {
+        push_place(*place, &mut answer.text);
+        answer.text.show_between(": ", details, "\n");
+    }
+    answer.status.put("1");
 }
 
-/// Adds the answer that a text is not judged yet.
-fn push_not_yet(file: FileId, offset: usize, answer: &mut Answer) {
-    answer.status.show_between("5 not yet ", &file.0, ":");
-    answer.status.show(&offset);
+/// Adds where a fault is; what is built in stands nowhere.
+fn push_place(place: Option<SourceSpan>, lines: &mut Lines) {
+    match place {
+        Some(span) if span.file_id != FileId::BUILT_IN => {
+            lines.show_between("", &span.file_id.0, ":");
+            lines.show(&span.offset);
+        }
+        _ => lines.put("-"),
+    }
 }

@@ -3,7 +3,8 @@
 ghost use Rattle.std.specs.Prelude.{◌≡◌, false, All, IfOk};
 ghost use Rattle.graphql_names.specs.Device.{device_failed};
 
-use graphql_checked::{Layout, Limits, Outcome, RunFault, exit_status, run};
+use crate::asked::{Asked, asked_of};
+use graphql_checked::{Outcome, RunFault, exit_status, run};
 use graphql_names::{Cut, Device};
 use graphql_row_files::{
     Answer, Case, Lines, Plan, Problem, Tally, Way, compare_cut, device, reader, says,
@@ -78,7 +79,8 @@ fn reader_ends(
 
 /// Judges the answer by the plan.
 fn by_plan(alloc: Global, case: Case<'_>, way: Way<'_>, tally: &mut Tally) -> Result<(), Problem> {
-    run_by(alloc, &case.given.schemas, way, &mut tally.answer)?;
+    let asked = asked_of(case, way)?;
+    run_by(alloc, &case.given.schemas, way, asked, &mut tally.answer)?;
     compare_cut(alloc, case, way, tally)
 }
 
@@ -87,21 +89,19 @@ fn run_by(
     alloc: Global,
     schemas: &[Vec<u8>],
     way: Way<'_>,
+    asked: Asked,
     told: &mut Answer,
 ) -> Result<(), AllocError> {
     let plan = way.plan;
     let mut document = reader(way.document, plan, schemas.len().saturating_add(1));
     let mut schemas = readers(alloc, schemas, plan)?;
     let mut writer = device(&mut told.written, plan, plan.write);
-    let limits = Limits {
-        nesting: way.nesting,
-    };
     let answer = run(
         alloc,
         &mut schemas,
         &mut document,
-        limits,
-        Layout::OneLine,
+        asked.limits,
+        asked.layout,
         &mut writer,
     );
     let failures = told_failures(answer);
@@ -157,10 +157,6 @@ fn push_status(answer: Result<Outcome, RunFault>, words: &mut Lines) {
     words.show(&exit_status(&answer));
     match answer {
         Ok(_) => {}
-        Err(RunFault::NotYet { file, offset }) => {
-            words.show_between(" not yet ", &file.0, ":");
-            words.show(&offset);
-        }
         Err(RunFault::Writer(out)) => words.show_between(" output failed ", &out, ""),
         Err(fault) => words.show_between(" ", &fault, ""),
     }

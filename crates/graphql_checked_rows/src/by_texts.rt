@@ -1,5 +1,6 @@
 //! Rows of schema texts and documents.
 
+use crate::asked::asked_of;
 use crate::by_calls::{push_calls, push_check_texts, push_series};
 use crate::by_run::by_run;
 use graphql_row_files::{Answer, Case, Problem, Tally, Way, compare, text_of};
@@ -28,8 +29,10 @@ fn by_series(
     push_texts(case, &case.given.schemas, &mut schemas)?;
     let mut documents = Vec::new(alloc);
     push_texts(case, &case.given.documents, &mut documents)?;
-    push_series(alloc, &schemas, &documents, nesting, &mut tally.answer);
-    compare(case, Way::whole(case.call, &[], nesting), tally)
+    let way = Way::whole(case.call, &[], nesting);
+    let asked = asked_of(case, way)?;
+    push_series(alloc, &schemas, &documents, asked, &mut tally.answer);
+    compare(case, way, tally)
 }
 
 /// Judges the row: each of its documents over its schema texts.
@@ -88,10 +91,11 @@ fn push_answer(
     let document = text_of(case, way.document)?;
     let mut schemas = Vec::new(alloc);
     push_texts(case, &case.given.schemas, &mut schemas)?;
+    let asked = asked_of(case, way)?;
     if way.call == "calls" {
-        push_calls(alloc, &schemas, document, way.nesting, answer);
+        push_calls(alloc, &schemas, document, asked, answer);
     } else {
-        push_check_texts(alloc, &schemas, document, way.nesting, answer);
+        push_check_texts(alloc, &schemas, document, asked, answer);
     }
     Ok(())
 }

@@ -1,6 +1,7 @@
 //! Rows of schema texts and documents that the checker judges. Its words name the files of its `data/`.
 #![tactic(auto)]
 
+mod asked;
 mod by_calls;
 mod by_run;
 mod by_texts;
@@ -16,10 +17,18 @@ struct Checking;
 impl Calls for Checking {
     fn names_of(&self, call: &str) -> Option<&'static [&'static str]> {
         match call {
-            "check_texts" | "calls" | "series" => Some(&["nesting", "schema", "document"]),
-            "all" => Some(&["nesting", "schema", "document", "step"]),
+            "check_texts" => Some(&["nesting", "schema", "document"]),
+            "calls" | "series" => Some(&[
+                "nesting",
+                "first_text",
+                "first_extension",
+                "indent",
+                "schema",
+                "document",
+            ]),
+            "all" => Some(&["nesting", "indent", "schema", "document", "step"]),
             "run" => Some(&[
-                "nesting", "schema", "document", "step", "read", "write", "behind",
+                "nesting", "indent", "schema", "document", "step", "read", "write", "behind",
             ]),
             _ => None,
         }
