@@ -8,14 +8,12 @@
 #![tactic(auto)]
 
 mod answer;
-mod order;
 mod read_device;
 mod run_fault;
 mod status;
 mod write_device;
 
 pub use answer::{accepted, refused};
-pub use order::in_order;
 pub use read_device::{TextFault, numbered, read_text, read_texts};
 pub use run_fault::{Outcome, RunFault};
 pub use status::exit_status;

@@ -1,4 +1,3 @@
-pub mod Order
 pub mod Texts
 pub mod Judge
 pub mod Says
