@@ -4,8 +4,6 @@
 #![tactic(auto)]
 
 #[cfg(test)]
-mod checker;
-#[cfg(test)]
 mod definitions;
 #[cfg(test)]
 mod directives;
