@@ -17,7 +17,7 @@ use Rattle.graphql_schema_types.specs.TypeParts.{TypeDefinition, type_here}
 use Rattle.graphql_folding.specs.Listed.{Definitions, numbered, type_name, types_in, directive_name, directives_in}
 use Rattle.graphql_folding.specs.SchemaFold.{schema_here, roots_given, root_key}
 use Rattle.graphql_folding.specs.BuildErrors as rule
-use Rattle.graphql_folding.specs.BuildErrors.{Fault, Fails, FoldingRules}
+use Rattle.graphql_folding.specs.BuildErrors.{FoldingRules}
 use Rattle.graphql_written_laws.specs.Table.{IsTable, AreOwn}
 use Rattle.graphql_written_laws.specs.Twice.{Out}
 use Rattle.graphql_written_laws.proofs.Order.{Each}

@@ -1,18 +1,16 @@
 -- What is written of an accepted list has a definition.
-use Rattle.std.proofs.Common.{◌≡◌, ℕ, Bool, true, false, cond, List, [], ◌∷◌, ◌++◌, ◌&&◌, map, flat_map, Option, Some, None, refl, sym, ap, subst, ◌∙◌, not, is_none, true≢false}
+use Rattle.std.proofs.Common.{◌≡◌, ℕ, Bool, true, false, cond, List, [], ◌∷◌, ◌++◌, ◌&&◌, map, flat_map, Some, None, refl, sym, ap, subst, ◌∙◌, not, is_none, true≢false}
 use Rattle.std.specs.List.{find, list_all, AllByRecursion}
 use Rattle.std.specs.Option.{option_map_or}
 use Rattle.std.specs.Str.{bytes_eq}
 use Rattle.std.proofs.lemmas.List.{append-nil}
 use Rattle.graphql_names.specs.Places.{is_built_in}
 use Rattle.graphql_names.specs.Placed.{Place, Text}
-use Rattle.graphql_definitions.specs.DefinitionTree.{DefinitionTree}
 use Rattle.graphql_definitions.specs.Writable.{has_some, definition_writable}
-use Rattle.graphql_components.specs.Names.{Entries}
 use Rattle.graphql_components.specs.Lists.{firsts}
 use Rattle.graphql_components.specs.in_values.OperationQueries.{default_root_name}
 use Rattle.graphql_components.specs.in_operations.in_directives.declared.operation_type.OperationType.TheVariants as operation
-use Rattle.graphql_schema_types.specs.SchemaTree.{SchemaType, same_kind}
+use Rattle.graphql_schema_types.specs.SchemaTree.{same_kind}
 use Rattle.graphql_schema_types.specs.TypeParts.{TypeDefinition}
 use Rattle.graphql_schema_types.specs.Out.{is_empty, is_object_named, written_schema, written_directive, written_type}
 use Rattle.graphql_schema_types.specs.declared.type_kind.TypeKind.TheVariants.{Object}
