@@ -1,0 +1,5 @@
+pub mod Deciding
+pub mod Checking
+pub mod Typing
+pub mod Verdicts
+pub mod Completing

@@ -73,6 +73,12 @@ abbrev pub IsAnswerTo : {Z : Type 0} → Layout → Terms → List Text → Text
 IsAnswerTo layout terms texts text (Ok (outcome, bytes)) = BytesOf terms layout outcome texts text bytes.items
 IsAnswerTo layout terms texts text (Err fault) = fault ≡ Memory
 
+-- the pair is accepted, or no outcome is answered
+abbrev pub AcceptsOrFails : {Z : Type 0} → Result (Outcome × Vec ℕ Z) RunFault → Type 0
+AcceptsOrFails (Ok (Accepted, bytes)) = Unit {0}
+AcceptsOrFails (Ok (Refused, bytes)) = ⊥
+AcceptsOrFails (Err fault) = Unit {0}
+
 -- the refusal of some texts, with the bytes that go with it
 abbrev pub IsAnswerOfRefusal : {Z : Type 0} → Refusal → Result (Outcome × Vec ℕ Z) RunFault → Type 0
 IsAnswerOfRefusal (refusal.Faults list) (Ok (outcome, bytes)) = (outcome ≡ Refused) × (bytes.items ≡ codes "refused\n" ++ flat_map fault_line (diagnostics_of list))

@@ -4,8 +4,9 @@ ghost use Rattle.std.specs.Prelude.{◌≡◌, false, OnOk, IfOk, IfErr, map, st
 ghost use Rattle.graphql_names.specs.Device.{device_failed};
 ghost use Rattle.graphql_answers.specs.Devices.{HaveNotFailed};
 ghost use Rattle.graphql_layouts.specs.Prefixes.{prefix_of};
+ghost use Rattle.graphql_verdict.specs.Judge.{IsCertain};
 ghost use Rattle.graphql_checked.specs.CheckerValue.{IsCheckedSchemaOf};
-ghost use Rattle.graphql_checked.specs.Run.{TellCertain, IsAnswerToCertain, WritesAnswer, RunFaultIsDue, IsAnswerTo, IsAnswerOfRefusal};
+ghost use Rattle.graphql_checked.specs.Run.{TellCertain, IsAnswerToCertain, WritesAnswer, RunFaultIsDue, IsAnswerTo, AcceptsOrFails, IsAnswerOfRefusal};
 ghost use Rattle.graphql_checked.specs.Verdicts.{first_terms};
 
 use crate::checked_schema::CheckedSchema;
@@ -61,7 +62,8 @@ fn judge(
     limits: Limits,
     layout: Layout<'_>,
 ) -> Result<(Outcome, Vec<u8>), RunFault>
-    ensures { IsAnswerTo (prefix_of layout) (first_terms limits.nesting) (map string_bytes schemas.now) document.now result }
+    ensures answer { IsAnswerTo (prefix_of layout) (first_terms limits.nesting) (map string_bytes schemas.now) document.now result }
+    ensures complete { IsCertain (first_terms limits.nesting) (map string_bytes schemas.now) document.now → AcceptsOrFails result }
 {
     match schema_of(alloc, schemas, limits) {
         Ok(schema) => judge_document(alloc, &schema, document, layout),
@@ -76,7 +78,8 @@ fn judge_document(
     document: &str,
     layout: Layout<'_>,
 ) -> Result<(Outcome, Vec<u8>), RunFault>
-    ensures { (terms : _) (schemas : _) → IsCheckedSchemaOf terms schemas schema.now → IsAnswerTo (prefix_of layout) terms schemas document.now result }
+    ensures answer { (terms : _) (schemas : _) → IsCheckedSchemaOf terms schemas schema.now → IsAnswerTo (prefix_of layout) terms schemas document.now result }
+    ensures complete { (terms : _) (schemas : _) → IsCheckedSchemaOf terms schemas schema.now → IsCertain terms schemas document.now → AcceptsOrFails result }
 {
     match schema.check(document) {
         Ok(checked) => {
