@@ -6,6 +6,7 @@ use Rattle.graphql_meant_documents.specs.MeantTree.{MeantDocument}
 use Rattle.graphql_typed_operations.specs.TypedDocument.{TypedDocumentTree}
 use Rattle.graphql_typed_operations.specs.ToAst.{ast_document}
 use Rattle.graphql_typing.specs.DocumentView.{meant_document}
+use Rattle.graphql_typing.specs.TypingFaults as typing
 use Rattle.graphql_typing.proofs.WrittenMeant.{document-written}
 use Rattle.graphql_rule_definitions.proofs.Lists.{not_in_nil, only}
 use Rattle.graphql_meant_documents.specs.Unplaced.{unplaced_document}
@@ -77,7 +78,7 @@ module _ (schema : CheckedSchemaValue) (text : Text) where
     typing_refusal Failed h = h
 
     pub typing_certain : (refusal : Refusal) → RefusalOfTyping schema.schema tree refusal → IsDocumentCertain schema.schema schema.nesting schema.number text → refusal ≡ Memory
-    typing_certain (Faults list) h certain = absurd (none_told _ (diagnostics_of list) h.some h.right (λ fault (f, (is, fails)).
+    typing_certain (Faults list) h certain = absurd (none_told (λ fault. (f : typing.Fault Place) × ((fault ≡ of_typing f) × TypingFailsOver schema.schema tree f)) (diagnostics_of list) h.some h.right (λ fault (f, (is, fails)).
         certain.0.judged.typed f (subst (λ t. TypingFailsOver schema.schema t f) (sym (same certain.0.judged.tree (certain.0.judged.read, certain.0.within))) fails)))
     typing_certain Memory h certain = refl
     typing_certain Failed h certain = absurd h

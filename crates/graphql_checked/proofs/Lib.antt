@@ -2,4 +2,5 @@ pub mod Deciding
 pub mod Checking
 pub mod Typing
 pub mod Verdicts
+pub mod Answering
 pub mod Completing

@@ -31,7 +31,7 @@ nil_of_map f (x ∷ xs) e = absurd cc
 
 -- ---- typing
 
-module _ (schema : SchemaTree Place) (tree : Tree) (document : MeantDocument Place) (found : List (typing.Fault Place)) (faults : List Fault) where
+module _ (schema : SchemaTree Place) (tree : Tree) (found : List (typing.Fault Place)) (faults : List Fault) where
   -- what is told of them is all that breaks rules of typing
   right_told : faults ≡ map of_typing found → ((f : typing.Fault Place) → Contains found f ↔ TypingFailsOver schema tree f)
       → (fault : Fault) → Contains faults fault → (f : typing.Fault Place) × ((fault ≡ of_typing f) × TypingFailsOver schema tree f)
@@ -57,8 +57,8 @@ types_document schema tree builder document found faults over of is typed whole 
       is = is ∙ (λ i. kept_document (over i) (of i));
       typed = subst (λ m. IsTypedDocument m document) over typed;
       whole = λ none. whole (nil_of_map of_typing found (sym are ∙ none)) ∙ ap out_doc of;
-      right = right_told schema tree document found faults are exact';
-      full = full_told schema tree document found faults are exact';
+      right = right_told schema tree found faults are exact';
+      full = full_told schema tree found faults are exact';
     }
 
 -- some rule of typing is broken

@@ -1,7 +1,7 @@
 -- A checker that is given texts, and what the checks of schema texts and of a document say of the pair.
-use Rattle.std.proofs.Common.{◌≡◌, ℕ, ◌+◌, ◌<◌, false, List, [], ◌∷◌, ◌++◌, length, map, take, get_or, ◌⊎◌, Result, Ok, Err, inl, inr, sym, ap, subst, ◌∙◌}
+use Rattle.std.proofs.Common.{◌≡◌, ℕ, ◌+◌, ◌<◌, ◌≤◌, true, false, List, [], ◌∷◌, ◌++◌, length, map, take, get_or, ◌⊎◌, Result, Ok, Err, inl, inr, refl, sym, ap, subst, ◌∙◌}
 use Rattle.std.specs.Prelude.{IfOk}
-use Rattle.std.proofs.lemmas.List.{map_more}
+use Rattle.std.proofs.lemmas.List.{map_more, take_all}
 use Rattle.graphql_names.specs.Placed.{Place}
 use Rattle.graphql_schema_types.specs.SchemaTree.{SchemaTree}
 use Rattle.graphql_meant_documents.specs.MeantTree.{MeantDocument}
@@ -11,6 +11,7 @@ use Rattle.graphql_verdict.specs.Judge.{schema_at_hand, IsDocumentAccepted, IsAc
 use Rattle.graphql_verdict.specs.Says.{Fault}
 use Rattle.graphql_verdict.specs.Answer.{RefusesDocument, Refuses}
 use Rattle.graphql_checked.specs.CheckerValue.{CheckerValue, CheckedSchemaValue, IsCheckedSchemaOf, IsCheckedDocumentOf}
+use Rattle.graphql_checked.specs.CheckerAnswers.{IsAddRefusal, IsFinishRefusal}
 use Rattle.graphql_checked.specs.Refusals.{RefusalOfSchemas, RefusalOfDocument}
 use Rattle.graphql_checked.specs.Verdicts.{IsVerdict, refusal_verdict}
 use Rattle.graphql_checked.specs.declared.refusal.Refusal.{Refusal}
@@ -34,6 +35,27 @@ pub texts_more : {T : Type 0} (f : T → List ℕ) (xs : List T) (i : ℕ) (term
 texts_more f xs i terms x text old new inside is lent before added =
     added ∙ ap {A = CheckerValue} {B = CheckerValue} (λ c. record c { texts = c.texts ++ text ∷ [] }) before
     ∙ ap (given terms) (ap (λ t. map f (take i xs) ++ t ∷ []) (lent ∙ ap f is) ∙ sym (map_more f xs i x inside))
+
+-- all are
+pub texts_all : {T : Type 0} (f : T → List ℕ) (xs : List T) (i : ℕ) (terms : Terms) (checker : CheckerValue) → length xs ≤ i → checker ≡ record { terms = terms; texts = map f (take i xs); failed = false }
+    → checker ≡ record { terms = terms; texts = map f xs; failed = false }
+texts_all f xs i terms checker outside before = before ∙ ap (λ l. given terms (map f l)) (take_all i xs outside)
+
+-- a checker that runs refuses a text for want of memory alone
+pub add_refusal : (old new : CheckerValue) (refusal : Refusal) → old.failed ≡ false → IsAddRefusal old new refusal → refusal ≡ Memory
+add_refusal old new (Faults list) runs h = absurd h
+add_refusal old new Memory runs h = refl
+add_refusal old new Failed runs h = let e : true ≡ false = sym h.0 ∙ runs in absurd cc
+
+-- one that runs refuses its texts as they are to be refused
+pub finish_refusal : (checker : CheckerValue) (refusal : Refusal) → checker.failed ≡ false → IsFinishRefusal checker refusal → RefusalOfSchemas checker.terms checker.texts refusal
+finish_refusal checker (Faults list) runs h = h.1
+finish_refusal checker Memory runs h = tt
+finish_refusal checker Failed runs h = let e : true ≡ false = sym h ∙ runs in absurd cc
+
+-- where memory alone wanted
+pub memory_refusal : (terms : Terms) (texts : List Text) (refusal : Refusal) → refusal ≡ Memory → RefusalOfSchemas terms texts refusal
+memory_refusal terms texts refusal is = rw is tt
 
 -- ---- a document over a checked schema, and over the schema of the texts
 

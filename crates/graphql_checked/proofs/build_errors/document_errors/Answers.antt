@@ -1,5 +1,7 @@
 use Rattle.std.proofs.Common.{◌≡◌, ◌∷◌, [], ◌++◌, length, sym, ap, ◌∙◌, append_assoc, arith}
 use Rattle.std.specs.Vec.Iter.{into_iter_items}
+use Rattle.graphql_names.specs.Placed.{Place}
+use Rattle.graphql_document_faults.specs.declared.build_error.BuildError.{BuildError}
 use Rattle.graphql_typing.specs.FaultView.{fault_of}
 use Rattle.graphql_faults.proofs.Growing.{grown_more, grown_all}
 use Rattle.graphql_verdict.specs.Says.{of_typing}
@@ -8,7 +10,7 @@ use Rattle.graphql_checked.proofs.build_errors.document_errors.Goals as goal
 pub loop-place-preserved : goal.loop-place-preserved
 loop-place-preserved c =
     let at = c.loop-place in
-    let x = (c.in-Some.place, c.in-Some.error) in
+    let x : Place × BuildError = (c.in-Some.place, c.in-Some.error) in
     let steps : into_iter_items at.place-iterator ≡ x ∷ into_iter_items c.next.new.self = c.in-Some.ensures.steps.0 in (
       grown_more fault_of of_typing [] _ _ at.yielded x at.invariant.0 c.in_ok-push.ensures.added,
       at.invariant.1 ∙ ap (λ r. at.yielded ++ r) steps ∙ sym (append_assoc at.yielded (x ∷ []) (into_iter_items c.next.new.self)),
