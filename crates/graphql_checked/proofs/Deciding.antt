@@ -16,6 +16,9 @@ use Rattle.graphql_faults.specs.DetailsTree.{Syntax}
 use Rattle.graphql_verdict.specs.Texts.{Text, Tree, DerivesIn, ReadsText, ReadsAll, IsWithin, AreWithin, IsRead, AreRead}
 use Rattle.graphql_verdict.specs.Says.{Fault, Tells, IsFaultOfText, UnreadFault, UnreadFaultFrom}
 use Rattle.graphql_verdict.specs.Answer.{UnreadFaults, AllSay}
+use Rattle.graphql_checked.specs.Unread.{IsUnread, TellsUnread}
+use Rattle.graphql_checked.specs.declared.read_text.Unread.{Unread}
+use Rattle.graphql_checked.specs.declared.read_text.Unread.TheVariants as unread
 
 -- ---- lists of faults
 
@@ -63,6 +66,11 @@ pub syntax_tells : (number : ℕ) (kind : SyntaxFaultKind) (span : SourceSpan) �
 syntax_tells number NoToken span f l = (refl, record { span = span; is = refl; of_file = f; at = refl; long = l })
 syntax_tells number Unexpected span f l = (refl, record { span = span; is = refl; of_file = f; at = refl; long = l })
 syntax_tells number End span f l = (refl, record { span = span; is = refl; of_file = f; at = refl; long = l })
+
+-- what is told of a fault that is due of a text
+pub unread_due : (nesting number : ℕ) (text : Text) (fault : read.Fault) (told : Unread) → IsDue (DerivesIn number) nesting text fault → TellsUnread number fault told → IsUnread nesting number text told
+unread_due nesting number text fault unread.Memory due tells = tt
+unread_due nesting number text fault (unread.Fault place details) due tells = record { read = fault; due = due; tells = tells }
 
 -- of a text that has a tree and nests within the limit no fault is due
 pub no_fault : (nesting number : ℕ) (text : Text) (fault : Fault) (tree : Tree) → IsFaultOfText nesting number text fault → ReadsText number text tree → (NestingBound nesting text → ⊥) → ⊥

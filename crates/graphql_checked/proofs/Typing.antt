@@ -51,8 +51,8 @@ pub types_document : (schema : SchemaTree Place) (tree : Tree) (builder : Docume
     → TypesDocument schema tree document faults
 types_document schema tree builder document found faults over of is typed whole exact are =
     let exact' : (f : typing.Fault Place) → Contains found f ↔ TypingFailsOver schema tree f =
-        subst (λ ds. (f : typing.Fault Place) → Contains found f ↔ TypingFails (meanings (plain schema)) ds f) of
-        (subst (λ m. (f : typing.Fault Place) → Contains found f ↔ TypingFails m builder.definitions f) over exact) in
+    subst (λ ds. (f : typing.Fault Place) → Contains found f ↔ TypingFails (meanings (plain schema)) ds f) of
+    (subst (λ m. (f : typing.Fault Place) → Contains found f ↔ TypingFails m builder.definitions f) over exact) in
     record {
       is = is ∙ (λ i. kept_document (over i) (of i));
       typed = subst (λ m. IsTypedDocument m document) over typed;
