@@ -16,7 +16,7 @@ use Rattle.graphql_faults.specs.DetailsView.{diagnostics_of}
 use Rattle.graphql_validation.specs.TellsDocument.{SomeFails}
 use Rattle.graphql_verdict.specs.Texts.{Text, Tree}
 use Rattle.graphql_verdict.specs.Judge.{document_over, IsDocumentCertain}
-use Rattle.graphql_verdict.specs.Says.{Fault, of_typing, of_document, UnreadFault, TypingFailsOver}
+use Rattle.graphql_verdict.specs.Says.{Fault, of_typing, UnreadFault, TypingFailsOver}
 use Rattle.graphql_verdict.specs.Out.{Layout, layout_text}
 use Rattle.graphql_verdict.specs.Answer.{UnreadAlone, RefusesDocument, WritesDocument}
 use Rattle.graphql_checked.specs.CheckerValue.{CheckedSchemaValue, IsCheckedDocumentOf}

@@ -1,11 +1,10 @@
 -- A certain pair is answered so, where memory suffices and no device fails; and what is out where the writer fails.
 use Rattle.std.proofs.Common.{inl, inr, ◌≡◌, ℕ, zero, suc, List, [], ◌∷◌, length, map, get_or, Option, ap, sym, subst, refl, ◌∙◌, arith}
 use Rattle.std.proofs.lemmas.List.{length-map}
-use Rattle.std.specs.Prelude.{Result, Err, Ok, IfSome, IsUtf8, Vec}
+use Rattle.std.specs.Prelude.{Err, Ok, IfSome, IsUtf8, Vec}
 use Rattle.std.specs.List.{AllZip}
 use Rattle.graphql_names.specs.declared.device.Device.{Device}
 use Rattle.graphql_names.specs.Device.{device_failed}
-use Rattle.graphql_faults.specs.DetailsView.{diagnostics_of}
 use Rattle.graphql_verdict.specs.Texts.{Text, Terms}
 use Rattle.graphql_verdict.specs.Judge.{IsCertain}
 use Rattle.graphql_verdict.specs.Out.{Layout}

@@ -1,12 +1,12 @@
 -- What typing and judging a document find, as lists of faults.
-use Rattle.std.proofs.Common.{inl, inr, ◌≡◌, ◌≢◌, ℕ, List, [], ◌∷◌, ◌++◌, map, Contains, refl, ap, subst, ◌∙◌, sym}
+use Rattle.std.proofs.Common.{◌≡◌, ◌≢◌, List, [], ◌∷◌, ◌++◌, map, Contains, refl, ap, subst, ◌∙◌, sym}
 use Rattle.std.specs.Prelude.{◌↔◌}
 use Rattle.graphql_names.specs.Placed.{Place}
 use Rattle.graphql_schema_types.specs.SchemaTree.{SchemaTree}
 use Rattle.graphql_schema_types.specs.Plain.{plain}
 use Rattle.graphql_meant_documents.specs.MeantTree.{MeantDocument}
 use Rattle.graphql_meant_documents.specs.Unplaced.{unplaced_document}
-use Rattle.graphql_typing.specs.Meanings.{Meanings, meanings}
+use Rattle.graphql_typing.specs.Meanings.{meanings}
 use Rattle.graphql_typing.specs.KeptDocument.{kept_document}
 use Rattle.graphql_typing.specs.TypedByPlace.{IsTypedDocument}
 use Rattle.graphql_typing.specs.TypingFaults as typing
@@ -18,7 +18,7 @@ use Rattle.graphql_document_rule_definitions.specs.Told.{PlacedDocumentFault, Is
 use Rattle.graphql_document_rule_definitions.specs.Verdict.{WithinBounds}
 use Rattle.graphql_document_rule_definitions.proofs.Unplaced.{contains_map, contains_unmap}
 use Rattle.graphql_validation.specs.Told as told
-use Rattle.graphql_validation.specs.TellsDocument.{SomeFails, DocumentTold}
+use Rattle.graphql_validation.specs.TellsDocument.{DocumentTold}
 use Rattle.graphql_verdict.specs.Texts.{Tree}
 use Rattle.graphql_verdict.specs.Says.{Fault, of_typing, of_document, TypingFailsOver}
 use Rattle.graphql_checked.specs.Checking.{TypesDocument, RefusesTyping, RefusesRules}

@@ -6,8 +6,8 @@ use Rattle.graphql_names.specs.Placed.{Place}
 use Rattle.graphql_schema_types.specs.SchemaTree.{SchemaTree}
 use Rattle.graphql_meant_documents.specs.MeantTree.{MeantDocument}
 use Rattle.graphql_faults.specs.DetailsView.{diagnostics_of}
-use Rattle.graphql_verdict.specs.Texts.{Text, Tree, Terms, document_number}
-use Rattle.graphql_verdict.specs.Judge.{schema_at_hand, IsDocumentAccepted, IsAccepted, AreSchemasAccepted, AreSchemasCertain, IsDocumentCertain, IsCertain}
+use Rattle.graphql_verdict.specs.Texts.{Text, Terms, document_number}
+use Rattle.graphql_verdict.specs.Judge.{schema_at_hand, IsDocumentAccepted, IsAccepted, AreSchemasCertain, IsDocumentCertain, IsCertain}
 use Rattle.graphql_verdict.specs.Says.{Fault}
 use Rattle.graphql_verdict.specs.Answer.{RefusesDocument, Refuses}
 use Rattle.graphql_checked.specs.CheckerValue.{CheckerValue, CheckedSchemaValue, IsCheckedSchemaOf, IsCheckedDocumentOf}

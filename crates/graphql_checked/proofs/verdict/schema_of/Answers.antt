@@ -1,4 +1,4 @@
-use Rattle.std.proofs.Common.{map, ap, sym, subst}
+use Rattle.std.proofs.Common.{ap, sym, subst}
 use Rattle.std.specs.Prelude.{IfOk, IfErr}
 use Rattle.std.proofs.lemmas.Result.{err_from_is_err_and, IfErr-weaker}
 use Rattle.graphql_verdict.specs.Judge.{AreSchemasCertain}
