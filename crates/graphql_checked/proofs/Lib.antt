@@ -3,4 +3,6 @@ pub mod Adding
 pub mod TextsReading
 pub mod Refusing
 pub mod Filling
+pub mod Building
+pub mod Validating
 pub mod Finishing
