@@ -1,4 +1,11 @@
 pub mod Deciding
+pub mod Adding
+pub mod TextsReading
+pub mod Refusing
+pub mod Filling
+pub mod Building
+pub mod Validating
+pub mod Finishing
 pub mod Checking
 pub mod Typing
 pub mod Verdicts

@@ -1,48 +1,98 @@
 -- Private: leads to `RefusalOfSchemas`. What building and judging a schema find.
-use Rattle.std.specs.Prelude.{◌≡◌, ◌≢◌, ◌↔◌, ◌⊎◌, false, List, [], Contains}
+use Rattle.std.specs.Prelude.{◌≡◌, ◌≢◌, ◌↔◌, ◌⊎◌, ℕ, false, List, [], ◌∷◌, Contains}
 use Rattle.graphql_names.specs.Placed.{Place}
 use Rattle.graphql_schema_types.specs.SchemaTree.{SchemaTree}
+use Rattle.graphql_schema_types.specs.Out.{written}
 use Rattle.graphql_built_in.specs.Table.{built_in_definitions}
 use Rattle.graphql_folding.specs.BuildErrors as folding
 use Rattle.graphql_folding.specs.BuildErrors.{FoldingRules}
 use Rattle.graphql_schema_building.specs.BuilderValue.{BuilderValue}
-use Rattle.graphql_schema_building.specs.Building.{counted, folded, FailsIn}
+use Rattle.graphql_schema_building.specs.Building.{plain_settings, counted, folded, FailsIn}
+use Rattle.graphql_schema_building.specs.Numbers.{HaveNumbers}
+use Rattle.graphql_schema_building.specs.declared.refusal.BuilderRefusal.{BuilderRefusal}
+use Rattle.graphql_schema_building.specs.declared.refusal.BuilderRefusal.TheVariants as builder
 use Rattle.graphql_rule_definitions.specs.Judged.{judged}
+use Rattle.graphql_rule_definitions.specs.Kept.{validated}
 use Rattle.graphql_rule_definitions.specs.Rules.{SchemaRules, RulesFail, BoundFails}
 use Rattle.graphql_rule_definitions.specs.Told.{PlacedFault}
 use Rattle.graphql_faults.specs.DetailsTree.{of_rule}
 use Rattle.graphql_faults.specs.DetailsView.{diagnostics_of}
-use Rattle.graphql_verdict.specs.Judge.{PassesNoReferenceBound}
-use Rattle.graphql_verdict.specs.Says.{Fault, of_folding}
+use Rattle.graphql_verdict.specs.Texts.{Tree}
+use Rattle.graphql_verdict.specs.Judge.{definitions_of}
+use Rattle.graphql_verdict.specs.Says.{Fault, of_folding, spent}
+use Rattle.graphql_checked.specs.Checking.{TellsOnly}
 use Rattle.graphql_checked.specs.declared.refusal.Refusal.{Refusal}
 use Rattle.graphql_checked.specs.declared.refusal.Refusal.TheVariants.{Faults, Memory, Failed}
 
+-- ---- the definitions of all texts
+
+-- The builder runs, and has the definitions of these trees, in order, each extension with a number from this one on.
+pub record IsFilled (number : ℕ) (trees : List Tree) (b : BuilderValue) : Type 0 where
+  pub first : b.first ≡ number
+  pub are : b.texts ≡ definitions_of trees
+  pub plain : b.settings ≡ plain_settings
+  pub running : b.failed ≡ false
+  pub numbered : HaveNumbers number (definitions_of trees)
+
+-- no number is left for an extension, which is told alone; or memory ran out
+abbrev pub RefusalOfNumbers : ℕ → List Tree → Refusal → Type 0
+RefusalOfNumbers number trees (Faults list) = (diagnostics_of list ≡ spent ∷ []) × (HaveNumbers number (definitions_of trees) → ⊥)
+RefusalOfNumbers number trees Memory = Unit {0}
+RefusalOfNumbers number trees Failed = ⊥
+
+-- what is said of a builder's refusal
+abbrev pub IsOfBuilder : BuilderRefusal → Refusal → Type 0
+IsOfBuilder builder.Spent refusal = TellsOnly spent refusal
+IsOfBuilder builder.Memory refusal = refusal ≡ Memory
+IsOfBuilder builder.Failed refusal = refusal ≡ Memory
+
+-- ---- folding
+
 -- This is what the builder's definitions fold to, and these are all breaches of folding rules.
-pub record BuildsSchema (builder : BuilderValue) (schema : SchemaTree Place) (faults : List Fault) : Type 0 where
-  pub is : schema ≡ folded builder
-  pub right : (fault : Fault) → Contains faults fault → (f : folding.Fault) × ((fault ≡ of_folding f) × FailsIn builder f)
-  pub full : (f : folding.Fault) → FailsIn builder f → Contains faults (of_folding f)
-  pub faultless : (faults ≡ []) ↔ FoldingRules built_in_definitions builder.first (counted builder)
+pub record BuildsSchema (b : BuilderValue) (schema : SchemaTree Place) (faults : List Fault) : Type 0 where
+  pub is : schema ≡ folded b
+  pub right : (fault : Fault) → Contains faults fault → (f : folding.Fault) × ((fault ≡ of_folding f) × FailsIn b f)
+  pub full : (f : folding.Fault) → FailsIn b f → Contains faults (of_folding f)
+  pub faultless : (faults ≡ []) ↔ FoldingRules built_in_definitions b.first (counted b)
 
 -- folding rules are broken, and all that breaks them is told
-pub record RefusesFolding (builder : BuilderValue) (faults : List Fault) : Type 0 where
+pub record RefusesFolding (b : BuilderValue) (faults : List Fault) : Type 0 where
   pub some : faults ≢ []
-  pub right : (fault : Fault) → Contains faults fault → (f : folding.Fault) × ((fault ≡ of_folding f) × FailsIn builder f)
-  pub full : (f : folding.Fault) → FailsIn builder f → Contains faults (of_folding f)
+  pub right : (fault : Fault) → Contains faults fault → (f : folding.Fault) × ((fault ≡ of_folding f) × FailsIn b f)
+  pub full : (f : folding.Fault) → FailsIn b f → Contains faults (of_folding f)
 
--- nothing is built: rules are broken, or memory ran out, of which a builder that had failed before says nothing more
+-- nothing is built: rules are broken, or memory ran out
 abbrev pub RefusalOfFolding : BuilderValue → Refusal → Type 0
-RefusalOfFolding builder (Faults list) = RefusesFolding builder (diagnostics_of list)
-RefusalOfFolding builder Memory = Unit {0}
-RefusalOfFolding builder Failed = ⊥
+RefusalOfFolding b (Faults list) = RefusesFolding b (diagnostics_of list)
+RefusalOfFolding b Memory = Unit {0}
+RefusalOfFolding b Failed = ⊥
 
--- rules on schemas are broken so, or the bound on references is passed; a schema of which every rule holds is refused by the bound alone
+-- ---- rules on schemas
+
+-- they are broken so, or the bound on references is passed
 pub record RefusesSchemaRules (schema : SchemaTree Place) (faults : List Fault) : Type 0 where
   pub some : faults ≢ []
   pub right : (fault : Fault) → Contains faults fault → (f : PlacedFault) × ((fault ≡ of_rule f) × (RulesFail schema f ⊎ BoundFails schema f))
-  pub bound : SchemaRules (judged schema) → PassesNoReferenceBound schema → ⊥
 
 abbrev pub RefusalOfSchemaRules : SchemaTree Place → Refusal → Type 0
 RefusalOfSchemaRules schema (Faults list) = RefusesSchemaRules schema (diagnostics_of list)
 RefusalOfSchemaRules schema Memory = Unit {0}
 RefusalOfSchemaRules schema Failed = ⊥
+
+-- ---- both
+
+-- The builder's definitions break no rule; this is the schema over which documents are judged, and this is written of it as it was built.
+pub record IsJudgedSchema (b : BuilderValue) (schema : SchemaTree Place) (out : Tree) : Type 0 where
+  pub folds : FoldingRules built_in_definitions b.first (counted b)
+  pub holds : SchemaRules (judged (folded b))
+  pub at_hand : schema ≡ validated (folded b)
+  pub written : out ≡ written (folded b)
+
+-- folding rules are broken; or none is, and rules on schemas are
+abbrev pub RefusesBuilder : BuilderValue → List Fault → Type 0
+RefusesBuilder b faults = RefusesFolding b faults ⊎ (FoldingRules built_in_definitions b.first (counted b) × RefusesSchemaRules (folded b) faults)
+
+abbrev pub RefusalOfBuilder : BuilderValue → Refusal → Type 0
+RefusalOfBuilder b (Faults list) = RefusesBuilder b (diagnostics_of list)
+RefusalOfBuilder b Memory = Unit {0}
+RefusalOfBuilder b Failed = ⊥

@@ -1,23 +1,27 @@
 -- Private: leads to what `Checker::finish` answers. What contracts see of the schema texts that a checker was given.
 use Rattle.std.specs.Prelude.{◌≡◌, ℕ, ◌+◌, ◌<◌, ◌^◌, List, map, string_bytes}
 use Rattle.graphql_names.specs.declared.span.FileId.{FileId}
-use Rattle.graphql_schema.specs.BuilderOf.{builder_value}
+use Rattle.graphql_definitions.specs.DefinitionTree.{document_tree}
 use Rattle.graphql_faults.specs.DetailsView.{diagnostics_of}
-use Rattle.graphql_verdict.specs.Texts.{Text, Terms}
+use Rattle.graphql_verdict.specs.Texts.{Text, Tree, Terms}
 use Rattle.graphql_checked.specs.Added.{AreAdded}
 use Rattle.graphql_checked.specs.declared.schema_texts.SchemaTexts.{SchemaTexts}
 
 -- the terms on which they are judged
 abbrev pub terms_of : SchemaTexts → Terms
-terms_of s = record { nesting = s.nesting; first_text = s.first; first_extension = (builder_value s.builder).first }
+terms_of s = record { nesting = s.nesting; first_text = s.first; first_extension = s.extensions }
 
 -- the texts, in order
 abbrev pub texts_of : SchemaTexts → List Text
 texts_of s = map string_bytes s.texts.items
 
+-- what was kept of them
+abbrev pub trees_of : SchemaTexts → List Tree
+trees_of s = map document_tree s.documents.items
+
 -- What is kept of reading is of these texts, where the next one gets this number.
 abbrev pub IsReadingAt : List Text → ℕ → SchemaTexts → Type 0
-IsReadingAt texts number s = AreAdded (terms_of s) texts number (builder_value s.builder) s.is_spent (diagnostics_of s.unread)
+IsReadingAt texts number s = AreAdded (terms_of s) texts number (trees_of s) (diagnostics_of s.unread)
 
 -- What is kept of reading is of these texts.
 abbrev pub IsReadingOf : List Text → SchemaTexts → Type 0

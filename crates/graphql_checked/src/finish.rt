@@ -1,20 +1,54 @@
 //! The schema of texts that are read: built and judged.
 
-ghost use Rattle.std.specs.Prelude.{◌≡◌, [], OnOk, IfOk, IfErr};
+ghost use Rattle.std.specs.Prelude.{◌≡◌, [], map, OnOk, IfOk, IfErr};
+ghost use Rattle.graphql_definitions.specs.DefinitionTree.{document_tree};
 ghost use Rattle.graphql_faults.specs.DetailsView.{diagnostics_of};
 ghost use Rattle.graphql_schema.specs.BuilderOf.{builder_value};
 ghost use Rattle.graphql_schema.specs.SchemaOf.{schema_tree};
 ghost use Rattle.graphql_rule_definitions.specs.Judged.{judged};
 ghost use Rattle.graphql_rule_definitions.specs.Kept.{validated};
 ghost use Rattle.graphql_rule_definitions.specs.Rules.{SchemaRules};
-ghost use Rattle.graphql_checked.specs.Finishing.{BuildsSchema, RefusalOfFolding, RefusalOfSchemaRules};
+ghost use Rattle.graphql_checked.specs.Finishing.{IsFilled, RefusalOfNumbers, IsOfBuilder, BuildsSchema, RefusalOfFolding, RefusalOfSchemaRules, IsJudgedSchema, RefusalOfBuilder};
 
 use crate::build_errors::schema_errors;
+use crate::checked_schema::only;
 use crate::refusal::Refusal;
-use graphql_faults::DiagnosticList;
+use graphql_components::Extensions;
+use graphql_definitions::Document;
+use graphql_faults::{Details, DiagnosticList};
 use graphql_rules::validate_schema;
 use graphql_schema::{Schema, SchemaBuilder};
+use graphql_schema_building::BuilderRefusal;
 use std::alloc::{AllocError, Global};
+
+/// A builder that has the definitions of the documents, in order, if there is a number for each extension.
+pub(crate) fn filled(
+    alloc: Global,
+    extensions: Extensions,
+    documents: &[Document],
+) -> Result<SchemaBuilder, Refusal>
+    ensures filled { IfOk result (λ b. IsFilled extensions (map document_tree documents.now) (builder_value b)) }
+    ensures refused { IfErr result (RefusalOfNumbers extensions (map document_tree documents.now)) }
+{
+    let mut builder = SchemaBuilder::with_extensions(alloc, extensions);
+    for document in documents {
+        match builder.add_ast(document) {
+            Ok(()) => {}
+            Err(refusal) => return Err(unfilled(alloc, refusal)),
+        }
+    }
+    Ok(builder)
+}
+
+/// What is said where a builder adds nothing.
+fn unfilled(alloc: Global, refusal: BuilderRefusal) -> Refusal
+    ensures { IsOfBuilder refusal result }
+{
+    match refusal {
+        BuilderRefusal::Spent => only(alloc, None, Details::Spent),
+        BuilderRefusal::Memory | BuilderRefusal::Failed => Refusal::Memory,
+    }
+}
 
 /// The schema that the definitions fold to, with each way in which a folding rule is broken.
 fn build(
@@ -30,7 +64,7 @@ fn build(
 }
 
 /// The schema that the definitions fold to, where no folding rule is broken.
-pub(crate) fn built(alloc: Global, builder: SchemaBuilder) -> Result<Schema, Refusal>
+fn built(alloc: Global, builder: SchemaBuilder) -> Result<Schema, Refusal>
     ensures built { IfOk result (λ s. BuildsSchema (builder_value builder) (schema_tree s) []) }
     ensures refused { IfErr result (RefusalOfFolding (builder_value builder)) }
 {
@@ -42,7 +76,7 @@ pub(crate) fn built(alloc: Global, builder: SchemaBuilder) -> Result<Schema, Ref
 }
 
 /// Leaves the schema over which documents are judged, if every rule on schemas holds.
-pub(crate) fn validate(alloc: Global, schema: &mut Schema) -> Result<(), Refusal>
+fn validate(alloc: Global, schema: &mut Schema) -> Result<(), Refusal>
     ensures kept { OnOk result (schema_tree schema.new ≡ validated (schema_tree schema.old)) }
     ensures valid { OnOk result (SchemaRules (judged (schema_tree schema.old))) }
     ensures refused { IfErr result (RefusalOfSchemaRules (schema_tree schema.old)) }
@@ -53,4 +87,15 @@ pub(crate) fn validate(alloc: Global, schema: &mut Schema) -> Result<(), Refusal
         return Err(Refusal::Faults(faults));
     }
     Ok(())
+}
+
+/// The schema over which documents are judged, and what is written of it as it was built, if no rule is broken.
+pub(crate) fn judge(alloc: Global, builder: SchemaBuilder) -> Result<(Schema, Document), Refusal>
+    ensures judged { IfOk result (λ r. IsJudgedSchema (builder_value builder) (schema_tree r.0) (document_tree r.1)) }
+    ensures refused { IfErr result (RefusalOfBuilder (builder_value builder)) }
+{
+    let mut schema = built(alloc, builder)?;
+    let written = schema.to_ast(alloc)?;
+    validate(alloc, &mut schema)?;
+    Ok((schema, written))
 }

@@ -37,12 +37,12 @@ pub(crate) fn read(
 {
     match parse_document(alloc, text, file, nesting) {
         Ok(document) => Ok(document),
-        Err(fault) => Err(unread(text, file, fault)),
+        Err(fault) => Err(told_of(text, file, fault)),
     }
 }
 
 /// What is said of the text of which a fault is due.
-fn unread(text: &str, file: FileId, fault: ReadFault) -> Unread
+fn told_of(text: &str, file: FileId, fault: ReadFault) -> Unread
     requires { (offset : ℕ) → fault ≡ Nesting offset → offset < length text.now }
     ensures { TellsUnread file.0 (fault_view fault) result }
 {

@@ -5,24 +5,20 @@ ghost use Rattle.graphql_definitions.specs.DefinitionTree.{document_tree};
 ghost use Rattle.graphql_read.specs.Reads.{NestingBound};
 ghost use Rattle.graphql_faults.specs.DetailsView.{diagnostics_of};
 ghost use Rattle.graphql_verdict.specs.Texts.{ReadsText};
-ghost use Rattle.graphql_verdict.specs.Judge.{AreSchemasCertain};
 ghost use Rattle.graphql_checked.specs.Added.{IsToldBehind};
 ghost use Rattle.graphql_checked.specs.CheckedView.{schema_value};
 ghost use Rattle.graphql_checked.specs.CheckerValue.{IsCheckedSchemaOf};
 ghost use Rattle.graphql_checked.specs.Refusals.{RefusalOfSchemas};
 ghost use Rattle.graphql_checked.specs.TextsView.{terms_of, texts_of, IsReadingOf, IsBefore};
-ghost use Rattle.graphql_checked.specs.declared.refusal.Refusal.TheVariants.{Memory};
 
-use crate::checked_schema::{CheckedSchema, only};
-use crate::finish::{built, validate};
+use crate::checked_schema::CheckedSchema;
+use crate::finish::{filled, judge};
 use crate::read_text::{Unread, read};
 use crate::refusal::Refusal;
 use graphql_components::Extensions;
 use graphql_definitions::Document;
 use graphql_faults::{Details, DiagnosticList};
 use graphql_names::{FileId, Files, Spent};
-use graphql_schema::SchemaBuilder;
-use graphql_schema_building::BuilderRefusal;
 use std::alloc::{AllocError, Global};
 
 /// Schema texts in order, and what reading them gave.
@@ -35,13 +31,12 @@ pub(crate) struct SchemaTexts {
     pub(crate) first: u64,
     /// The number of the next text.
     pub(crate) files: Files,
+    /// The numbers of extensions, of which none is given yet.
+    pub(crate) extensions: Extensions,
     /// The texts.
     pub(crate) texts: Vec<String>,
-    /// What builds the schema: it has the definitions of the texts, in order, as long as each is read and each extension has
-    /// a number.
-    pub(crate) builder: SchemaBuilder,
-    /// Whether the numbers of extensions ran out.
-    pub(crate) is_spent: bool,
+    /// What each text is, in order, as long as each is read.
+    pub(crate) documents: Vec<Document>,
     /// A fault of each text that is not read.
     pub(crate) unread: DiagnosticList,
 }
@@ -64,9 +59,9 @@ impl SchemaTexts {
             nesting,
             first,
             files: Files::starting_at(first),
+            extensions,
             texts: Vec::new(alloc),
-            builder: SchemaBuilder::with_extensions(alloc, extensions),
-            is_spent: false,
+            documents: Vec::new(alloc),
             unread: DiagnosticList::new(alloc),
         }
     }
@@ -106,30 +101,24 @@ impl SchemaTexts {
         ensures reading { OnOk result (IsReadingOf (texts_of self.old ++ text.now ∷ []) self.new) }
     {
         match read(self.alloc, text, file, self.nesting) {
-            Ok(document) => self.keep(&document, file),
+            Ok(document) => self.keep(document, file),
             Err(unread) => tell(&mut self.unread, unread),
         }
     }
 
-    /// Keeps the definitions of the text with this number, as long as each text is read and each extension has a number.
-    fn keep(&mut self, document: &Document, file: FileId) -> Result<(), AllocError>
+    /// Keeps what the text with this number is, as long as each text is read.
+    fn keep(&mut self, document: Document, file: FileId) -> Result<(), AllocError>
         requires { IsBefore (texts_of self.old) file self.old }
         ensures terms { OnOk result (terms_of self.new ≡ terms_of self.old) }
         ensures texts { self.new.texts ≡ self.old.texts }
-        ensures reading { OnOk result ((text : List ℕ) → ReadsText file.0 text (document_tree document.now) → (NestingBound self.old.nesting text → ⊥)
+        ensures reading { OnOk result ((text : List ℕ) → ReadsText file.0 text (document_tree document) → (NestingBound self.old.nesting text → ⊥)
             → IsReadingOf (texts_of self.old ++ text ∷ []) self.new) }
     {
-        if self.is_spent || !self.unread.is_empty() {
+        if !self.unread.is_empty() {
             return Ok(());
         }
-        match self.builder.add_ast(document) {
-            Ok(()) => Ok(()),
-            Err(BuilderRefusal::Spent) => {
-                self.is_spent = true;
-                Ok(())
-            }
-            Err(BuilderRefusal::Memory | BuilderRefusal::Failed) => Err(AllocError),
-        }
+        self.documents.push(document)?;
+        Ok(())
     }
 
     /// The schema of the texts, if they are accepted.
@@ -137,17 +126,12 @@ impl SchemaTexts {
         requires { IsReadingOf (texts_of self) self }
         ensures schema { IfOk result (λ s. IsCheckedSchemaOf (terms_of self) (texts_of self) (schema_value s)) }
         ensures refused { IfErr result (RefusalOfSchemas (terms_of self) (texts_of self)) }
-        ensures complete { IfErr result (λ refusal. AreSchemasCertain (terms_of self) (texts_of self) → refusal ≡ Memory) }
     {
         if !self.unread.is_empty() {
             return Err(Refusal::Faults(self.unread));
         }
-        if self.is_spent {
-            return Err(only(self.alloc, None, Details::Spent));
-        }
-        let mut schema = built(self.alloc, self.builder)?;
-        let written = schema.to_ast(self.alloc)?;
-        validate(self.alloc, &mut schema)?;
+        let builder = filled(self.alloc, self.extensions, &self.documents)?;
+        let (schema, written) = judge(self.alloc, builder)?;
         Ok(CheckedSchema {
             alloc: self.alloc,
             nesting: self.nesting,

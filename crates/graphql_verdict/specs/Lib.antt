@@ -1,3 +1,4 @@
+pub mod Order
 pub mod Texts
 pub mod Judge
 pub mod Says

@@ -1,0 +1,13 @@
+use Rattle.std.proofs.Common.{◌≡◌, false, subst}
+use Rattle.std.proofs.lemmas.Result.{IfErr-weaker}
+use Rattle.graphql_verdict.specs.Judge.{AreSchemasCertain}
+use Rattle.graphql_checked.specs.Refusals.{RefusalOfSchemas}
+use Rattle.graphql_checked.specs.TextsView.{terms_of, texts_of}
+use Rattle.graphql_checked.specs.declared.refusal.Refusal.TheVariants.{Memory}
+use Rattle.graphql_checked.proofs.Refusing.{refusal_of_schemas}
+use Rattle.graphql_checked.proofs.checker.Checker.finish.Goals as goal
+
+pub returns-clause-complete : goal.returns-clause-complete
+returns-clause-complete c =
+    IfErr-weaker _ (RefusalOfSchemas (terms_of c.self.inside.texts) (texts_of c.self.inside.texts)) (λ refusal. c.args.self.failed ≡ false → AreSchemasCertain c.args.self.terms c.args.self.texts → refusal ≡ Memory)
+    (λ refusal h running certain. refusal_of_schemas c.args.self.terms c.args.self.texts certain refusal (subst (λ v. RefusalOfSchemas v.terms v.texts refusal) c.self.view_is h)) c.finish.ensures.refused
