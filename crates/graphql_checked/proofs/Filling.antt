@@ -66,7 +66,7 @@ module _ (number : ℕ) (documents : List Document) (i : ℕ) (d : Document) (in
     none_left : (HaveNumbers old.first (old.texts ++ document_tree d) → ⊥) → HaveNumbers number (definitions_of (map document_tree documents)) → ⊥
     none_left none have =
         let front : HaveNumbers number (definitions_of (map document_tree (take i documents)) ++ document_tree d) =
-        front_numbers number _ (definitions_of (map document_tree (drop (i + 1) documents))) (subst (HaveNumbers number) definitions_split have) in
+        front_numbers number (definitions_of (map document_tree (take i documents)) ++ document_tree d) (definitions_of (map document_tree (drop (i + 1) documents))) (subst (HaveNumbers number) definitions_split have) in
         none (subst (λ n. HaveNumbers n (old.texts ++ document_tree d)) (sym before.first) (subst (λ ds. HaveNumbers number (ds ++ document_tree d)) (sym before.are) front))
 
     told_spent : (HaveNumbers number (definitions_of (map document_tree documents)) → ⊥) → (refusal : Refusal) → TellsOnly spent refusal → RefusalOfNumbers number (map document_tree documents) refusal

@@ -12,7 +12,7 @@ use Rattle.graphql_checked.specs.declared.refusal.Refusal.TheVariants.{Faults, M
 use Rattle.graphql_checked.proofs.Deciding.{one_list, are_read, not_unread_from, none_told}
 
 module _ (terms : Terms) (texts : List Text) (certain : AreSchemasCertain terms texts) where
-  accepted : AreSchemasAccepted terms texts
+  abbrev accepted : AreSchemasAccepted terms texts
   accepted = certain.0
 
   trees : List Tree

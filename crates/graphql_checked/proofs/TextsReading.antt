@@ -1,21 +1,36 @@
 -- What a checker keeps of a text, whether it is read or not.
-use Rattle.std.proofs.Common.{◌≡◌, ◌≢◌, ◌+◌, ◌^◌, ◌++◌, ◌∷◌, ℕ, List, [], Some, sym, subst}
+use Rattle.std.proofs.Common.{◌≡◌, ◌≢◌, ◌+◌, ◌<◌, ◌^◌, ◌++◌, ◌∷◌, ℕ, List, [], Some, sym, ap, ◌∙◌, subst, arith}
 use Rattle.graphql_names.specs.declared.span.FileId.{FileId}
 use Rattle.graphql_read.specs.Reads.{NestingBound}
 use Rattle.graphql_faults.specs.DetailsView.{details_at, diagnostics_of}
 use Rattle.graphql_verdict.specs.Texts.{Text, Tree, ReadsText}
-use Rattle.graphql_verdict.specs.Says.{Fault}
+use Rattle.graphql_verdict.specs.Says.{Fault, spent}
 use Rattle.graphql_checked.specs.Unread.{IsUnread}
 use Rattle.graphql_checked.specs.declared.read_text.Unread.{Unread}
 use Rattle.graphql_checked.specs.declared.read_text.Unread.TheVariants as unread
 use Rattle.graphql_checked.specs.Added.{AreAdded, IsToldBehind}
 use Rattle.graphql_checked.specs.TextsView.{terms_of, texts_of, trees_of, IsReadingAt, IsReadingOf, IsBefore}
 use Rattle.graphql_checked.specs.declared.schema_texts.SchemaTexts.{SchemaTexts}
-use Rattle.graphql_checked.proofs.Adding.{fault_added, behind_added, tree_added}
+use Rattle.graphql_checked.proofs.Adding.{spent_added, fault_added, behind_added, tree_added}
 
 -- with the number that comes next
 pub reading_of : (texts : List Text) (s : SchemaTexts) (number : ℕ) → s.files ≡ number → IsReadingAt texts number s → IsReadingOf texts s
 reading_of texts s number next is = subst (λ n. IsReadingAt texts n s) (sym next) is
+
+-- the next text has the number that was taken
+pub before_next : (s : SchemaTexts) (files : ℕ) (file : FileId) → IsReadingOf (texts_of s) s → file.0 ≡ s.files → files ≡ s.files + 1 → s.files + 1 < 2 ^ 64 → IsBefore (texts_of s) file (record s { files = files })
+before_next s files file is given next left = record {
+  added = subst (λ n. IsReadingAt (texts_of s) n s) (sym given) is;
+  number = next ∙ ap (λ n. n + 1) (sym given);
+  left = omega (arith, given, left);
+}
+
+-- one without a number
+pub spent_kept : (s : SchemaTexts) → IsReadingOf (texts_of s) s → s.files + 1 ≡ 2 ^ 64 → (text : Text) (faults : List Fault) → faults ≡ diagnostics_of s.unread ++ spent ∷ []
+    → AreAdded (terms_of s) (texts_of s ++ text ∷ []) s.files (trees_of s) faults
+spent_kept s is none text faults told =
+    subst (AreAdded (terms_of s) (texts_of s ++ text ∷ []) s.files (trees_of s)) (sym told)
+    (spent_added (terms_of s) (texts_of s) s.files text (trees_of s) (diagnostics_of s.unread) is none)
 
 module _ (s : SchemaTexts) (file : FileId) (before : IsBefore (texts_of s) file s) (text : Text) where
   -- one that is not read

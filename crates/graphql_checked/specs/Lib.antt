@@ -1,4 +1,5 @@
 pub mod CheckerValue
+pub mod CheckedView
 pub mod Refusals
 pub mod CheckerAnswers
 pub mod Verdicts

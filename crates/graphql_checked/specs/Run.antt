@@ -7,13 +7,14 @@ use Rattle.graphql_names.specs.Device.{device_inner, device_failed}
 use Rattle.graphql_faults.specs.DetailsView.{diagnostics_of}
 use Rattle.graphql_verdict.specs.Texts.{Text, Terms}
 use Rattle.graphql_verdict.specs.Judge.{IsCertain}
-use Rattle.graphql_verdict.specs.Out.{Layout}
-use Rattle.graphql_verdict.specs.Answer.{AcceptedBytes, RefusedBytes, Answer, fault_line}
+use Rattle.graphql_verdict.specs.Out.{Layout, layout_text, as_lines}
+use Rattle.graphql_verdict.specs.Answer.{WritesDocument, AcceptedBytes, RefusedBytes, Answer, fault_line}
 use Rattle.graphql_answers.specs.Devices.{IsTextOf, TellsText, AreTextsOf, IsNotUtf8Of, IsNotUtf8At, HasFailedAt}
 use Rattle.graphql_answers.specs.declared.run_fault.Outcome.{Outcome}
 use Rattle.graphql_answers.specs.declared.run_fault.Outcome.TheVariants.{Accepted, Refused}
 use Rattle.graphql_answers.specs.declared.run_fault.RunFault.{RunFault}
 use Rattle.graphql_answers.specs.declared.run_fault.RunFault.TheVariants.{Memory, Reader, NotUtf8, Writer}
+use Rattle.graphql_checked.specs.CheckerValue.{CheckedSchemaValue}
 use Rattle.graphql_checked.specs.declared.refusal.Refusal.{Refusal}
 use Rattle.graphql_checked.specs.declared.refusal.Refusal.TheVariants as refusal
 
@@ -72,6 +73,18 @@ module _ {R D W : Type 0} (of_schema : R → Option (List ℕ)) (of_document : D
 abbrev pub IsAnswerTo : {Z : Type 0} → Layout → Terms → List Text → Text → Result (Outcome × Vec ℕ Z) RunFault → Type 0
 IsAnswerTo layout terms texts text (Ok (outcome, bytes)) = BytesOf terms layout outcome texts text bytes.items
 IsAnswerTo layout terms texts text (Err fault) = fault ≡ Memory
+
+-- the pair is accepted, or no outcome is answered
+abbrev pub AcceptsOrFails : {Z : Type 0} → Result (Outcome × Vec ℕ Z) RunFault → Type 0
+AcceptsOrFails (Ok (Accepted, bytes)) = Unit {0}
+AcceptsOrFails (Ok (Refused, bytes)) = ⊥
+AcceptsOrFails (Err fault) = Unit {0}
+
+-- These bytes go with the document of this text, which is accepted over the schema.
+pub record IsWrittenAnswer (layout : Layout) (schema : CheckedSchemaValue) (text : Text) (bytes : List ℕ) : Type 0 where
+  pub written_document : List ℕ
+  pub writes_document : WritesDocument layout schema.number text written_document
+  pub is : bytes ≡ codes "accepted\n" ++ as_lines layout (layout_text layout schema.written) ++ as_lines layout written_document
 
 -- the refusal of some texts, with the bytes that go with it
 abbrev pub IsAnswerOfRefusal : {Z : Type 0} → Refusal → Result (Outcome × Vec ℕ Z) RunFault → Type 0

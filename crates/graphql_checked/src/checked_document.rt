@@ -3,8 +3,9 @@
 ghost use Rattle.std.specs.Prelude.{◌≡◌, IfOk, string_bytes};
 ghost use Rattle.graphql_typed_operations.specs.TypedDocument.{typed_document_tree};
 ghost use Rattle.graphql_typing.specs.DocumentView.{meant_document};
-ghost use Rattle.graphql_layouts.specs.Prefixes.{prefix_of};
+ghost use Rattle.graphql_layouts.specs.Layouts.{prefix_of};
 ghost use Rattle.graphql_verdict.specs.Answer.{WritesDocument};
+ghost use Rattle.graphql_checked.specs.CheckedView.{schema_value, document_value};
 ghost use Rattle.graphql_checked.specs.CheckerValue.{IsCheckedDocumentOf};
 
 use crate::checked_schema::CheckedSchema;
@@ -23,15 +24,22 @@ pub struct CheckedDocument<'s> {
 
 impl<'s> Model for CheckedDocument<'s> {
     ghost use Rattle.std.specs.Prelude.{string_bytes};
+    ghost use Rattle.std.specs.Coded.{codes};
+    ghost use Rattle.graphql_schema.specs.contracts.schema.Schema as of_schema;
+    ghost use Rattle.graphql_definitions.specs.contracts.document.Document as of_written;
+    ghost use Rattle.graphql_typed_operations.specs.contracts.document.ExecutableDocument as of_document;
     ghost use Rattle.graphql_typed_operations.specs.TypedDocument.{typed_document_tree};
     ghost use Rattle.graphql_typing.specs.DocumentView.{meant_document};
-    ghost use Rattle.graphql_checked.specs.CheckerValue.{CheckedDocumentValue, IsCheckedDocumentOf};
+    ghost use Rattle.graphql_checked.specs.CheckedView.{CheckedDocumentParts, schema_value};
+    ghost use Rattle.graphql_checked.specs.CheckerValue.{IsCheckedDocumentOf};
 
-    ghost Value = { CheckedDocumentValue };
+    ghost Value = { CheckedDocumentParts };
 
-    ghost view = { λ d. record { schema = d.schema.now; text = string_bytes d.text; document = meant_document (typed_document_tree d.document) } };
+    ghost coded = { Prim.hlevel (codes, of_schema.the_row.coded, of_written.the_row.coded, of_document.the_row.coded) };
 
-    ghost invariant = { λ d. IsCheckedDocumentOf d.schema.now (string_bytes d.text) (meant_document (typed_document_tree d.document)) };
+    ghost view = { λ d. record { schema = d.schema.now; text = string_bytes d.text; document = d.document } };
+
+    ghost invariant = { λ d. IsCheckedDocumentOf (schema_value d.schema.now) (string_bytes d.text) (meant_document (typed_document_tree d.document)) };
 }
 
 impl<'s> CheckedDocument<'s> {
@@ -44,8 +52,8 @@ impl<'s> CheckedDocument<'s> {
 
     /// The document with its meaning over the schema. Every rule of section 5 holds of it.
     pub fn document(&self) -> &ExecutableDocument
-        ensures document { meant_document (typed_document_tree result.now) ≡ self.now.document }
-        ensures accepted { IsCheckedDocumentOf self.now.schema self.now.text self.now.document }
+        ensures document { meant_document (typed_document_tree result.now) ≡ (document_value self.now).document }
+        ensures accepted { IsCheckedDocumentOf (document_value self.now).schema (document_value self.now).text (document_value self.now).document }
     {
         &self.document
     }
@@ -53,10 +61,10 @@ impl<'s> CheckedDocument<'s> {
     /// The text of the document under the layout: its operations, one without a name first, and then its fragments, each in
     /// the order read.
     pub fn written(&self, layout: Layout<'_>) -> Result<String, AllocError>
-        ensures { IfOk result (λ text. WritesDocument (prefix_of layout) self.now.schema.number self.now.text (string_bytes text)) }
+        ensures { IfOk result (λ text. WritesDocument (prefix_of layout.entry) (document_value self.now).schema.number (document_value self.now).text (string_bytes text)) }
     {
-        let alloc = self.schema.alloc;
-        let document = self.document.to_ast(alloc)?;
-        written(alloc, &document, layout)
+        let schema = self.schema;
+        let document = self.document.to_ast(schema.alloc)?;
+        written(schema.alloc, &document, layout)
     }
 }

@@ -4,14 +4,14 @@ ghost use Rattle.std.specs.Prelude.{◌≡◌, [], OnOk, IfOk, IfErr, string_byt
 ghost use Rattle.graphql_definitions.specs.DefinitionTree.{document_tree};
 ghost use Rattle.graphql_faults.specs.DetailsView.{details_at, diagnostics_of};
 ghost use Rattle.graphql_schema.specs.SchemaOf.{schema_tree};
-ghost use Rattle.graphql_layouts.specs.Prefixes.{prefix_of};
+ghost use Rattle.graphql_layouts.specs.Layouts.{prefix_of};
 ghost use Rattle.graphql_typing.specs.DocumentView.{meant_document};
 ghost use Rattle.graphql_typed_operations.specs.TypedDocument.{typed_document_tree};
 ghost use Rattle.graphql_verdict.specs.Judge.{IsDocumentCertain};
 ghost use Rattle.graphql_verdict.specs.Out.{layout_text};
+ghost use Rattle.graphql_checked.specs.CheckedView.{schema_value, document_value};
 ghost use Rattle.graphql_checked.specs.CheckerValue.{IsOfAcceptedTexts, IsCheckedDocumentOf};
 ghost use Rattle.graphql_document_rule_definitions.specs.Told.{IsValidDocument};
-ghost use Rattle.graphql_subscription_rules.specs.Told.{document_meant};
 ghost use Rattle.graphql_validation.specs.TellsDocument.{IsTypedUnder};
 ghost use Rattle.graphql_checked.specs.Refusals.{RefusalOfDocument};
 ghost use Rattle.graphql_checked.specs.Checking.{IsReadDocument, IsUnreadDocument, TellsOnly, TypesDocument, RefusalOfTyping, RefusalOfRules};
@@ -47,23 +47,27 @@ pub struct CheckedSchema {
 }
 
 impl Model for CheckedSchema {
-    ghost use Rattle.graphql_definitions.specs.DefinitionTree.{document_tree};
-    ghost use Rattle.graphql_schema.specs.SchemaOf.{schema_tree};
-    ghost use Rattle.graphql_checked.specs.CheckerValue.{CheckedSchemaValue, IsOfAcceptedTexts};
+    ghost use Rattle.std.specs.Coded.{codes};
+    ghost use Rattle.graphql_schema.specs.contracts.schema.Schema as of_schema;
+    ghost use Rattle.graphql_definitions.specs.contracts.document.Document as of_document;
+    ghost use Rattle.graphql_checked.specs.CheckedView.{CheckedSchemaParts, schema_value};
+    ghost use Rattle.graphql_checked.specs.CheckerValue.{IsOfAcceptedTexts};
 
-    ghost Value = { CheckedSchemaValue };
+    ghost Value = { CheckedSchemaParts };
 
-    ghost view = { λ s. record { nesting = s.nesting; number = s.number; schema = schema_tree s.schema; written = document_tree s.written } };
+    ghost coded = { Prim.hlevel (codes, of_schema.the_row.coded, of_document.the_row.coded) };
 
-    ghost invariant = { λ s. IsOfAcceptedTexts (record { nesting = s.nesting; number = s.number; schema = schema_tree s.schema; written = document_tree s.written }) };
+    ghost view = { λ s. record { nesting = s.nesting; number = s.number; schema = s.schema; written = s.written } };
+
+    ghost invariant = { λ s. IsOfAcceptedTexts (schema_value (record { nesting = s.nesting; number = s.number; schema = s.schema; written = s.written })) };
 }
 
 impl CheckedSchema {
     /// The schema over which documents are judged: without each built-in scalar to which no field, argument or input field
     /// refers. Every rule of section 3 holds of it.
     pub fn schema(&self) -> &Schema
-        ensures schema { schema_tree result.now ≡ self.now.schema }
-        ensures accepted { IsOfAcceptedTexts self.now }
+        ensures schema { schema_tree result.now ≡ (schema_value self.now).schema }
+        ensures accepted { IsOfAcceptedTexts (schema_value self.now) }
     {
         &self.schema
     }
@@ -77,10 +81,10 @@ impl CheckedSchema {
     pub fn check(&self, text: &str) -> Result<CheckedDocument<'_>, Refusal>
         ensures schema { IfOk result (λ d. d.schema ≡ self.now) }
         ensures text { IfOk result (λ d. d.text ≡ text.now) }
-        ensures accepted { IfOk result (λ d. IsCheckedDocumentOf self.now text.now d.document) }
-        ensures refused { IfErr result (RefusalOfDocument self.now text.now) }
+        ensures accepted { IfOk result (λ d. IsCheckedDocumentOf (schema_value self.now) text.now (document_value d).document) }
+        ensures refused { IfErr result (RefusalOfDocument (schema_value self.now) text.now) }
         ensures complete { IfErr result (λ refusal.
-            IsDocumentCertain self.now.schema self.now.nesting self.now.number text.now → refusal ≡ Memory) }
+            IsDocumentCertain (schema_value self.now).schema self.now.nesting self.now.number text.now → refusal ≡ Memory) }
     {
         let tree = read_document(self, text)?;
         let document = typed(self, &tree)?;
@@ -95,7 +99,7 @@ impl CheckedSchema {
     /// The text of the schema as it was built, under the layout: its definition unless it is implicit, the definitions of
     /// directives, and each type with its extensions, without what is built in.
     pub fn written(&self, layout: Layout<'_>) -> Result<String, AllocError>
-        ensures { IfOk result (λ text. string_bytes text ≡ layout_text (prefix_of layout) self.now.written) }
+        ensures { IfOk result (λ text. string_bytes text ≡ layout_text (prefix_of layout.entry) (schema_value self.now).written) }
     {
         written(self.alloc, &self.written, layout)
     }
@@ -103,8 +107,8 @@ impl CheckedSchema {
 
 /// Reads a document with its number, if one is left for it.
 fn read_document(schema: &CheckedSchema, text: &str) -> Result<Document, Refusal>
-    ensures read { IfOk result (λ d. IsReadDocument schema.now text.now (document_tree d)) }
-    ensures unread { IfErr result (IsUnreadDocument schema.now text.now) }
+    ensures read { IfOk result (λ d. IsReadDocument (schema_value schema.now) text.now (document_tree d)) }
+    ensures unread { IfErr result (IsUnreadDocument (schema_value schema.now) text.now) }
 {
     if schema.number == u64::MAX {
         return Err(only(schema.alloc, None, Details::Spent));
@@ -132,7 +136,7 @@ fn build(
     schema: &CheckedSchema,
     tree: &Document,
 ) -> Result<(ExecutableDocument, DiagnosticList), AllocError>
-    ensures { IfOk result (λ r. TypesDocument schema.now.schema (document_tree tree.now) (meant_document (typed_document_tree r.0)) (diagnostics_of r.1)) }
+    ensures { IfOk result (λ r. TypesDocument (schema_value schema.now).schema (document_tree tree.now) (meant_document (typed_document_tree r.0)) (diagnostics_of r.1)) }
 {
     let mut builder = ExecutableDocumentBuilder::new(schema.alloc, Some(&schema.schema));
     match builder.add_ast_document(tree) {
@@ -147,8 +151,8 @@ fn build(
 
 /// What is kept of the definitions over the schema, where no rule of typing is broken.
 fn typed(schema: &CheckedSchema, tree: &Document) -> Result<ExecutableDocument, Refusal>
-    ensures typed { IfOk result (λ d. TypesDocument schema.now.schema (document_tree tree.now) (meant_document (typed_document_tree d)) []) }
-    ensures refused { IfErr result (RefusalOfTyping schema.now.schema (document_tree tree.now)) }
+    ensures typed { IfOk result (λ d. TypesDocument (schema_value schema.now).schema (document_tree tree.now) (meant_document (typed_document_tree d)) []) }
+    ensures refused { IfErr result (RefusalOfTyping (schema_value schema.now).schema (document_tree tree.now)) }
 {
     let (document, faults) = build(schema, tree)?;
     if !faults.is_empty() {
@@ -159,8 +163,8 @@ fn typed(schema: &CheckedSchema, tree: &Document) -> Result<ExecutableDocument, 
 
 /// Whether every rule on documents and on merging holds of a document that is typed.
 fn validate(schema: &CheckedSchema, document: &ExecutableDocument) -> Result<(), Refusal>
-    ensures valid { IsTypedUnder schema.now.schema (document_meant document.now) → OnOk result (IsValidDocument schema.now.schema (document_meant document.now)) }
-    ensures refused { IsTypedUnder schema.now.schema (document_meant document.now) → IfErr result (RefusalOfRules schema.now.schema (document_meant document.now)) }
+    ensures valid { IsTypedUnder (schema_value schema.now).schema (meant_document (typed_document_tree document.now)) → OnOk result (IsValidDocument (schema_value schema.now).schema (meant_document (typed_document_tree document.now))) }
+    ensures refused { IsTypedUnder (schema_value schema.now).schema (meant_document (typed_document_tree document.now)) → IfErr result (RefusalOfRules (schema_value schema.now).schema (meant_document (typed_document_tree document.now))) }
 {
     let mut faults = DiagnosticList::new(schema.alloc);
     validate_executable_document(schema.alloc, &mut faults, &schema.schema, document)?;

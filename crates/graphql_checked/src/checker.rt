@@ -2,6 +2,7 @@
 
 ghost use Rattle.std.specs.Prelude.{◌≡◌, ◌++◌, ◌∷◌, [], true, false, OnOk, IfOk, IfErr};
 ghost use Rattle.graphql_verdict.specs.Judge.{AreSchemasCertain};
+ghost use Rattle.graphql_checked.specs.CheckedView.{schema_value};
 ghost use Rattle.graphql_checked.specs.CheckerValue.{IsCheckedSchemaOf};
 ghost use Rattle.graphql_checked.specs.CheckerAnswers.{IsAddRefusal, IsFinishRefusal};
 ghost use Rattle.graphql_checked.specs.declared.refusal.Refusal.TheVariants.{Memory};
@@ -92,7 +93,7 @@ impl Checker {
     /// Otherwise it tells what is wrong: a fault for each text that is not read, alone; else each folding rule that is broken;
     /// where none is, each rule on schemas that is.
     pub fn finish(self) -> Result<CheckedSchema, Refusal>
-        ensures schema { IfOk result (IsCheckedSchemaOf self.terms self.texts) }
+        ensures schema { IfOk result (λ s. IsCheckedSchemaOf self.terms self.texts (schema_value s)) }
         ensures running { OnOk result (self.failed ≡ false) }
         ensures refused { IfErr result (IsFinishRefusal self) }
         ensures complete { IfErr result (λ refusal.

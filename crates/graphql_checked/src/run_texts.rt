@@ -1,13 +1,17 @@
 //! Reads texts, judges them, and puts the answer out.
 
 ghost use Rattle.std.specs.Prelude.{◌≡◌, false, OnOk, IfOk, IfErr, map, string_bytes};
+ghost use Rattle.std.specs.Option.{option_copied};
 ghost use Rattle.graphql_names.specs.Device.{device_failed};
 ghost use Rattle.graphql_answers.specs.Devices.{HaveNotFailed};
-ghost use Rattle.graphql_layouts.specs.Prefixes.{prefix_of};
+ghost use Rattle.graphql_layouts.specs.Layouts.{prefix_of};
+ghost use Rattle.graphql_verdict.specs.Judge.{IsCertain};
+ghost use Rattle.graphql_checked.specs.CheckedView.{schema_value, document_value};
 ghost use Rattle.graphql_checked.specs.CheckerValue.{IsCheckedSchemaOf};
-ghost use Rattle.graphql_checked.specs.Run.{TellCertain, IsAnswerToCertain, WritesAnswer, RunFaultIsDue, IsAnswerTo, IsAnswerOfRefusal};
+ghost use Rattle.graphql_checked.specs.Run.{TellCertain, IsAnswerToCertain, WritesAnswer, RunFaultIsDue, IsAnswerTo, AcceptsOrFails, IsWrittenAnswer, IsAnswerOfRefusal};
 ghost use Rattle.graphql_checked.specs.Verdicts.{first_terms};
 
+use crate::checked_document::CheckedDocument;
 use crate::checked_schema::CheckedSchema;
 use crate::checker::Limits;
 use crate::refusal::Refusal;
@@ -15,7 +19,7 @@ use crate::verdict::schema_of;
 use graphql_answers::{Outcome, RunFault, accepted, numbered, put, read_text, read_texts, refused};
 use graphql_layouts::Layout;
 use graphql_names::Device;
-use std::alloc::Global;
+use std::alloc::{AllocError, Global};
 use std::io::{Read, Write};
 
 /// Reads the schema texts and then the document to their ends, judges them, makes the whole answer, and then
@@ -34,9 +38,9 @@ pub fn run<R: Read, D: Read, W: Write>(
     requires schemas_run { HaveNotFailed schemas.old }
     requires document_runs { device_failed document.old ≡ false }
     requires out_runs { device_failed out.old ≡ false }
-    ensures answers { IfOk result (WritesAnswer R.remaining D.remaining W.contents (prefix_of layout) (first_terms limits.nesting)
+    ensures answers { IfOk result (WritesAnswer R.remaining D.remaining W.contents (prefix_of layout.entry) (first_terms limits.nesting)
         schemas.old document.old out.old out.new) }
-    ensures fault { IfErr result (RunFaultIsDue R.remaining D.remaining W.contents (prefix_of layout) (first_terms limits.nesting)
+    ensures fault { IfErr result (RunFaultIsDue R.remaining D.remaining W.contents (prefix_of layout.entry) (first_terms limits.nesting)
         schemas.old schemas.new document.old document.new out.old out.new) }
     ensures complete { TellCertain R.remaining D.remaining (first_terms limits.nesting) schemas.old document.old → IsAnswerToCertain result }
     ensures schemas_running { OnOk result (HaveNotFailed schemas.new) }
@@ -61,7 +65,8 @@ fn judge(
     limits: Limits,
     layout: Layout<'_>,
 ) -> Result<(Outcome, Vec<u8>), RunFault>
-    ensures { IsAnswerTo (prefix_of layout) (first_terms limits.nesting) (map string_bytes schemas.now) document.now result }
+    ensures answer { IsAnswerTo (prefix_of layout.entry) (first_terms limits.nesting) (map string_bytes schemas.now) document.now result }
+    ensures complete { IsCertain (first_terms limits.nesting) (map string_bytes schemas.now) document.now → AcceptsOrFails result }
 {
     match schema_of(alloc, schemas, limits) {
         Ok(schema) => judge_document(alloc, &schema, document, layout),
@@ -76,16 +81,35 @@ fn judge_document(
     document: &str,
     layout: Layout<'_>,
 ) -> Result<(Outcome, Vec<u8>), RunFault>
-    ensures { (terms : _) (schemas : _) → IsCheckedSchemaOf terms schemas schema.now → IsAnswerTo (prefix_of layout) terms schemas document.now result }
+    ensures answer { (terms : _) (schemas : _) → IsCheckedSchemaOf terms schemas (schema_value schema.now) → IsAnswerTo (prefix_of layout.entry) terms schemas document.now result }
+    ensures complete { (terms : _) (schemas : _) → IsCheckedSchemaOf terms schemas (schema_value schema.now) → IsCertain terms schemas document.now → AcceptsOrFails result }
 {
     match schema.check(document) {
-        Ok(checked) => {
-            let written_schema = schema.written(layout)?;
-            let written_document = checked.written(layout)?;
-            let bytes = accepted(alloc, &written_schema, &written_document, layout)?;
-            Ok((Outcome::Accepted, bytes))
-        }
+        Ok(checked) => Ok((Outcome::Accepted, accepted_answer(alloc, &checked, layout)?)),
         Err(refusal) => refusal_answer(alloc, refusal),
+    }
+}
+
+/// The bytes that go with an accepted document.
+fn accepted_answer(
+    alloc: Global,
+    document: &CheckedDocument<'_>,
+    layout: Layout<'_>,
+) -> Result<Vec<u8>, AllocError>
+    ensures { IfOk result (λ bytes. IsWrittenAnswer (prefix_of layout.entry) (document_value document.now).schema (document_value document.now).text bytes.items) }
+{
+    let written_schema = document.schema().written(layout)?;
+    let written_document = document.written(layout)?;
+    accepted(alloc, &written_schema, &written_document, prefix(layout))
+}
+
+/// What begins the lines of a text under the layout, where it has lines.
+fn prefix(layout: Layout<'_>) -> Option<&str>
+    ensures { option_copied result ≡ prefix_of layout.entry }
+{
+    match layout {
+        Layout::OneLine => None,
+        Layout::Indented(prefix) => Some(prefix),
     }
 }
 

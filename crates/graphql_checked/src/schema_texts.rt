@@ -6,6 +6,7 @@ ghost use Rattle.graphql_read.specs.Reads.{NestingBound};
 ghost use Rattle.graphql_faults.specs.DetailsView.{diagnostics_of};
 ghost use Rattle.graphql_verdict.specs.Texts.{ReadsText};
 ghost use Rattle.graphql_checked.specs.Added.{IsToldBehind};
+ghost use Rattle.graphql_checked.specs.CheckedView.{schema_value};
 ghost use Rattle.graphql_checked.specs.CheckerValue.{IsCheckedSchemaOf};
 ghost use Rattle.graphql_checked.specs.Refusals.{RefusalOfSchemas};
 ghost use Rattle.graphql_checked.specs.TextsView.{terms_of, texts_of, IsReadingOf, IsBefore};
@@ -123,7 +124,7 @@ impl SchemaTexts {
     /// The schema of the texts, if they are accepted.
     pub(crate) fn finish(self) -> Result<CheckedSchema, Refusal>
         requires { IsReadingOf (texts_of self) self }
-        ensures schema { IfOk result (IsCheckedSchemaOf (terms_of self) (texts_of self)) }
+        ensures schema { IfOk result (λ s. IsCheckedSchemaOf (terms_of self) (texts_of self) (schema_value s)) }
         ensures refused { IfErr result (RefusalOfSchemas (terms_of self) (texts_of self)) }
     {
         if !self.unread.is_empty() {

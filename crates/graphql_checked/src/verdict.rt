@@ -2,6 +2,7 @@
 
 ghost use Rattle.std.specs.Prelude.{◌≡◌, ◌⊎◌, Ok, Err, map, IfOk, IfErr};
 ghost use Rattle.graphql_verdict.specs.Judge.{AreSchemasCertain, IsCertain};
+ghost use Rattle.graphql_checked.specs.CheckedView.{schema_value};
 ghost use Rattle.graphql_checked.specs.CheckerValue.{IsCheckedSchemaOf};
 ghost use Rattle.graphql_checked.specs.Refusals.{RefusalOfSchemas};
 ghost use Rattle.graphql_checked.specs.Verdicts.{first_terms, IsVerdict, refusal_verdict};
@@ -59,7 +60,7 @@ pub(crate) fn schema_of<T: AsStr>(
     texts: &[T],
     limits: Limits,
 ) -> Result<CheckedSchema, Refusal>
-    ensures schema { IfOk result (IsCheckedSchemaOf (first_terms limits.nesting) (map T.text texts.now)) }
+    ensures schema { IfOk result (λ s. IsCheckedSchemaOf (first_terms limits.nesting) (map T.text texts.now) (schema_value s)) }
     ensures refused { IfErr result (RefusalOfSchemas (first_terms limits.nesting) (map T.text texts.now)) }
     ensures complete { IfErr result (λ r. AreSchemasCertain (first_terms limits.nesting) (map T.text texts.now) → r ≡ refusal.Memory) }
 {

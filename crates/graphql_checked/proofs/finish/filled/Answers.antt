@@ -7,7 +7,7 @@ use Rattle.graphql_checked.proofs.Filling.{filled_first, filled_more, unfilled_r
 use Rattle.graphql_checked.proofs.finish.filled.Goals as goal
 
 pub loop-document-init : goal.loop-document-init
-loop-document-init c = filled_first _ _ c.with_extensions.ensures
+loop-document-init c = filled_first _ _ c.with_extensions-builder.ensures
 
 pub loop-document-preserved : goal.loop-document-preserved
 loop-document-preserved c =

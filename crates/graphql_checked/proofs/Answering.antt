@@ -1,0 +1,53 @@
+-- The bytes that go with an accepted pair and with refusals.
+use Rattle.std.proofs.Common.{◌≡◌, ℕ, List, Result, Ok, Err, inl, refl, sym, ap, subst}
+use Rattle.std.specs.Prelude.{Vec}
+use Rattle.graphql_names.specs.Placed.{Place}
+use Rattle.graphql_meant_documents.specs.MeantTree.{MeantDocument}
+use Rattle.graphql_faults.specs.DetailsView.{diagnostics_of}
+use Rattle.graphql_verdict.specs.Texts.{Text, Terms}
+use Rattle.graphql_verdict.specs.Out.{Layout, layout_text}
+use Rattle.graphql_verdict.specs.Answer.{WritesDocument, AcceptedBytes}
+use Rattle.graphql_answers.specs.declared.run_fault.Outcome.{Outcome}
+use Rattle.graphql_answers.specs.declared.run_fault.RunFault.{RunFault}
+use Rattle.graphql_checked.specs.CheckerValue.{CheckedSchemaValue, IsCheckedSchemaOf, IsCheckedDocumentOf}
+use Rattle.graphql_checked.specs.Refusals.{RefusalOfSchemas, RefusalOfDocument}
+use Rattle.graphql_checked.specs.Run.{BytesOf, IsAnswerTo, AcceptsOrFails, IsWrittenAnswer, IsAnswerOfRefusal}
+use Rattle.graphql_checked.specs.declared.refusal.Refusal.{Refusal}
+use Rattle.graphql_checked.specs.declared.refusal.Refusal.TheVariants.{Faults, Memory, Failed}
+use Rattle.graphql_checked.proofs.Verdicts.{accepted_pair, refused_pair}
+
+module _ (terms : Terms) (texts : List Text) (text : Text) (schema : CheckedSchemaValue) (is : IsCheckedSchemaOf terms texts schema) where
+  -- the bytes of an accepted pair
+  pub accepted_bytes : (document : MeantDocument Place) → IsCheckedDocumentOf schema text document → (layout : Layout) (bytes : List ℕ) → IsWrittenAnswer layout schema text bytes → AcceptedBytes terms layout texts text bytes
+  accepted_bytes document checked layout bytes written = record {
+    accepted = accepted_pair terms texts text schema is document checked;
+    written_schema = layout_text layout schema.written;
+    written_document = written.written_document;
+    writes_schema = (is.accepted.judged.trees, (is.accepted.judged.read, ap (layout_text layout) is.written));
+    writes_document = subst (λ number. WritesDocument layout number text written.written_document) is.number written.writes_document;
+    is = written.is;
+  }
+
+  -- the answer of a document's refusal
+  pub document_answer : {Z : Type 0} (layout : Layout) (refusal : Refusal) (answer : Result (Outcome × Vec ℕ Z) RunFault)
+      → RefusalOfDocument schema text refusal → IsAnswerOfRefusal refusal answer → IsAnswerTo layout terms texts text answer
+  document_answer layout (Faults list) (Ok (outcome, bytes)) h of =
+      subst (λ o. BytesOf terms layout o texts text bytes.items) (sym of.0) (record { faults = diagnostics_of list; refused = refused_pair terms texts text schema is (diagnostics_of list) h; is = of.1 })
+  document_answer layout (Faults list) (Err fault) h of = of
+  document_answer layout Memory answer h of = rw of refl
+  document_answer layout Failed answer h of = absurd h
+
+-- the answer of a refusal of schema texts
+pub schemas_answer : {Z : Type 0} (terms : Terms) (texts : List Text) (text : Text) (layout : Layout) (refusal : Refusal) (answer : Result (Outcome × Vec ℕ Z) RunFault)
+    → RefusalOfSchemas terms texts refusal → IsAnswerOfRefusal refusal answer → IsAnswerTo layout terms texts text answer
+schemas_answer terms texts text layout (Faults list) (Ok (outcome, bytes)) h of =
+    subst (λ o. BytesOf terms layout o texts text bytes.items) (sym of.0) (record { faults = diagnostics_of list; refused = inl h; is = of.1 })
+schemas_answer terms texts text layout (Faults list) (Err fault) h of = of
+schemas_answer terms texts text layout Memory answer h of = rw of refl
+schemas_answer terms texts text layout Failed answer h of = absurd h
+
+-- want of memory is answered as it is
+pub memory_answer : {Z : Type 0} (refusal : Refusal) (answer : Result (Outcome × Vec ℕ Z) RunFault) → refusal ≡ Memory → IsAnswerOfRefusal refusal answer → AcceptsOrFails answer
+memory_answer (Faults list) answer is of = absurd cc
+memory_answer Memory answer is of = rw of tt
+memory_answer Failed answer is of = absurd cc

@@ -1,0 +1,20 @@
+use Rattle.std.proofs.Common.{map, string_bytes}
+use Rattle.graphql_layouts.specs.Layouts.{prefix_of}
+use Rattle.graphql_checked.specs.Verdicts.{first_terms}
+use Rattle.graphql_checked.proofs.Verdicts.{certain_schemas}
+use Rattle.graphql_checked.proofs.Answering.{schemas_answer, memory_answer}
+use Rattle.graphql_checked.proofs.run_texts.judge.Goals as goal
+
+pub returns-in-Ok-clause-answer : goal.returns-in-Ok-clause-answer
+returns-in-Ok-clause-answer c = c.judge_document.ensures.answer (first_terms c.args.limits.nesting) (map string_bytes c.args.schemas.now) c.in-Ok.ensures.schema
+
+pub returns-in-Ok-clause-complete : goal.returns-in-Ok-clause-complete
+returns-in-Ok-clause-complete c = c.judge_document.ensures.complete (first_terms c.args.limits.nesting) (map string_bytes c.args.schemas.now) c.in-Ok.ensures.schema
+
+pub returns-in-Err-clause-answer : goal.returns-in-Err-clause-answer
+returns-in-Err-clause-answer c =
+    schemas_answer (first_terms c.args.limits.nesting) (map string_bytes c.args.schemas.now) c.args.document.now (prefix_of c.args.layout) c.in-Err.refusal _ c.in-Err.ensures.refused c.refusal_answer.ensures
+
+pub returns-in-Err-clause-complete : goal.returns-in-Err-clause-complete
+returns-in-Err-clause-complete c certain =
+    memory_answer c.in-Err.refusal _ (c.in-Err.ensures.complete (certain_schemas (first_terms c.args.limits.nesting) (map string_bytes c.args.schemas.now) c.args.document.now certain)) c.refusal_answer.ensures

@@ -1,0 +1,37 @@
+use Rattle.std.proofs.Common.{map, string_bytes, ap, sym, subst}
+use Rattle.std.proofs.lemmas.Result.{err_from_is_err_and}
+use Rattle.graphql_layouts.specs.Layouts.{prefix_of}
+use Rattle.graphql_answers.specs.Devices.{AreTextsOf, IsTextOf}
+use Rattle.graphql_checked.specs.Run.{BytesOf}
+use Rattle.graphql_checked.specs.Verdicts.{first_terms}
+use Rattle.graphql_checked.proofs.Completing.{reader_fault, certain_fault, certain_outcome, certain_here, put_due, none_failed}
+use Rattle.graphql_checked.proofs.run_texts.run.Goals as goal
+
+pub returns-in_err-texts-clause-complete : goal.returns-in_err-texts-clause-complete
+returns-in_err-texts-clause-complete g c =
+    let p = err_from_is_err_and c.from_residual.result c.from_residual.ensures.1 in
+    rw (p.1, p.2) (λ tell. reader_fault g.R.Read.remaining c.args.schemas.now c.read_texts.new.devices tell.texts c.in_err-texts.field-0.0 c.in_err-texts.ensures.fault tell.schemas_tell)
+
+pub returns-in_err-outcome-clause-complete : goal.returns-in_err-outcome-clause-complete
+returns-in_err-outcome-clause-complete g c =
+    let p = err_from_is_err_and c.from_residual-in_err-outcome.result c.from_residual-in_err-outcome.ensures.1 in
+    rw (p.1, p.2) (λ tell. certain_fault c.in_err-outcome.field-0.0 c.in_err-outcome.ensures.answer)
+
+pub returns-in_err-put-clause-fault : goal.returns-in_err-put-clause-fault
+returns-in_err-put-clause-fault g c =
+    let p = err_from_is_err_and c.from_residual-in_err-put.result c.from_residual-in_err-put.ensures.1 in
+    let are = subst (AreTextsOf g.R.Read.remaining c.args.schemas.now) (ap (map string_bytes) (sym c.deref.ensures.value)) c.in_ok-texts.ensures.texts in
+    let is = subst (IsTextOf g.D.Read.remaining c.args.document.now) (sym c.deref-2.ensures) c.in-Ok.ensures.text in
+    rw (p.1, p.2) (put_due g.R.Read.remaining g.D.Read.remaining g.W.Write.contents (prefix_of c.args.layout) (first_terms c.args.limits.nesting) c.args.schemas.now _ c.args.document.now _ _ _ _ _ c.in_ok-outcome.outcome _ _
+    are is (subst (BytesOf (first_terms c.args.limits.nesting) (prefix_of c.args.layout) c.in_ok-outcome.outcome _ _) (sym c.deref-3.ensures.value) c.in_ok-outcome.ensures.answer) c.in_err-put.ensures.fault)
+
+pub returns-clause-complete : goal.returns-clause-complete
+returns-clause-complete g c =
+    let texts = map string_bytes c.deref.result.now in
+    let are = subst (AreTextsOf g.R.Read.remaining c.args.schemas.now) (ap (map string_bytes) (sym c.deref.ensures.value)) c.in_ok-texts.ensures.texts in
+    let is = subst (IsTextOf g.D.Read.remaining c.args.document.now) (sym c.deref-2.ensures) c.in-Ok.ensures.text in
+    λ tell. certain_outcome c.in_ok-outcome.outcome c.in_ok-outcome.bytes (c.in_ok-outcome.ensures.complete
+    (certain_here g.R.Read.remaining g.D.Read.remaining (first_terms c.args.limits.nesting) c.args.schemas.now c.args.document.now texts c.deref-2.result.now are is tell))
+
+pub returns-clause-schemas_running : goal.returns-clause-schemas_running
+returns-clause-schemas_running g c = none_failed c.args.schemas.now c.read_texts.new.devices c.in_ok-texts.ensures.running c.requires.schemas_run
