@@ -20,6 +20,7 @@ use graphql_names::Node;
 use graphql_operations::VariableDefinition;
 use graphql_schema::Schema;
 use graphql_use_rules::{check_arguments_alone, check_directives, disallowed_variable_usage};
+use graphql_value_rules::DefinedVariables;
 use std::alloc::{AllocError, Global};
 use std::ops::Deref;
 
@@ -56,7 +57,8 @@ pub fn validate_directives<D: Deref<Target = Node<Directive>> + Drop, I: IntoIte
 {
     let nodes = nodes_of(alloc, directives)?;
     let mut faults = Vec::new(alloc);
-    check_directives(schema, &nodes, location, variables, &mut faults)?;
+    let variables = DefinedVariables::new(alloc, variables)?;
+    check_directives(schema, &nodes, location, &variables, &mut faults)?;
     list.append_faults(faults)
 }
 
@@ -87,7 +89,8 @@ pub fn validate_variable_usage(
     ensures silent { IfOk result (λ b. IsTrue b ↔ (diagnostics_of list.new ≡ diagnostics_of list.old)) }
     ensures kept { OnErr result (diagnostics_of list.new ≡ diagnostics_of list.old) }
 {
-    let fault = disallowed_variable_usage(argument, definition.content(), variables)?;
+    let variables = DefinedVariables::listed(variables);
+    let fault = disallowed_variable_usage(argument, definition.content(), &variables)?;
     match fault {
         None => Ok(true),
         Some(fault) => {

@@ -23,7 +23,7 @@ pub use graphql_use_rules::{
     Taker, TakerName, check_arguments_alone, check_directives_alone, check_given, check_taken,
     check_uses,
 };
-pub use graphql_value_rules::unique_input_values;
+pub use graphql_value_rules::{DefinedVariables, unique_input_values};
 pub use scalars::BuiltInScalars;
 pub use schema::validate_schema;
 pub use values::value_of_correct_type;

@@ -16,7 +16,7 @@ use graphql_literals::{Type, Value};
 use graphql_names::Node;
 use graphql_operations::VariableDefinition;
 use graphql_schema::Schema;
-use graphql_value_rules::check_value;
+use graphql_value_rules::{DefinedVariables, check_value};
 use std::alloc::{AllocError, Global};
 
 /// Tells the faults of a value that is given for a type (section 5.6), and each variable in it, at any depth, that is none
@@ -35,6 +35,7 @@ pub fn value_of_correct_type(
     ensures begins { OnErr result (BeginsAs (diagnostics_of list.old) (diagnostics_of list.new)) }
 {
     let mut faults = Vec::new(alloc);
-    check_value(schema, ty, value, variables, &mut faults)?;
+    let variables = DefinedVariables::new(alloc, variables)?;
+    check_value(schema, ty, value, &variables, &mut faults)?;
     list.append_faults(faults)
 }

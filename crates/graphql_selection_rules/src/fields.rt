@@ -14,11 +14,12 @@ ghost use Rattle.graphql_document_rule_definitions.specs.Told.{place_or_built_in
 ghost use Rattle.graphql_selection_rules.specs.Steps.{standing_field, missing_subselection, without_subselection, IsDefined, FieldBreaks};
 
 use graphql_names::{Name, Node};
-use graphql_operations::VariableDefinition;
 use graphql_schema_types::TypeKind;
 use graphql_typed_selections::Field;
 use graphql_use_rules::{Taker, TakerName, check_given, check_taken};
-use graphql_value_rules::{DiagnosticData, Fault, Schema, TypeAttributeCoordinate, tell};
+use graphql_value_rules::{
+    DefinedVariables, DiagnosticData, Fault, Schema, TypeAttributeCoordinate, tell,
+};
 use std::alloc::AllocError;
 
 /// The kind of the type of that name, if it is there.
@@ -87,7 +88,7 @@ fn check_defined(
     schema: &Schema,
     parent: &Name,
     field: &Node<Field>,
-    variables: &[Node<VariableDefinition>],
+    variables: &DefinedVariables<'_>,
     faults: &mut Vec<Fault>,
 ) -> Result<(), AllocError>
     ensures { OnOk result (IsDefined (schema_tree schema.now) (standing_field parent.now field.now) → Adds faults.old faults.new (TakerBreaks (place_or_built_in (schema_tree schema.now)) (judged (schema_tree schema.now)) (variables_of variables.now) (field_taker (places_in (schema_tree schema.now)) (standing_field parent.now field.now)))) }
@@ -111,7 +112,7 @@ pub(crate) fn check_field(
     schema: &Schema,
     parent: &Name,
     field: &Node<Field>,
-    variables: &[Node<VariableDefinition>],
+    variables: &DefinedVariables<'_>,
     faults: &mut Vec<Fault>,
 ) -> Result<(), AllocError>
     ensures { OnOk result (IsDefined (schema_tree schema.now) (standing_field parent.now field.now) → Adds faults.old faults.new (FieldBreaks (schema_tree schema.now) (variables_of variables.now) (standing_field parent.now field.now))) }

@@ -28,12 +28,11 @@ use crate::fields::check_field;
 use graphql_directives::DirectiveLocation;
 use graphql_literals::NamedType;
 use graphql_names::Node;
-use graphql_operations::VariableDefinition;
 use graphql_reach::Reach;
 use graphql_typed_operations::{Fragment, Operation};
 use graphql_typed_selections::Selection;
 use graphql_use_rules::check_uses;
-use graphql_value_rules::{Fault, Schema};
+use graphql_value_rules::{DefinedVariables, Fault, Schema};
 use std::alloc::AllocError;
 
 /// Where the directives of such a selection stand.
@@ -53,7 +52,7 @@ fn check_selection(
     schema: &Schema,
     parent: &NamedType,
     selection: &Selection,
-    variables: &[Node<VariableDefinition>],
+    variables: &DefinedVariables<'_>,
     faults: &mut Vec<Fault>,
 ) -> Result<(), AllocError>
     ensures { OnOk result (IsTyped (meanings (plain (schema_tree schema.now))) parent.now.text (meant (typed_selection_tree selection.now)) → Adds faults.old faults.new (SelectionBreaks (schema_tree schema.now) (variables_of variables.now) (parent.now.text, meant (typed_selection_tree selection.now)))) }
@@ -76,7 +75,7 @@ fn check_selection(
 fn check_each_selection(
     schema: &Schema,
     reach: &Reach<'_>,
-    variables: &[Node<VariableDefinition>],
+    variables: &DefinedVariables<'_>,
     faults: &mut Vec<Fault>,
 ) -> Result<(), AllocError>
     ensures { OnOk result (((e : Member Place) → Contains (reached_members reach.now) e → IsTyped (meanings (plain (schema_tree schema.now))) e.0 e.1) → Adds faults.old faults.new (λ f. AtSomeIndex (reached_members reach.now) (λ i e. SelectionBreaks (schema_tree schema.now) (variables_of variables.now) e f))) }
@@ -91,7 +90,7 @@ fn check_each_selection(
 fn check_fragment(
     schema: &Schema,
     fragment: &Node<Fragment>,
-    variables: &[Node<VariableDefinition>],
+    variables: &DefinedVariables<'_>,
     faults: &mut Vec<Fault>,
 ) -> Result<(), AllocError>
     ensures { OnOk result (Adds faults.old faults.new (UsesBreak (place_at (schema_tree schema.now)) (judged (schema_tree schema.now)) (variables_of variables.now) location.FragmentDefinition (typed_fragment_tree (content fragment.now)).directives)) }
@@ -110,7 +109,7 @@ fn check_fragment(
 fn check_fragments(
     schema: &Schema,
     reach: &Reach<'_>,
-    variables: &[Node<VariableDefinition>],
+    variables: &DefinedVariables<'_>,
     faults: &mut Vec<Fault>,
 ) -> Result<(), AllocError>
     ensures { OnOk result (Adds faults.old faults.new (λ f. AtSomeIndex (reached_fragments_of reach.now) (λ i x. UsesBreak (place_at (schema_tree schema.now)) (judged (schema_tree schema.now)) (variables_of variables.now) location.FragmentDefinition x.directives f))) }
@@ -132,9 +131,16 @@ pub fn check_selections(
     ensures { OnOk result ((d : MeantDocument Place) → Reaches d (meant_by_operation (node_tree typed_operation_tree operation.now)) reach.now → ReachesTyped (meanings (plain (schema_tree schema.now))) d (meant_by_operation (node_tree typed_operation_tree operation.now)) → Adds faults.old faults.new (λ fault. SelectionsBreak (places_in (schema_tree schema.now)) (judged (schema_tree schema.now)) d (meant_by_operation (node_tree typed_operation_tree operation.now)) fault)) }
 {
     let operation = operation.content();
-    let variables = operation.variables.as_slice();
+    let alloc = *faults.allocator();
+    let variables = DefinedVariables::new(alloc, operation.variables.as_slice())?;
     let location = DirectiveLocation::from(operation.operation_type);
-    check_uses(schema, &operation.directives.0, location, variables, faults)?;
-    check_each_selection(schema, reach, variables, faults)?;
-    check_fragments(schema, reach, variables, faults)
+    check_uses(
+        schema,
+        &operation.directives.0,
+        location,
+        &variables,
+        faults,
+    )?;
+    check_each_selection(schema, reach, &variables, faults)?;
+    check_fragments(schema, reach, &variables, faults)
 }

@@ -24,8 +24,7 @@ use crate::taken::check_taken;
 use crate::taker::{Taker, TakerName};
 use graphql_directives::{Directive, DirectiveDefinition, DirectiveLocation};
 use graphql_names::{Name, Node, SourceSpan};
-use graphql_operations::VariableDefinition;
-use graphql_value_rules::{DiagnosticData, Fault, Schema, note_first, tell};
+use graphql_value_rules::{DefinedVariables, DiagnosticData, Fault, Schema, note_first, tell};
 use indexmap::IndexMap;
 use std::alloc::AllocError;
 
@@ -131,7 +130,7 @@ fn check_defined_use(
     directive: &Node<Directive>,
     definition: &Node<DirectiveDefinition>,
     location: DirectiveLocation,
-    variables: &[Node<VariableDefinition>],
+    variables: &DefinedVariables<'_>,
     faults: &mut Vec<Fault>,
 ) -> Result<(), AllocError>
     requires { directive_definition_at (schema_tree schema.now) (content directive.now).name.text ≡ Some (node_tree directive_definition_tree definition.now) }
@@ -156,7 +155,7 @@ fn check_use(
     schema: &Schema,
     directive: &Node<Directive>,
     location: DirectiveLocation,
-    variables: &[Node<VariableDefinition>],
+    variables: &DefinedVariables<'_>,
     faults: &mut Vec<Fault>,
 ) -> Result<(), AllocError>
     ensures { OnOk result (Adds faults.old faults.new (UseBreaks (place_at (schema_tree schema.now)) (judged (schema_tree schema.now)) (variables_of variables.now) location (node_tree directive_tree directive.now))) }
@@ -179,7 +178,7 @@ fn check_each_use(
     schema: &Schema,
     directives: &[Node<Directive>],
     location: DirectiveLocation,
-    variables: &[Node<VariableDefinition>],
+    variables: &DefinedVariables<'_>,
     faults: &mut Vec<Fault>,
 ) -> Result<(), AllocError>
     ensures { OnOk result (Adds faults.old faults.new (λ f. AtSomeIndex (directives_of directives.now) (λ i d. UseBreaks (place_at (schema_tree schema.now)) (judged (schema_tree schema.now)) (variables_of variables.now) location d f))) }
@@ -196,7 +195,7 @@ pub fn check_uses(
     schema: &Schema,
     directives: &[Node<Directive>],
     location: DirectiveLocation,
-    variables: &[Node<VariableDefinition>],
+    variables: &DefinedVariables<'_>,
     faults: &mut Vec<Fault>,
 ) -> Result<(), AllocError>
     ensures { OnOk result (Adds faults.old faults.new (UsesBreak (place_at (schema_tree schema.now)) (judged (schema_tree schema.now)) (variables_of variables.now) location (directives_of directives.now))) }
@@ -234,7 +233,7 @@ pub fn check_directives_alone(
 /// Adds the faults of the use of a directive where there is no schema: none is defined.
 fn check_undefined_use(
     directive: &Node<Directive>,
-    variables: &[Node<VariableDefinition>],
+    variables: &DefinedVariables<'_>,
     faults: &mut Vec<Fault>,
 ) -> Result<(), AllocError>
     ensures { OnOk result ((location : DirectiveLocation) → Adds faults.old faults.new (UseBreaks (place_at no_schema) (judged no_schema) (variables_of variables.now) location (node_tree directive_tree directive.now))) }
@@ -246,7 +245,7 @@ fn check_undefined_use(
 /// Adds the faults of each use where there is no schema.
 fn check_undefined_uses(
     directives: &[Node<Directive>],
-    variables: &[Node<VariableDefinition>],
+    variables: &DefinedVariables<'_>,
     faults: &mut Vec<Fault>,
 ) -> Result<(), AllocError>
     ensures { OnOk result ((location : DirectiveLocation) → Adds faults.old faults.new (UsesBreak (place_at no_schema) (judged no_schema) (variables_of variables.now) location (directives_of directives.now))) }
@@ -262,7 +261,7 @@ pub fn check_directives(
     schema: Option<&Schema>,
     directives: &[Node<Directive>],
     location: DirectiveLocation,
-    variables: &[Node<VariableDefinition>],
+    variables: &DefinedVariables<'_>,
     faults: &mut Vec<Fault>,
 ) -> Result<(), AllocError>
     ensures { OnOk result (Adds faults.old faults.new (UsesBreak (place_at (tree_of schema.entry)) (judged (tree_of schema.entry)) (variables_of variables.now) location (directives_of directives.now))) }

@@ -19,9 +19,9 @@ ghost use Rattle.graphql_value_rules.specs.in_rule_definitions.Judged.{Judged};
 
 use graphql_directives::Argument;
 use graphql_names::{Name, Node, SourceSpan};
-use graphql_operations::VariableDefinition;
 use graphql_value_rules::{
-    DiagnosticData, Fault, note_first, tell, undefined_variables, unique_input_values,
+    DefinedVariables, DiagnosticData, Fault, note_first, tell, undefined_variables,
+    unique_input_values,
 };
 use indexmap::IndexMap;
 use std::alloc::{AllocError, Global};
@@ -119,7 +119,7 @@ pub fn check_arguments_alone(
 /// Adds the faults of the variables in the value of each argument.
 pub(crate) fn check_variables_given(
     given: &[Node<Argument>],
-    variables: &[Node<VariableDefinition>],
+    variables: &DefinedVariables<'_>,
     faults: &mut Vec<Fault>,
 ) -> Result<(), AllocError>
     ensures { OnOk result (Adds faults.old faults.new (VariablesGivenBreak (variables_of variables.now) (arguments_of given.now))) }
@@ -134,7 +134,7 @@ pub(crate) fn check_variables_given(
 /// UndefinedVariable.
 pub fn check_given(
     given: &[Node<Argument>],
-    variables: &[Node<VariableDefinition>],
+    variables: &DefinedVariables<'_>,
     faults: &mut Vec<Fault>,
 ) -> Result<(), AllocError>
     ensures { OnOk result ((at : Address → Place) (s : Judged) → Adds faults.old faults.new (GivenBreaks at s (variables_of variables.now) (arguments_of given.now))) }

@@ -23,7 +23,7 @@ use graphql_directives::{Directive, DirectiveDefinition, DirectiveLocation, Inpu
 use graphql_names::{Name, Node};
 use graphql_schema_types::{ExtendedType, TypeKind};
 use graphql_type_members::{EnumValueDefinition, FieldDefinition};
-use graphql_value_rules::{Fault, Schema};
+use graphql_value_rules::{DefinedVariables, Fault, Schema};
 use indexmap::IndexMap;
 use std::alloc::{AllocError, Global};
 
@@ -61,7 +61,8 @@ fn check_at(
 ) -> Result<(), AllocError>
     ensures { OnOk result (Adds faults.old faults.new (UsesAt (schema_tree schema.now) location (directives_of directives.now))) }
 {
-    check_uses(schema, directives, location, &[], faults)
+    let variables = DefinedVariables::listed(&[]);
+    check_uses(schema, directives, location, &variables, faults)
 }
 
 /// The same of the directives that definitions and extensions give a schema or a type.

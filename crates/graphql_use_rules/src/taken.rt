@@ -32,8 +32,9 @@ use crate::taker::Taker;
 use crate::usage::disallowed_variable_usage;
 use graphql_directives::{Argument, InputValueDefinition};
 use graphql_names::{Name, Node};
-use graphql_operations::VariableDefinition;
-use graphql_value_rules::{DiagnosticData, Fault, Schema, note_first, tell, type_breaks};
+use graphql_value_rules::{
+    DefinedVariables, DiagnosticData, Fault, Schema, note_first, tell, type_breaks,
+};
 use indexmap::IndexMap;
 use std::alloc::{AllocError, Global};
 
@@ -178,7 +179,7 @@ fn check_argument(
     schema: &Schema,
     argument: &Node<Argument>,
     definition: &Node<InputValueDefinition>,
-    variables: &[Node<VariableDefinition>],
+    variables: &DefinedVariables<'_>,
     faults: &mut Vec<Fault>,
 ) -> Result<(), AllocError>
     ensures { OnOk result (Adds faults.old faults.new (GivenArgumentBreaks (schema_tree schema.now) (variables_of variables.now) (input_value_tree (content definition.now)) (node_tree argument_tree argument.now))) }
@@ -196,7 +197,7 @@ fn check_if_defined(
     taker: &Taker<'_>,
     defined: &IndexMap<Name, usize>,
     argument: &Node<Argument>,
-    variables: &[Node<VariableDefinition>],
+    variables: &DefinedVariables<'_>,
     faults: &mut Vec<Fault>,
 ) -> Result<(), AllocError>
     requires { AreNumbers input_name defined.now (inputs_of taker.now.definitions.now) }
@@ -225,7 +226,7 @@ fn check_arguments(
     taker: &Taker<'_>,
     defined: &IndexMap<Name, usize>,
     given: &IndexMap<Name, usize>,
-    variables: &[Node<VariableDefinition>],
+    variables: &DefinedVariables<'_>,
     faults: &mut Vec<Fault>,
 ) -> Result<(), AllocError>
     requires defined { AreNumbers input_name defined.now (inputs_of taker.now.definitions.now) }
@@ -247,7 +248,7 @@ fn check_arguments(
 pub fn check_taken(
     schema: &Schema,
     taker: &Taker<'_>,
-    variables: &[Node<VariableDefinition>],
+    variables: &DefinedVariables<'_>,
     faults: &mut Vec<Fault>,
 ) -> Result<(), AllocError>
     ensures { OnOk result ((at : Address → Place) → TellsPlaces at (schema_tree schema.now) taker.now → Adds faults.old faults.new (TakerBreaks at (judged (schema_tree schema.now)) (variables_of variables.now) (taker_of taker.now))) }

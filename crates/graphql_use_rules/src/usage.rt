@@ -1,6 +1,5 @@
 //! Variables that are given for arguments.
-ghost use Rattle.std.specs.Prelude.{◌≡◌, ◌↔◌, map, find, bytes_eq, IfOk, IsTrue, option_to_list};
-ghost use Rattle.std.specs.Option.{option_map};
+ghost use Rattle.std.specs.Prelude.{◌≡◌, ◌↔◌, map, IfOk, IsTrue, option_to_list};
 ghost use Rattle.graphql_names.specs.Node.{content, place};
 ghost use Rattle.graphql_names.specs.Placed.{node_tree};
 ghost use Rattle.graphql_literals.specs.TypeTree.{type_tree};
@@ -11,7 +10,6 @@ ghost use Rattle.graphql_value_rules.specs.in_fault_data.FaultView.{fault_of};
 ghost use Rattle.graphql_value_rules.specs.in_fault_data.DiagnosticView.{plain_type};
 ghost use Rattle.graphql_value_rules.specs.in_rule_definitions.Diagnostics.{DisallowedVariableUsage};
 ghost use Rattle.graphql_value_rules.specs.in_rule_definitions.Faults.{wrong};
-ghost use Rattle.graphql_value_rules.specs.in_rule_definitions.Values.{defined_name};
 ghost use Rattle.graphql_value_rules.specs.in_rule_definitions.Uses.{IsVariableUsageAllowed};
 ghost use Rattle.graphql_value_rules.specs.Wanting.{variables_of};
 ghost use Rattle.graphql_use_rules.specs.Steps.{Lists, FitsWithDefault, DisallowedUsage};
@@ -20,23 +18,8 @@ use graphql_directives::{Argument, InputValueDefinition};
 use graphql_literals::Type;
 use graphql_names::{Name, Node};
 use graphql_operations::VariableDefinition;
-use graphql_value_rules::{DiagnosticData, Fault};
+use graphql_value_rules::{DefinedVariables, DiagnosticData, Fault};
 use std::alloc::AllocError;
-
-/// The variable of that name, if there is one: the first of them.
-fn find_variable<'a>(
-    variables: &'a [Node<VariableDefinition>],
-    name: &Name,
-) -> Option<&'a Node<VariableDefinition>>
-    ensures { option_map (λ v. node_tree variable_definition_tree v.now) result ≡ find (λ d. bytes_eq (defined_name d) name.now.text) (variables_of variables.now) }
-{
-    for variable in variables {
-        if variable.content().name.as_str() == name.as_str() {
-            return Some(variable);
-        }
-    }
-    None
-}
 
 /// Whether a value of the type may stand where `target` without its mark `!` is asked for.
 #[tactic(auto, using(graphql_literals::proofs::Trees::type_tree_rules))]
@@ -123,14 +106,14 @@ fn told_usage(
 pub fn disallowed_variable_usage(
     argument: &Node<Argument>,
     definition: &InputValueDefinition,
-    variables: &[Node<VariableDefinition>],
+    variables: &DefinedVariables<'_>,
 ) -> Result<Option<Fault>, AllocError>
     ensures { IfOk result (λ r. Lists (map fault_of (option_to_list r)) (DisallowedUsage (variables_of variables.now) (input_value_tree definition.now) (node_tree argument_tree argument.now))) }
 {
     let Some(name) = argument.content().value.content().as_variable() else {
         return Ok(None);
     };
-    let Some(variable) = find_variable(variables, name) else {
+    let Some(variable) = variables.get(name) else {
         return Ok(None);
     };
     if is_variable_usage_allowed(variable.content(), definition) {

@@ -9,13 +9,13 @@ ghost use Rattle.graphql_fault_data.specs.in_rule_definitions.Values.{TypeBreaks
 ghost use Rattle.graphql_fault_data.specs.Adds.{Adds};
 ghost use Rattle.graphql_value_rules.specs.Wanting.{wanted_type, variables_of};
 
+use crate::defined::DefinedVariables;
 use crate::keys::tell_key_faults;
 use crate::types::tell_type_faults;
 use crate::variables::tell_variable_faults;
 use graphql_fault_data::Fault;
 use graphql_literals::{Type, Value};
 use graphql_names::Node;
-use graphql_operations::VariableDefinition;
 use graphql_schema::Schema;
 use std::alloc::AllocError;
 
@@ -24,7 +24,7 @@ pub fn check_value(
     schema: &Schema,
     ty: &Node<Type>,
     value: &Node<Value>,
-    variables: &[Node<VariableDefinition>],
+    variables: &DefinedVariables<'_>,
     faults: &mut Vec<Fault>,
 ) -> Result<(), AllocError>
     ensures { OnOk result (Adds faults.old faults.new (ValueBreaks (place_at (schema_tree schema.now)) (judged (schema_tree schema.now)) (variables_of variables.now) (wanted_type ty.now) (place value.now) (value_tree (content value.now)))) }
@@ -39,7 +39,7 @@ pub fn type_breaks(
     schema: &Schema,
     ty: &Node<Type>,
     value: &Node<Value>,
-    variables: &[Node<VariableDefinition>],
+    variables: &DefinedVariables<'_>,
     faults: &mut Vec<Fault>,
 ) -> Result<(), AllocError>
     ensures { OnOk result (Adds faults.old faults.new (TypeBreaks (place_at (schema_tree schema.now)) (judged (schema_tree schema.now)) (variables_of variables.now) (wanted_type ty.now) (place value.now) (value_tree (content value.now)))) }
@@ -50,7 +50,7 @@ pub fn type_breaks(
 /// Adds a fault for each variable in a value, at any depth, that is not defined (section 5.8.3).
 pub fn undefined_variables(
     value: &Node<Value>,
-    variables: &[Node<VariableDefinition>],
+    variables: &DefinedVariables<'_>,
     faults: &mut Vec<Fault>,
 ) -> Result<(), AllocError>
     ensures { OnOk result (Adds faults.old faults.new (UndefinedVariableIn (variables_of variables.now) (place value.now) (value_tree (content value.now)))) }

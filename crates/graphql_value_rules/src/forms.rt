@@ -12,11 +12,11 @@ ghost use Rattle.graphql_fault_data.specs.FaultView.{faults_of};
 ghost use Rattle.graphql_value_rules.specs.Wanting.{variables_of};
 ghost use Rattle.graphql_value_rules.specs.ValueFaults.{fits_32_bits, is_built_in_scalar, is_custom_scalar, is_scalar_so, takes_integers, takes_floats, takes_strings, takes_booleans, variable_fits, fits_form, unsupported_value_type, int_coercion_error, undefined_enum_value};
 
-use crate::find::{find_value, find_variable};
+use crate::defined::DefinedVariables;
+use crate::find::find_value;
 use graphql_fault_data::{DiagnosticData, Fault, tell};
 use graphql_literals::{IntValue, Type, Value};
 use graphql_names::{Name, Node, SourceSpan};
-use graphql_operations::VariableDefinition;
 use graphql_schema_types::ExtendedType;
 use std::alloc::{AllocError, Global};
 
@@ -75,10 +75,10 @@ fn takes_booleans(name: &str) -> bool
 }
 
 /// Whether a variable has that type inside all brackets; one that is not defined fits everywhere.
-fn variable_fits(variables: &[Node<VariableDefinition>], name: &Name, wanted: &Name) -> bool
+fn variable_fits(variables: &DefinedVariables<'_>, name: &Name, wanted: &Name) -> bool
     ensures { result ≡ variable_fits (variables_of variables.now) name.now.text wanted.now.text }
 {
-    match find_variable(variables, name) {
+    match variables.get(name) {
         None => true,
         Some(variable) => {
             variable.content().ty.content().inner_named_type().as_str() == wanted.as_str()
@@ -92,7 +92,7 @@ fn fits_form(
     ty: &Type,
     found: &ExtendedType,
     value: &Value,
-    variables: &[Node<VariableDefinition>],
+    variables: &DefinedVariables<'_>,
 ) -> bool
     ensures { result ≡ fits_form (variables_of variables.now) (type_tree ty.now) (extended_type found.now) (value_tree value.now) }
 {
@@ -148,7 +148,7 @@ pub(crate) fn unsupported_value_type(
     found: &ExtendedType,
     value: &Value,
     location: Option<SourceSpan>,
-    variables: &[Node<VariableDefinition>],
+    variables: &DefinedVariables<'_>,
     faults: &mut Vec<Fault>,
 ) -> Result<(), AllocError>
     ensures { OnOk result (faults_of faults.new ≡ faults_of faults.old ++ unsupported_value_type (variables_of variables.now) (type_tree ty.now) type_location (extended_type found.now) location (value_tree value.now)) }

@@ -8,6 +8,7 @@
 #![tactic(auto)]
 
 mod checks;
+mod defined;
 mod find;
 mod firsts;
 mod forms;
@@ -17,6 +18,7 @@ mod types;
 mod variables;
 
 pub use checks::{check_value, type_breaks, undefined_variables, unique_input_values};
+pub use defined::DefinedVariables;
 pub use firsts::note_first;
 pub use graphql_fault_data::{
     DiagnosticData, DirectiveArgumentCoordinate, DirectiveCoordinate, Fault,

@@ -9,6 +9,7 @@ ghost use Rattle.graphql_fault_data.specs.FaultView.{faults_of};
 ghost use Rattle.graphql_value_rules.specs.Wanting.{variables_of};
 ghost use Rattle.graphql_value_rules.specs.ValueFaults.{form_faults, inner_faults, item_faults, entry_faults, type_faults, field_faults};
 
+use crate::defined::DefinedVariables;
 use crate::find::find_input;
 use crate::firsts::note_first;
 use crate::forms::{
@@ -18,7 +19,6 @@ use crate::objects::{tell_required_fields, undefined_input_value};
 use graphql_fault_data::Fault;
 use graphql_literals::{Type, Value};
 use graphql_names::{Name, Node, SourceSpan};
-use graphql_operations::VariableDefinition;
 use graphql_schema::Schema;
 use graphql_schema_types::ExtendedType;
 use indexmap::IndexMap;
@@ -29,7 +29,7 @@ pub(crate) fn tell_type_faults(
     schema: &Schema,
     ty: &Node<Type>,
     value: &Node<Value>,
-    variables: &[Node<VariableDefinition>],
+    variables: &DefinedVariables<'_>,
     faults: &mut Vec<Fault>,
 ) -> Result<(), AllocError>
     ensures { OnOk result (faults_of faults.new ≡ faults_of faults.old ++ type_faults (schema_tree schema.now) (variables_of variables.now) (type_tree (content ty.now)) (place ty.now) (place value.now) (value_tree (content value.now))) }
@@ -54,7 +54,7 @@ fn tell_form(
     found: &ExtendedType,
     value: &Value,
     location: Option<SourceSpan>,
-    variables: &[Node<VariableDefinition>],
+    variables: &DefinedVariables<'_>,
     faults: &mut Vec<Fault>,
 ) -> Result<(), AllocError>
     ensures { OnOk result (faults_of faults.new ≡ faults_of faults.old ++ form_faults (variables_of variables.now) (type_tree ty.now) type_location (extended_type found.now) location (value_tree value.now)) }
@@ -86,7 +86,7 @@ fn tell_type(
     location: Option<SourceSpan>,
     ty: &Type,
     type_location: Option<SourceSpan>,
-    variables: &[Node<VariableDefinition>],
+    variables: &DefinedVariables<'_>,
     faults: &mut Vec<Fault>,
 ) -> Result<(), AllocError>
     ensures { OnOk result (faults_of faults.new ≡ faults_of faults.old ++ type_faults (schema_tree schema.now) (variables_of variables.now) (type_tree ty.now) type_location location (value_tree value.now)) }
@@ -109,7 +109,7 @@ fn tell_inside(
     ty: &Type,
     type_location: Option<SourceSpan>,
     found: &ExtendedType,
-    variables: &[Node<VariableDefinition>],
+    variables: &DefinedVariables<'_>,
     faults: &mut Vec<Fault>,
 ) -> Result<(), AllocError>
     ensures { OnOk result (faults_of faults.new ≡ faults_of faults.old ++ inner_faults (schema_tree schema.now) (variables_of variables.now) (type_tree ty.now) type_location (extended_type found.now) (value_tree value.now)) }
@@ -151,7 +151,7 @@ fn tell_items(
     items: &[Node<Value>],
     ty: &Type,
     type_location: Option<SourceSpan>,
-    variables: &[Node<VariableDefinition>],
+    variables: &DefinedVariables<'_>,
     faults: &mut Vec<Fault>,
 ) -> Result<(), AllocError>
     ensures { OnOk result (faults_of faults.new ≡ faults_of faults.old ++ item_faults (schema_tree schema.now) (variables_of variables.now) (type_tree ty.now) type_location (item_trees value_tree items.now)) }
@@ -177,7 +177,7 @@ fn tell_entries(
     schema: &Schema,
     entries: &[(Name, Node<Value>)],
     found: &ExtendedType,
-    variables: &[Node<VariableDefinition>],
+    variables: &DefinedVariables<'_>,
     faults: &mut Vec<Fault>,
 ) -> Result<(), AllocError>
     ensures { OnOk result (faults_of faults.new ≡ faults_of faults.old ++ entry_faults (schema_tree schema.now) (variables_of variables.now) (extended_type found.now) [] (entry_trees value_tree entries.now)) }
@@ -208,7 +208,7 @@ fn tell_entry(
     location: Option<SourceSpan>,
     found: &ExtendedType,
     key: &Name,
-    variables: &[Node<VariableDefinition>],
+    variables: &DefinedVariables<'_>,
     faults: &mut Vec<Fault>,
 ) -> Result<(), AllocError>
     ensures { OnOk result (faults_of faults.new ≡ faults_of faults.old ++ field_faults (schema_tree schema.now) (variables_of variables.now) (extended_type found.now) key.now.text location (value_tree value.now)) }

@@ -8,23 +8,22 @@ ghost use Rattle.graphql_fault_data.specs.FaultView.{faults_of};
 ghost use Rattle.graphql_value_rules.specs.Wanting.{variables_of};
 ghost use Rattle.graphql_value_rules.specs.VariableFaults.{undefined_variable, variable_faults, variable_faults_items, variable_faults_entries};
 
-use crate::find::find_variable;
+use crate::defined::DefinedVariables;
 use graphql_fault_data::{DiagnosticData, Fault, tell};
 use graphql_literals::Value;
 use graphql_names::{Name, Node, SourceSpan};
-use graphql_operations::VariableDefinition;
 use std::alloc::AllocError;
 
 /// UndefinedVariable: a variable in a value is defined (section 5.8.3).
 fn undefined_variable(
     location: Option<SourceSpan>,
     name: &Name,
-    variables: &[Node<VariableDefinition>],
+    variables: &DefinedVariables<'_>,
     faults: &mut Vec<Fault>,
 ) -> Result<(), AllocError>
     ensures { OnOk result (faults_of faults.new ≡ faults_of faults.old ++ undefined_variable (variables_of variables.now) location (name_tree name.now)) }
 {
-    match find_variable(variables, name) {
+    match variables.get(name) {
         Some(_) => Ok(()),
         None => {
             let name = name.clone()?;
@@ -37,7 +36,7 @@ fn undefined_variable(
 /// Adds the faults of the variables in a value.
 pub(crate) fn tell_variable_faults(
     value: &Node<Value>,
-    variables: &[Node<VariableDefinition>],
+    variables: &DefinedVariables<'_>,
     faults: &mut Vec<Fault>,
 ) -> Result<(), AllocError>
     ensures { OnOk result (faults_of faults.new ≡ faults_of faults.old ++ variable_faults (variables_of variables.now) (place value.now) (value_tree (content value.now))) }
@@ -51,7 +50,7 @@ pub(crate) fn tell_variable_faults(
 fn tell_variables(
     value: &Value,
     location: Option<SourceSpan>,
-    variables: &[Node<VariableDefinition>],
+    variables: &DefinedVariables<'_>,
     faults: &mut Vec<Fault>,
 ) -> Result<(), AllocError>
     ensures { OnOk result (faults_of faults.new ≡ faults_of faults.old ++ variable_faults (variables_of variables.now) location (value_tree value.now)) }
@@ -72,7 +71,7 @@ fn tell_variables(
 #[cycle(variables)]
 fn tell_variables_of_items(
     items: &[Node<Value>],
-    variables: &[Node<VariableDefinition>],
+    variables: &DefinedVariables<'_>,
     faults: &mut Vec<Fault>,
 ) -> Result<(), AllocError>
     ensures { OnOk result (faults_of faults.new ≡ faults_of faults.old ++ variable_faults_items (variables_of variables.now) (item_trees value_tree items.now)) }
@@ -86,7 +85,7 @@ fn tell_variables_of_items(
 #[cycle(variables)]
 fn tell_variables_of_entries(
     entries: &[(Name, Node<Value>)],
-    variables: &[Node<VariableDefinition>],
+    variables: &DefinedVariables<'_>,
     faults: &mut Vec<Fault>,
 ) -> Result<(), AllocError>
     ensures { OnOk result (faults_of faults.new ≡ faults_of faults.old ++ variable_faults_entries (variables_of variables.now) (entry_trees value_tree entries.now)) }

@@ -14,7 +14,7 @@ use graphql_names::Node;
 use graphql_operations::VariableDefinition;
 use graphql_schema_types::TypeKind;
 use graphql_use_rules::check_uses;
-use graphql_value_rules::{DiagnosticData, Fault, Schema, check_value, tell};
+use graphql_value_rules::{DefinedVariables, DiagnosticData, Fault, Schema, check_value, tell};
 use std::alloc::AllocError;
 
 /// UndefinedDefinition: the type of a variable is there (section 5.8.2).
@@ -81,7 +81,10 @@ fn check_default(
     let defined = variable.content();
     match &defined.default_value {
         None => Ok(()),
-        Some(value) => check_value(schema, &defined.ty, value, &[], faults),
+        Some(value) => {
+            let variables = DefinedVariables::listed(&[]);
+            check_value(schema, &defined.ty, value, &variables, faults)
+        }
     }
 }
 
@@ -97,11 +100,12 @@ fn check_variable(
     tell(faults, variable_input_type(schema, variable)?)?;
     check_default(schema, variable, faults)?;
     let directives = &variable.content().directives.0;
+    let variables = DefinedVariables::listed(&[]);
     check_uses(
         schema,
         directives,
         DirectiveLocation::VariableDefinition,
-        &[],
+        &variables,
         faults,
     )
 }

@@ -2,8 +2,14 @@ use Rattle.std.proofs.Common.{List, ap, map, sym, subst}
 use Rattle.std.proofs.lemmas.Result.{on_ok_weaker}
 use Rattle.graphql_names.specs.declared.node.Node.{Node}
 use Rattle.graphql_directives.specs.declared.directive.Directive.{Directive}
+use Rattle.graphql_operations.specs.declared.operation.VariableDefinition.{VariableDefinition}
+use Rattle.graphql_rule_definitions.specs.in_schema_types.Addresses.{place_at}
+use Rattle.graphql_rule_definitions.specs.Judged.{judged}
+use Rattle.graphql_rule_definitions.specs.Uses.{UsesBreak}
 use Rattle.graphql_fault_data.specs.FaultView.{fault_of, faults_of}
-use Rattle.graphql_use_rules.specs.Trees.{directives_of}
+use Rattle.graphql_fault_data.specs.Adds.{Adds}
+use Rattle.graphql_value_rules.specs.Wanting.{variables_of}
+use Rattle.graphql_use_rules.specs.Trees.{directives_of, tree_of}
 use Rattle.graphql_rules.specs.Given.{Each, LeadsTo}
 use Rattle.graphql_rules.proofs.GivenFacts.{only_added}
 use Rattle.graphql_rules.proofs.given.validate_directives.Goals as goal
@@ -11,6 +17,8 @@ use Rattle.graphql_rules.proofs.given.validate_directives.Goals as goal
 pub returns-clause-told : goal.returns-clause-told
 returns-clause-told g c =
     let given = c.in_ok-nodes.ensures in
+    let s = tree_of c.args.schema in
+    let checked = subst (λ (ds : List (Node VariableDefinition)). Adds c.new-faults.result c.check_directives.new.faults (UsesBreak (place_at s) (judged s) (variables_of ds) c.args.location (directives_of c.deref.result.now))) c.in_ok-variables.ensures c.in_ok-check_directives.ensures in
     on_ok_weaker c.append_faults.result
     (λ added. (
       given.0,
@@ -24,7 +32,7 @@ returns-clause-told g c =
               directives_of c.deref.result.now,
               (
                 subst (λ (l : List (Node Directive)). Each (LeadsTo g.D.Deref.deref_gives) given.1.1.0 (directives_of l)) (sym c.deref.ensures.value) given.1.1.1.1,
-                (faults_of c.check_directives.new.faults, (added, only_added (faults_of c.new-faults.result) (faults_of c.check_directives.new.faults) _ (ap (λ l. map fault_of l) c.new-faults.ensures.items) c.in_ok-check_directives.ensures)),
+                (faults_of c.check_directives.new.faults, (added, only_added (faults_of c.new-faults.result) (faults_of c.check_directives.new.faults) _ (ap (λ l. map fault_of l) c.new-faults.ensures.items) checked)),
               ),
             ),
           ),

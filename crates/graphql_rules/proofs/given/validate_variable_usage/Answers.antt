@@ -1,6 +1,8 @@
-use Rattle.std.proofs.Common.{[], ◌∷◌, map, Option, option_to_list, sym, subst, append-nil}
+use Rattle.std.proofs.Common.{List, [], ◌∷◌, map, Option, option_to_list, sym, subst, append-nil}
 use Rattle.graphql_names.specs.Placed.{node_tree}
+use Rattle.graphql_names.specs.declared.node.Node.{Node}
 use Rattle.graphql_directives.specs.DirectiveTree.{argument_tree, input_value_tree}
+use Rattle.graphql_operations.specs.declared.operation.VariableDefinition.{VariableDefinition}
 use Rattle.graphql_fault_data.specs.FaultView.{fault_of}
 use Rattle.graphql_fault_data.specs.declared.fault.Fault.{Fault}
 use Rattle.graphql_use_rules.specs.Steps.{Lists, DisallowedUsage}
@@ -11,8 +13,8 @@ use Rattle.graphql_rules.proofs.given.validate_variable_usage.Goals as goal
 
 pub returns-in-None-clause-told : goal.returns-in-None-clause-told
 returns-in-None-clause-told c =
-    ([], (sym (append-nil (diagnostics_of c.args.list.now)), usage_told (variables_of c.args.variables.now) c.args.definition.now (node_tree argument_tree c.args.argument.now) [] c.content.result.now c.content.ensures (subst (λ (o : Option Fault). Lists (map fault_of (option_to_list o)) (DisallowedUsage (variables_of c.args.variables.now) (input_value_tree c.content.result.now) (node_tree argument_tree c.args.argument.now))) c.in-None.is c.in_ok-fault.ensures)))
+    ([], (sym (append-nil (diagnostics_of c.args.list.now)), usage_told (variables_of c.args.variables.now) c.args.definition.now (node_tree argument_tree c.args.argument.now) [] c.content.result.now c.content.ensures (subst (λ (o : Option Fault). Lists (map fault_of (option_to_list o)) (DisallowedUsage (variables_of c.args.variables.now) (input_value_tree c.content.result.now) (node_tree argument_tree c.args.argument.now))) c.in-None.is (subst (λ (ds : List (Node VariableDefinition)). Lists (map fault_of (option_to_list c.in_ok-fault.fault)) (DisallowedUsage (variables_of ds) (input_value_tree c.content.result.now) (node_tree argument_tree c.args.argument.now))) c.listed-variables.ensures c.in_ok-fault.ensures))))
 
 pub returns-in_ok-push_fault-in-Some-clause-told : goal.returns-in_ok-push_fault-in-Some-clause-told
 returns-in_ok-push_fault-in-Some-clause-told c =
-    (fault_of c.in-Some.fault ∷ [], (c.in_ok-push_fault-in-Some.ensures.added, usage_told (variables_of c.args.variables.now) c.args.definition.now (node_tree argument_tree c.args.argument.now) (fault_of c.in-Some.fault ∷ []) c.content.result.now c.content.ensures (subst (λ (o : Option Fault). Lists (map fault_of (option_to_list o)) (DisallowedUsage (variables_of c.args.variables.now) (input_value_tree c.content.result.now) (node_tree argument_tree c.args.argument.now))) c.in-Some.is c.in_ok-fault.ensures)))
+    (fault_of c.in-Some.fault ∷ [], (c.in_ok-push_fault-in-Some.ensures.added, usage_told (variables_of c.args.variables.now) c.args.definition.now (node_tree argument_tree c.args.argument.now) (fault_of c.in-Some.fault ∷ []) c.content.result.now c.content.ensures (subst (λ (o : Option Fault). Lists (map fault_of (option_to_list o)) (DisallowedUsage (variables_of c.args.variables.now) (input_value_tree c.content.result.now) (node_tree argument_tree c.args.argument.now))) c.in-Some.is (subst (λ (ds : List (Node VariableDefinition)). Lists (map fault_of (option_to_list c.in_ok-fault.fault)) (DisallowedUsage (variables_of ds) (input_value_tree c.content.result.now) (node_tree argument_tree c.args.argument.now))) c.listed-variables.ensures c.in_ok-fault.ensures))))

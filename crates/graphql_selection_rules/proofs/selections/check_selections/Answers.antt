@@ -35,7 +35,7 @@ returns c =
     let b = faults_of c.check_uses.new.faults in
     let d = faults_of c.check_each_selection.new.faults in
     let e = faults_of c.check_fragments.new.faults in
-    let vs = ap variables_of c.as_slice-variables.ensures.value ∙ ap (λ (x : Operation). variables_of x.variables.items) is in
+    let vs = ap variables_of (c.in_ok-variables.ensures ∙ c.as_slice.ensures.value) ∙ ap (λ (x : Operation). variables_of x.variables.items) is in
     let used = ap directives_of c.deref.ensures.value ∙ ap (λ (x : Operation). directives_tree x.directives) is in
     let at = c.from-location.ensures ∙ ap (λ (x : Operation). location_of_operation x.operation_type) is in
     on_ok_weaker c.check_fragments.result

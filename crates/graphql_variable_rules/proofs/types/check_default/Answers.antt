@@ -1,6 +1,8 @@
-use Rattle.std.proofs.Common.{[], subst}
+use Rattle.std.proofs.Common.{[], List, subst}
 use Rattle.std.proofs.lemmas.Result.{on_ok_weaker}
-use Rattle.graphql_names.specs.Node.{place}
+use Rattle.graphql_names.specs.Node.{content, place}
+use Rattle.graphql_names.specs.declared.node.Node.{Node}
+use Rattle.graphql_literals.specs.ValueTree.{value_tree}
 use Rattle.graphql_operations.specs.OperationTree.{variable_definition_tree}
 use Rattle.graphql_operations.specs.declared.operation.VariableDefinition.{VariableDefinition}
 use Rattle.graphql_rule_definitions.specs.Values.{ValueBreaks}
@@ -9,7 +11,7 @@ use Rattle.graphql_schema_types.specs.Addresses.{place_at}
 use Rattle.graphql_rule_definitions.specs.Judged.{judged}
 use Rattle.graphql_value_rules.specs.in_fault_data.FaultView.{faults_of}
 use Rattle.graphql_value_rules.specs.in_fault_data.Adds.{Adds}
-use Rattle.graphql_value_rules.specs.Wanting.{wanted_type}
+use Rattle.graphql_value_rules.specs.Wanting.{wanted_type, variables_of}
 use Rattle.graphql_rule_definitions.proofs.Listing.{gains_same}
 use Rattle.graphql_variable_rules.specs.VariableFaults.{DefaultBreaks}
 use Rattle.graphql_variable_rules.proofs.Told.{of_default}
@@ -22,5 +24,6 @@ returns-in-Some c =
     let p = place c.args.variable.now in
     on_ok_weaker c.check_value.result
     (λ h. subst (λ (w : VariableDefinition). Adds c.args.faults.now c.check_value.new.faults (DefaultBreaks s (record { it = variable_definition_tree w; place = p }))) c.content-defined.ensures
-    (gains_same (faults_of c.args.faults.now) (faults_of c.check_value.new.faults) (λ f. of_default v c.in-Some.value c.in-Some.is (λ x. ValueBreaks (place_at s) (judged s) [] (wanted_type v.ty) x.place x.it f)) h))
+    (gains_same (faults_of c.args.faults.now) (faults_of c.check_value.new.faults) (λ f. of_default v c.in-Some.value c.in-Some.is (λ x. ValueBreaks (place_at s) (judged s) [] (wanted_type v.ty) x.place x.it f))
+    (subst (λ (ds : List (Node VariableDefinition)). Adds c.args.faults.now c.check_value.new.faults (ValueBreaks (place_at s) (judged s) (variables_of ds) (wanted_type v.ty) (place c.in-Some.value) (value_tree (content c.in-Some.value)))) c.listed-variables.ensures h)))
     c.check_value.ensures

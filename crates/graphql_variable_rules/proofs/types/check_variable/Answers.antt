@@ -1,6 +1,7 @@
-use Rattle.std.proofs.Common.{◌++◌, [], ap, subst, ◌∙◌}
+use Rattle.std.proofs.Common.{◌++◌, List, [], ap, subst, ◌∙◌}
 use Rattle.std.proofs.lemmas.Result.{on_ok_weaker}
 use Rattle.graphql_names.specs.Placed.{Place, node_tree}
+use Rattle.graphql_names.specs.declared.node.Node.{Node}
 use Rattle.graphql_directives.specs.DirectiveTree.{Directives}
 use Rattle.graphql_directives.specs.declared.directive_location.DirectiveLocation.TheVariants as location
 use Rattle.graphql_operations.specs.OperationTree.{variable_definition_tree}
@@ -11,6 +12,7 @@ use Rattle.graphql_rule_definitions.specs.Uses.{UsesBreak}
 use Rattle.graphql_value_rules.specs.in_schema.SchemaOf.{schema_tree}
 use Rattle.graphql_value_rules.specs.in_fault_data.FaultView.{faults_of}
 use Rattle.graphql_value_rules.specs.in_fault_data.Adds.{Adds}
+use Rattle.graphql_value_rules.specs.Wanting.{variables_of}
 use Rattle.graphql_use_rules.specs.Trees.{directives_of}
 use Rattle.graphql_rule_definitions.proofs.Listing.{gains_both, gains_list}
 use Rattle.graphql_variable_rules.specs.VariableFaults.{undefined_definition, variable_input_type}
@@ -31,5 +33,6 @@ returns c =
     (λ h. gains_both a b g (gains_list a b (undefined_definition s x) (c.in_ok-tell.ensures.told ∙ ap (λ l. a ++ l) c.in_ok-undefined_definition.ensures) (lists_undefined s x))
     (gains_both b d g (gains_list b d (variable_input_type s x) (c.in_ok-tell-2.ensures.told ∙ ap (λ l. b ++ l) c.in_ok-variable_input_type.ensures) (lists_input_type s x))
     (gains_both d e g c.in_ok-check_default.ensures
-    (subst (λ (ds : Directives Place). Adds c.check_default.new.faults c.check_uses.new.faults (UsesBreak (place_at s) (judged s) [] location.VariableDefinition ds)) used h))))
+    (subst (λ (ds : Directives Place). Adds c.check_default.new.faults c.check_uses.new.faults (UsesBreak (place_at s) (judged s) [] location.VariableDefinition ds)) used
+    (subst (λ (vs : List (Node VariableDefinition)). Adds c.check_default.new.faults c.check_uses.new.faults (UsesBreak (place_at s) (judged s) (variables_of vs) location.VariableDefinition (directives_of c.deref.result.now))) c.listed-variables.ensures h)))))
     c.check_uses.ensures
