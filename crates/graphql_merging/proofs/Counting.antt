@@ -16,17 +16,19 @@ use Rattle.graphql_document_rule_definitions.specs.Chains.{Chain}
 use Rattle.graphql_document_rule_definitions.specs.Contents.{ContentBelow}
 use Rattle.graphql_document_rule_definitions.specs.Merging.{Below, Starts}
 use Rattle.graphql_document_rule_definitions.proofs.Unplaced.{contains_map, contains_unmap}
-use Rattle.graphql_field_selections.specs.Fields.{field_of, fields_of}
-use Rattle.graphql_field_selections.specs.declared.field_selection.FieldSelection.{FieldSelection}
+use Rattle.graphql_field_groups.specs.in_field_selections.Fields.{field_of, fields_of}
+use Rattle.graphql_field_groups.specs.in_field_selections.declared.field_selection.FieldSelection.{FieldSelection}
 use Rattle.graphql_merging_laws.specs.Contents.{PlainField, PlainBelow, unplaced_content}
 use Rattle.graphql_merging_laws.proofs.Elsewhere.{content_starts}
 use Rattle.graphql_merging_laws.proofs.PlainFacts.{plain_below, below_standing}
-use Rattle.graphql_merging.specs.declared.pass.Pass.{Pass}
-use Rattle.graphql_merging.specs.declared.pass.Pass.TheVariants.{Shapes, Selections}
-use Rattle.graphql_merging.specs.Remembered.{contents_of, Remembers}
-use Rattle.graphql_merging.specs.Examined.{AreStarting, ListsExamined}
-use Rattle.graphql_merging.specs.Counted.{compared, IsLast, IsListed, AreListed, Grows, IsCountedBy}
-use Rattle.graphql_merging.proofs.Lists.{none_twice, apart_more}
+use Rattle.graphql_field_groups.specs.declared.pass.Pass.{Pass}
+use Rattle.graphql_field_groups.specs.declared.pass.Pass.TheVariants.{Shapes, Selections}
+use Rattle.graphql_field_groups.specs.Below.{contents_of, AreStarting}
+use Rattle.graphql_merging.specs.Remembered.{Remembers}
+use Rattle.graphql_merging.specs.Examined.{ListsExamined}
+use Rattle.graphql_field_groups.specs.Compared.{compared}
+use Rattle.graphql_merging.specs.Counted.{IsLast, IsListed, AreListed, Grows, IsCountedBy}
+use Rattle.graphql_field_groups.proofs.Lists.{none_twice, apart_more}
 
 -- ---- sums
 

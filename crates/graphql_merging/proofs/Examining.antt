@@ -17,8 +17,8 @@ use Rattle.graphql_document_rule_definitions.specs.Contents.{ContentBelow, Conte
 use Rattle.graphql_document_rule_definitions.specs.Merging.{MergingBreaks}
 use Rattle.graphql_document_rule_definitions.specs.Limits.{chain_bound}
 use Rattle.graphql_document_rule_definitions.proofs.Equivalences.{shape_sym, shape_trans, selection_sym, selection_trans}
-use Rattle.graphql_field_selections.specs.Fields.{field_of, fields_of}
-use Rattle.graphql_field_selections.specs.declared.field_selection.FieldSelection.{FieldSelection}
+use Rattle.graphql_field_groups.specs.in_field_selections.Fields.{field_of, fields_of}
+use Rattle.graphql_field_groups.specs.in_field_selections.declared.field_selection.FieldSelection.{FieldSelection}
 use Rattle.graphql_merging_laws.specs.Contents.{PlainField, PlainBelow, PlainStarts, unplaced_content}
 use Rattle.graphql_merging_laws.specs.Settled.{HasStart, IsUnderWay, IsExaminedInto, IsExaminedBy}
 use Rattle.graphql_merging_laws.specs.Going.{IsEndOf, IsGoing}
@@ -26,13 +26,13 @@ use Rattle.graphql_merging_laws.proofs.SettledFacts.{settled_empty, begun, dropp
 use Rattle.graphql_merging_laws.proofs.GoingFacts.{going_start, going_below, end_start, end_below, end_within}
 use Rattle.graphql_merging_laws.proofs.PlainFacts.{start_list, shapes_examined, selections_examined}
 use Rattle.graphql_merging_laws.proofs.Merges.{going_breaks, bound_passed}
-use Rattle.graphql_merging.specs.declared.pass.Pass.{Pass}
-use Rattle.graphql_merging.specs.declared.pass.Pass.TheVariants.{Shapes, Selections}
-use Rattle.graphql_merging.specs.Passes.{Together, Agree, Conflict}
-use Rattle.graphql_merging.specs.Below.{IsMergedIn}
-use Rattle.graphql_merging.specs.Remembered.{contents_of, Remembers}
-use Rattle.graphql_merging.proofs.Lists.{taken_more}
-use Rattle.graphql_merging.specs.Examined.{HasFields, if_any, all_contents, AreStarting, AreSettled, AreUnderWay, GroupExamined, GroupsExamined, ListExamined, ListsExamined, AllExamined}
+use Rattle.graphql_field_groups.specs.declared.pass.Pass.{Pass}
+use Rattle.graphql_field_groups.specs.declared.pass.Pass.TheVariants.{Shapes, Selections}
+use Rattle.graphql_field_groups.specs.Passes.{Together, Agree, Conflict}
+use Rattle.graphql_field_groups.specs.Below.{IsMergedIn, contents_of, AreStarting}
+use Rattle.graphql_merging.specs.Remembered.{Remembers}
+use Rattle.graphql_field_groups.proofs.Lists.{taken_more}
+use Rattle.graphql_merging.specs.Examined.{HasFields, if_any, all_contents, AreSettled, AreUnderWay, GroupExamined, GroupsExamined, ListExamined, ListsExamined, AllExamined}
 
 -- ---- lists
 

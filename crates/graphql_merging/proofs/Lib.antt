@@ -1,9 +1,4 @@
-pub mod Filing
-pub mod Sharing
 pub mod Examining
-pub mod Telling
-pub mod Shaped
-pub mod ShapesTold
-pub mod Lists
+pub mod Remembering
 pub mod Counting
 pub mod Operating

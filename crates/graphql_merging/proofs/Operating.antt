@@ -10,13 +10,14 @@ use Rattle.graphql_typed_operations.specs.declared.document.ExecutableDocument.{
 use Rattle.graphql_meant_documents.specs.MeantTree.{MeantOperation, MeantDocument, meant_of_set}
 use Rattle.graphql_rule_definitions.specs.Judged.{Judged}
 use Rattle.graphql_document_rule_definitions.specs.DocumentFaults.{Broken}
-use Rattle.graphql_field_selections.specs.Fields.{meant_fragments}
-use Rattle.graphql_field_selections.specs.declared.field_selection.FieldSelection.{FieldSelection}
+use Rattle.graphql_field_groups.specs.in_field_selections.Fields.{meant_fragments}
+use Rattle.graphql_field_groups.specs.in_field_selections.declared.field_selection.FieldSelection.{FieldSelection}
 use Rattle.graphql_merging_laws.proofs.Merges.{fields_merge}
-use Rattle.graphql_merging.specs.declared.pass.Pass.TheVariants.{Shapes, Selections}
+use Rattle.graphql_field_groups.specs.declared.pass.Pass.TheVariants.{Shapes, Selections}
 use Rattle.graphql_merging.specs.declared.operation.Examined.{Examined}
 use Rattle.graphql_merging.specs.Remembered.{remembered}
-use Rattle.graphql_merging.specs.Examined.{AreStarting, AreStartingWith, AllExamined}
+use Rattle.graphql_field_groups.specs.Below.{AreStarting, AreStartingWith}
+use Rattle.graphql_merging.specs.Examined.{AllExamined}
 use Rattle.graphql_merging.specs.Verdict.{document_meant, operation_meant, OperationExamined}
 use Rattle.graphql_merging.proofs.Examining.{left_empty, right_empty}
 

@@ -7,20 +7,11 @@ use Rattle.graphql_meant_documents.specs.MeantTree.{MeantOperation, MeantDocumen
 use Rattle.graphql_document_rule_definitions.specs.Selected.{StandingField, operations}
 use Rattle.graphql_document_rule_definitions.specs.Chains.{Chain}
 use Rattle.graphql_document_rule_definitions.specs.Merging.{Below, Starts}
-use Rattle.graphql_field_selections.specs.declared.field_selection.FieldSelection.{FieldSelection}
+use Rattle.graphql_field_groups.specs.in_field_selections.declared.field_selection.FieldSelection.{FieldSelection}
 use Rattle.graphql_merging_laws.specs.Contents.{PlainField, unplaced_content}
-use Rattle.graphql_merging.specs.Remembered.{contents_of}
-use Rattle.graphql_merging.specs.declared.pass.Pass.{Pass}
-use Rattle.graphql_merging.specs.declared.pass.Pass.TheVariants.{Shapes, Selections}
-
--- how often shapes are compared, at most, for two fields, and for a list of so many, in a pass
-abbrev pub compared_once : Pass → ℕ
-compared_once Shapes = 1
-compared_once Selections = 0
-
-abbrev pub compared : {X : Type 0} → Pass → List X → ℕ
-compared Shapes list = length list
-compared Selections list = 0
+use Rattle.graphql_field_groups.specs.Below.{contents_of}
+use Rattle.graphql_field_groups.specs.Compared.{compared}
+use Rattle.graphql_field_groups.specs.declared.pass.Pass.{Pass}
 
 module _ (d : MeantDocument Place) where
   -- the content of the last field of a chain of an operation of the document

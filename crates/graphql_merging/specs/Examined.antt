@@ -4,27 +4,25 @@ use Rattle.std.specs.declared.alloc.Global.{Global}
 use Rattle.graphql_names.specs.Placed.{Place}
 use Rattle.graphql_cycles.specs.Paths.{HasNoRepeat}
 use Rattle.graphql_document_faults.specs.declared.build_error.BuildError.{BuildError}
-use Rattle.graphql_schema.specs.SchemaOf.{schema_tree}
-use Rattle.graphql_components.specs.Names.{Entries}
-use Rattle.graphql_meant_documents.specs.MeantTree.{MeantSet, MeantOperation, MeantFragment, MeantDocument}
+use Rattle.graphql_typing.specs.in_schema.SchemaOf.{schema_tree}
+use Rattle.graphql_meant_documents.specs.MeantTree.{MeantOperation, MeantDocument}
 use Rattle.graphql_typing.specs.DocumentView.{meant_document}
 use Rattle.graphql_typed_operations.specs.TypedDocument.{typed_document_tree}
 use Rattle.graphql_rule_definitions.specs.Judged.{Judged, judged}
 use Rattle.graphql_document_rule_definitions.specs.DocumentFaults.{Broken}
 use Rattle.graphql_document_rule_definitions.specs.Selected.{StandingField}
 use Rattle.graphql_document_rule_definitions.specs.Groups.{AgreeWithHead, AreGroups}
-use Rattle.graphql_document_rule_definitions.specs.Contents.{ContentBelow, ContentStarts}
+use Rattle.graphql_document_rule_definitions.specs.Contents.{ContentBelow}
 use Rattle.graphql_document_rule_definitions.specs.Merging.{MergingBreaks}
 use Rattle.graphql_document_rule_definitions.specs.Limits.{PassesChainBound}
-use Rattle.graphql_reach.specs.Broken.{brokens_of}
-use Rattle.graphql_field_selections.specs.Fields.{fields_of}
-use Rattle.graphql_field_selections.specs.declared.field_selection.FieldSelection.{FieldSelection}
+use Rattle.graphql_field_groups.specs.in_reach.Broken.{brokens_of}
+use Rattle.graphql_field_groups.specs.in_field_selections.Fields.{fields_of}
+use Rattle.graphql_field_groups.specs.in_field_selections.declared.field_selection.FieldSelection.{FieldSelection}
 use Rattle.graphql_merging_laws.specs.Contents.{PlainField, PlainBelow, PlainStarts, unplaced_content}
 use Rattle.graphql_merging_laws.specs.Settled.{HasStart, IsSettled, IsUnderWay}
-use Rattle.graphql_merging.specs.Passes.{Together, Agree, Conflict, TellsGroup}
-use Rattle.graphql_merging.specs.Below.{IsMergedIn}
-use Rattle.graphql_merging.specs.Remembered.{contents_of}
-use Rattle.graphql_merging.specs.declared.pass.Pass.{Pass}
+use Rattle.graphql_field_groups.specs.Passes.{Together, Agree, Conflict, TellsGroup}
+use Rattle.graphql_field_groups.specs.Below.{contents_of, AreStarting, IsMergedIn}
+use Rattle.graphql_field_groups.specs.declared.pass.Pass.{Pass}
 use Rattle.graphql_merging.specs.declared.examination.Examination.{Examination}
 
 abbrev pub schema_of : Examination → Judged
@@ -49,21 +47,12 @@ abbrev pub all_contents : List (List FieldSelection) → List (List PlainField)
 all_contents lists = map contents_of lists
 
 module _ (d : MeantDocument Place) where
-  -- the fields of a list are those that start
-  abbrev pub AreStarting : MeantOperation Place → List FieldSelection → Type 0
-  AreStarting o list = ((x : StandingField Place) → Contains (fields_of list) x → ContentStarts d o x)
-      × (((x : StandingField Place) → ContentStarts d o x → Contains (contents_of list) (unplaced_content x)) × HasNoRepeat (contents_of list))
-
   -- settled lists; and while some are left, with what starts
   abbrev pub AreSettled : Pass → Judged → List (List PlainField) → Type 0
   AreSettled pass s lists = IsSettled (PlainBelow d) (Together pass s) (Agree pass s) ([] ∷ lists)
 
   abbrev pub AreUnderWay : Pass → Judged → MeantOperation Place → List (List PlainField) → List (List PlainField) → Type 0
   AreUnderWay pass s o left lists = IsUnderWay (PlainBelow d) (Together pass s) (Agree pass s) (PlainStarts d o) left ([] ∷ lists)
-
--- these start, in every document with these fragments and for every operation with this set
-abbrev pub AreStartingWith : Entries (MeantFragment Place) → MeantSet Place → List FieldSelection → Type 0
-AreStartingWith fragments set list = (d : MeantDocument Place) (o : MeantOperation Place) → d.fragments ≡ fragments → o.set ≡ set → AreStarting d o list
 
 module _ (pass : Pass) (s : Judged) (d : MeantDocument Place) where
   -- ---- a group

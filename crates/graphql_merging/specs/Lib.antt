@@ -1,8 +1,3 @@
-pub mod Kinds
-pub mod Shapes
-pub mod Grouped
-pub mod Passes
-pub mod Below
 pub mod Remembered
 pub mod Examined
 pub mod Counted

@@ -1,12 +1,8 @@
 -- The lists that were examined, by their contents (private: it leads to the laws of merging).
 use Rattle.std.specs.Prelude.{◌≡◌, ◌++◌, ◌∷◌, [], Bool, true, false, List, map, Contains}
-use Rattle.graphql_field_selections.specs.Fields.{fields_of}
-use Rattle.graphql_field_selections.specs.declared.field_selection.FieldSelection.{FieldSelection}
-use Rattle.graphql_merging_laws.specs.Contents.{PlainField, unplaced_content}
+use Rattle.graphql_merging_laws.specs.Contents.{PlainField}
+use Rattle.graphql_field_groups.specs.Below.{contents_of}
 use Rattle.graphql_merging.specs.declared.remembered.Remembered.{Remembered}
-
-abbrev pub contents_of : List FieldSelection → List PlainField
-contents_of xs = map unplaced_content (fields_of xs)
 
 -- what stands there
 abbrev pub remembered : Remembered → List (List PlainField)

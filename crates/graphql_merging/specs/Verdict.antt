@@ -11,13 +11,13 @@ use Rattle.graphql_rule_definitions.specs.Judged.{Judged}
 use Rattle.graphql_document_rule_definitions.specs.DocumentFaults.{Broken}
 use Rattle.graphql_document_rule_definitions.specs.Merging.{FieldsMerge, MergingBreaks}
 use Rattle.graphql_document_rule_definitions.specs.Limits.{PassesChainBound}
-use Rattle.graphql_reach.specs.Broken.{brokens_of}
+use Rattle.graphql_field_groups.specs.in_reach.Broken.{brokens_of}
 use Rattle.graphql_merging_laws.specs.Contents.{PlainField}
 use Rattle.graphql_merging.specs.Counted.{IsCountedBy}
 use Rattle.graphql_merging.specs.Remembered.{remembered}
 use Rattle.graphql_merging.specs.Examined.{Breaches, AreSettled}
 use Rattle.graphql_merging.specs.declared.operation.Examined.{Examined}
-use Rattle.graphql_merging.specs.declared.pass.Pass.TheVariants.{Shapes, Selections}
+use Rattle.graphql_field_groups.specs.declared.pass.Pass.TheVariants.{Shapes, Selections}
 
 -- what a document, what an operation means
 abbrev pub document_meant : ExecutableDocument → MeantDocument Place

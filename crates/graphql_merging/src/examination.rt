@@ -1,19 +1,17 @@
 //! The examination of lists, level by level.
 ghost use Rattle.std.specs.Prelude.{◌≡◌, ◌≤◌, ◌+◌, ◌++◌, ◌∷◌, [], map, IfOk, OnOk};
-ghost use Rattle.graphql_field_selections.specs.Fields.{fields_of};
-ghost use Rattle.graphql_merging.specs.Grouped.{lists_of};
-ghost use Rattle.graphql_merging.specs.Counted.{compared, IsListed, AreListed, Grows};
-ghost use Rattle.graphql_merging.specs.Remembered.{contents_of, remembered};
+ghost use Rattle.graphql_field_groups.specs.in_field_selections.Fields.{fields_of};
+ghost use Rattle.graphql_field_groups.specs.Grouped.{lists_of};
+ghost use Rattle.graphql_field_groups.specs.Compared.{compared};
+ghost use Rattle.graphql_merging.specs.Counted.{IsListed, AreListed, Grows};
+ghost use Rattle.graphql_field_groups.specs.Below.{contents_of};
+ghost use Rattle.graphql_merging.specs.Remembered.{remembered};
 ghost use Rattle.graphql_merging.specs.Examined.{if_any, document_of, ExaminesGroup, ExaminesList, ExaminesLists, ExaminesAll};
 
-use crate::below::list_below;
-use crate::conflicts::{Breach, check_group};
-use crate::groups::groups_of;
-use crate::pass::Pass;
 use crate::remembered::Remembered;
-use graphql_field_selections::FieldSelection;
-use graphql_schema::Schema;
+use graphql_field_groups::{Breach, FieldSelection, Pass, check_group, groups_of, list_below};
 use graphql_typed_operations::ExecutableDocument;
+use graphql_typing::Schema;
 use std::alloc::AllocError;
 
 /// The greatest length of a chain of fields, each selected by the one before.

@@ -1,26 +1,19 @@
 //! The examination of an operation, in both passes.
 ghost use Rattle.std.specs.Prelude.{◌≡◌, Contains, IfOk};
-ghost use Rattle.graphql_schema.specs.SchemaOf.{schema_tree};
+ghost use Rattle.graphql_typing.specs.in_schema.SchemaOf.{schema_tree};
 ghost use Rattle.graphql_rule_definitions.specs.Judged.{judged};
 ghost use Rattle.graphql_names.specs.Placed.{Place};
-ghost use Rattle.graphql_typed_selections.specs.TypedTree.{typed_set_tree};
-ghost use Rattle.graphql_meant_documents.specs.MeantTree.{MeantDocument, meant_of_set};
-ghost use Rattle.graphql_field_selections.specs.Fields.{meant_fragments};
+ghost use Rattle.graphql_meant_documents.specs.MeantTree.{MeantDocument};
 ghost use Rattle.graphql_rule_definitions.specs.Judged.{Judged};
 ghost use Rattle.graphql_document_rule_definitions.specs.Selected.{operations};
-ghost use Rattle.graphql_merging.specs.Examined.{AreStartingWith};
 ghost use Rattle.graphql_merging.specs.Verdict.{document_meant, operation_meant, comparisons_of, AreBothSettled, IsCounted, ExaminesOperation};
 
-use crate::below::distinct;
-use crate::conflicts::Breach;
 use crate::examination::Examination;
-use crate::pass::Pass;
 use crate::remembered::Remembered;
-use graphql_field_selections::{FieldSelection, push_fields};
+use graphql_field_groups::{Breach, Pass, starting_list};
 use graphql_names::Node;
-use graphql_schema::Schema;
-use graphql_typed_operations::{ExecutableDocument, FragmentMap, Operation};
-use graphql_typed_selections::SelectionSet;
+use graphql_typed_operations::{ExecutableDocument, Operation};
+use graphql_typing::Schema;
 use std::alloc::{AllocError, Global};
 
 /// The lists that were examined in each pass, over all operations so far, and how often shapes were compared.
@@ -51,19 +44,6 @@ impl<'doc> Examined<'doc> {
     {
         self.comparisons
     }
-}
-
-/// The fields that a set selects, through fragments, each content once.
-fn starting_list<'doc>(
-    alloc: Global,
-    fragments: &'doc FragmentMap,
-    set: &'doc SelectionSet,
-) -> Result<Vec<FieldSelection<'doc>>, AllocError>
-    ensures { IfOk result (λ list. AreStartingWith (meant_fragments fragments.now) (meant_of_set (typed_set_tree set.now)) list.items) }
-{
-    let mut found: Vec<FieldSelection<'doc>> = Vec::new(alloc);
-    push_fields(set, fragments, &mut found)?;
-    distinct(alloc, &found)
 }
 
 /// Examines the fields of an operation and all below them, in both passes. Whether lists are left behind 128 levels is given.

@@ -1,8 +1,9 @@
 //! The lists that were examined.
 ghost use Rattle.std.specs.Prelude.{◌≡◌, IfOk, OnErr, []};
-ghost use Rattle.graphql_merging.specs.Remembered.{contents_of, remembered, Remembers};
+ghost use Rattle.graphql_field_groups.specs.Below.{contents_of};
+ghost use Rattle.graphql_merging.specs.Remembered.{remembered, Remembers};
 
-use graphql_field_selections::FieldSelection;
+use graphql_field_groups::FieldSelection;
 use indexmap::IndexSet;
 use std::alloc::{AllocError, Global};
 

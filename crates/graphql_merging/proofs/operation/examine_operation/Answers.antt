@@ -1,10 +1,10 @@
 use Rattle.std.proofs.Common.{◌||◌, sym, ap, subst, ◌∙◌}
-use Rattle.graphql_schema.specs.SchemaOf.{schema_tree}
+use Rattle.graphql_typing.specs.in_schema.SchemaOf.{schema_tree}
 use Rattle.graphql_rule_definitions.specs.Judged.{judged}
-use Rattle.graphql_reach.specs.Broken.{brokens_of}
+use Rattle.graphql_field_groups.specs.in_reach.Broken.{brokens_of}
 use Rattle.graphql_merging.specs.Counted.{IsListed}
-use Rattle.graphql_merging.specs.Remembered.{contents_of, remembered}
-use Rattle.graphql_merging.specs.Examined.{AreStarting}
+use Rattle.graphql_field_groups.specs.Below.{contents_of, AreStarting}
+use Rattle.graphql_merging.specs.Remembered.{remembered}
 use Rattle.graphql_merging.specs.Verdict.{document_meant, operation_meant}
 use Rattle.graphql_merging.proofs.Counting.{starting_listed, shapes_counted, selections_counted}
 use Rattle.graphql_merging.proofs.Operating.{starts, operation_step}

@@ -1,8 +1,8 @@
 use Rattle.std.proofs.Common.{◌≡◌, ◌≤◌, ◌∙◌, Bool, true, false, not, true≢false, [], ◌∷◌, ◌++◌, map, sym, ap, subst, refl, append-nil, arith}
 use Rattle.graphql_document_rule_definitions.specs.Limits.{chain_bound}
 use Rattle.graphql_document_rule_definitions.proofs.Unplaced.{contains_map}
-use Rattle.graphql_reach.specs.Broken.{brokens_of}
-use Rattle.graphql_merging.specs.Grouped.{lists_of}
+use Rattle.graphql_field_groups.specs.in_reach.Broken.{brokens_of}
+use Rattle.graphql_field_groups.specs.Grouped.{lists_of}
 use Rattle.graphql_merging.specs.Remembered.{remembered}
 use Rattle.graphql_merging.specs.Counted.{AreListed}
 use Rattle.graphql_merging.specs.Examined.{ExaminesLists, schema_of, document_of}

@@ -2,11 +2,12 @@ use Rattle.std.proofs.Common.{◌≡◌, ◌≤◌, ◌++◌, ◌-◌, List}
 use Rattle.graphql_names.specs.Placed.{Place}
 use Rattle.graphql_document_rule_definitions.specs.DocumentFaults.{Broken}
 use Rattle.graphql_meant_documents.specs.MeantTree.{MeantOperation}
-use Rattle.graphql_reach.specs.Broken.{brokens_of}
+use Rattle.graphql_field_groups.specs.in_reach.Broken.{brokens_of}
 use Rattle.graphql_merging.specs.Counted.{IsListed, AreListed, Grows}
-use Rattle.graphql_merging.specs.Grouped.{lists_of}
-use Rattle.graphql_merging.specs.Remembered.{contents_of, remembered}
-use Rattle.graphql_merging.specs.Examined.{AreStarting, schema_of, document_of}
+use Rattle.graphql_field_groups.specs.Grouped.{lists_of}
+use Rattle.graphql_field_groups.specs.Below.{contents_of, AreStarting}
+use Rattle.graphql_merging.specs.Remembered.{remembered}
+use Rattle.graphql_merging.specs.Examined.{schema_of, document_of}
 use Rattle.graphql_merging.proofs.Examining.{SoFar}
 use Rattle.graphql_merging.proofs.examination.Examination.examine_all.Given as goal
 

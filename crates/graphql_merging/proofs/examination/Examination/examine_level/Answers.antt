@@ -1,10 +1,11 @@
 use Rattle.std.proofs.Common.{◌<◌, [], ◌∷◌, map, take, length, sym, ap, subst, refl, append-nil, arith}
 use Rattle.std.proofs.lemmas.List.{take_all}
 use Rattle.graphql_document_rule_definitions.proofs.Unplaced.{contains_map}
-use Rattle.graphql_reach.specs.Broken.{brokens_of}
+use Rattle.graphql_field_groups.specs.in_reach.Broken.{brokens_of}
 use Rattle.graphql_merging.specs.Counted.{IsListed}
-use Rattle.graphql_merging.specs.Grouped.{lists_of}
-use Rattle.graphql_merging.specs.Remembered.{contents_of, remembered}
+use Rattle.graphql_field_groups.specs.Grouped.{lists_of}
+use Rattle.graphql_field_groups.specs.Below.{contents_of}
+use Rattle.graphql_merging.specs.Remembered.{remembered}
 use Rattle.graphql_merging.specs.Examined.{ListsExamined, ExaminesLists, schema_of, document_of}
 use Rattle.graphql_merging.proofs.Examining.{items_in, lists_front, no_lists, ListsTold, lists_step}
 use Rattle.graphql_merging.proofs.Counting.{grows_not, grows_on}

@@ -1,9 +1,9 @@
 use Rattle.std.proofs.Common.{◌≡◌, ◌++◌, List, map, take}
 use Rattle.graphql_names.specs.Placed.{Place}
 use Rattle.graphql_document_rule_definitions.specs.DocumentFaults.{Broken}
-use Rattle.graphql_reach.specs.Broken.{brokens_of}
+use Rattle.graphql_field_groups.specs.in_reach.Broken.{brokens_of}
 use Rattle.graphql_merging.specs.Counted.{AreListed, Grows}
-use Rattle.graphql_merging.specs.Grouped.{lists_of}
+use Rattle.graphql_field_groups.specs.Grouped.{lists_of}
 use Rattle.graphql_merging.specs.Remembered.{remembered}
 use Rattle.graphql_merging.specs.Examined.{ListsExamined, schema_of, document_of}
 use Rattle.graphql_merging.proofs.examination.Examination.examine_level.Given as goal

@@ -3,10 +3,10 @@ use Rattle.std.specs.List.{sum}
 use Rattle.std.proofs.lemmas.List.{take_all, map-append}
 use Rattle.graphql_names.specs.Placed.{Place}
 use Rattle.graphql_document_rule_definitions.specs.Selected.{StandingField}
-use Rattle.graphql_reach.specs.Broken.{brokens_of}
-use Rattle.graphql_field_selections.specs.Fields.{fields_of}
-use Rattle.graphql_merging.specs.Counted.{compared}
-use Rattle.graphql_merging.specs.Grouped.{lists_of}
+use Rattle.graphql_field_groups.specs.in_reach.Broken.{brokens_of}
+use Rattle.graphql_field_groups.specs.in_field_selections.Fields.{fields_of}
+use Rattle.graphql_field_groups.specs.Compared.{compared}
+use Rattle.graphql_field_groups.specs.Grouped.{lists_of}
 use Rattle.graphql_merging.specs.Examined.{GroupsExamined, ExaminesGroup, schema_of, document_of}
 use Rattle.graphql_merging.proofs.Examining.{items_in, lists_front, no_groups, GroupsTold, groups_step}
 use Rattle.graphql_merging.proofs.Counting.{left_of}

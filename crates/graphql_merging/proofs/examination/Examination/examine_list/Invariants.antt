@@ -2,11 +2,11 @@ use Rattle.std.proofs.Common.{◌≡◌, ◌≤◌, ◌+◌, ◌++◌, List, map
 use Rattle.std.specs.List.{sum}
 use Rattle.graphql_names.specs.Placed.{Place}
 use Rattle.graphql_document_rule_definitions.specs.DocumentFaults.{Broken}
-use Rattle.graphql_reach.specs.Broken.{brokens_of}
-use Rattle.graphql_field_selections.specs.Fields.{fields_of}
-use Rattle.graphql_field_selections.specs.declared.field_selection.FieldSelection.{FieldSelection}
-use Rattle.graphql_merging.specs.Counted.{compared}
-use Rattle.graphql_merging.specs.Grouped.{lists_of}
+use Rattle.graphql_field_groups.specs.in_reach.Broken.{brokens_of}
+use Rattle.graphql_field_groups.specs.in_field_selections.Fields.{fields_of}
+use Rattle.graphql_field_groups.specs.in_field_selections.declared.field_selection.FieldSelection.{FieldSelection}
+use Rattle.graphql_field_groups.specs.Compared.{compared}
+use Rattle.graphql_field_groups.specs.Grouped.{lists_of}
 use Rattle.graphql_merging.specs.Examined.{GroupsExamined, schema_of, document_of}
 use Rattle.graphql_merging.proofs.examination.Examination.examine_list.Given as goal
 

@@ -1,8 +1,9 @@
 use Rattle.std.proofs.Common.{[], true, false, sym, subst, append-nil}
 use Rattle.std.proofs.lemmas.Result.{on_ok_weaker}
-use Rattle.graphql_reach.specs.Broken.{brokens_of}
-use Rattle.graphql_merging.specs.Grouped.{lists_of}
-use Rattle.graphql_merging.specs.Remembered.{contents_of, remembered, Remembers}
+use Rattle.graphql_field_groups.specs.in_reach.Broken.{brokens_of}
+use Rattle.graphql_field_groups.specs.Grouped.{lists_of}
+use Rattle.graphql_field_groups.specs.Below.{contents_of}
+use Rattle.graphql_merging.specs.Remembered.{remembered, Remembers}
 use Rattle.graphql_merging.specs.Examined.{schema_of, document_of}
 use Rattle.graphql_merging.proofs.Examining.{new_list, known_list}
 use Rattle.graphql_merging.proofs.Counting.{grows_same, grows_one}

@@ -1,7 +1,7 @@
 use Rattle.std.proofs.Common.{sym, subst}
 use Rattle.graphql_merging.specs.Counted.{IsCountedBy}
 use Rattle.graphql_merging.specs.Remembered.{remembered}
-use Rattle.graphql_merging.specs.declared.pass.Pass.TheVariants.{Shapes, Selections}
+use Rattle.graphql_field_groups.specs.declared.pass.Pass.TheVariants.{Shapes, Selections}
 use Rattle.graphql_merging.proofs.Examining.{nothing_settled}
 use Rattle.graphql_merging.proofs.Counting.{none_counted}
 use Rattle.graphql_merging.proofs.operation.Examined.new.Goals as goal

@@ -1,6 +1,7 @@
 use Rattle.std.proofs.Common.{subst}
-use Rattle.graphql_merging.specs.Remembered.{contents_of, remembered, Remembers}
-use Rattle.graphql_merging.proofs.Lists.{remembers}
+use Rattle.graphql_field_groups.specs.Below.{contents_of}
+use Rattle.graphql_merging.specs.Remembered.{remembered, Remembers}
+use Rattle.graphql_merging.proofs.Remembering.{remembers}
 use Rattle.graphql_merging.proofs.remembered.Remembered.remember.Goals as goal
 
 pub returns-clause-remembers : goal.returns-clause-remembers
