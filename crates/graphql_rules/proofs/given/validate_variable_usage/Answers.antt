@@ -15,6 +15,6 @@ pub returns-in-None-clause-told : goal.returns-in-None-clause-told
 returns-in-None-clause-told c =
     ([], (sym (append-nil (diagnostics_of c.args.list.now)), usage_told (variables_of c.args.variables.now) c.args.definition.now (node_tree argument_tree c.args.argument.now) [] c.content.result.now c.content.ensures (subst (λ (o : Option Fault). Lists (map fault_of (option_to_list o)) (DisallowedUsage (variables_of c.args.variables.now) (input_value_tree c.content.result.now) (node_tree argument_tree c.args.argument.now))) c.in-None.is (subst (λ (ds : List (Node VariableDefinition)). Lists (map fault_of (option_to_list c.in_ok-fault.fault)) (DisallowedUsage (variables_of ds) (input_value_tree c.content.result.now) (node_tree argument_tree c.args.argument.now))) c.listed-variables.ensures c.in_ok-fault.ensures))))
 
-pub returns-in_ok-push_fault-in-Some-clause-told : goal.returns-in_ok-push_fault-in-Some-clause-told
-returns-in_ok-push_fault-in-Some-clause-told c =
+pub returns-clause-told : goal.returns-clause-told
+returns-clause-told c =
     (fault_of c.in-Some.fault ∷ [], (c.in_ok-push_fault-in-Some.ensures.added, usage_told (variables_of c.args.variables.now) c.args.definition.now (node_tree argument_tree c.args.argument.now) (fault_of c.in-Some.fault ∷ []) c.content.result.now c.content.ensures (subst (λ (o : Option Fault). Lists (map fault_of (option_to_list o)) (DisallowedUsage (variables_of c.args.variables.now) (input_value_tree c.content.result.now) (node_tree argument_tree c.args.argument.now))) c.in-Some.is (subst (λ (ds : List (Node VariableDefinition)). Lists (map fault_of (option_to_list c.in_ok-fault.fault)) (DisallowedUsage (variables_of ds) (input_value_tree c.content.result.now) (node_tree argument_tree c.args.argument.now))) c.listed-variables.ensures c.in_ok-fault.ensures))))
