@@ -1,5 +1,5 @@
 -- What is written of a document of which no rule of typing is broken can be written.
-use Rattle.std.proofs.Common.{◌≡◌, ℕ, Bool, true, false, not, ◌&&◌, List, [], ◌∷◌, ◌++◌, refl, sym, ap, subst, ◌∙◌, if◌then◌else◌, true≢false}
+use Rattle.std.proofs.Common.{◌≡◌, Bool, true, false, not, ◌&&◌, List, [], ◌∷◌, ◌++◌, refl, sym, ap, subst, ◌∙◌, if◌then◌else◌, true≢false}
 use Rattle.std.specs.List.{filter, list_all}
 use Rattle.graphql_names.specs.Placed.{Place}
 use Rattle.graphql_operations.specs.OperationLayout.{is_none}
@@ -8,7 +8,7 @@ use Rattle.graphql_definitions.specs.DefinitionTree.{DefinitionTree}
 use Rattle.graphql_definitions.specs.Queries.{is_executable, definition_place}
 use Rattle.graphql_definitions.specs.Writable.{has_some, definition_writable, document_writable}
 use Rattle.graphql_typing.specs.OutDoc.{is_anonymous, is_named_operation, is_fragment, out_doc}
-use Rattle.graphql_typing.specs.TypingFaults.{At, TypeSystemDefinition, TypingFails, TypingRules, in_definition, type_system_definition}
+use Rattle.graphql_typing.specs.TypingFaults.{At, TypeSystemDefinition, in_definition, type_system_definition}
 use Rattle.graphql_read.proofs.Soundness.{document_sound}
 use Rattle.graphql_verdict_laws.specs.Written.{TypedDocumentsCanBeWritten}
 use Rattle.graphql_verdict_laws.proofs.Sound.{both, all_append}

@@ -1,24 +1,17 @@
 -- What is written of accepted schema texts can be written.
-use Rattle.std.proofs.Common.{◌≡◌, ◌≢◌, ℕ, Bool, true, false, ◌||◌, List, [], ◌∷◌, ◌++◌, flat_map, Option, None, Some, is_some, option_to_list, refl, sym, ap, subst, ◌∙◌, slice_get, inl, inr, true≢false}
-use Rattle.std.specs.List.{find}
+use Rattle.std.proofs.Common.{◌≡◌, ◌≢◌, ℕ, Bool, true, false, ◌||◌, List, [], ◌∷◌, ◌++◌, flat_map, Option, None, Some, is_some, refl, ap, ◌∙◌, slice_get, inl, true≢false, if◌then◌else◌}
 use Rattle.std.specs.Option.{option_map, option_map_or}
-use Rattle.std.specs.Str.{bytes_eq}
-use Rattle.graphql_names.specs.Placed.{Place}
-use Rattle.graphql_components.specs.Given.{Given, given_name}
-use Rattle.graphql_components.specs.in_values.OperationQueries.{operation_keyword}
+use Rattle.graphql_components.specs.Given.{given_name}
 use Rattle.graphql_components.specs.in_operations.in_directives.declared.operation_type.OperationType.TheVariants as operation
-use Rattle.graphql_definitions.specs.Writable.{document_writable}
 use Rattle.graphql_built_in.specs.Table.{built_in_definitions}
 use Rattle.graphql_folding.specs.Listed.{Definitions, numbered}
 use Rattle.graphql_folding.specs.Components.{all_given}
-use Rattle.graphql_folding.specs.SchemaFold.{Root, SchemaGiver, schema_here, schema_definition_in, schema_is_defined, schema_base, implicit_roots, extends_schema, schema_parts, roots_given, root_in, root_key, folded_schema}
+use Rattle.graphql_folding.specs.SchemaFold.{Root, SchemaGiver, schema_definition_in, schema_is_defined, schema_base, implicit_roots, extends_schema, root_in, folded_schema}
 use Rattle.graphql_rule_definitions.specs.Judged.{judged}
 use Rattle.graphql_rule_definitions.specs.Faults.{told}
 use Rattle.graphql_rule_definitions.specs.Diagnostics.{QueryRootOperationType}
 use Rattle.graphql_schema_types.specs.Addresses.{SchemaAt}
-use Rattle.graphql_verdict.specs.Texts.{Text, Tree, Terms}
-use Rattle.graphql_verdict.specs.Judge.{definitions_of, schema_of, AreSchemasAccepted}
-use Rattle.graphql_verdict.specs.Out.{Out}
+use Rattle.graphql_verdict.specs.Judge.{definitions_of}
 use Rattle.graphql_verdict_laws.specs.Written.{AcceptedSchemasCanBeWritten}
 use Rattle.graphql_written_laws.proofs.OutSome.{written_writable}
 use Rattle.graphql_written_laws.proofs.RealTable.{real_table, real_table_has_no_query}

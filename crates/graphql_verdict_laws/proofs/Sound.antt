@@ -1,5 +1,5 @@
 -- What schema texts have in common: each definition can be written, and none stands in the file of what is built in.
-use Rattle.std.proofs.Common.{◌≡◌, ◌≢◌, ℕ, ◌+◌, Bool, true, false, not, ◌&&◌, List, [], ◌∷◌, ◌++◌, flat_map, Option, None, Some, option_to_list, refl, sym, ap, subst, ◌∙◌, zero, suc, arith, true≢false}
+use Rattle.std.proofs.Common.{◌≡◌, ◌≢◌, ℕ, ◌+◌, Bool, true, false, not, ◌&&◌, List, [], ◌∷◌, ◌++◌, Option, None, Some, option_to_list, refl, sym, ap, ◌∙◌, suc, arith, true≢false}
 use Rattle.std.specs.List.{list_all, AllByRecursion}
 use Rattle.std.proofs.lemmas.Option.{same_Some}
 use Rattle.graphql_names.specs.Places.{is_built_in}
@@ -7,11 +7,11 @@ use Rattle.graphql_names.specs.Placed.{Place, Placed}
 use Rattle.graphql_directives.specs.DirectiveTree.{DirectiveDefinitionTree}
 use Rattle.graphql_definitions.specs.DefinitionTree as tree
 use Rattle.graphql_definitions.specs.DefinitionTree.{DefinitionTree}
-use Rattle.graphql_definitions.specs.Writable.{has_some, definition_writable, document_writable}
+use Rattle.graphql_definitions.specs.Writable.{has_some, definition_writable}
 use Rattle.graphql_schema_types.specs.TypeParts.{TypeDefinition, type_here}
 use Rattle.graphql_folding.specs.Listed.{types_in, directive_here, directives_in}
 use Rattle.graphql_read.specs.EachPlace.{all_in_definition, all_in_document}
-use Rattle.graphql_read.specs.Sound.{is_own, IsSound}
+use Rattle.graphql_read.specs.Sound.{is_own}
 use Rattle.graphql_read.proofs.Soundness.{document_sound}
 use Rattle.graphql_verdict.specs.Texts.{Text, Tree, ReadsText, ReadsAll}
 use Rattle.graphql_verdict.specs.Judge.{definitions_of}
