@@ -70,7 +70,7 @@ module _ (terms : Terms) (texts : List Text) (trees : List Tree) (read : AreRead
     says = λ fault h. inr (trees, (reads, right fault h));
     alone = inr read;
     full = λ within others reads'. subst (λ ts. (faults ≡ spent ∷ []) ⊎ ((f : folding.Fault) → FoldingFails terms ts f → Contains faults (of_folding f)))
-    (one_list terms.first_text texts trees others reads reads') full;
+        (one_list terms.first_text texts trees others reads reads') full;
   }
 
   -- no number is left for an extension

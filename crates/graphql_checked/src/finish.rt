@@ -51,10 +51,7 @@ fn unfilled(alloc: Global, refusal: BuilderRefusal) -> Refusal
 }
 
 /// The schema that the definitions fold to, with each way in which a folding rule is broken.
-fn build(
-    alloc: Global,
-    builder: SchemaBuilder,
-) -> Result<(Schema, DiagnosticList), AllocError>
+fn build(alloc: Global, builder: SchemaBuilder) -> Result<(Schema, DiagnosticList), AllocError>
     ensures { IfOk result (λ r. BuildsSchema (builder_value builder) (schema_tree r.0) (diagnostics_of r.1)) }
 {
     match builder.build() {

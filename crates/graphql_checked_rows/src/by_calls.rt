@@ -73,12 +73,7 @@ fn push_around(
 }
 
 /// Adds the answer to each document, and a comma to its status.
-fn push_each(
-    schema: &CheckedSchema,
-    documents: &[&str],
-    layout: Layout<'_>,
-    answer: &mut Answer,
-) {
+fn push_each(schema: &CheckedSchema, documents: &[&str], layout: Layout<'_>, answer: &mut Answer) {
     for document in documents {
         push_check(schema, document, layout, answer);
         answer.status.put(", ");

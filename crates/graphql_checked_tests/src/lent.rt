@@ -10,10 +10,12 @@ use std::alloc::{AllocError, Global};
 use std::process::Abort;
 
 /// A user with a picture, and a scalar of one's own.
-const USERS: &str = "type User { id: ID name: String profilePic(size: Int): URL } schema { query: User } scalar URL @specifiedBy(url: \"https://tools.ietf.org/html/rfc3986\")";
+const USERS: &str =
+    "type User { id: ID name: String profilePic(size: Int): URL } schema { query: User } scalar URL @specifiedBy(url: \"https://tools.ietf.org/html/rfc3986\")";
 
 /// A field whose definition has a directive.
-const MARKED: &str = "type Query { p: Boolean @j(g: I) } enum G { I } directive @j(g: G) on FIELD_DEFINITION";
+const MARKED: &str =
+    "type Query { p: Boolean @j(g: I) } enum G { I } directive @j(g: G) on FIELD_DEFINITION";
 
 /// It holds.
 fn hold(rt: &impl Abort, condition: bool, what: &str) {
@@ -57,7 +59,8 @@ fn has_user_fragment(document: &ExecutableDocument) -> bool {
 
 /// Whether the schema takes the document of users, and lends it with its definitions.
 fn lends_users(schema: &CheckedSchema) -> bool {
-    let text = "query getUser { ...vipCustomer } fragment vipCustomer on User { id name profilePic(size: 50) }";
+    let text =
+        "query getUser { ...vipCustomer } fragment vipCustomer on User { id name profilePic(size: 50) }";
     match schema.check(text) {
         Ok(checked) => has_user_fragment(checked.document()),
         Err(_refusal) => false,
@@ -111,5 +114,9 @@ fn tells_want_of_memory_alike(rt: HostRuntime) {
         _ => false,
     };
     hold(&rt, is_memory, "a refusal");
-    hold(&rt, RunFault::from(AllocError) == RunFault::Memory, "a fault");
+    hold(
+        &rt,
+        RunFault::from(AllocError) == RunFault::Memory,
+        "a fault",
+    );
 }
