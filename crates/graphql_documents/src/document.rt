@@ -1,6 +1,6 @@
 //! Making documents.
 ghost use Rattle.std.specs.Prelude.{◌≡◌, [], false};
-ghost use Rattle.graphql_typing.specs.MeaningView.{meanings_under};
+ghost use Rattle.graphql_typing.specs.MeaningView.{schema_under, meanings_under};
 ghost use Rattle.graphql_typing.specs.BuilderView.{builder_value};
 
 use graphql_typed_operations::ExecutableDocument;
@@ -21,7 +21,7 @@ impl ExecutableDocumentExt for ExecutableDocument {
         alloc: Global,
         schema: Option<&'schema Schema>,
     ) -> ExecutableDocumentBuilder<'schema>
-        ensures { builder_value result ≡ record { meanings = meanings_under schema.entry; definitions = []; sources = []; failed = false } }
+        ensures { builder_value result ≡ record { schema = schema_under schema.entry; meanings = meanings_under schema.entry; definitions = []; sources = []; failed = false } }
     {
         ExecutableDocumentBuilder::new(alloc, schema)
     }

@@ -1,5 +1,5 @@
 //! Making selection sets by themselves.
-ghost use Rattle.std.specs.Prelude.{◌≡◌, ◌↔◌, [], IfOk, Contains};
+ghost use Rattle.std.specs.Prelude.{◌≡◌, ◌↔◌, [], Some, IfOk, Contains};
 ghost use Rattle.graphql_operations.specs.SelectionTree.{selection_tree, selection_trees};
 ghost use Rattle.graphql_schema_types.specs.Plain.{plain};
 ghost use Rattle.graphql_typing.specs.in_schema.SchemaOf.{schema_tree};
@@ -8,6 +8,7 @@ ghost use Rattle.graphql_typing.specs.MeantTree.{meant_of_set, set_on};
 ghost use Rattle.graphql_typing.specs.Meanings.{meanings};
 ghost use Rattle.graphql_typing.specs.KeptSelections.{kept_all};
 ghost use Rattle.graphql_typing.specs.TypedByPlace.{IsSetOn};
+ghost use Rattle.graphql_typing.specs.DefinedByPlace.{IsDefinedSet};
 ghost use Rattle.graphql_typing.specs.TypingFaults.{SetFails};
 ghost use Rattle.graphql_typing.specs.FullList.{TellsSet};
 ghost use Rattle.graphql_typing.specs.FaultView.{faults_of};
@@ -39,6 +40,7 @@ impl FieldSetExt for FieldSet {
     ) -> Result<(FieldSet, Vec<(Option<SourceSpan>, BuildError)>), AllocError>
         ensures set { IfOk result (λ r. meant_of_set (typed_set_tree r.0.selection_set) ≡ set_on type_name.now.text (kept_all (meanings (plain (schema_tree schema.now))) (selection_trees selection_tree selections.now) type_name.now.text)) }
         ensures typed { IfOk result (λ r. IsSetOn (meanings (plain (schema_tree schema.now))) type_name.now.text (meant_of_set (typed_set_tree r.0.selection_set))) }
+        ensures defined { IfOk result (λ r. IsDefinedSet (Some (schema_tree schema.now)) (typed_set_tree r.0.selection_set)) }
         ensures sources { IfOk result (λ r. r.0.sources.entries ≡ []) }
         ensures faults { IfOk result (λ r. (f : _) → Contains (faults_of r.1) f ↔ SetFails (meanings (plain (schema_tree schema.now))) type_name.now.text (selection_trees selection_tree selections.now) f) }
         ensures full { IfOk result (λ r. TellsSet (meanings (plain (schema_tree schema.now))) type_name.now.text (selection_trees selection_tree selections.now) (faults_of r.1)) }

@@ -1,15 +1,15 @@
 -- What look-ups, insertions and walks over the operations of a document find in the tree.
 use Rattle.std.proofs.Common.{◌≡◌, ℕ, Bool, true, false, List, [], ◌∷◌, map, Option, None, Some, refl, ap, ◌∙◌, if◌then◌else◌, Bor, MutBor, slice_get}
 use Rattle.std.specs.List.{find, cons_option}
-use Rattle.std.specs.Map.{lookup, values_of}
-use Rattle.std.specs.Option.{option_map, option_copied, option_copied_mut}
+use Rattle.std.specs.Map.{lookup, values_of, set_value}
+use Rattle.std.specs.Option.{OnSome, option_map, option_copied, option_copied_mut}
 use Rattle.std.specs.Str.{bytes_eq}
-use Rattle.indexmap.specs.IndexMap.{IndexMap, insert_entry, get}
+use Rattle.indexmap.specs.IndexMap.{IndexMap, insert_entry, get, set_value_at}
 use Rattle.graphql_names.specs.NameValue.{NameValue}
 use Rattle.graphql_schema_types.specs.in_components.Names.{Entries, same_text, entries_of}
 use Rattle.graphql_schema_types.specs.TypeView.{name_text}
 use Rattle.graphql_schema_types.specs.Addresses.{under}
-use Rattle.graphql_typed_operations.specs.OperationsByName.{put_under, only}
+use Rattle.graphql_typed_operations.specs.OperationsByName.{put_under, first_under}
 
 module _ {X A : Type 0} (f : X → A) where
   abbrev pub under_names : List (NameValue × X) → Entries A
@@ -53,16 +53,49 @@ module _ {X A : Type 0} (f : X → A) where
   copied_mut None = refl
   copied_mut (Some x) = refl
 
-  pub first-named : (es : List (NameValue × X)) → option_map f (slice_get (values_of es) 0) ≡ slice_get (map (λ e. e.1) (under_names es)) 0
+  -- what is said where something is lent
+  pub where-lent : (r : Option (MutBor X)) (P : Type 0) → ((x : X) → option_copied_mut r ≡ Some x → P) → OnSome r P
+  where-lent None P h = tt
+  where-lent (Some x) P h = h x.now refl
+
+pub said-where-lent : {Y : Type 0} (r : Option Y) (y : Y) (P : Type 0) → r ≡ Some y → OnSome r P → P
+said-where-lent None y P e h = cc
+said-where-lent (Some z) y P e h = h
+
+-- maps whose keys are the same where their texts are
+module _ {K X A : Type 0} (text : K → List ℕ) (f : X → A) where
+  abbrev pub under_texts : List (K × X) → Entries A
+  under_texts es = map (λ e. (text e.0, f e.1)) es
+
+  pub first-named : (es : List (K × X)) → option_map f (slice_get (values_of es) 0) ≡ slice_get (map (λ e. e.1) (under_texts es)) 0
   first-named [] = refl
   first-named (e ∷ es) = refl
 
-  pub first-unnamed : (o : Option X) (ys : List A) (x : X) → o ≡ Some x → option_map f o ≡ slice_get (cons_option (option_map f o) ys) 0
-  first-unnamed None ys x e = cc
-  first-unnamed (Some y) ys x e = refl
+  -- what a write to the first leaves
+  pub first-written : (w : X) (es : List (K × X)) → under_texts (set_value_at es 0 w) ≡ first_under (f w) (under_texts es)
+  first-written w [] = refl
+  first-written w (e ∷ es) = refl
 
--- the only one is the first
-pub only-first : {A : Type 0} (xs : List A) (a : A) → only xs ≡ Some a → slice_get xs 0 ≡ only xs
-only-first [] a h = refl
-only-first (x ∷ []) a h = refl
-only-first (x ∷ y ∷ xs) a h = cc
+  module _ (eq : K → K → Bool) (same : (a b : K) → eq a b ≡ bytes_eq (text a) (text b)) (k : K) where
+    pub text-lookup : (es : List (K × X)) → option_map f (lookup (eq k) es) ≡ under (text k) (under_texts es)
+    text-lookup [] = refl
+    text-lookup (e ∷ es) =
+        by (eq k e.0) (text-lookup es)
+        ∙ ap (λ b. option_map (λ (p : List ℕ × A). p.1) (if b then Some (text e.0, f e.1) else find (λ (p : List ℕ × A). bytes_eq (text k) p.0) (under_texts es))) (same k e.0)
+      where
+        by : (b : Bool) → option_map f (lookup (eq k) es) ≡ under (text k) (under_texts es)
+            → option_map f (if b then Some e.1 else lookup (eq k) es) ≡ option_map (λ (p : List ℕ × A). p.1) (if b then Some (text e.0, f e.1) else find (λ (p : List ℕ × A). bytes_eq (text k) p.0) (under_texts es))
+        by true rest = refl
+        by false rest = rest
+
+    -- what a write to the one under a key leaves, where there is one
+    pub text-written : (w x : X) (es : List (K × X)) → lookup (eq k) es ≡ Some x → under_texts (set_value (eq k) es w) ≡ put_under (text k) (f w) (under_texts es)
+    text-written w x [] h = cc
+    text-written w x (e ∷ es) h =
+        by (eq k e.0) h (text-written w x es)
+        ∙ ap (λ b. if b then (text e.0, f w) ∷ under_texts es else (text e.0, f e.1) ∷ put_under (text k) (f w) (under_texts es)) (same k e.0)
+      where
+        by : (b : Bool) → (if b then Some e.1 else lookup (eq k) es) ≡ Some x → (lookup (eq k) es ≡ Some x → under_texts (set_value (eq k) es w) ≡ put_under (text k) (f w) (under_texts es))
+            → under_texts (if b then (e.0, w) ∷ es else e ∷ set_value (eq k) es w) ≡ (if b then (text e.0, f w) ∷ under_texts es else (text e.0, f e.1) ∷ put_under (text k) (f w) (under_texts es))
+        by true h rest = refl
+        by false h rest = ap (λ l. (text e.0, f e.1) ∷ l) (rest h)

@@ -2,3 +2,4 @@ pub mod TypedDocument
 pub mod PlainDocument
 pub mod OperationsByName
 pub mod ToAst
+pub mod Lent

@@ -1,5 +1,5 @@
 -- The operations of a document in order and by name (GraphQL, October 2021, sections 2.3 and 6.1).
-use Rattle.std.specs.Prelude.{ℕ, Bool, true, false, List, [], ◌∷◌, map, Option, None, Some, if◌then◌else◌}
+use Rattle.std.specs.Prelude.{ℕ, List, [], ◌∷◌, map, Option, None, Some, if◌then◌else◌}
 use Rattle.std.specs.List.{cons_option}
 use Rattle.std.specs.Option.{option_copied}
 use Rattle.std.specs.Str.{bytes_eq}
@@ -15,6 +15,11 @@ use Rattle.graphql_typed_operations.specs.declared.operation_map.Operations.{Ope
 abbrev pub put_under : {A : Type 0} → List ℕ → A → Entries A → Entries A
 put_under name a [] = (name, a) ∷ []
 put_under name a (e ∷ es) = if bytes_eq name e.0 then (e.0, a) ∷ es else e ∷ put_under name a es
+
+-- private: the entries with this in the first of them
+abbrev pub first_under : {A : Type 0} → A → Entries A → Entries A
+first_under a [] = []
+first_under a (e ∷ es) = (e.0, a) ∷ es
 
 -- private: the only element of a list
 abbrev pub only : {A : Type 0} → List A → Option A
@@ -47,6 +52,16 @@ module _ {P : Type 0} where
   -- the operations with this one in its place
   abbrev pub with_operation : Placed P (TypedOperation P) → TypedOperations P → TypedOperations P
   with_operation o t = put_at o.it.name o t
+
+  -- private: the operations with this one in the place of the first, which has no name where one has none
+  abbrev pub first_as : Option (Placed P (TypedOperation P)) → Placed P (TypedOperation P) → TypedOperations P → TypedOperations P
+  first_as (Some _) o t = record t { anonymous = Some o }
+  first_as None o t = record t { named = first_under o t.named }
+
+  -- the operations with this one in the place of the one that is called so; all else is as it was
+  abbrev pub called_as : Option (List ℕ) → Placed P (TypedOperation P) → TypedOperations P → TypedOperations P
+  called_as (Some name) o t = record t { named = put_under name o t.named }
+  called_as None o t = first_as t.anonymous o t
 
 -- the operations that an iterator has left
 abbrev pub left_operations : Operations → List (Node Operation)

@@ -1,7 +1,9 @@
 -- Documents under a schema: operations and fragments with typed selections (GraphQL, October 2021, sections 2.2, 2.3 and 2.8).
-use Rattle.std.specs.Prelude.{List, map, Option}
+use Rattle.std.specs.Prelude.{ℕ, List, map, Option}
 use Rattle.std.specs.Option.{option_map}
 use Rattle.graphql_names.specs.Placed.{Placed, Place, Text, name_tree, node_tree}
+use Rattle.graphql_names.specs.NameValue.{NameValue}
+use Rattle.graphql_names.specs.declared.node.Node.{Node}
 use Rattle.graphql_directives.specs.DirectiveTree.{Directives, directives_tree}
 use Rattle.graphql_operations.specs.OperationTree.{VariableDefinitionTree, variable_definition_tree}
 use Rattle.graphql_directives.specs.declared.operation_type.OperationType.{OperationType}
@@ -54,11 +56,12 @@ typed_fragment_tree f = record {
   set = typed_set_tree f.selection_set;
 }
 
-abbrev pub typed_operations_tree : OperationMap → TypedOperations Place
-typed_operations_tree m = record {
-  anonymous = option_map (node_tree typed_operation_tree) m.anonymous;
-  named = entries_of name_text (node_tree typed_operation_tree) m.named;
-}
+-- the operations that stand for these
+abbrev pub operations_by : {K O : Type 0} → (K → List ℕ) → (O → Placed Place (TypedOperation Place)) → OperationMap K O → TypedOperations Place
+operations_by text tree m = record { anonymous = option_map tree m.anonymous; named = entries_of text tree m.named }
+
+abbrev pub typed_operations_tree : OperationMap NameValue (Node Operation) → TypedOperations Place
+typed_operations_tree = operations_by name_text (node_tree typed_operation_tree)
 
 abbrev pub typed_document_tree : ExecutableDocument → TypedDocumentTree Place
 typed_document_tree d = record {

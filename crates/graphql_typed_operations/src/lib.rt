@@ -17,4 +17,4 @@ mod written_node;
 
 pub use document::{ExecutableDocument, FieldSet, FragmentMap};
 pub use operation::{Fragment, Operation};
-pub use operation_map::{OperationMap, Operations};
+pub use operation_map::{OperationEntry, OperationKey, OperationMap, Operations};

@@ -2,6 +2,7 @@
 use Rattle.std.proofs.Common.{◌≡◌, ℕ, Bool, true, false, ◌||◌, List, [], ◌∷◌, ◌++◌, map, Option, None, Some, refl, sym, ap, ◌∙◌, if◌then◌else◌, true≢false}
 use Rattle.std.specs.Option.{option_map, option_map_or}
 use Rattle.std.specs.Str.{bytes_eq}
+use Rattle.graphql_names.specs.NameValue.{NameValue}
 use Rattle.graphql_names.specs.Placed.{Place, Placed, Text, node_tree}
 use Rattle.graphql_names.specs.declared.node.Node.{Node}
 use Rattle.graphql_operations.specs.OperationTree.{OperationTree}
@@ -58,10 +59,10 @@ put-kept fragments faults None o t absent = refl
 put-kept fragments faults (Some n) o t absent = ap (λ l. record (document_of fragments t) { named = l }) (put-last meant_by_operation n.it o t.named absent)
 
 -- what these operations mean
-abbrev pub meant_with : Entries (MeantFragment Place) → OperationMap → MeantDocument Place
+abbrev pub meant_with : Entries (MeantFragment Place) → OperationMap NameValue (Node Operation) → MeantDocument Place
 meant_with fragments m = record { anonymous = option_map operation_meaning m.anonymous; named = named_meanings m.named; fragments = fragments }
 
-meant-with : (fragments : Entries (MeantFragment Place)) (m : OperationMap) → document_of fragments (typed_operations_tree m) ≡ meant_with fragments m
+meant-with : (fragments : Entries (MeantFragment Place)) (m : OperationMap NameValue (Node Operation)) → document_of fragments (typed_operations_tree m) ≡ meant_with fragments m
 meant-with fragments m = λ i. record {
   anonymous = optional meant_by_operation (node_tree typed_operation_tree) m.anonymous i;
   named = entries meant_by_operation (node_tree typed_operation_tree) name_text m.named.entries i;
@@ -69,7 +70,7 @@ meant-with fragments m = λ i. record {
 }
 
 -- an operation whose name is not known, put among the others
-pub operation-put : (fragments : Entries (MeantFragment Place)) (faults : List (Fault Place)) (n : Option (Text Place)) (old new : OperationMap) (o : Node Operation) (x : MeantOperation Place)
+pub operation-put : (fragments : Entries (MeantFragment Place)) (faults : List (Fault Place)) (n : Option (Text Place)) (old new : OperationMap NameValue (Node Operation)) (o : Node Operation) (x : MeantOperation Place)
     → operation_meaning o ≡ x → x.name ≡ n
     → typed_operations_tree new ≡ with_operation (node_tree typed_operation_tree o) (typed_operations_tree old)
     → is_known n (record { document = meant_with fragments old; faults = faults }) ≡ false

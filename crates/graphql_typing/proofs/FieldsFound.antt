@@ -26,8 +26,11 @@ field-absent s n m e h = sym (ap (option_map (plain_given unplaced_field_definit
 pub field-err : {R : Type 0} (s : SchemaTree Place) (n m : List ℕ) (r : Result R FieldLookupError) (e : FieldLookupError) → r ≡ Err e → IfErr r (FieldIsMissing s n m) → None ≡ (meanings (plain s)).field n m
 field-err s n m r e is h = field-absent s n m e (subst (λ x. IfErr x (FieldIsMissing s n m)) is h)
 
+pub field-found : (s : SchemaTree Place) (n m : List ℕ) (r : Result (Bor (Component FieldDefinition)) FieldLookupError) (f : Bor (Component FieldDefinition)) → r ≡ Ok f
+    → IfOk r (λ f. field_named s n m ≡ Some (component_tree field_definition_tree f.now)) → field_named s n m ≡ Some (component_tree field_definition_tree f.now)
+field-found s n m r f is h = subst (λ x. IfOk x (λ f. field_named s n m ≡ Some (component_tree field_definition_tree f.now))) is h
+
 pub field-ok : (s : SchemaTree Place) (n m : List ℕ) (r : Result (Bor (Component FieldDefinition)) FieldLookupError) (f : Bor (Component FieldDefinition)) → r ≡ Ok f
     → IfOk r (λ f. field_named s n m ≡ Some (component_tree field_definition_tree f.now)) → Some (definition_view f.now.node) ≡ (meanings (plain s)).field n m
 field-ok s n m r f is h =
-    let found : field_named s n m ≡ Some (component_tree field_definition_tree f.now) = subst (λ x. IfOk x (λ f. field_named s n m ≡ Some (component_tree field_definition_tree f.now))) is h in
-    sym (ap (option_map (plain_given unplaced_field_definition)) found) ∙ fields_plain s n m
+    sym (ap (option_map (plain_given unplaced_field_definition)) (field-found s n m r f is h)) ∙ fields_plain s n m

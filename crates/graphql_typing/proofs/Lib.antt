@@ -17,4 +17,5 @@ pub mod AddedFragments
 pub mod TypedPlaces
 pub mod WholeDocuments
 pub mod WrittenMeant
+pub mod DefinedPlaces
 pub use Rattle.graphql_schema.proofs as in_schema

@@ -1,16 +1,18 @@
 -- What contracts see of a builder of documents, and when it refuses.
-use Rattle.std.specs.Prelude.{◌≡◌, Bool, true, false, List, map}
+use Rattle.std.specs.Prelude.{◌≡◌, Bool, true, false, List, map, Option}
 use Rattle.graphql_names.specs.Placed.{Place}
 use Rattle.graphql_definitions.specs.DefinitionTree.{DefinitionTree, definition_tree}
+use Rattle.graphql_schema_types.specs.SchemaTree.{SchemaTree}
 use Rattle.graphql_schema.specs.SourcesView.{Sources, sources_view}
 use Rattle.graphql_typing.specs.Meanings.{Meanings}
-use Rattle.graphql_typing.specs.MeaningView.{meanings_under}
+use Rattle.graphql_typing.specs.MeaningView.{schema_under, meanings_under}
 use Rattle.graphql_typing.specs.declared.refusal.BuilderRefusal.{BuilderRefusal}
 use Rattle.graphql_typing.specs.declared.refusal.BuilderRefusal.TheVariants.{Memory, Failed}
 use Rattle.graphql_typing.specs.declared.builder.ExecutableDocumentBuilder.{ExecutableDocumentBuilder}
 
--- what the schema says, the definitions and the sources that were added, and whether memory ran out
+-- the schema, if there is one, and what it says, the definitions and the sources that were added, and whether memory ran out
 pub record DocumentBuilder : Type 0 where
+  pub schema : Option (SchemaTree Place)
   pub meanings : Meanings
   pub definitions : List (DefinitionTree Place)
   pub sources : Sources
@@ -18,6 +20,7 @@ pub record DocumentBuilder : Type 0 where
 
 abbrev pub builder_value : ExecutableDocumentBuilder → DocumentBuilder
 builder_value b = record {
+  schema = schema_under b.schema;
   meanings = meanings_under b.schema;
   definitions = map definition_tree b.definitions.items;
   sources = sources_view b.sources;

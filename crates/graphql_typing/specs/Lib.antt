@@ -6,6 +6,7 @@ pub mod TypingFaults
 pub mod FullList
 pub mod OutDoc
 pub mod TypedByPlace
+pub mod DefinedByPlace
 pub mod FaultView
 pub mod MeaningView
 pub mod SetFaults

@@ -6,7 +6,7 @@ use Rattle.graphql_names.specs.Placed.{Place, node_tree}
 use Rattle.graphql_names.specs.declared.node.Node.{Node}
 use Rattle.graphql_schema_types.specs.in_components.Names.{Entries, entries_of}
 use Rattle.graphql_schema_types.specs.TypeView.{name_text}
-use Rattle.graphql_typed_operations.specs.TypedDocument.{typed_operation_tree, typed_fragment_tree}
+use Rattle.graphql_typed_operations.specs.TypedDocument.{TypedDocumentTree, typed_operation_tree, typed_fragment_tree}
 use Rattle.graphql_typed_operations.specs.declared.operation.Operation.{Operation}
 use Rattle.graphql_typed_operations.specs.declared.operation.Fragment.{Fragment}
 use Rattle.graphql_typing.specs.MeantTree.{MeantOperation, MeantFragment}
@@ -35,4 +35,12 @@ typed_view t = record {
     fragments = fragment_meanings t.fragments;
   };
   faults = faults_of t.faults;
+}
+
+-- what is kept, with the places of definitions
+abbrev pub kept_tree : TypedDocument → TypedDocumentTree Place
+kept_tree t = record {
+  anonymous = option_map (node_tree typed_operation_tree) t.operations.anonymous;
+  named = entries_of name_text (node_tree typed_operation_tree) t.operations.named;
+  fragments = entries_of name_text (node_tree typed_fragment_tree) t.fragments;
 }

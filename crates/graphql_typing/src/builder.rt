@@ -9,9 +9,10 @@ ghost use Rattle.graphql_typing.specs.TypingFaults.{TypingFails};
 ghost use Rattle.graphql_typing.specs.FullList.{TellsAll};
 ghost use Rattle.graphql_typing.specs.OutDoc.{out_doc, written_document};
 ghost use Rattle.graphql_typing.specs.TypedByPlace.{IsTypedDocument};
+ghost use Rattle.graphql_typing.specs.DefinedByPlace.{IsDefinedDocument};
 ghost use Rattle.graphql_typing.specs.FaultView.{faults_of};
 ghost use Rattle.graphql_typing.specs.DocumentView.{meant_document};
-ghost use Rattle.graphql_typing.specs.MeaningView.{meanings_under};
+ghost use Rattle.graphql_typing.specs.MeaningView.{schema_under, meanings_under};
 ghost use Rattle.graphql_typing.specs.BuilderView.{builder_value, IsAddRefusal, IsBuildRefusal};
 
 use crate::document::type_document;
@@ -27,7 +28,7 @@ use std::alloc::{AllocError, Global};
 
 /// Takes the definitions of documents, and gives them all a meaning under a schema, or without one.
 ///
-/// Contracts see it by `builder_value` alone: what the schema says, the definitions and sources that were added, in
+/// Contracts see it by `builder_value` alone: the schema and what it says, the definitions and sources that were added, in
 /// order, and whether memory ran out.
 #[derive(Drop)]
 pub struct ExecutableDocumentBuilder<'schema> {
@@ -41,7 +42,7 @@ pub struct ExecutableDocumentBuilder<'schema> {
 impl<'schema> ExecutableDocumentBuilder<'schema> {
     /// A builder of no definitions, under this schema or without one. It takes no memory.
     pub fn new(alloc: Global, schema: Option<&'schema Schema>) -> ExecutableDocumentBuilder<'schema>
-        ensures { builder_value result ≡ record { meanings = meanings_under schema.entry; definitions = []; sources = []; failed = false } }
+        ensures { builder_value result ≡ record { schema = schema_under schema.entry; meanings = meanings_under schema.entry; definitions = []; sources = []; failed = false } }
     {
         ExecutableDocumentBuilder {
             alloc,
@@ -72,7 +73,7 @@ impl<'schema> ExecutableDocumentBuilder<'schema> {
         }
     }
 
-    /// The document that is kept, which is typed by its place, and each way in which a rule of typing is broken. Where
+    /// The document that is kept, which is typed by its place and has the schema's definitions, and each way in which a rule of typing is broken. Where
     /// none is, the whole document is kept.
     pub fn build(
         self,
@@ -80,6 +81,7 @@ impl<'schema> ExecutableDocumentBuilder<'schema> {
         ensures running { OnOk result ((builder_value self.entry).failed ≡ false) }
         ensures document { IfOk result (λ r. meant_document (typed_document_tree r.0) ≡ kept_document (builder_value self.entry).meanings (builder_value self.entry).definitions) }
         ensures typed { IfOk result (λ r. IsTypedDocument (builder_value self.entry).meanings (meant_document (typed_document_tree r.0))) }
+        ensures defined { IfOk result (λ r. IsDefinedDocument (builder_value self.entry).schema (typed_document_tree r.0)) }
         ensures whole { IfOk result (λ r. faults_of r.1 ≡ [] → written_document (meant_document (typed_document_tree r.0)) ≡ out_doc (builder_value self.entry).definitions) }
         ensures sources { IfOk result (λ r. sources_view r.0.sources ≡ (builder_value self.entry).sources) }
         ensures faults { IfOk result (λ r. (f : _) → Contains (faults_of r.1) f ↔ TypingFails (builder_value self.entry).meanings (builder_value self.entry).definitions f) }

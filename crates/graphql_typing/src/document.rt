@@ -1,18 +1,21 @@
 //! Typing of the definitions of a document.
-ghost use Rattle.std.specs.Prelude.{◌≡◌, ◌++◌, [], map, None, IfOk, OnOk, nat_lt, length};
+ghost use Rattle.std.specs.Prelude.{◌≡◌, ◌++◌, [], map, Option, None, IfOk, OnOk, nat_lt, length};
 ghost use Rattle.std.specs.List.{filter};
 ghost use Rattle.std.specs.Option.{option_map};
 ghost use Rattle.graphql_names.specs.Node.{content, place};
-ghost use Rattle.graphql_names.specs.Placed.{name_tree};
+ghost use Rattle.graphql_names.specs.Placed.{Place, name_tree};
 ghost use Rattle.graphql_operations.specs.OperationTree.{operation_tree, fragment_tree};
 ghost use Rattle.graphql_definitions.specs.DefinitionTree.{definition_tree};
+ghost use Rattle.graphql_schema_types.specs.SchemaTree.{SchemaTree};
+ghost use Rattle.graphql_typed_selections.specs.TypedTree.{typed_set_tree};
 ghost use Rattle.graphql_typing.specs.KeptDocument.{meant_operation, meant_fragment};
 ghost use Rattle.graphql_typing.specs.SetFaults.{set_faults};
 ghost use Rattle.graphql_typing.specs.TypingFaults.{is_operation};
 ghost use Rattle.graphql_typing.specs.Steps.{told, based, is_known, name_faults, and_operation, and_fragment, and_definition, typed_in};
-ghost use Rattle.graphql_typing.specs.StepsView.{operation_meaning, fragment_meaning, typed_view};
+ghost use Rattle.graphql_typing.specs.StepsView.{operation_meaning, fragment_meaning, typed_view, kept_tree};
 ghost use Rattle.graphql_typing.specs.FaultView.{faults_of};
-ghost use Rattle.graphql_typing.specs.MeaningView.{meanings_under};
+ghost use Rattle.graphql_typing.specs.DefinedByPlace.{IsDefinedSet, IsDefinedDocument};
+ghost use Rattle.graphql_typing.specs.MeaningView.{schema_under, meanings_under};
 
 use crate::definition_rules::{
     ambiguous_anonymous_operation, fragment_name_collision, operation_name_collision,
@@ -69,6 +72,7 @@ fn typed_operation(
     faults: &mut Vec<(Option<SourceSpan>, BuildError)>,
 ) -> Result<Node<Operation>, AllocError>
     ensures kept { IfOk result (λ n. operation_meaning n ≡ meant_operation (meanings_under schema.entry) (based (place operation.now) root.now.text (operation_tree (content operation.now)))) }
+    ensures defined { IfOk result (λ n. IsDefinedSet (schema_under schema.entry) (typed_set_tree (content n).selection_set)) }
     ensures faults { OnOk result (faults_of faults.new ≡ faults_of faults.old ++ set_faults (meanings_under schema.entry) (operation_tree (content operation.now)).selections root.now.text) }
 {
     let tree = operation.content();
@@ -96,6 +100,7 @@ fn typed_fragment(
     faults: &mut Vec<(Option<SourceSpan>, BuildError)>,
 ) -> Result<Node<Fragment>, AllocError>
     ensures kept { IfOk result (λ n. fragment_meaning n ≡ meant_fragment (meanings_under schema.entry) (record { place = place fragment.now; base = (content fragment.now).type_condition.text; it = fragment_tree (content fragment.now) })) }
+    ensures defined { IfOk result (λ n. IsDefinedSet (schema_under schema.entry) (typed_set_tree (content n).selection_set)) }
     ensures faults { OnOk result (faults_of faults.new ≡ faults_of faults.old ++ set_faults (meanings_under schema.entry) (fragment_tree (content fragment.now)).selections (content fragment.now).type_condition.text) }
 {
     let tree = fragment.content();
@@ -118,7 +123,8 @@ fn typed_fragment(
 impl TypedDocument {
     /// No definitions.
     fn new(alloc: Global) -> TypedDocument
-        ensures { typed_view result ≡ record { document = record { anonymous = None; named = []; fragments = [] }; faults = [] } }
+        ensures view { typed_view result ≡ record { document = record { anonymous = None; named = []; fragments = [] }; faults = [] } }
+        ensures defined { (s : Option (SchemaTree Place)) → IsDefinedDocument s (kept_tree result) }
     {
         TypedDocument {
             operations: OperationMap::new(alloc),
@@ -134,6 +140,7 @@ impl TypedDocument {
         operation: &Node<OperationDefinition>,
     ) -> Result<bool, AllocError>
         ensures known { IfOk result (λ b. b ≡ is_known (option_map name_tree (content operation.now).name) (typed_view self.old)) }
+        ensures kept { kept_tree self.new ≡ kept_tree self.old }
         ensures faults { OnOk result (typed_view self.new ≡ told (name_faults beside (place operation.now) (option_map name_tree (content operation.now).name) (typed_view self.old)) (typed_view self.old)) }
     {
         let location = operation.location();
@@ -161,7 +168,8 @@ impl TypedDocument {
         beside: bool,
         operation: &Node<OperationDefinition>,
     ) -> Result<(), AllocError>
-        ensures { OnOk result (typed_view self.new ≡ and_operation (meanings_under schema.entry) beside (place operation.now) (operation_tree (content operation.now)) (option_map name_tree (content operation.now).name) (typed_view self.old)) }
+        ensures view { OnOk result (typed_view self.new ≡ and_operation (meanings_under schema.entry) beside (place operation.now) (operation_tree (content operation.now)) (option_map name_tree (content operation.now).name) (typed_view self.old)) }
+        ensures defined { OnOk result (IsDefinedDocument (schema_under schema.entry) (kept_tree self.old) → IsDefinedDocument (schema_under schema.entry) (kept_tree self.new)) }
     {
         let operation_type = operation.content().operation_type;
         let is_known = self.check_name(beside, operation)?;
@@ -183,7 +191,8 @@ impl TypedDocument {
         schema: Option<&Schema>,
         fragment: &Node<FragmentDefinition>,
     ) -> Result<(), AllocError>
-        ensures { OnOk result (typed_view self.new ≡ and_fragment (meanings_under schema.entry) (place fragment.now) (fragment_tree (content fragment.now)) (typed_view self.old)) }
+        ensures view { OnOk result (typed_view self.new ≡ and_fragment (meanings_under schema.entry) (place fragment.now) (fragment_tree (content fragment.now)) (typed_view self.old)) }
+        ensures defined { OnOk result (IsDefinedDocument (schema_under schema.entry) (kept_tree self.old) → IsDefinedDocument (schema_under schema.entry) (kept_tree self.new)) }
     {
         let name = &fragment.content().name;
         let condition = &fragment.content().type_condition;
@@ -213,7 +222,8 @@ impl TypedDocument {
         beside: bool,
         definition: &Definition,
     ) -> Result<(), AllocError>
-        ensures { OnOk result (typed_view self.new ≡ and_definition (meanings_under schema.entry) beside (typed_view self.old) (definition_tree definition.now)) }
+        ensures view { OnOk result (typed_view self.new ≡ and_definition (meanings_under schema.entry) beside (typed_view self.old) (definition_tree definition.now)) }
+        ensures defined { OnOk result (IsDefinedDocument (schema_under schema.entry) (kept_tree self.old) → IsDefinedDocument (schema_under schema.entry) (kept_tree self.new)) }
     {
         match definition {
             Definition::OperationDefinition(operation) => {
@@ -233,7 +243,8 @@ pub(crate) fn type_document(
     schema: Option<&Schema>,
     definitions: &[Definition],
 ) -> Result<TypedDocument, AllocError>
-    ensures { IfOk result (λ t. typed_view t ≡ typed_in (meanings_under schema.entry) (map definition_tree definitions.now)) }
+    ensures view { IfOk result (λ t. typed_view t ≡ typed_in (meanings_under schema.entry) (map definition_tree definitions.now)) }
+    ensures defined { IfOk result (λ t. IsDefinedDocument (schema_under schema.entry) (kept_tree t)) }
 {
     let beside = has_two_operations(definitions);
     let mut typed = TypedDocument::new(alloc);

@@ -1,14 +1,16 @@
 //! Selections with their meaning, put behind those that are kept.
-ghost use Rattle.std.specs.Prelude.{◌≡◌, ◌++◌, [], ◌∷◌, OnOk};
+ghost use Rattle.std.specs.Prelude.{◌≡◌, ◌++◌, [], ◌∷◌, ℕ, List, Option, OnOk};
 ghost use Rattle.std.specs.Option.{option_map};
 ghost use Rattle.graphql_names.specs.Node.{content, place};
-ghost use Rattle.graphql_names.specs.Placed.{name_tree};
+ghost use Rattle.graphql_names.specs.Placed.{Place, name_tree, node_tree};
 ghost use Rattle.graphql_directives.specs.DirectiveTree.{directives_tree};
 ghost use Rattle.graphql_operations.specs.SelectionParts.{field_head};
 ghost use Rattle.graphql_type_members.specs.TypeSystemTree.{field_definition_tree, unplaced_field_definition};
+ghost use Rattle.graphql_schema_types.specs.SchemaTree.{SchemaTree};
 ghost use Rattle.graphql_typed_selections.specs.TypedTree.{typed_set_tree};
 ghost use Rattle.graphql_typing.specs.MeantTree.{MeantField, MeantSpread, MeantInline, meant_of_set};
-ghost use Rattle.graphql_typing.specs.MeaningView.{meant_selections};
+ghost use Rattle.graphql_typing.specs.DefinedByPlace.{IsDefinitionOf, IsDefinedSet};
+ghost use Rattle.graphql_typing.specs.MeaningView.{meant_selections, AreKeptDefined};
 
 use graphql_names::{Node, copies_of_four, copies_of_two};
 use graphql_operations::{Field, FragmentSpread, InlineFragment};
@@ -26,7 +28,8 @@ pub(crate) fn keep_field(
     set: typed::SelectionSet,
     kept: &mut Vec<typed::Selection>,
 ) -> Result<(), AllocError>
-    ensures { OnOk result (meant_selections kept.new ≡ meant_selections kept.old ++ MeantField (place field.now) (unplaced_field_definition (field_definition_tree (content definition))) (field_head (content field.now)) (meant_of_set (typed_set_tree set)) ∷ []) }
+    ensures meant { OnOk result (meant_selections kept.new ≡ meant_selections kept.old ++ MeantField (place field.now) (unplaced_field_definition (field_definition_tree (content definition))) (field_head (content field.now)) (meant_of_set (typed_set_tree set)) ∷ []) }
+    ensures defined { OnOk result ((s : Option (SchemaTree Place)) (t : List ℕ) → IsDefinitionOf s t (name_tree (content field.now).name) (node_tree field_definition_tree definition) → IsDefinedSet s (typed_set_tree set) → AreKeptDefined s t kept.old → AreKeptDefined s t kept.new) }
 {
     let tree = field.content();
     let (alias, name, arguments, directives) = copies_of_four(
@@ -54,7 +57,8 @@ pub(crate) fn keep_spread(
     spread: &Node<FragmentSpread>,
     kept: &mut Vec<typed::Selection>,
 ) -> Result<(), AllocError>
-    ensures { OnOk result (meant_selections kept.new ≡ meant_selections kept.old ++ MeantSpread (place spread.now) (name_tree (content spread.now).fragment_name) (directives_tree (content spread.now).directives) ∷ []) }
+    ensures meant { OnOk result (meant_selections kept.new ≡ meant_selections kept.old ++ MeantSpread (place spread.now) (name_tree (content spread.now).fragment_name) (directives_tree (content spread.now).directives) ∷ []) }
+    ensures defined { OnOk result ((s : Option (SchemaTree Place)) (t : List ℕ) → AreKeptDefined s t kept.old → AreKeptDefined s t kept.new) }
 {
     let tree = spread.content();
     let (fragment_name, directives) = copies_of_two(&tree.fragment_name, &tree.directives)?;
@@ -74,7 +78,8 @@ pub(crate) fn keep_inline(
     set: typed::SelectionSet,
     kept: &mut Vec<typed::Selection>,
 ) -> Result<(), AllocError>
-    ensures { OnOk result (meant_selections kept.new ≡ meant_selections kept.old ++ MeantInline (place inline.now) (option_map name_tree (content inline.now).type_condition) (directives_tree (content inline.now).directives) (meant_of_set (typed_set_tree set)) ∷ []) }
+    ensures meant { OnOk result (meant_selections kept.new ≡ meant_selections kept.old ++ MeantInline (place inline.now) (option_map name_tree (content inline.now).type_condition) (directives_tree (content inline.now).directives) (meant_of_set (typed_set_tree set)) ∷ []) }
+    ensures defined { OnOk result ((s : Option (SchemaTree Place)) (t : List ℕ) → IsDefinedSet s (typed_set_tree set) → AreKeptDefined s t kept.old → AreKeptDefined s t kept.new) }
 {
     let tree = inline.content();
     let (type_condition, directives) = copies_of_two(&tree.type_condition, &tree.directives)?;

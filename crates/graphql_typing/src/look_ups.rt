@@ -1,8 +1,9 @@
 //! What a schema says of names, or what holds of them without a schema.
-ghost use Rattle.std.specs.Prelude.{◌≡◌, ℕ, Bool, IfOk};
+ghost use Rattle.std.specs.Prelude.{◌≡◌, ℕ, Bool, IfOk, IfSome};
 ghost use Rattle.std.specs.FinMap as fin;
 ghost use Rattle.std.specs.Option.{option_map};
 ghost use Rattle.graphql_names.specs.Node.{content};
+ghost use Rattle.graphql_names.specs.Placed.{name_tree, node_tree};
 ghost use Rattle.graphql_type_members.specs.TypeSystemTree.{field_definition_tree, unplaced_field_definition};
 ghost use Rattle.graphql_schema_types.specs.Plain.{plain, plain_type};
 ghost use Rattle.graphql_schema_types.specs.TypeView.{extended_type};
@@ -11,7 +12,8 @@ ghost use Rattle.graphql_operations.specs.OperationQueries.{default_root_name};
 ghost use Rattle.graphql_typing.specs.Meanings.{inner_type, unknown_definition};
 ghost use Rattle.graphql_typing.specs.KeptSelections.{is_leaf};
 ghost use Rattle.graphql_typing.specs.DefinedField.{definition_view};
-ghost use Rattle.graphql_typing.specs.MeaningView.{meanings_under};
+ghost use Rattle.graphql_typing.specs.DefinedByPlace.{unknown_field, IsDefinitionOf};
+ghost use Rattle.graphql_typing.specs.MeaningView.{schema_under, meanings_under};
 
 use graphql_directives::DirectiveList;
 use graphql_literals::Type;
@@ -67,7 +69,8 @@ pub(crate) fn is_leaf(schema: Option<&Schema>, name: &Name) -> bool
 
 /// The definition of a field of that name without a schema: its type is `UNKNOWN`.
 fn unknown_field(alloc: Global, name: &Name) -> Result<Node<FieldDefinition>, AllocError>
-    ensures { IfOk result (λ n. definition_view n ≡ unknown_definition name.now.text) }
+    ensures view { IfOk result (λ n. definition_view n ≡ unknown_definition name.now.text) }
+    ensures defined { IfOk result (λ n. node_tree field_definition_tree n ≡ unknown_field (name_tree name.now)) }
 {
     let name = name.clone()?;
     let definition = FieldDefinition {
@@ -88,7 +91,8 @@ pub(crate) fn definition_of(
     type_name: &Name,
     field_name: &Name,
 ) -> Result<Option<Node<FieldDefinition>>, AllocError>
-    ensures { IfOk result (λ r. option_map definition_view r ≡ (meanings_under schema.entry).field type_name.now.text field_name.now.text) }
+    ensures view { IfOk result (λ r. option_map definition_view r ≡ (meanings_under schema.entry).field type_name.now.text field_name.now.text) }
+    ensures defined { IfOk result (λ r. IfSome r (λ d. IsDefinitionOf (schema_under schema.entry) type_name.now.text (name_tree field_name.now) (node_tree field_definition_tree d))) }
 {
     let Some(schema) = schema else {
         return Ok(Some(unknown_field(alloc, field_name)?));

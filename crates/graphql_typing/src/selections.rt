@@ -1,18 +1,20 @@
 //! Typing of selections.
-ghost use Rattle.std.specs.Prelude.{◌≡◌, ◌++◌, [], ◌∷◌, IfOk, OnOk};
+ghost use Rattle.std.specs.Prelude.{◌≡◌, ◌++◌, [], ◌∷◌, ℕ, List, IfOk, OnOk};
 ghost use Rattle.std.specs.Option.{option_map};
 ghost use Rattle.graphql_names.specs.Node.{content, place};
-ghost use Rattle.graphql_names.specs.Placed.{name_tree};
+ghost use Rattle.graphql_names.specs.Placed.{name_tree, node_tree};
 ghost use Rattle.graphql_directives.specs.DirectiveTree.{directives_tree};
 ghost use Rattle.graphql_operations.specs.SelectionTree.{selection_tree, selection_trees};
 ghost use Rattle.graphql_operations.specs.SelectionParts.{field_node_tree, inline_node_tree};
+ghost use Rattle.graphql_type_members.specs.TypeSystemTree.{field_definition_tree};
 ghost use Rattle.graphql_typed_selections.specs.TypedTree.{set_type, typed_set_tree};
 ghost use Rattle.graphql_typing.specs.MeantTree.{MeantInline, meant_of_set, set_on};
 ghost use Rattle.graphql_typing.specs.KeptSelections.{kept, kept_all};
 ghost use Rattle.graphql_typing.specs.SetFaults.{selection_faults, set_faults};
 ghost use Rattle.graphql_typing.specs.DefinedField.{definition_view, kept_defined, defined_faults};
 ghost use Rattle.graphql_typing.specs.FaultView.{faults_of};
-ghost use Rattle.graphql_typing.specs.MeaningView.{meanings_under, meant_selections};
+ghost use Rattle.graphql_typing.specs.DefinedByPlace.{IsDefinitionOf, IsDefinedSet};
+ghost use Rattle.graphql_typing.specs.MeaningView.{schema_under, meanings_under, meant_selections, AreKeptDefined};
 
 use crate::keep::{keep_field, keep_inline, keep_spread};
 use crate::look_ups::{definition_of, has_type, inner_name};
@@ -39,6 +41,7 @@ pub(crate) fn type_set(
 ) -> Result<typed::SelectionSet, AllocError>
     ensures kept { IfOk result (λ s. meant_of_set (typed_set_tree s) ≡ set_on type_name.now.text (kept_all (meanings_under schema.entry) (selection_trees selection_tree selections.now) type_name.now.text)) }
     ensures ty { IfOk result (λ s. set_type (typed_set_tree s) ≡ name_tree type_name.now) }
+    ensures defined { IfOk result (λ s. IsDefinedSet (schema_under schema.entry) (typed_set_tree s)) }
     ensures faults { OnOk result (faults_of faults.new ≡ faults_of faults.old ++ set_faults (meanings_under schema.entry) (selection_trees selection_tree selections.now) type_name.now.text) }
 {
     let mut kept = Vec::new(alloc);
@@ -63,6 +66,7 @@ fn type_selection(
     faults: &mut Vec<(Option<SourceSpan>, BuildError)>,
 ) -> Result<(), AllocError>
     ensures kept { OnOk result (meant_selections out.new ≡ meant_selections out.old ++ kept (meanings_under schema.entry) (selection_tree selection.now) parent.now.text) }
+    ensures defined { OnOk result (AreKeptDefined (schema_under schema.entry) parent.now.text out.old → AreKeptDefined (schema_under schema.entry) parent.now.text out.new) }
     ensures faults { OnOk result (faults_of faults.new ≡ faults_of faults.old ++ selection_faults (meanings_under schema.entry) (selection_tree selection.now) parent.now.text) }
 {
     match selection {
@@ -85,6 +89,7 @@ fn type_field(
     faults: &mut Vec<(Option<SourceSpan>, BuildError)>,
 ) -> Result<(), AllocError>
     ensures kept { OnOk result (meant_selections out.new ≡ meant_selections out.old ++ kept (meanings_under schema.entry) (field_node_tree field.now) parent.now.text) }
+    ensures defined { OnOk result (AreKeptDefined (schema_under schema.entry) parent.now.text out.old → AreKeptDefined (schema_under schema.entry) parent.now.text out.new) }
     ensures faults { OnOk result (faults_of faults.new ≡ faults_of faults.old ++ selection_faults (meanings_under schema.entry) (field_node_tree field.now) parent.now.text) }
 {
     let name = &field.content().name;
@@ -105,6 +110,7 @@ fn type_defined_field(
     faults: &mut Vec<(Option<SourceSpan>, BuildError)>,
 ) -> Result<(), AllocError>
     ensures kept { OnOk result (meant_selections out.new ≡ meant_selections out.old ++ kept_defined (meanings_under schema.entry) (definition_view definition) field.now) }
+    ensures defined { OnOk result ((t : List ℕ) → IsDefinitionOf (schema_under schema.entry) t (name_tree (content field.now).name) (node_tree field_definition_tree definition) → AreKeptDefined (schema_under schema.entry) t out.old → AreKeptDefined (schema_under schema.entry) t out.new) }
     ensures faults { OnOk result (faults_of faults.new ≡ faults_of faults.old ++ defined_faults (meanings_under schema.entry) (definition_view definition) field.now) }
 {
     let inner = inner_name(&definition);
@@ -128,6 +134,7 @@ fn type_inline(
     faults: &mut Vec<(Option<SourceSpan>, BuildError)>,
 ) -> Result<(), AllocError>
     ensures kept { OnOk result (meant_selections out.new ≡ meant_selections out.old ++ kept (meanings_under schema.entry) (inline_node_tree inline.now) parent.now.text) }
+    ensures defined { OnOk result (AreKeptDefined (schema_under schema.entry) parent.now.text out.old → AreKeptDefined (schema_under schema.entry) parent.now.text out.new) }
     ensures faults { OnOk result (faults_of faults.new ≡ faults_of faults.old ++ selection_faults (meanings_under schema.entry) (inline_node_tree inline.now) parent.now.text) }
 {
     match &inline.content().type_condition {
@@ -156,6 +163,7 @@ fn type_inline_on(
     faults: &mut Vec<(Option<SourceSpan>, BuildError)>,
 ) -> Result<(), AllocError>
     ensures kept { OnOk result (meant_selections out.new ≡ meant_selections out.old ++ MeantInline (place inline.now) (option_map name_tree (content inline.now).type_condition) (directives_tree (content inline.now).directives) (set_on type_name.now.text (kept_all (meanings_under schema.entry) (selection_trees selection_tree (content inline.now).selection_set.items) type_name.now.text)) ∷ []) }
+    ensures defined { OnOk result ((t : List ℕ) → AreKeptDefined (schema_under schema.entry) t out.old → AreKeptDefined (schema_under schema.entry) t out.new) }
     ensures faults { OnOk result (faults_of faults.new ≡ faults_of faults.old ++ set_faults (meanings_under schema.entry) (selection_trees selection_tree (content inline.now).selection_set.items) type_name.now.text) }
 {
     let selections = &inline.content().selection_set;

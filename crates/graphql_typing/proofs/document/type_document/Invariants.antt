@@ -1,12 +1,14 @@
 use Rattle.std.proofs.Common.{◌≡◌, map, drop}
 use Rattle.std.specs.Prelude.{fold}
 use Rattle.graphql_definitions.specs.DefinitionTree.{definition_tree}
-use Rattle.graphql_typing.specs.MeaningView.{meanings_under}
+use Rattle.graphql_typing.specs.DefinedByPlace.{IsDefinedDocument}
+use Rattle.graphql_typing.specs.MeaningView.{schema_under, meanings_under}
 use Rattle.graphql_typing.specs.Steps.{and_definition, typed_in}
-use Rattle.graphql_typing.specs.StepsView.{typed_view}
+use Rattle.graphql_typing.specs.StepsView.{typed_view, kept_tree}
 use Rattle.graphql_typing.proofs.document.type_document.Given as goal
 
 abbrev pub invariant-loop-definition : goal.invariant-loop-definition
 invariant-loop-definition l =
-    fold (and_definition (meanings_under l.schema) l.beside) (typed_view l.typed) (map definition_tree (drop l.definition-index l.definitions))
-    ≡ typed_in (meanings_under l.schema) (map definition_tree l.definitions)
+    (fold (and_definition (meanings_under l.schema) l.beside) (typed_view l.typed) (map definition_tree (drop l.definition-index l.definitions))
+    ≡ typed_in (meanings_under l.schema) (map definition_tree l.definitions))
+    × IsDefinedDocument (schema_under l.schema) (kept_tree l.typed)

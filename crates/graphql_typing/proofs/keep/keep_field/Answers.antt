@@ -1,6 +1,7 @@
 use Rattle.std.proofs.Common.{◌≡◌, [], ◌∷◌, ◌++◌, map, ap, ◌∙◌, rules}
 use Rattle.std.proofs.lemmas.List.{map-append}
 use Rattle.graphql_names.specs.Node.{content}
+use Rattle.graphql_names.specs.Placed.{name_tree}
 use Rattle.graphql_names.proofs.Copies.{nodes-copies}
 use Rattle.graphql_directives.specs.DirectiveTree.{argument_tree}
 use Rattle.graphql_operations.specs.SelectionParts.{field_head}
@@ -11,10 +12,11 @@ use Rattle.graphql_typed_selections.specs.declared.selection.Selection.TheViews.
 use Rattle.graphql_typing.specs.MeantTree.{meant}
 use Rattle.graphql_typing.specs.MeaningView.{meant_selections}
 use Rattle.graphql_typing.proofs.MeantSets.{field-meant}
+use Rattle.graphql_typing.proofs.DefinedPlaces.{kept-push, field-defined}
 use Rattle.graphql_typing.proofs.keep.keep_field.Goals as goal
 
-pub returns : goal.returns
-returns c =
+pub returns-clause-meant : goal.returns-clause-meant
+returns-clause-meant c =
     let n = c.in_ok-same_location.field-0 in
     let same = c.in_ok-same_location.ensures.content in
     let alias = c.in_ok-alias.ensures.0 in
@@ -29,3 +31,12 @@ returns c =
     (ap (λ (f : Field). f.definition) same)
     (head ∙ ap field_head c.content-tree.ensures)
     (ap (λ (f : Field). f.selection_set) same))
+
+pub returns-clause-defined : goal.returns-clause-defined
+returns-clause-defined c s t d x h =
+    let n = c.in_ok-same_location.field-0 in
+    let same = c.in_ok-same_location.ensures.content in
+    let name : name_tree (content n).name ≡ name_tree (content c.args.field.now).name = ap (λ (f : Field). name_tree f.name) same ∙ search rules in
+    kept-push s t c.args.kept.now c.push.new.self (Field' n) c.in_ok-push.ensures.items
+    (field-defined s t n c.args.definition (name_tree (content c.args.field.now).name) c.args.set
+    (ap (λ (f : Field). f.definition) same) name (ap (λ (f : Field). f.selection_set) same) d x) h

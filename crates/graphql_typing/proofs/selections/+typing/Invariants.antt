@@ -3,7 +3,7 @@ use Rattle.graphql_operations.specs.SelectionTree.{selection_tree, selection_tre
 use Rattle.graphql_typing.specs.KeptSelections.{kept_all}
 use Rattle.graphql_typing.specs.SetFaults.{set_faults}
 use Rattle.graphql_typing.specs.FaultView.{faults_of}
-use Rattle.graphql_typing.specs.MeaningView.{meanings_under, meant_selections}
+use Rattle.graphql_typing.specs.MeaningView.{schema_under, meanings_under, meant_selections, AreKeptDefined}
 use Rattle.graphql_typing.proofs.selections.+typing.Given as goal
 
 abbrev pub invariant-type_set-loop-selection : goal.invariant-type_set-loop-selection
@@ -12,3 +12,4 @@ invariant-type_set-loop-selection l =
     ≡ kept_all (meanings_under l.schema) (selection_trees selection_tree l.selections) l.type_name.text)
     × (faults_of l.faults ++ set_faults (meanings_under l.schema) (selection_trees selection_tree (drop l.selection-index l.selections)) l.type_name.text
     ≡ faults_of l.fn.faults ++ set_faults (meanings_under l.schema) (selection_trees selection_tree l.selections) l.type_name.text)
+    × AreKeptDefined (schema_under l.schema) l.type_name.text l.kept

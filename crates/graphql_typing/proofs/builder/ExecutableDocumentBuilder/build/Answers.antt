@@ -23,7 +23,7 @@ returns-clause-document c =
     let m = meanings_under c.args.self.schema in
     let ds = map definition_tree c.args.self.definitions.items in
     let typed = c.in_ok-typed.typed in
-    let is : typed_view typed ≡ typed_in m ds = c.in_ok-typed.ensures ∙ ap (λ l. typed_in m (map definition_tree l)) c.deref.ensures.value in
+    let is : typed_view typed ≡ typed_in m ds = c.in_ok-typed.ensures.view ∙ ap (λ l. typed_in m (map definition_tree l)) c.deref.ensures.value in
     let d : ExecutableDocument = record { sources = c.args.self.sources; operations = typed.operations; fragments = typed.fragments } in
     document-meant d ∙ ap (λ (s : Typed Place). s.document) (is ∙ typed-is m ds)
 
@@ -32,7 +32,7 @@ returns-clause-faults c f =
     let m = meanings_under c.args.self.schema in
     let ds = map definition_tree c.args.self.definitions.items in
     let typed = c.in_ok-typed.typed in
-    let is : typed_view typed ≡ typed_in m ds = c.in_ok-typed.ensures ∙ ap (λ l. typed_in m (map definition_tree l)) c.deref.ensures.value in
+    let is : typed_view typed ≡ typed_in m ds = c.in_ok-typed.ensures.view ∙ ap (λ l. typed_in m (map definition_tree l)) c.deref.ensures.value in
     let told : faults_of typed.faults ≡ (typed_in m ds).faults = ap (λ (s : Typed Place). s.faults) is in
     subst (λ l. Contains l f ↔ TypingFails m ds f) (sym told) (document-fails m ds f)
 
@@ -41,7 +41,7 @@ returns-clause-full c =
     let m = meanings_under c.args.self.schema in
     let ds = map definition_tree c.args.self.definitions.items in
     let typed = c.in_ok-typed.typed in
-    let is : typed_view typed ≡ typed_in m ds = c.in_ok-typed.ensures ∙ ap (λ l. typed_in m (map definition_tree l)) c.deref.ensures.value in
+    let is : typed_view typed ≡ typed_in m ds = c.in_ok-typed.ensures.view ∙ ap (λ l. typed_in m (map definition_tree l)) c.deref.ensures.value in
     let told : faults_of typed.faults ≡ (typed_in m ds).faults = ap (λ (s : Typed Place). s.faults) is in
     tells-all m ds (faults_of typed.faults) (λ f x. subst (λ l. Contains l f) (sym told) ((document-fails m ds f).1 x))
 
@@ -50,7 +50,7 @@ returns-clause-typed c =
     let m = meanings_under c.args.self.schema in
     let ds = map definition_tree c.args.self.definitions.items in
     let typed = c.in_ok-typed.typed in
-    let is : typed_view typed ≡ typed_in m ds = c.in_ok-typed.ensures ∙ ap (λ l. typed_in m (map definition_tree l)) c.deref.ensures.value in
+    let is : typed_view typed ≡ typed_in m ds = c.in_ok-typed.ensures.view ∙ ap (λ l. typed_in m (map definition_tree l)) c.deref.ensures.value in
     let d : ExecutableDocument = record { sources = c.args.self.sources; operations = typed.operations; fragments = typed.fragments } in
     subst (IsTypedDocument m) (sym (document-meant d ∙ ap (λ (s : Typed Place). s.document) (is ∙ typed-is m ds))) (document-typed m ds)
 
@@ -59,7 +59,7 @@ returns-clause-whole c none =
     let m = meanings_under c.args.self.schema in
     let ds = map definition_tree c.args.self.definitions.items in
     let typed = c.in_ok-typed.typed in
-    let is : typed_view typed ≡ typed_in m ds = c.in_ok-typed.ensures ∙ ap (λ l. typed_in m (map definition_tree l)) c.deref.ensures.value in
+    let is : typed_view typed ≡ typed_in m ds = c.in_ok-typed.ensures.view ∙ ap (λ l. typed_in m (map definition_tree l)) c.deref.ensures.value in
     let d : ExecutableDocument = record { sources = c.args.self.sources; operations = typed.operations; fragments = typed.fragments } in
     let told : (typed_in m ds).faults ≡ [] = sym (ap (λ (s : Typed Place). s.faults) is) ∙ none in
     ap written_document (document-meant d ∙ ap (λ (s : Typed Place). s.document) (is ∙ typed-is m ds))

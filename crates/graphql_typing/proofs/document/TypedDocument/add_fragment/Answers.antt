@@ -1,19 +1,22 @@
 use Rattle.std.proofs.Common.{◌≡◌, true, false, [], ◌∷◌, ◌++◌, rules, ap, sym, ◌∙◌}
 use Rattle.graphql_names.specs.Node.{content, place}
 use Rattle.graphql_operations.specs.OperationTree.{fragment_tree}
+use Rattle.graphql_names.specs.Placed.{node_tree}
+use Rattle.graphql_typed_operations.specs.TypedDocument.{typed_fragment_tree}
 use Rattle.graphql_typing.specs.FaultView.{faults_of}
-use Rattle.graphql_typing.specs.MeaningView.{meanings_under}
+use Rattle.graphql_typing.specs.MeaningView.{schema_under, meanings_under}
 use Rattle.graphql_typing.specs.SetFaults.{set_faults}
 use Rattle.graphql_typing.specs.Steps.{is_under}
 use Rattle.graphql_typing.specs.StepsView.{fragment_meaning, typed_view}
 use Rattle.graphql_typing.specs.TypingFaults.{At, UndefinedTypeInNamedFragmentTypeCondition}
 use Rattle.graphql_typing.proofs.KnownNames.{known-under}
 use Rattle.graphql_typing.proofs.AddedFragments.{named_fragment, absent_condition, without-condition, fragment-known, fragment-kept, fragment-put}
+use Rattle.graphql_typing.proofs.DefinedPlaces.{insert-defined}
 use Rattle.graphql_typing.proofs.Outcomes.{on-ok}
 use Rattle.graphql_typing.proofs.document.TypedDocument.add_fragment.Goals as goal
 
-pub returns-then-not-has_type : goal.returns-then-not-has_type
-returns-then-not-has_type c =
+pub returns-then-not-has_type-clause-view : goal.returns-then-not-has_type-clause-view
+returns-then-not-has_type-clause-view c =
     let m = meanings_under c.args.schema in
     let p = place c.args.fragment.now in
     let f = fragment_tree (content c.args.fragment.now) in
@@ -29,8 +32,8 @@ returns-then-not-has_type c =
     (λ h. (λ i. record { document = st.document; faults = (h ∙ ended) i }) ∙ without-condition m p f st absent)
     c.undefined_type_in_named_fragment_type_condition.ensures
 
-pub returns-then-is_known : goal.returns-then-is_known
-returns-then-is_known c =
+pub returns-then-is_known-clause-view : goal.returns-then-is_known-clause-view
+returns-then-is_known-clause-view c =
     let m = meanings_under c.args.schema in
     let p = place c.args.fragment.now in
     let f = fragment_tree (content c.args.fragment.now) in
@@ -42,8 +45,8 @@ returns-then-is_known c =
     let there : m.has_type f.type_condition.it ≡ true = search rules in
     (λ i. record { document = st.document; faults = told i }) ∙ fragment-known m p f st there (sym known ∙ c.if-is_known.true)
 
-pub returns : goal.returns
-returns c =
+pub returns-clause-view : goal.returns-clause-view
+returns-clause-view c =
     let m = meanings_under c.args.schema in
     let p = place c.args.fragment.now in
     let f = fragment_tree (content c.args.fragment.now) in
@@ -59,3 +62,7 @@ returns c =
     (c.in_ok-clone.ensures.same ∙ named) c.in_ok-typed.ensures.kept c.in_ok-insert.ensures.entries absent in
     let faults = c.in_ok-typed.ensures.faults ∙ ap (λ l. l ++ set_faults m f.selections f.type_condition.it) told in
     (λ i. record { document = record st.document { fragments = put i }; faults = faults i }) ∙ fragment-kept m p f st there absent
+
+pub returns-clause-defined : goal.returns-clause-defined
+returns-clause-defined c h =
+    (h.0, h.1, insert-defined (schema_under c.args.schema) (λ f. f.set) (node_tree typed_fragment_tree) c.args.self.now.fragments c.insert.new.self c.in_ok-clone.field-0 c.in_ok-typed.typed c.in_ok-insert.ensures.entries c.in_ok-typed.ensures.defined h.2)
