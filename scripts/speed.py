@@ -1,0 +1,146 @@
+#!/usr/bin/env python3
+"""What checking and writing a pair costs: speed.py PROGRAM [WORD]
+
+PROGRAM is the built program of `graphql_checked_program` (`rt run` there leaves it in `out/`). Schemas and documents of several
+sizes are written to a folder that is removed again, and PROGRAM answers each pair. A line tells the bytes of both texts, the
+instructions that callgrind counts and the most memory that the program held, each less that of the smallest pair, and both by
+the byte. With WORD only cases whose names have it are run."""
+
+import os
+import re
+import resource
+import subprocess
+import sys
+import tempfile
+
+# Six definitions, one of each kind, as # of a schema: an object that implements an interface, with arguments and directives,
+# a union, an enum, an input object and a scalar. ~ is the number of the next six.
+SIX = '''"""
+A thing of the kind numbered #, as it is kept and shown.
+"""
+interface Thing# {
+  "The key by which it is found."
+  id: ID!
+  "Its name, cut to some length."
+  name(length: Int): String
+}
+
+"""
+The objects of the kind numbered #.
+They are listed page by page.
+"""
+type Object# implements Thing# {
+  "The key by which it is found."
+  id: ID!
+  "Its name, cut to some length."
+  name(length: Int): String
+  "Objects that belong to it, in pages."
+  parts(first: Int = 10, after: String, by: Choice#, where: Filter#): [Object~!]!
+  "When it was made."
+  madeAt: Moment#
+  "What it stands for."
+  stands: Any# @deprecated(reason: "Ask for its parts.")
+}
+
+"All that the object numbered # can stand for."
+union Any# = Object# | Object~
+
+"In which order objects are listed."
+enum Choice# {
+  "The newest first."
+  NEWEST
+  OLDEST
+  BY_NAME @deprecated
+}
+
+"Which objects are listed."
+input Filter# {
+  "Whose name has this text."
+  name: String = "any"
+  choice: Choice# = NEWEST
+  all: [Filter#!]
+}
+
+"A moment, to the second."
+scalar Moment# @specifiedBy(url: "https://example.org/moment")
+
+'''
+
+# Ten selections of a document, as #.
+TEN = """  k#: object(id: "#") {
+    id
+    name(length: 20)
+    parts(first: 3, by: NEWEST, where: { name: "x" }) {
+      id
+      more: parts(first: $first) @include(if: $deep) {
+        id
+      }
+    }
+    ... on Thing0 {
+      id
+    }
+  }
+"""
+
+SMALL = "{ object(id: 1) { id name } }\n"
+
+
+def schema(types):
+    """A schema of some number of types."""
+    count = max(types // 6, 1)
+    six = (SIX.replace("#", str(i)).replace("~", str((i + 1) % count)) for i in range(count))
+    return 'type Query {\n  "An object by its key."\n  object(id: ID!): Object0\n}\n\n' + "".join(six)
+
+
+def document(selections):
+    """A document of some number of selections."""
+    ten = (TEN.replace("#", str(i)) for i in range(selections // 10))
+    return "query All($first: Int = 5, $deep: Boolean! = true) {\n" + "".join(ten) + "}\n"
+
+
+CASES = [
+    ("1,000 types", lambda: (schema(1000), SMALL)),
+    ("10,000 types", lambda: (schema(10000), SMALL)),
+    ("100,000 types", lambda: (schema(100000), SMALL)),
+    ("1,000 types, 1,000 selections", lambda: (schema(1000), document(1000))),
+    ("1,000 types, 10,000 selections", lambda: (schema(1000), document(10000))),
+    ("10,000 types, 1,000 selections", lambda: (schema(10000), document(1000))),
+    ("10,000 types, 10,000 selections", lambda: (schema(10000), document(10000))),
+]
+
+
+def cost(program, folder, texts):
+    """The instructions and the kilobytes that the program takes for a schema and a document, and its first line."""
+    for name, text in zip(("schema", "document"), texts):
+        with open(os.path.join(folder, name), "w", encoding="utf-8") as file:
+            file.write(text)
+    words = [program, "--indent", "two", "document", "schema"]
+    counter = ["valgrind", "--tool=callgrind", "--callgrind-out-file=/dev/null"]
+    counted = subprocess.run([*counter, *words], cwd=folder, capture_output=True, text=True, check=False)
+    found = re.search(r"Collected : (\d+)", counted.stderr)
+    if not found:
+        sys.exit(f"speed.py: callgrind counted nothing: {counted.stderr[-300:]}")
+    measure = "import resource, subprocess, sys; subprocess.run(sys.argv[1:], stdout=subprocess.DEVNULL); print(resource.getrusage(resource.RUSAGE_CHILDREN).ru_maxrss)"
+    held = subprocess.run([sys.executable, "-c", measure, *words], cwd=folder, capture_output=True, text=True, check=True)
+    return int(found[1]), int(held.stdout), counted.stdout.split("\n")[0]
+
+
+def main():
+    """Prints a line for each case."""
+    program = os.path.abspath(sys.argv[1])
+    word = sys.argv[2] if len(sys.argv) > 2 else ""
+    resource.setrlimit(resource.RLIMIT_STACK, (resource.RLIM_INFINITY, resource.RLIM_INFINITY))
+    with tempfile.TemporaryDirectory() as folder:
+        least, held, _ = cost(program, folder, ("type Query { a: Int }", "{ a }"))
+        print(f"smallest pair: {least:,} instructions, {held:,} KB")
+        for name, make in CASES:
+            if word not in name:
+                continue
+            texts = make()
+            size = sum(len(text.encode()) for text in texts)
+            instructions, memory, answer = cost(program, folder, texts)
+            instructions, memory = instructions - least, (memory - held) * 1024
+            print(f"| {name} | {size:,} | {answer} | {instructions:,} | {instructions / size:.1f} | {memory:,} | {memory / size:.1f} |", flush=True)
+
+
+main()
