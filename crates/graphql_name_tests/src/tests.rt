@@ -266,6 +266,15 @@ fn shares_texts(rt: HostRuntime) {
 }
 
 #[test]
+fn takes_texts_as_they_are(rt: HostRuntime) {
+    let alloc = rt.alloc();
+    let text = got(&rt, String::from_str(alloc, "a é"));
+    let kept = got(&rt, NodeStr::from_string_parsed(text, span(0, 2, 8)));
+    same_place(&rt, kept.location(), Some(span(0, 2, 8)));
+    prints(&rt, alloc, &kept, "a é");
+}
+
+#[test]
 fn ignores_places_of_texts(rt: HostRuntime) {
     let text = got(
         &rt,

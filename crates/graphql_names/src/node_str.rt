@@ -1,6 +1,7 @@
 //! Shared texts with the places that they were read from.
 ghost use Rattle.std.specs.Prelude.{◌≡◌, IfOk, Some, None, nat_eq};
 ghost use Rattle.std.specs.Rc.{rc_str_bytes};
+ghost use Rattle.std.specs.String.{string_bytes};
 ghost use Rattle.std.specs.Cmp;
 ghost use Rattle.std.specs.Cmp.{on_equiv, on_per};
 ghost use Rattle.std.specs.Cmp.Lexicographic.{pointwise, nat_list_eq_equiv};
@@ -68,6 +69,16 @@ impl NodeStr {
             shared: RcStr::from_str(alloc, text)?,
             location: Some(location),
         })
+    }
+
+    /// `text`, which was read from `location`. Its bytes are not copied.
+    pub fn from_string_parsed(text: String, location: SourceSpan) -> Result<NodeStr, AllocError>
+        ensures text { IfOk result (λ n. n.text ≡ string_bytes text) }
+        ensures location { IfOk result (λ n. n.location ≡ Some location) }
+    {
+        let shared = RcStr::from_string(text)?;
+        let location = Some(location);
+        Ok(NodeStr { shared, location })
     }
 
     /// The text.

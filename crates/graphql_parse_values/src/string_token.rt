@@ -57,5 +57,5 @@ pub fn description(alloc: Global, tokens: &mut Source<'_>, file: FileId) -> Resu
     let begin = begin(tokens);
     let text = string_text(alloc, tokens)?;
     let place = since(tokens, file, begin);
-    Ok(NodeStr::new_str_parsed(alloc, text.as_str(), place)?)
+    Ok(NodeStr::from_string_parsed(text, place)?)
 }
