@@ -1,6 +1,6 @@
 -- Texts with their escapes replaced.
-use Rattle.std.proofs.Common.{◌≡◌, ◌⊎◌, ℕ, zero, suc, ◌+◌, ◌-◌, ◌<◌, ◌≤◌, Bool, true, false, cond, not, ◌&&◌, ◌==◌, List, [], ◌∷◌, ◌++◌, length, take, drop, get_or, Option, Some, None, refl, sym, ap, ◌∙◌, subst, inl, inr, arith, one-add, eqb-true, leb-true, IsUtf8, IsCharBoundary}
-use Rattle.std.specs.List.{prefix_len}
+use Rattle.std.proofs.Common.{◌≡◌, ◌⊎◌, ℕ, zero, suc, ◌+◌, ◌-◌, ◌<◌, ◌≤◌, Bool, true, false, cond, not, ◌&&◌, ◌||◌, ◌==◌, List, [], ◌∷◌, ◌++◌, length, take, drop, get_or, Option, Some, None, refl, sym, ap, ◌∙◌, subst, inl, inr, arith, one-add, eqb-true, leb-true, IsUtf8, IsCharBoundary}
+use Rattle.std.specs.List.{prefix_len, list_any}
 use Rattle.std.proofs.lemmas.Bool.{and_parts, and_from, not-false, cases_order}
 use Rattle.std.proofs.lemmas.Option.{slice_get_within, get_or_from_slice_get}
 use Rattle.std.specs.Prelude.{slice_get}
@@ -252,3 +252,16 @@ characters_more (b ∷ text) h = replaced_step block_character_at b text (charac
 
 pub characters_plain : (text : List ℕ) → replaced block_character_at 0 text ≡ take (prefix_len is_plain text) text ++ replaced block_character_at 0 (drop (prefix_len is_plain text) text)
 characters_plain text = replaced_plain block_character_at block_keeps text
+
+-- a text without a backslash is kept as it is
+pub all_kept : (text : List ℕ) → list_any (λ b. b == 92) text ≡ false → replaced block_character_at 0 text ≡ text
+unfolding replaced
+all_kept [] h = refl
+all_kept (b ∷ text) h = go (b == 92) refl h (all_kept text)
+  where
+    go : (t : Bool) → (b == 92) ≡ t → t || list_any (λ b. b == 92) text ≡ false → (list_any (λ b. b == 92) text ≡ false → replaced block_character_at 0 text ≡ text) → replaced block_character_at 0 (b ∷ text) ≡ b ∷ text
+    go true e h more = absurd cc
+    go false e h more =
+        let plain : is_plain b ≡ true = rw e refl in
+        let one : (block_character_at (b ∷ text)).0 ++ replaced block_character_at ((block_character_at (b ∷ text)).1 - 1) text ≡ b ∷ replaced block_character_at 0 text = ap (λ (p : List ℕ × ℕ). p.0 ++ replaced block_character_at (p.1 - 1) text) (block_keeps b text plain) in
+        one ∙ ap (λ (rest : List ℕ). b ∷ rest) (more h)

@@ -5,6 +5,7 @@ pub mod Strings
 pub mod Blocks
 pub mod Tokens
 pub mod Terminals
+pub mod Words
 pub mod Lex
 pub mod Cursor
 pub mod Values

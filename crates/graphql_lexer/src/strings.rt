@@ -26,19 +26,33 @@ pub fn string_value(alloc: Global, token: &str) -> Result<String, AllocError>
     requires { Enclosed (34 ∷ []) token.now }
     ensures { IfOk result (λ value. string_bytes value ≡ spec.string_value token.now) }
 {
-    let mut value = String::new(alloc);
-    push_parts(&mut value, between(token, 1))?;
+    let text = between(token, 1);
+    let mut value = String::with_capacity(alloc, text.len())?;
+    push_parts(&mut value, text)?;
+    Ok(value)
+}
+
+/// What a block string of this raw value stands for.
+fn value_of_raw(alloc: Global, raw: &str) -> Result<String, AllocError>
+    ensures { IfOk result (λ value. string_bytes value ≡ blocks.block_string_value raw.now) }
+{
+    let mut value = String::with_capacity(alloc, raw.len())?;
+    push_block(&mut value, raw)?;
     Ok(value)
 }
 
 /// What a BlockString token of this text stands for. The error is that memory ran out.
+///
+/// A text without `\` is its own raw value.
 #[tactic(auto, using(crate::proofs::Forms::three_marks), unfolding(crate::specs::Blocks::raw_value, crate::specs::Blocks::block_value))]
 pub fn block_value(alloc: Global, token: &str) -> Result<String, AllocError>
     requires { Enclosed blocks.quotes token.now }
     ensures { IfOk result (λ value. string_bytes value ≡ blocks.block_value token.now) }
 {
-    let raw = raw_value(alloc, between(token, 3))?;
-    let mut value = String::new(alloc);
-    push_block(&mut value, raw.as_str())?;
-    Ok(value)
+    let text = between(token, 3);
+    if text.as_bytes().contains(&b'\\') {
+        let raw = raw_value(alloc, text)?;
+        return value_of_raw(alloc, raw.as_str());
+    }
+    value_of_raw(alloc, text)
 }

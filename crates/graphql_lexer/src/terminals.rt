@@ -1,51 +1,84 @@
 //! Which terminal symbol a token is (appendix B).
 ghost use Rattle.std.specs.Prelude.{◌≡◌, map};
 ghost use Rattle.graphql_lexer.specs.Terminals as spec;
+ghost use Rattle.graphql_lexer.specs.Words as first_byte;
 
 use crate::terminal::Terminal;
 use crate::token::TokenKind;
 
-/// The keywords, and the names of directive locations (section 3.13).
-const WORDS: [(&str, Terminal); 38] = [
-    ("query", Terminal::Query),
-    ("mutation", Terminal::Mutation),
-    ("subscription", Terminal::Subscription),
+// The keywords (appendix B), and the names of directive locations (section 3.13), by their first byte.
+
+const KEYWORDS_D: &[(&str, Terminal)] = &[("directive", Terminal::Directive)];
+
+const KEYWORDS_E: &[(&str, Terminal)] = &[("extend", Terminal::Extend), ("enum", Terminal::Enum)];
+
+const KEYWORDS_F: &[(&str, Terminal)] = &[
     ("fragment", Terminal::Fragment),
-    ("on", Terminal::On),
-    ("true", Terminal::True),
     ("false", Terminal::False),
-    ("null", Terminal::Null),
-    ("extend", Terminal::Extend),
+];
+
+const KEYWORDS_I: &[(&str, Terminal)] = &[
+    ("interface", Terminal::Interface),
+    ("input", Terminal::Input),
+    ("implements", Terminal::Implements),
+];
+
+const KEYWORDS_M: &[(&str, Terminal)] = &[("mutation", Terminal::Mutation)];
+
+const KEYWORDS_N: &[(&str, Terminal)] = &[("null", Terminal::Null)];
+
+const KEYWORDS_O: &[(&str, Terminal)] = &[("on", Terminal::On)];
+
+const KEYWORDS_Q: &[(&str, Terminal)] = &[("query", Terminal::Query)];
+
+const KEYWORDS_R: &[(&str, Terminal)] = &[("repeatable", Terminal::Repeatable)];
+
+const KEYWORDS_S: &[(&str, Terminal)] = &[
+    ("subscription", Terminal::Subscription),
     ("schema", Terminal::Schema),
     ("scalar", Terminal::Scalar),
-    ("type", Terminal::Type),
-    ("interface", Terminal::Interface),
-    ("union", Terminal::Union),
-    ("enum", Terminal::Enum),
-    ("input", Terminal::Input),
-    ("directive", Terminal::Directive),
-    ("implements", Terminal::Implements),
-    ("repeatable", Terminal::Repeatable),
-    ("QUERY", Terminal::Location),
-    ("MUTATION", Terminal::Location),
-    ("SUBSCRIPTION", Terminal::Location),
+];
+
+const KEYWORDS_T: &[(&str, Terminal)] = &[("true", Terminal::True), ("type", Terminal::Type)];
+
+const KEYWORDS_U: &[(&str, Terminal)] = &[("union", Terminal::Union)];
+
+const LOCATIONS_A: &[(&str, Terminal)] = &[("ARGUMENT_DEFINITION", Terminal::Location)];
+
+const LOCATIONS_E: &[(&str, Terminal)] = &[
+    ("ENUM", Terminal::Location),
+    ("ENUM_VALUE", Terminal::Location),
+];
+
+const LOCATIONS_F: &[(&str, Terminal)] = &[
     ("FIELD", Terminal::Location),
     ("FRAGMENT_DEFINITION", Terminal::Location),
     ("FRAGMENT_SPREAD", Terminal::Location),
-    ("INLINE_FRAGMENT", Terminal::Location),
-    ("VARIABLE_DEFINITION", Terminal::Location),
-    ("SCHEMA", Terminal::Location),
-    ("SCALAR", Terminal::Location),
-    ("OBJECT", Terminal::Location),
     ("FIELD_DEFINITION", Terminal::Location),
-    ("ARGUMENT_DEFINITION", Terminal::Location),
+];
+
+const LOCATIONS_I: &[(&str, Terminal)] = &[
+    ("INLINE_FRAGMENT", Terminal::Location),
     ("INTERFACE", Terminal::Location),
-    ("UNION", Terminal::Location),
-    ("ENUM", Terminal::Location),
-    ("ENUM_VALUE", Terminal::Location),
     ("INPUT_OBJECT", Terminal::Location),
     ("INPUT_FIELD_DEFINITION", Terminal::Location),
 ];
+
+const LOCATIONS_M: &[(&str, Terminal)] = &[("MUTATION", Terminal::Location)];
+
+const LOCATIONS_O: &[(&str, Terminal)] = &[("OBJECT", Terminal::Location)];
+
+const LOCATIONS_Q: &[(&str, Terminal)] = &[("QUERY", Terminal::Location)];
+
+const LOCATIONS_S: &[(&str, Terminal)] = &[
+    ("SUBSCRIPTION", Terminal::Location),
+    ("SCHEMA", Terminal::Location),
+    ("SCALAR", Terminal::Location),
+];
+
+const LOCATIONS_U: &[(&str, Terminal)] = &[("UNION", Terminal::Location)];
+
+const LOCATIONS_V: &[(&str, Terminal)] = &[("VARIABLE_DEFINITION", Terminal::Location)];
 
 /// The symbol of the first word of the table that the text spells, and `Name` where it spells none.
 #[tactic(auto, using(crate::proofs::Words::word_here, crate::proofs::Words::word_behind))]
@@ -60,12 +93,46 @@ fn find_word(table: &[(&str, Terminal)], text: &[u8]) -> Terminal
     Terminal::Name
 }
 
-/// The keyword that a name is, and `Name` where it is none.
+/// The keywords, and the names of directive locations, that begin with a byte.
 #[tactic(auto, unfolding(crate::specs::Terminals::words))]
+fn words_with(first: u8) -> &'static [(&'static str, Terminal)]
+    ensures { map (λ w. (w.0.now, w.1)) result.now ≡ first_byte.starting first spec.words }
+{
+    match first {
+        b'd' => KEYWORDS_D,
+        b'e' => KEYWORDS_E,
+        b'f' => KEYWORDS_F,
+        b'i' => KEYWORDS_I,
+        b'm' => KEYWORDS_M,
+        b'n' => KEYWORDS_N,
+        b'o' => KEYWORDS_O,
+        b'q' => KEYWORDS_Q,
+        b'r' => KEYWORDS_R,
+        b's' => KEYWORDS_S,
+        b't' => KEYWORDS_T,
+        b'u' => KEYWORDS_U,
+        b'A' => LOCATIONS_A,
+        b'E' => LOCATIONS_E,
+        b'F' => LOCATIONS_F,
+        b'I' => LOCATIONS_I,
+        b'M' => LOCATIONS_M,
+        b'O' => LOCATIONS_O,
+        b'Q' => LOCATIONS_Q,
+        b'S' => LOCATIONS_S,
+        b'U' => LOCATIONS_U,
+        b'V' => LOCATIONS_V,
+        _ => &[],
+    }
+}
+
+/// The keyword that a name is, and `Name` where it is none.
 fn spelled(text: &[u8]) -> Terminal
     ensures { result ≡ spec.spelled spec.words text.now }
 {
-    find_word(&WORDS, text)
+    match text {
+        [] => Terminal::Name,
+        [first, ..] => find_word(words_with(*first), text),
+    }
 }
 
 /// The terminal symbol of a token of this kind and text.

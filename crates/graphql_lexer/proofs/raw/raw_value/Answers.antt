@@ -8,7 +8,7 @@ use Rattle.graphql_lexer.proofs.raw.raw_value.Goals as goal
 pub characters-init : goal.characters-init
 characters-init c = record {
   text = plain_utf8 c.args.text.now c.in_ok-rest.rest.now c.in_ok-rest.ensures.rest c.utf8.text;
-  so_far = plain_so_far block_character_at block_keeps [] (string_bytes c.push_plain.new.out) c.args.text.now c.in_ok-rest.rest.now (c.in_ok-rest.ensures.pushed ∙ ap (λ (bytes : List ℕ). bytes ++ take (plain_of c.args.text.now) c.args.text.now) c.new-out.ensures.bytes) c.in_ok-rest.ensures.rest;
+  so_far = plain_so_far block_character_at block_keeps [] (string_bytes c.push_plain.new.out) c.args.text.now c.in_ok-rest.rest.now (c.in_ok-rest.ensures.pushed ∙ ap (λ (bytes : List ℕ). bytes ++ take (plain_of c.args.text.now) c.args.text.now) c.in_ok-out.ensures.bytes) c.in_ok-rest.ensures.rest;
   begins = plain_begins c.args.text.now c.in_ok-rest.rest.now c.in_ok-rest.ensures.rest;
 }
 
