@@ -1,4 +1,4 @@
--- In a fold no two things stand under one name, so that lists that are rearranged are judged over the same schema.
+-- In a fold no two things stand under one name, so that lists that are rearranged leave equal schemas after validation.
 use Rattle.std.proofs.Common.{◌≡◌, ℕ, Bool, true, false, ◌||◌, List, [], ◌∷◌, ◌++◌, map, bytes_eq, refl, sym, ap, subst, ◌∙◌, true≢false, if◌then◌else◌}
 use Rattle.std.specs.List.{IsDistinct, AllByRecursion}
 use Rattle.std.specs.Map.{keys_of}
@@ -13,7 +13,7 @@ use Rattle.graphql_folding.specs.Components.{components, field_key, input_key}
 use Rattle.graphql_folding.specs.Fold.{fold, folded_type, chosen_directive}
 use Rattle.graphql_rule_definitions.specs.Kept.{validated}
 use Rattle.graphql_rule_definitions.proofs.Same.{read_the_same}
-use Rattle.graphql_rearranging_laws.specs.Judging.{FoldsAreDistinct, RearrangedJudgeAlike}
+use Rattle.graphql_rearranging_laws.specs.Judging.{FoldsAreDistinct, RearrangedLeaveEqual, RearrangedJudgeAlike}
 use Rattle.graphql_rearranging_laws.proofs.EqualAfter.{equal_after}
 use Rattle.graphql_rearranging_laws.proofs.Marks.{are_equal}
 
@@ -64,6 +64,9 @@ folds_distinct built_in first ds = record {
     each [] = tt
     each (t ∷ ts) = ((distinct_firsts field_key (λ g. g) (components (λ p. p.fields) (numbered first (built_in ++ ds)) t), distinct_firsts input_key (λ g. g) (components (λ p. p.inputs) (numbered first (built_in ++ ds)) t)), each ts)
 
+pub left_equal : RearrangedLeaveEqual
+left_equal built_in i j ds es r hd he =
+    equal_after (fold built_in i ds) (fold built_in j es) (folds_distinct built_in i ds) (folds_distinct built_in j es) (are_equal built_in i j ds es r hd he)
+
 pub judge_alike : RearrangedJudgeAlike
-judge_alike built_in i j ds es r hd he = read_the_same (validated (fold built_in i ds)) (validated (fold built_in j es))
-    (equal_after (fold built_in i ds) (fold built_in j es) (folds_distinct built_in i ds) (folds_distinct built_in j es) (are_equal built_in i j ds es r hd he))
+judge_alike built_in i j ds es r hd he = read_the_same (validated (fold built_in i ds)) (validated (fold built_in j es)) (left_equal built_in i j ds es r hd he)

@@ -3,9 +3,8 @@
 use Rattle.std.proofs.Common.{◌≡◌, Bool, true, false, not, cond, List, [], ◌∷◌, ◌++◌, map, filter, refl, sym, subst, ◌∙◌, inl, inr, None, Some, Contains, if◌then◌else◌}
 use Rattle.std.proofs.lemmas.Option.{same_Some}
 use Rattle.std.proofs.lemmas.List.Elements.{Contains-append_right, Contains-append_cases}
-use Rattle.graphql_names.specs.Placed.{Place, Placed}
+use Rattle.graphql_names.specs.Placed.{Place}
 use Rattle.graphql_names.specs.Places.{is_built_in}
-use Rattle.graphql_folding.specs.in_directives.DirectiveTree.{DirectiveDefinitionTree}
 use Rattle.graphql_folding.specs.in_definitions.DefinitionTree.{DefinitionTree}
 use Rattle.graphql_folding.specs.in_components.Lists.{firsts}
 use Rattle.graphql_folding.specs.in_schema_types.TypeParts.{TypeParts, TypeDefinition, type_here, type_extension_here, bare, definition_by}
@@ -18,9 +17,6 @@ use Rattle.graphql_rearranging_laws.specs.Elsewhere.{ArePartsElsewhere, IsElsewh
 use Rattle.graphql_rearranging_laws.specs.Adopting.{SettledStandElsewhere}
 
 -- ---- one definition
-
-abbrev Directive : Type 0
-Directive = Placed Place (DirectiveDefinitionTree Place)
 
 -- of a type
 pub type_elsewhere : (d : DefinitionTree Place) (x : TypeDefinition Place) → type_here d ≡ Some x → type_extension_here d ≡ None → directive_here d ≡ None → is_built_in x.place ≡ false → ArePartsElsewhere x.parts → IsElsewhere d

@@ -37,6 +37,9 @@ use Rattle.graphql_rearranging_laws.proofs.Moved.{Placed_so, moved, repeated, ha
 abbrev ToldToo : (Fault → Type 0) → Fault → Type 0
 ToldToo Fails' fault = (other : Fault) × (Fails' other × (other.breach ≡ fault.breach))
 
+told_of : {fault other : Fault} → fault ≡ other → other.breach ≡ fault.breach
+told_of same = sym (ap (λ (f : Fault). f.breach) same)
+
 some_of : {A B : Type 0} (f : A → B) (o : Option A) (b : B) → option_map f o ≡ Some b → (a : A) × ((o ≡ Some a) × (f a ≡ b))
 some_of f None b e = cc
 some_of f (Some a) b e = (a, (refl, same_Some (f a) b e))
@@ -87,43 +90,24 @@ module _ (built_in : Definitions) (i j : ℕ) (ds es : Definitions) (r : IsRearr
   executable_too fault (before, (d, ((after, stands), (is, says)))) =
       let any : list_any is_executable ds ≡ true = ap (list_any is_executable) stands ∙ list_any-append is_executable before (d ∷ after) ∙ ap (λ b. list_any is_executable before || (b || list_any is_executable after)) is ∙ or_true (list_any is_executable before) in
       let (front, (e, (stands', is'))) = any_stands is_executable es (sym r.executables ∙ any) in
-      (At e rule.ExecutableDefinition, (rule.executable_definition (front, (e, (stands', (is', refl)))), sym (ap (λ (f : Fault). f.breach) says)))
+      (At e rule.ExecutableDefinition, (rule.executable_definition (front, (e, (stands', (is', refl)))), told_of says))
 
   schema_too : (fault : Fault) → rule.Somewhere built_in ds rule.SchemaDefinitionCollisionAt fault → ToldToo There fault
   schema_too fault (before, (d, (stands, (is, seen, says)))) =
       let p = to_there defines_schema r.schemas before d stands is in
-      (At p.it rule.SchemaDefinitionCollision, (rule.schema_definition_collision (p.front, (p.it, (p.stands, (p.sorted, first_too p.front before p.front_same ∙ seen, refl)))), sym (ap (λ (f : Fault). f.breach) says)))
+      (At p.it rule.SchemaDefinitionCollision, (rule.schema_definition_collision (p.front, (p.it, (p.stands, (p.sorted, first_too p.front before p.front_same ∙ seen, refl)))), told_of says))
 
   directive_too : (fault : Fault) → rule.Somewhere built_in ds rule.DirectiveDefinitionCollisionAt fault → ToldToo There fault
   directive_too fault (before, (d, (stands, (own, (here, seen, told))))) =
-      let p = to_there (defines_directive (directive_name own)) (r.directives (directive_name own)) before d stands
-      (ap (λ o. option_map_or (λ x. bytes_eq (directive_name own) (directive_name x)) o false) here ∙ (bytes_eq-Decides (directive_name own) (directive_name own)).1 refl) in
+      let n = directive_name own in
+      let p = to_there (defines_directive n) (r.directives n) before d stands (ap (λ o. option_map_or (λ x. bytes_eq n (directive_name x)) o false) here ∙ (bytes_eq-Decides n n).1 refl) in
       let (own', (here', same)) = given_too directive_here directive_unplaced_here plain_directive_definition directive_unplaced d p.it p.same own here in
-      let names : directive_name own' ≡ directive_name own = ap (λ (x : DirectiveDefinitionTree (Unit {0})). x.name.it) same in (
-        At p.it (rule.DirectiveDefinitionCollision (directive_name own')),
-        (
-          rule.directive_definition_collision (
-            p.front,
-            (
-              p.it,
-              (
-                p.stands,
-                (
-                  own',
-                  (
-                    here',
-                    ap (λ n. has_name directive_name n (directives_in p.front)) names ∙ has_name-filter directive_name plain_directive_definition (directive_name own) (directives_in p.front)
-                        ∙ ap (λ l. is_some (slice_get l 0)) (directives_agree (directive_name own) p.front before p.front_same)
-                        ∙ sym (has_name-filter directive_name plain_directive_definition (directive_name own) (directives_in before)) ∙ seen,
-                    refl,
-                  ),
-                ),
-              ),
-            ),
-          ),
-          ap rule.DirectiveDefinitionCollision names ∙ sym (ap (λ (f : Fault). f.breach) told),
-        ),
-      )
+      let names : directive_name own' ≡ n = ap (λ (x : DirectiveDefinitionTree (Unit {0})). x.name.it) same in
+      let seen' : has_name directive_name (directive_name own') (directives_in p.front) ≡ true =
+      ap (λ m. has_name directive_name m (directives_in p.front)) names ∙ has_name-filter directive_name plain_directive_definition n (directives_in p.front)
+      ∙ ap (λ l. is_some (slice_get l 0)) (directives_agree n p.front before p.front_same) ∙ sym (has_name-filter directive_name plain_directive_definition n (directives_in before)) ∙ seen in
+      let fails = rule.directive_definition_collision (p.front, (p.it, (p.stands, (own', (here', seen', refl))))) in
+      (At p.it (rule.DirectiveDefinitionCollision (directive_name own')), (fails, ap rule.DirectiveDefinitionCollision names ∙ told_of told))
 
   -- a second definition of a type
   type_moved : (before : Definitions) (d : DefinitionTree Place) (t : TypeDefinition Place) → StandsAfter ds before d → rule.IsSecondDefinition built_in ds before d t
@@ -132,47 +116,24 @@ module _ (built_in : Definitions) (i j : ℕ) (ds es : Definitions) (r : IsRearr
       let n = type_name t in
       let p = to_there (defines_type n) (r.types n) before d stands (ap (λ o. option_map_or (λ x. bytes_eq n (type_name x)) o false) here ∙ (bytes_eq-Decides n n).1 refl) in
       let (u, (here', same)) = given_too type_here type_here unplaced_type_definition type_unplaced d p.it p.same t here in
-      let names : type_name u ≡ n = ap (λ (x : TypeDefinition (Unit {0})). x.parts.name.it) same in (
-        p.front,
-        (
-          p.it,
-          (
-            u,
-            (
-              p.stands,
-              (
-                (
-                  here',
-                  ap (λ m. has_name type_name m (types_in (built_in ++ p.front))) names ∙ has_name-filter type_name unplaced_type_definition n (types_in (built_in ++ p.front))
-                      ∙ ap (λ l. is_some (slice_get l 0)) (types_agree n (built_in ++ p.front) (built_in ++ before) (agree_behind (defines_type n) built_in p.front before p.front_same))
-                      ∙ sym (has_name-filter type_name unplaced_type_definition n (types_in (built_in ++ before))) ∙ seen,
-                ),
-                names,
-              ),
-            ),
-          ),
-        ),
-      )
+      let names : type_name u ≡ n = ap (λ (x : TypeDefinition (Unit {0})). x.parts.name.it) same in
+      let seen' : has_name type_name (type_name u) (types_in (built_in ++ p.front)) ≡ true =
+      ap (λ m. has_name type_name m (types_in (built_in ++ p.front))) names ∙ has_name-filter type_name unplaced_type_definition n (types_in (built_in ++ p.front))
+      ∙ ap (λ l. is_some (slice_get l 0)) (types_agree n (built_in ++ p.front) (built_in ++ before) (agree_behind (defines_type n) built_in p.front before p.front_same))
+      ∙ sym (has_name-filter type_name unplaced_type_definition n (types_in (built_in ++ before))) ∙ seen in
+      (p.front, (p.it, (u, (p.stands, ((here', seen'), names)))))
 
   type_too : (fault : Fault) → rule.Somewhere built_in ds (rule.TypeDefinitionCollisionAt built_in ds) fault → ToldToo There fault
   type_too fault (before, (d, (stands, (t, (second, scalar, told))))) =
-      let (front, (e, (u, (stands', (second', names))))) = type_moved before d t stands second in (
-        At e (rule.TypeDefinitionCollision (type_name u)),
-        (
-          rule.type_definition_collision (front, (e, (stands', (u, (second', ap (is_built_in_scalar built_in ds) names ∙ scalar, refl))))),
-          ap rule.TypeDefinitionCollision names ∙ sym (ap (λ (f : Fault). f.breach) told),
-        ),
-      )
+      let (front, (e, (u, (stands', (second', names))))) = type_moved before d t stands second in
+      let fails = rule.type_definition_collision (front, (e, (stands', (u, (second', ap (is_built_in_scalar built_in ds) names ∙ scalar, refl))))) in
+      (At e (rule.TypeDefinitionCollision (type_name u)), (fails, ap rule.TypeDefinitionCollision names ∙ told_of told))
 
   scalar_too : (fault : Fault) → rule.Somewhere built_in ds (rule.BuiltInScalarTypeRedefinitionAt built_in ds) fault → ToldToo There fault
   scalar_too fault (before, (d, (stands, (t, (second, scalar, told))))) =
-      let (front, (e, (u, (stands', (second', names))))) = type_moved before d t stands second in (
-        At e (rule.BuiltInScalarTypeRedefinition (type_name u)),
-        (
-          rule.built_in_scalar_type_redefinition (front, (e, (stands', (u, (second', ap (is_built_in_scalar built_in ds) names ∙ scalar, refl))))),
-          ap rule.BuiltInScalarTypeRedefinition names ∙ sym (ap (λ (f : Fault). f.breach) told),
-        ),
-      )
+      let (front, (e, (u, (stands', (second', names))))) = type_moved before d t stands second in
+      let fails = rule.built_in_scalar_type_redefinition (front, (e, (stands', (u, (second', ap (is_built_in_scalar built_in ds) names ∙ scalar, refl))))) in
+      (At e (rule.BuiltInScalarTypeRedefinition (type_name u)), (fails, ap rule.BuiltInScalarTypeRedefinition names ∙ told_of told))
 
   -- ---- extensions
 
@@ -188,7 +149,7 @@ module _ (built_in : Definitions) (i j : ℕ) (ds es : Definitions) (r : IsRearr
   schema_extension_too : (fault : Fault) → rule.Somewhere built_in ds (rule.OrphanSchemaExtensionAt built_in ds) fault → ToldToo There fault
   schema_extension_too fault (before, (d, (stands, (is, none, told)))) =
       let p = to_there extends_schema r.schema_extensions before d stands is in
-      (At p.it rule.OrphanSchemaExtension, (rule.orphan_schema_extension (p.front, (p.it, (p.stands, (p.sorted, sym schema_defined ∙ none, refl)))), sym (ap (λ (f : Fault). f.breach) told)))
+      (At p.it rule.OrphanSchemaExtension, (rule.orphan_schema_extension (p.front, (p.it, (p.stands, (p.sorted, sym schema_defined ∙ none, refl)))), told_of told))
 
   -- an extension of a type, moved
   extension_moved : (before : Definitions) (d : DefinitionTree Place) (e : TypeParts Place) → StandsAfter ds before d → type_extension_here d ≡ Some e
@@ -202,76 +163,31 @@ module _ (built_in : Definitions) (i j : ℕ) (ds es : Definitions) (r : IsRearr
   orphan_too : (fault : Fault) → rule.Somewhere built_in ds (rule.OrphanTypeExtensionAt built_in ds) fault → ToldToo There fault
   orphan_too fault (before, (d, (stands, (e, (here, none, told))))) =
       let (front, (d', (e', (stands', (here', same))))) = extension_moved before d e stands here in
-      let names : e'.name.it ≡ e.name.it = ap (λ (x : TypeParts (Unit {0})). x.name.it) same in (
-        At d' (rule.OrphanTypeExtension e'.name.it),
-        (
-          rule.orphan_type_extension (
-            front,
-            (
-              d',
-              (
-                stands',
-                (
-                  e',
-                  (
-                    here',
-                    none_of unplaced_type_definition (type_named e'.name.it (built_in ++ es)) (ap (λ n. option_map unplaced_type_definition (type_named n (built_in ++ es))) names ∙ sym (named_same e.name.it) ∙ ap (option_map unplaced_type_definition) none),
-                    refl,
-                  ),
-                ),
-              ),
-            ),
-          ),
-          ap rule.OrphanTypeExtension names ∙ sym (ap (λ (f : Fault). f.breach) told),
-        ),
-      )
+      let names : e'.name.it ≡ e.name.it = ap (λ (x : TypeParts (Unit {0})). x.name.it) same in
+      let none' : type_named e'.name.it (built_in ++ es) ≡ None =
+      none_of unplaced_type_definition (type_named e'.name.it (built_in ++ es)) (ap (λ n. option_map unplaced_type_definition (type_named n (built_in ++ es))) names ∙ sym (named_same e.name.it) ∙ ap (option_map unplaced_type_definition) none) in
+      let fails = rule.orphan_type_extension (front, (d', (stands', (e', (here', none', refl))))) in
+      (At d' (rule.OrphanTypeExtension e'.name.it), (fails, ap rule.OrphanTypeExtension names ∙ told_of told))
 
   mismatch_too : (fault : Fault) → rule.Somewhere built_in ds (rule.TypeExtensionKindMismatchAt built_in ds) fault → ToldToo There fault
   mismatch_too fault (before, (d, (stands, (e, (t, (here, is, differ, told)))))) =
       let (front, (d', (e', (stands', (here', same))))) = extension_moved before d e stands here in
       let names : e'.name.it ≡ e.name.it = ap (λ (x : TypeParts (Unit {0})). x.name.it) same in
       let (t', (is', same_type)) = some_of unplaced_type_definition (type_named e'.name.it (built_in ++ es)) (unplaced_type_definition t)
-      (ap (λ n. option_map unplaced_type_definition (type_named n (built_in ++ es))) names ∙ sym (named_same e.name.it) ∙ ap (option_map unplaced_type_definition) is) in (
-        At d' (rule.TypeExtensionKindMismatch e'.name.it),
-        (
-          rule.type_extension_kind_mismatch (
-            front,
-            (
-              d',
-              (
-                stands',
-                (
-                  e',
-                  (
-                    t',
-                    (
-                      here',
-                      is',
-                      (λ k. same_kind (same_type k).parts.kind (same k).kind) ∙ differ,
-                      refl,
-                    ),
-                  ),
-                ),
-              ),
-            ),
-          ),
-          ap rule.TypeExtensionKindMismatch names ∙ sym (ap (λ (f : Fault). f.breach) told),
-        ),
-      )
+      (ap (λ n. option_map unplaced_type_definition (type_named n (built_in ++ es))) names ∙ sym (named_same e.name.it) ∙ ap (option_map unplaced_type_definition) is) in
+      let differ' : same_kind t'.parts.kind e'.kind ≡ false = (λ k. same_kind (same_type k).parts.kind (same k).kind) ∙ differ in
+      let fails = rule.type_extension_kind_mismatch (front, (d', (stands', (e', (t', (here', is', differ', refl)))))) in
+      (At d' (rule.TypeExtensionKindMismatch e'.name.it), (fails, ap rule.TypeExtensionKindMismatch names ∙ told_of told))
 
   -- ---- components
 
   root_too : (fault : Fault) → rule.DuplicateRootOperationIn built_in ds i fault → ToldToo There fault
   root_too fault (g, (again, told)) =
+      let all_roots = roots i j (built_in ++ ds) (built_in ++ es) types (schemas_same (built_in ++ ds) (built_in ++ es) all) (schema_extensions_same (built_in ++ ds) (built_in ++ es) all) in
       let (h, (again', same)) = repeated (λ (x : Given Place Root). unplaced_root x.it.it) root_key (λ (x : RootOperationTree (Unit {0})). operation_keyword x.operation_type) (λ x. refl)
-      (roots_given i (built_in ++ ds)) (roots_given j (built_in ++ es))
-      (roots i j (built_in ++ ds) (built_in ++ es) types (schemas_same (built_in ++ ds) (built_in ++ es) all) (schema_extensions_same (built_in ++ ds) (built_in ++ es) all)) g again in (
-        record { place = h.it.place; breach = rule.DuplicateRootOperation h.it.it.operation_type },
-        (
-          rule.duplicate_root_operation (h, (again', refl)),
-          ap (λ (x : RootOperationTree (Unit {0})). rule.DuplicateRootOperation x.operation_type) same ∙ sym (ap (λ (f : Fault). f.breach) told),
-        ),
-      )
+      (roots_given i (built_in ++ ds)) (roots_given j (built_in ++ es)) all_roots g again in
+      let breaks = ap (λ (x : RootOperationTree (Unit {0})). rule.DuplicateRootOperation x.operation_type) same in
+      (record { place = h.it.place; breach = rule.DuplicateRootOperation h.it.it.operation_type }, (rule.duplicate_root_operation (h, (again', refl)), breaks ∙ told_of told))
 
   -- in one class of components
   module _ {A B : Type 0} (of : TypeParts Place → List A) (key : Given Place A → List ℕ) (view : Given Place A → B) (view' : A → B) (seen : (g : Given Place A) → view g ≡ view' g.it)
@@ -287,24 +203,11 @@ module _ (built_in : Definitions) (i j : ℕ) (ds es : Definitions) (r : IsRearr
         ∙ (λ m. flat_map of' (all_parts (sym same_type m) (extensions_same (built_in ++ ds) (built_in ++ es) all n m)))
         ∙ ap (λ m. flat_map of' (all_parts (unplaced_type_definition u) (extensions_of (built_in ++ es) m))) (sym same_name)
         ∙ sym (components_seen of view view' seen of' agree j (built_in ++ es) u) in
-        let (h, (again', same_view)) = repeated view key name names (components of (numbered i (built_in ++ ds)) t) (components of (numbered j (built_in ++ es)) u) components_same g again in (
-          record { place = place h.it; breach = breach (type_name u) (key h) },
-          (
-            (
-              u,
-              (
-                h,
-                (
-                  (find_given (λ x. bytes_eq n (type_name x)) (firsts type_name (types_in (built_in ++ es))) u (find-firsts type_name n (types_in (built_in ++ es)) ∙ is)).0,
-                  ap (λ (x : TypeDefinition (Unit {0})). same_kind x.parts.kind k) same_type ∙ same,
-                  again',
-                  refl,
-                ),
-              ),
-            ),
-            (λ m. breach (same_name m) ((names h ∙ ap name same_view ∙ sym (names g)) m)) ∙ sym (ap (λ (f : Fault). f.breach) told),
-          ),
-        )
+        let (h, (again', same_view)) = repeated view key name names (components of (numbered i (built_in ++ ds)) t) (components of (numbered j (built_in ++ es)) u) components_same g again in
+        let there' = (find_given (λ x. bytes_eq n (type_name x)) (firsts type_name (types_in (built_in ++ es))) u (find-firsts type_name n (types_in (built_in ++ es)) ∙ is)).0 in
+        let kinds : same_kind u.parts.kind k ≡ true = ap (λ (x : TypeDefinition (Unit {0})). same_kind x.parts.kind k) same_type ∙ same in
+        let breaks : breach (type_name u) (key h) ≡ breach n (key g) = λ m. breach (same_name m) ((names h ∙ ap name same_view ∙ sym (names g)) m) in
+        (record { place = place h.it; breach = breach (type_name u) (key h) }, ((u, (h, (there', kinds, again', refl))), breaks ∙ told_of told))
 
   -- all rules
   interfaces_too : (k : TypeKind) (place : Text Place → Place) (breach : List ℕ → List ℕ → Breach) (fault : Fault)

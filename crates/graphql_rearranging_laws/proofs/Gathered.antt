@@ -18,6 +18,10 @@ use Rattle.graphql_folding.specs.Listed.{Definitions}
 
 -- ---- lists
 
+pub every : {X : Type 0} (xs : List X) → filter (λ x. true) xs ≡ xs
+every [] = refl
+every (x ∷ xs) = ap (λ l. x ∷ l) (every xs)
+
 module _ {X Y : Type 0} (f : X → Y) where
   pub map-filter : (p : X → Bool) (q : Y → Bool) → ((x : X) → q (f x) ≡ p x) → (xs : List X) → filter q (map f xs) ≡ map f (filter p xs)
   map-filter p q same [] = refl

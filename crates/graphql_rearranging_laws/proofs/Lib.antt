@@ -14,6 +14,7 @@ pub mod Alike
 pub mod Cut
 pub mod Sorts
 pub mod WrittenSorts
-pub mod Passing
+pub mod Permuting
 pub mod Elsewhere
 pub mod Adopted
+pub mod ReadTexts

@@ -6,6 +6,7 @@ use Rattle.std.proofs.lemmas.Slice.Eq.{bytes_eq-Decides}
 use Rattle.graphql_folding.specs.in_components.Lists.{StandsAfter, IsRepeated, each_place_after, firsts, has_name, is_among}
 use Rattle.graphql_folding.proofs.in_components.Firsts.{has_name-push}
 use Rattle.graphql_folding.proofs.in_components.Places.{not_in_nil, Contains-cons}
+use Rattle.graphql_rearranging_laws.proofs.Gathered.{every}
 
 module _ {X Y : Type 0} (f : X → Y) where
   -- where an element stands among those of a sort, it stands in the list
@@ -69,32 +70,14 @@ module _ {X Y : Type 0} (f : X → Y) where
         ∙ ap (λ b. map f (filter sort before) ++ map f (cond b (x ∷ filter sort after) (filter sort after))) holds)
 
   -- what is repeated, by names that f keeps
-  every : (xs : List X) → filter (λ x. true) xs ≡ xs
-  every [] = refl
-  every (x ∷ xs) = ap (λ l. x ∷ l) (every xs)
-
   pub repeated : (key : X → List ℕ) (key' : Y → List ℕ) → ((x : X) → key x ≡ key' (f x)) → (xs ys : List X) → map f xs ≡ map f ys → (x : X) → IsRepeated key xs x → (y : X) × (IsRepeated key ys y × (f y ≡ f x))
   repeated key key' keeps xs ys same x (before, (z, (stands, (is, has)))) =
       let p = moved (λ w. true) xs ys (ap (map f) (every xs) ∙ same ∙ ap (map f) (sym (every ys))) before z stands refl in
-      let fronts : map f p.front ≡ map f before = ap (map f) (sym (every p.front)) ∙ p.front_same ∙ ap (map f) (every before) in (
-        p.it,
-        (
-          (
-            p.front,
-            (
-              p.it,
-              (
-                p.stands,
-                (
-                  refl,
-                  ap (λ n. has_name key n p.front) (keeps p.it ∙ ap key' (p.same ∙ ap f is) ∙ sym (keeps x)) ∙ ap (is_among (key x)) (names_kept p.front ∙ ap (map key') fronts ∙ sym (names_kept before)) ∙ has,
-                ),
-              ),
-            ),
-          ),
-          p.same ∙ ap f is,
-        ),
-      )
+      let fronts : map f p.front ≡ map f before = ap (map f) (sym (every p.front)) ∙ p.front_same ∙ ap (map f) (every before) in
+      let named : key p.it ≡ key x = keeps p.it ∙ ap key' (p.same ∙ ap f is) ∙ sym (keeps x) in
+      let has' : has_name key (key p.it) p.front ≡ true =
+      ap (λ n. has_name key n p.front) named ∙ ap (is_among (key x)) (names_kept p.front ∙ ap (map key') fronts ∙ sym (names_kept before)) ∙ has in
+      (p.it, ((p.front, (p.it, (p.stands, (refl, has')))), p.same ∙ ap f is))
     where
       names_kept : (zs : List X) → map key zs ≡ map key' (map f zs)
       names_kept [] = refl

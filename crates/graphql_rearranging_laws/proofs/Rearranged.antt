@@ -18,7 +18,7 @@ use Rattle.graphql_folding.specs.SchemaFold.{schema_here, schema_extension_here}
 use Rattle.graphql_rearranging_laws.specs.Rearranged.{defines_type, extends_type, defines_directive, defines_schema, extends_schema, AgreeOn, IsRearranged}
 use Rattle.graphql_rearranging_laws.specs.Folding.{RearrangedFoldsAlike}
 use Rattle.graphql_rearranging_laws.specs.Cutting.{CutIsRearranged}
-use Rattle.graphql_rearranging_laws.proofs.Gathered.{gathered, map-filter}
+use Rattle.graphql_rearranging_laws.proofs.Gathered.{every, gathered, map-filter}
 use Rattle.graphql_rearranging_laws.proofs.Parts.{unplaced_type_definition, unplaced_parts, type_unplaced, type_extension_unplaced, types_of, extensions_of, extends_called, types_alike}
 use Rattle.graphql_rearranging_laws.proofs.Roots.{directive_unplaced_here, directive_unplaced, directives_of, told, schema_unplaced_here, schema_unplaced, schemas_in, schema_extension_unplaced_here, schema_extension_unplaced, schema_extensions_in, directives_alike, definition_alike}
 
@@ -55,10 +55,6 @@ rearranged_behind front ds es r = rearranged_joined front front ds es (itself fr
 some_is : {A : Type 0} (o : Option A) → is_some o ≡ option_map_or (λ x. true) o false
 some_is None = refl
 some_is (Some x) = refl
-
-every : {A : Type 0} (xs : List A) → filter (λ x. true) xs ≡ xs
-every [] = refl
-every (x ∷ xs) = ap (λ l. x ∷ l) (every xs)
 
 pub types_agree : (n : List ℕ) (ds es : Definitions) → AgreeOn (defines_type n) ds es → types_of ds n ≡ types_of es n
 types_agree n ds es r = at ds ∙ ap of_all r ∙ sym (at es)

@@ -188,12 +188,16 @@ module _ (texts : Definitions) where
 
 -- ---- the schema definition
 
-abbrev schema_by : (List ℕ → Bool) → SchemaRoots (Unit {0}) → List (DefinitionTree (Unit {0}))
+-- the schema definition, of what stands for it and of its extensions
+abbrev pub schema_with : Told → List (SchemaParts (Unit {0})) → SchemaRoots (Unit {0})
+schema_with base extensions = made_schema tt base.0 (with_ranks base.1 (map nowhere extensions))
+
+abbrev pub schema_by : (List ℕ → Bool) → SchemaRoots (Unit {0}) → List (DefinitionTree (Unit {0}))
 schema_by is_object r = schema_written tt (left_out is_object r) r
 
--- what is written of its definition and extensions, where these are the names of objects
+-- what is written of it, where these are the names of objects
 abbrev pub schema_out : (List ℕ → Bool) → Told → List (SchemaParts (Unit {0})) → List (DefinitionTree (Unit {0}))
-schema_out is_object base extensions = schema_by is_object (made_schema tt base.0 (with_ranks base.1 (map nowhere extensions)))
+schema_out is_object base extensions = schema_by is_object (schema_with base extensions)
 
 -- its extensions, where they apply
 abbrev pub applied_extensions : Definitions → List (SchemaParts (Unit {0}))

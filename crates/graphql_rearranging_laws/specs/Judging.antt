@@ -20,7 +20,12 @@ abbrev pub RearrangedSameVerdict : Type 0
 RearrangedSameVerdict = (built_in : Definitions) (i j : ℕ) (ds es : Definitions) → IsRearranged ds es → AreAllElsewhere ds → AreAllElsewhere es
     → SchemaRules (judged (fold built_in i ds)) ↔ SchemaRules (judged (fold built_in j es))
 
--- what rules read of the schema that validation leaves: with it, all rules on documents are the same
+-- the schemas that validation leaves, over which documents are judged, are equal too
+abbrev pub RearrangedLeaveEqual : Type 0
+RearrangedLeaveEqual = (built_in : Definitions) (i j : ℕ) (ds es : Definitions) → IsRearranged ds es → AreAllElsewhere ds → AreAllElsewhere es
+    → AreEqual (validated (fold built_in i ds)) (validated (fold built_in j es))
+
+-- so that rules on documents read the same of them
 abbrev pub RearrangedJudgeAlike : Type 0
 RearrangedJudgeAlike = (built_in : Definitions) (i j : ℕ) (ds es : Definitions) → IsRearranged ds es → AreAllElsewhere ds → AreAllElsewhere es
     → judged (validated (fold built_in i ds)) ≡ judged (validated (fold built_in j es))

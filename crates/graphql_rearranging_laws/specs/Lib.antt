@@ -5,4 +5,5 @@ pub mod Judging
 pub mod Cutting
 pub mod Writing
 pub mod Adopting
-pub mod Passing
+pub mod Permuting
+pub mod ReadTexts

@@ -1,17 +1,19 @@
 //! Lists of definitions that differ in order and places alone: laws, each the contract of a function that does nothing.
 //!
-//! For the layers above: how lists may differ is said in `specs/Rearranged.antt`. Such lists fold to equal schemas and break the same
-//! folding rules (`specs/Folding.antt`), keep the same rules on schemas and on documents (`specs/Judging.antt`), and what is written
-//! of them is rearranged again (`specs/Writing.antt`). Texts of one list that are cut in two ways are a case of it
-//! (`specs/Cutting.antt`).
+//! How such lists differ is said in `specs/Rearranged.antt`, and what permutations they come of in `specs/Permuting.antt`. They fold
+//! to equal schemas and break the same folding rules (`specs/Folding.antt`), keep the same rules, on documents too
+//! (`specs/Judging.antt`), and what is written of them is rearranged again (`specs/Writing.antt`), as is what the settings of a
+//! builder make of them (`specs/Adopting.antt`). One list from texts that are cut in two ways is a case of it, in which the same is
+//! written (`specs/Cutting.antt`). What all of it comes to for texts that are read stands in `specs/ReadTexts.antt`: begin there.
 #![tactic(auto)]
 
-ghost use Rattle.graphql_rearranging_laws.specs.Passing.{MovedIsRearranged, RearrangingIsAnEquivalence};
+ghost use Rattle.graphql_rearranging_laws.specs.Permuting.{PermutedIsRearranged, RearrangedIsPermuted, RearrangingIsAnEquivalence};
 ghost use Rattle.graphql_rearranging_laws.specs.Adopting.{SettledIsRearranged, CutSettlesAlike, SettledStandElsewhere};
 ghost use Rattle.graphql_rearranging_laws.specs.Folding.{RearrangedFoldsAlike, RearrangedFailAlike, RearrangedKeepTheRules};
-ghost use Rattle.graphql_rearranging_laws.specs.Judging.{RearrangedAreEqual, RearrangedSameVerdict, RearrangedJudgeAlike, EqualAfterValidation, FoldsAreDistinct};
+ghost use Rattle.graphql_rearranging_laws.specs.Judging.{RearrangedAreEqual, RearrangedSameVerdict, RearrangedLeaveEqual, RearrangedJudgeAlike, EqualAfterValidation, FoldsAreDistinct};
 ghost use Rattle.graphql_rearranging_laws.specs.Cutting.{CutIsRearranged, CutKeepsTypes, CutWritesAlike, NumbersAreNotWritten};
-ghost use Rattle.graphql_rearranging_laws.specs.Writing.{RearrangedWritesAlike};
+ghost use Rattle.graphql_rearranging_laws.specs.ReadTexts.{ReadTextsStandElsewhere, ElsewhereIsOwn, LawOfRearranging, LawOfCutting};
+ghost use Rattle.graphql_rearranging_laws.specs.Writing.{RearrangedWritesAlike, RearrangedWritesPermuted};
 
 /// Lists that are rearranged fold to equal schemas, and break the same folding rules.
 pub fn rearranged_lists_fold_alike()
@@ -24,6 +26,7 @@ pub fn rearranged_lists_fold_alike()
 pub fn rearranged_lists_judge_alike()
     ensures equal { RearrangedAreEqual }
     ensures verdict { RearrangedSameVerdict }
+    ensures left { RearrangedLeaveEqual }
     ensures judged { RearrangedJudgeAlike }
 {}
 
@@ -49,14 +52,17 @@ pub fn numbers_are_not_written()
     ensures { NumbersAreNotWritten }
 {}
 
-/// What is written of lists that are rearranged is rearranged.
+/// What is written of lists that are rearranged is rearranged, and so the same definitions in some order.
 pub fn rearranged_lists_write_alike()
-    ensures { RearrangedWritesAlike }
+    ensures rearranged { RearrangedWritesAlike }
+    ensures permuted { RearrangedWritesPermuted }
 {}
 
-/// Neighbours of which no sort has both may change places, again and again; and rearranging is an equivalence.
-pub fn neighbours_may_change_places()
-    ensures moved { MovedIsRearranged }
+/// Permutations that keep the order of what defines, or extends, the same are what lists are rearranged by; and rearranging is an
+/// equivalence.
+pub fn permuted_lists_are_rearranged()
+    ensures rearranged { PermutedIsRearranged }
+    ensures permuted { RearrangedIsPermuted }
     ensures equivalence { RearrangingIsAnEquivalence }
 {}
 
@@ -66,4 +72,18 @@ pub fn settings_keep_the_order()
     ensures rearranged { SettledIsRearranged }
     ensures cut { CutSettlesAlike }
     ensures elsewhere { SettledStandElsewhere }
+{}
+
+/// What is read under other numbers than that of what is built in stands elsewhere, so that no type or directive in it is built
+/// in: the premises of the laws.
+pub fn read_texts_stand_elsewhere()
+    ensures elsewhere { ReadTextsStandElsewhere }
+    ensures own { ElsewhereIsOwn }
+{}
+
+/// Of texts that are read, with the same definitions in an order that is the same for each sort, a builder makes the same; and
+/// of one list that is cut in two ways the same is written.
+pub fn builders_make_the_same()
+    ensures rearranged { LawOfRearranging }
+    ensures cut { LawOfCutting }
 {}
