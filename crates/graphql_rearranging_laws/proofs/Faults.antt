@@ -106,7 +106,7 @@ module _ (built_in : Definitions) (i j : ℕ) (ds es : Definitions) (r : IsRearr
       let seen' : has_name directive_name (directive_name own') (directives_in p.front) ≡ true =
       ap (λ m. has_name directive_name m (directives_in p.front)) names ∙ has_name-filter directive_name plain_directive_definition n (directives_in p.front)
       ∙ ap (λ l. is_some (slice_get l 0)) (directives_agree n p.front before p.front_same) ∙ sym (has_name-filter directive_name plain_directive_definition n (directives_in before)) ∙ seen in
-      let fails = rule.directive_definition_collision (p.front, (p.it, (p.stands, (own', (here', seen', refl))))) in
+      let fails : There (At p.it (rule.DirectiveDefinitionCollision (directive_name own'))) = rule.directive_definition_collision (p.front, (p.it, (p.stands, (own', (here', seen', refl))))) in
       (At p.it (rule.DirectiveDefinitionCollision (directive_name own')), (fails, ap rule.DirectiveDefinitionCollision names ∙ told_of told))
 
   -- a second definition of a type
@@ -126,13 +126,13 @@ module _ (built_in : Definitions) (i j : ℕ) (ds es : Definitions) (r : IsRearr
   type_too : (fault : Fault) → rule.Somewhere built_in ds (rule.TypeDefinitionCollisionAt built_in ds) fault → ToldToo There fault
   type_too fault (before, (d, (stands, (t, (second, scalar, told))))) =
       let (front, (e, (u, (stands', (second', names))))) = type_moved before d t stands second in
-      let fails = rule.type_definition_collision (front, (e, (stands', (u, (second', ap (is_built_in_scalar built_in ds) names ∙ scalar, refl))))) in
+      let fails : There (At e (rule.TypeDefinitionCollision (type_name u))) = rule.type_definition_collision (front, (e, (stands', (u, (second', ap (is_built_in_scalar built_in ds) names ∙ scalar, refl))))) in
       (At e (rule.TypeDefinitionCollision (type_name u)), (fails, ap rule.TypeDefinitionCollision names ∙ told_of told))
 
   scalar_too : (fault : Fault) → rule.Somewhere built_in ds (rule.BuiltInScalarTypeRedefinitionAt built_in ds) fault → ToldToo There fault
   scalar_too fault (before, (d, (stands, (t, (second, scalar, told))))) =
       let (front, (e, (u, (stands', (second', names))))) = type_moved before d t stands second in
-      let fails = rule.built_in_scalar_type_redefinition (front, (e, (stands', (u, (second', ap (is_built_in_scalar built_in ds) names ∙ scalar, refl))))) in
+      let fails : There (At e (rule.BuiltInScalarTypeRedefinition (type_name u))) = rule.built_in_scalar_type_redefinition (front, (e, (stands', (u, (second', ap (is_built_in_scalar built_in ds) names ∙ scalar, refl))))) in
       (At e (rule.BuiltInScalarTypeRedefinition (type_name u)), (fails, ap rule.BuiltInScalarTypeRedefinition names ∙ told_of told))
 
   -- ---- extensions
@@ -166,7 +166,7 @@ module _ (built_in : Definitions) (i j : ℕ) (ds es : Definitions) (r : IsRearr
       let names : e'.name.it ≡ e.name.it = ap (λ (x : TypeParts (Unit {0})). x.name.it) same in
       let none' : type_named e'.name.it (built_in ++ es) ≡ None =
       none_of unplaced_type_definition (type_named e'.name.it (built_in ++ es)) (ap (λ n. option_map unplaced_type_definition (type_named n (built_in ++ es))) names ∙ sym (named_same e.name.it) ∙ ap (option_map unplaced_type_definition) none) in
-      let fails = rule.orphan_type_extension (front, (d', (stands', (e', (here', none', refl))))) in
+      let fails : There (At d' (rule.OrphanTypeExtension e'.name.it)) = rule.orphan_type_extension (front, (d', (stands', (e', (here', none', refl))))) in
       (At d' (rule.OrphanTypeExtension e'.name.it), (fails, ap rule.OrphanTypeExtension names ∙ told_of told))
 
   mismatch_too : (fault : Fault) → rule.Somewhere built_in ds (rule.TypeExtensionKindMismatchAt built_in ds) fault → ToldToo There fault
@@ -176,7 +176,7 @@ module _ (built_in : Definitions) (i j : ℕ) (ds es : Definitions) (r : IsRearr
       let (t', (is', same_type)) = some_of unplaced_type_definition (type_named e'.name.it (built_in ++ es)) (unplaced_type_definition t)
       (ap (λ n. option_map unplaced_type_definition (type_named n (built_in ++ es))) names ∙ sym (named_same e.name.it) ∙ ap (option_map unplaced_type_definition) is) in
       let differ' : same_kind t'.parts.kind e'.kind ≡ false = (λ k. same_kind (same_type k).parts.kind (same k).kind) ∙ differ in
-      let fails = rule.type_extension_kind_mismatch (front, (d', (stands', (e', (t', (here', is', differ', refl)))))) in
+      let fails : There (At d' (rule.TypeExtensionKindMismatch e'.name.it)) = rule.type_extension_kind_mismatch (front, (d', (stands', (e', (t', (here', is', differ', refl)))))) in
       (At d' (rule.TypeExtensionKindMismatch e'.name.it), (fails, ap rule.TypeExtensionKindMismatch names ∙ told_of told))
 
   -- ---- components
@@ -207,7 +207,8 @@ module _ (built_in : Definitions) (i j : ℕ) (ds es : Definitions) (r : IsRearr
         let there' = (find_given (λ x. bytes_eq n (type_name x)) (firsts type_name (types_in (built_in ++ es))) u (find-firsts type_name n (types_in (built_in ++ es)) ∙ is)).0 in
         let kinds : same_kind u.parts.kind k ≡ true = ap (λ (x : TypeDefinition (Unit {0})). same_kind x.parts.kind k) same_type ∙ same in
         let breaks : breach (type_name u) (key h) ≡ breach n (key g) = λ m. breach (same_name m) ((names h ∙ ap name same_view ∙ sym (names g)) m) in
-        (record { place = place h.it; breach = breach (type_name u) (key h) }, ((u, (h, (there', kinds, again', refl))), breaks ∙ told_of told))
+        let other : Fault = record { place = place h.it; breach = breach (type_name u) (key h) } in
+        (other, ((u, (h, (there', kinds, again', refl {a = other}))), breaks ∙ told_of told))
 
   -- all rules
   interfaces_too : (k : TypeKind) (place : Text Place → Place) (breach : List ℕ → List ℕ → Breach) (fault : Fault)

@@ -262,13 +262,16 @@ permuted (e ∷ es) ds none r =
     let none_there = neither (is_executable e) (list_any is_executable es) (sym r.executables ∙ none) in
     let s = has_sort e none_there.0 in
     let p = found unplaced_definition s.sort ds [] (unplaced_definition e) (unplaced_document (filter s.sort es)) (s.agree ds (e ∷ es) r ∙ ap (λ b. unplaced_document (cond b (e ∷ filter s.sort es) (filter s.sort es))) s.holds) in
-    let back = p.stands.0 in
+    let back : Definitions = p.stands.0 in
+    let list : Definitions = p.front ++ p.it ∷ back in
+    let others : Definitions = p.front ++ back in
+    let is : ds ≡ list = p.stands.1 in
     let pass = all_pass e p.it s p.same p.front p.front_same in
-    let out = taken p.it back p.front pass in
-    let moved = followed (p.it ∷ (p.front ++ back)) ds (e ∷ es) (subst (λ l. IsRearranged (p.it ∷ (p.front ++ back)) l) (sym p.stands.1) (turned (p.front ++ p.it ∷ back) (p.it ∷ (p.front ++ back)) out)) r in
-    let none_rest = (neither (is_executable p.it) (list_any is_executable (p.front ++ back)) (sym out.executables ∙ ap (list_any is_executable) (sym p.stands.1) ∙ none)).1 in
-    let rest = behind p.it e p.same (p.front ++ back) es (none_rest ∙ sym none_there.1) moved in
-    subst (λ l. IsPermuted l (e ∷ es)) (sym p.stands.1) (next p.front p.it back e es pass p.same (permuted es (p.front ++ back) none_rest rest))
+    let out : IsRearranged list (p.it ∷ others) = taken p.it back p.front pass in
+    let moved : IsRearranged (p.it ∷ others) (e ∷ es) = followed (p.it ∷ others) list (e ∷ es) (turned list (p.it ∷ others) out) (subst (λ l. IsRearranged l (e ∷ es)) is r) in
+    let none_rest : list_any is_executable others ≡ false = (neither (is_executable p.it) (list_any is_executable others) (sym out.executables ∙ ap (list_any is_executable) (sym is) ∙ none)).1 in
+    let rest : IsRearranged others es = behind p.it e p.same others es (none_rest ∙ sym none_there.1) moved in
+    subst (λ l. IsPermuted l (e ∷ es)) (sym is) (next p.front p.it back e es pass p.same (permuted es others none_rest rest))
 
 pub rearranged_permuted : RearrangedIsPermuted
 rearranged_permuted ds es none r = permuted es ds none r

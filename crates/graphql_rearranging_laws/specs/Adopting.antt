@@ -1,4 +1,5 @@
--- What the two settings of a builder make of lists that are rearranged, or cut in two ways (GraphQL, October 2021, sections 3.4.3 and 3.5).
+-- What the two settings of a builder make of lists that are rearranged, or cut in two ways (GraphQL, October 2021, sections 3.3.2, 3.4.3 and
+-- 3.5).
 use Rattle.std.specs.Prelude.{◌≡◌}
 use Rattle.graphql_folding.specs.in_definitions.DefinitionTree.{unplaced_document}
 use Rattle.graphql_folding.specs.Listed.{Definitions}

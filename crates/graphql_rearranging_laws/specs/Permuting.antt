@@ -1,4 +1,5 @@
--- Lists are rearranged where one is a permutation of the other that keeps the order of what defines, or extends, the same.
+-- Lists are rearranged where one is a permutation of the other that keeps the order of what defines, or extends, the same (GraphQL,
+-- October 2021, sections 2.2 and 3).
 use Rattle.std.specs.Prelude.{◌≡◌, ℕ, false, ◌&&◌, List, [], ◌∷◌, ◌++◌}
 use Rattle.std.specs.List.{list_any, AllByRecursion}
 use Rattle.graphql_names.specs.Placed.{Place}
@@ -25,7 +26,7 @@ pub data IsPermuted : Definitions → Definitions → Type 0 where
 abbrev pub PermutedIsRearranged : Type 0
 PermutedIsRearranged = (ds es : Definitions) → IsPermuted ds es → IsRearranged ds es
 
--- and lists are rearranged so alone, where no operation and no fragment stands in them: of those only whether there are some counts
+-- and there is no other way to rearrange lists without operations and fragments, of which only whether there are some counts
 abbrev pub RearrangedIsPermuted : Type 0
 RearrangedIsPermuted = (ds es : Definitions) → list_any is_executable ds ≡ false → IsRearranged ds es → IsPermuted ds es
 
