@@ -1,5 +1,5 @@
 -- A printed text that reads as one tree alone is read again as that tree, or a limit keeps it from being read.
-use Rattle.std.proofs.Common.{◌≡◌, ℕ, true, List, [], ◌∷◌, Result, Ok, Err, refl, sym, ap, subst, ◌∙◌, append_assoc, append-nil, map}
+use Rattle.std.proofs.Common.{◌≡◌, ℕ, ◌≤◌, true, List, [], ◌∷◌, Result, Ok, Err, refl, sym, ap, subst, ◌∙◌, append_assoc, append-nil, map}
 use Rattle.std.proofs.lemmas.Bool.{and_parts}
 use Rattle.std.specs.Prelude.{IfOk, IfErr, None}
 use Rattle.std.specs.List.{list_all}
@@ -10,11 +10,11 @@ use Rattle.graphql_literals.specs.ValueLayout.{type_text}
 use Rattle.graphql_literals.specs.TypeTree.{type_tree, unplaced_type}
 use Rattle.graphql_literals.specs.declared.ty.«Type».{«Type»}
 use Rattle.graphql_read.specs.in_lexer.Input.{Token, Ended, NoTokenAt}
-use Rattle.graphql_read.proofs.in_lexer.Lexed.{lex_unique}
 use Rattle.graphql_definitions.specs.DefinitionTree.{definition_tree, unplaced_document}
 use Rattle.graphql_definitions.specs.DocumentLayout.{document_text}
 use Rattle.graphql_definitions.specs.Writable.{has_some, definition_writable, document_writable}
 use Rattle.graphql_definitions.specs.declared.definition.Definition.{Definition}
+use Rattle.graphql_read.specs.in_grammar.Depth.{depth}
 use Rattle.graphql_read.specs.in_grammar.Faults as faults
 use Rattle.graphql_read.specs.in_grammar.Faults.{Symbol, IsTooDeep}
 use Rattle.graphql_read.specs.in_grammar.Grammar.{Derives, DerivesType}
@@ -29,7 +29,7 @@ use Rattle.graphql_read.proofs.Endings.{ends_whole}
 use Rattle.graphql_printed.specs.WellFormed.{is_white_prefix}
 use Rattle.graphql_printed.specs.ReadsAlone.{ReadsAlone}
 use Rattle.graphql_printed.proofs.Alone.{literals_read, type_alone, document_alone}
-use Rattle.graphql_reread.specs.ReadsAgain.{IsLimit, IsSameUnlessLimit, NestsWithin}
+use Rattle.graphql_reread.specs.ReadsAgain.{IsLimit, IsSameUnlessLimit}
 use Rattle.graphql_reread.proofs.WellFormed.{type_formed}
 use Rattle.graphql_reread.proofs.Definitions.{definitions_formed}
 
@@ -74,19 +74,10 @@ module _ {X A B : Type 0} (symbol : Symbol A) (unplaced : A → B) (view : X →
   same (Err e) found fault = limit e fault
 
   -- within the limit want of memory alone
-  pub within : (result : Result X ReadFault) → ((tree : A) → ReadsWithin symbol nesting text tree → IsTreeUnlessMemory view tree result) → NestsWithin nesting text
+  pub within : (result : Result X ReadFault) → ((tree : A) → ReadsWithin symbol nesting text tree → IsTreeUnlessMemory view tree result) → depth r.tokens ≤ nesting
       → IfErr result (λ e. e ≡ Memory)
   within (Ok x) only w = tt
-  within (Err e) only w =
-      is_memory e
-      (only r.tree (record {
-        reads = record {
-          tokens = w.0;
-          lexed = w.1;
-          derived = subst (λ (ts : List Token). symbol ts r.tree) (lex_unique text r.tokens w.0 r.lexed w.1) r.derived;
-        };
-        within = w.2;
-      }))
+  within (Err e) only w = is_memory e (only r.tree (record { reads = record { tokens = r.tokens; lexed = r.lexed; derived = r.derived }; within = w }))
 
   -- the same of what is read, which is the text
   pub same_of : (read : List ℕ) → read ≡ text → (result : Result X ReadFault) → IfOk result (λ x. ReadsWithin symbol nesting read (view x)) → IfErr result (λ e. IsDue symbol nesting read (fault_view e))
@@ -96,7 +87,7 @@ module _ {X A B : Type 0} (symbol : Symbol A) (unplaced : A → B) (view : X →
       (subst (λ (t : List ℕ). IfOk result (λ x. ReadsWithin symbol nesting t (view x))) is found)
       (subst (λ (t : List ℕ). IfErr result (λ e. IsDue symbol nesting t (fault_view e))) is fault)
 
-  pub within_of : (read : List ℕ) → read ≡ text → (result : Result X ReadFault) → ((tree : A) → ReadsWithin symbol nesting read tree → IsTreeUnlessMemory view tree result) → NestsWithin nesting text
+  pub within_of : (read : List ℕ) → read ≡ text → (result : Result X ReadFault) → ((tree : A) → ReadsWithin symbol nesting read tree → IsTreeUnlessMemory view tree result) → depth r.tokens ≤ nesting
       → IfErr result (λ e. e ≡ Memory)
   within_of read is result only =
       within result (subst (λ (t : List ℕ). (tree : A) → ReadsWithin symbol nesting t tree → IsTreeUnlessMemory view tree result) is only)

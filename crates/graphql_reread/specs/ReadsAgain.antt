@@ -1,5 +1,5 @@
 -- What is printed is read again as it was.
-use Rattle.std.specs.Prelude.{◌≡◌, ℕ, ◌≤◌, true, List, Result, Ok, Err}
+use Rattle.std.specs.Prelude.{◌≡◌, ℕ, true, List, Result, Ok, Err}
 use Rattle.std.specs.Option.{option_copied}
 use Rattle.graphql_printing.specs.Serialized.{serialized}
 use Rattle.graphql_printing.specs.declared.serialize.Serialize.{Serialize}
@@ -9,7 +9,6 @@ use Rattle.graphql_definitions.specs.DefinitionTree.{document_tree}
 use Rattle.graphql_definitions.specs.DocumentLayout.{document_text}
 use Rattle.graphql_definitions.specs.Writable.{document_writable}
 use Rattle.graphql_definitions.specs.declared.document.Document.{Document}
-use Rattle.graphql_read.specs.in_grammar.Depth.{depth}
 use Rattle.graphql_read.specs.in_grammar.Faults.{IsTooDeep}
 use Rattle.graphql_read.specs.declared.fault.ReadFault.{ReadFault}
 use Rattle.graphql_read.specs.declared.fault.ReadFault.TheVariants.{Syntax, Nesting, Memory}
@@ -25,10 +24,6 @@ IsLimit nesting text (Syntax fault) = ⊥
 abbrev pub IsSameUnlessLimit : {X B : Type 0} → (X → B) → B → ℕ → List ℕ → Result X ReadFault → Type 0
 IsSameUnlessLimit view printed nesting text (Ok x) = view x ≡ printed
 IsSameUnlessLimit view printed nesting text (Err fault) = IsLimit nesting text fault
-
--- The brackets of the text's tokens nest within the limit.
-abbrev pub NestsWithin : ℕ → List ℕ → Type 0
-NestsWithin nesting text = (tokens : List Token) × Lex text tokens × (depth tokens ≤ nesting)
 
 -- the text of a document under its layout
 abbrev pub laid_out : Serialize Document → List ℕ

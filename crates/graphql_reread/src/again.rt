@@ -1,11 +1,12 @@
 //! Trees that are printed and read again.
-ghost use Rattle.std.specs.Prelude.{◌≡◌, IfOk, IfErr, None, string_bytes};
+ghost use Rattle.std.specs.Prelude.{◌≡◌, ◌≤◌, IfOk, IfErr, None, string_bytes};
 ghost use Rattle.graphql_printing.specs.LineLayout.{standing};
 ghost use Rattle.graphql_literals.specs.ValueLayout.{type_text};
 ghost use Rattle.graphql_literals.specs.TypeTree.{type_tree, unplaced_type};
 ghost use Rattle.graphql_definitions.specs.DefinitionTree.{document_tree, unplaced_document};
 ghost use Rattle.graphql_read.specs.declared.fault.ReadFault.TheVariants.{Memory};
-ghost use Rattle.graphql_reread.specs.ReadsAgain.{IsSameUnlessLimit, NestsWithin, laid_out, CanBeReread};
+ghost use Rattle.graphql_depth_laws.specs.TreeDepth.{type_depth, document_depth};
+ghost use Rattle.graphql_reread.specs.ReadsAgain.{IsSameUnlessLimit, laid_out, CanBeReread};
 
 use graphql_definitions::Document;
 use graphql_literals::Type;
@@ -30,8 +31,8 @@ fn printed_document(alloc: Global, layout: Serialize<'_, Document>) -> Result<St
 
 /// Prints a type, and reads the text as one of this file, with at most `nesting` brackets open at once (section 2.11).
 ///
-/// The answer is the same type, places aside. `Nesting` comes only where so many brackets are not enough, `Memory` where
-/// memory ran out, and `Syntax` never.
+/// The answer is the same type, places aside. `Nesting` comes only where so many brackets are not enough, so never where the
+/// type is no deeper than that, `Memory` where memory ran out, and `Syntax` never.
 pub fn reread_type(
     alloc: Global,
     ty: &Type,
@@ -39,7 +40,7 @@ pub fn reread_type(
     nesting: usize,
 ) -> Result<Type, ReadFault>
     ensures same { IsSameUnlessLimit (λ t. unplaced_type (type_tree t)) (unplaced_type (type_tree ty.now)) nesting (type_text (type_tree ty.now)) result }
-    ensures within { NestsWithin nesting (type_text (type_tree ty.now)) → IfErr result (λ e. e ≡ Memory) }
+    ensures within { type_depth (type_tree ty.now) ≤ nesting → IfErr result (λ e. e ≡ Memory) }
 {
     let text = printed_type(alloc, ty)?;
     parse_type(alloc, &text, file, nesting)
@@ -49,8 +50,8 @@ pub fn reread_type(
 /// (section 2.2).
 ///
 /// Where the document can be written, and spaces and tabs alone begin its lines, the answer is a document of the same
-/// definitions, places aside. `Nesting` comes only where so many brackets are not enough, `Memory` where memory ran out, and
-/// `Syntax` never.
+/// definitions, places aside. `Nesting` comes only where so many brackets are not enough, so never where the document is no
+/// deeper than that, `Memory` where memory ran out, and `Syntax` never.
 pub fn reread_document(
     alloc: Global,
     layout: Serialize<'_, Document>,
@@ -58,7 +59,7 @@ pub fn reread_document(
     nesting: usize,
 ) -> Result<Document, ReadFault>
     ensures same { CanBeReread layout.entry → IsSameUnlessLimit (λ d. unplaced_document (document_tree d)) (unplaced_document (document_tree layout.entry.tree.now)) nesting (laid_out layout.entry) result }
-    ensures within { CanBeReread layout.entry → NestsWithin nesting (laid_out layout.entry) → IfErr result (λ e. e ≡ Memory) }
+    ensures within { CanBeReread layout.entry → document_depth (document_tree layout.entry.tree.now) ≤ nesting → IfErr result (λ e. e ≡ Memory) }
 {
     let text = printed_document(alloc, layout)?;
     parse_document(alloc, &text, file, nesting)

@@ -1,8 +1,9 @@
 //! What is printed reads as it was: trees that are printed and read again.
 //!
 //! For the layers above: [`reread_type`] and [`reread_document`] answer the tree that was printed, places aside, or that a
-//! limit kept its text from being read; never a syntax fault. They rest on `graphql_printed`, and on this, that the tree of
-//! every Rust value is well-formed (`proofs/WellFormed.antt`, `proofs/Definitions.antt`).
+//! limit kept its text from being read; never a syntax fault. They rest on `graphql_printed`, on `graphql_depth_laws` for the
+//! limit of nesting, and on this, that the tree of every Rust value is well-formed (`proofs/WellFormed.antt`,
+//! `proofs/Definitions.antt`).
 //!
 //! Begin with `specs/ReadsAgain.antt`.
 #![tactic(auto)]

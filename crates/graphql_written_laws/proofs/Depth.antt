@@ -25,7 +25,7 @@ use Rattle.graphql_written_laws.specs.Whole.{Extension, classes, extension_at, e
 use Rattle.graphql_written_laws.specs.WholeSchema.{whole_parts, SchemaExtension, schema_classes, schema_extensions_in, whole_schema_extension, left_out}
 use Rattle.graphql_written_laws.specs.Table.{IsTable, AreOwn}
 use Rattle.graphql_written_laws.specs.Twice.{Out}
-use Rattle.graphql_written_laws.specs.TreeDepth.{deepest, bracketed, input_values_depth, directives_depth, schema_depth, definition_depth, document_depth}
+use Rattle.graphql_depth_laws.specs.TreeDepth.{deepest, bracketed, input_values_depth, directives_depth, schema_depth, definition_depth, document_depth}
 use Rattle.graphql_written_laws.proofs.Order.{Each, Each-append, Each-arranged}
 use Rattle.graphql_written_laws.proofs.Accepted.{types_whole}
 use Rattle.graphql_written_laws.proofs.Again.{kinds_same}

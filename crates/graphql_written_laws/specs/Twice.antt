@@ -10,7 +10,7 @@ use Rattle.graphql_folding.specs.Listed.{Definitions}
 use Rattle.graphql_folding.specs.Fold.{fold}
 use Rattle.graphql_folding.specs.BuildErrors.{FoldingRules}
 use Rattle.graphql_written_laws.specs.Table.{IsTable, HasNoQuery, AreOwn}
-use Rattle.graphql_written_laws.specs.TreeDepth.{document_depth}
+use Rattle.graphql_depth_laws.specs.TreeDepth.{document_depth}
 
 -- what is written of a list, beside the table, where extensions are numbered from `first`
 abbrev pub Out : Definitions → ℕ → Definitions → Definitions

@@ -1,0 +1,2 @@
+pub mod TreeDepth
+pub mod NestsAlike
