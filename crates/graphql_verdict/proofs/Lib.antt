@@ -1,0 +1,9 @@
+pub mod RowReading
+pub mod RowTrees
+pub mod RowJudging
+pub mod AnswerRows
+pub mod TextRows
+pub mod OutRows
+pub mod VerdictRows
+pub mod UnreadRows
+pub mod BytesRows
