@@ -7,3 +7,7 @@ pub mod OutRows
 pub mod VerdictRows
 pub mod UnreadRows
 pub mod BytesRows
+pub mod RefusedRows
+pub mod RowMeanings
+pub mod DocumentRows
+pub mod RecursionRows
