@@ -11,3 +11,5 @@ pub mod RefusedRows
 pub mod RowMeanings
 pub mod DocumentRows
 pub mod RecursionRows
+pub mod AcceptedRows
+pub mod FoldsRows
