@@ -53,11 +53,11 @@ indented_bytes bytes a = written_bytes (Some (codes "  ")) query_field just_fiel
 -- ---- refused: a schema text that is not read
 
 -- a fault is due of a text, so it is not read
-due_unread : (number : ℕ) (text : Text) (fault : read.Fault) (tree : Tree) → fault ≢ read.Memory → IsDue (DerivesIn number) 500 text fault → (NestingBound 500 text → ⊥) → ReadsText number text tree → ⊥
+pub due_unread : (number : ℕ) (text : Text) (fault : read.Fault) (tree : Tree) → fault ≢ read.Memory → IsDue (DerivesIn number) 500 text fault → (NestingBound 500 text → ⊥) → ReadsText number text tree → ⊥
 due_unread number text fault tree some due nests reads = some (memory_alone (DerivesIn number) 500 text fault due tree reads nests)
 
 -- the only fault of a list is so
-of_one : (says : Fault → Type 0) (fault : Fault) → says fault → AllSay says (fault ∷ [])
+pub of_one : (says : Fault → Type 0) (fault : Fault) → says fault → AllSay says (fault ∷ [])
 of_one says fault is other c = subst says (sym (only fault other c)) is
 
 -- of two so is each
@@ -67,7 +67,7 @@ of_two says first second is_first is_second other c = elim (Contains-cons first 
   | inr r ↦ of_one says second is_second other r
 ]
 
-not_empty : (fault : Fault) (faults : List Fault) → fault ∷ faults ≢ []
+pub not_empty : (fault : Fault) (faults : List Fault) → fault ∷ faults ≢ []
 not_empty fault faults e = cc
 
 -- S `{ a`, any D: `End` at 1:3

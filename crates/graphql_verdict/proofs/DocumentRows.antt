@@ -37,7 +37,7 @@ int_field name = record { description = None; name = record { it = name; place =
 
 -- ---- S `type Query { field: Int }`, D `query Q($v: Int) { field }`: `UnusedVariable` at 2:8
 
-abbrev unused : Text
+abbrev pub unused : Text
 unused = codes "query Q($v: Int) { field }"
 
 abbrev v_variable : Placed Place (VariableDefinitionTree Place)
@@ -46,14 +46,14 @@ v_variable = node (record { name = named (codes "v") (place_in 2 9 10); ty = nod
 abbrev unused_query : OperationTree Place
 unused_query = record { operation_type = Query; name = Some (named (codes "Q") (place_in 2 6 7)); variables = v_variable ∷ []; directives = []; selections = field (codes "field") 19 24 no_selections }
 
-abbrev unused_tree : Tree
+abbrev pub unused_tree : Tree
 unused_tree = Operation (place_in 2 0 26) unused_query ∷ []
 
-unused_reads : ReadsText 2 unused unused_tree
+pub unused_reads : ReadsText 2 unused unused_tree
 unfolding reader
 unused_reads = reads 500 2 unused unused_tree refl
 
-abbrev field_schema : SchemaTree Place
+abbrev pub field_schema : SchemaTree Place
 field_schema = schema_at_hand terms (query_field_tree ∷ [])
 
 abbrev unused_document : MeantDocument Place
@@ -62,7 +62,7 @@ unused_document = kept_document (meanings_found field_schema) unused_tree
 abbrev unused_operation : MeantOperation Place
 unused_operation = meant_operation (meanings_found field_schema) (record { place = place_in 2 0 26; base = codes "Query"; it = unused_query })
 
-abbrev unused_fault : PlacedDocumentFault
+abbrev pub unused_fault : PlacedDocumentFault
 unused_fault = OfData (wrong (place_in 2 8 10) (UnusedVariable (codes "v")))
 
 -- its one selection
@@ -123,7 +123,7 @@ unused_fails_over = subst (λ m. DocumentFails field_schema (kept_document m unu
 unused_refused : IsAccepted terms (query_field ∷ []) unused → ⊥
 unused_refused = document_refused terms query_field unused query_field_tree query_field_reads unused_tree unused_reads (λ f c. not_in_nil f c) unused_fault unused_fails_over
 
-unused_said : SaysDocument field_schema 500 2 unused (of_document unused_fault)
+pub unused_said : SaysDocument field_schema 500 2 unused (of_document unused_fault)
 unused_said = inr (unused_tree, (unused_reads, inr (unused_fault, (refl, inl unused_fails_over))))
 
 -- ---- S `type Query { a: Int b: Int }`, D `{ x: a x: b }`: `ConflictingFieldName` at 2:7
@@ -138,7 +138,7 @@ a_and_b_reads : ReadsText 1 a_and_b a_and_b_tree
 unfolding reader
 a_and_b_reads = reads 500 1 a_and_b a_and_b_tree refl
 
-abbrev conflict : Text
+abbrev pub conflict : Text
 conflict = codes "{ x: a x: b }"
 
 abbrev x_is_a : FieldHead Place
@@ -156,14 +156,14 @@ conflict_query = record {
   selections = selection_then (FieldTree (place_in 2 2 6) x_is_a no_selections) (selection_then (FieldTree (place_in 2 7 11) x_is_b no_selections) no_selections);
 }
 
-abbrev conflict_tree : Tree
+abbrev pub conflict_tree : Tree
 conflict_tree = Operation (place_in 2 0 13) conflict_query ∷ []
 
-conflict_reads : ReadsText 2 conflict conflict_tree
+pub conflict_reads : ReadsText 2 conflict conflict_tree
 unfolding reader
 conflict_reads = reads 500 2 conflict conflict_tree refl
 
-abbrev a_and_b_schema : SchemaTree Place
+abbrev pub a_and_b_schema : SchemaTree Place
 a_and_b_schema = schema_at_hand terms (a_and_b_tree ∷ [])
 
 abbrev conflict_operation : MeantOperation Place
@@ -182,7 +182,7 @@ first_x = field_at 0 (codes "a") (place_in 2 2 6) x_is_a
 abbrev second_x : StandingField Place
 second_x = field_at 1 (codes "b") (place_in 2 7 11) x_is_b
 
-abbrev conflict_fault : PlacedDocumentFault
+abbrev pub conflict_fault : PlacedDocumentFault
 conflict_fault = OfDocument (broken (place_in 2 7 11) (ConflictingFieldName (codes "x") (telling first_x tt) (telling second_x tt)))
 
 conflict_fails : DocumentMergingFails a_and_b_schema (kept_document (meanings_found a_and_b_schema) conflict_tree) conflict_fault
@@ -222,5 +222,5 @@ conflict_fails_over = subst (λ m. DocumentMergingFails a_and_b_schema (kept_doc
 conflict_refused : IsAccepted terms (a_and_b ∷ []) conflict → ⊥
 conflict_refused = merging_refused terms a_and_b conflict a_and_b_tree a_and_b_reads conflict_tree conflict_reads (λ f c. not_in_nil f c) conflict_fault conflict_fails_over
 
-conflict_said : SaysDocument a_and_b_schema 500 2 conflict (of_document conflict_fault)
+pub conflict_said : SaysDocument a_and_b_schema 500 2 conflict (of_document conflict_fault)
 conflict_said = inr (conflict_tree, (conflict_reads, inr (conflict_fault, (refl, inr (inl conflict_fails_over)))))

@@ -14,13 +14,15 @@ use Rattle.graphql_folding.specs.SchemaFold.{root_key, roots_given}
 use Rattle.graphql_folding.specs.in_components.Given.{Given, given_name}
 use Rattle.graphql_folding.specs.in_components.Lists.{AtSomePlace, IsRepeated, firsts, has_name, repeats}
 use Rattle.graphql_folding.proofs.in_components.Places.{not_in_nil, given_at, is_only}
+use Rattle.graphql_schema_building.specs.Numbers.{HaveNumbers}
 use Rattle.graphql_schema_types.specs.TypeParts.{TypeParts, TypeDefinition, with_fields, type_here}
 use Rattle.graphql_schema_types.specs.declared.type_kind.TypeKind.{TypeKind}
 use Rattle.graphql_schema_types.specs.declared.type_kind.TypeKind.TheVariants as kind
 use Rattle.graphql_rule_definitions.specs.Judged.{judged}
 use Rattle.graphql_rule_definitions.specs.Rules.{SchemaRules}
 use Rattle.graphql_rule_definitions.proofs.Lists.{given_in}
-use Rattle.graphql_verdict.specs.Judge.{Folds, schema_of, IsAccepted}
+use Rattle.graphql_verdict.specs.Texts.{AreWithin}
+use Rattle.graphql_verdict.specs.Judge.{definitions_of, Folds, schema_of, AreSchemasAccepted, IsAccepted}
 use Rattle.graphql_verdict.specs.Answer.{Answer}
 use Rattle.graphql_verdict.proofs.RowReading.{reader, is_within}
 use Rattle.graphql_verdict.proofs.RowTrees.{terms, named, field_definition, fields_of, object}
@@ -98,17 +100,24 @@ query_folds fault (rule.input_field_name_collision p) = none_repeated built_in_d
 
 -- ---- the pair, where every rule on schemas holds
 
+pub query_within : AreWithin 500 1 (query_field ∷ [])
+unfolding reader
+query_within = (is_within 500 1 query_field query_field_tree refl (λ passed. omega (arith, passed)), tt)
+
+-- it has no extension
+pub query_numbered : HaveNumbers 1 (definitions_of (query_field_tree ∷ []))
+query_numbered some = omega arith
+
 module _ (rules : SchemaRules (judged (schema_of terms (query_field_tree ∷ [])))) where
-  pair_accepted : IsAccepted terms (query_field ∷ []) just_field
-  unfolding reader
-  pair_accepted = record {
-    schema = record {
-      judged = record { trees = query_field_tree ∷ []; read = (query_field_reads, tt); folds = query_folds; holds = rules };
-      within = (is_within 500 1 query_field query_field_tree refl (λ passed. omega (arith, passed)), tt);
-      numbered = λ some. omega arith;
-    };
-    over = just_field_accepted;
+  abbrev pub schema_accepted : AreSchemasAccepted terms (query_field ∷ [])
+  schema_accepted = record {
+    judged = record { trees = query_field_tree ∷ []; read = (query_field_reads, tt); folds = query_folds; holds = rules };
+    within = query_within;
+    numbered = query_numbered;
   }
+
+  pub pair_accepted : IsAccepted terms (query_field ∷ []) just_field
+  pair_accepted = record { schema = schema_accepted; over = just_field_accepted }
 
   -- and these are the bytes
   pair_bytes : Answer terms None (query_field ∷ []) just_field (codes "accepted\ntype Query { field: Int }\n{ field }\n")

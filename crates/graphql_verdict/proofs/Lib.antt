@@ -13,3 +13,4 @@ pub mod DocumentRows
 pub mod RecursionRows
 pub mod AcceptedRows
 pub mod FoldsRows
+pub mod RefusedDocumentRows

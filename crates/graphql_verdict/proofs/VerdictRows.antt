@@ -44,13 +44,13 @@ orphan_said = inr ((orphan_query ∷ orphan_extension ∷ []) ∷ [], ((orphan_r
 
 -- ---- S `type Query { field: Int }`, D `{ missing }`: `UndefinedField` at 2:2
 
-abbrev query_field_schema : SchemaTree Place
+abbrev pub query_field_schema : SchemaTree Place
 query_field_schema = schema_at_hand terms (query_field_tree ∷ [])
 
-abbrev missing_fault : typing.Fault Place
+abbrev pub missing_fault : typing.Fault Place
 missing_fault = typing.At (place_in 2 2 9) (typing.UndefinedField (codes "Query") (codes "missing"))
 
-missing_fails : TypingFailsOver query_field_schema missing_tree missing_fault
+pub missing_fails : TypingFailsOver query_field_schema missing_tree missing_fault
 unfolding built_in_definitions place_in
 missing_fails = typing.in_operation
     (record { place = place_in 2 0 11; base = codes "Query"; it = record { operation_type = Query; name = None; variables = []; directives = []; selections = field (codes "missing") 2 9 no_selections } })
@@ -60,5 +60,5 @@ missing_fails = typing.in_operation
 missing_refused : IsAccepted terms (query_field ∷ []) missing → ⊥
 missing_refused = typing_refused terms query_field missing query_field_tree query_field_reads missing_tree missing_reads missing_fault missing_fails
 
-missing_said : SaysDocument query_field_schema 500 2 missing (of_typing missing_fault)
+pub missing_said : SaysDocument query_field_schema 500 2 missing (of_typing missing_fault)
 missing_said = inr (missing_tree, (missing_reads, inl (missing_fault, (refl, missing_fails))))
