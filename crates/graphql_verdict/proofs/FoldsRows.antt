@@ -1,10 +1,9 @@
--- What is accepted of S `type Query { field: Int }`: it breaks no folding rule. With D `{ field }` the pair is accepted where every rule on schemas holds.
-use Rattle.std.proofs.Common.{◌≡◌, ℕ, Bool, true, false, List, [], ◌∷◌, ◌++◌, codes, flat_map, None, Some, is_some, Contains, if◌then◌else◌, refl, sym, ap, subst, ◌∙◌, inl, true≢false, arith}
+-- No folding rule is broken by S `type Query { field: Int }`, and it passes no bound.
+use Rattle.std.proofs.Common.{◌≡◌, ℕ, Bool, true, false, List, [], ◌∷◌, ◌++◌, codes, flat_map, None, Some, is_some, Contains, if◌then◌else◌, refl, sym, ap, subst, ◌∙◌, true≢false, arith}
 use Rattle.std.proofs.lemmas.Option.{same_Some}
 use Rattle.graphql_names.specs.Placed.{Place}
 use Rattle.graphql_built_in.specs.Table.{built_in_definitions}
 use Rattle.graphql_definitions.specs.DefinitionTree.{DefinitionTree}
-use Rattle.graphql_definitions.specs.in_values.Joined.{joined}
 use Rattle.graphql_read.specs.in_grammar.Places.{place_in}
 use Rattle.graphql_folding.specs.BuildErrors as rule
 use Rattle.graphql_folding.specs.BuildErrors.{Fault, Fails, Breach, RepeatedIn}
@@ -18,16 +17,12 @@ use Rattle.graphql_schema_building.specs.Numbers.{HaveNumbers}
 use Rattle.graphql_schema_types.specs.TypeParts.{TypeParts, TypeDefinition, with_fields, type_here}
 use Rattle.graphql_schema_types.specs.declared.type_kind.TypeKind.{TypeKind}
 use Rattle.graphql_schema_types.specs.declared.type_kind.TypeKind.TheVariants as kind
-use Rattle.graphql_rule_definitions.specs.Judged.{judged}
-use Rattle.graphql_rule_definitions.specs.Rules.{SchemaRules}
 use Rattle.graphql_rule_definitions.proofs.Lists.{given_in}
 use Rattle.graphql_verdict.specs.Texts.{AreWithin}
-use Rattle.graphql_verdict.specs.Judge.{definitions_of, Folds, schema_of, AreSchemasAccepted, IsAccepted}
-use Rattle.graphql_verdict.specs.Answer.{Answer}
+use Rattle.graphql_verdict.specs.Judge.{definitions_of, Folds}
 use Rattle.graphql_verdict.proofs.RowReading.{reader, is_within}
 use Rattle.graphql_verdict.proofs.RowTrees.{terms, named, field_definition, fields_of, object}
-use Rattle.graphql_verdict.proofs.TextRows.{query_field, query_field_tree, query_field_reads, just_field, just_field_tree, just_field_reads}
-use Rattle.graphql_verdict.proofs.AcceptedRows.{just_field_accepted}
+use Rattle.graphql_verdict.proofs.TextRows.{query_field, query_field_tree}
 
 -- ---- lists of one, and repeats
 
@@ -98,7 +93,7 @@ query_folds fault (rule.enum_value_name_collision p) = none_repeated built_in_de
 query_folds fault (rule.union_member_name_collision p) = none_repeated built_in_definitions query_field_tree 1 fault kind.Union (λ q. q.members) given_name (λ x. x.place) rule.UnionMemberNameCollision refl p
 query_folds fault (rule.input_field_name_collision p) = none_repeated built_in_definitions query_field_tree 1 fault kind.InputObject (λ q. q.inputs) input_key (λ x. x.place) rule.InputFieldNameCollision refl p
 
--- ---- the pair, where every rule on schemas holds
+-- ---- the bounds
 
 pub query_within : AreWithin 500 1 (query_field ∷ [])
 unfolding reader
@@ -107,26 +102,3 @@ query_within = (is_within 500 1 query_field query_field_tree refl (λ passed. om
 -- it has no extension
 pub query_numbered : HaveNumbers 1 (definitions_of (query_field_tree ∷ []))
 query_numbered some = omega arith
-
-module _ (rules : SchemaRules (judged (schema_of terms (query_field_tree ∷ [])))) where
-  abbrev pub schema_accepted : AreSchemasAccepted terms (query_field ∷ [])
-  schema_accepted = record {
-    judged = record { trees = query_field_tree ∷ []; read = (query_field_reads, tt); folds = query_folds; holds = rules };
-    within = query_within;
-    numbered = query_numbered;
-  }
-
-  pub pair_accepted : IsAccepted terms (query_field ∷ []) just_field
-  pair_accepted = record { schema = schema_accepted; over = just_field_accepted }
-
-  -- and these are the bytes
-  pair_bytes : Answer terms None (query_field ∷ []) just_field (codes "accepted\ntype Query { field: Int }\n{ field }\n")
-  unfolding built_in_definitions place_in joined
-  pair_bytes = inl (record {
-    accepted = pair_accepted;
-    written_schema = codes "type Query { field: Int }";
-    written_document = codes "{ field }";
-    writes_schema = (query_field_tree ∷ [], ((query_field_reads, tt), refl));
-    writes_document = (just_field_tree, (just_field_reads, refl));
-    is = refl;
-  })

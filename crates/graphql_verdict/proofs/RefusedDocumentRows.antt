@@ -1,28 +1,25 @@
--- Documents that are refused with one fault: it is so, and no fault of typing is left out. The bytes of such an answer, where every rule on schemas holds.
+-- Documents that are refused with one fault: it is so, and no fault of typing is left out. The bytes of such answers.
 use Rattle.std.proofs.Common.{◌≡◌, [], ◌∷◌, codes, None, refl, sym, ap, subst, inr, arith}
 use Rattle.std.specs.Fmt.{digits}
 use Rattle.graphql_names.specs.Placed.{Place}
 use Rattle.graphql_built_in.specs.Table.{built_in_definitions}
 use Rattle.graphql_read.specs.in_grammar.Places.{place_in}
 use Rattle.graphql_schema_types.specs.SchemaTree.{SchemaTree}
-use Rattle.graphql_rule_definitions.specs.Judged.{judged}
-use Rattle.graphql_rule_definitions.specs.Rules.{SchemaRules}
 use Rattle.graphql_rule_definitions.proofs.Lists.{not_in_nil, only, is_only}
 use Rattle.graphql_typing.specs.TypingFaults as typing
 use Rattle.graphql_typing.specs.TypingFaults.{TypingFails}
 use Rattle.graphql_typing.proofs.DocumentFailures.{document-fails}
 use Rattle.graphql_verdict.specs.Texts.{Text, Tree, ReadsText, IsWithin}
-use Rattle.graphql_verdict.specs.Judge.{schema_of}
 use Rattle.graphql_verdict.specs.Says.{Fault, of_typing, of_document, SaysDocument, TypingFailsOver}
 use Rattle.graphql_verdict.specs.Answer.{RefusesDocument, Answer}
 use Rattle.graphql_verdict.proofs.RowReading.{reader, is_within, one_tree}
 use Rattle.graphql_verdict.proofs.RowTrees.{terms}
 use Rattle.graphql_verdict.proofs.RowMeanings.{meanings_found, same_meanings}
-use Rattle.graphql_verdict.proofs.TextRows.{query_field, query_field_tree, missing, missing_tree, missing_reads}
+use Rattle.graphql_verdict.proofs.TextRows.{query_field, missing, missing_tree, missing_reads}
 use Rattle.graphql_verdict.proofs.VerdictRows.{query_field_schema, missing_fault, missing_said}
 use Rattle.graphql_verdict.proofs.DocumentRows.{unused, unused_tree, unused_reads, unused_fault, unused_said, a_and_b_schema, conflict, conflict_tree, conflict_reads, conflict_fault, conflict_said}
 use Rattle.graphql_verdict.proofs.BytesRows.{of_one, not_empty}
-use Rattle.graphql_verdict.proofs.FoldsRows.{schema_accepted}
+use Rattle.graphql_verdict.proofs.PairRows.{schema_accepted}
 
 module _ (schema : SchemaTree Place) (document : Text) (tree : Tree) (reads : ReadsText 2 document tree) (within : IsWithin 500 2 document) (fault : Fault) (said : SaysDocument schema 500 2 document fault) where
   -- one fault, where it is the only one of typing, or there is none
@@ -55,11 +52,12 @@ conflict_refuses = one_refuses a_and_b_schema conflict conflict_tree conflict_re
 
 -- ---- the bytes
 
-module _ (rules : SchemaRules (judged (schema_of terms (query_field_tree ∷ [])))) where
-  missing_bytes : Answer terms None (query_field ∷ []) missing (codes "refused\n2:2: `Query` has no field `missing`\n")
-  unfolding place_in digits
-  missing_bytes = inr (record { faults = of_typing missing_fault ∷ []; refused = inr (schema_accepted rules, missing_refuses); is = refl })
+-- S `type Query { field: Int }`, D `{ missing }`
+missing_bytes : Answer terms None (query_field ∷ []) missing (codes "refused\n2:2: `Query` has no field `missing`\n")
+unfolding place_in digits
+missing_bytes = inr (record { faults = of_typing missing_fault ∷ []; refused = inr (schema_accepted, missing_refuses); is = refl })
 
-  unused_bytes : Answer terms None (query_field ∷ []) unused (codes "refused\n2:8: unused variable: `$v`\n")
-  unfolding place_in digits
-  unused_bytes = inr (record { faults = of_document unused_fault ∷ []; refused = inr (schema_accepted rules, unused_refuses); is = refl })
+-- S `type Query { field: Int }`, D `query Q($v: Int) { field }`
+unused_bytes : Answer terms None (query_field ∷ []) unused (codes "refused\n2:8: unused variable: `$v`\n")
+unfolding place_in digits
+unused_bytes = inr (record { faults = of_document unused_fault ∷ []; refused = inr (schema_accepted, unused_refuses); is = refl })
