@@ -1,8 +1,8 @@
 -- Tokens that mean the same text in two ways of giving places are read alike: where a rule reads a tree in the one, it reads one in
 -- the other, up to the same token, that is the same but for places. Here for each way to put rules together.
-use Rattle.std.proofs.Common.{◌≡◌, ℕ, Bool, true, false, List, [], ◌∷◌, map, Option, Some, None, unwrap_or, ◌⊎◌, inl, inr, refl, sym, ap, ◌∙◌}
+use Rattle.std.proofs.Common.{◌≡◌, Bool, true, false, List, [], ◌∷◌, map, Option, Some, None, unwrap_or, inl, inr, refl, sym, ap, ◌∙◌}
 use Rattle.std.specs.Option.{option_map}
-use Rattle.graphql_names.specs.Placed.{Placed, unplaced_node}
+use Rattle.graphql_names.specs.Placed.{unplaced_node}
 use Rattle.graphql_lexer.specs.declared.terminal.Terminal.{Terminal}
 use Rattle.graphql_lexer.specs.Input.{Input}
 use Rattle.graphql_grammar.specs.Meaning.{Meaning, place_between}

@@ -1,5 +1,5 @@
 -- Documents are read alike, and so a text has under each number the same tree, places aside.
-use Rattle.std.proofs.Common.{◌≡◌, ℕ, List, Option, ◌⊎◌, inl, inr, refl, ap}
+use Rattle.std.proofs.Common.{◌≡◌, ℕ, List, Option, ◌⊎◌, inl, inr, refl}
 use Rattle.std.specs.Option.{option_map}
 use Rattle.graphql_names.specs.Placed.{Text, unplaced_text}
 use Rattle.graphql_directives.specs.DirectiveTree.{DirectiveDefinitionTree, unplaced_directive_definition}

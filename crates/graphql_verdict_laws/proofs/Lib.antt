@@ -7,3 +7,5 @@ pub mod OperationsAlike
 pub mod TypeSystemAlike
 pub mod DocumentsAlike
 pub mod TypedAlike
+pub mod AnyNumber
+pub mod Rearranged

@@ -1,6 +1,6 @@
 -- Definitions of the type system are read alike.
-use Rattle.std.proofs.Common.{◌≡◌, ℕ, zero, suc, Bool, true, not, ◌&&◌, List, [], ◌∷◌, map, Some, refl, ap}
-use Rattle.graphql_names.specs.Placed.{Placed, unplaced_text, unplaced_node}
+use Rattle.std.proofs.Common.{◌≡◌, ℕ, zero, suc, not, ◌&&◌, List, [], ◌∷◌, map, refl}
+use Rattle.graphql_names.specs.Placed.{unplaced_text, unplaced_node}
 use Rattle.graphql_directives.specs.DirectiveTree.{unplaced_directive, unplaced_input_value, unplaced_directive_definition}
 use Rattle.graphql_type_members.specs.TypeSystemTree.{unplaced_field_definition, unplaced_enum_value, unplaced_root, unplaced_schema, unplaced_scalar, unplaced_fields, unplaced_union, unplaced_enum, unplaced_input_object}
 use Rattle.graphql_lexer.specs.Input.{Token}

@@ -12,10 +12,9 @@ use Rattle.graphql_operations.specs.OperationTree.{OperationTree, FragmentTree}
 use Rattle.graphql_directives.specs.DirectiveTree.{Directives, unplaced_directives}
 use Rattle.graphql_definitions.specs.DefinitionTree as tree
 use Rattle.graphql_definitions.specs.DefinitionTree.{DefinitionTree, unplaced_definition}
-use Rattle.graphql_definitions.specs.Queries.{definition_place}
 use Rattle.graphql_rule_definitions.proofs.Lists.{Contains-first, not_in_nil}
 use Rattle.graphql_document_rule_definitions.specs.FaultsUnplaced.{unplaced_breach}
-use Rattle.graphql_meant_documents.specs.MeantTree.{Definition, MeantSelection, MeantField, MeantInline, MeantOperation, MeantFragment, MeantDocument, members, meant_then, meant_set, set_on}
+use Rattle.graphql_meant_documents.specs.MeantTree.{Definition, MeantSelection, MeantField, MeantInline, MeantOperation, MeantFragment, members, meant_then, meant_set, set_on}
 use Rattle.graphql_meant_documents.specs.Unplaced.{unplaced_meant, unplaced_set, unplaced_members, unplaced_operation, unplaced_fragment, unplaced_document}
 use Rattle.graphql_typing.specs.Meanings.{Meanings, inner_type}
 use Rattle.graphql_typing.specs.KeptSelections.{may_select, is_leaf, kept, kept_all}

@@ -8,11 +8,11 @@ use Rattle.graphql_directives.specs.DirectiveTree.{unplaced_argument, unplaced_a
 use Rattle.graphql_lexer.specs.declared.terminal.Terminal.{Terminal}
 use Rattle.graphql_lexer.specs.Input.{Token}
 use Rattle.graphql_grammar.specs.Meaning.{Meaning, name_of}
-use Rattle.graphql_grammar.specs.Kinds.{is_name, is_enum_value, is_dollar, is_colon, is_at, is_equals, is_bang, is_open_bracket, is_close_bracket, is_open_brace, is_close_brace, is_open_paren, is_close_paren}
-use Rattle.graphql_grammar.specs.Rules.{Rule, one, mark, ◌<$>◌}
+use Rattle.graphql_grammar.specs.Kinds.{is_name, is_enum_value, is_dollar, is_colon, is_at, is_equals, is_open_bracket, is_close_bracket, is_open_brace, is_close_brace, is_open_paren, is_close_paren}
+use Rattle.graphql_grammar.specs.Rules.{Rule, one, ◌<$>◌}
 use Rattle.graphql_grammar.specs.ValueGrammar as v
 use Rattle.graphql_grammar.specs.ValueGrammar.{Const, constant, items_of, entries_of, argument_of, directive_of, type_of}
-use Rattle.graphql_verdict_laws.proofs.Alike.{Alike, fixed, skipped, mapped, made, seq, choice, never, unless, maybe, maybe_or, several, one_or_more, enclosed, behind, located}
+use Rattle.graphql_verdict_laws.proofs.Alike.{Alike, fixed, skipped, mapped, made, seq, choice, never, unless, maybe_or, several, one_or_more, enclosed, behind, located}
 
 abbrev Entry : Type 0 → Type 0
 Entry P = Text P × (Unit {0} × Placed P (ValueTree P))
