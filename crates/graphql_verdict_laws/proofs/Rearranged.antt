@@ -1,5 +1,5 @@
 -- The laws of rearranging and of cutting, for verdicts.
-use Rattle.std.proofs.Common.{◌≡◌, ◌≢◌, ℕ, suc, ◌+◌, ◌<◌, ◌^◌, Bool, true, false, ◌||◌, List, [], ◌∷◌, ◌++◌, filter, length, refl, sym, ap, subst, ◌∙◌, if◌then◌else◌, arith, true≢false}
+use Rattle.std.proofs.Common.{◌≡◌, ◌≢◌, ℕ, suc, ◌+◌, ◌≤◌, ◌<◌, ◌^◌, max, Bool, true, false, ◌||◌, List, [], ◌∷◌, ◌++◌, filter, length, refl, sym, ap, subst, ◌∙◌, if◌then◌else◌, arith, true≢false}
 use Rattle.std.specs.List.{list_any}
 use Rattle.std.proofs.lemmas.List.{length-append}
 use Rattle.std.proofs.lemmas.List.Elements.{filter-append}
@@ -19,7 +19,14 @@ use Rattle.graphql_rule_definitions.specs.Cycles.{PassesReferenceBound}
 use Rattle.graphql_rule_definitions.specs.Rules.{SchemaRules}
 use Rattle.graphql_rule_definitions.specs.Laws.{AreEqual}
 use Rattle.graphql_rule_definitions.proofs.Same.{read_the_same}
+use Rattle.graphql_grammar.specs.Depth.{depth}
+use Rattle.graphql_read.specs.in_parse_values.Meanings.{in_file}
+use Rattle.graphql_read.specs.Reads.{NestingBound}
 use Rattle.graphql_read.proofs.Soundness.{document_sound}
+use Rattle.graphql_read.proofs.Bounds.{within_all}
+use Rattle.graphql_depth_laws.specs.TreeDepth.{deepest, definition_depth, document_depth}
+use Rattle.graphql_depth_laws.proofs.Documents.{derived_depth}
+use Rattle.graphql_depth_laws.proofs.Unplaced.{document_unplaced}
 use Rattle.graphql_schema_laws.specs.ReadTexts.{Texts, AreReadElsewhere}
 use Rattle.graphql_rearranging_laws.specs.Rearranged.{IsRearranged}
 use Rattle.graphql_rearranging_laws.specs.Permuting.{IsPermuted, nothing, next}
@@ -33,11 +40,11 @@ use Rattle.graphql_rearranging_laws.proofs.Cut.{writes_alike}
 use Rattle.graphql_rearranging_laws.proofs.WrittenSorts.{writes_permuted}
 use Rattle.graphql_rearranging_laws.proofs.Permuting.{rearranged_permuted}
 use Rattle.graphql_rearranging_laws.proofs.ReadTexts.{texts_elsewhere, is_own_list}
-use Rattle.graphql_verdict.specs.Texts.{Text, Tree, Terms, ReadsAll, document_number}
+use Rattle.graphql_verdict.specs.Texts.{Text, Tree, Terms, ReadsText, ReadsAll, document_number, AreWithin}
 use Rattle.graphql_verdict.specs.Judge.{definitions_of, Folds, schema_of, schema_at_hand, JudgeSchemas, Judge, AreSchemasAccepted, IsAccepted, PassesNoReferenceBound, AreSchemasCertain, IsCertain}
 use Rattle.graphql_verdict.specs.Out.{Out, Layout}
 use Rattle.graphql_verdict.specs.Answer.{WritesSchema, AcceptedBytes}
-use Rattle.graphql_verdict_laws.specs.Rearranged.{AreRead, AreRearranged, AreCut, AreBothWithin, AreJudgedAlike, AreAcceptedAlike, LawOfRearranging, LawOfCutting}
+use Rattle.graphql_verdict_laws.specs.Rearranged.{AreBothRead, AreRearranged, AreCut, AreNumbered, LeaveNumber, AreJudgedAlike, AreAcceptedAlike, LawOfRearranging, LawOfCutting}
 use Rattle.graphql_verdict_laws.proofs.AnyNumber.{one_tree, text_same, written_too, judged_too, accepted_too, certain_too}
 
 -- ---- the texts
@@ -131,6 +138,66 @@ have_numbers : (first : ℕ) (ds es : Definitions) → FoldingRules built_in_def
 have_numbers first ds es rules same numbers =
     subst (λ n. 0 < n → first + n < 2 ^ 64) (count_permuted ds es (rearranged_permuted ds es (none_executable first ds rules) same)) numbers
 
+-- ---- how deep brackets nest
+
+no_more : (m n : ℕ) → (m < n → ⊥) → n ≤ m
+no_more m n h = omega arith
+
+no_less : (m n : ℕ) → (n ≤ m → ⊥) → m < n
+no_less m n h = omega arith
+
+deepest_append : (f : DefinitionTree Place → ℕ) (ds es : Definitions) → deepest f (ds ++ es) ≡ max (deepest f ds) (deepest f es)
+deepest_append f [] es = omega arith
+deepest_append f (d ∷ ds) es = omega (arith, deepest_append f ds es)
+
+depth_same : (d e : DefinitionTree Place) → unplaced_definition d ≡ unplaced_definition e → definition_depth d ≡ definition_depth e
+depth_same d e same =
+    let both : document_depth (unplaced_document (d ∷ [])) ≡ document_depth (unplaced_document (e ∷ [])) = ap (λ x. document_depth (x ∷ [])) same in
+    let one : max (definition_depth d) 0 ≡ max (definition_depth e) 0 = sym (document_unplaced (d ∷ [])) ∙ both ∙ document_unplaced (e ∷ []) in
+    omega (arith, one)
+
+deep_permuted : (ds es : Definitions) → IsPermuted ds es → document_depth ds ≡ document_depth es
+deep_permuted ds es nothing = refl
+deep_permuted ds es (next front d back e rest pass same more) =
+    let one = depth_same d e same in
+    let less = deep_permuted (front ++ back) rest more in
+    let sum = deepest_append definition_depth front back in
+    let whole = deepest_append definition_depth front (d ∷ back) in
+    whole ∙ by (definition_depth d) (definition_depth e) (document_depth front) (document_depth back) (document_depth rest) one (sym sum ∙ less)
+  where
+    by : (m n f b r : ℕ) → m ≡ n → max f b ≡ r → max f (max m b) ≡ max n r
+    by m n f b r h k = omega (arith, h, k)
+
+-- the brackets of a text nest as deep as its tree
+deep_text : (nesting number : ℕ) (text : Text) (t : Tree) → ReadsText number text t → (NestingBound nesting text → ⊥) → document_depth t ≤ nesting
+deep_text nesting number text t r within =
+    let deep = derived_depth (in_file (record { 0 = number })) r.tokens t r.derived in
+    subst (λ n. n ≤ nesting) deep (no_more nesting (depth r.tokens) (λ above. within (record { tokens = r.tokens; behind = []; lexed = r.lexed; above = above })))
+
+text_within : (nesting number : ℕ) (text : Text) (t : Tree) → ReadsText number text t → document_depth t ≤ nesting → NestingBound nesting text → ⊥
+text_within nesting number text t r le = within_all nesting text r.tokens r.lexed (subst (λ n. n ≤ nesting) (sym (derived_depth (in_file (record { 0 = number })) r.tokens t r.derived)) le)
+
+deep_texts : (nesting first : ℕ) (texts : List Text) (ts : List Tree) → ReadsAll first texts ts → AreWithin nesting first texts → document_depth (definitions_of ts) ≤ nesting
+deep_texts nesting first [] [] read within = omega arith
+deep_texts nesting first [] (t ∷ ts) read within = absurd read
+deep_texts nesting first (text ∷ texts) [] read within = absurd read
+deep_texts nesting first (text ∷ texts) (t ∷ ts) read within =
+    omega (arith, deepest_append definition_depth t (definitions_of ts), deep_text nesting first text t read.0 within.0.nests, deep_texts nesting (first + 1) texts ts read.1 within.1)
+
+texts_within : (nesting first : ℕ) (texts : List Text) (ts : List Tree) → ReadsAll first texts ts → length texts + first < 2 ^ 64 → document_depth (definitions_of ts) ≤ nesting → AreWithin nesting first texts
+texts_within nesting first [] [] read room deep = tt
+texts_within nesting first [] (t ∷ ts) read room deep = absurd read
+texts_within nesting first (text ∷ texts) [] read room deep = absurd read
+texts_within nesting first (text ∷ texts) (t ∷ ts) read room deep =
+    let parts = deepest_append definition_depth t (definitions_of ts) in (
+      record { nests = text_within nesting first text t read.0 (omega (arith, parts, deep)); numbered = λ passed. omega (arith, room, passed) },
+      texts_within nesting (first + 1) texts ts read.1 (omega (arith, room)) (omega (arith, parts, deep)),
+    )
+
+-- where a number is left behind all texts, each has one
+room_for_all : (terms : Terms) (texts : List Text) → LeaveNumber terms texts → AreNumbered terms texts
+room_for_all terms texts left = let k = no_less (document_number terms texts + 1) (2 ^ 64) left in omega (arith, k)
+
 -- ---- two lists of texts
 
 module _ (terms : Terms) (ts us : List Tree) (own : AreAllElsewhere (definitions_of ts)) (other_own : AreAllElsewhere (definitions_of us)) (same : IsRearranged (definitions_of ts) (definitions_of us)) where
@@ -151,15 +218,15 @@ module _ (terms : Terms) (ts us : List Tree) (own : AreAllElsewhere (definitions
 
 module _ {Same : Tree → Tree → Type 0} (terms : Terms) (texts others : List Text) where
   -- in whichever trees they are read
-  same_of : (r : AreRead Same terms texts others) (ts us : List Tree) → ReadsAll terms.first_text texts ts → ReadsAll terms.first_text others us → Same (definitions_of ts) (definitions_of us)
+  same_of : (r : AreBothRead Same terms texts others) (ts us : List Tree) → ReadsAll terms.first_text texts ts → ReadsAll terms.first_text others us → Same (definitions_of ts) (definitions_of us)
   same_of r ts us read read' =
       subst (λ xs. Same (definitions_of xs) (definitions_of us)) (all_one terms.first_text texts r.trees ts r.read read)
       (subst (λ xs. Same (definitions_of r.trees) (definitions_of xs)) (all_one terms.first_text others r.other_trees us r.other_read read') r.same)
 
-  own_of : (r : AreRead Same terms texts others) (ts : List Tree) → ReadsAll terms.first_text texts ts → AreAllElsewhere (definitions_of ts)
+  own_of : (r : AreBothRead Same terms texts others) (ts : List Tree) → ReadsAll terms.first_text texts ts → AreAllElsewhere (definitions_of ts)
   own_of r ts read = stand_elsewhere terms.first_text texts ts r.elsewhere read
 
-  other_own_of : (r : AreRead Same terms texts others) (us : List Tree) → ReadsAll terms.first_text others us → AreAllElsewhere (definitions_of us)
+  other_own_of : (r : AreBothRead Same terms texts others) (us : List Tree) → ReadsAll terms.first_text others us → AreAllElsewhere (definitions_of us)
   other_own_of r us read = stand_elsewhere terms.first_text others us r.elsewhere read
 
 other_way : (terms : Terms) (texts others : List Text) → AreRearranged terms texts others → AreRearranged terms others texts
@@ -171,9 +238,6 @@ other_way terms texts others r = record {
   other_read = r.read;
   same = turned (definitions_of r.trees) (definitions_of r.other_trees) r.same;
 }
-
-within_other_way : (terms : Terms) (texts others : List Text) → AreBothWithin terms texts others → AreBothWithin terms others texts
-within_other_way terms texts others w = record { within = w.others_within; others_within = w.within; left = w.others_left; others_left = w.left }
 
 -- ---- what holds of the one holds of the other
 
@@ -195,11 +259,19 @@ module _ (terms : Terms) (texts others : List Text) (r : AreRearranged terms tex
     over = (judged_too (schema_at_hand terms j.schema.trees) (schema_at_hand terms r.other_trees) (at_hand j.schema.trees r.other_trees j.schema.read r.other_read) (document_number terms texts) (document_number terms others) document j.over).judged;
   }
 
-  module _ (w : AreBothWithin terms texts others) where
+  module _ (room : AreNumbered terms others) where
+    -- the brackets of the others nest no deeper
+    within_too : (a : AreSchemasAccepted terms texts) → AreWithin terms.nesting terms.first_text others
+    within_too a =
+        texts_within terms.nesting terms.first_text others r.other_trees r.other_read room
+        (subst (λ n. n ≤ terms.nesting) (deep_permuted (definitions_of a.judged.trees) (definitions_of r.other_trees)
+        (rearranged_permuted (definitions_of a.judged.trees) (definitions_of r.other_trees) (none_executable terms.first_extension (definitions_of a.judged.trees) a.judged.folds) (same_of terms texts others r a.judged.trees r.other_trees a.judged.read r.other_read)))
+        (deep_texts terms.nesting terms.first_text texts a.judged.trees a.judged.read a.within))
+
     abbrev accepted_schemas_too : AreSchemasAccepted terms texts → AreSchemasAccepted terms others
     accepted_schemas_too a = record {
       judged = schemas_too a.judged;
-      within = w.others_within;
+      within = within_too a;
       numbered = have_numbers terms.first_extension (definitions_of a.judged.trees) (definitions_of r.other_trees) a.judged.folds (same_of terms texts others r a.judged.trees r.other_trees a.judged.read r.other_read) a.numbered;
     }
 
@@ -209,20 +281,24 @@ module _ (terms : Terms) (texts others : List Text) (r : AreRearranged terms tex
     certain_schemas_too : AreSchemasCertain terms texts → AreSchemasCertain terms others
     certain_schemas_too c = (accepted_schemas_too c.0, references c.0 c.1)
 
+  module _ (left : LeaveNumber terms others) where
+    room_behind : AreNumbered terms others
+    room_behind = room_for_all terms others left
+
     abbrev accepted_pair_too : (document : Text) → IsAccepted terms texts document → IsAccepted terms others document
     accepted_pair_too document a = record {
-      schema = accepted_schemas_too a.schema;
+      schema = accepted_schemas_too room_behind a.schema;
       over = accepted_too (schema_at_hand terms a.schema.judged.trees) (schema_at_hand terms r.other_trees) (at_hand a.schema.judged.trees r.other_trees a.schema.judged.read r.other_read)
-          terms.nesting (document_number terms texts) (document_number terms others) w.others_left document a.over;
+          terms.nesting (document_number terms texts) (document_number terms others) left document a.over;
     }
 
     certain_pair_too : (document : Text) → IsCertain terms texts document → IsCertain terms others document
     certain_pair_too document c =
         let k = certain_too (schema_at_hand terms c.accepted.schema.judged.trees) (schema_at_hand terms r.other_trees) (at_hand c.accepted.schema.judged.trees r.other_trees c.accepted.schema.judged.read r.other_read)
-        terms.nesting (document_number terms texts) (document_number terms others) w.others_left document (c.accepted.over, c.nests) in
+        terms.nesting (document_number terms texts) (document_number terms others) left document (c.accepted.over, c.nests) in
         record {
-          accepted = record { schema = accepted_schemas_too c.accepted.schema; over = k.0 };
-          references = references c.accepted.schema c.references;
+          accepted = record { schema = accepted_schemas_too room_behind c.accepted.schema; over = k.0 };
+          references = references room_behind c.accepted.schema c.references;
           nests = k.1;
         }
 
@@ -235,15 +311,14 @@ judged_alike terms texts others r = record {
   pairs = λ document. (pair_too terms texts others r document, pair_too terms others texts (other_way terms texts others r) document);
 }
 
-pub accepted_alike : (terms : Terms) (texts others : List Text) → AreRearranged terms texts others → AreBothWithin terms texts others → AreAcceptedAlike terms texts others
-accepted_alike terms texts others r w =
+pub accepted_alike : (terms : Terms) (texts others : List Text) → AreRearranged terms texts others → AreAcceptedAlike terms texts others
+accepted_alike terms texts others r =
     let r' = other_way terms texts others r in
-    let w' = within_other_way terms texts others w in
     record {
-      schemas = (accepted_schemas_too terms texts others r w, accepted_schemas_too terms others texts r' w');
-      schemas_for_sure = (certain_schemas_too terms texts others r w, certain_schemas_too terms others texts r' w');
-      pairs = λ document. (accepted_pair_too terms texts others r w document, accepted_pair_too terms others texts r' w' document);
-      pairs_for_sure = λ document. (certain_pair_too terms texts others r w document, certain_pair_too terms others texts r' w' document);
+      schemas = λ room room'. (accepted_schemas_too terms texts others r room', accepted_schemas_too terms others texts r' room);
+      schemas_for_sure = λ room room'. (certain_schemas_too terms texts others r room', certain_schemas_too terms others texts r' room);
+      pairs = λ left left' document. (accepted_pair_too terms texts others r left' document, accepted_pair_too terms others texts r' left document);
+      pairs_for_sure = λ left left' document. (certain_pair_too terms texts others r left' document, certain_pair_too terms others texts r' left document);
     }
 
 pub rearranging : LawOfRearranging
@@ -278,9 +353,9 @@ module _ (terms : Terms) (texts others : List Text) (r : AreCut terms texts othe
   schema_written_too : (layout : Layout) (bytes : List ℕ) → WritesSchema terms layout texts bytes → WritesSchema terms layout others bytes
   schema_written_too layout bytes h = (r.other_trees, (r.other_read, h.1.1 ∙ text_same layout (Out terms h.0) (Out terms r.other_trees) (writes h.0 r.other_trees h.1.0 r.other_read)))
 
-  answered_too : AreBothWithin terms texts others → (layout : Layout) (document : Text) (bytes : List ℕ) → AcceptedBytes terms layout texts document bytes → AcceptedBytes terms layout others document bytes
-  answered_too w layout document bytes a = record {
-    accepted = accepted_pair_too terms texts others (as_rearranged terms texts others r) w document a.accepted;
+  answered_too : LeaveNumber terms others → (layout : Layout) (document : Text) (bytes : List ℕ) → AcceptedBytes terms layout texts document bytes → AcceptedBytes terms layout others document bytes
+  answered_too left layout document bytes a = record {
+    accepted = accepted_pair_too terms texts others (as_rearranged terms texts others r) left document a.accepted;
     written_schema = a.written_schema;
     written_document = a.written_document;
     writes_schema = schema_written_too layout a.written_schema a.writes_schema;
@@ -296,5 +371,5 @@ cutting terms texts others r =
       accepted = accepted_alike terms texts others (as_rearranged terms texts others r);
       writes = writes terms texts others r r.trees r.other_trees r.read r.other_read;
       written = λ layout bytes. (schema_written_too terms texts others r layout bytes, schema_written_too terms others texts r' layout bytes);
-      answered = λ w layout document bytes. (answered_too terms texts others r w layout document bytes, answered_too terms others texts r' (within_other_way terms texts others w) layout document bytes);
+      answered = λ left left' layout document bytes. (answered_too terms texts others r left' layout document bytes, answered_too terms others texts r' left layout document bytes);
     }
