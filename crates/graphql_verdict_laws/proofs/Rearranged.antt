@@ -370,6 +370,7 @@ cutting terms texts others r =
       judged = judged_alike terms texts others (as_rearranged terms texts others r);
       accepted = accepted_alike terms texts others (as_rearranged terms texts others r);
       writes = writes terms texts others r r.trees r.other_trees r.read r.other_read;
+      texts_written = λ layout. text_same layout (Out terms r.trees) (Out terms r.other_trees) (writes terms texts others r r.trees r.other_trees r.read r.other_read);
       written = λ layout bytes. (schema_written_too terms texts others r layout bytes, schema_written_too terms others texts r' layout bytes);
       answered = λ left left' layout document bytes. (answered_too terms texts others r left' layout document bytes, answered_too terms others texts r' left layout document bytes);
     }

@@ -7,13 +7,14 @@ use Rattle.graphql_rearranging_laws.specs.Rearranged.{IsRearranged}
 use Rattle.graphql_rearranging_laws.specs.Permuting.{IsPermuted}
 use Rattle.graphql_verdict.specs.Texts.{Text, Tree, Terms, ReadsAll, document_number}
 use Rattle.graphql_verdict.specs.Judge.{definitions_of, schema_at_hand, JudgeSchemas, Judge, AreSchemasAccepted, AreSchemasCertain, IsAccepted, IsCertain}
-use Rattle.graphql_verdict.specs.Out.{Out, Layout}
+use Rattle.graphql_verdict.specs.Out.{Out, Layout, layout_text}
 use Rattle.graphql_verdict.specs.Answer.{WritesSchema, AcceptedBytes}
 use Rattle.graphql_verdict_laws.specs.AnyNumber.{IsNumber}
 
 -- ---- the premises
 
--- Both lists of schema texts are read, none under the number of what is built in, and in this sense their definitions are the same.
+-- Both lists of schema texts are read, counted from a number other than that of what is built in, and in this sense their definitions
+-- are the same.
 pub record AreBothRead (Same : Tree → Tree → Type 0) (terms : Terms) (texts others : List Text) : Type 0 where
   pub elsewhere : terms.first_text ≢ 0
   pub trees : List Tree
@@ -65,11 +66,13 @@ pub record RearrangingIsFree (terms : Terms) (texts others : List Text) (same : 
 abbrev pub LawOfRearranging : Type 0
 LawOfRearranging = (terms : Terms) (texts others : List Text) (same : AreRearranged terms texts others) → RearrangingIsFree terms texts others same
 
--- the same is written, in the same order: in every layout the same text, and of every accepted pair the same bytes are put out
+-- the same is written of the schemas, in the same order: in every layout the same text; and of every accepted pair the same bytes
+-- are put out
 pub record CuttingIsFree (terms : Terms) (texts others : List Text) (same : AreCut terms texts others) : Type 0 where
   pub judged : AreJudgedAlike terms texts others
   pub accepted : AreAcceptedAlike terms texts others
   pub writes : unplaced_document (Out terms same.trees) ≡ unplaced_document (Out terms same.other_trees)
+  pub texts_written : (layout : Layout) → layout_text layout (Out terms same.trees) ≡ layout_text layout (Out terms same.other_trees)
   pub written : (layout : Layout) (bytes : List ℕ) → WritesSchema terms layout texts bytes ↔ WritesSchema terms layout others bytes
   pub answered : LeaveNumber terms texts → LeaveNumber terms others → (layout : Layout) (document : Text) (bytes : List ℕ)
       → AcceptedBytes terms layout texts document bytes ↔ AcceptedBytes terms layout others document bytes
