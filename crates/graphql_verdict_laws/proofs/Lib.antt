@@ -1,3 +1,11 @@
 pub mod Sound
 pub mod Schemas
 pub mod Documents
+pub mod Alike
+pub mod ValuesAlike
+pub mod OperationsAlike
+pub mod TypeSystemAlike
+pub mod DocumentsAlike
+pub mod TypedAlike
+pub mod AnyNumber
+pub mod Rearranged

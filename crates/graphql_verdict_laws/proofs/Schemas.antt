@@ -1,5 +1,5 @@
 -- What is written of accepted schema texts can be written.
-use Rattle.std.proofs.Common.{◌≡◌, ◌≢◌, ℕ, Bool, true, false, ◌||◌, List, [], ◌∷◌, ◌++◌, flat_map, Option, None, Some, is_some, refl, ap, ◌∙◌, slice_get, inl, true≢false, if◌then◌else◌}
+use Rattle.std.proofs.Common.{◌≡◌, ℕ, Bool, true, false, ◌||◌, List, [], ◌∷◌, ◌++◌, flat_map, Option, None, Some, is_some, refl, ap, ◌∙◌, slice_get, inl, true≢false, if◌then◌else◌}
 use Rattle.std.specs.Option.{option_map, option_map_or}
 use Rattle.graphql_components.specs.Given.{given_name}
 use Rattle.graphql_components.specs.in_operations.in_directives.declared.operation_type.OperationType.TheVariants as operation
@@ -7,7 +7,6 @@ use Rattle.graphql_built_in.specs.Table.{built_in_definitions}
 use Rattle.graphql_folding.specs.Listed.{Definitions, numbered}
 use Rattle.graphql_folding.specs.Components.{all_given}
 use Rattle.graphql_folding.specs.SchemaFold.{Root, SchemaGiver, schema_definition_in, schema_is_defined, schema_base, implicit_roots, extends_schema, root_in, folded_schema}
-use Rattle.graphql_rule_definitions.specs.Judged.{judged}
 use Rattle.graphql_rule_definitions.specs.Faults.{told}
 use Rattle.graphql_rule_definitions.specs.Diagnostics.{QueryRootOperationType}
 use Rattle.graphql_schema_types.specs.Addresses.{SchemaAt}
