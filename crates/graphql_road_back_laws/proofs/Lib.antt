@@ -1,0 +1,12 @@
+pub mod EqualSchemas
+pub mod Taken
+pub mod FormedValues
+pub mod FormedOperations
+pub mod FormedTypeSystem
+pub mod FormedDocuments
+pub mod Stays
+pub mod StaysSo
+pub mod SameMarks
+pub mod Counting
+pub mod ReadBack
+pub mod SchemaBack
