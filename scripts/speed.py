@@ -4,7 +4,7 @@
 PROGRAM is the built program of `graphql_checked_program` (`rt run` there leaves it in `out/`). Schemas and documents of several
 sizes are written to a folder that is removed again, and PROGRAM answers each pair. A line tells the bytes of both texts, the
 instructions that callgrind counts and the most memory that the program held, each less that of the smallest pair, and both by
-the byte. With WORD only cases whose names have it are run."""
+the byte. With WORD only cases whose names have it are run. It needs valgrind, and `time` as GNU has it."""
 
 import os
 import re
@@ -120,9 +120,8 @@ def cost(program, folder, texts):
     found = re.search(r"Collected : (\d+)", counted.stderr)
     if not found:
         sys.exit(f"speed.py: callgrind counted nothing: {counted.stderr[-300:]}")
-    measure = "import resource, subprocess, sys; subprocess.run(sys.argv[1:], stdout=subprocess.DEVNULL); print(resource.getrusage(resource.RUSAGE_CHILDREN).ru_maxrss)"
-    held = subprocess.run([sys.executable, "-c", measure, *words], cwd=folder, capture_output=True, text=True, check=True)
-    return int(found[1]), int(held.stdout), counted.stdout.split("\n")[0]
+    held = subprocess.run(["/usr/bin/time", "-f", "%M", *words], cwd=folder, capture_output=True, text=True, check=False)
+    return int(found[1]), int(held.stderr.split()[-1]), counted.stdout.split("\n")[0]
 
 
 def main():
