@@ -1,0 +1,265 @@
+#!/usr/bin/env python3
+"""Which definitions the promises rest on: scripts/believed.py [--names] [--why FILE] [--check]
+
+Prints the files of `specs/` that the clauses of the users' crates reach, in the order of crates.txt and of each `Lib.antt`.
+A clause is `requires`, `ensures` or `follows` of a public function, or what an `impl` of a trait says by a `ghost` word
+(`output`, `is_clone`, ..). Public are the items that `lib.rt` of one of the users' crates gives, where it takes them from an
+inner crate those of that crate. A clause reaches the definitions that it names, and a definition those that it names.
+
+An invariant of a public type speaks of its private fields: what follows from it is had by a clause of some call. So what
+invariants alone reach is printed behind, and counts for nothing.
+
+--names prints the reached definitions of each file too. --why FILE (a path or a name such as `Listed`) prints by which
+definitions a clause leads to it. --check prints what is wrong, a line each: a reached file that says in its first line that it
+is private; a file that docs/DEFINITIONS.md links to and nothing reaches, or one that is reached and not linked to. The status is
+then 1.
+"""
+import os
+import re
+import sys
+
+import sources
+from sources import TOP, USERS, Definition
+
+# What an `impl` says by a ghost word and is no promise by itself: a view of private fields, proofs, and imports.
+NO_PROMISE = {"view", "coded", "laws", "respects_eq", "matches_eq", "matches_partial_cmp", "total", "same_text", "use", "invariant"}
+
+PAGE = "docs/DEFINITIONS.md"
+
+
+class Exports:
+    """What the crates give: of each name the crate and the file in which the item stands."""
+
+    def __init__(self):
+        self.known = {}
+        self.texts = {}
+
+    def text(self, path):
+        if path not in self.texts:
+            self.texts[path] = sources.read(path)
+        return self.texts[path]
+
+    def of(self, crate):
+        """The items of a crate: name, and (crate, file, name there)."""
+        if crate in self.known:
+            return self.known[crate]
+        self.known[crate] = found = {}
+        root = next((path for path in (f"crates/{crate}/src/lib.rt", f"crates/{crate}/src/main.rt") if os.path.exists(os.path.join(TOP, path))), None)
+        if root is None:
+            return found
+        text = self.text(root)
+        for module in re.findall(r"^pub mod (\w+);", text, re.M):
+            path = f"crates/{crate}/src/{module}.rt"
+            for function in sources.functions(self.text(path)):
+                if function.is_public:
+                    found[f"{module}::{function.name}"] = (crate, path, function.name)
+            self.take(crate, path, found, f"{module}::")
+        self.take(crate, root, found, "")
+        for item in re.finditer(r"^pub (?:fn|struct|enum|trait|type|const) (\w+)", sources.masked(text), re.M):
+            found[item.group(1)] = (crate, root, item.group(1))
+        return found
+
+
+    def take(self, crate, path, found, front):
+        """Adds what a source of the crate gives again."""
+        for is_public, way, name, under in sources.uses(self.text(path)):
+            steps = [step for step in way.split("::") if step != "crate"]
+            if not is_public or not steps:
+                continue
+            own = f"crates/{crate}/src/{steps[0]}.rt"
+            if os.path.exists(os.path.join(TOP, own)):
+                found[front + under] = (crate, own, name)
+            elif os.path.isdir(os.path.join(TOP, "crates", steps[0])):
+                below = self.of(steps[0]).get("::".join(steps[1:] + [name]))
+                if below:
+                    found[front + under] = below
+
+
+class Clause:
+    """A clause of a public item: where it stands, of what, its words, and what its names stand for."""
+
+    def __init__(self, path, line, of, kind, text, scope):
+        self.path, self.line, self.of, self.kind, self.text, self.scope = path, line, of, kind, text, scope
+
+    def where(self):
+        return f"{self.path}:{self.line}: {self.of}: {self.kind}"
+
+
+def public_clauses(library):
+    """The clauses of all public items of the users' crates."""
+    exports = Exports()
+    items = {target for crate in USERS for target in exports.of(crate).values()}
+    types = {(crate, name) for crate, _, name in items}
+    names = {name for _, _, name in items}
+    free = {(path, name) for _, path, name in items}
+    traits = {found for crate in {crate for crate, _, _ in items} for found in traits_of(crate)}
+    clauses = []
+    for crate in sorted({crate for crate, _, _ in items}):
+        for path in sources.paths(f"crates/{crate}/src/*.rt"):
+            clauses += clauses_of(library, path, crate, types, names, free, traits)
+    return clauses
+
+
+def traits_of(crate):
+    """The traits that a crate declares."""
+    found = set()
+    for path in sources.paths(f"crates/{crate}/src/*.rt"):
+        found |= set(re.findall(r"^(?:pub(?:\([a-z]+\))? )?trait (\w+)", sources.read(path), re.M))
+    return found
+
+
+def clauses_of(library, path, crate, types, names, free, traits):
+    """The public clauses of a source."""
+    text = sources.read(path)
+    bare = sources.masked(text)
+    blocks = sources.blocks(bare)
+    uses = sources.ghost_uses(text)
+    found = []
+
+    def scope_at(block):
+        inside = lambda at: any(b.opened < at < b.end for b in blocks)
+        return library.scope([use for at, use in uses if not inside(at) or (block and block.opened < at < block.end)])
+
+    def add(of, kind, words, line, scope):
+        found.append(Clause(path, line, of, kind, words, scope))
+
+    outer = scope_at(None)
+    for function in sources.functions(text, bare):
+        block = next((b for b in blocks if b.opened < function.start < b.end), None)
+        if block is None:
+            if function.is_public and (path, function.name) in free:
+                for kind, label, words, line in function.clauses:
+                    add(function.name, f"{kind} {label}".strip(), words, line, outer)
+        elif is_public_block(block, crate, types, names, traits) and (function.is_public or block.trait):
+            scope = scope_at(block)
+            for kind, label, words, line in function.clauses:
+                add(f"{block.of or block.trait}::{function.name}", f"{kind} {label}".strip(), words, line, scope)
+    for block in blocks:
+        if not is_public_block(block, crate, types, names, traits):
+            continue
+        scope = scope_at(block)
+        for word in re.finditer(r"^    ghost (\w+) ?[=:]\s*\{", bare[block.opened : block.end], re.M):
+            at = block.opened + word.end() - 1
+            words = text[at + 1 : sources.closing(bare, at) - 1]
+            if word.group(1) == "invariant" or word.group(1) not in NO_PROMISE:
+                add(f"{block.trait} for {block.of}" if block.of else block.trait, word.group(1), words, text.count("\n", 0, at) + 1, scope)
+    for item in re.finditer(r"^pub (?:struct|enum) (\w+)[^{;]*\{", bare, re.M):
+        if (crate, item.group(1)) in types:
+            at = item.end() - 1
+            end = sources.closing(bare, at)
+            for field in re.finditer(r"^    ghost (\w+): \{", bare[at:end], re.M):
+                opened = at + field.end() - 1
+                add(item.group(1), "invariant " + field.group(1), text[opened + 1 : sources.closing(bare, opened) - 1], text.count("\n", 0, opened) + 1, outer)
+    return found
+
+
+def is_public_block(block, crate, types, names, traits):
+    """Whether what stands in a block is public: of a type or a trait that is, and of no trait of the repository that is not."""
+    if block.is_trait:
+        return (crate, block.trait) in types
+    if block.trait in traits and block.trait not in names:
+        return False
+    return block.of in names or (crate, block.trait) in types
+
+
+def reach(library, clauses):
+    """What clauses reach: of each definition, or file, what leads to it."""
+    scopes, came, left = {}, {}, []
+
+    def add(target, by):
+        key = target.key() if isinstance(target, Definition) else (target, None)
+        if key not in came:
+            came[key] = by
+            left.append(target)
+
+    for clause in clauses:
+        for target in library.named(clause.text, clause.scope):
+            add(target, clause)
+    while left:
+        here = left.pop(0)
+        if not isinstance(here, Definition):
+            continue
+        if here.path not in scopes:
+            scopes[here.path] = library.scope_of(here.path)
+        for target in library.named(here.text(), scopes[here.path]):
+            if target is not here:
+                add(target, here)
+    return came
+
+
+def in_order(library, files):
+    """Files in the order of crates.txt and of each Lib.antt."""
+    crates = list(sources.crates())
+
+    def key(path):
+        crate, file = path.split("/")[1], path.split("/")[3][: -len(".antt")]
+        modules = library.files[f"crates/{crate}/specs/Lib.antt"].modules
+        return crates.index(crate), modules.index(file) if file in modules else len(modules), file
+
+    return sorted(files, key=key)
+
+
+def way(came, key):
+    """By what a clause leads to a definition: lines, from the clause down."""
+    lines = []
+    while key in came:
+        lines.append(f"{key[0]}: {key[1] or 'the file'}")
+        by = came[key]
+        if isinstance(by, Clause):
+            return [by.where(), *reversed(lines)]
+        key = by.key()
+    return list(reversed(lines))
+
+
+def files_of(came):
+    """The files, each with the names of its reached definitions."""
+    found = {}
+    for path, name in came:
+        found.setdefault(path, set())
+        if name:
+            found[path].add(name)
+    return {path: names for path, names in found.items() if not path.endswith("/Lib.antt")}
+
+
+def linked(text):
+    """The files of specs/ that a page links to."""
+    return {os.path.normpath(os.path.join("docs", target)) for target in re.findall(r"\]\(([^)#\s]+/specs/\w+\.antt)\)", text)}
+
+
+def main(words):
+    library = sources.Library()
+    clauses = public_clauses(library)
+    promises = [clause for clause in clauses if not clause.kind.startswith("invariant")]
+    came = reach(library, promises)
+    files = files_of(came)
+    if "--why" in words:
+        wanted = words[words.index("--why") + 1]
+        everything = reach(library, clauses)
+        for key in everything:
+            if key[0] == wanted or os.path.basename(key[0]) == wanted + ".antt":
+                print("\n    ".join(way(came if key in came else everything, key)))
+        return 0
+    wrong = []
+    for path in in_order(library, files):
+        if library.files[path].is_private():
+            wrong.append(f"{path}: is reached, and says that it is private: {' > '.join(way(came, next(k for k in came if k[0] == path)))}")
+    page = linked(sources.read(PAGE))
+    for path in in_order(library, set(files) - page):
+        wrong.append(f"{path}: is reached, and {PAGE} has no link to it")
+    for path in sorted(page - set(files)):
+        wrong.append(f"{path}: {PAGE} links to it, and nothing reaches it")
+    if "--check" in words:
+        print("\n".join(wrong + [f"believed: {len(files)} files, {len(wrong)} wrong"]))
+        return 1 if wrong else 0
+    for path in in_order(library, files):
+        print(path + (": " + ", ".join(sorted(files[path])) if "--names" in words else ""))
+    alone = set(files_of(reach(library, clauses))) - set(files)
+    if alone:
+        print("\nby invariants alone:")
+        for path in in_order(library, alone):
+            print(path)
+    return 0
+
+
+if __name__ == "__main__":
+    sys.exit(main(sys.argv[1:]))
