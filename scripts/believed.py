@@ -1,7 +1,9 @@
 #!/usr/bin/env python3
-"""Which definitions the promises rest on: scripts/believed.py [--names] [--why FILE] [--check]
+"""Which definitions the promises rest on: scripts/believed.py [--names] [--why FILE] [--others] [--write] [--check]
 
-Prints the files of `specs/` that the clauses of the users' crates reach, in the order of crates.txt and of each `Lib.antt`.
+Prints the files of `specs/` that the clauses of the users' crates reach, in reading order: by the areas of docs/MAP.md, in each a
+crate behind those that it stands on, and in a crate as its `Lib.antt` has them.
+
 A clause is `requires`, `ensures` or `follows` of a public function, or what an `impl` of a trait says by a `ghost` word
 (`output`, `is_clone`, ..). Public are the items that `lib.rt` of one of the users' crates gives, where it takes them from an
 inner crate those of that crate. A clause reaches the definitions that it names, and a definition those that it names.
@@ -10,9 +12,10 @@ An invariant of a public type speaks of its private fields: what follows from it
 invariants alone reach is printed behind, and counts for nothing.
 
 --names prints the reached definitions of each file too. --why FILE (a path or a name such as `Listed`) prints by which
-definitions a clause leads to it. --check prints what is wrong, a line each: a reached file that says in its first line that it
-is private; a file that docs/DEFINITIONS.md links to and nothing reaches, or one that is reached and not linked to. The status is
-then 1.
+definitions a clause leads to it. --others prints the files that nothing reaches so and that do not say that they are private:
+those of laws (of crates and sources of laws), of public functions of inner crates, and the rest. --write writes the list of docs/DEFINITIONS.md. --check prints what is wrong, a line each: a
+reached file that says in its first line that it is private; a file that docs/DEFINITIONS.md links to and nothing reaches, or one
+that is reached and not linked to; that the list there is in another order. The status is then 1.
 """
 import os
 import re
@@ -25,6 +28,9 @@ from sources import TOP, USERS, Definition
 NO_PROMISE = {"view", "coded", "laws", "respects_eq", "matches_eq", "matches_partial_cmp", "total", "same_text", "use", "invariant"}
 
 PAGE = "docs/DEFINITIONS.md"
+
+# The line of the page behind which the list stands, up to the next empty line.
+LIST = "<!-- the list that scripts/believed.py --write makes -->"
 
 
 class Exports:
@@ -108,6 +114,37 @@ def traits_of(crate):
     return found
 
 
+def inner_clauses(library, paths):
+    """The clauses of all public functions of these sources."""
+    found = []
+    for path in paths:
+        text = sources.read(path)
+        bare = sources.masked(text)
+        scope = library.scope([use for _, use in sources.ghost_uses(text)])
+        for function in sources.functions(text, bare):
+            if function.is_public:
+                found += [Clause(path, line, function.name, kind, words, scope) for kind, _, words, line in function.clauses]
+    return found
+
+
+def laws():
+    """The sources of laws."""
+    crates = [crate for crate in sources.crates() if crate.endswith("_laws")] + next(c for area, c in areas() if area == "written and read again")
+    return sorted({path for crate in crates for path in sources.paths(f"crates/{crate}/src/*.rt")} | set(sources.paths("crates/*/src/laws.rt")))
+
+
+def others(library, files):
+    """The files that no clause of the users' crates reaches and that do not say that they are private, in three lists."""
+    left = [path for path in library.files if path not in files and not path.endswith("/Lib.antt") and not library.files[path].is_private()]
+    of_laws = files_of(reach(library, inner_clauses(library, laws())))
+    of_inner = files_of(reach(library, inner_clauses(library, sources.paths("crates/*/src/*.rt"))))
+    return [
+        ("laws reach", [path for path in left if path in of_laws]),
+        ("public functions of inner crates reach", [path for path in left if path in of_inner and path not in of_laws]),
+        ("neither reaches", [path for path in left if path not in of_inner and path not in of_laws]),
+    ]
+
+
 def clauses_of(library, path, crate, types, names, free, traits):
     """The public clauses of a source."""
     text = sources.read(path)
@@ -187,9 +224,31 @@ def reach(library, clauses):
     return came
 
 
+def areas():
+    """The crates of each area of docs/MAP.md, in its order."""
+    text = sources.read("docs/MAP.md").split("\n## The areas, in one picture\n")[1].split("\n## ")[0]
+    return [(line.split("|")[1].strip(), re.findall(r"`(graphql_\w+)`", line)) for line in text.split("\n") if line.startswith("| ")]
+
+
+def crates_in_order():
+    """The crates by area, in each behind those that they stand on."""
+    stands_on, order = sources.crates(), []
+
+    def visit(crate, among):
+        if crate in among and crate not in order:
+            for below in stands_on[crate]:
+                visit(below, among)
+            order.append(crate)
+
+    for _, among in areas():
+        for crate in stands_on:
+            visit(crate, among)
+    return order + [crate for crate in stands_on if crate not in order]
+
+
 def in_order(library, files):
-    """Files in the order of crates.txt and of each Lib.antt."""
-    crates = list(sources.crates())
+    """Files in reading order."""
+    crates = crates_in_order()
 
     def key(path):
         crate, file = path.split("/")[1], path.split("/")[3][: -len(".antt")]
@@ -197,6 +256,19 @@ def in_order(library, files):
         return crates.index(crate), modules.index(file) if file in modules else len(modules), file
 
     return sorted(files, key=key)
+
+
+def listed(library, files):
+    """The list of the page: a line for each crate, with a link to each file, by areas."""
+    lines, ordered = [], in_order(library, files)
+    for area, among in areas():
+        own = [crate for crate in crates_in_order() if crate in among and any(path.split("/")[1] == crate for path in ordered)]
+        if own:
+            lines.append(f"- **{area}**")
+        for crate in own:
+            links = [f"[{os.path.basename(path)[:-5]}](../{path})" for path in ordered if path.split("/")[1] == crate]
+            lines.append(f"  - `{crate}`: " + ", ".join(links))
+    return "\n".join(lines) + "\n"
 
 
 def way(came, key):
@@ -239,15 +311,30 @@ def main(words):
             if key[0] == wanted or os.path.basename(key[0]) == wanted + ".antt":
                 print("\n    ".join(way(came if key in came else everything, key)))
         return 0
+    if "--others" in words:
+        for title, paths in others(library, files):
+            print(f"{title} ({len(paths)}):")
+            for path in in_order(library, paths):
+                print(f"  {path}: {library.files[path].first.lstrip('- ')}")
+        return 0
     wrong = []
     for path in in_order(library, files):
         if library.files[path].is_private():
             wrong.append(f"{path}: is reached, and says that it is private: {' > '.join(way(came, next(k for k in came if k[0] == path)))}")
-    page = linked(sources.read(PAGE))
+    text = sources.read(PAGE)
+    page, wanted = linked(text), listed(library, files)
+    if "--write" in words:
+        head, rest = text.split(LIST, 1)
+        head, rest = head + LIST, rest[rest.index("\n\n") :]
+        with open(os.path.join(TOP, PAGE), "w", encoding="utf-8") as file:
+            file.write(head + "\n" + wanted.rstrip("\n") + rest)
+        return 0
     for path in in_order(library, set(files) - page):
         wrong.append(f"{path}: is reached, and {PAGE} has no link to it")
     for path in sorted(page - set(files)):
         wrong.append(f"{path}: {PAGE} links to it, and nothing reaches it")
+    if page == set(files) and wanted not in text:
+        wrong.append(f"{PAGE}: the list is in another order; scripts/believed.py --write makes it")
     if "--check" in words:
         print("\n".join(wrong + [f"believed: {len(files)} files, {len(wrong)} wrong"]))
         return 1 if wrong else 0
