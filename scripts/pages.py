@@ -3,7 +3,8 @@
 
 --check prints what is wrong, a line each, and its status is then 1: README.md has more than 150 lines; a relative link in
 README.md or docs/*.md leads to no file; a name in backticks that reads as a crate of the repository (`graphql_..`) is not in
-crates.txt; one that reads as a file (`name.rt`, `Name.antt`, `name.rows`, `name.edit`, `name.py`) is the name of no file.
+crates.txt; one that reads as a file (`name.rt`, `Name.antt`, `name.rows`, `name.edit`, `name.py`) is the name of no file; a name in the first
+column of docs/DEFINITIONS.md is none of `specs/`; a crate of crates.txt is named neither in docs/PROMISES.md nor in docs/MAP.md.
 
 How many public clauses are longer than 160 characters is told, and is no fault. --clauses prints them, the longest first.
 """
@@ -48,10 +49,37 @@ def unknown_names(path, text, crates, files):
                 yield f"{path}:{number}: `{word}` is the name of no file"
 
 
-def long_clauses():
+def unknown_definitions(path, library):
+    """The names of definitions that are not there."""
+    known = set(sources.crates())
+    for file_path, file in library.files.items():
+        known |= set(file.definitions) | set(file.owners) | {os.path.basename(file_path)[: -len(".antt")]}
+        for definition in file.definitions.values():
+            known |= set(re.findall(r"pub (\w+) :", "\n".join(definition.parts)))
+            known |= {part for part in definition.name.split("◌") if part}
+    for source in sources.paths("crates/*/src/*.rt"):
+        known |= set(re.findall(r"^pub (?:struct|enum) (\w+)", sources.read(source), re.M))
+    for number, line in enumerate(sources.read(path).split("\n"), 1):
+        if line.startswith("| `"):
+            for word in re.findall(r"`([^`]+)`", line.split("|")[1]):
+                for name in re.split(r"[\s,]+", word):
+                    if name and name != ".." and name not in known:
+                        yield f"{path}:{number}: `{name}` is no definition"
+
+
+def left_out(crates):
+    """The crates that a page leaves out."""
+    for path in ("docs/PROMISES.md", "docs/MAP.md"):
+        named = set(re.findall(r"\bgraphql_\w+", sources.read(path)))
+        for crate in crates:
+            if crate not in named:
+                yield f"{path}: says nothing of `{crate}`"
+
+
+def long_clauses(library):
     """The public clauses that are too long: where they stand, their length, and of what they are."""
     found = []
-    for clause in believed.public_clauses(sources.Library()):
+    for clause in believed.public_clauses(library):
         words = " ".join(clause.text.split())
         if clause.kind.split()[0] in ("ensures", "requires", "follows"):
             line = f"{clause.kind} {{ {words} }}"
@@ -71,7 +99,10 @@ def main(words):
         text = sources.read(path)
         wrong += broken_links(path, text)
         wrong += unknown_names(path, text, crates, files)
-    clauses = long_clauses()
+    library = sources.Library()
+    wrong += unknown_definitions("docs/DEFINITIONS.md", library)
+    wrong += left_out(crates)
+    clauses = long_clauses(library)
     if "--clauses" in words:
         print("\n".join(f"{length} characters: {where}" for length, where in clauses))
         return 0
