@@ -4,7 +4,7 @@
 --check prints what is wrong, a line each, and its status is then 1: README.md has more than 150 lines; a relative link in
 README.md or docs/*.md leads to no file; a name in backticks that reads as a crate of the repository (`graphql_..`) is not in
 crates.txt; one that reads as a file (`name.rt`, `Name.antt`, `name.rows`, `name.edit`, `name.py`) is the name of no file; a name in the first
-column of docs/DEFINITIONS.md is none of `specs/`; a crate of crates.txt is named neither in docs/PROMISES.md nor in docs/MAP.md.
+column of docs/DEFINITIONS.md is none of `specs/`; docs/PROMISES.md or docs/MAP.md says nothing of a crate of crates.txt.
 
 How many public clauses are longer than 160 characters is told, and is no fault. --clauses prints them, the longest first.
 """
