@@ -4,7 +4,8 @@
 --check prints what is wrong, a line each, and its status is then 1: README.md has more than 150 lines; a relative link in
 README.md or docs/*.md leads to no file; a name in backticks that reads as a crate of the repository (`graphql_..`) is not in
 crates.txt; one that reads as a file (`name.rt`, `Name.antt`, `name.rows`, `name.edit`, `name.py`) is the name of no file; a name in the first
-column of docs/DEFINITIONS.md is none of `specs/`; docs/PROMISES.md or docs/MAP.md says nothing of a crate of crates.txt.
+column of docs/DEFINITIONS.md is none of `specs/`; docs/PROMISES.md or docs/MAP.md says nothing of a crate of crates.txt; a line of a
+clause that README.md or docs/HEADLINE.md quotes does not stand in the source.
 
 How many public clauses are longer than 160 characters is told, and is no fault. --clauses prints them, the longest first.
 """
@@ -67,6 +68,17 @@ def unknown_definitions(path, library):
                         yield f"{path}:{number}: `{name}` is no definition"
 
 
+def misquoted():
+    """The lines of clauses that a page quotes and that stand in no source."""
+    source = sources.read("crates/graphql_checked/src/verdict.rt")
+    for path in ("README.md", "docs/HEADLINE.md"):
+        for block in re.findall(r"```text\n(.*?)```", sources.read(path), re.S):
+            if "ensures" in block:
+                for line in block.split("\n"):
+                    if line.strip() and not line.startswith("pub fn check_texts(alloc") and line not in source.split("\n"):
+                        yield f"{path}: quotes what does not stand in verdict.rt: {line.strip()}"
+
+
 def left_out(crates):
     """The crates that a page leaves out."""
     for path in ("docs/PROMISES.md", "docs/MAP.md"):
@@ -102,6 +114,7 @@ def main(words):
     library = sources.Library()
     wrong += unknown_definitions("docs/DEFINITIONS.md", library)
     wrong += left_out(crates)
+    wrong += misquoted()
     clauses = long_clauses(library)
     if "--clauses" in words:
         print("\n".join(f"{length} characters: {where}" for length, where in clauses))
