@@ -2,10 +2,10 @@
 """Whether the pages say what is there: scripts/pages.py [--check] [--clauses]
 
 --check prints what is wrong, a line each, and its status is then 1: README.md has more than 150 lines; a relative link in
-README.md or docs/*.md leads to no file; a name in backticks that reads as a crate of the repository (`graphql_..`) is not in
-crates.txt; one that reads as a file (`name.rt`, `Name.antt`, `name.rows`, `name.edit`, `name.py`) is the name of no file; a name in the first
-column of docs/DEFINITIONS.md is none of `specs/`; docs/PROMISES.md or docs/MAP.md says nothing of a crate of crates.txt; a line of a
-clause that README.md or docs/HEADLINE.md quotes does not stand in the source.
+README.md or docs/*.md leads to no file; a name that reads as a crate of the repository (`graphql_..`) is not in crates.txt; one in
+backticks that reads as a file (`name.rt`, `Name.antt`, `name.rows`, `name.edit`, `name.py`) is the name of no file; a name in the
+first column of docs/DEFINITIONS.md is none of `specs/`; docs/PROMISES.md or docs/MAP.md says nothing of a crate of crates.txt; a
+line of a clause that README.md or docs/HEADLINE.md quotes does not stand in the source.
 
 How many public clauses are longer than 160 characters is told, and is no fault. --clauses prints them, the longest first.
 """
