@@ -1,4 +1,4 @@
--- The list that an operation starts with, and the list below a group of fields (private: it leads to the laws of merging).
+-- The list that an operation starts with, and the list below a group of fields.
 use Rattle.std.specs.Prelude.{◌≡◌, ◌↔◌, List, map, Contains}
 use Rattle.graphql_names.specs.Placed.{Place}
 use Rattle.graphql_components.specs.Names.{Entries}

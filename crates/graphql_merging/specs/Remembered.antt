@@ -1,4 +1,4 @@
--- The lists that were examined, by their contents (private: it leads to the laws of merging).
+-- The lists that were examined, by their contents.
 use Rattle.std.specs.Prelude.{◌≡◌, ◌++◌, ◌∷◌, [], Bool, true, false, List, map, Contains}
 use Rattle.graphql_merging_laws.specs.Contents.{PlainField}
 use Rattle.graphql_field_groups.specs.Below.{contents_of}

@@ -1,4 +1,4 @@
--- What the examination of an operation comes to (private: it leads to `FieldsMerge` and `MergingBreaks` of the rules' definitions).
+-- What the examination of an operation comes to.
 use Rattle.std.specs.Prelude.{◌≡◌, ◌++◌, ℕ, Bool, true, false, List, [], Contains}
 use Rattle.graphql_names.specs.Placed.{Place, node_tree}
 use Rattle.graphql_names.specs.declared.node.Node.{Node}

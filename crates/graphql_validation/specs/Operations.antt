@@ -1,4 +1,4 @@
--- What is judged operation by operation, and what is noted of the fragments (private: it leads to `specs/Told.antt`).
+-- What is judged operation by operation, and what is noted of the fragments.
 use Rattle.std.specs.Prelude.{◌≡◌, ◌↔◌, ◌++◌, ℕ, Bool, true, false, List, [], ◌∷◌, map, fold, Vec, Contains, None, ◌⊎◌}
 use Rattle.std.specs.Str.{bytes_eq}
 use Rattle.std.specs.declared.alloc.Global.{Global}

@@ -1,4 +1,4 @@
--- What a walk still has to lend (private: it leads to `specs/Reached.antt`).
+-- What a walk still has to lend.
 use Rattle.std.specs.Prelude.{◌++◌, ◌+◌, ◌-◌, ℕ, zero, suc, Bool, if◌then◌else◌, nat_eq, List, [], ◌∷◌, map, fold, length, slice_get, is_some}
 use Rattle.std.specs.List.{flat_map, filter, position}
 use Rattle.std.specs.Option.{option_map_or}

@@ -1,4 +1,4 @@
--- What contracts see of a walk (private: it leads to `specs/Reached.antt`).
+-- What contracts see of a walk.
 use Rattle.std.specs.Prelude.{◌≡◌, ◌++◌, ◌+◌, ◌-◌, ◌<◌, ℕ, List, [], ◌∷◌, map, fold, length}
 use Rattle.std.specs.Borrow.{Bor}
 use Rattle.graphql_names.specs.Node.{content}
