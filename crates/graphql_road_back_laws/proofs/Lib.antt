@@ -1,4 +1,3 @@
-pub mod EqualSchemas
 pub mod Taken
 pub mod FormedValues
 pub mod FormedOperations
@@ -9,4 +8,9 @@ pub mod StaysSo
 pub mod SameMarks
 pub mod Counting
 pub mod ReadBack
+pub mod SomeBracket
 pub mod SchemaBack
+pub mod Passing
+pub mod OutDocuments
+pub mod DocumentBack
+pub mod PairBack
