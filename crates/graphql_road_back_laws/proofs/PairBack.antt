@@ -23,10 +23,10 @@ use Rattle.graphql_road_back_laws.proofs.DocumentBack.{document_road_back}
 
 -- what is written of texts is written of the trees in which they are read
 schema_bytes : (terms : Terms) (layout : Layout) (schemas : List Text) (trees : List Tree) (bytes : List ℕ) → ReadsAll terms.first_text schemas trees → WritesSchema terms layout schemas bytes → bytes ≡ layout_text layout (Out terms trees)
-schema_bytes terms layout schemas trees bytes read (others, other_read, is) = is ∙ ap (λ ts. layout_text layout (Out terms ts)) (all_one terms.first_text schemas others trees other_read read)
+schema_bytes terms layout schemas trees bytes read (others, (other_read, is)) = is ∙ ap (λ ts. layout_text layout (Out terms ts)) (all_one terms.first_text schemas others trees other_read read)
 
 document_bytes : (layout : Layout) (number : ℕ) (document : Text) (tree : Tree) (bytes : List ℕ) → ReadsText number document tree → WritesDocument layout number document bytes → bytes ≡ layout_text layout (OutDoc tree)
-document_bytes layout number document tree bytes read (other, other_read, is) = is ∙ ap (λ t. layout_text layout (OutDoc t)) (one_tree number document other tree other_read read)
+document_bytes layout number document tree bytes read (other, (other_read, is)) = is ∙ ap (λ t. layout_text layout (OutDoc t)) (one_tree number document other tree other_read read)
 
 -- a pair that passes no bound passes none in whichever trees it is accepted
 module _ (terms : Terms) (schemas : List Text) (document : Text) (certain : IsCertain terms schemas document) (accepted : IsAccepted terms schemas document) where
@@ -106,10 +106,10 @@ module _ (terms : Terms) (schemas : List Text) (document : Text) (other : terms.
     accepted = accepted;
     written_schema = a.written_schema;
     written_document = a.written_document;
-    writes_schema = (schema.accepted.judged.trees, schema.accepted.judged.read,
-    schema_bytes terms l schemas first.schema.judged.trees a.written_schema first.schema.judged.read a.writes_schema ∙ sym (schema.written l));
-    writes_document = (over.accepted.judged.tree, over.accepted.judged.read,
-    document_bytes l number document first.over.judged.tree a.written_document first.over.judged.read a.writes_document ∙ sym (over.written l));
+    writes_schema = (schema.accepted.judged.trees, (schema.accepted.judged.read,
+    schema_bytes terms l schemas first.schema.judged.trees a.written_schema first.schema.judged.read a.writes_schema ∙ sym (schema.written l)));
+    writes_document = (over.accepted.judged.tree, (over.accepted.judged.read,
+    document_bytes l number document first.over.judged.tree a.written_document first.over.judged.read a.writes_document ∙ sym (over.written l)));
     is = a.is;
   }
 
@@ -118,10 +118,10 @@ module _ (terms : Terms) (schemas : List Text) (document : Text) (other : terms.
     accepted = first;
     written_schema = a.written_schema;
     written_document = a.written_document;
-    writes_schema = (first.schema.judged.trees, first.schema.judged.read,
-    schema_bytes terms l (schema_written ∷ []) schema.accepted.judged.trees a.written_schema schema.accepted.judged.read a.writes_schema ∙ schema.written l);
-    writes_document = (first.over.judged.tree, first.over.judged.read,
-    document_bytes l again document_written over.accepted.judged.tree a.written_document over.accepted.judged.read a.writes_document ∙ over.written l);
+    writes_schema = (first.schema.judged.trees, (first.schema.judged.read,
+    schema_bytes terms l (schema_written ∷ []) schema.accepted.judged.trees a.written_schema schema.accepted.judged.read a.writes_schema ∙ schema.written l));
+    writes_document = (first.over.judged.tree, (first.over.judged.read,
+    document_bytes l again document_written over.accepted.judged.tree a.written_document over.accepted.judged.read a.writes_document ∙ over.written l));
     is = a.is;
   }
 

@@ -141,13 +141,13 @@ module _ (first : ℕ) (ds : Definitions) (none : Each GivesNone ds) where
       here None is rest = rest
       here (Some g) is rest = (h.0.roots g is, rest)
 
+  abbrev base : List SchemaGiver → SchemaGiver
+  base gs = option_map_or (λ s. s) (slice_get gs 0) (record { place = None; description = None; parts = record { directives = []; roots = implicit_roots ds } })
+
   -- there are none, or those of the default names
   base_roots : ((schema_base ds).parts.roots ≡ []) ⊎ ((schema_base ds).parts.roots ≡ implicit_roots ds)
   base_roots = by (flat_map (λ d. option_to_list (schema_here d)) ds) (givers_none ds none)
     where
-      abbrev base : List SchemaGiver → SchemaGiver
-      base gs = option_map_or (λ s. s) (slice_get gs 0) (record { place = None; description = None; parts = record { directives = []; roots = implicit_roots ds } })
-
       by : (gs : List SchemaGiver) → Each (λ (g : SchemaGiver). g.parts.roots ≡ []) gs → ((base gs).parts.roots ≡ []) ⊎ ((base gs).parts.roots ≡ implicit_roots ds)
       by [] h = inr refl
       by (g ∷ gs) h = inl h.0
