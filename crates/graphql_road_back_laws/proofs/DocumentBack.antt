@@ -1,13 +1,12 @@
 -- The written document text leads back.
-use Rattle.std.proofs.Common.{◌≡◌, ℕ, ◌≤◌, max, Bool, true, false, List, [], ◌∷◌, ◌++◌, refl, sym, ap, subst, ◌∙◌, if◌then◌else◌, arith}
+use Rattle.std.proofs.Common.{◌≡◌, ℕ, ◌≤◌, Bool, true, false, [], ◌∷◌, ◌++◌, sym, ap, subst, ◌∙◌, if◌then◌else◌, arith}
 use Rattle.std.specs.List.{filter, list_all}
 use Rattle.graphql_names.specs.Placed.{Place}
 use Rattle.graphql_definitions.specs.DefinitionTree.{DefinitionTree, unplaced_document}
-use Rattle.graphql_definitions.specs.Writable.{document_writable}
 use Rattle.graphql_printed.specs.Definitions.{definition_well_formed}
-use Rattle.graphql_depth_laws.specs.TreeDepth.{definition_depth, document_depth}
+use Rattle.graphql_depth_laws.specs.TreeDepth.{document_depth}
 use Rattle.graphql_schema_types.specs.SchemaTree.{SchemaTree}
-use Rattle.graphql_schema_types.specs.Plain.{PlainSchema, plain}
+use Rattle.graphql_schema_types.specs.Plain.{PlainSchema}
 use Rattle.graphql_rule_definitions.specs.Laws.{AreEqual}
 use Rattle.graphql_meant_documents.specs.Unplaced as meant
 use Rattle.graphql_typing.specs.Meanings.{meanings}
@@ -16,14 +15,14 @@ use Rattle.graphql_typing.specs.TypingFaults.{TypingRules}
 use Rattle.graphql_typing.specs.OutDoc.{is_anonymous, is_named_operation, is_fragment, out_doc}
 use Rattle.graphql_document_rule_definitions.proofs.Same.{same_document_verdict, same_bounds}
 use Rattle.graphql_verdict.specs.Texts.{Text, Tree}
-use Rattle.graphql_verdict.specs.Judge.{document_over, meanings_over, JudgeDocument, IsDocumentAccepted}
+use Rattle.graphql_verdict.specs.Judge.{document_over, meanings_over, IsDocumentAccepted}
 use Rattle.graphql_verdict.specs.Out.{OutDoc, Layout}
 use Rattle.graphql_verdict_laws.specs.AnyNumber.{IsNumber}
 use Rattle.graphql_verdict_laws.proofs.Sound.{all_append}
 use Rattle.graphql_verdict_laws.proofs.Documents.{documents}
 use Rattle.graphql_verdict_laws.proofs.TypedAlike.{kept_document_same, rules_same}
 use Rattle.graphql_verdict_laws.proofs.AnyNumber.{out_same}
-use Rattle.graphql_road_back_laws.specs.RoadBack.{IsPlainLayout, IsSameTree, IsSameDocument, IsWrittenAlike, document_text, DocumentLeadsBack, DocumentRoadBack}
+use Rattle.graphql_road_back_laws.specs.RoadBack.{IsPlainLayout, IsSameTree, IsSameDocument, document_text, DocumentLeadsBack, DocumentRoadBack}
 use Rattle.graphql_road_back_laws.proofs.Passing.{all_passing}
 use Rattle.graphql_road_back_laws.proofs.OutDocuments.{out_twice, kept_of_out, rules_of_out}
 use Rattle.graphql_road_back_laws.proofs.FormedDocuments.{read_formed}

@@ -8,6 +8,7 @@ pub mod StaysSo
 pub mod SameMarks
 pub mod Counting
 pub mod ReadBack
+pub mod Bracketless
 pub mod SomeBracket
 pub mod SchemaBack
 pub mod Passing

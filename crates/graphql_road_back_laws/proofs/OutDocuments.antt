@@ -1,5 +1,5 @@
 -- Lemmas on what is written of a document: written again it is the same, typing keeps the same of it, and no rule of typing is broken.
-use Rattle.std.proofs.Common.{◌≡◌, ℕ, ◌+◌, ◌<◌, Bool, true, false, not, List, [], ◌∷◌, ◌++◌, map, flat_map, length, Contains, refl, sym, ap, subst, ◌∙◌, if◌then◌else◌, inl, inr, option_to_list, slice_get, arith, true≢false}
+use Rattle.std.proofs.Common.{◌≡◌, ◌+◌, ◌<◌, Bool, true, false, not, List, [], ◌∷◌, ◌++◌, map, flat_map, length, Contains, refl, sym, ap, subst, ◌∙◌, if◌then◌else◌, inl, inr, option_to_list, slice_get, arith, true≢false}
 use Rattle.std.specs.List.{filter}
 use Rattle.std.specs.Option.{option_map}
 use Rattle.std.proofs.lemmas.List.{append-nil, length-append}

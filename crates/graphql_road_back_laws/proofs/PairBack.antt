@@ -1,5 +1,5 @@
 -- The written pair leads back.
-use Rattle.std.proofs.Common.{◌≡◌, ◌≢◌, ℕ, ◌+◌, ◌≤◌, ◌^◌, List, [], ◌∷◌, length, refl, sym, ap, subst, ◌∙◌, arith}
+use Rattle.std.proofs.Common.{◌≡◌, ◌≢◌, ℕ, ◌+◌, ◌≤◌, List, [], ◌∷◌, length, sym, ap, subst, ◌∙◌, arith}
 use Rattle.graphql_names.specs.Placed.{Place}
 use Rattle.graphql_schema_types.specs.SchemaTree.{SchemaTree}
 use Rattle.graphql_rule_definitions.specs.Judged.{Judged}
@@ -106,10 +106,20 @@ module _ (terms : Terms) (schemas : List Text) (document : Text) (other : terms.
     accepted = accepted;
     written_schema = a.written_schema;
     written_document = a.written_document;
-    writes_schema = (schema.accepted.judged.trees, (schema.accepted.judged.read,
-    schema_bytes terms l schemas first.schema.judged.trees a.written_schema first.schema.judged.read a.writes_schema ∙ sym (schema.written l)));
-    writes_document = (over.accepted.judged.tree, (over.accepted.judged.read,
-    document_bytes l number document first.over.judged.tree a.written_document first.over.judged.read a.writes_document ∙ sym (over.written l)));
+    writes_schema = (
+      schema.accepted.judged.trees,
+      (
+        schema.accepted.judged.read,
+        schema_bytes terms l schemas first.schema.judged.trees a.written_schema first.schema.judged.read a.writes_schema ∙ sym (schema.written l),
+      ),
+    );
+    writes_document = (
+      over.accepted.judged.tree,
+      (
+        over.accepted.judged.read,
+        document_bytes l number document first.over.judged.tree a.written_document first.over.judged.read a.writes_document ∙ sym (over.written l),
+      ),
+    );
     is = a.is;
   }
 
@@ -118,10 +128,20 @@ module _ (terms : Terms) (schemas : List Text) (document : Text) (other : terms.
     accepted = first;
     written_schema = a.written_schema;
     written_document = a.written_document;
-    writes_schema = (first.schema.judged.trees, (first.schema.judged.read,
-    schema_bytes terms l (schema_written ∷ []) schema.accepted.judged.trees a.written_schema schema.accepted.judged.read a.writes_schema ∙ schema.written l));
-    writes_document = (first.over.judged.tree, (first.over.judged.read,
-    document_bytes l again document_written over.accepted.judged.tree a.written_document over.accepted.judged.read a.writes_document ∙ over.written l));
+    writes_schema = (
+      first.schema.judged.trees,
+      (
+        first.schema.judged.read,
+        schema_bytes terms l (schema_written ∷ []) schema.accepted.judged.trees a.written_schema schema.accepted.judged.read a.writes_schema ∙ schema.written l,
+      ),
+    );
+    writes_document = (
+      first.over.judged.tree,
+      (
+        first.over.judged.read,
+        document_bytes l again document_written over.accepted.judged.tree a.written_document over.accepted.judged.read a.writes_document ∙ over.written l,
+      ),
+    );
     is = a.is;
   }
 

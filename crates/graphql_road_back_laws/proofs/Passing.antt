@@ -6,7 +6,7 @@ use Rattle.std.proofs.lemmas.List.Elements.{filter-append}
 use Rattle.std.proofs.lemmas.Bool.{and_from, and_parts}
 use Rattle.std.proofs.lemmas.Grind.{flat_map-append}
 use Rattle.graphql_components.specs.Lists.{StandsAfter}
-use Rattle.graphql_written_laws.proofs.Order.{Each, Each-map, passed, filter_all, filter_none}
+use Rattle.graphql_written_laws.proofs.Order.{Each-map, passed, filter_all, filter_none}
 use Rattle.graphql_rearranging_laws.proofs.Moved.{found}
 
 module _ {X : Type 0} where

@@ -1,5 +1,5 @@
 -- The written schema text leads back.
-use Rattle.std.proofs.Common.{◌≡◌, ◌≢◌, ℕ, ◌≤◌, true, List, [], ◌∷◌, ◌++◌, refl, sym, ap, ◌∙◌, arith}
+use Rattle.std.proofs.Common.{◌≡◌, ◌≢◌, ◌≤◌, true, List, [], ◌∷◌, sym, ap, ◌∙◌, arith}
 use Rattle.std.specs.List.{list_all}
 use Rattle.graphql_names.specs.Placed.{Place}
 use Rattle.graphql_definitions.specs.DefinitionTree.{unplaced_document}
