@@ -22,7 +22,7 @@ use Rattle.graphql_verdict_laws.proofs.Sound.{all_append}
 use Rattle.graphql_verdict_laws.proofs.Documents.{documents}
 use Rattle.graphql_verdict_laws.proofs.TypedAlike.{kept_document_same, rules_same}
 use Rattle.graphql_verdict_laws.proofs.AnyNumber.{out_same}
-use Rattle.graphql_road_back_laws.specs.RoadBack.{IsPlainLayout, IsSameTree, IsSameDocument, document_text, DocumentLeadsBack, DocumentRoadBack}
+use Rattle.graphql_road_back_laws.specs.RoadBack.{IsPlainLayout, IsTextOf, IsSameTree, IsSameDocument, DocumentLeadsBack, DocumentRoadBack}
 use Rattle.graphql_road_back_laws.proofs.Passing.{all_passing}
 use Rattle.graphql_road_back_laws.proofs.OutDocuments.{out_twice, kept_of_out, rules_of_out}
 use Rattle.graphql_road_back_laws.proofs.FormedDocuments.{read_formed}
@@ -55,15 +55,12 @@ out_depth ds =
 
 -- ---- the way back
 
-module _ (schema other : SchemaTree Place) (equal : AreEqual schema other) (nesting number again : ℕ) (left : IsNumber again) (document : Text) (first : IsDocumentAccepted schema nesting number document) (layout : Layout) (plain_layout : IsPlainLayout layout) where
+module _ (schema other : SchemaTree Place) (equal : AreEqual schema other) (nesting number again : ℕ) (left : IsNumber again) (document : Text) (first : IsDocumentAccepted schema nesting number document) (layout : Layout) (plain_layout : IsPlainLayout layout) (text : Text) (is : IsTextOf layout (OutDoc first.judged.tree) text) where
   abbrev read : Tree
   read = first.judged.tree
 
-  abbrev text : Text
-  text = document_text layout schema nesting number document first
-
   back : ReadsBack again text (OutDoc read)
-  back = reads_back again layout plain_layout (OutDoc read) (out_formed read (read_formed number document read first.judged.read)) (documents schema number document read first.judged.read first.judged.typed)
+  back = reads_back again layout plain_layout (OutDoc read) (out_formed read (read_formed number document read first.judged.read)) (documents schema number document read first.judged.read first.judged.typed) text is
 
   kept : IsSameDocument (document_over schema read) (document_over other back.tree)
   kept =
@@ -104,4 +101,4 @@ module _ (schema other : SchemaTree Place) (equal : AreEqual schema other) (nest
   }
 
 pub document_road_back : DocumentRoadBack
-document_road_back schema other equal nesting number again left document first layout plain_layout = leads_back schema other equal nesting number again left document first layout plain_layout
+document_road_back schema other equal nesting number again left document first layout plain_layout text is = leads_back schema other equal nesting number again left document first layout plain_layout text is

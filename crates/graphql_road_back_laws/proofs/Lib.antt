@@ -7,6 +7,7 @@ pub mod Stays
 pub mod StaysSo
 pub mod SameMarks
 pub mod Counting
+pub mod LineFeeds
 pub mod ReadBack
 pub mod Bracketless
 pub mod SomeBracket

@@ -14,7 +14,7 @@ use Rattle.graphql_verdict.specs.Answer.{WritesSchema, WritesDocument, AcceptedB
 use Rattle.graphql_verdict_laws.specs.AnyNumber.{IsNumber}
 use Rattle.graphql_verdict_laws.proofs.AnyNumber.{one_tree}
 use Rattle.graphql_verdict_laws.proofs.Rearranged.{all_one}
-use Rattle.graphql_road_back_laws.specs.RoadBack.{IsPlainLayout, schema_text, document_text, SchemaLeadsBack, DocumentLeadsBack, PairLeadsBack, PairRoadBack}
+use Rattle.graphql_road_back_laws.specs.RoadBack.{IsPlainLayout, IsTextOf, SchemaLeadsBack, DocumentLeadsBack, PairLeadsBack, PairRoadBack}
 use Rattle.graphql_road_back_laws.proofs.SomeBracket.{some_text}
 use Rattle.graphql_road_back_laws.proofs.SchemaBack.{schema_road_back}
 use Rattle.graphql_road_back_laws.proofs.DocumentBack.{document_road_back}
@@ -59,30 +59,24 @@ behind_fewer count first some left = λ passed. left (by passed)
 
 -- ---- the way back
 
-module _ (terms : Terms) (schemas : List Text) (document : Text) (other : terms.first_text ≢ 0) (first : IsAccepted terms schemas document) (layout next : Layout) (plain : IsPlainLayout layout) (plain_next : IsPlainLayout next) where
+module _ (terms : Terms) (schemas : List Text) (document : Text) (other : terms.first_text ≢ 0) (first : IsAccepted terms schemas document) (layout next : Layout) (plain : IsPlainLayout layout) (plain_next : IsPlainLayout next) (schema_written document_written : Text) (schema_is : IsTextOf layout (Out terms first.schema.judged.trees) schema_written) (document_is : IsTextOf next (OutDoc first.over.judged.tree) document_written) where
   abbrev number : ℕ
   number = document_number terms schemas
 
   abbrev at_hand : SchemaTree Place
   at_hand = schema_at_hand terms first.schema.judged.trees
 
-  abbrev schema_written : Text
-  schema_written = schema_text layout terms schemas first.schema
-
-  abbrev document_written : Text
-  document_written = document_text next at_hand terms.nesting number document first.over
-
   abbrev again : ℕ
   again = document_number terms (schema_written ∷ [])
 
   schema : SchemaLeadsBack terms schemas first.schema schema_written
-  schema = schema_road_back terms schemas other first.schema layout plain
+  schema = schema_road_back terms schemas other first.schema layout plain schema_written schema_is
 
   left : IsNumber again
   left = behind_fewer (length schemas) terms.first_text (some_text terms schemas first.schema) first.over.within.numbered
 
   over : DocumentLeadsBack terms.nesting at_hand (schema_at_hand terms schema.accepted.judged.trees) number again document first.over document_written
-  over = document_road_back at_hand (schema_at_hand terms schema.accepted.judged.trees) schema.at_hand terms.nesting number again left document first.over next plain_next
+  over = document_road_back at_hand (schema_at_hand terms schema.accepted.judged.trees) schema.at_hand terms.nesting number again left document first.over next plain_next document_written document_is
 
   abbrev accepted : IsAccepted terms (schema_written ∷ []) document_written
   accepted = record { schema = schema.accepted; over = over.accepted }
@@ -155,4 +149,5 @@ module _ (terms : Terms) (schemas : List Text) (document : Text) (other : terms.
   }
 
 pub pair_road_back : PairRoadBack
-pair_road_back terms schemas document other first layout next plain plain_next = leads_back terms schemas document other first layout next plain plain_next
+pair_road_back terms schemas document other first layout next plain plain_next schema_written document_written schema_is document_is =
+    leads_back terms schemas document other first layout next plain plain_next schema_written document_written schema_is document_is

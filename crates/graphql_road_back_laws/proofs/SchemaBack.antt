@@ -30,7 +30,7 @@ use Rattle.graphql_verdict.specs.Texts.{Text, Tree, Terms}
 use Rattle.graphql_verdict.specs.Judge.{definitions_of, schema_of, schema_at_hand, AreSchemasAccepted}
 use Rattle.graphql_verdict.specs.Out.{Out, Layout}
 use Rattle.graphql_verdict_laws.proofs.Schemas.{schemas}
-use Rattle.graphql_road_back_laws.specs.RoadBack.{IsPlainLayout, IsSameTree, schema_text, SchemaLeadsBack, SchemaRoadBack}
+use Rattle.graphql_road_back_laws.specs.RoadBack.{IsPlainLayout, IsTextOf, IsSameTree, SchemaLeadsBack, SchemaRoadBack}
 use Rattle.graphql_road_back_laws.proofs.SomeBracket.{some_nesting, first_left}
 use Rattle.graphql_road_back_laws.proofs.FormedDocuments.{all_formed}
 use Rattle.graphql_road_back_laws.proofs.StaysSo.{out_formed, out_elsewhere}
@@ -66,12 +66,9 @@ module _ (terms : Terms) (texts : List Text) (other : terms.first_text ≢ 0) (f
   formed : list_all definition_well_formed out ≡ true
   formed = out_formed built_in_definitions terms.first_extension ds real_table own first.judged.folds (all_formed terms.first_text texts first.judged.trees first.judged.read)
 
-  module _ (layout : Layout) (plain : IsPlainLayout layout) where
-    abbrev text : Text
-    text = schema_text layout terms texts first
-
+  module _ (layout : Layout) (plain : IsPlainLayout layout) (text : Text) (is : IsTextOf layout out text) where
     back : ReadsBack terms.first_text text out
-    back = reads_back terms.first_text layout plain out formed (schemas terms texts other first)
+    back = reads_back terms.first_text layout plain out formed (schemas terms texts other first) text is
 
     abbrev trees : List Tree
     trees = back.tree ∷ []
@@ -129,4 +126,4 @@ module _ (terms : Terms) (texts : List Text) (other : terms.first_text ≢ 0) (f
     }
 
 pub schema_road_back : SchemaRoadBack
-schema_road_back terms texts other first layout plain = leads_back terms texts other first layout plain
+schema_road_back terms texts other first layout plain text is = leads_back terms texts other first layout plain text is

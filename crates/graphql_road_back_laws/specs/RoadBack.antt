@@ -1,6 +1,6 @@
 -- The road back: what is written of an accepted pair of texts, under any plain layout, is read back equal, is accepted on the same
 -- terms, and is written as it was before (GraphQL, October 2021, sections 2, 3 and 5).
-use Rattle.std.specs.Prelude.{◌≡◌, ◌≢◌, ◌↔◌, ℕ, true, List, [], ◌∷◌}
+use Rattle.std.specs.Prelude.{◌≡◌, ◌≢◌, ◌↔◌, ◌⊎◌, ℕ, true, List, [], ◌∷◌}
 use Rattle.graphql_names.specs.Placed.{Place}
 use Rattle.graphql_printed.specs.WellFormed.{is_white_prefix}
 use Rattle.graphql_definitions.specs.DefinitionTree.{unplaced_document}
@@ -10,13 +10,17 @@ use Rattle.graphql_meant_documents.specs.MeantTree.{MeantDocument}
 use Rattle.graphql_meant_documents.specs.Unplaced as meant
 use Rattle.graphql_verdict.specs.Texts.{Text, Tree, Terms, document_number}
 use Rattle.graphql_verdict.specs.Judge.{definitions_of, schema_of, schema_at_hand, document_over, AreSchemasAccepted, IsDocumentAccepted, IsAccepted, PassesNoDocumentBound, IsCertain}
-use Rattle.graphql_verdict.specs.Out.{Out, OutDoc, Layout, layout_text}
+use Rattle.graphql_verdict.specs.Out.{Out, OutDoc, Layout, layout_text, as_lines}
 use Rattle.graphql_verdict.specs.Answer.{AcceptedBytes}
 use Rattle.graphql_verdict_laws.specs.AnyNumber.{IsNumber}
 
 -- all stands on one line, or spaces and tabs alone begin the lines
 abbrev pub IsPlainLayout : Layout → Type 0
 IsPlainLayout layout = is_white_prefix layout ≡ true
+
+-- the text of these definitions under the layout, or the same with the line feed that is put out behind it
+abbrev pub IsTextOf : Layout → Tree → Text → Type 0
+IsTextOf layout ds text = (text ≡ layout_text layout ds) ⊎ (text ≡ as_lines layout (layout_text layout ds))
 
 -- two trees are the same, places aside
 abbrev pub IsSameTree : Tree → Tree → Type 0
@@ -32,10 +36,6 @@ IsWrittenAlike a b = (layout : Layout) → layout_text layout a ≡ layout_text 
 
 -- ---- the schema
 
--- the schema text that is written of accepted ones
-abbrev pub schema_text : Layout → (terms : Terms) → (schemas : List Text) → AreSchemasAccepted terms schemas → Text
-schema_text layout terms schemas first = layout_text layout (Out terms first.judged.trees)
-
 -- The written text is read as what was written, places aside; it is accepted on the same terms, and so passes no bound; the schema
 -- that it folds to is equal, with the same built in, and so is the one at hand; and what is written of it is the same.
 pub record SchemaLeadsBack (terms : Terms) (schemas : List Text) (first : AreSchemasAccepted terms schemas) (text : Text) : Type 0 where
@@ -48,13 +48,9 @@ pub record SchemaLeadsBack (terms : Terms) (schemas : List Text) (first : AreSch
 -- no schema text has the number of what is built in
 abbrev pub SchemaRoadBack : Type 0
 SchemaRoadBack = (terms : Terms) (schemas : List Text) → terms.first_text ≢ 0 → (first : AreSchemasAccepted terms schemas)
-    → (layout : Layout) → IsPlainLayout layout → SchemaLeadsBack terms schemas first (schema_text layout terms schemas first)
+    → (layout : Layout) → IsPlainLayout layout → (text : Text) → IsTextOf layout (Out terms first.judged.trees) text → SchemaLeadsBack terms schemas first text
 
 -- ---- the document, over the schema at hand
-
--- the document text that is written of an accepted one
-abbrev pub document_text : Layout → (schema : SchemaTree Place) (nesting number : ℕ) (document : Text) → IsDocumentAccepted schema nesting number document → Text
-document_text layout schema nesting number document first = layout_text layout (OutDoc first.judged.tree)
 
 -- Over the other schema, and under the other number, the written text is accepted with the same limit, and so passes no bound of
 -- brackets; it is read as what was written, places aside; what typing keeps of it is an equal document; it passes no bound on
@@ -70,7 +66,7 @@ pub record DocumentLeadsBack (nesting : ℕ) (schema other : SchemaTree Place) (
 abbrev pub DocumentRoadBack : Type 0
 DocumentRoadBack = (schema other : SchemaTree Place) → AreEqual schema other → (nesting number again : ℕ) → IsNumber again
     → (document : Text) (first : IsDocumentAccepted schema nesting number document) → (layout : Layout) → IsPlainLayout layout
-    → DocumentLeadsBack nesting schema other number again document first (document_text layout schema nesting number document first)
+    → (text : Text) → IsTextOf layout (OutDoc first.judged.tree) text → DocumentLeadsBack nesting schema other number again document first text
 
 -- ---- the pair
 
@@ -89,5 +85,5 @@ pub record PairLeadsBack (terms : Terms) (schemas : List Text) (document : Text)
 abbrev pub PairRoadBack : Type 0
 PairRoadBack = (terms : Terms) (schemas : List Text) (document : Text) → terms.first_text ≢ 0 → (first : IsAccepted terms schemas document)
     → (layout next : Layout) → IsPlainLayout layout → IsPlainLayout next
-    → PairLeadsBack terms schemas document first (schema_text layout terms schemas first.schema)
-    (document_text next (schema_at_hand terms first.schema.judged.trees) terms.nesting (document_number terms schemas) document first.over)
+    → (schema_written document_written : Text) → IsTextOf layout (Out terms first.schema.judged.trees) schema_written → IsTextOf next (OutDoc first.over.judged.tree) document_written
+    → PairLeadsBack terms schemas document first schema_written document_written
