@@ -2,7 +2,6 @@
 use Rattle.std.proofs.Common.{◌≡◌, ℕ, ◌+◌, true, List, [], ◌∷◌, ◌++◌, codes, None, length, refl, subst, le_refl}
 use Rattle.std.specs.List.{list_all}
 use Rattle.graphql_names.specs.Placed.{Place}
-use Rattle.graphql_printing.specs.LineLayout.{Prefix}
 use Rattle.graphql_definitions.specs.DefinitionTree.{DefinitionTree, unplaced_document}
 use Rattle.graphql_definitions.specs.DocumentLayout.{document_text}
 use Rattle.graphql_definitions.specs.Writable.{definition_writable}
@@ -21,6 +20,7 @@ use Rattle.graphql_printed.specs.WellFormed.{depths, is_white_prefix}
 use Rattle.graphql_printed.proofs.Sequences.{ignored_piece}
 use Rattle.graphql_printed.proofs.Whole.{OneTree}
 use Rattle.graphql_printed.proofs.Documents.{document_read}
+use Rattle.graphql_verdict.specs.Out.{Layout}
 
 -- a line feed has no token
 line_feed : (at : ℕ) → LexesAt at (codes "\n") []
@@ -42,10 +42,10 @@ module _ {A B : Type 0} (symbol : ℕ → Rule A) (unplaced : A → B) (text : L
         alone = λ others other lex derives. one b.tokens other d.tree (subst (λ (l : List Token). DerivesAs symbol l other) (lex_unique (text ++ codes "\n") others b.tokens lex lexed) derives) derived;
       }
 
-pub document_line : (m : Meaning Place) → LiteralsRead m.string → (prefix : Prefix) (tree : DefinitionTree Place) (trees : List (DefinitionTree Place)) → is_white_prefix prefix ≡ true
+pub document_line : (m : Meaning Place) → LiteralsRead m.string → (layout : Layout) (tree : DefinitionTree Place) (trees : List (DefinitionTree Place)) → is_white_prefix layout ≡ true
     → list_all definition_well_formed (tree ∷ trees) ≡ true → list_all definition_writable (tree ∷ trees) ≡ true
-    → ReadsAlone (Derives m) unplaced_document (document_text prefix 0 (tree ∷ trees) ++ codes "\n") (unplaced_document (tree ∷ trees))
-document_line m lits prefix tree trees white formed writable =
+    → ReadsAlone (Derives m) unplaced_document (document_text layout 0 (tree ∷ trees) ++ codes "\n") (unplaced_document (tree ∷ trees))
+document_line m lits layout tree trees white formed writable =
     let n : ℕ = depths definition_depth (tree ∷ trees) in
-    reads_with_line_feed (document m) unplaced_document (document_text prefix 0 (tree ∷ trees)) (unplaced_document (tree ∷ trees)) n ends_definition refl (one_document m)
-    (document_read m lits prefix white tree trees n 0 formed writable (le_refl n))
+    reads_with_line_feed (document m) unplaced_document (document_text layout 0 (tree ∷ trees)) (unplaced_document (tree ∷ trees)) n ends_definition refl (one_document m)
+    (document_read m lits layout white tree trees n 0 formed writable (le_refl n))
