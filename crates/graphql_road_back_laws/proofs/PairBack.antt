@@ -1,5 +1,5 @@
 -- The written pair leads back.
-use Rattle.std.proofs.Common.{◌≡◌, ◌≢◌, ℕ, ◌+◌, ◌≤◌, List, [], ◌∷◌, length, sym, ap, subst, ◌∙◌, arith}
+use Rattle.std.proofs.Common.{◌≡◌, ◌≢◌, ℕ, ◌+◌, ◌≤◌, List, [], ◌∷◌, length, inr, sym, ap, subst, ◌∙◌, arith}
 use Rattle.graphql_names.specs.Placed.{Place}
 use Rattle.graphql_schema_types.specs.SchemaTree.{SchemaTree}
 use Rattle.graphql_rule_definitions.specs.Judged.{Judged}
@@ -9,12 +9,12 @@ use Rattle.graphql_rule_definitions.specs.Laws.{AreEqual}
 use Rattle.graphql_rule_definitions.proofs.Same.{read_the_same}
 use Rattle.graphql_verdict.specs.Texts.{Text, Tree, Terms, ReadsText, ReadsAll, document_number, PassesNumbers}
 use Rattle.graphql_verdict.specs.Judge.{schema_of, schema_at_hand, IsAccepted, PassesNoReferenceBound, PassesNoDocumentBound, IsCertain}
-use Rattle.graphql_verdict.specs.Out.{Out, OutDoc, Layout, layout_text}
+use Rattle.graphql_verdict.specs.Out.{Out, OutDoc, Layout, layout_text, as_lines}
 use Rattle.graphql_verdict.specs.Answer.{WritesSchema, WritesDocument, AcceptedBytes}
 use Rattle.graphql_verdict_laws.specs.AnyNumber.{IsNumber}
 use Rattle.graphql_verdict_laws.proofs.AnyNumber.{one_tree}
 use Rattle.graphql_verdict_laws.proofs.Rearranged.{all_one}
-use Rattle.graphql_road_back_laws.specs.RoadBack.{IsPlainLayout, IsTextOf, SchemaLeadsBack, DocumentLeadsBack, PairLeadsBack, PairRoadBack}
+use Rattle.graphql_road_back_laws.specs.RoadBack.{IsPlainLayout, IsTextOf, SchemaLeadsBack, DocumentLeadsBack, PairLeadsBack, PairRoadBack, AnswerRoadBack}
 use Rattle.graphql_road_back_laws.proofs.SomeBracket.{some_text}
 use Rattle.graphql_road_back_laws.proofs.SchemaBack.{schema_road_back}
 use Rattle.graphql_road_back_laws.proofs.DocumentBack.{document_road_back}
@@ -151,3 +151,15 @@ module _ (terms : Terms) (schemas : List Text) (document : Text) (other : terms.
 pub pair_road_back : PairRoadBack
 pair_road_back terms schemas document other first layout next plain plain_next schema_written document_written schema_is document_is =
     leads_back terms schemas document other first layout next plain plain_next schema_written document_written schema_is document_is
+
+-- ---- what is put out
+
+pub answer_road_back : AnswerRoadBack
+answer_road_back terms schemas document other layout plain bytes first =
+    let pair = first.accepted in
+    let schema_is : first.written_schema ≡ layout_text layout (Out terms pair.schema.judged.trees) = schema_bytes terms layout schemas pair.schema.judged.trees first.written_schema pair.schema.judged.read first.writes_schema in
+    let document_is : first.written_document ≡ layout_text layout (OutDoc pair.over.judged.tree) =
+    document_bytes layout (document_number terms schemas) document pair.over.judged.tree first.written_document pair.over.judged.read first.writes_document in
+    let back = leads_back terms schemas document other pair layout layout plain plain (as_lines layout first.written_schema) (as_lines layout first.written_document)
+    (inr (ap (as_lines layout) schema_is)) (inr (ap (as_lines layout) document_is)) in
+    (back.answered layout bytes).0 first

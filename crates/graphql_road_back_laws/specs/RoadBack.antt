@@ -87,3 +87,9 @@ PairRoadBack = (terms : Terms) (schemas : List Text) (document : Text) → terms
     → (layout next : Layout) → IsPlainLayout layout → IsPlainLayout next
     → (schema_written document_written : Text) → IsTextOf layout (Out terms first.schema.judged.trees) schema_written → IsTextOf next (OutDoc first.over.judged.tree) document_written
     → PairLeadsBack terms schemas document first schema_written document_written
+
+-- the two texts that are put out for an accepted pair, put in again, have the same bytes put out
+abbrev pub AnswerRoadBack : Type 0
+AnswerRoadBack = (terms : Terms) (schemas : List Text) (document : Text) → terms.first_text ≢ 0 → (layout : Layout) → IsPlainLayout layout
+    → (bytes : List ℕ) (first : AcceptedBytes terms layout schemas document bytes)
+    → AcceptedBytes terms layout (as_lines layout first.written_schema ∷ []) (as_lines layout first.written_document) bytes

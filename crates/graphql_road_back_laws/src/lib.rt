@@ -4,7 +4,7 @@
 //! (`specs/RoadBack.antt`).
 #![tactic(auto)]
 
-ghost use Rattle.graphql_road_back_laws.specs.RoadBack.{SchemaRoadBack, DocumentRoadBack, PairRoadBack};
+ghost use Rattle.graphql_road_back_laws.specs.RoadBack.{SchemaRoadBack, DocumentRoadBack, PairRoadBack, AnswerRoadBack};
 
 /// What is written of accepted schema texts is read back, accepted, equal, and written as it was.
 pub fn schemas_lead_back()
@@ -18,7 +18,8 @@ pub fn documents_lead_back()
 {}
 
 /// What is written of an accepted pair is accepted on the same terms, for sure where the pair was, and the same bytes are put out
-/// for it.
+/// for it; and so they are where what is put out is put in again.
 pub fn pairs_lead_back()
-    ensures { PairRoadBack }
+    ensures pairs { PairRoadBack }
+    ensures answers { AnswerRoadBack }
 {}
