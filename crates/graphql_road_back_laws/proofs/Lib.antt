@@ -1,4 +1,3 @@
-pub mod EqualSchemas
 pub mod Taken
 pub mod FormedValues
 pub mod FormedOperations
@@ -8,5 +7,12 @@ pub mod Stays
 pub mod StaysSo
 pub mod SameMarks
 pub mod Counting
+pub mod LineFeeds
 pub mod ReadBack
+pub mod Bracketless
+pub mod SomeBracket
 pub mod SchemaBack
+pub mod Passing
+pub mod OutDocuments
+pub mod DocumentBack
+pub mod PairBack

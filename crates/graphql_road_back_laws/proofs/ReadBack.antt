@@ -1,17 +1,20 @@
 -- What is written of definitions that are well-formed and can be written is read back, within the limit that the definitions keep.
-use Rattle.std.proofs.Common.{◌≡◌, ◌≢◌, ℕ, ◌+◌, ◌≤◌, ◌<◌, max, Bool, true, false, List, [], ◌∷◌, ◌++◌, refl, sym, ap, subst, ◌∙◌, arith, suc, ltb, ltb-true, ltb-false}
+use Rattle.std.proofs.Common.{◌≡◌, ◌≢◌, ℕ, ◌+◌, ◌≤◌, ◌<◌, max, Bool, true, false, List, [], ◌∷◌, ◌++◌, Some, None, codes, inl, inr, refl, sym, ap, subst, ◌∙◌, arith, suc, ltb, ltb-true, ltb-false}
 use Rattle.std.specs.List.{list_all}
 use Rattle.std.proofs.lemmas.Bool.{and_parts}
 use Rattle.std.proofs.lemmas.List.{append-nil}
 use Rattle.graphql_names.specs.declared.span.FileId.{FileId}
+use Rattle.graphql_definitions.specs.DefinitionTree.{unplaced_document}
 use Rattle.graphql_definitions.specs.DocumentLayout.{document_text}
 use Rattle.graphql_definitions.specs.Writable.{has_some, definition_writable, document_writable}
 use Rattle.graphql_grammar.specs.Depth.{depth}
+use Rattle.graphql_grammar.specs.Grammar.{Derives}
 use Rattle.graphql_parse_values.specs.Meanings.{in_file}
 use Rattle.graphql_read.specs.Reads.{Reads, NestingBound}
 use Rattle.graphql_read.proofs.Bounds.{not_passed}
 use Rattle.graphql_read.proofs.Soundness.{document_sound}
 use Rattle.graphql_printed.specs.Definitions.{definition_well_formed}
+use Rattle.graphql_printed.specs.ReadsAlone.{ReadsAlone}
 use Rattle.graphql_printed.proofs.Alone.{literals_read, document_alone}
 use Rattle.graphql_printed.proofs.Unplaced.{document_same}
 use Rattle.graphql_depth_laws.specs.TreeDepth.{document_depth}
@@ -23,8 +26,9 @@ use Rattle.graphql_rearranging_laws.specs.Elsewhere.{AreAllElsewhere}
 use Rattle.graphql_rearranging_laws.proofs.ReadTexts.{texts_elsewhere}
 use Rattle.graphql_verdict.specs.Texts.{Text, Tree, ReadsText, ReadsAll, DerivesIn, IsWithin, AreWithin}
 use Rattle.graphql_verdict.specs.Judge.{definitions_of}
-use Rattle.graphql_verdict.specs.Out.{Layout, layout_text}
-use Rattle.graphql_road_back_laws.specs.RoadBack.{IsPlainLayout, IsSameTree, IsWrittenAlike}
+use Rattle.graphql_verdict.specs.Out.{Layout, layout_text, as_lines}
+use Rattle.graphql_road_back_laws.specs.RoadBack.{IsPlainLayout, IsTextOf, IsSameTree, IsWrittenAlike}
+use Rattle.graphql_road_back_laws.proofs.LineFeeds.{document_line}
 
 -- The text has this number and is read as the definitions, places aside; and it nests no deeper than they.
 pub record ReadsBack (number : ℕ) (text : Text) (ds : Tree) : Type 0 where
@@ -33,21 +37,39 @@ pub record ReadsBack (number : ℕ) (text : Text) (ds : Tree) : Type 0 where
   pub same : IsSameTree tree ds
   pub nests : (nesting : ℕ) → document_depth ds ≤ nesting → NestingBound nesting text → ⊥
 
-pub reads_back : (number : ℕ) (layout : Layout) → IsPlainLayout layout → (ds : Tree) → list_all definition_well_formed ds ≡ true → document_writable ds ≡ true → ReadsBack number (layout_text layout ds) ds
-reads_back number layout plain [] formed writable = absurd cc
-reads_back number layout plain (d ∷ ds) formed writable =
-    let file : FileId = record { 0 = number } in
-    let w = and_parts (has_some (d ∷ ds)) (list_all definition_writable (d ∷ ds)) writable in
-    let r = document_alone (in_file file) literals_read layout 0 d ds plain formed w.1 in
-    let read : Reads (DerivesIn number) (layout_text layout (d ∷ ds)) r.tree = record { tokens = r.tokens; lexed = r.lexed; derived = r.derived } in
+-- a text that is read as these definitions alone
+of_alone : (number : ℕ) (text : Text) (ds : Tree) → ReadsAlone (Derives (in_file (record { 0 = number }))) unplaced_document text (unplaced_document ds) → ReadsBack number text ds
+of_alone number text ds r =
+    let read : Reads (DerivesIn number) text r.tree = record { tokens = r.tokens; lexed = r.lexed; derived = r.derived } in
     record {
       tree = r.tree;
       read = read;
       same = r.same;
       nests = λ nesting deep.
-          let size : depth r.tokens ≡ document_depth (d ∷ ds) = document_read_depth (in_file file) (layout_text layout (d ∷ ds)) (d ∷ ds) r in
-          not_passed (DerivesIn number) nesting (layout_text layout (d ∷ ds)) r.tree (record { reads = read; within = omega (arith, size, deep) });
+          let size : depth r.tokens ≡ document_depth ds = document_read_depth (in_file (record { 0 = number })) text ds r in
+          not_passed (DerivesIn number) nesting text r.tree (record { reads = read; within = omega (arith, size, deep) });
     }
+
+pub reads_back : (number : ℕ) (layout : Layout) → IsPlainLayout layout → (ds : Tree) → list_all definition_well_formed ds ≡ true → document_writable ds ≡ true → (text : Text) → IsTextOf layout ds text → ReadsBack number text ds
+reads_back number layout plain [] formed writable text is = absurd cc
+reads_back number layout plain (d ∷ ds) formed writable text is = by is
+  where
+    file : FileId
+    file = record { 0 = number }
+
+    each : list_all definition_writable (d ∷ ds) ≡ true
+    each = (and_parts (has_some (d ∷ ds)) (list_all definition_writable (d ∷ ds)) writable).1
+
+    bare : ReadsBack number (layout_text layout (d ∷ ds)) (d ∷ ds)
+    bare = of_alone number (layout_text layout (d ∷ ds)) (d ∷ ds) (document_alone (in_file file) literals_read layout 0 d ds plain formed each)
+
+    lines : (l : Layout) → IsPlainLayout l → ReadsBack number (layout_text l (d ∷ ds)) (d ∷ ds) → ReadsBack number (as_lines l (layout_text l (d ∷ ds))) (d ∷ ds)
+    lines None plain' back = of_alone number (layout_text None (d ∷ ds) ++ codes "\n") (d ∷ ds) (document_line (in_file file) literals_read None d ds plain' formed each)
+    lines (Some prefix) plain' back = back
+
+    by : IsTextOf layout (d ∷ ds) text → ReadsBack number text (d ∷ ds)
+    by (inl e) = subst (λ t. ReadsBack number t (d ∷ ds)) (sym e) bare
+    by (inr e) = subst (λ t. ReadsBack number t (d ∷ ds)) (sym e) (lines layout plain bare)
 
 -- what is equal, places aside, is written alike
 pub written_alike : (a b : Tree) → IsSameTree a b → IsWrittenAlike a b

@@ -1,22 +1,17 @@
 -- The written schema text leads back.
-use Rattle.std.proofs.Common.{◌≡◌, ◌≢◌, ℕ, ◌≤◌, true, List, [], ◌∷◌, ◌++◌, refl, sym, ap, ◌∙◌, inl, None, option_map, arith}
+use Rattle.std.proofs.Common.{◌≡◌, ◌≢◌, ◌≤◌, true, List, [], ◌∷◌, sym, ap, ◌∙◌, arith}
 use Rattle.std.specs.List.{list_all}
 use Rattle.graphql_names.specs.Placed.{Place}
 use Rattle.graphql_definitions.specs.DefinitionTree.{unplaced_document}
 use Rattle.graphql_printed.specs.Definitions.{definition_well_formed}
 use Rattle.graphql_depth_laws.specs.TreeDepth.{document_depth}
-use Rattle.graphql_components.specs.Given.{given_name}
 use Rattle.graphql_schema_types.specs.SchemaTree.{SchemaTree}
-use Rattle.graphql_schema_types.specs.Addresses.{SchemaAt}
 use Rattle.graphql_built_in.specs.Table.{built_in_definitions}
 use Rattle.graphql_folding.specs.Listed.{Definitions}
 use Rattle.graphql_folding.specs.Fold.{fold}
-use Rattle.graphql_folding.specs.SchemaFold.{folded_schema}
 use Rattle.graphql_folding.specs.BuildErrors.{FoldingRules}
 use Rattle.graphql_schema_building.specs.Numbers.{extension_count}
 use Rattle.graphql_rule_definitions.specs.Laws.{AreEqual}
-use Rattle.graphql_rule_definitions.specs.Diagnostics.{QueryRootOperationType}
-use Rattle.graphql_rule_definitions.specs.Faults.{told}
 use Rattle.graphql_rule_definitions.proofs.Same as rules
 use Rattle.graphql_written_laws.specs.Table.{AreOwn}
 use Rattle.graphql_written_laws.proofs.RealTable.{real_table}
@@ -27,29 +22,32 @@ use Rattle.graphql_rearranging_laws.specs.Elsewhere.{AreAllElsewhere}
 use Rattle.graphql_rearranging_laws.proofs.Rearranged.{cut}
 use Rattle.graphql_rearranging_laws.proofs.Faults.{keep_the_rules}
 use Rattle.graphql_rearranging_laws.proofs.Marks.{are_equal}
+use Rattle.graphql_rearranging_laws.proofs.EqualAfter.{equal_after}
+use Rattle.graphql_rearranging_laws.proofs.Distinct.{folds_distinct}
 use Rattle.graphql_rearranging_laws.proofs.Cut.{writes_alike}
 use Rattle.graphql_rearranging_laws.proofs.ReadTexts.{is_own_list}
-use Rattle.graphql_verdict.specs.Texts.{Text, Tree, Terms, ReadsAll, AreWithin, PassesNumbers}
-use Rattle.graphql_verdict.specs.Judge.{definitions_of, schema_of, AreSchemasAccepted}
+use Rattle.graphql_verdict.specs.Texts.{Text, Tree, Terms}
+use Rattle.graphql_verdict.specs.Judge.{definitions_of, schema_of, schema_at_hand, AreSchemasAccepted}
 use Rattle.graphql_verdict.specs.Out.{Out, Layout}
 use Rattle.graphql_verdict_laws.proofs.Schemas.{schemas}
-use Rattle.graphql_road_back_laws.specs.RoadBack.{IsPlainLayout, IsSameTree, schema_text, SchemaLeadsBack, SchemaRoadBack}
-use Rattle.graphql_road_back_laws.proofs.EqualSchemas.{hands_equal}
+use Rattle.graphql_road_back_laws.specs.RoadBack.{IsPlainLayout, IsTextOf, IsSameTree, SchemaLeadsBack, SchemaRoadBack}
+use Rattle.graphql_road_back_laws.proofs.SomeBracket.{some_nesting, first_left}
 use Rattle.graphql_road_back_laws.proofs.FormedDocuments.{all_formed}
 use Rattle.graphql_road_back_laws.proofs.StaysSo.{out_formed, out_elsewhere}
 use Rattle.graphql_road_back_laws.proofs.SameMarks.{out_equal}
 use Rattle.graphql_road_back_laws.proofs.Counting.{no_more, same_count, numbers_suffice}
 use Rattle.graphql_road_back_laws.proofs.ReadBack.{ReadsBack, reads_back, written_alike, texts_depth, read_elsewhere, one_tree}
 
--- what is built in has no query root
-no_root : (first : ℕ) → (folded_schema first (built_in_definitions ++ [])).query ≡ None
-unfolding built_in_definitions
-no_root first = refl
-
 abbrev pub joined : (a b c : SchemaTree Place) → AreEqual a b → AreEqual b c → AreEqual a c
 joined a b c one two = record { same = one.same ∙ two.same; marks = λ at. one.marks at ∙ two.marks at }
 
-module _ (terms : Terms) (texts : List Text) (some : 1 ≤ terms.nesting) (other : terms.first_text ≢ 0) (first : AreSchemasAccepted terms texts) where
+-- equal schemas are equal at hand too
+hands_equal : (terms : Terms) (trees other_trees : List Tree) → AreEqual (schema_of terms trees) (schema_of terms other_trees) → AreEqual (schema_at_hand terms trees) (schema_at_hand terms other_trees)
+hands_equal terms trees other_trees equal =
+    equal_after (schema_of terms trees) (schema_of terms other_trees)
+    (folds_distinct built_in_definitions terms.first_extension (definitions_of trees)) (folds_distinct built_in_definitions terms.first_extension (definitions_of other_trees)) equal
+
+module _ (terms : Terms) (texts : List Text) (other : terms.first_text ≢ 0) (first : AreSchemasAccepted terms texts) where
   abbrev ds : Definitions
   ds = definitions_of first.judged.trees
 
@@ -68,23 +66,9 @@ module _ (terms : Terms) (texts : List Text) (some : 1 ≤ terms.nesting) (other
   formed : list_all definition_well_formed out ≡ true
   formed = out_formed built_in_definitions terms.first_extension ds real_table own first.judged.folds (all_formed terms.first_text texts first.judged.trees first.judged.read)
 
-  -- a schema text is there, so its number is left
-  numbered : PassesNumbers terms.first_text → ⊥
-  numbered = by texts first.judged.trees refl first.judged.read first.within
-    where
-      by : (xs : List Text) (trees : List Tree) → first.judged.trees ≡ trees → ReadsAll terms.first_text xs trees → AreWithin terms.nesting terms.first_text xs → PassesNumbers terms.first_text → ⊥
-      by (x ∷ xs) trees e read within = within.0.numbered
-      by [] (tree ∷ trees) e read within = absurd read
-      by [] [] e read within = λ passed.
-          first.judged.holds (told SchemaAt QueryRootOperationType)
-          (inl (inl (ap (λ (ts : List Tree). option_map given_name (folded_schema terms.first_extension (built_in_definitions ++ definitions_of ts)).query) e ∙ ap (option_map given_name) (no_root terms.first_extension), refl)))
-
-  module _ (layout : Layout) (plain : IsPlainLayout layout) where
-    abbrev text : Text
-    text = schema_text layout terms texts first
-
+  module _ (layout : Layout) (plain : IsPlainLayout layout) (text : Text) (is : IsTextOf layout out text) where
     back : ReadsBack terms.first_text text out
-    back = reads_back terms.first_text layout plain out formed (schemas terms texts other first)
+    back = reads_back terms.first_text layout plain out formed (schemas terms texts other first) text is
 
     abbrev trees : List Tree
     trees = back.tree ∷ []
@@ -110,7 +94,7 @@ module _ (terms : Terms) (texts : List Text) (some : 1 ≤ terms.nesting) (other
         (are_equal built_in_definitions terms.first_extension terms.first_extension out again (cut out again (sym same)) away there)
 
     deep : document_depth out ≤ terms.nesting
-    deep = out_fits terms.nesting some built_in_definitions terms.first_extension ds real_table own first.judged.folds (texts_depth terms.nesting terms.first_text texts first.judged.trees first.judged.read first.within)
+    deep = out_fits terms.nesting (some_nesting terms texts first) built_in_definitions terms.first_extension ds real_table own first.judged.folds (texts_depth terms.nesting terms.first_text texts first.judged.trees first.judged.read first.within)
 
     fewer : extension_count again ≤ extension_count ds
     fewer = let a = same_count again out same in let b = no_more terms.first_extension ds own first.judged.folds in omega (arith, a, b)
@@ -123,7 +107,7 @@ module _ (terms : Terms) (texts : List Text) (some : 1 ≤ terms.nesting) (other
         folds = folds;
         holds = (rules.same_verdict (schema_of terms first.judged.trees) (schema_of terms trees) equal).0 first.judged.holds;
       };
-      within = (record { nests = back.nests terms.nesting deep; numbered = numbered }, tt);
+      within = (record { nests = back.nests terms.nesting deep; numbered = first_left terms texts first }, tt);
       numbered = numbers_suffice terms.first_extension ds again fewer first.numbered;
     }
 
@@ -137,9 +121,9 @@ module _ (terms : Terms) (texts : List Text) (some : 1 ≤ terms.nesting) (other
       accepted = accepted;
       read_back = same;
       equal = equal;
-      at_hand = hands_equal terms terms first.judged.trees trees equal;
+      at_hand = hands_equal terms first.judged.trees trees equal;
       written = written_alike (Out terms trees) out written;
     }
 
 pub schema_road_back : SchemaRoadBack
-schema_road_back terms texts some other first layout plain = leads_back terms texts some other first layout plain
+schema_road_back terms texts other first layout plain text is = leads_back terms texts other first layout plain text is

@@ -4,14 +4,22 @@
 //! (`specs/RoadBack.antt`).
 #![tactic(auto)]
 
-ghost use Rattle.graphql_road_back_laws.specs.RoadBack.{SchemaRoadBack, EqualSchemasSameVerdict};
+ghost use Rattle.graphql_road_back_laws.specs.RoadBack.{SchemaRoadBack, DocumentRoadBack, PairRoadBack, AnswerRoadBack};
 
 /// What is written of accepted schema texts is read back, accepted, equal, and written as it was.
 pub fn schemas_lead_back()
     ensures { SchemaRoadBack }
 {}
 
-/// Accepted schemas that are equal, with the same built in, give the same verdict on every document text.
-pub fn equal_schemas_judge_alike()
-    ensures { EqualSchemasSameVerdict }
+/// What is written of a document that is accepted over a schema is, over each equal one, read back, accepted, equal, and written as
+/// it was.
+pub fn documents_lead_back()
+    ensures { DocumentRoadBack }
+{}
+
+/// What is written of an accepted pair is accepted on the same terms, for sure where the pair was, and the same bytes are put out
+/// for it; and so they are where what is put out is put in again.
+pub fn pairs_lead_back()
+    ensures pairs { PairRoadBack }
+    ensures answers { AnswerRoadBack }
 {}

@@ -69,7 +69,7 @@ fragment_same : (d : DefinitionTree Place) → is_fragment d ≡ is_fragment (un
 fragment_same (tree.Fragment p f) = refl
 fragment_same _ = refl
 
-out_same : (ds : Tree) → map unplaced_definition (out_doc ds) ≡ out_doc (map unplaced_definition ds)
+pub out_same : (ds : Tree) → map unplaced_definition (out_doc ds) ≡ out_doc (map unplaced_definition ds)
 out_same ds =
     map-append unplaced_definition (filter is_anonymous ds ++ filter is_named_operation ds) (filter is_fragment ds)
     ∙ ap (λ l. l ++ map unplaced_definition (filter is_fragment ds)) (map-append unplaced_definition (filter is_anonymous ds) (filter is_named_operation ds))
