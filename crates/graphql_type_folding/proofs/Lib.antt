@@ -3,6 +3,9 @@ pub mod Listing
 pub mod Telling
 pub mod TypeFaults
 pub mod Under
+pub mod Extending
+pub mod Indexing
+pub mod FirstsOfFirsts
 pub mod Filing
 pub mod Folding
 pub mod FoldedTypes

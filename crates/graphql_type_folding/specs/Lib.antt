@@ -1,6 +1,7 @@
 pub mod DefinitionsOf
 pub mod TypeFaults
 pub mod ListTypes
+pub mod Index
 pub mod Filing
 pub mod OwnNames
 pub mod Misplaced
