@@ -8,6 +8,7 @@ pub mod Indexing
 pub mod FirstsOfFirsts
 pub mod Filing
 pub mod Folding
+pub mod FoldingAll
 pub mod FoldedTypes
 pub mod OwnNames
 pub mod Lookups

@@ -1,5 +1,5 @@
 -- The index of a list: where the definitions and the extensions of types stand in it, by the names of their types.
-use Rattle.std.specs.Prelude.{◌≡◌, ℕ, List, [], ◌∷◌, ◌++◌, map, take, length, Option, option_to_list, slice_get}
+use Rattle.std.specs.Prelude.{◌≡◌, ℕ, Bool, false, List, [], ◌∷◌, ◌++◌, map, take, length, Option, nat_lt, option_to_list, slice_get}
 use Rattle.std.specs.List.{filter, flat_map}
 use Rattle.std.specs.Map.{lookup}
 use Rattle.std.specs.Option.{option_map, option_map_or}
@@ -54,6 +54,13 @@ first_of s = record { name = s.parts.name; kind = s.parts.kind; position = s.pos
 abbrev pub first_filed : NameValue × Filed → FirstFiled
 first_filed e = record { name = name_tree e.0; kind = e.1.kind; position = e.1.first }
 
+-- a type's name and kind
+abbrev pub NamedKind : Type 0
+NamedKind = Text Place × TypeKind
+
+abbrev pub filed_kind : NameValue × Filed → NamedKind
+filed_kind e = (name_tree e.0, e.1.kind)
+
 -- the positions under a name, none if there is no entry
 abbrev pub positions_of : Filed → List ℕ
 positions_of f = f.first ∷ f.others.items
@@ -63,6 +70,10 @@ FiledEntries = List (NameValue × Filed)
 
 abbrev pub positions_under : List ℕ → FiledEntries → List ℕ
 positions_under n es = option_map_or positions_of (lookup (λ k. bytes_eq n k.text) es) []
+
+-- the first position under a name is before that one
+abbrev pub is_filed_before : ℕ → FiledEntries → List ℕ → Bool
+is_filed_before position es n = option_map_or (λ f. nat_lt f.first position) (lookup (λ k. bytes_eq n k.text) es) false
 
 -- under each name stand the positions of these, in order; the names are in the order of the first of each
 abbrev pub AreFiled : List Standing → FiledEntries → Type 0

@@ -1,7 +1,9 @@
 //! What the definitions of types fold to.
-ghost use Rattle.std.specs.Prelude.{◌≡◌, ◌++◌, ◌∷◌, [], map, IfOk, OnOk};
+ghost use Rattle.std.specs.Prelude.{◌≡◌, ◌++◌, ◌∷◌, [], map, IfOk, OnOk, option_to_list};
 ghost use Rattle.std.specs.List.{flat_map};
+ghost use Rattle.graphql_folding.specs.in_definitions.DefinitionTree.{definition_tree};
 ghost use Rattle.graphql_folding.specs.in_schema_types.SchemaView.{types_view};
+ghost use Rattle.graphql_folding.specs.in_schema_types.TypeParts.{type_here};
 ghost use Rattle.graphql_folding.specs.FaultView.{faults_of};
 ghost use Rattle.graphql_folding.specs.Listed.{types_in};
 ghost use Rattle.graphql_folding.specs.ListedView.{listed_view};
@@ -104,7 +106,7 @@ fn fold_here(
     types: &mut IndexMap<Name, ExtendedType>,
     faults: &mut Vec<(Option<SourceSpan>, BuildError)>,
 ) -> Result<(), AllocError>
-    ensures { OnOk result (FoldsOn (extensions_under (map listed_view texts.now) extended.now.entries) (types_in ((listed_view listed.now).definition ∷ [])) (types_view types.old) (faults_of faults.old) (types_view types.new) (faults_of faults.new)) }
+    ensures { OnOk result (FoldsOn (extensions_under (map listed_view texts.now) extended.now.entries) (option_to_list (type_here (definition_tree listed.now.definition))) (types_view types.old) (faults_of faults.old) (types_view types.new) (faults_of faults.new)) }
 {
     match type_definition(&listed.definition) {
         None => Ok(()),
