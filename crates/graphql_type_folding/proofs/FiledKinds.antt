@@ -13,7 +13,7 @@ use Rattle.graphql_folding.specs.in_schema_types.TypeParts.{TypeParts, TypeDefin
 use Rattle.graphql_folding.specs.Listed.{Definitions, type_name, types_in}
 use Rattle.graphql_folding.specs.in_schema_types.declared.type_kind.TypeKind.{TypeKind}
 use Rattle.graphql_type_folding.specs.declared.index.Filed.{Filed}
-use Rattle.graphql_type_folding.specs.Index.{Standing, standing_name, parts_here, standing_after, standing, FirstFiled, first_of, first_filed, FiledEntries, AreFiled, NamedKind, filed_kind}
+use Rattle.graphql_type_folding.specs.Index.{Standing, standing_name, parts_here, standing_after, standing, FirstFiled, first_of, first_filed, FiledEntries, AreFiled, NamedKind, filed_kind, text_kind}
 
 -- the firsts of what is made of each
 module _ {X Y : Type 0} (f : X → Y) (key : Y → List ℕ) where
@@ -94,9 +94,6 @@ defined_parts (d ∷ ds) = by (type_here d) (defined_parts ds)
 
 abbrev kind_text : NamedKind → List ℕ × TypeKind
 kind_text k = (k.0.it, k.1)
-
-abbrev pub text_kind : NameValue × Filed → List ℕ × TypeKind
-text_kind e = (e.0.text, e.1.kind)
 
 texts_kinds : (es : FiledEntries) → map text_kind es ≡ map kind_text (map filed_kind es)
 texts_kinds [] = refl

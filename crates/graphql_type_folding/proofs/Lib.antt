@@ -6,6 +6,8 @@ pub mod Under
 pub mod Extending
 pub mod Indexing
 pub mod FirstsOfFirsts
+pub mod FiledKinds
+pub mod Before
 pub mod Filing
 pub mod Folding
 pub mod FoldingAll
@@ -14,6 +16,7 @@ pub mod OwnNames
 pub mod Lookups
 pub mod FailsIs
 pub mod Seeing
+pub mod Behind
 pub mod Judging
 pub mod TellingMisplaced
 pub mod Turns

@@ -28,7 +28,7 @@ flat_map-push f [] x = append-nil (f x)
 flat_map-push f (y ∷ ys) x = ap (λ l. f y ++ l) (flat_map-push f ys x) ∙ sym (append_assoc (f y) (flat_map f ys) (f x))
 
 -- the first definitions of a list are those of its first elements
-taken : (xs : List RustListed) (i : ℕ) → take i (definitions_of (map listed_view xs)) ≡ definitions_of (map listed_view (take i xs))
+pub taken : (xs : List RustListed) (i : ℕ) → take i (definitions_of (map listed_view xs)) ≡ definitions_of (map listed_view (take i xs))
 taken xs i = take-map (λ l. l.definition) i (map listed_view xs) ∙ ap definitions_of (take-map listed_view i xs)
 
 -- one more of them

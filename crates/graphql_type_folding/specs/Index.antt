@@ -61,6 +61,10 @@ NamedKind = Text Place × TypeKind
 abbrev pub filed_kind : NameValue × Filed → NamedKind
 filed_kind e = (name_tree e.0, e.1.kind)
 
+-- the same without the name's place
+abbrev pub text_kind : NameValue × Filed → List ℕ × TypeKind
+text_kind e = (e.0.text, e.1.kind)
+
 -- the positions under a name, none if there is no entry
 abbrev pub positions_of : Filed → List ℕ
 positions_of f = f.first ∷ f.others.items

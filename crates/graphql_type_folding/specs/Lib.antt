@@ -7,4 +7,5 @@ pub mod OwnNames
 pub mod Misplaced
 pub mod Seen
 pub mod SeenView
+pub mod OwnView
 pub use Rattle.graphql_folding.specs as in_folding
