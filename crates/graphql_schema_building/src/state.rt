@@ -1,26 +1,25 @@
 //! The state of a schema builder, and the list of definitions that it makes of its texts.
 ghost use Rattle.graphql_schema_building.specs.KeptView.{IsKept};
 
-use crate::orphans::Orphans;
 use crate::settle::Settings;
 use crate::texts::Texts;
 use graphql_folding::{Listed, SourceFile};
 use graphql_names::FileId;
+use graphql_type_folding::Index;
 use indexmap::IndexMap;
 use std::alloc::Global;
 
-/// The state of a schema builder: the definitions that were added to it, with their numbers, and the types that wait
-/// for a definition.
+/// The state of a schema builder: the definitions and extensions that were added to it, with their numbers and their
+/// positions, filed by name and kind. Nothing is folded before it is built.
 ///
 /// Contracts see it by `builder_view` alone.
 pub struct Building {
     pub(crate) alloc: Global,
     pub(crate) settings: Settings,
     pub(crate) texts: Texts,
-    pub(crate) orphans: Orphans,
     pub(crate) sources: IndexMap<FileId, SourceFile>,
     pub(crate) failed: bool,
-    ghost kept: { IsKept texts orphans failed },
+    ghost kept: { IsKept texts failed },
 }
 
 /// Lets go what it keeps, here and not wherever a builder goes.
@@ -30,7 +29,6 @@ impl Drop for Building {
             alloc: _,
             settings: _,
             texts: _,
-            orphans: _,
             sources: _,
             failed: _,
         } = self;
@@ -45,4 +43,6 @@ pub struct SettledList {
     pub list: Vec<Listed>,
     /// How many definitions of the list are built in: they are its first.
     pub built_in: usize,
+    /// The index of the others.
+    pub index: Index,
 }
