@@ -82,7 +82,7 @@ pub filed_first : (t : Texts) (s : Settings) → s.ignores ≡ false → (built_
     → IsIndexOf (take (length t.list.items) (definitions_of (map listed_view (drop built_in list)))) t.index
 filed_first t s none built_in list kept is many =
     subst (λ ds. IsIndexOf ds t.index)
-    (sym ((λ i. take (counted t i) (definitions_of (drop-map listed_view built_in list (~ i))))
+    (sym ((λ i. take (counted t i) (definitions_of (sym (drop-map listed_view built_in list) i)))
     ∙ texts_first s none (first_number t) built_in (definitions t) (map listed_view list) is many)) kept.1
   where
     counted : (t : Texts) → length t.list.items ≡ length (definitions t)
