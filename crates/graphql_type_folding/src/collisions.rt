@@ -19,6 +19,7 @@ use indexmap::IndexMap;
 use std::alloc::AllocError;
 
 /// What stands before a position of the texts: the types that are filed there, and a schema definition or none.
+#[derive(Clone, Copy)]
 struct Before<'a> {
     defined: &'a IndexMap<Name, Filed>,
     schema: bool,

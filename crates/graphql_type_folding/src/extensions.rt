@@ -38,11 +38,7 @@ fn gather(alloc: Global, texts: &[Listed], filed: &Filed) -> Result<Vec<Listed>,
 }
 
 /// Puts what stands at a position of the list behind the others, shared, if it is there.
-fn push_at(
-    texts: &[Listed],
-    position: usize,
-    gathered: &mut Vec<Listed>,
-) -> Result<(), AllocError>
+fn push_at(texts: &[Listed], position: usize, gathered: &mut Vec<Listed>) -> Result<(), AllocError>
     ensures { OnOk result (map listed_view gathered.new.items ≡ map listed_view gathered.old.items ++ listed_at (map listed_view texts.now) position) }
 {
     let Some(listed) = texts.get(position) else {

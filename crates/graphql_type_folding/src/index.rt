@@ -9,7 +9,9 @@ ghost use Rattle.graphql_folding.specs.PartsView.{parts_view};
 ghost use Rattle.graphql_type_folding.specs.DefinitionsOf.{definitions_of};
 ghost use Rattle.graphql_type_folding.specs.Index.{IsIndexOf, Files, FilesUnder, FilesRest};
 
-use graphql_folding::{Definition, Listed, Parts, TypeKind, extension_parts, insert_new, type_definition};
+use graphql_folding::{
+    Definition, Listed, Parts, TypeKind, extension_parts, insert_new, type_definition,
+};
 use graphql_names::Name;
 use indexmap::IndexMap;
 use std::alloc::{AllocError, Global};

@@ -97,6 +97,7 @@ impl Seen {
 }
 
 /// What the texts define: the types by name, and whether there is a schema definition.
+#[derive(Clone, Copy)]
 pub(crate) struct Own<'a> {
     pub(crate) defined: &'a IndexMap<Name, Filed>,
     pub(crate) schema: bool,

@@ -33,7 +33,7 @@ loop-position-preserved c =
     let told = faults_are built_in c.loop-position.schema (is_filed_before i es) before was.schema
     (λ n. stands_before n i (definitions_of (map listed_view xs)) es c.requires ∙ ap (λ ds. has_name type_name n (types_in ds)) (taken xs i)) d in
     record {
-      schema = (λ j. was.schema j || c.is_schema_definition.ensures j) ∙ sym (schema_more before d) ∙ ap (λ ds. is_some (schema_definition_in ds)) (sym front);
+      schema = (λ j. was.schema j || c.is_schema_definition-schema.ensures j) ∙ sym (schema_more before d) ∙ ap (λ ds. is_some (schema_definition_in ds)) (sym front);
       told = told_definition built_in before d (seen_of before) start faults (faults_of c.tell_definition.new.faults) refl was.told (c.in_ok-tell_definition.ensures ∙ ap (λ l. faults ++ l) told)
           ∙ ap (λ ds. start ++ collision_faults built_in ds) (sym front);
     }

@@ -6,6 +6,7 @@ use Rattle.graphql_folding.specs.ListedView.{listed_view}
 use Rattle.graphql_type_folding.specs.DefinitionsOf.{definitions_of}
 use Rattle.graphql_type_folding.specs.OwnNames.{TypesUnderOwnNames}
 use Rattle.graphql_type_folding.proofs.FoldedTypes.{folds_types, tells_types}
+use Rattle.graphql_type_folding.proofs.Folding.{entry_view}
 use Rattle.graphql_type_folding.proofs.FoldingAll.{folds_all}
 use Rattle.graphql_type_folding.proofs.OwnNames.{types_own}
 use Rattle.graphql_type_folding.proofs.types.fold_types.Goals as goal
@@ -17,7 +18,7 @@ returns-clause-types c =
     let index = c.args.index.now in
     let both = folds_all built_in texts index.defined.entries index.extended.entries c.requires.0 c.requires.1
     (types_view c.new-types.result) (types_view c.fold_built_in.new.types) (types_view c.fold_filed.new.types) (faults_of c.args.faults.now) (faults_of c.fold_built_in.new.faults) (faults_of c.fold_filed.new.faults)
-    c.as_slice-filed.result.now (c.as_slice-filed.ensures ∙ c.values.ensures.rest) c.new-types.ensures.empty c.in_ok-fold_built_in.ensures c.in_ok-fold_filed.ensures in
+    c.as_slice-filed.result.now (c.as_slice-filed.ensures ∙ c.values.ensures.rest) (ap (map entry_view) c.new-types.ensures.empty) c.in_ok-fold_built_in.ensures c.in_ok-fold_filed.ensures in
     both.0
 
 pub returns-clause-faults : goal.returns-clause-faults
@@ -27,7 +28,7 @@ returns-clause-faults c =
     let index = c.args.index.now in
     let both = folds_all built_in texts index.defined.entries index.extended.entries c.requires.0 c.requires.1
     (types_view c.new-types.result) (types_view c.fold_built_in.new.types) (types_view c.fold_filed.new.types) (faults_of c.args.faults.now) (faults_of c.fold_built_in.new.faults) (faults_of c.fold_filed.new.faults)
-    c.as_slice-filed.result.now (c.as_slice-filed.ensures ∙ c.values.ensures.rest) c.new-types.ensures.empty c.in_ok-fold_built_in.ensures c.in_ok-fold_filed.ensures in
+    c.as_slice-filed.result.now (c.as_slice-filed.ensures ∙ c.values.ensures.rest) (ap (map entry_view) c.new-types.ensures.empty) c.in_ok-fold_built_in.ensures c.in_ok-fold_filed.ensures in
     both.1
 
 pub returns-clause-folded : goal.returns-clause-folded
@@ -37,7 +38,7 @@ returns-clause-folded c =
     let index = c.args.index.now in
     let both = folds_all built_in texts index.defined.entries index.extended.entries c.requires.0 c.requires.1
     (types_view c.new-types.result) (types_view c.fold_built_in.new.types) (types_view c.fold_filed.new.types) (faults_of c.args.faults.now) (faults_of c.fold_built_in.new.faults) (faults_of c.fold_filed.new.faults)
-    c.as_slice-filed.result.now (c.as_slice-filed.ensures ∙ c.values.ensures.rest) c.new-types.ensures.empty c.in_ok-fold_built_in.ensures c.in_ok-fold_filed.ensures in
+    c.as_slice-filed.result.now (c.as_slice-filed.ensures ∙ c.values.ensures.rest) (ap (map entry_view) c.new-types.ensures.empty) c.in_ok-fold_built_in.ensures c.in_ok-fold_filed.ensures in
     folds_types built_in texts (types_view c.fold_filed.new.types) both.0
 
 pub returns-clause-tells : goal.returns-clause-tells
@@ -47,7 +48,7 @@ returns-clause-tells c =
     let index = c.args.index.now in
     let both = folds_all built_in texts index.defined.entries index.extended.entries c.requires.0 c.requires.1
     (types_view c.new-types.result) (types_view c.fold_built_in.new.types) (types_view c.fold_filed.new.types) (faults_of c.args.faults.now) (faults_of c.fold_built_in.new.faults) (faults_of c.fold_filed.new.faults)
-    c.as_slice-filed.result.now (c.as_slice-filed.ensures ∙ c.values.ensures.rest) c.new-types.ensures.empty c.in_ok-fold_built_in.ensures c.in_ok-fold_filed.ensures in
+    c.as_slice-filed.result.now (c.as_slice-filed.ensures ∙ c.values.ensures.rest) (ap (map entry_view) c.new-types.ensures.empty) c.in_ok-fold_built_in.ensures c.in_ok-fold_filed.ensures in
     tells_types built_in texts (faults_of c.args.faults.now) (faults_of c.fold_filed.new.faults) both.1
 
 pub returns-clause-own_names : goal.returns-clause-own_names
@@ -57,5 +58,5 @@ returns-clause-own_names c =
     let index = c.args.index.now in
     let both = folds_all built_in texts index.defined.entries index.extended.entries c.requires.0 c.requires.1
     (types_view c.new-types.result) (types_view c.fold_built_in.new.types) (types_view c.fold_filed.new.types) (faults_of c.args.faults.now) (faults_of c.fold_built_in.new.faults) (faults_of c.fold_filed.new.faults)
-    c.as_slice-filed.result.now (c.as_slice-filed.ensures ∙ c.values.ensures.rest) c.new-types.ensures.empty c.in_ok-fold_built_in.ensures c.in_ok-fold_filed.ensures in
+    c.as_slice-filed.result.now (c.as_slice-filed.ensures ∙ c.values.ensures.rest) (ap (map entry_view) c.new-types.ensures.empty) c.in_ok-fold_built_in.ensures c.in_ok-fold_filed.ensures in
     subst TypesUnderOwnNames (sym both.0) (types_own texts (types_in (definitions_of built_in) ++ types_in (definitions_of texts)))
