@@ -1,5 +1,5 @@
 -- The first position that is filed under a name tells whether a definition of the name stands before a position.
-use Rattle.std.proofs.Common.{◌≡◌, ◌≤◌, ℕ, ◌+◌, zero, suc, Bool, true, false, ◌||◌, List, [], ◌∷◌, ◌++◌, map, take, length, Option, None, Some, refl, sym, ap, ◌∙◌, cond, option_to_list, slice_get, arith}
+use Rattle.std.proofs.Common.{◌≡◌, ◌≤◌, ℕ, ◌+◌, zero, suc, Bool, true, false, ◌||◌, List, [], ◌∷◌, ◌++◌, map, take, length, Option, None, Some, refl, ap, ◌∙◌, cond, option_to_list, slice_get, arith}
 use Rattle.std.specs.Prelude.{nat_lt}
 use Rattle.std.specs.List.{filter}
 use Rattle.std.specs.Map.{lookup}
@@ -10,10 +10,10 @@ use Rattle.std.proofs.lemmas.List.{length-append}
 use Rattle.graphql_names.specs.Placed.{Place}
 use Rattle.graphql_folding.specs.in_definitions.DefinitionTree.{DefinitionTree}
 use Rattle.graphql_folding.specs.in_components.Lists.{has_name}
-use Rattle.graphql_folding.specs.in_schema_types.TypeParts.{TypeParts, TypeDefinition, type_here}
+use Rattle.graphql_folding.specs.in_schema_types.TypeParts.{TypeDefinition, type_here}
 use Rattle.graphql_folding.specs.Listed.{Definitions, type_name, types_in}
 use Rattle.graphql_type_folding.specs.declared.index.Filed.{Filed}
-use Rattle.graphql_type_folding.specs.Index.{Standing, standing_name, parts_here, standing_after, standing, positions_named, positions_of, positions_under, FiledEntries, AreFiled, is_filed_before}
+use Rattle.graphql_type_folding.specs.Index.{Standing, standing_name, parts_here, standing_after, standing, positions_named, positions_of, FiledEntries, AreFiled, is_filed_before}
 
 module _ (n : List ℕ) (i : ℕ) where
   -- the first of these positions is before i

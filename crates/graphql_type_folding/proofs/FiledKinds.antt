@@ -5,15 +5,13 @@ use Rattle.std.specs.Map.{lookup}
 use Rattle.std.specs.Option.{option_map}
 use Rattle.std.specs.Str.{bytes_eq}
 use Rattle.std.proofs.lemmas.List.{map-append}
-use Rattle.graphql_names.specs.NameValue.{NameValue}
 use Rattle.graphql_names.specs.Placed.{Place}
 use Rattle.graphql_folding.specs.in_definitions.DefinitionTree.{DefinitionTree}
 use Rattle.graphql_folding.specs.in_components.Lists.{each_place_after, firsts, has_name, is_among}
 use Rattle.graphql_folding.specs.in_schema_types.TypeParts.{TypeParts, TypeDefinition, type_here}
 use Rattle.graphql_folding.specs.Listed.{Definitions, type_name, types_in}
 use Rattle.graphql_folding.specs.in_schema_types.declared.type_kind.TypeKind.{TypeKind}
-use Rattle.graphql_type_folding.specs.declared.index.Filed.{Filed}
-use Rattle.graphql_type_folding.specs.Index.{Standing, standing_name, parts_here, standing_after, standing, FirstFiled, first_of, first_filed, FiledEntries, AreFiled, NamedKind, filed_kind, text_kind}
+use Rattle.graphql_type_folding.specs.Index.{Standing, standing_name, parts_here, standing_after, standing, first_of, first_filed, FiledEntries, AreFiled, NamedKind, filed_kind, text_kind}
 
 -- the firsts of what is made of each
 module _ {X Y : Type 0} (f : X → Y) (key : Y → List ℕ) where

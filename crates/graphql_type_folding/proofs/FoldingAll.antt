@@ -1,5 +1,5 @@
 -- Lemmas on the fold of all types of a list, the built-in ones first.
-use Rattle.std.proofs.Common.{◌≡◌, ◌<◌, ◌≤◌, ℕ, List, [], ◌∷◌, ◌++◌, map, get_or, length, None, Some, refl, sym, ap, subst, ◌∙◌, option_to_list, slice_get}
+use Rattle.std.proofs.Common.{◌≡◌, ◌<◌, ◌≤◌, ℕ, List, [], ◌++◌, map, get_or, length, Some, sym, ap, subst, ◌∙◌, option_to_list, slice_get}
 use Rattle.std.specs.List.{flat_map}
 use Rattle.std.specs.Map.{values_of}
 use Rattle.std.specs.Option.{option_map, option_map_or}
@@ -11,13 +11,13 @@ use Rattle.graphql_folding.specs.in_components.Lists.{firsts}
 use Rattle.graphql_folding.specs.in_components.Names.{Entries}
 use Rattle.graphql_folding.specs.in_schema_types.SchemaTree.{SchemaType}
 use Rattle.graphql_folding.specs.in_schema_types.TypeParts.{TypeDefinition, type_here, type_extension_here}
-use Rattle.graphql_folding.specs.Listed.{Definitions, Listed, type_name, types_in}
+use Rattle.graphql_folding.specs.Listed.{Listed, type_name, types_in}
 use Rattle.graphql_folding.specs.ListedView.{listed_view}
 use Rattle.graphql_folding.specs.BuildErrors.{Fault}
 use Rattle.graphql_folding.specs.declared.listed.Listed.{Listed as Rust}
 use Rattle.graphql_type_folding.specs.DefinitionsOf.{definitions_of}
 use Rattle.graphql_type_folding.specs.declared.index.Filed.{Filed}
-use Rattle.graphql_type_folding.specs.Filing.{type_by, types_by, faults_by, FoldsOn}
+use Rattle.graphql_type_folding.specs.Filing.{type_by, FoldsOn}
 use Rattle.graphql_type_folding.specs.Index.{FiledEntries, AreFiled, standing, parts_here, defined_at, extensions_under}
 use Rattle.graphql_type_folding.specs.ListTypes.{types_from, faults_from}
 use Rattle.graphql_type_folding.specs.TypeFaults.{faults_of_type}

@@ -1,5 +1,5 @@
 -- Lemmas on the index of a list.
-use Rattle.std.proofs.Common.{◌≡◌, ℕ, Bool, true, false, List, [], ◌∷◌, ◌++◌, map, take, length, Option, None, Some, refl, sym, ap, subst, ◌∙◌, cond, if◌then◌else◌, is_some, option_to_list, slice_get}
+use Rattle.std.proofs.Common.{◌≡◌, ℕ, Bool, true, false, List, [], ◌∷◌, ◌++◌, map, length, Option, None, Some, refl, sym, ap, subst, ◌∙◌, cond, if◌then◌else◌, is_some, option_to_list, slice_get}
 use Rattle.std.specs.List.{filter, flat_map}
 use Rattle.std.specs.Map.{lookup, set_value, values_of}
 use Rattle.std.specs.Option.{option_map, option_map_or}
@@ -18,8 +18,8 @@ use Rattle.graphql_folding.specs.PartsView.{parts_view}
 use Rattle.graphql_folding.specs.declared.parts.Parts.{Parts}
 use Rattle.graphql_type_folding.specs.declared.index.Filed.{Filed}
 use Rattle.graphql_type_folding.specs.DefinitionsOf.{definitions_of}
-use Rattle.graphql_type_folding.specs.Filing.{extends_name, extensions_named}
-use Rattle.graphql_type_folding.specs.Index.{Standing, standing_name, parts_here, standing_after, standing, positions_named, first_of, first_filed, positions_of, positions_under, FiledEntries, AreFiled, FilesUnder, listed_at, defined_at, extensions_under}
+use Rattle.graphql_type_folding.specs.Filing.{extensions_named}
+use Rattle.graphql_type_folding.specs.Index.{Standing, standing_name, parts_here, standing_after, standing, positions_named, first_of, first_filed, positions_of, FiledEntries, AreFiled, FilesUnder, listed_at, defined_at, extensions_under}
 use Rattle.graphql_type_folding.proofs.Under.{added_behind, added_new}
 
 abbrev test : List ℕ → NameValue → Bool

@@ -1,11 +1,10 @@
-use Rattle.std.proofs.Common.{◌<◌, ◌∷◌, [], ◌++◌, map, take, get_or, length, sym, ap, ◌∙◌, arith}
+use Rattle.std.proofs.Common.{◌<◌, ◌++◌, map, take, get_or, length, sym, ap, ◌∙◌, arith}
 use Rattle.std.specs.List.{flat_map}
 use Rattle.std.proofs.lemmas.List.{take_all}
 use Rattle.std.proofs.lemmas.Grind.{take_at_read}
 use Rattle.graphql_folding.specs.in_schema_types.SchemaView.{types_view}
 use Rattle.graphql_folding.specs.FaultView.{faults_of}
 use Rattle.graphql_folding.specs.ListedView.{listed_view}
-use Rattle.graphql_type_folding.specs.declared.index.Filed.{Filed}
 use Rattle.graphql_type_folding.specs.DefinitionsOf.{definitions_of}
 use Rattle.graphql_type_folding.specs.Index.{defined_at, extensions_under}
 use Rattle.graphql_type_folding.proofs.Folding.{folds_none, folds_then}
