@@ -120,13 +120,9 @@ impl Building {
         if self.failed {
             return Err(BuilderRefusal::Failed);
         }
-        let Building {
-            alloc,
-            settings,
-            texts,
-            sources,
-            failed: _,
-        } = self;
+        let alloc = self.alloc;
+        let settings = self.settings;
+        let (texts, sources) = self.into_parts();
         let mut list = Vec::new(alloc);
         let built_in = settle(alloc, settings, &texts, &mut list)?;
         let (_, settled) = list.split_at(built_in);

@@ -1,4 +1,5 @@
 //! The state of a schema builder, and the list of definitions that it makes of its texts.
+ghost use Rattle.std.specs.Prelude.{◌≡◌};
 ghost use Rattle.graphql_schema_building.specs.KeptView.{IsKept};
 
 use crate::settle::Settings;
@@ -32,6 +33,23 @@ impl Drop for Building {
             sources: _,
             failed: _,
         } = self;
+    }
+}
+
+impl Building {
+    /// Gives up the texts and their sources.
+    pub(crate) fn into_parts(self) -> (Texts, IndexMap<FileId, SourceFile>)
+        ensures texts { result.0 ≡ self.texts }
+        ensures sources { result.1 ≡ self.sources }
+    {
+        let Building {
+            alloc: _,
+            settings: _,
+            texts,
+            sources,
+            failed: _,
+        } = self;
+        (texts, sources)
     }
 }
 
