@@ -1,18 +1,21 @@
 -- Lemmas on what a whole list folds to, and on its faults.
-use Rattle.std.proofs.Common.{◌≡◌, ◌⊎◌, ℕ, List, [], ◌∷◌, ◌++◌, refl, sym, ap, subst, ◌∙◌, inl, inr, Contains, map, take, drop}
+use Rattle.std.proofs.Common.{◌≡◌, ◌⊎◌, ℕ, List, [], ◌∷◌, ◌++◌, refl, sym, ap, subst, ◌∙◌, inl, inr, Contains, false, is_some, map, take, drop}
 use Rattle.std.specs.Prelude.{◌↔◌}
-use Rattle.std.proofs.lemmas.List.{take-map, drop-map, take_at, drop_at}
+use Rattle.std.specs.List.{list_any}
+use Rattle.std.proofs.lemmas.List.{map-append, take-append-drop, take-map, drop-map, take_at, drop_at}
 use Rattle.graphql_names.specs.Placed.{Place}
 use Rattle.graphql_folding.proofs.in_components.Places.{not_in_nil, Contains-first}
 use Rattle.graphql_folding.specs.in_schema_types.SchemaTree.{SchemaTree}
+use Rattle.graphql_folding.specs.in_schema_types.TypeParts.{type_extension_here}
 use Rattle.graphql_folding.specs.Listed.{Definitions, Listed, numbered}
 use Rattle.graphql_built_in.specs.Table.{built_in_definitions}
 use Rattle.graphql_folding.specs.BuildErrors.{Fault, Fails, FoldingRules, Somewhere, DirectiveDefinitionCollisionAt, DuplicateRootOperationIn}
-use Rattle.graphql_folding.specs.Fold.{folded_directives, folded_types}
+use Rattle.graphql_folding.specs.Fold.{folded_directives}
 use Rattle.graphql_schema_folding.specs.ListFold.{definitions_of, IsFoldOf, TellsRoots}
 use Rattle.graphql_schema_folding.proofs.Listing.{definitions_numbered}
 use Rattle.graphql_schema_folding.specs.DirectiveFold.{TellsDirectives}
 use Rattle.graphql_type_folding.specs.TypeFaults.{FailsInType}
+use Rattle.graphql_type_folding.specs.ListTypes.{ExtendsNone, FoldsTypes, TellsTypes}
 use Rattle.graphql_type_folding.specs.Misplaced.{Misplaced, TellsMisplaced}
 use Rattle.graphql_type_folding.proofs.FailsIs.{FailsInParts, fails_is}
 use Rattle.graphql_list_folding.specs.ListBuilt.{FoldsParts, Folds}
@@ -51,23 +54,30 @@ module _ (built_in : Definitions) (first : ℕ) (texts : Definitions) (f : Fault
   pub told : Contains four f ↔ Fails built_in first texts f
   told = (λ h. (fails_is built_in first texts f).1 (from_four (types.0 h)), λ h. to_four ((fails_is built_in first texts f).0 h))
 
+-- what is built in extends no type
+extends_none : list_any (λ d. is_some (type_extension_here d)) built_in_definitions ≡ false
+unfolding built_in_definitions
+extends_none = refl
+
 -- what the calls fold and tell is what the list folds to
 pub folds_parts : (list built_in texts : List Listed) (schema : SchemaTree Place) (one two three four : List Fault)
     → TellsMisplaced (definitions_of built_in) (definitions_of texts) [] one
     → TellsRoots list one two
     → TellsDirectives (definitions_of built_in) (definitions_of texts) two three
-    → ((first : ℕ) (b t : Definitions) → list ≡ numbered first (b ++ t) → (f : Fault) → Contains four f ↔ (Contains three f ⊎ FailsInType b t first f))
+    → TellsTypes built_in texts three four
     → IsFoldOf list schema.definition
     → schema.directives ≡ folded_directives (definitions_of built_in) (definitions_of texts)
-    → ((first : ℕ) (ds : Definitions) → list ≡ numbered first ds → schema.types ≡ folded_types first ds)
+    → FoldsTypes built_in texts schema.types
+    → built_in ++ texts ≡ list
     → FoldsParts list built_in texts schema four
-folds_parts list built_in texts schema one two three four misplaced roots directives types definition folded_d folded_t first ds is b t =
+folds_parts list built_in texts schema one two three four misplaced roots directives types definition folded_d folded_t whole first ds is b t =
     let built = built_in_definitions in
     let made : schema.directives ≡ folded_directives built ds = folded_d ∙ (λ i. folded_directives (b i) (t i)) in
     let m : TellsMisplaced built ds [] one = subst (λ x. TellsMisplaced built x [] one) t (subst (λ x. TellsMisplaced x (definitions_of texts) [] one) b misplaced) in
+    let none : ExtendsNone built_in = subst (λ l. list_any (λ e. is_some (type_extension_here e)) l ≡ false) (sym b) extends_none in
     let d : TellsDirectives built ds two three = subst (λ x. TellsDirectives built x two three) t (subst (λ x. TellsDirectives x (definitions_of texts) two three) b directives) in (
-      (λ i. record { definition = definition first (built ++ ds) is i; directives = made i; types = folded_t first (built ++ ds) is i }),
-      λ f. told built first ds f one two three four (m f) (roots first built ds is f) (d f) (types first built ds is f),
+      (λ i. record { definition = definition first (built ++ ds) is i; directives = made i; types = folded_t none first (built ++ ds) (whole ∙ is) i }),
+      λ f. told built first ds f one two three four (m f) (roots first built ds is f) (d f) (types none first built ds (whole ∙ is) f),
     )
 
 -- the same of the two parts of a list
@@ -78,6 +88,10 @@ folds_list view xs built_in schema faults h first ds is many =
     h first ds is
     (ap definitions_of (sym (take-map view built_in xs)) ∙ sym (take-map (λ l. l.definition) built_in (map view xs)) ∙ ap (take built_in) all ∙ take_at built_in_definitions ds built_in (sym many))
     (ap definitions_of (sym (drop-map view built_in xs)) ∙ sym (drop-map (λ l. l.definition) built_in (map view xs)) ∙ ap (drop built_in) all ∙ drop_at built_in_definitions ds built_in (sym many))
+
+-- the two parts together
+pub joined : {X : Type 0} (view : X → Listed) (xs front back : List X) (built_in : ℕ) → front ≡ take built_in xs → back ≡ drop built_in xs → map view front ++ map view back ≡ map view xs
+joined view xs front back built_in f b = sym (map-append view front back) ∙ ap (map view) ((λ i. f i ++ b i) ∙ take-append-drop built_in xs)
 
 pub folds_split : {X : Type 0} (view : X → Listed) (xs front back : List X) (built_in : ℕ) → front ≡ take built_in xs → back ≡ drop built_in xs → (schema : SchemaTree Place) (faults : List Fault)
     → FoldsParts (map view xs) (map view front) (map view back) schema faults → Folds (map view xs) built_in schema faults

@@ -1,7 +1,9 @@
 //! What a whole list folds to, with its faults.
-ghost use Rattle.std.specs.Prelude.{◌≡◌, ◌≤◌, [], length, map, IfOk};
+ghost use Rattle.std.specs.Prelude.{◌≡◌, ◌≤◌, [], drop, length, map, IfOk};
 ghost use Rattle.graphql_folding.specs.FaultView.{faults_of};
 ghost use Rattle.graphql_folding.specs.ListedView.{listed_view};
+ghost use Rattle.graphql_type_folding.specs.DefinitionsOf.{definitions_of};
+ghost use Rattle.graphql_type_folding.specs.Index.{IsIndexOf};
 ghost use Rattle.graphql_list_folding.specs.FoldedView.{folded_view};
 ghost use Rattle.graphql_list_folding.specs.ListBuilt.{Folds};
 
@@ -9,7 +11,7 @@ use graphql_directives::DirectiveDefinition;
 use graphql_folding::{BuildError, ExtendedType, Listed, SchemaDefinition};
 use graphql_names::{Name, Node, SourceSpan};
 use graphql_schema_folding::{fold_directives, fold_schema};
-use graphql_type_folding::{fold_types, tell_misplaced};
+use graphql_type_folding::{Index, fold_types, tell_misplaced};
 use indexmap::IndexMap;
 use std::alloc::{AllocError, Global};
 
@@ -21,22 +23,25 @@ pub struct Folded {
     pub types: IndexMap<Name, ExtendedType>,
 }
 
-/// Folds a list, of which the first `built_in` definitions are what is built in, and tells each rule that is broken.
+/// Folds a list, of which the first `built_in` definitions are what is built in, and tells each rule that is broken. The
+/// index is that of the others.
 pub fn fold_list(
     alloc: Global,
     list: &[Listed],
     built_in: usize,
+    index: &Index,
     faults: &mut Vec<(Option<SourceSpan>, BuildError)>,
 ) -> Result<Folded, AllocError>
     requires within { built_in ≤ length list.now }
+    requires indexed { IsIndexOf (definitions_of (map listed_view (drop built_in list.now))) index.now }
     requires faultless { faults.old.items ≡ [] }
     ensures { IfOk result (λ folded. Folds (map listed_view list.now) built_in (folded_view folded) (faults_of faults.new)) }
 {
     let (first, texts) = list.split_at(built_in);
-    tell_misplaced(alloc, first, texts, faults)?;
+    tell_misplaced(alloc, first, texts, index, faults)?;
     let schema_definition = fold_schema(alloc, list, faults)?;
     let directive_definitions = fold_directives(alloc, first, texts, faults)?;
-    let types = fold_types(alloc, list, faults)?;
+    let types = fold_types(alloc, first, texts, index, faults)?;
     Ok(Folded {
         schema_definition,
         directive_definitions,

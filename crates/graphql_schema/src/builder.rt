@@ -1,5 +1,5 @@
 //! The builder of schemas.
-ghost use Rattle.std.specs.Prelude.{◌≡◌, ◌≤◌, ◌↔◌, ◌++◌, [], true, false, length, map, IfOk, IfErr, OnOk, Contains};
+ghost use Rattle.std.specs.Prelude.{◌≡◌, ◌≤◌, ◌↔◌, ◌++◌, [], true, false, drop, length, map, IfOk, IfErr, OnOk, Contains};
 ghost use Rattle.graphql_schema_writing.specs.in_definitions.DefinitionTree.{document_tree};
 ghost use Rattle.graphql_schema_writing.specs.in_definitions.Sources.{sources_of};
 ghost use Rattle.graphql_schema_building.specs.in_built_in.Table.{built_in_definitions};
@@ -7,6 +7,8 @@ ghost use Rattle.graphql_schema_building.specs.in_folding.BuildErrors.{FoldingRu
 ghost use Rattle.graphql_schema_building.specs.in_folding.FaultView.{faults_of};
 ghost use Rattle.graphql_schema_building.specs.in_folding.Fold.{fold};
 ghost use Rattle.graphql_schema_building.specs.in_folding.ListedView.{listed_view};
+ghost use Rattle.graphql_schema_building.specs.in_type_folding.Index.{IsIndexOf};
+ghost use Rattle.graphql_schema_building.specs.DefinitionsOf.{definitions_of};
 ghost use Rattle.graphql_schema_building.specs.Building.{plain_settings, counted, folded, FailsIn, lent_names, IsAddRefusal, IsBuildRefusal};
 ghost use Rattle.graphql_schema_building.specs.Numbers.{HaveNumbers};
 ghost use Rattle.graphql_schema_building.specs.SourcesView.{sources_view, with_sources};
@@ -140,7 +142,8 @@ fn fold_settled(
     alloc: Global,
     settled: SettledList,
 ) -> Result<(Schema, Vec<(Option<SourceSpan>, BuildError)>), AllocError>
-    requires { settled.built_in ≤ length settled.list.items }
+    requires within { settled.built_in ≤ length settled.list.items }
+    requires indexed { IsIndexOf (definitions_of (map listed_view (drop settled.built_in settled.list.items))) settled.index }
     ensures folds { IfOk result (λ r. Folds (map listed_view settled.list.items) settled.built_in (schema_tree r.0) (faults_of r.1)) }
     ensures sources { IfOk result (λ r. sources_view r.0.sources ≡ sources_view settled.sources) }
 {
@@ -148,9 +151,10 @@ fn fold_settled(
         sources,
         list,
         built_in,
+        index,
     } = settled;
     let mut faults = Vec::new(alloc);
-    let folded = fold_list(alloc, &list, built_in, &mut faults)?;
+    let folded = fold_list(alloc, &list, built_in, &index, &mut faults)?;
     let meta_fields = MetaFields::new(alloc)?;
     let schema = Schema {
         sources,

@@ -9,13 +9,15 @@ use Rattle.std.proofs.lemmas.Slice.Eq.{bytes_eq-Decides}
 use Rattle.graphql_names.specs.Placed.{Place}
 use Rattle.graphql_components.specs.Lists.{each_place_after, firsts, has_name, is_among}
 use Rattle.graphql_components.proofs.Firsts.{is_some-firsts}
-use Rattle.graphql_folding.specs.in_schema_types.TypeParts.{TypeDefinition, type_here}
+use Rattle.graphql_folding.specs.in_schema_types.TypeParts.{TypeDefinition, type_here, type_extension_here}
 use Rattle.graphql_folding.specs.Listed.{Definitions, type_name, types_in, type_named}
 use Rattle.graphql_folding.specs.Adoption.{orphans}
 use Rattle.graphql_built_in.specs.Table.{built_in_definitions}
-use Rattle.graphql_schema_building.specs.Noted.{named_kind, kind_view, parts_key, first_kinds, extended_in, defined_in, IsNoteOf}
+use Rattle.graphql_type_folding.specs.Index.{IsIndexOf, parts_here, filed_kind}
+use Rattle.graphql_type_folding.specs.declared.index.Index.{Index}
+use Rattle.graphql_type_folding.proofs.FiledKinds.{kinds_are, defined_parts}
+use Rattle.graphql_schema_building.specs.Noted.{named_kind, parts_key, first_kinds, extended_in, defined_in}
 use Rattle.graphql_schema_building.specs.Waiting.{is_orphan_in, orphan_kinds}
-use Rattle.graphql_schema_building.specs.declared.orphans.Orphans.{Orphans}
 
 -- ---- the firsts of those whose names pass a test
 
@@ -121,16 +123,22 @@ neither false false = refl
 
 -- ---- those that wait
 
-module _ (ds : Definitions) (o : Orphans) (is : IsNoteOf ds o) where
-  is_orphan : (n : List ℕ) → is_orphan_in o.defined n ≡ is_none (type_named n (built_in_definitions ++ ds))
+module _ (ds : Definitions) (index : Index) (is : IsIndexOf ds index) where
+  extended_are : map filed_kind index.extended.entries ≡ first_kinds (extended_in ds)
+  extended_are = kinds_are type_extension_here ds index.extended.entries is.1
+
+  defined_are : map filed_kind index.defined.entries ≡ first_kinds (defined_in ds)
+  defined_are = kinds_are parts_here ds index.defined.entries is.0 ∙ ap first_kinds (defined_parts ds)
+
+  is_orphan : (n : List ℕ) → is_orphan_in index.defined.entries n ≡ is_none (type_named n (built_in_definitions ++ ds))
   is_orphan n =
-      let own = is_some-firsts parts_key kind_view named_kind (λ k. k.0.it) (λ e. refl) (λ x. refl) n o.defined.entries (defined_in ds) is.defined ∙ keys_defined n (types_in ds) in
+      let own = is_some-firsts parts_key filed_kind named_kind (λ k. k.0.it) (λ e. refl) (λ x. refl) n index.defined.entries (defined_in ds) defined_are ∙ keys_defined n (types_in ds) in
       (λ i. not (own i) && not (some_named n built_in_definitions i))
       ∙ neither (defines ds n) (defines built_in_definitions n) ∙ sym (none_named n built_in_definitions ds)
 
-  pub waiting_are : orphan_kinds o ≡ first_kinds (orphans built_in_definitions ds)
+  pub waiting_are : orphan_kinds index ≡ first_kinds (orphans built_in_definitions ds)
   waiting_are =
       let passes : List ℕ → Bool = λ n. is_none (type_named n (built_in_definitions ++ ds)) in
-      (λ i. filter (λ k. is_orphan k.0.it i) (is.extended i))
+      (λ i. filter (λ k. is_orphan k.0.it i) (extended_are i))
       ∙ filter_map named_kind (λ k. passes k.0.it) (firsts parts_key (extended_in ds))
       ∙ ap (map named_kind) (sym (firsts-filter parts_key passes (extended_in ds)))

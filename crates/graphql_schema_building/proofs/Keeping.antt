@@ -1,30 +1,34 @@
 -- Lemmas on what a builder keeps.
-use Rattle.std.proofs.Common.{◌≡◌, ℕ, true, false, List, [], ◌∷◌, ◌++◌, map, refl, sym, ap, subst, ◌∙◌, arith}
+use Rattle.std.proofs.Common.{◌≡◌, ℕ, true, false, List, [], ◌∷◌, ◌++◌, map, take, drop, length, refl, sym, ap, subst, ◌∙◌, arith}
+use Rattle.std.proofs.lemmas.List.{length-map, drop-map}
 use Rattle.graphql_names.specs.Placed.{Place}
 use Rattle.graphql_components.specs.Lists.{firsts}
 use Rattle.graphql_folding.specs.in_schema_types.TypeParts.{TypeParts}
 use Rattle.graphql_folding.specs.Adoption.{orphans, settled, Settings}
 use Rattle.graphql_built_in.specs.Table.{built_in_definitions}
 use Rattle.graphql_folding.specs.Listed.{Definitions, Listed, numbered}
+use Rattle.graphql_folding.specs.ListedView.{listed_view}
+use Rattle.graphql_folding.specs.declared.listed.Listed.{Listed as Rust}
 use Rattle.graphql_schema_building.specs.DefinitionsOf.{definitions_of}
 use Rattle.graphql_schema_building.proofs.Numbering.{definitions_numbered}
 use Rattle.graphql_schema_building.specs.Building.{orphan_names, IsAddRefusal}
 use Rattle.graphql_schema_building.specs.BuilderValue.{BuilderValue}
 use Rattle.graphql_schema_building.specs.BuildingView.{builder_view}
-use Rattle.graphql_schema_building.specs.KeptView.{definitions, first_number, numbers_of, AreNumbered, AreNoted}
-use Rattle.graphql_schema_building.specs.Noted.{IsNoteOf, Notes, NamedKind, named_kind, parts_key}
+use Rattle.graphql_schema_building.specs.KeptView.{definitions, first_number, numbers_of, AreNumbered, KeepsIndex}
+use Rattle.graphql_type_folding.specs.Index.{NamedKind, IsIndexOf}
+use Rattle.graphql_type_folding.specs.declared.index.Index.{Index}
+use Rattle.graphql_schema_building.specs.Noted.{named_kind, parts_key}
 use Rattle.graphql_schema_building.specs.Numbers.{extension_count}
 use Rattle.graphql_schema_building.specs.Settling.{unnumbered, settled_from}
 use Rattle.graphql_schema_building.specs.TextsList.{IsListOf, Adds, IsListRefusal}
 use Rattle.graphql_schema_building.specs.TextsView.{texts_view}
 use Rattle.graphql_schema_building.specs.Waiting.{orphan_kinds}
-use Rattle.graphql_schema_building.specs.declared.orphans.Orphans.{Orphans}
 use Rattle.graphql_schema_building.specs.declared.refusal.BuilderRefusal.{BuilderRefusal}
 use Rattle.graphql_schema_building.specs.declared.refusal.BuilderRefusal.TheVariants as refusal
 use Rattle.graphql_schema_building.specs.declared.state.Building.{Building}
 use Rattle.graphql_schema_building.specs.declared.texts.Texts.{Texts}
 use Rattle.graphql_schema_building.proofs.Awaited.{waiting_are}
-use Rattle.graphql_schema_building.proofs.Settled.{settled_is}
+use Rattle.graphql_schema_building.proofs.Settled.{settled_is, texts_first}
 
 abbrev head_or : {A : Type 0} → A → List A → A
 head_or a [] = a
@@ -48,9 +52,11 @@ module _ (t : Texts) (first : ℕ) (ds : Definitions) (is : IsListOf first ds (t
   pub is_its_list : IsListOf (first_number t) (definitions t) (texts_view t)
   is_its_list = subst (λ n. IsListOf n (definitions t) (texts_view t)) (sym its_first) (subst (λ l. IsListOf first l (texts_view t)) (sym its_definitions) is)
 
+abbrev pub Keeps : Texts → Type 0
+Keeps t = IsListOf (first_number t) (definitions t) (texts_view t) × IsIndexOf (definitions t) t.index
+
 -- what a builder keeps once a document is added
-module _ (old new : Texts) (before after : Orphans) (more : Definitions) (kept : IsListOf (first_number old) (definitions old) (texts_view old) × IsNoteOf (definitions old) before)
-    (adds : Adds more (texts_view old) (texts_view new)) (notes : Notes more before after) where
+module _ (old new : Texts) (more : Definitions) (kept : Keeps old) (adds : Adds more (texts_view old) (texts_view new)) (filed : KeepsIndex old new) where
   added : IsListOf (first_number old) (definitions old ++ more) (texts_view new)
   added = adds (first_number old) (definitions old) kept.0
 
@@ -60,24 +66,35 @@ module _ (old new : Texts) (before after : Orphans) (more : Definitions) (kept :
   pub same_first : first_number new ≡ first_number old
   same_first = its_first new (first_number old) (definitions old ++ more) added
 
-  pub kept_added : IsListOf (first_number new) (definitions new) (texts_view new) × IsNoteOf (definitions new) after
-  kept_added = (is_its_list new (first_number old) (definitions old ++ more) added, subst (λ l. IsNoteOf l after) (sym added_definitions) (notes (definitions old) kept.1))
+  pub kept_added : Keeps new
+  kept_added = (is_its_list new (first_number old) (definitions old ++ more) added, filed kept.1)
 
 -- the list that counts
-pub list_is : (t : Texts) (o : Orphans) (s : Settings) (list : List Listed) → IsListOf (first_number t) (definitions t) (texts_view t) × IsNoteOf (definitions t) o
-    → list ≡ settled_from s (texts_view t).list (orphan_kinds o) (map unnumbered built_in_definitions)
+pub list_is : (t : Texts) (s : Settings) (list : List Listed) → Keeps t → list ≡ settled_from s (texts_view t).list (orphan_kinds t.index) (map unnumbered built_in_definitions)
     → list ≡ numbered (first_number t) (built_in_definitions ++ settled built_in_definitions s (definitions t))
-list_is t o s list kept e =
-    e ∙ ap (λ l. settled_from s l (orphan_kinds o) (map unnumbered built_in_definitions)) kept.0.list
-    ∙ settled_is (first_number t) (definitions t) (orphan_kinds o) (waiting_are (definitions t) o kept.1) s
+list_is t s list kept e =
+    e ∙ ap (λ l. settled_from s l (orphan_kinds t.index) (map unnumbered built_in_definitions)) kept.0.list
+    ∙ settled_is (first_number t) (definitions t) (orphan_kinds t.index) (waiting_are (definitions t) t.index kept.1) s
+
+-- its index, where none is passed over
+pub filed_first : (t : Texts) (s : Settings) → s.ignores ≡ false → (built_in : ℕ) (list : List Rust) → Keeps t
+    → map listed_view list ≡ numbered (first_number t) (built_in_definitions ++ settled built_in_definitions s (definitions t)) → built_in ≡ length built_in_definitions
+    → IsIndexOf (take (length t.list.items) (definitions_of (map listed_view (drop built_in list)))) t.index
+filed_first t s none built_in list kept is many =
+    subst (λ ds. IsIndexOf ds t.index)
+    (sym ((λ i. take (counted t i) (definitions_of (sym (drop-map listed_view built_in list) i)))
+    ∙ texts_first s none (first_number t) built_in (definitions t) (map listed_view list) is many)) kept.1
+  where
+    counted : (t : Texts) → length t.list.items ≡ length (definitions t)
+    counted t = sym (length-map (map listed_view t.list.items) (λ l. l.definition) ∙ length-map t.list.items listed_view)
 
 -- the names that are lent
 names_are : (es : List (TypeParts Place)) → map (λ k. k.0) (map named_kind es) ≡ map (λ e. e.name) es
 names_are [] = refl
 names_are (e ∷ es) = ap (λ l. e.name ∷ l) (names_are es)
 
-pub lent_are : (ds : Definitions) (o : Orphans) → IsNoteOf ds o → (left : List NamedKind) → left ≡ orphan_kinds o → map (λ k. k.0) left ≡ orphan_names ds
-lent_are ds o noted left is = ap (map (λ k. k.0)) (is ∙ waiting_are ds o noted) ∙ names_are (firsts parts_key (orphans built_in_definitions ds))
+pub lent_are : (ds : Definitions) (index : Index) → IsIndexOf ds index → (left : List NamedKind) → left ≡ orphan_kinds index → map (λ k. k.0) left ≡ orphan_names ds
+lent_are ds index filed left is = ap (map (λ k. k.0)) (is ∙ waiting_are ds index filed) ∙ names_are (firsts parts_key (orphans built_in_definitions ds))
 
 -- ---- as an invariant
 
@@ -88,18 +105,18 @@ same_list (x ∷ xs) [] d n = absurd cc
 same_list (x ∷ xs) (y ∷ ys) d n =
     (λ i. record { definition = head_or x.definition (d i); extension = head_or x.extension (n i) } ∷ same_list xs ys (ap tail d) (ap tail n) i)
 
-pub from_kept : (t : Texts) (o : Orphans) → AreNumbered (first_number t) (definitions t) t × AreNoted (definitions t) o → IsListOf (first_number t) (definitions t) (texts_view t) × IsNoteOf (definitions t) o
-from_kept t o (numbered_so, noted) = (
+pub from_kept : (t : Texts) → AreNumbered (first_number t) (definitions t) t × IsIndexOf (definitions t) t.index → Keeps t
+from_kept t (numbered_so, filed) = (
   record {
     list = same_list (texts_view t).list (numbered (first_number t) (definitions t)) (sym (definitions_numbered (first_number t) (definitions t))) numbered_so.0;
     next = numbered_so.1;
     numbers = numbered_so.2;
   },
-  record { extended = noted.0; defined = noted.1 },
+  filed,
 )
 
-pub to_kept : (t : Texts) (o : Orphans) → IsListOf (first_number t) (definitions t) (texts_view t) × IsNoteOf (definitions t) o → AreNumbered (first_number t) (definitions t) t × AreNoted (definitions t) o
-to_kept t o (is, noted) = ((ap numbers_of is.list, is.next, is.numbers), (noted.extended, noted.defined))
+pub to_kept : (t : Texts) → Keeps t → AreNumbered (first_number t) (definitions t) t × IsIndexOf (definitions t) t.index
+to_kept t (is, filed) = ((ap numbers_of is.list, is.next, is.numbers), filed)
 
 -- a list of nothing
 module _ (t : Texts) (n : ℕ) (e : texts_view t ≡ record { next = n; list = [] }) where
@@ -110,13 +127,12 @@ module _ (t : Texts) (n : ℕ) (e : texts_view t ≡ record { next = n; list = [
     numbers = λ some. absurd (omega (arith, some));
   }
 
-  pub kept_empty : (o : Orphans) → IsNoteOf [] o → IsListOf (first_number t) (definitions t) (texts_view t) × IsNoteOf (definitions t) o
-  kept_empty o noted = (is_its_list t n [] is_empty_list, subst (λ l. IsNoteOf l o) (sym (its_definitions t n [] is_empty_list)) noted)
+  pub kept_empty : IsIndexOf [] t.index → Keeps t
+  kept_empty filed = (is_its_list t n [] is_empty_list, subst (λ l. IsIndexOf l t.index) (sym (its_definitions t n [] is_empty_list)) filed)
 
 -- a document that is refused
 pub refused_is : (old : Building) (new : BuilderValue) (more : Definitions) (r : BuilderRefusal) → old.failed ≡ false → new.failed ≡ true
-    → IsListOf (first_number old.texts) (definitions old.texts) (texts_view old.texts) × IsNoteOf (definitions old.texts) old.orphans
-    → IsListRefusal more (texts_view old.texts) r → IsAddRefusal (builder_view old) more new r
+    → Keeps old.texts → IsListRefusal more (texts_view old.texts) r → IsAddRefusal (builder_view old) more new r
 refused_is old new more refusal.Memory before after kept h = (before, after)
 refused_is old new more refusal.Spent before after kept h = (before, after, h (first_number old.texts) (definitions old.texts) kept.0)
 refused_is old new more refusal.Failed before after kept h = absurd h

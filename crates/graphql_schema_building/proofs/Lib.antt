@@ -1,6 +1,5 @@
 pub mod Numbering
 pub mod Adding
-pub mod Noting
 pub mod Sourcing
 pub mod Awaited
 pub mod Settled

@@ -1,8 +1,8 @@
 -- What the settings make of a list, with its numbers.
-use Rattle.std.proofs.Common.{◌≡◌, ◌≤◌, ℕ, Bool, true, false, not, ◌&&◌, ◌||◌, length, arith, List, [], ◌∷◌, ◌++◌, map, Option, None, Some, refl, sym, ap, ◌∙◌, cond, if◌then◌else◌, is_none, is_some, option_to_list}
+use Rattle.std.proofs.Common.{◌≡◌, ◌≤◌, ℕ, Bool, true, false, not, ◌&&◌, ◌||◌, length, arith, List, [], ◌∷◌, ◌++◌, map, take, drop, Option, None, Some, refl, sym, ap, ◌∙◌, cond, if◌then◌else◌, is_none, is_some, option_to_list}
 use Rattle.std.specs.List.{filter, list_any}
 use Rattle.std.specs.Option.{option_map_or}
-use Rattle.std.proofs.lemmas.List.{append_assoc, length-append}
+use Rattle.std.proofs.lemmas.List.{append_assoc, append-nil, length-append, take_at, drop_at, drop-map}
 use Rattle.std.proofs.lemmas.List.Folds.{list_any-append}
 use Rattle.std.specs.Str.{bytes_eq}
 use Rattle.std.proofs.lemmas.Slice.Eq.{bytes_eq-Decides}
@@ -20,7 +20,8 @@ use Rattle.graphql_built_in.specs.Table.{built_in_definitions}
 use Rattle.graphql_folding.specs.Adoption.{Settings, settled, is_redefinition, without_redefinitions, orphans, empty_type, empty_schema, has_orphan_schema, with_types, with_schema}
 use Rattle.graphql_schema_building.specs.DefinitionsOf.{definitions_of}
 use Rattle.graphql_schema_building.proofs.Numbering.{definitions_numbered}
-use Rattle.graphql_schema_building.specs.Noted.{NamedKind, named_kind, parts_key, first_kinds, extended_in}
+use Rattle.graphql_type_folding.specs.Index.{NamedKind}
+use Rattle.graphql_schema_building.specs.Noted.{named_kind, parts_key, first_kinds, extended_in}
 use Rattle.graphql_schema_building.specs.Settling.{unnumbered, empty_of, is_kept, adopted_schema, settled_from}
 use Rattle.graphql_schema_building.proofs.Numbering.{after_append, after_same, after_none, after_filter, count_zero}
 use Rattle.graphql_schema_building.proofs.Awaited.{none_named, some_named, defines}
@@ -221,6 +222,25 @@ module _ (first : ℕ) (ds : Definitions) (waiting : List NamedKind) (are : wait
 
   pub settled_is : (s : Settings) → settled_from s (numbered first ds) waiting (map unnumbered built_in_definitions) ≡ numbered first (built_in_definitions ++ settled built_in_definitions s ds)
   settled_is s = settled_by s.adopts s.ignores
+
+-- ---- the texts of it
+
+adopted_behind : (adopts : Bool) (ds : Definitions) → take (length ds) (settled built_in_definitions (record { adopts = adopts; ignores = false }) ds) ≡ ds
+adopted_behind false ds = ap (take (length ds)) (sym (append-nil ds)) ∙ take_at ds [] (length ds) refl
+adopted_behind true ds =
+    let types = map (empty_type built_in_definitions) (firsts parts_key (orphans built_in_definitions ds)) in
+    let schema = schema_if (has_orphan_schema built_in_definitions (with_types built_in_definitions ds)) in
+    ap (take (length ds)) (append_assoc ds types schema) ∙ take_at ds (types ++ schema) (length ds) refl
+
+-- where none is passed over, the texts are the first of what stands behind what is built in
+pub texts_first : (s : Settings) → s.ignores ≡ false → (first built_in : ℕ) (ds : Definitions) (list : List Listed) → list ≡ numbered first (built_in_definitions ++ settled built_in_definitions s ds)
+    → built_in ≡ length built_in_definitions → take (length ds) (definitions_of (drop built_in list)) ≡ ds
+texts_first s none first built_in ds list is many =
+    let behind = settled built_in_definitions s ds in
+    ap (take (length ds)) (sym (drop-map (λ l. l.definition) built_in list)
+    ∙ ap (drop built_in) (ap definitions_of is ∙ definitions_numbered first (built_in_definitions ++ behind)) ∙ drop_at built_in_definitions behind built_in (sym many))
+    ∙ ap (λ b. take (length ds) (settled built_in_definitions (record { adopts = s.adopts; ignores = b }) ds)) none
+    ∙ adopted_behind s.adopts ds
 
 -- ---- its length
 

@@ -3,11 +3,10 @@ use Rattle.std.specs.Prelude.{◌≡◌, ℕ, ◌+◌, ◌-◌, Bool, false, Lis
 use Rattle.graphql_names.specs.Placed.{Place}
 use Rattle.graphql_components.specs.Given.{ExtensionTree}
 use Rattle.graphql_folding.specs.Listed.{Definitions, Listed, numbered}
+use Rattle.graphql_type_folding.specs.Index.{IsIndexOf}
 use Rattle.graphql_schema_building.specs.DefinitionsOf.{definitions_of}
-use Rattle.graphql_schema_building.specs.Noted.{kinds_view, first_kinds, extended_in, defined_in}
 use Rattle.graphql_schema_building.specs.Numbers.{extension_count, HaveNumbers}
 use Rattle.graphql_schema_building.specs.TextsView.{texts_view}
-use Rattle.graphql_schema_building.specs.declared.orphans.Orphans.{Orphans}
 use Rattle.graphql_schema_building.specs.declared.texts.Texts.{Texts}
 
 abbrev pub definitions : Texts → Definitions
@@ -24,10 +23,11 @@ numbers_of list = map (λ l. l.extension) list
 abbrev pub AreNumbered : ℕ → Definitions → Texts → Type 0
 AreNumbered first ds t = (numbers_of (texts_view t).list ≡ numbers_of (numbered first ds)) × (t.extensions ≡ first + extension_count ds) × HaveNumbers first ds
 
--- the types are noted
-abbrev pub AreNoted : Definitions → Orphans → Type 0
-AreNoted ds o = (kinds_view o.extended ≡ first_kinds (extended_in ds)) × (kinds_view o.defined ≡ first_kinds (defined_in ds))
+-- so it is where the builder has not failed: it has the definitions and extensions that were added, and of types their
+-- positions by name and kind
+abbrev pub IsKept : Texts → Bool → Type 0
+IsKept texts failed = failed ≡ false → AreNumbered (first_number texts) (definitions texts) texts × IsIndexOf (definitions texts) texts.index
 
--- so it is where the builder has not failed
-abbrev pub IsKept : Texts → Orphans → Bool → Type 0
-IsKept texts orphans failed = failed ≡ false → AreNumbered (first_number texts) (definitions texts) texts × AreNoted (definitions texts) orphans
+-- the index stays that of the list
+abbrev pub KeepsIndex : Texts → Texts → Type 0
+KeepsIndex old new = IsIndexOf (definitions old) old.index → IsIndexOf (definitions new) new.index

@@ -9,25 +9,24 @@ use Rattle.graphql_names.specs.Placed.{Place, Text, name_tree}
 use Rattle.graphql_folding.specs.in_schema_types.declared.type_kind.TypeKind.{TypeKind}
 use Rattle.graphql_folding.specs.Listed.{type_named}
 use Rattle.graphql_built_in.specs.Table.{built_in_definitions}
-use Rattle.graphql_schema_building.specs.Noted.{NamedKind, kind_view, kinds_view}
-use Rattle.graphql_schema_building.specs.declared.orphans.Orphans.{Orphans}
+use Rattle.graphql_type_folding.specs.Index.{NamedKind, FiledEntries, filed_kind}
+use Rattle.graphql_type_folding.specs.declared.index.Index.{Index}
 use Rattle.graphql_schema_building.specs.declared.waiting.OrphanExtensionTypes.{OrphanExtensionTypes}
-use Rattle.indexmap.specs.IndexMap.{IndexMap}
 
--- no type of that name is among these, or built in
-abbrev pub is_orphan_in : {S : Type 0} → IndexMap NameValue TypeKind S → List ℕ → Bool
-is_orphan_in defined n = not (is_some (lookup (λ k. bytes_eq n k.text) defined.entries)) && not (is_some (type_named n built_in_definitions))
+-- no type of that name is defined, or built in
+abbrev pub is_orphan_in : FiledEntries → List ℕ → Bool
+is_orphan_in defined n = not (is_some (lookup (λ k. bytes_eq n k.text) defined)) && not (is_some (type_named n built_in_definitions))
 
 -- the names and kinds of which that is so
-abbrev pub orphans_of : {S : Type 0} → IndexMap NameValue TypeKind S → List NamedKind → List NamedKind
+abbrev pub orphans_of : FiledEntries → List NamedKind → List NamedKind
 orphans_of defined ks = filter (λ k. is_orphan_in defined k.0.it) ks
 
-abbrev pub orphan_kinds : Orphans → List NamedKind
-orphan_kinds o = orphans_of o.defined (kinds_view o.extended)
+abbrev pub orphan_kinds : Index → List NamedKind
+orphan_kinds index = orphans_of index.defined.entries (map filed_kind index.extended.entries)
 
 -- those that are left
 abbrev pub left_kinds : OrphanExtensionTypes → List NamedKind
-left_kinds w = orphans_of w.defined.now (map kind_view w.extended)
+left_kinds w = orphans_of w.defined.now.entries (map filed_kind w.extended)
 
 abbrev pub lent_kind : Bor NameValue × TypeKind → NamedKind
 lent_kind k = (name_tree k.0.now, k.1)

@@ -8,23 +8,23 @@ ghost use Rattle.graphql_schema_building.specs.Waiting.{orphan_kinds};
 
 use crate::defined::{has_schema_extension, schema_is_defined};
 use crate::empty::{push_empty_type, push_unplaced};
-use crate::orphans::Orphans;
 use crate::waiting::OrphanExtensionTypes;
 use graphql_directives::DirectiveList;
 use graphql_folding::Listed;
 use graphql_input_types::SchemaDefinition;
+use graphql_type_folding::Index;
 use std::alloc::{AllocError, Global};
 
 /// Puts an empty definition at the list's end for each type that is extended and not defined, of the kind of its first
 /// extension, in the order of these.
 pub(crate) fn adopt_types(
     alloc: Global,
-    orphans: &Orphans,
+    index: &Index,
     list: &mut Vec<Listed>,
 ) -> Result<(), AllocError>
-    ensures { OnOk result (map listed_view list.new.items ≡ map listed_view list.old.items ++ map (λ k. unnumbered (empty_of k)) (orphan_kinds orphans.now)) }
+    ensures { OnOk result (map listed_view list.new.items ≡ map listed_view list.old.items ++ map (λ k. unnumbered (empty_of k)) (orphan_kinds index.now)) }
 {
-    let mut waiting = OrphanExtensionTypes::of(orphans);
+    let mut waiting = OrphanExtensionTypes::of(index);
     while let Some((name, kind)) = waiting.next_orphan() {
         push_empty_type(alloc, kind, name.clone()?, list)?;
     }

@@ -1,22 +1,23 @@
 //! What is asked of a schema builder's state.
-ghost use Rattle.std.specs.Prelude.{◌≡◌, ◌≤◌, ◌++◌, [], true, false, length, map, IfOk, IfErr, OnOk};
+ghost use Rattle.std.specs.Prelude.{◌≡◌, ◌≤◌, ◌++◌, [], true, false, drop, length, map, IfOk, IfErr, OnOk};
 ghost use Rattle.graphql_folding.specs.in_definitions.DefinitionTree.{document_tree};
 ghost use Rattle.graphql_folding.specs.in_definitions.Sources.{sources_of};
 ghost use Rattle.graphql_built_in.specs.Table.{built_in_definitions};
 ghost use Rattle.graphql_folding.specs.Listed.{numbered};
 ghost use Rattle.graphql_folding.specs.ListedView.{listed_view};
+ghost use Rattle.graphql_type_folding.specs.Index.{IsIndexOf};
 ghost use Rattle.graphql_schema_building.specs.Building.{plain_settings, counted, lent_names, IsAddRefusal, IsBuildRefusal};
 ghost use Rattle.graphql_schema_building.specs.BuildingView.{builder_view};
-ghost use Rattle.graphql_schema_building.specs.Noted.{Notes};
+ghost use Rattle.graphql_schema_building.specs.DefinitionsOf.{definitions_of};
+ghost use Rattle.graphql_schema_building.specs.KeptView.{KeepsIndex};
 ghost use Rattle.graphql_schema_building.specs.TextsList.{Adds, IsListRefusal};
 ghost use Rattle.graphql_schema_building.specs.TextsView.{texts_view};
 ghost use Rattle.graphql_schema_building.specs.Numbers.{HaveNumbers};
 ghost use Rattle.graphql_schema_building.specs.SourcesView.{sources_view, with_sources};
 ghost use Rattle.graphql_schema_building.specs.Waiting.{left_names};
 
-use crate::orphans::Orphans;
 use crate::refusal::BuilderRefusal;
-use crate::settle::{Settings, settle};
+use crate::settle::{Settings, settle, settled_index};
 use crate::sources::add_sources;
 use crate::state::{Building, SettledList};
 use crate::texts::Texts;
@@ -24,9 +25,9 @@ use crate::waiting::OrphanExtensionTypes;
 use graphql_components::Extensions;
 use graphql_folding::{Document, SourceFile};
 use graphql_names::FileId;
+use graphql_type_folding::Index;
 use indexmap::IndexMap;
 use std::alloc::Global;
-use std::mem;
 
 impl Building {
     /// A builder of no definitions, which counts extensions from 1. It takes no memory.
@@ -49,10 +50,7 @@ impl Building {
             texts: Texts {
                 extensions,
                 list: Vec::new(alloc),
-            },
-            orphans: Orphans {
-                extended: IndexMap::new(alloc),
-                defined: IndexMap::new(alloc),
+                index: Index::new(alloc),
             },
             sources: IndexMap::new(alloc),
             failed: false,
@@ -89,12 +87,7 @@ impl Building {
         if self.failed {
             return Err(BuilderRefusal::Failed);
         }
-        match add_document(
-            &mut self.texts,
-            &mut self.orphans,
-            &mut self.sources,
-            document,
-        ) {
+        match add_document(self.alloc, &mut self.texts, &mut self.sources, document) {
             Ok(()) => Ok(()),
             Err(refusal) => {
                 self.failed = true;
@@ -109,57 +102,54 @@ impl Building {
         ensures { left_names result ≡ lent_names (builder_view self.now) }
     {
         if self.failed {
-            return OrphanExtensionTypes::none(&self.orphans);
+            return OrphanExtensionTypes::none(&self.texts.index);
         }
-        OrphanExtensionTypes::of(&self.orphans)
+        OrphanExtensionTypes::of(&self.texts.index)
     }
 
-    /// Gives up the list of definitions that counts, behind what is built in, and the sources.
+    /// Gives up the list of definitions that counts, behind what is built in, with its index, and the sources.
     pub fn settle(self) -> Result<SettledList, BuilderRefusal>
         ensures running { OnOk result ((builder_view self).failed ≡ false) }
         ensures list { IfOk result (λ s. map listed_view s.list.items ≡ numbered (builder_view self).first (built_in_definitions ++ counted (builder_view self))) }
         ensures built_in { IfOk result (λ s. s.built_in ≡ length built_in_definitions) }
         ensures within { IfOk result (λ s. s.built_in ≤ length s.list.items) }
+        ensures index { IfOk result (λ s. IsIndexOf (definitions_of (map listed_view (drop s.built_in s.list.items))) s.index) }
         ensures sources { IfOk result (λ s. sources_view s.sources ≡ (builder_view self).sources) }
         ensures refused { IfErr result (IsBuildRefusal (builder_view self)) }
     {
         if self.failed {
             return Err(BuilderRefusal::Failed);
         }
-        let mut building = self;
-        let mut list = Vec::new(building.alloc);
-        let built_in = settle(
-            building.alloc,
-            building.settings,
-            &building.texts,
-            &building.orphans,
-            &mut list,
-        )?;
-        let none = IndexMap::new(building.alloc);
-        let sources = mem::replace(&mut building.sources, none);
+        let alloc = self.alloc;
+        let settings = self.settings;
+        let (texts, sources) = self.into_parts();
+        let mut list = Vec::new(alloc);
+        let built_in = settle(alloc, settings, &texts, &mut list)?;
+        let (_, settled) = list.split_at(built_in);
+        let index = settled_index(alloc, settings.ignores, texts, settled)?;
         Ok(SettledList {
             sources,
             list,
             built_in,
+            index,
         })
     }
 }
 
 /// Adds what a document has to what a builder keeps.
 fn add_document(
+    alloc: Global,
     texts: &mut Texts,
-    orphans: &mut Orphans,
     sources: &mut IndexMap<FileId, SourceFile>,
     document: &Document,
 ) -> Result<(), BuilderRefusal>
     ensures texts { OnOk result (Adds (document_tree document.now) (texts_view texts.old) (texts_view texts.new)) }
-    ensures orphans { OnOk result (Notes (document_tree document.now) orphans.old orphans.new) }
+    ensures filed { OnOk result (KeepsIndex texts.old texts.new) }
     ensures sources { OnOk result (sources_view sources.new ≡ with_sources (sources_view sources.old) (sources_of document.now)) }
     ensures refused { IfErr result (IsListRefusal (document_tree document.now) (texts_view texts.old)) }
 {
     for definition in &document.definitions {
-        texts.add(definition)?;
-        orphans.note(definition)?;
+        texts.add(alloc, definition)?;
     }
     add_sources(sources, &document.sources)?;
     Ok(())

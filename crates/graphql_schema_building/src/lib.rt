@@ -13,7 +13,6 @@ mod building;
 mod built_in_types;
 mod defined;
 mod empty;
-mod orphans;
 mod refusal;
 mod settle;
 mod sources;

@@ -1,9 +1,11 @@
 //! The list of definitions that counts: what is built in, and what the settings make of the texts.
-ghost use Rattle.std.specs.Prelude.{◌≡◌, ◌≤◌, ◌++◌, [], ◌∷◌, length, map, OnOk, IfOk};
+ghost use Rattle.std.specs.Prelude.{◌≡◌, ◌≤◌, ◌++◌, [], ◌∷◌, false, length, map, take, OnOk, IfOk};
 ghost use Rattle.std.specs.List.{filter};
 ghost use Rattle.graphql_folding.specs.in_definitions.DefinitionTree.{definition_tree};
 ghost use Rattle.graphql_built_in.specs.Table.{built_in_definitions};
 ghost use Rattle.graphql_folding.specs.ListedView.{listed_view};
+ghost use Rattle.graphql_type_folding.specs.Index.{IsIndexOf};
+ghost use Rattle.graphql_schema_building.specs.DefinitionsOf.{definitions_of};
 ghost use Rattle.graphql_schema_building.specs.Settling.{unnumbered, is_kept, settled_from};
 ghost use Rattle.graphql_schema_building.specs.Waiting.{orphan_kinds};
 ghost use Rattle.graphql_schema_building.specs.TextsView.{texts_view};
@@ -11,10 +13,10 @@ ghost use Rattle.graphql_schema_building.specs.SettingsView.{settings_view};
 
 use crate::adopt::{adopt_schema, adopt_types};
 use crate::built_in_types::is_redefinition;
-use crate::orphans::Orphans;
 use crate::texts::{Texts, push_shared};
 use graphql_built_in::built_in_definitions;
 use graphql_folding::{Definition, Listed};
+use graphql_type_folding::Index;
 use std::alloc::{AllocError, Global};
 
 /// Which settings of a builder are on.
@@ -30,11 +32,10 @@ pub(crate) fn settle(
     alloc: Global,
     settings: Settings,
     texts: &Texts,
-    orphans: &Orphans,
     list: &mut Vec<Listed>,
 ) -> Result<usize, AllocError>
     requires { list.old.items ≡ [] }
-    ensures settles { OnOk result (map listed_view list.new.items ≡ settled_from (settings_view settings) (texts_view texts.now).list (orphan_kinds orphans.now) (map unnumbered built_in_definitions)) }
+    ensures settles { OnOk result (map listed_view list.new.items ≡ settled_from (settings_view settings) (texts_view texts.now).list (orphan_kinds texts.now.index) (map unnumbered built_in_definitions)) }
     ensures built_in { IfOk result (λ n. n ≡ length built_in_definitions) }
     ensures within { IfOk result (λ n. n ≤ length list.new.items) }
 {
@@ -42,10 +43,33 @@ pub(crate) fn settle(
     let built_in = list.len();
     keep_texts(settings.ignores, &texts.list, list)?;
     if settings.adopts {
-        adopt_types(alloc, orphans, list)?;
+        adopt_types(alloc, &texts.index, list)?;
         adopt_schema(alloc, list)?;
     }
     Ok(built_in)
+}
+
+/// The index of the texts of a settled list: that of those added, with what is adopted filed behind them. Where
+/// redefinitions were passed over, the list is filed anew.
+pub(crate) fn settled_index(
+    alloc: Global,
+    ignores: bool,
+    texts: Texts,
+    settled: &[Listed],
+) -> Result<Index, AllocError>
+    requires { ignores ≡ false → IsIndexOf (take (length texts.list.items) (definitions_of (map listed_view settled.now))) texts.index }
+    ensures { IfOk result (λ index. IsIndexOf (definitions_of (map listed_view settled.now)) index) }
+{
+    if ignores {
+        return Index::of(alloc, settled);
+    }
+    let Texts {
+        extensions: _,
+        list,
+        mut index,
+    } = texts;
+    index.file_rest(alloc, settled, list.len())?;
+    Ok(index)
 }
 
 /// Puts definitions that are no extensions behind the others of the list.

@@ -1,26 +1,26 @@
 //! The state of a schema builder, and the list of definitions that it makes of its texts.
+ghost use Rattle.std.specs.Prelude.{◌≡◌};
 ghost use Rattle.graphql_schema_building.specs.KeptView.{IsKept};
 
-use crate::orphans::Orphans;
 use crate::settle::Settings;
 use crate::texts::Texts;
 use graphql_folding::{Listed, SourceFile};
 use graphql_names::FileId;
+use graphql_type_folding::Index;
 use indexmap::IndexMap;
 use std::alloc::Global;
 
-/// The state of a schema builder: the definitions that were added to it, with their numbers, and the types that wait
-/// for a definition.
+/// The state of a schema builder: the definitions and extensions that were added to it, with their numbers and their
+/// positions, filed by name and kind. Nothing is folded before it is built.
 ///
 /// Contracts see it by `builder_view` alone.
 pub struct Building {
     pub(crate) alloc: Global,
     pub(crate) settings: Settings,
     pub(crate) texts: Texts,
-    pub(crate) orphans: Orphans,
     pub(crate) sources: IndexMap<FileId, SourceFile>,
     pub(crate) failed: bool,
-    ghost kept: { IsKept texts orphans failed },
+    ghost kept: { IsKept texts failed },
 }
 
 /// Lets go what it keeps, here and not wherever a builder goes.
@@ -30,10 +30,26 @@ impl Drop for Building {
             alloc: _,
             settings: _,
             texts: _,
-            orphans: _,
             sources: _,
             failed: _,
         } = self;
+    }
+}
+
+impl Building {
+    /// Gives up the texts and their sources.
+    pub(crate) fn into_parts(self) -> (Texts, IndexMap<FileId, SourceFile>)
+        ensures texts { result.0 ≡ self.texts }
+        ensures sources { result.1 ≡ self.sources }
+    {
+        let Building {
+            alloc: _,
+            settings: _,
+            texts,
+            sources,
+            failed: _,
+        } = self;
+        (texts, sources)
     }
 }
 
@@ -45,4 +61,6 @@ pub struct SettledList {
     pub list: Vec<Listed>,
     /// How many definitions of the list are built in: they are its first.
     pub built_in: usize,
+    /// The index of the others.
+    pub index: Index,
 }

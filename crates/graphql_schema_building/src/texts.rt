@@ -1,29 +1,51 @@
-//! The list of the texts' definitions.
+//! The list of the texts' definitions, and its index.
 ghost use Rattle.std.specs.Prelude.{◌≡◌, ◌+◌, ◌<◌, ◌^◌, ◌++◌, [], ◌∷◌, map, true, Some, None, if◌then◌else◌, IfOk, IfErr, OnOk, OnErr};
 ghost use Rattle.std.specs.Option.{option_map};
 ghost use Rattle.graphql_folding.specs.in_definitions.DefinitionTree.{definition_tree};
 ghost use Rattle.graphql_folding.specs.in_definitions.Queries.{is_extension, definition_place};
 ghost use Rattle.graphql_components.specs.Given.{extension_tree};
 ghost use Rattle.graphql_folding.specs.ListedView.{listed_view};
+ghost use Rattle.graphql_schema_building.specs.KeptView.{definitions, KeepsIndex};
 ghost use Rattle.graphql_schema_building.specs.TextsView.{texts_view};
 ghost use Rattle.graphql_schema_building.specs.TextsList.{Adds, IsListRefusal};
 
 use crate::refusal::BuilderRefusal;
 use graphql_components::{ExtensionId, Extensions};
 use graphql_folding::{Definition, Listed};
-use std::alloc::AllocError;
+use graphql_type_folding::Index;
+use std::alloc::{AllocError, Global};
 
-/// The definitions of the texts in order, each extension with its number, folded or not.
+/// The definitions of the texts in order, each extension with its number, folded or not; and their index, by the names of
+/// types.
 #[derive(Drop)]
 pub(crate) struct Texts {
     pub(crate) extensions: Extensions,
     pub(crate) list: Vec<Listed>,
+    pub(crate) index: Index,
 }
 
 impl Texts {
-    /// Puts a definition behind the others, with a number if it is an extension.
-    pub(crate) fn add(&mut self, definition: &Definition) -> Result<(), BuilderRefusal>
+    /// Puts a definition behind the others, with a number if it is an extension, and files it.
+    pub(crate) fn add(
+        &mut self,
+        alloc: Global,
+        definition: &Definition,
+    ) -> Result<(), BuilderRefusal>
         ensures added { OnOk result (Adds (definition_tree definition.now ∷ []) (texts_view self.old) (texts_view self.new)) }
+        ensures filed { OnOk result (KeepsIndex self.old self.new) }
+        ensures refused { IfErr result (IsListRefusal (definition_tree definition.now ∷ []) (texts_view self.old)) }
+    {
+        let position = self.list.len();
+        self.push(definition)?;
+        self.index.file(alloc, position, definition)?;
+        Ok(())
+    }
+
+    /// Puts a definition behind the others, with a number if it is an extension.
+    fn push(&mut self, definition: &Definition) -> Result<(), BuilderRefusal>
+        ensures added { OnOk result (Adds (definition_tree definition.now ∷ []) (texts_view self.old) (texts_view self.new)) }
+        ensures behind { OnOk result (definitions self.new ≡ definitions self.old ++ definition_tree definition.now ∷ []) }
+        ensures index { self.new.index ≡ self.old.index }
         ensures refused { IfErr result (IsListRefusal (definition_tree definition.now ∷ []) (texts_view self.old)) }
     {
         if !definition.is_extension_definition() {

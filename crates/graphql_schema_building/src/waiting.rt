@@ -4,37 +4,37 @@ ghost use Rattle.std.specs.Iterator.{YieldsFirstBy, item_count};
 ghost use Rattle.graphql_schema_building.specs.Waiting.{orphan_kinds, left_kinds, lent_kind, left_names, lent_name};
 
 use crate::built_in_types::is_built_in_type;
-use crate::orphans::Orphans;
 use graphql_folding::TypeKind;
 use graphql_names::Name;
+use graphql_type_folding::{Filed, Index};
 use indexmap::IndexMap;
 use indexmap::map::Slice;
 
 /// Lends the names of the types that are extended and not defined, in the order of their first extensions.
 #[derive(Drop)]
 pub struct OrphanExtensionTypes<'a> {
-    extended: Slice<'a, Name, TypeKind>,
-    defined: &'a IndexMap<Name, TypeKind>,
+    extended: Slice<'a, Name, Filed>,
+    defined: &'a IndexMap<Name, Filed>,
 }
 
 impl<'a> OrphanExtensionTypes<'a> {
     /// All of them.
-    pub(crate) fn of(orphans: &'a Orphans) -> OrphanExtensionTypes<'a>
-        ensures { left_kinds result ≡ orphan_kinds orphans.now }
+    pub(crate) fn of(index: &'a Index) -> OrphanExtensionTypes<'a>
+        ensures { left_kinds result ≡ orphan_kinds index.now }
     {
         OrphanExtensionTypes {
-            extended: orphans.extended.as_slice(),
-            defined: &orphans.defined,
+            extended: index.extended.as_slice(),
+            defined: &index.defined,
         }
     }
 
     /// None of them.
-    pub(crate) fn none(orphans: &'a Orphans) -> OrphanExtensionTypes<'a>
+    pub(crate) fn none(index: &'a Index) -> OrphanExtensionTypes<'a>
         ensures { left_kinds result ≡ [] }
     {
         OrphanExtensionTypes {
             extended: Slice::new(),
-            defined: &orphans.defined,
+            defined: &index.defined,
         }
     }
 
@@ -42,10 +42,10 @@ impl<'a> OrphanExtensionTypes<'a> {
     pub(crate) fn next_orphan(&mut self) -> Option<(&'a Name, TypeKind)>
         ensures { YieldsFirstBy lent_kind left_kinds self.old result self.new }
     {
-        while let Some(((name, kind), others)) = self.extended.split_first() {
+        while let Some(((name, filed), others)) = self.extended.split_first() {
             self.extended = others;
             if !self.defined.contains_key(name) && !is_built_in_type(name.as_str()) {
-                return Some((name, *kind));
+                return Some((name, filed.kind));
             }
         }
         None

@@ -1,10 +1,9 @@
 -- The extensions that stand under a type's name are all that its fold needs.
-use Rattle.std.proofs.Common.{◌≡◌, ℕ, Bool, true, false, ◌&&◌, List, [], ◌∷◌, ◌++◌, map, Option, None, Some, refl, sym, ap, ◌∙◌, cond, if◌then◌else◌}
-use Rattle.std.specs.List.{flat_map}
+use Rattle.std.proofs.Common.{◌≡◌, ℕ, Bool, true, false, ◌&&◌, ◌||◌, List, [], ◌∷◌, ◌++◌, map, Option, None, Some, refl, sym, ap, ◌∙◌, is_some, cond, if◌then◌else◌}
+use Rattle.std.specs.List.{flat_map, list_any}
 use Rattle.std.specs.Option.{option_map_or}
 use Rattle.std.specs.Str.{bytes_eq}
-use Rattle.std.proofs.lemmas.List.{append-nil, map-append}
-use Rattle.std.proofs.lemmas.List.Elements.{filter-append}
+use Rattle.std.proofs.lemmas.Grind.{flat_map-append}
 use Rattle.graphql_names.specs.Placed.{Place}
 use Rattle.graphql_folding.specs.in_components.Given.{Given}
 use Rattle.graphql_folding.specs.in_components.Lists.{firsts}
@@ -14,12 +13,12 @@ use Rattle.graphql_folding.specs.Components.{go_together, extension_here, keyed_
 use Rattle.graphql_folding.specs.Collected.{class_from, collected_from}
 use Rattle.graphql_folding.specs.Kept.{component_faults}
 use Rattle.graphql_folding.specs.Listed.{Listed, type_name}
-use Rattle.graphql_folding.specs.ListedView.{listed_view}
 use Rattle.graphql_folding.specs.Fold.{folded_type}
 use Rattle.graphql_folding.specs.BuildErrors.{Fault}
-use Rattle.graphql_folding.specs.declared.listed.Listed.{Listed as Rust}
 use Rattle.graphql_type_folding.specs.TypeFaults.{faults_of_type}
-use Rattle.graphql_type_folding.specs.Filing.{extends_name, extensions_named, Files, type_by, types_by, faults_by}
+use Rattle.graphql_type_folding.specs.DefinitionsOf.{definitions_of}
+use Rattle.graphql_type_folding.specs.ListTypes.{ExtendsNone}
+use Rattle.graphql_type_folding.specs.Filing.{extends_name, extensions_named, type_by, types_by, faults_by}
 
 module _ (defined : TypeParts Place) where
   abbrev named : List Listed → List Listed
@@ -44,6 +43,16 @@ module _ (defined : TypeParts Place) where
           → flat_map (extension_here defined) (cond b (l ∷ named ls) (named ls)) ≡ extension_here defined l ++ flat_map (extension_here defined) ls
       by true e rest = ap (λ r. extension_here defined l ++ r) rest
       by false e rest = rest ∙ ap (λ r. r ++ flat_map (extension_here defined) ls) (sym (none_here l (type_extension_here l.definition) e))
+
+  -- where nothing is extended, nothing is given to the type
+  pub none_given : (list : List Listed) → ExtendsNone list → flat_map (extension_here defined) list ≡ []
+  none_given [] none = refl
+  none_given (l ∷ ls) none = by (type_extension_here l.definition) none (none_given ls)
+    where
+      by : (o : Option (TypeParts Place)) → (is_some o || list_any (λ d. is_some (type_extension_here d)) (definitions_of ls)) ≡ false → (ExtendsNone ls → flat_map (extension_here defined) ls ≡ [])
+          → given_by l o ++ flat_map (extension_here defined) ls ≡ []
+      by None h rest = rest h
+      by (Some parts) h rest = absurd cc
 
 -- what a type folds to, and what its fold tells, by what its extensions give
 module _ (t : TypeDefinition Place) where
@@ -80,6 +89,17 @@ module _ (t : TypeDefinition Place) where
     told_enough : faults_of_type (extensions (type_name t)) t ≡ faults_of_type list t
     told_enough = ap faults_given given
 
+  module _ (front list : List Listed) (none : ExtendsNone front) where
+    given_behind : flat_map (extension_here t.parts) list ≡ flat_map (extension_here t.parts) (front ++ list)
+    given_behind = sym (flat_map-append (extension_here t.parts) front list ∙ ap (λ l. l ++ flat_map (extension_here t.parts) list) (none_given t.parts front none))
+
+    -- with what extends nothing in front of the list the same
+    pub type_behind : folded_type list t ≡ folded_type (front ++ list) t
+    type_behind = ap type_given given_behind
+
+    pub told_behind : faults_of_type list t ≡ faults_of_type (front ++ list) t
+    told_behind = ap faults_given given_behind
+
 module _ (extensions : List ℕ → List Listed) (list : List Listed) (is : (n : List ℕ) → extensions n ≡ extensions_named n list) where
   -- the same types and faults as with the whole list
   pub types_enough : (ts : List (TypeDefinition Place)) → types_by extensions ts ≡ map (λ t. (type_name t, folded_type list t)) (firsts type_name ts)
@@ -87,29 +107,3 @@ module _ (extensions : List ℕ → List Listed) (list : List Listed) (is : (n :
 
   pub faults_enough : (ts : List (TypeDefinition Place)) → faults_by extensions ts ≡ flat_map (faults_of_type list) (firsts type_name ts)
   faults_enough ts i = flat_map (λ t. told_enough t extensions list is i) (firsts type_name ts)
-
--- ---- filing
-
--- what is no extension of a type is filed nowhere
-pub files_none : (old : List ℕ → List Listed) (l : Listed) → None ≡ type_extension_here l.definition → Files old (l ∷ []) old
-files_none old l none n = sym (append-nil (old n)) ∙ ap (λ o. old n ++ cond (option_map_or (λ parts. bytes_eq n parts.name.it) o false) (l ∷ []) []) none
-
--- an extension that is added under its name
-pub files_one : (old new : List ℕ → List Rust) (item : Rust) (l : Listed) (parts : TypeParts Place)
-    → Some parts ≡ type_extension_here l.definition → listed_view item ≡ l
-    → ((n : List ℕ) → new n ≡ old n ++ (if bytes_eq n parts.name.it then item ∷ [] else []))
-    → Files (λ n. map listed_view (old n)) (l ∷ []) (λ n. map listed_view (new n))
-files_one old new item l parts is same added n =
-    ap (map listed_view) (added n) ∙ map-append listed_view (old n) (if bytes_eq n parts.name.it then item ∷ [] else [])
-    ∙ ap (λ r. map listed_view (old n) ++ r) (
-    by (bytes_eq n parts.name.it)
-    ∙ ap (λ o. cond (option_map_or (λ p. bytes_eq n p.name.it) o false) (l ∷ []) []) is)
-  where
-    by : (b : Bool) → map listed_view (cond b (item ∷ []) []) ≡ cond b (l ∷ []) []
-    by true = ap (λ v. v ∷ []) same
-    by false = refl
-
--- a turn of the loop
-pub files_more : (old new : List ℕ → List Listed) (before : List Listed) (l : Listed) → ((n : List ℕ) → old n ≡ extensions_named n before) → Files old (l ∷ []) new
-    → (n : List ℕ) → new n ≡ extensions_named n (before ++ l ∷ [])
-files_more old new before l was step n = step n ∙ ap (λ r. r ++ extensions_named n (l ∷ [])) (was n) ∙ sym (filter-append (extends_name n) before (l ∷ []))

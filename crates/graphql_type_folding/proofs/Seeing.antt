@@ -49,7 +49,7 @@ some_option : {A : Type 0} (o : Option A) → is_some (slice_get (option_to_list
 some_option None = refl
 some_option (Some a) = refl
 
-schema_more : (before : Definitions) (d : DefinitionTree Place) → is_some (schema_definition_in (before ++ d ∷ [])) ≡ (is_some (schema_definition_in before) || is_some (schema_here d))
+pub schema_more : (before : Definitions) (d : DefinitionTree Place) → is_some (schema_definition_in (before ++ d ∷ [])) ≡ (is_some (schema_definition_in before) || is_some (schema_here d))
 schema_more before d =
     ap (λ l. is_some (slice_get l 0)) (flat_map-push schemas before d) ∙ some_append (flat_map schemas before) (schemas d)
     ∙ ap (λ b. is_some (schema_definition_in before) || b) (some_option (schema_here d))
@@ -112,14 +112,14 @@ lookup_made n (t ∷ ts) = by (named type_name n t) (lookup_made n ts)
     by true rest = refl
     by false rest = rest
 
-kind_in_is : (ds : Definitions) (n : List ℕ) → kind_in (seen_of ds) n ≡ option_map kind_of (type_named n ds)
+pub kind_in_is : (ds : Definitions) (n : List ℕ) → kind_in (seen_of ds) n ≡ option_map kind_of (type_named n ds)
 kind_in_is ds n = lookup_made n (firsts type_name (types_in ds)) ∙ ap (option_map kind_of) (find_firsts type_name n (types_in ds))
 
 map_or : (o p : Option Type_) → option_or (option_map kind_of o) (option_map kind_of p) ≡ option_map kind_of (option_or o p)
 map_or None p = refl
 map_or (Some t) p = refl
 
-some_map : (o : Option Type_) → is_some (option_map kind_of o) ≡ is_some o
+pub some_map : (o : Option Type_) → is_some (option_map kind_of o) ≡ is_some o
 some_map None = refl
 some_map (Some t) = refl
 

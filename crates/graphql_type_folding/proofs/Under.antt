@@ -52,31 +52,43 @@ module _ {V : Type 0} where
       by true h rest = cc
       by false h rest = rest h
 
-module _ {X : Type 0} (es new : List (NameValue × Vec X Global)) (item : X) where
-  abbrev items : Option (Vec X Global) → List X
-  items o = option_map_or (λ v. v.items) o []
+-- where a value under a name stands for a list
+module _ {V X : Type 0} (of : V → List X) (es new : List (NameValue × V)) (item : X) where
+  abbrev listed : Option V → List X
+  listed o = option_map_or of o []
 
-  -- under the name the item is added, and nothing else changes
-  abbrev Adds : List ℕ → Type 0
-  Adds name = (n : List ℕ) → items (lookup (test n) new) ≡ items (lookup (test n) es) ++ (if bytes_eq n name then item ∷ [] else [])
+  -- to the list under the name the item is added, and nothing else changes
+  abbrev AddsTo : List ℕ → Type 0
+  AddsTo name = (n : List ℕ) → listed (lookup (test n) new) ≡ listed (lookup (test n) es) ++ (if bytes_eq n name then item ∷ [] else [])
 
   -- behind those that stand under it
-  pub under_pushed : (name : List ℕ) (v w : Vec X Global) → lookup (test name) es ≡ Some v → w.items ≡ v.items ++ item ∷ [] → new ≡ set_value (test name) es w → Adds name
-  under_pushed name v w found added is n = ap (λ l. items (lookup (test n) l)) is ∙ by (bytes_eq n name) refl
+  pub added_behind : (name : List ℕ) (v w : V) → lookup (test name) es ≡ Some v → of w ≡ of v ++ item ∷ [] → new ≡ set_value (test name) es w → AddsTo name
+  added_behind name v w found added is n = ap (λ l. listed (lookup (test n) l)) is ∙ by (bytes_eq n name) refl
     where
-      here : items (lookup (test name) (set_value (test name) es w)) ≡ items (lookup (test name) es) ++ item ∷ []
-      here = ap items (written_same name w es (ap is_some found)) ∙ added ∙ ap (λ o. items o ++ item ∷ []) (sym found)
+      here : listed (lookup (test name) (set_value (test name) es w)) ≡ listed (lookup (test name) es) ++ item ∷ []
+      here = ap listed (written_same name w es (ap is_some found)) ∙ added ∙ ap (λ o. listed o ++ item ∷ []) (sym found)
 
-      by : (b : Bool) → bytes_eq n name ≡ b → items (lookup (test n) (set_value (test name) es w)) ≡ items (lookup (test n) es) ++ cond b (item ∷ []) []
-      by true t = subst (λ m. items (lookup (test m) (set_value (test name) es w)) ≡ items (lookup (test m) es) ++ item ∷ []) (sym ((bytes_eq-Decides n name).0 t)) here
-      by false t = ap items (written_other n name w t es) ∙ sym (append-nil (items (lookup (test n) es)))
+      by : (b : Bool) → bytes_eq n name ≡ b → listed (lookup (test n) (set_value (test name) es w)) ≡ listed (lookup (test n) es) ++ cond b (item ∷ []) []
+      by true t = subst (λ m. listed (lookup (test m) (set_value (test name) es w)) ≡ listed (lookup (test m) es) ++ item ∷ []) (sym ((bytes_eq-Decides n name).0 t)) here
+      by false t = ap listed (written_other n name w t es) ∙ sym (append-nil (listed (lookup (test n) es)))
 
   -- where nothing stands under it
-  pub under_new : (name : NameValue) (w : Vec X Global) → lookup (test name.text) es ≡ None → w.items ≡ item ∷ [] → new ≡ es ++ (name, w) ∷ [] → Adds name.text
-  under_new name w absent added is n = ap (λ l. items (lookup (test n) l)) is ∙ by (bytes_eq n name.text) refl
+  pub added_new : (name : NameValue) (w : V) → lookup (test name.text) es ≡ None → of w ≡ item ∷ [] → new ≡ es ++ (name, w) ∷ [] → AddsTo name.text
+  added_new name w absent added is n = ap (λ l. listed (lookup (test n) l)) is ∙ by (bytes_eq n name.text) refl
     where
-      by : (b : Bool) → bytes_eq n name.text ≡ b → items (lookup (test n) (es ++ (name, w) ∷ [])) ≡ items (lookup (test n) es) ++ cond b (item ∷ []) []
+      by : (b : Bool) → bytes_eq n name.text ≡ b → listed (lookup (test n) (es ++ (name, w) ∷ [])) ≡ listed (lookup (test n) es) ++ cond b (item ∷ []) []
       by true t =
           let none = subst (λ m. lookup (test m) es ≡ None) (sym ((bytes_eq-Decides n name.text).0 t)) absent in
-          ap items (pushed_same n name w t es none) ∙ added ∙ ap (λ o. items o ++ item ∷ []) (sym none)
-      by false t = ap items (pushed_other n name w t es) ∙ sym (append-nil (items (lookup (test n) es)))
+          ap listed (pushed_same n name w t es none) ∙ added ∙ ap (λ o. listed o ++ item ∷ []) (sym none)
+      by false t = ap listed (pushed_other n name w t es) ∙ sym (append-nil (listed (lookup (test n) es)))
+
+-- the same of lists themselves
+module _ {X : Type 0} (es new : List (NameValue × Vec X Global)) (item : X) where
+  abbrev items : Vec X Global → List X
+  items v = v.items
+
+  pub under_pushed : (name : List ℕ) (v w : Vec X Global) → lookup (test name) es ≡ Some v → w.items ≡ v.items ++ item ∷ [] → new ≡ set_value (test name) es w → AddsTo items es new item name
+  under_pushed = added_behind items es new item
+
+  pub under_new : (name : NameValue) (w : Vec X Global) → lookup (test name.text) es ≡ None → w.items ≡ item ∷ [] → new ≡ es ++ (name, w) ∷ [] → AddsTo items es new item name.text
+  under_new = added_new items es new item

@@ -116,11 +116,22 @@ faults_at d told = map (At d) (option_to_list told)
 abbrev pub faults_where : Place → Option Breach → List Fault
 faults_where place told = map (λ breach. record { place = place; breach = breach }) (option_to_list told)
 
-module _ (built_in own : Seen) where
+module _ (built_in : Seen) (defined : List ℕ → Bool) where
+  -- of the name of a type, where types of these names stand before it
+  abbrev pub repeat_told : List ℕ → Option Breach
+  repeat_told n = told_where ((is_some (kind_in built_in n) || defined n) && not (is_scalar_in built_in n)) (TypeDefinitionCollision n)
+
   -- the faults of a type that is defined at that place, by its name
   abbrev pub type_faults : Place → List ℕ → List Fault
-  type_faults place n = faults_where place (collision_told built_in own n) ++ faults_where place (redefinition_told built_in n)
+  type_faults place n = faults_where place (repeat_told n) ++ faults_where place (redefinition_told built_in n)
 
+-- the faults of a definition, where types of these names stand before it, and a schema definition or none
+abbrev pub faults_behind : Seen → Bool → (List ℕ → Bool) → DefinitionTree Place → List Fault
+faults_behind built_in schema defined d =
+    faults_at d (executable_told d) ++ (faults_at d (told_where (schema && is_some (schema_here d)) SchemaDefinitionCollision)
+    ++ (faults_at d (option_map_or (λ t. repeat_told built_in defined (type_name t)) (type_here d) None) ++ faults_at d (scalar_redefinition_told built_in d)))
+
+module _ (built_in own : Seen) where
   -- those of one that is extended there
   abbrev pub type_extension_faults : Place → List ℕ → TypeKind → List Fault
   type_extension_faults place n kind = faults_where place (orphan_told built_in own n) ++ faults_where place (mismatch_told built_in own n kind)

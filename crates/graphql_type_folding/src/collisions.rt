@@ -1,75 +1,114 @@
 //! The rules that are judged by what stands before a definition.
-ghost use Rattle.std.specs.Prelude.{◌≡◌, ◌++◌, [], ◌∷◌, map, IfOk, OnOk};
+ghost use Rattle.std.specs.Prelude.{◌≡◌, ◌||◌, ◌++◌, [], ◌∷◌, map, is_some, IfOk, OnOk};
 ghost use Rattle.graphql_folding.specs.in_definitions.DefinitionTree.{definition_tree};
 ghost use Rattle.graphql_folding.specs.BuildErrors.{ExecutableDefinition, SchemaDefinitionCollision, TypeDefinitionCollision, BuiltInScalarTypeRedefinition};
 ghost use Rattle.graphql_folding.specs.FaultView.{faults_of};
 ghost use Rattle.graphql_folding.specs.ListedView.{listed_view};
+ghost use Rattle.graphql_folding.specs.SchemaFold.{schema_definition_in};
 ghost use Rattle.graphql_type_folding.specs.DefinitionsOf.{definitions_of};
-ghost use Rattle.graphql_type_folding.specs.Seen.{seen_of, type_faults, definition_faults, collision_faults};
+ghost use Rattle.graphql_type_folding.specs.Index.{AreFiled, standing, parts_here};
+ghost use Rattle.graphql_type_folding.specs.Seen.{kind_in, type_faults, faults_behind, collision_faults};
 ghost use Rattle.graphql_type_folding.specs.SeenView.{seen_view};
+ghost use Rattle.graphql_type_folding.specs.OwnView.{is_defined_before};
 
-use crate::seen::{Seen, is_schema_definition, kind_of};
+use crate::index::Filed;
+use crate::seen::{Seen, is_schema_definition};
 use graphql_folding::{BuildError, Definition, Listed, tell, type_definition};
 use graphql_names::{Name, SourceSpan};
-use std::alloc::{AllocError, Global};
+use indexmap::IndexMap;
+use std::alloc::AllocError;
 
-/// Tells each definition of the texts that stands behind another one, or is none of a type system. Gives what the
-/// texts define.
-pub(crate) fn tell_collisions(
-    alloc: Global,
-    built_in: &Seen,
-    texts: &[Listed],
-    faults: &mut Vec<(Option<SourceSpan>, BuildError)>,
-) -> Result<Seen, AllocError>
-    ensures own { IfOk result (λ s. seen_view s ≡ seen_of (definitions_of (map listed_view texts.now))) }
-    ensures faults { OnOk result (faults_of faults.new ≡ faults_of faults.old ++ collision_faults (seen_view built_in.now) (definitions_of (map listed_view texts.now))) }
-{
-    let mut own = Seen::new(alloc);
-    for listed in texts {
-        tell_definition(built_in, &own, &listed.definition, faults)?;
-        own.add(&listed.definition)?;
-    }
-    Ok(own)
+/// What stands before a position of the texts: the types that are filed there, and a schema definition or none.
+#[derive(Clone, Copy)]
+struct Before<'a> {
+    defined: &'a IndexMap<Name, Filed>,
+    schema: bool,
+    position: usize,
 }
 
-/// Tells what is wrong with a definition behind those that are seen.
+impl<'a> Before<'a> {
+    /// Whether a type of that name is defined there.
+    fn defines(&self, name: &Name) -> bool
+        ensures { result ≡ is_defined_before self.now name.now.text }
+    {
+        match self.defined.get(name) {
+            None => false,
+            Some(filed) => filed.first < self.position,
+        }
+    }
+}
+
+/// Tells each definition of the texts that stands behind another one, or is none of a type system. Gives whether the
+/// texts define the schema.
+pub(crate) fn tell_collisions(
+    built_in: &Seen,
+    texts: &[Listed],
+    defined: &IndexMap<Name, Filed>,
+    faults: &mut Vec<(Option<SourceSpan>, BuildError)>,
+) -> Result<bool, AllocError>
+    requires { AreFiled (standing parts_here (definitions_of (map listed_view texts.now))) defined.now.entries }
+    ensures schema { IfOk result (λ schema. schema ≡ is_some (schema_definition_in (definitions_of (map listed_view texts.now)))) }
+    ensures faults { OnOk result (faults_of faults.new ≡ faults_of faults.old ++ collision_faults (seen_view built_in.now) (definitions_of (map listed_view texts.now))) }
+{
+    let mut schema = false;
+    for position in 0..texts.len() {
+        let definition = &texts[position].definition;
+        let before = Before {
+            defined,
+            schema,
+            position,
+        };
+        tell_definition(built_in, &before, definition, faults)?;
+        schema |= is_schema_definition(definition);
+    }
+    Ok(schema)
+}
+
+/// Tells what is wrong with a definition behind those that stand before it.
 fn tell_definition(
     built_in: &Seen,
-    own: &Seen,
+    before: &Before<'_>,
     d: &Definition,
     faults: &mut Vec<(Option<SourceSpan>, BuildError)>,
 ) -> Result<(), AllocError>
-    ensures { OnOk result (faults_of faults.new ≡ faults_of faults.old ++ definition_faults (seen_view built_in.now) (seen_view own.now) (definition_tree d.now)) }
+    ensures { OnOk result (faults_of faults.new ≡ faults_of faults.old ++ faults_behind (seen_view built_in.now) before.now.schema (is_defined_before before.now) (definition_tree d.now)) }
 {
     if d.is_executable_definition() {
         return executable_definition(d.location(), faults);
     }
-    if own.schema && is_schema_definition(d) {
+    if before.schema && is_schema_definition(d) {
         return schema_definition_collision(d.location(), faults);
     }
     match type_definition(d) {
         None => Ok(()),
-        Some(t) => tell_type(built_in, own, t.parts.name, d.location(), faults),
+        Some(t) => tell_type(built_in, before, t.parts.name, d.location(), faults),
     }
 }
 
-/// Tells what is wrong with a type of that name behind those that are seen.
+/// Tells what is wrong with a type of that name behind those that stand before it.
 fn tell_type(
     built_in: &Seen,
-    own: &Seen,
+    before: &Before<'_>,
     name: &Name,
     location: Option<SourceSpan>,
     faults: &mut Vec<(Option<SourceSpan>, BuildError)>,
 ) -> Result<(), AllocError>
-    ensures { OnOk result (faults_of faults.new ≡ faults_of faults.old ++ type_faults (seen_view built_in.now) (seen_view own.now) location name.now.text) }
+    ensures { OnOk result (faults_of faults.new ≡ faults_of faults.old ++ type_faults (seen_view built_in.now) (is_defined_before before.now) location name.now.text) }
 {
     if built_in.has_scalar(name) {
         return built_in_scalar_type_redefinition(name, location, faults);
     }
-    if kind_of(built_in, own, name).is_some() {
+    if is_defined(built_in, before, name) {
         return type_definition_collision(name, location, faults);
     }
     Ok(())
+}
+
+/// Whether a type of that name is built in, or stands before the position.
+fn is_defined(built_in: &Seen, before: &Before<'_>, name: &Name) -> bool
+    ensures { result ≡ (is_some (kind_in (seen_view built_in.now) name.now.text) || is_defined_before before.now name.now.text) }
+{
+    built_in.kind(name).is_some() || before.defines(name)
 }
 
 /// An operation or a fragment is no definition of a schema (section 3): this one is told.

@@ -1,74 +1,53 @@
-//! The extensions of types by the name of their type.
-ghost use Rattle.std.specs.Prelude.{◌≡◌, ℕ, ◌++◌, ◌∷◌, [], List, map, if◌then◌else◌, IfOk, OnOk};
-ghost use Rattle.std.specs.Str.{bytes_eq};
-ghost use Rattle.indexmap.specs.IndexMap.{get};
-ghost use Rattle.graphql_folding.specs.in_components.Names.{same_text};
-ghost use Rattle.graphql_folding.specs.in_schema_types.TypeView.{name_text};
+//! The extensions of a type, by the positions that are filed under its name.
+ghost use Rattle.std.specs.Prelude.{◌≡◌, ◌++◌, map, IfOk, OnOk};
+ghost use Rattle.std.specs.List.{flat_map};
 ghost use Rattle.graphql_folding.specs.ListedView.{listed_view};
-ghost use Rattle.graphql_type_folding.specs.Filing.{items_under, extensions_under, extensions_named};
+ghost use Rattle.graphql_type_folding.specs.Index.{positions_of, listed_at, extensions_under};
 
-use graphql_folding::{Listed, extension_parts, insert_new};
+use crate::index::Filed;
+use graphql_folding::Listed;
 use graphql_names::Name;
 use indexmap::IndexMap;
 use std::alloc::{AllocError, Global};
 
-/// The extensions of types of the list, shared, with their numbers, under the names of their types, in order.
-pub(crate) fn index_extensions(
+/// The extensions that are filed under a name, shared, with their numbers, in the order of the list.
+pub(crate) fn extensions_of(
     alloc: Global,
-    list: &[Listed],
-) -> Result<IndexMap<Name, Vec<Listed>>, AllocError>
-    ensures { IfOk result (λ m. (n : List ℕ) → extensions_under m n ≡ extensions_named n (map listed_view list.now)) }
+    texts: &[Listed],
+    extended: &IndexMap<Name, Filed>,
+    name: &Name,
+) -> Result<Vec<Listed>, AllocError>
+    ensures { IfOk result (λ v. map listed_view v.items ≡ extensions_under (map listed_view texts.now) extended.now.entries name.now.text) }
 {
-    let mut index = IndexMap::new(alloc);
-    for listed in list {
-        if let Some(parts) = extension_parts(&listed.definition) {
-            let shared = Listed {
-                definition: listed.definition.clone()?,
-                extension: listed.extension,
-            };
-            push_under(alloc, &mut index, parts.name, shared)?;
-        }
+    match extended.get(name) {
+        None => Ok(Vec::new(alloc)),
+        Some(filed) => gather(alloc, texts, filed),
     }
-    Ok(index)
 }
 
-/// Adds an item behind those under the name.
-fn push_under<T: Drop>(
-    alloc: Global,
-    index: &mut IndexMap<Name, Vec<T>>,
-    name: &Name,
-    item: T,
-) -> Result<(), AllocError>
-    ensures { OnOk result ((n : List ℕ) → items_under n index.new ≡ items_under n index.old ++ (if bytes_eq n name.now.text then item ∷ [] else [])) }
+/// What stands at the positions that are filed, shared.
+fn gather(alloc: Global, texts: &[Listed], filed: &Filed) -> Result<Vec<Listed>, AllocError>
+    ensures { IfOk result (λ v. map listed_view v.items ≡ flat_map (listed_at (map listed_view texts.now)) (positions_of filed.now)) }
 {
-    if let Some(items) = index.get_mut(name) {
-        items.push(item)?;
+    let mut gathered = Vec::new(alloc);
+    push_at(texts, filed.first, &mut gathered)?;
+    for position in &filed.others {
+        push_at(texts, *position, &mut gathered)?;
+    }
+    Ok(gathered)
+}
+
+/// Puts what stands at a position of the list behind the others, shared, if it is there.
+fn push_at(texts: &[Listed], position: usize, gathered: &mut Vec<Listed>) -> Result<(), AllocError>
+    ensures { OnOk result (map listed_view gathered.new.items ≡ map listed_view gathered.old.items ++ listed_at (map listed_view texts.now) position) }
+{
+    let Some(listed) = texts.get(position) else {
         return Ok(());
-    }
-    insert_under(alloc, index, name, item)
-}
-
-/// Adds an item under a name that nothing stands under.
-fn insert_under<T: Drop>(
-    alloc: Global,
-    index: &mut IndexMap<Name, Vec<T>>,
-    name: &Name,
-    item: T,
-) -> Result<(), AllocError>
-    requires { get (same_text name_text) index.old name.now ≡ None }
-    ensures { OnOk result ((n : List ℕ) → items_under n index.new ≡ items_under n index.old ++ (if bytes_eq n name.now.text then item ∷ [] else [])) }
-{
-    let mut items = Vec::new(alloc);
-    items.push(item)?;
-    insert_new(index, name, items)
-}
-
-/// The extensions under a name.
-pub(crate) fn extensions_of<'a>(index: &'a IndexMap<Name, Vec<Listed>>, name: &Name) -> &'a [Listed]
-    ensures { map listed_view result.now ≡ extensions_under index.now name.now.text }
-{
-    match index.get(name) {
-        Some(extensions) => extensions.as_slice(),
-        None => &[],
-    }
+    };
+    let definition = listed.definition.clone()?;
+    gathered.push(Listed {
+        definition,
+        extension: listed.extension,
+    })?;
+    Ok(())
 }

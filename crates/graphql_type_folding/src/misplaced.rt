@@ -3,12 +3,14 @@ ghost use Rattle.std.specs.Prelude.{◌≡◌, ◌++◌, map, OnOk};
 ghost use Rattle.graphql_folding.specs.FaultView.{faults_of};
 ghost use Rattle.graphql_folding.specs.ListedView.{listed_view};
 ghost use Rattle.graphql_type_folding.specs.DefinitionsOf.{definitions_of};
+ghost use Rattle.graphql_type_folding.specs.Index.{IsIndexOf};
 ghost use Rattle.graphql_type_folding.specs.Misplaced.{TellsMisplaced};
 ghost use Rattle.graphql_type_folding.specs.Seen.{misplaced_faults};
 
 use crate::collisions::tell_collisions;
+use crate::index::Index;
 use crate::orphans::tell_extensions;
-use crate::seen::Seen;
+use crate::seen::{Own, Seen};
 use graphql_folding::{BuildError, Listed};
 use graphql_names::SourceSpan;
 use std::alloc::{AllocError, Global};
@@ -19,12 +21,18 @@ pub fn tell_misplaced(
     alloc: Global,
     built_in: &[Listed],
     texts: &[Listed],
+    index: &Index,
     faults: &mut Vec<(Option<SourceSpan>, BuildError)>,
 ) -> Result<(), AllocError>
+    requires { IsIndexOf (definitions_of (map listed_view texts.now)) index.now }
     ensures faults { OnOk result (faults_of faults.new ≡ faults_of faults.old ++ misplaced_faults (definitions_of (map listed_view built_in.now)) (definitions_of (map listed_view texts.now))) }
     ensures tells { OnOk result (TellsMisplaced (definitions_of (map listed_view built_in.now)) (definitions_of (map listed_view texts.now)) (faults_of faults.old) (faults_of faults.new)) }
 {
     let built_in = Seen::of(alloc, built_in)?;
-    let own = tell_collisions(alloc, &built_in, texts, faults)?;
+    let schema = tell_collisions(&built_in, texts, &index.defined, faults)?;
+    let own = Own {
+        defined: &index.defined,
+        schema,
+    };
     tell_extensions(&built_in, &own, texts, faults)
 }

@@ -9,8 +9,9 @@ ghost use Rattle.graphql_folding.specs.SchemaFold.{schema_extension_here};
 ghost use Rattle.graphql_type_folding.specs.DefinitionsOf.{definitions_of};
 ghost use Rattle.graphql_type_folding.specs.Seen.{type_extension_faults, extension_faults};
 ghost use Rattle.graphql_type_folding.specs.SeenView.{seen_view};
+ghost use Rattle.graphql_type_folding.specs.OwnView.{own_view};
 
-use crate::seen::{Seen, kind_of, schema_is_defined};
+use crate::seen::{Own, Seen, kind_of, schema_is_defined};
 use graphql_folding::{BuildError, Definition, Listed, Parts, extension_parts, tell};
 use graphql_names::{Name, SourceSpan};
 use std::alloc::AllocError;
@@ -18,11 +19,11 @@ use std::alloc::AllocError;
 /// Tells each extension of the texts whose schema or type is not defined, or is of another kind.
 pub(crate) fn tell_extensions(
     built_in: &Seen,
-    own: &Seen,
+    own: &Own<'_>,
     texts: &[Listed],
     faults: &mut Vec<(Option<SourceSpan>, BuildError)>,
 ) -> Result<(), AllocError>
-    ensures { OnOk result (faults_of faults.new ≡ faults_of faults.old ++ flat_map (extension_faults (seen_view built_in.now) (seen_view own.now)) (definitions_of (map listed_view texts.now))) }
+    ensures { OnOk result (faults_of faults.new ≡ faults_of faults.old ++ flat_map (extension_faults (seen_view built_in.now) (own_view own.now)) (definitions_of (map listed_view texts.now))) }
 {
     for listed in texts {
         tell_extension(built_in, own, &listed.definition, faults)?;
@@ -33,11 +34,11 @@ pub(crate) fn tell_extensions(
 /// Tells what is wrong with an extension, where these are all that are defined.
 fn tell_extension(
     built_in: &Seen,
-    own: &Seen,
+    own: &Own<'_>,
     d: &Definition,
     faults: &mut Vec<(Option<SourceSpan>, BuildError)>,
 ) -> Result<(), AllocError>
-    ensures { OnOk result (faults_of faults.new ≡ faults_of faults.old ++ extension_faults (seen_view built_in.now) (seen_view own.now) (definition_tree d.now)) }
+    ensures { OnOk result (faults_of faults.new ≡ faults_of faults.old ++ extension_faults (seen_view built_in.now) (own_view own.now) (definition_tree d.now)) }
 {
     if is_schema_extension(d) && !schema_is_defined(built_in, own) {
         return orphan_schema_extension(d.location(), faults);
@@ -58,12 +59,12 @@ fn is_schema_extension(d: &Definition) -> bool
 /// Tells what is wrong with the extension of a type, where these are all that are defined.
 fn tell_type_extension(
     built_in: &Seen,
-    own: &Seen,
+    own: &Own<'_>,
     parts: &Parts<'_>,
     location: Option<SourceSpan>,
     faults: &mut Vec<(Option<SourceSpan>, BuildError)>,
 ) -> Result<(), AllocError>
-    ensures { OnOk result (faults_of faults.new ≡ faults_of faults.old ++ type_extension_faults (seen_view built_in.now) (seen_view own.now) location parts.now.name.now.text parts.now.kind) }
+    ensures { OnOk result (faults_of faults.new ≡ faults_of faults.old ++ type_extension_faults (seen_view built_in.now) (own_view own.now) location parts.now.name.now.text parts.now.kind) }
 {
     match kind_of(built_in, own, parts.name) {
         None => orphan_type_extension(parts.name, location, faults),

@@ -1,4 +1,4 @@
-//! What a list of definitions defines.
+//! What a list of definitions defines: what is built in by its kinds, and the texts by their index.
 ghost use Rattle.std.specs.Prelude.{◌≡◌, ◌||◌, [], map, Option, IfOk, OnOk, is_some};
 ghost use Rattle.graphql_folding.specs.in_definitions.DefinitionTree.{definition_tree};
 ghost use Rattle.graphql_folding.specs.ListedView.{listed_view};
@@ -6,14 +6,16 @@ ghost use Rattle.graphql_folding.specs.SchemaFold.{schema_here};
 ghost use Rattle.graphql_type_folding.specs.DefinitionsOf.{definitions_of};
 ghost use Rattle.graphql_type_folding.specs.Seen.{seen_of, Sees, SeesType, kind_in, is_scalar_in, kind_seen, root_seen, schema_seen};
 ghost use Rattle.graphql_type_folding.specs.SeenView.{seen_view};
+ghost use Rattle.graphql_type_folding.specs.OwnView.{own_view};
 
+use crate::index::Filed;
 use graphql_folding::{Definition, Listed, TypeKind, insert_new, type_definition};
 use graphql_names::Name;
 use graphql_operations::OperationType;
 use indexmap::IndexMap;
 use std::alloc::{AllocError, Global};
 
-/// The kind of the first type of each name, and whether there is a schema definition.
+/// What is built in: the kind of the first type of each name, and whether there is a schema definition.
 pub(crate) struct Seen {
     pub(crate) kinds: IndexMap<Name, TypeKind>,
     pub(crate) schema: bool,
@@ -94,6 +96,25 @@ impl Seen {
     }
 }
 
+/// What the texts define: the types by name, and whether there is a schema definition.
+#[derive(Clone, Copy)]
+pub(crate) struct Own<'a> {
+    pub(crate) defined: &'a IndexMap<Name, Filed>,
+    pub(crate) schema: bool,
+}
+
+impl<'a> Own<'a> {
+    /// The kind of the first type of that name, if there is one.
+    pub(crate) fn kind(&self, name: &Name) -> Option<TypeKind>
+        ensures { result ≡ kind_in (own_view self.now) name.now.text }
+    {
+        match self.defined.get(name) {
+            None => None,
+            Some(filed) => Some(filed.kind),
+        }
+    }
+}
+
 /// Whether it is a schema definition.
 pub(crate) fn is_schema_definition(d: &Definition) -> bool
     ensures { result ≡ is_some (schema_here (definition_tree d.now)) }
@@ -102,8 +123,8 @@ pub(crate) fn is_schema_definition(d: &Definition) -> bool
 }
 
 /// The kind of the first type of that name, the built-in ones first.
-pub(crate) fn kind_of(built_in: &Seen, own: &Seen, name: &Name) -> Option<TypeKind>
-    ensures { result ≡ kind_seen (seen_view built_in.now) (seen_view own.now) name.now.text }
+pub(crate) fn kind_of(built_in: &Seen, own: &Own<'_>, name: &Name) -> Option<TypeKind>
+    ensures { result ≡ kind_seen (seen_view built_in.now) (own_view own.now) name.now.text }
 {
     match built_in.kind(name) {
         None => own.kind(name),
@@ -112,8 +133,8 @@ pub(crate) fn kind_of(built_in: &Seen, own: &Seen, name: &Name) -> Option<TypeKi
 }
 
 /// Whether an object has the default name of the operation's root (section 3.3.1).
-fn has_default_root(built_in: &Seen, own: &Seen, operation: OperationType) -> bool
-    ensures { result ≡ root_seen (seen_view built_in.now) (seen_view own.now) operation }
+fn has_default_root(built_in: &Seen, own: &Own<'_>, operation: OperationType) -> bool
+    ensures { result ≡ root_seen (seen_view built_in.now) (own_view own.now) operation }
 {
     let name = Name::new_static_unchecked(operation.default_type_name());
     match kind_of(built_in, own, &name) {
@@ -123,8 +144,8 @@ fn has_default_root(built_in: &Seen, own: &Seen, operation: OperationType) -> bo
 }
 
 /// Whether there is a schema definition or an implicit root.
-pub(crate) fn schema_is_defined(built_in: &Seen, own: &Seen) -> bool
-    ensures { result ≡ schema_seen (seen_view built_in.now) (seen_view own.now) }
+pub(crate) fn schema_is_defined(built_in: &Seen, own: &Own<'_>) -> bool
+    ensures { result ≡ schema_seen (seen_view built_in.now) (own_view own.now) }
 {
     built_in.schema
         || own.schema

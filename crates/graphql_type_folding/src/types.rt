@@ -1,16 +1,21 @@
 //! What the definitions of types fold to.
-ghost use Rattle.std.specs.Prelude.{◌≡◌, ◌++◌, ◌∷◌, [], map, IfOk, OnOk};
+ghost use Rattle.std.specs.Prelude.{◌≡◌, ◌++◌, ◌∷◌, [], map, IfOk, OnOk, option_to_list};
+ghost use Rattle.std.specs.List.{flat_map};
+ghost use Rattle.graphql_folding.specs.in_definitions.DefinitionTree.{definition_tree};
 ghost use Rattle.graphql_folding.specs.in_schema_types.SchemaView.{types_view};
+ghost use Rattle.graphql_folding.specs.in_schema_types.TypeParts.{type_here};
 ghost use Rattle.graphql_folding.specs.FaultView.{faults_of};
 ghost use Rattle.graphql_folding.specs.Listed.{types_in};
 ghost use Rattle.graphql_folding.specs.ListedView.{listed_view};
 ghost use Rattle.graphql_folding.specs.Made.{defined_view, IsDefinition};
 ghost use Rattle.graphql_type_folding.specs.DefinitionsOf.{definitions_of};
+ghost use Rattle.graphql_type_folding.specs.Index.{IsIndexOf, extensions_under, defined_at};
 ghost use Rattle.graphql_type_folding.specs.ListTypes.{types_from, faults_from, FoldsTypes, TellsTypes};
 ghost use Rattle.graphql_type_folding.specs.OwnNames.{TypesUnderOwnNames};
-ghost use Rattle.graphql_type_folding.specs.Filing.{extensions_under, types_by, faults_by, FoldsOn};
+ghost use Rattle.graphql_type_folding.specs.Filing.{FoldsOn};
 
-use crate::extensions::{extensions_of, index_extensions};
+use crate::extensions::extensions_of;
+use crate::index::{Filed, Index};
 use graphql_folding::{
     BuildError, Defined, ExtendedType, Listed, fold_type, insert_new, type_definition,
 };
@@ -22,53 +27,110 @@ use std::alloc::{AllocError, Global};
 /// Tells each component that is not the first of its name.
 pub fn fold_types(
     alloc: Global,
-    list: &[Listed],
+    built_in: &[Listed],
+    texts: &[Listed],
+    index: &Index,
     faults: &mut Vec<(Option<SourceSpan>, BuildError)>,
 ) -> Result<IndexMap<Name, ExtendedType>, AllocError>
-    ensures types { IfOk result (λ m. types_view m ≡ types_from (map listed_view list.now)) }
-    ensures faults { OnOk result (faults_of faults.new ≡ faults_of faults.old ++ faults_from (map listed_view list.now)) }
-    ensures folded { IfOk result (λ m. FoldsTypes (map listed_view list.now) (types_view m)) }
-    ensures tells { OnOk result (TellsTypes (map listed_view list.now) (faults_of faults.old) (faults_of faults.new)) }
+    requires { IsIndexOf (definitions_of (map listed_view texts.now)) index.now }
+    ensures types { IfOk result (λ m. types_view m ≡ types_from (map listed_view built_in.now) (map listed_view texts.now)) }
+    ensures faults { OnOk result (faults_of faults.new ≡ faults_of faults.old ++ faults_from (map listed_view built_in.now) (map listed_view texts.now)) }
+    ensures folded { IfOk result (λ m. FoldsTypes (map listed_view built_in.now) (map listed_view texts.now) (types_view m)) }
+    ensures tells { OnOk result (TellsTypes (map listed_view built_in.now) (map listed_view texts.now) (faults_of faults.old) (faults_of faults.new)) }
     ensures own_names { IfOk result (λ m. TypesUnderOwnNames (types_view m)) }
 {
-    let extensions = index_extensions(alloc, list)?;
-    fold_each(alloc, list, &extensions, faults)
+    let mut types = IndexMap::new(alloc);
+    fold_built_in(alloc, built_in, texts, &index.extended, &mut types, faults)?;
+    let filed = index.defined.values().as_slice();
+    fold_filed(alloc, texts, filed, &index.extended, &mut types, faults)?;
+    Ok(types)
 }
 
-/// Folds the first definition of each name with the extensions under it.
-fn fold_each(
+/// Folds the built-in types, with their extensions.
+fn fold_built_in(
     alloc: Global,
-    list: &[Listed],
-    extensions: &IndexMap<Name, Vec<Listed>>,
+    built_in: &[Listed],
+    texts: &[Listed],
+    extended: &IndexMap<Name, Filed>,
+    types: &mut IndexMap<Name, ExtendedType>,
     faults: &mut Vec<(Option<SourceSpan>, BuildError)>,
-) -> Result<IndexMap<Name, ExtendedType>, AllocError>
-    ensures types { IfOk result (λ m. types_view m ≡ types_by (extensions_under extensions.now) (types_in (definitions_of (map listed_view list.now)))) }
-    ensures faults { OnOk result (faults_of faults.new ≡ faults_of faults.old ++ faults_by (extensions_under extensions.now) (types_in (definitions_of (map listed_view list.now)))) }
+) -> Result<(), AllocError>
+    ensures { OnOk result (FoldsOn (extensions_under (map listed_view texts.now) extended.now.entries) (types_in (definitions_of (map listed_view built_in.now))) (types_view types.old) (faults_of faults.old) (types_view types.new) (faults_of faults.new)) }
 {
-    let mut types = IndexMap::new(alloc);
-    for listed in list {
-        if let Some(defined) = type_definition(&listed.definition) {
-            fold_first(alloc, &defined, extensions, &mut types, faults)?;
-        }
+    for listed in built_in {
+        fold_here(alloc, listed, texts, extended, types, faults)?;
     }
-    Ok(types)
+    Ok(())
+}
+
+/// Folds the first definition of each name that is filed, with its extensions.
+fn fold_filed(
+    alloc: Global,
+    texts: &[Listed],
+    defined: &[Filed],
+    extended: &IndexMap<Name, Filed>,
+    types: &mut IndexMap<Name, ExtendedType>,
+    faults: &mut Vec<(Option<SourceSpan>, BuildError)>,
+) -> Result<(), AllocError>
+    ensures { OnOk result (FoldsOn (extensions_under (map listed_view texts.now) extended.now.entries) (flat_map (λ f. defined_at (definitions_of (map listed_view texts.now)) f.first) defined.now) (types_view types.old) (faults_of faults.old) (types_view types.new) (faults_of faults.new)) }
+{
+    for filed in defined {
+        fold_at(alloc, filed.first, texts, extended, types, faults)?;
+    }
+    Ok(())
+}
+
+/// Folds the type that is defined at a position of the texts, if one is.
+fn fold_at(
+    alloc: Global,
+    position: usize,
+    texts: &[Listed],
+    extended: &IndexMap<Name, Filed>,
+    types: &mut IndexMap<Name, ExtendedType>,
+    faults: &mut Vec<(Option<SourceSpan>, BuildError)>,
+) -> Result<(), AllocError>
+    ensures { OnOk result (FoldsOn (extensions_under (map listed_view texts.now) extended.now.entries) (defined_at (definitions_of (map listed_view texts.now)) position) (types_view types.old) (faults_of faults.old) (types_view types.new) (faults_of faults.new)) }
+{
+    match texts.get(position) {
+        None => Ok(()),
+        Some(listed) => fold_here(alloc, listed, texts, extended, types, faults),
+    }
+}
+
+/// Folds the type that is defined here, if one is.
+fn fold_here(
+    alloc: Global,
+    listed: &Listed,
+    texts: &[Listed],
+    extended: &IndexMap<Name, Filed>,
+    types: &mut IndexMap<Name, ExtendedType>,
+    faults: &mut Vec<(Option<SourceSpan>, BuildError)>,
+) -> Result<(), AllocError>
+    ensures { OnOk result (FoldsOn (extensions_under (map listed_view texts.now) extended.now.entries) (option_to_list (type_here (definition_tree listed.now.definition))) (types_view types.old) (faults_of faults.old) (types_view types.new) (faults_of faults.new)) }
+{
+    match type_definition(&listed.definition) {
+        None => Ok(()),
+        Some(defined) => fold_first(alloc, &defined, texts, extended, types, faults),
+    }
 }
 
 /// Folds a type, if no earlier one has its name.
 fn fold_first(
     alloc: Global,
     defined: &Defined<'_>,
-    extensions: &IndexMap<Name, Vec<Listed>>,
+    texts: &[Listed],
+    extended: &IndexMap<Name, Filed>,
     types: &mut IndexMap<Name, ExtendedType>,
     faults: &mut Vec<(Option<SourceSpan>, BuildError)>,
 ) -> Result<(), AllocError>
     requires { IsDefinition (defined_view defined.now) }
-    ensures { OnOk result (FoldsOn (extensions_under extensions.now) (defined_view defined.now ∷ []) (types_view types.old) (faults_of faults.old) (types_view types.new) (faults_of faults.new)) }
+    ensures { OnOk result (FoldsOn (extensions_under (map listed_view texts.now) extended.now.entries) (defined_view defined.now ∷ []) (types_view types.old) (faults_of faults.old) (types_view types.new) (faults_of faults.new)) }
 {
     let name = defined.parts.name;
     if types.contains_key(name) {
         return Ok(());
     }
-    let folded = fold_type(alloc, defined, extensions_of(extensions, name), faults)?;
+    let extensions = extensions_of(alloc, texts, extended, name)?;
+    let folded = fold_type(alloc, defined, &extensions, faults)?;
     insert_new(types, name, folded)
 }

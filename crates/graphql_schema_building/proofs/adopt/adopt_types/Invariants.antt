@@ -5,7 +5,7 @@ use Rattle.graphql_schema_building.specs.Waiting.{orphan_kinds, left_kinds}
 use Rattle.graphql_schema_building.proofs.adopt.adopt_types.Given as goal
 
 abbrev pub invariant-loop-name : goal.invariant-loop-name
-invariant-loop-name l = map listed_view l.list.items ++ map (λ k. unnumbered (empty_of k)) (left_kinds l.waiting) ≡ map listed_view l.fn.list.items ++ map (λ k. unnumbered (empty_of k)) (orphan_kinds l.orphans)
+invariant-loop-name l = map listed_view l.list.items ++ map (λ k. unnumbered (empty_of k)) (left_kinds l.waiting) ≡ map listed_view l.fn.list.items ++ map (λ k. unnumbered (empty_of k)) (orphan_kinds l.index)
 
 abbrev pub decreases-loop-name : goal.decreases-loop-name
 decreases-loop-name l = length (left_kinds l.waiting)

@@ -1,12 +1,10 @@
 use Rattle.std.proofs.Common.{◌<◌, ◌+◌, [], ◌∷◌, map, take, drop, get_or, length, sym, ap, subst, ◌∙◌, arith}
 use Rattle.std.proofs.lemmas.Result.{err_from_is_err_and}
 use Rattle.graphql_folding.specs.in_definitions.DefinitionTree.{definition_tree}
-use Rattle.graphql_schema_building.specs.Noted.{Notes}
 use Rattle.graphql_schema_building.specs.TextsView.{texts_view}
 use Rattle.graphql_schema_building.specs.TextsList.{Adds, IsListRefusal}
 use Rattle.graphql_schema_building.proofs.Adding.{adds_then, refusal_more}
 use Rattle.graphql_schema_building.proofs.Growing.{front, split}
-use Rattle.graphql_schema_building.proofs.Noting.{notes_then}
 use Rattle.graphql_schema_building.proofs.building.add_document.Goals as goal
 
 pub loop-definition-preserved : goal.loop-definition-preserved
@@ -21,8 +19,7 @@ loop-definition-preserved c =
     let more = sym (front definition_tree xs i x h is) in (
       subst (λ l. Adds l (texts_view c.args.texts.now) (texts_view c.add.new.self)) more
           (adds_then (texts_view c.args.texts.now) (texts_view c.loop-definition.texts) (texts_view c.add.new.self) (map definition_tree (take i xs)) (definition_tree x ∷ []) c.loop-definition.invariant.0 c.in_ok-add.ensures.added),
-      subst (λ l. Notes l c.args.orphans.now c.note.new.self) more
-          (notes_then c.args.orphans.now c.loop-definition.orphans c.note.new.self (map definition_tree (take i xs)) (definition_tree x ∷ []) c.loop-definition.invariant.1 c.in_ok-note.ensures),
+      λ filed. c.in_ok-add.ensures.filed (c.loop-definition.invariant.1 filed),
     )
 
 pub returns-in_err-add-clause-refused : goal.returns-in_err-add-clause-refused

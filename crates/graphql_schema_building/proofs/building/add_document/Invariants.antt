@@ -1,6 +1,6 @@
 use Rattle.std.proofs.Common.{map, take}
 use Rattle.graphql_folding.specs.in_definitions.DefinitionTree.{definition_tree}
-use Rattle.graphql_schema_building.specs.Noted.{Notes}
+use Rattle.graphql_schema_building.specs.KeptView.{KeepsIndex}
 use Rattle.graphql_schema_building.specs.TextsView.{texts_view}
 use Rattle.graphql_schema_building.specs.TextsList.{Adds}
 use Rattle.graphql_schema_building.proofs.building.add_document.Given as goal
@@ -8,4 +8,4 @@ use Rattle.graphql_schema_building.proofs.building.add_document.Given as goal
 abbrev pub invariant-loop-definition : goal.invariant-loop-definition
 invariant-loop-definition l =
     Adds (map definition_tree (take l.definition-index l.document.definitions.items)) (texts_view l.fn.texts) (texts_view l.texts)
-    × Notes (map definition_tree (take l.definition-index l.document.definitions.items)) l.fn.orphans l.orphans
+    × KeepsIndex l.fn.texts l.texts

@@ -1,26 +1,39 @@
-use Rattle.std.proofs.Common.{◌<◌, ◌∷◌, [], ◌++◌, map, take, length, sym, ap, ◌∙◌, arith}
+use Rattle.std.proofs.Common.{◌<◌, ◌||◌, ◌++◌, map, take, get_or, length, refl, sym, ap, ◌∙◌, is_some, arith}
 use Rattle.graphql_folding.specs.in_definitions.DefinitionTree.{definition_tree}
+use Rattle.graphql_folding.specs.in_components.Lists.{has_name}
 use Rattle.graphql_folding.specs.FaultView.{faults_of}
+use Rattle.graphql_folding.specs.Listed.{type_name, types_in}
 use Rattle.graphql_folding.specs.ListedView.{listed_view}
+use Rattle.graphql_folding.specs.SchemaFold.{schema_definition_in}
 use Rattle.graphql_type_folding.specs.DefinitionsOf.{definitions_of}
-use Rattle.graphql_type_folding.proofs.Listing.{definitions_more}
+use Rattle.graphql_type_folding.specs.Index.{is_filed_before}
 use Rattle.graphql_type_folding.specs.Seen.{seen_of, collision_faults}
 use Rattle.graphql_type_folding.specs.SeenView.{seen_view}
+use Rattle.graphql_type_folding.proofs.Before.{stands_before}
+use Rattle.graphql_type_folding.proofs.Behind.{faults_are}
+use Rattle.graphql_type_folding.proofs.Listing.{definitions_more, taken}
+use Rattle.graphql_type_folding.proofs.Seeing.{schema_more}
 use Rattle.graphql_type_folding.proofs.Turns.{told_definition}
 use Rattle.graphql_type_folding.proofs.collisions.tell_collisions.Goals as goal
 
-pub loop-listed-preserved : goal.loop-listed-preserved
-loop-listed-preserved c =
+pub loop-position-preserved : goal.loop-position-preserved
+loop-position-preserved c =
     let xs = c.args.texts.now in
-    let i = c.loop-listed.listed-index in
-    let x = c.listed-item.result in
+    let i = c.loop-position.position in
+    let x = c.index-texts-position.result in
     let h : i < length xs = omega arith in
+    let d = definition_tree (get_or xs i x).definition in
     let before = definitions_of (map listed_view (take i xs)) in
-    let front = definitions_more xs i x h ∙ ap (λ y. before ++ definition_tree y.definition ∷ []) (sym c.listed-item.is) in
+    let front = definitions_more xs i x h in
     let built_in = seen_view c.args.built_in.now in
     let start = faults_of c.args.faults.now in
+    let was = c.loop-position.invariant in
+    let faults = faults_of c.loop-position.faults in
+    let es = c.args.defined.now.entries in
+    let told = faults_are built_in c.loop-position.schema (is_filed_before i es) before was.schema
+    (λ n. stands_before n i (definitions_of (map listed_view xs)) es c.requires ∙ ap (λ ds. has_name type_name n (types_in ds)) (taken xs i)) d in
     record {
-      seen = c.in_ok-add.ensures before c.loop-listed.invariant.seen ∙ ap seen_of (sym front);
-      told = told_definition built_in before (definition_tree x.definition) (seen_view c.loop-listed.own) start (faults_of c.loop-listed.faults) (faults_of c.tell_definition.new.faults) c.loop-listed.invariant.seen c.loop-listed.invariant.told c.in_ok-tell_definition.ensures
+      schema = (λ j. was.schema j || c.is_schema_definition-schema.ensures j) ∙ sym (schema_more before d) ∙ ap (λ ds. is_some (schema_definition_in ds)) (sym front);
+      told = told_definition built_in before d (seen_of before) start faults (faults_of c.tell_definition.new.faults) refl was.told (c.in_ok-tell_definition.ensures ∙ ap (λ l. faults ++ l) told)
           ∙ ap (λ ds. start ++ collision_faults built_in ds) (sym front);
     }

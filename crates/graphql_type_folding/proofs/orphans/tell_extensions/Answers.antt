@@ -7,6 +7,7 @@ use Rattle.graphql_type_folding.specs.DefinitionsOf.{definitions_of}
 use Rattle.graphql_type_folding.proofs.Listing.{definitions_more}
 use Rattle.graphql_type_folding.specs.Seen.{extension_faults}
 use Rattle.graphql_type_folding.specs.SeenView.{seen_view}
+use Rattle.graphql_type_folding.specs.OwnView.{own_view}
 use Rattle.graphql_type_folding.proofs.Turns.{told_extension}
 use Rattle.graphql_type_folding.proofs.orphans.tell_extensions.Goals as goal
 
@@ -18,7 +19,7 @@ loop-listed-preserved c =
     let h : i < length xs = omega arith in
     let before = definitions_of (map listed_view (take i xs)) in
     let front = definitions_more xs i x h ∙ ap (λ y. before ++ definition_tree y.definition ∷ []) (sym c.listed-item.is) in
-    let tells = extension_faults (seen_view c.args.built_in.now) (seen_view c.args.own.now) in
+    let tells = extension_faults (seen_view c.args.built_in.now) (own_view c.args.own.now) in
     let start = faults_of c.args.faults.now in
     told_extension tells before (definition_tree x.definition) start (faults_of c.loop-listed.faults) (faults_of c.tell_extension.new.faults) c.loop-listed.invariant c.in_ok-tell_extension.ensures
     ∙ ap (λ ds. start ++ flat_map tells ds) (sym front)

@@ -5,7 +5,8 @@ use Rattle.graphql_folding.specs.ListedView.{listed_view}
 use Rattle.graphql_type_folding.specs.DefinitionsOf.{definitions_of}
 use Rattle.graphql_type_folding.specs.Seen.{extension_faults}
 use Rattle.graphql_type_folding.specs.SeenView.{seen_view}
+use Rattle.graphql_type_folding.specs.OwnView.{own_view}
 use Rattle.graphql_type_folding.proofs.orphans.tell_extensions.Given as goal
 
 abbrev pub invariant-loop-listed : goal.invariant-loop-listed
-invariant-loop-listed l = faults_of l.faults ≡ faults_of l.fn.faults ++ flat_map (extension_faults (seen_view l.built_in) (seen_view l.own)) (definitions_of (map listed_view (take l.listed-index l.texts)))
+invariant-loop-listed l = faults_of l.faults ≡ faults_of l.fn.faults ++ flat_map (extension_faults (seen_view l.built_in) (own_view l.own)) (definitions_of (map listed_view (take l.listed-index l.texts)))

@@ -7,16 +7,17 @@ use Rattle.graphql_folding.specs.in_schema_types.TypeView.{name_text}
 use Rattle.graphql_folding.specs.in_schema_types.SchemaView.{types_view}
 use Rattle.graphql_folding.specs.FaultView.{faults_of}
 use Rattle.graphql_folding.specs.Fold.{folded_type}
+use Rattle.graphql_folding.specs.ListedView.{listed_view}
 use Rattle.graphql_folding.specs.Made.{defined_view}
 use Rattle.graphql_type_folding.specs.TypeFaults.{faults_of_type}
-use Rattle.graphql_type_folding.specs.Filing.{extensions_under}
+use Rattle.graphql_type_folding.specs.Index.{extensions_under}
 use Rattle.graphql_type_folding.proofs.Seeing.{is_absent}
 use Rattle.graphql_type_folding.proofs.Folding.{entry_view, folds_seen, folds_new}
 use Rattle.graphql_type_folding.proofs.types.fold_first.Goals as goal
 
 pub returns-then-contains_key : goal.returns-then-contains_key
 returns-then-contains_key c =
-    folds_seen (extensions_under c.args.extensions.now) c.args.types.now.entries (defined_view c.args.defined.now) (faults_of c.args.faults.now)
+    folds_seen (extensions_under (map listed_view c.args.texts.now) c.args.extended.now.entries) c.args.types.now.entries (defined_view c.args.defined.now) (faults_of c.args.faults.now)
     (sym c.contains_key.ensures ∙ c.if-contains_key.true)
 
 pub insert_new-requires : goal.insert_new-requires
@@ -28,8 +29,8 @@ returns c =
     let t = defined_view c.args.defined.now in
     let name = c.args.defined.now.parts.name.now in
     let faults = faults_of c.args.faults.now in
-    let given = c.extensions_of.ensures in
+    let given = ap (map listed_view) c.deref.ensures.value ∙ c.in_ok-extensions.ensures in
     let absent = sym c.contains_key.ensures ∙ c.if-contains_key.false in
-    IfOk-weaker _ _ _ (λ _ h. folds_new (extensions_under c.args.extensions.now) es t (types_view c.insert_new.new.map) faults (faults_of c.fold_type.new.faults) absent
+    IfOk-weaker _ _ _ (λ _ h. folds_new (extensions_under (map listed_view c.args.texts.now) c.args.extended.now.entries) es t (types_view c.insert_new.new.map) faults (faults_of c.fold_type.new.faults) absent
     (ap (map entry_view) h ∙ map-append entry_view es ((name, c.in_ok-folded.folded) ∷ []) ∙ ap (λ x. map entry_view es ++ (name.text, x) ∷ []) (c.in_ok-folded.ensures.folded ∙ ap (λ l. folded_type l t) given))
     (c.in_ok-folded.ensures.faults ∙ ap (λ l. faults ++ faults_of_type l t) given)) c.insert_new.ensures

@@ -9,5 +9,5 @@ pub returns : goal.returns
 returns c =
     let b = c.args.self.now in
     let ds = definitions b.texts in
-    lent_are ds b.orphans (from_kept b.texts b.orphans (b.kept c.if-self.false)).1 (left_kinds c.of.result) c.of.ensures
+    lent_are ds b.texts.index (from_kept b.texts (b.kept c.if-self.false)).1 (left_kinds c.of.result) c.of.ensures
     ∙ (λ i. if sym c.if-self.false i then [] else orphan_names ds)

@@ -1,19 +1,13 @@
-use Rattle.std.proofs.Common.{[], ◌∷◌, ◌++◌, map, Some, sym, ◌∙◌}
-use Rattle.graphql_folding.specs.in_definitions.DefinitionTree.{definition_tree}
+use Rattle.std.proofs.Common.{map, sym, subst, ◌∙◌}
+use Rattle.std.proofs.lemmas.List.{length-map}
 use Rattle.graphql_folding.specs.ListedView.{listed_view}
-use Rattle.graphql_schema_building.specs.TextsView.{texts_view}
-use Rattle.graphql_schema_building.proofs.Adding.{adds_unnumbered, adds_numbered}
+use Rattle.graphql_type_folding.specs.Index.{IsIndexOf}
+use Rattle.graphql_schema_building.specs.KeptView.{definitions}
 use Rattle.graphql_schema_building.proofs.texts.Texts.add.Goals as goal
 
-pub returns-then-not-is_extension_definition-clause-added : goal.returns-then-not-is_extension_definition-clause-added
-returns-then-not-is_extension_definition-clause-added c =
-    adds_unnumbered (definition_tree c.args.definition.now) (texts_view c.args.self.now) _ (sym c.is_extension_definition.ensures ∙ c.if-not-is_extension_definition.true) c.in_ok-push_shared.ensures (λ _. c.args.self.now.extensions)
-
-pub returns-clause-added : goal.returns-clause-added
-returns-clause-added c =
-    let d = definition_tree c.args.definition.now in
-    let id = c.in_ok-id.ensures in
-    let place = id.location ∙ c.location.ensures in
-    let before = map listed_view c.args.self.now.list.items in
-    adds_numbered d (texts_view c.args.self.now) _ (sym c.is_extension_definition.ensures ∙ c.if-not-is_extension_definition.false)
-    (c.in_ok-push_shared-2.ensures ∙ (λ i. before ++ record { definition = d; extension = Some (record { number = id.given i; place = place i }) } ∷ [])) id.goes_on id.not_spent
+pub returns-clause-filed : goal.returns-clause-filed
+returns-clause-filed c = λ filed.
+    let old = c.args.self.now in
+    let many = length-map (map listed_view old.list.items) (λ l. l.definition) ∙ length-map old.list.items listed_view ∙ sym old.list.ok.0 ∙ sym c.len-position.ensures in
+    subst (λ ds. IsIndexOf ds c.file.new.self) (sym c.in_ok-push.ensures.behind)
+    (c.in_ok-file.ensures (definitions old) many (subst (λ i. IsIndexOf (definitions old) i) (sym c.push.ensures.index) filed))
