@@ -1,7 +1,7 @@
-//! What a row asks of the checker beside its texts.
+//! What a row asks of the checker.
 
 use graphql_checked::{Layout, Limits};
-use graphql_row_files::{Case, Field, Problem, Way, number};
+use graphql_row_files::{Case, Field, Problem, Way, number, text_of};
 
 /// On which terms texts are judged, and how they are written.
 #[derive(Clone, Copy)]
@@ -35,11 +35,32 @@ fn layout_of(case: Case<'_>) -> Result<Layout<'static>, Problem> {
 
 /// The layout of this name.
 fn layout_named(field: Field<'_>) -> Result<Layout<'static>, Problem> {
-    match field.value {
-        "line" => Ok(Layout::OneLine),
-        "two" => Ok(Layout::Indented("  ")),
-        "four" => Ok(Layout::Indented("    ")),
-        "tab" => Ok(Layout::Indented("\t")),
-        _ => Err(field.problem("no layout has this name")),
+    for (name, layout) in layouts() {
+        if name == field.value {
+            return Ok(layout);
+        }
     }
+    Err(field.problem("no layout has this name"))
+}
+
+/// The layouts, with the names that the program's option has for them.
+pub(crate) fn layouts() -> [(&'static str, Layout<'static>); 4] {
+    [
+        ("line", Layout::OneLine),
+        ("two", Layout::Indented("  ")),
+        ("four", Layout::Indented("    ")),
+        ("tab", Layout::Indented("\t")),
+    ]
+}
+
+/// Adds the texts of the row, which must be UTF-8.
+pub(crate) fn push_texts<'a>(
+    case: Case<'_>,
+    texts: &'a [Vec<u8>],
+    list: &mut Vec<&'a str>,
+) -> Result<(), Problem> {
+    for bytes in texts {
+        list.push(text_of(case, bytes)?)?;
+    }
+    Ok(())
 }

@@ -91,7 +91,11 @@ fn checker_of(alloc: Global, asked: Asked) -> Checker {
 }
 
 /// The schema of the texts, by a checker.
-fn schema_of(alloc: Global, schemas: &[&str], asked: Asked) -> Result<CheckedSchema, Refusal> {
+pub(crate) fn schema_of(
+    alloc: Global,
+    schemas: &[&str],
+    asked: Asked,
+) -> Result<CheckedSchema, Refusal> {
     let mut checker = checker_of(alloc, asked);
     for text in schemas {
         checker.add_schema(text)?;
@@ -132,7 +136,7 @@ fn push_written(written: Result<String, AllocError>, end: &str, answer: &mut Ans
 }
 
 /// Adds the answer of a refusal.
-fn push_refusal(refusal: &Refusal, answer: &mut Answer) {
+pub(crate) fn push_refusal(refusal: &Refusal, answer: &mut Answer) {
     match refusal {
         Refusal::Faults(list) => push_refused(list, answer),
         Refusal::Memory => answer.status.put("4 out of memory"),

@@ -1,6 +1,7 @@
 //! Rows of schema texts and documents.
 
-use crate::asked::asked_of;
+use crate::asked::{asked_of, push_texts};
+use crate::by_back::by_back;
 use crate::by_calls::{push_calls, push_check_texts, push_series};
 use crate::by_run::by_run;
 use graphql_row_files::{Answer, Case, Problem, Tally, Way, compare, text_of};
@@ -56,7 +57,12 @@ fn by_call(alloc: Global, case: Case<'_>, way: Way<'_>, tally: &mut Tally) -> Re
         "all" => {
             by_run(alloc, case, way, tally)?;
             judge_call(alloc, case, "calls", way, tally)?;
-            judge_call(alloc, case, "check_texts", way, tally)
+            judge_call(alloc, case, "check_texts", way, tally)?;
+            by_back(alloc, case, way, tally)
+        }
+        "back" => {
+            judge_call(alloc, case, call_before_back(case.out), way, tally)?;
+            by_back(alloc, case, way, tally)
         }
         _ => judge_call(alloc, case, case.call, way, tally),
     }
@@ -100,16 +106,13 @@ fn push_answer(
     Ok(())
 }
 
-/// Adds the texts of the row, which must be UTF-8.
-fn push_texts<'a>(
-    case: Case<'_>,
-    texts: &'a [Vec<u8>],
-    list: &mut Vec<&'a str>,
-) -> Result<(), Problem> {
-    for bytes in texts {
-        list.push(text_of(case, bytes)?)?;
+/// The call that answers before the road back: one that writes texts, where the row wants more than the line `accepted`.
+fn call_before_back(out: &[u8]) -> &'static str {
+    if first_line(out).len() < out.len() {
+        "calls"
+    } else {
+        "check_texts"
     }
-    Ok(())
 }
 
 /// The first line of an output that begins with `accepted`, and every other output whole.

@@ -2,6 +2,7 @@
 #![tactic(auto)]
 
 mod asked;
+mod by_back;
 mod by_calls;
 mod by_run;
 mod by_texts;
@@ -18,7 +19,7 @@ impl Calls for Checking {
     fn names_of(&self, call: &str) -> Option<&'static [&'static str]> {
         match call {
             "check_texts" => Some(&["nesting", "schema", "document"]),
-            "calls" | "series" => Some(&[
+            "calls" | "series" | "back" => Some(&[
                 "nesting",
                 "first_text",
                 "first_extension",
