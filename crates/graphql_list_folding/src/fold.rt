@@ -2,8 +2,8 @@
 ghost use Rattle.std.specs.Prelude.{◌≡◌, ◌≤◌, [], drop, length, map, IfOk};
 ghost use Rattle.graphql_folding.specs.FaultView.{faults_of};
 ghost use Rattle.graphql_folding.specs.ListedView.{listed_view};
-ghost use Rattle.graphql_type_folding.specs.DefinitionsOf.{definitions_of};
-ghost use Rattle.graphql_type_folding.specs.Index.{IsIndexOf};
+ghost use Rattle.graphql_type_index.specs.DefinitionsOf.{definitions_of};
+ghost use Rattle.graphql_type_index.specs.Index.{IsIndexOf};
 ghost use Rattle.graphql_list_folding.specs.FoldedView.{folded_view};
 ghost use Rattle.graphql_list_folding.specs.ListBuilt.{Folds};
 
@@ -11,7 +11,8 @@ use graphql_directives::DirectiveDefinition;
 use graphql_folding::{BuildError, ExtendedType, Listed, SchemaDefinition};
 use graphql_names::{Name, Node, SourceSpan};
 use graphql_schema_folding::{fold_directives, fold_schema};
-use graphql_type_folding::{Index, fold_types, tell_misplaced};
+use graphql_type_folding::{fold_types, tell_misplaced};
+use graphql_type_index::Index;
 use indexmap::IndexMap;
 use std::alloc::{AllocError, Global};
 

@@ -7,7 +7,7 @@ ghost use Rattle.graphql_schema_building.specs.in_folding.BuildErrors.{FoldingRu
 ghost use Rattle.graphql_schema_building.specs.in_folding.FaultView.{faults_of};
 ghost use Rattle.graphql_schema_building.specs.in_folding.Fold.{fold};
 ghost use Rattle.graphql_schema_building.specs.in_folding.ListedView.{listed_view};
-ghost use Rattle.graphql_schema_building.specs.in_type_folding.Index.{IsIndexOf};
+ghost use Rattle.graphql_schema_building.specs.in_type_index.Index.{IsIndexOf};
 ghost use Rattle.graphql_schema_building.specs.DefinitionsOf.{definitions_of};
 ghost use Rattle.graphql_schema_building.specs.Building.{plain_settings, counted, folded, FailsIn, lent_names, IsAddRefusal, IsBuildRefusal};
 ghost use Rattle.graphql_schema_building.specs.Numbers.{HaveNumbers};

@@ -13,9 +13,9 @@ use Rattle.graphql_folding.specs.in_schema_types.TypeParts.{TypeDefinition, type
 use Rattle.graphql_folding.specs.Listed.{Definitions, type_name, types_in, type_named}
 use Rattle.graphql_folding.specs.Adoption.{orphans}
 use Rattle.graphql_built_in.specs.Table.{built_in_definitions}
-use Rattle.graphql_type_folding.specs.Index.{IsIndexOf, parts_here, filed_kind}
-use Rattle.graphql_type_folding.specs.declared.index.Index.{Index}
-use Rattle.graphql_type_folding.proofs.FiledKinds.{kinds_are, defined_parts}
+use Rattle.graphql_type_index.specs.Index.{IsIndexOf, parts_here, filed_kind}
+use Rattle.graphql_type_index.specs.declared.index.Index.{Index}
+use Rattle.graphql_type_index.proofs.FiledKinds.{kinds_are, defined_parts}
 use Rattle.graphql_schema_building.specs.Noted.{named_kind, parts_key, first_kinds, extended_in, defined_in}
 use Rattle.graphql_schema_building.specs.Waiting.{is_orphan_in, orphan_kinds}
 

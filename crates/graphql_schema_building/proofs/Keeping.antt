@@ -15,8 +15,8 @@ use Rattle.graphql_schema_building.specs.Building.{orphan_names, IsAddRefusal}
 use Rattle.graphql_schema_building.specs.BuilderValue.{BuilderValue}
 use Rattle.graphql_schema_building.specs.BuildingView.{builder_view}
 use Rattle.graphql_schema_building.specs.KeptView.{definitions, first_number, numbers_of, AreNumbered, KeepsIndex}
-use Rattle.graphql_type_folding.specs.Index.{NamedKind, IsIndexOf}
-use Rattle.graphql_type_folding.specs.declared.index.Index.{Index}
+use Rattle.graphql_type_index.specs.Index.{NamedKind, IsIndexOf}
+use Rattle.graphql_type_index.specs.declared.index.Index.{Index}
 use Rattle.graphql_schema_building.specs.Noted.{named_kind, parts_key}
 use Rattle.graphql_schema_building.specs.Numbers.{extension_count}
 use Rattle.graphql_schema_building.specs.Settling.{unnumbered, settled_from}

@@ -20,7 +20,7 @@ use Rattle.graphql_built_in.specs.Table.{built_in_definitions}
 use Rattle.graphql_folding.specs.Adoption.{Settings, settled, is_redefinition, without_redefinitions, orphans, empty_type, empty_schema, has_orphan_schema, with_types, with_schema}
 use Rattle.graphql_schema_building.specs.DefinitionsOf.{definitions_of}
 use Rattle.graphql_schema_building.proofs.Numbering.{definitions_numbered}
-use Rattle.graphql_type_folding.specs.Index.{NamedKind}
+use Rattle.graphql_type_index.specs.Index.{NamedKind}
 use Rattle.graphql_schema_building.specs.Noted.{named_kind, parts_key, first_kinds, extended_in}
 use Rattle.graphql_schema_building.specs.Settling.{unnumbered, empty_of, is_kept, adopted_schema, settled_from}
 use Rattle.graphql_schema_building.proofs.Numbering.{after_append, after_same, after_none, after_filter, count_zero}

@@ -1,9 +1,9 @@
--- What a builder keeps (private: it leads to `specs/BuildingView.antt`).
+-- What a builder keeps.
 use Rattle.std.specs.Prelude.{◌≡◌, ℕ, ◌+◌, ◌-◌, Bool, false, List, map, Option}
 use Rattle.graphql_names.specs.Placed.{Place}
 use Rattle.graphql_components.specs.Given.{ExtensionTree}
 use Rattle.graphql_folding.specs.Listed.{Definitions, Listed, numbered}
-use Rattle.graphql_type_folding.specs.Index.{IsIndexOf}
+use Rattle.graphql_type_index.specs.Index.{IsIndexOf}
 use Rattle.graphql_schema_building.specs.DefinitionsOf.{definitions_of}
 use Rattle.graphql_schema_building.specs.Numbers.{extension_count, HaveNumbers}
 use Rattle.graphql_schema_building.specs.TextsView.{texts_view}

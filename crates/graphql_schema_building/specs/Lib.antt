@@ -13,5 +13,5 @@ pub mod SettingsView
 pub mod Settling
 pub use Rattle.graphql_built_in.specs as in_built_in
 pub use Rattle.graphql_folding.specs as in_folding
-pub use Rattle.graphql_type_folding.specs as in_type_folding
+pub use Rattle.graphql_type_index.specs as in_type_index
 pub use Rattle.graphql_folding.specs.in_schema_types as in_schema_types

@@ -5,7 +5,7 @@ use Rattle.graphql_names.specs.Placed.{Place}
 use Rattle.graphql_components.specs.Lists.{firsts}
 use Rattle.graphql_folding.specs.in_schema_types.TypeParts.{TypeParts, type_extension_here}
 use Rattle.graphql_folding.specs.Listed.{Definitions, types_in}
-use Rattle.graphql_type_folding.specs.Index.{NamedKind}
+use Rattle.graphql_type_index.specs.Index.{NamedKind}
 
 abbrev pub named_kind : TypeParts Place → NamedKind
 named_kind p = (p.name, p.kind)

@@ -1,4 +1,4 @@
--- What contracts see of a builder's settings (private: it leads to `specs/Building.antt`).
+-- What contracts see of a builder's settings.
 use Rattle.graphql_folding.specs.Adoption.{Settings}
 use Rattle.graphql_schema_building.specs.declared.settle.Settings.{Settings as Rust}
 

@@ -9,7 +9,7 @@ use Rattle.graphql_folding.specs.SchemaFold.{schema_extension_here, schema_is_de
 use Rattle.graphql_folding.specs.Adoption.{Settings, is_redefinition, empty_type, empty_schema, orphans}
 use Rattle.graphql_built_in.specs.Table.{built_in_definitions}
 use Rattle.graphql_components.specs.Lists.{firsts}
-use Rattle.graphql_type_folding.specs.Index.{NamedKind}
+use Rattle.graphql_type_index.specs.Index.{NamedKind}
 use Rattle.graphql_schema_building.specs.Noted.{parts_key}
 use Rattle.graphql_schema_building.specs.DefinitionsOf.{definitions_of}
 

@@ -1,4 +1,4 @@
--- What contracts see of the list of the texts' definitions (private: it leads to `specs/Building.antt`).
+-- What contracts see of the list of the texts' definitions.
 use Rattle.std.specs.Prelude.{ℕ, List, map}
 use Rattle.graphql_folding.specs.Listed.{Listed}
 use Rattle.graphql_folding.specs.ListedView.{listed_view}

@@ -1,4 +1,4 @@
--- What is left of the types that are extended and not defined (private: it leads to `specs/Building.antt`).
+-- What is left of the types that are extended and not defined.
 use Rattle.std.specs.Prelude.{ℕ, Bool, not, ◌&&◌, List, map, is_some}
 use Rattle.std.specs.Borrow.{Bor}
 use Rattle.std.specs.List.{filter}
@@ -9,8 +9,8 @@ use Rattle.graphql_names.specs.Placed.{Place, Text, name_tree}
 use Rattle.graphql_folding.specs.in_schema_types.declared.type_kind.TypeKind.{TypeKind}
 use Rattle.graphql_folding.specs.Listed.{type_named}
 use Rattle.graphql_built_in.specs.Table.{built_in_definitions}
-use Rattle.graphql_type_folding.specs.Index.{NamedKind, FiledEntries, filed_kind}
-use Rattle.graphql_type_folding.specs.declared.index.Index.{Index}
+use Rattle.graphql_type_index.specs.Index.{NamedKind, FiledEntries, filed_kind}
+use Rattle.graphql_type_index.specs.declared.index.Index.{Index}
 use Rattle.graphql_schema_building.specs.declared.waiting.OrphanExtensionTypes.{OrphanExtensionTypes}
 
 -- no type of that name is defined, or built in

@@ -12,7 +12,7 @@ use crate::waiting::OrphanExtensionTypes;
 use graphql_directives::DirectiveList;
 use graphql_folding::Listed;
 use graphql_input_types::SchemaDefinition;
-use graphql_type_folding::Index;
+use graphql_type_index::Index;
 use std::alloc::{AllocError, Global};
 
 /// Puts an empty definition at the list's end for each type that is extended and not defined, of the kind of its first

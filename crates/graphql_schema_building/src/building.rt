@@ -5,7 +5,7 @@ ghost use Rattle.graphql_folding.specs.in_definitions.Sources.{sources_of};
 ghost use Rattle.graphql_built_in.specs.Table.{built_in_definitions};
 ghost use Rattle.graphql_folding.specs.Listed.{numbered};
 ghost use Rattle.graphql_folding.specs.ListedView.{listed_view};
-ghost use Rattle.graphql_type_folding.specs.Index.{IsIndexOf};
+ghost use Rattle.graphql_type_index.specs.Index.{IsIndexOf};
 ghost use Rattle.graphql_schema_building.specs.Building.{plain_settings, counted, lent_names, IsAddRefusal, IsBuildRefusal};
 ghost use Rattle.graphql_schema_building.specs.BuildingView.{builder_view};
 ghost use Rattle.graphql_schema_building.specs.DefinitionsOf.{definitions_of};
@@ -25,7 +25,7 @@ use crate::waiting::OrphanExtensionTypes;
 use graphql_components::Extensions;
 use graphql_folding::{Document, SourceFile};
 use graphql_names::FileId;
-use graphql_type_folding::Index;
+use graphql_type_index::Index;
 use indexmap::IndexMap;
 use std::alloc::Global;
 

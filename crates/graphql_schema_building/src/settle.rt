@@ -4,7 +4,7 @@ ghost use Rattle.std.specs.List.{filter};
 ghost use Rattle.graphql_folding.specs.in_definitions.DefinitionTree.{definition_tree};
 ghost use Rattle.graphql_built_in.specs.Table.{built_in_definitions};
 ghost use Rattle.graphql_folding.specs.ListedView.{listed_view};
-ghost use Rattle.graphql_type_folding.specs.Index.{IsIndexOf};
+ghost use Rattle.graphql_type_index.specs.Index.{IsIndexOf};
 ghost use Rattle.graphql_schema_building.specs.DefinitionsOf.{definitions_of};
 ghost use Rattle.graphql_schema_building.specs.Settling.{unnumbered, is_kept, settled_from};
 ghost use Rattle.graphql_schema_building.specs.Waiting.{orphan_kinds};
@@ -16,7 +16,7 @@ use crate::built_in_types::is_redefinition;
 use crate::texts::{Texts, push_shared};
 use graphql_built_in::built_in_definitions;
 use graphql_folding::{Definition, Listed};
-use graphql_type_folding::Index;
+use graphql_type_index::Index;
 use std::alloc::{AllocError, Global};
 
 /// Which settings of a builder are on.

@@ -6,7 +6,7 @@ use crate::settle::Settings;
 use crate::texts::Texts;
 use graphql_folding::{Listed, SourceFile};
 use graphql_names::FileId;
-use graphql_type_folding::Index;
+use graphql_type_index::Index;
 use indexmap::IndexMap;
 use std::alloc::Global;
 

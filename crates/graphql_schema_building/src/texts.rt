@@ -12,7 +12,7 @@ ghost use Rattle.graphql_schema_building.specs.TextsList.{Adds, IsListRefusal};
 use crate::refusal::BuilderRefusal;
 use graphql_components::{ExtensionId, Extensions};
 use graphql_folding::{Definition, Listed};
-use graphql_type_folding::Index;
+use graphql_type_index::Index;
 use std::alloc::{AllocError, Global};
 
 /// The definitions of the texts in order, each extension with its number, folded or not; and their index, by the names of

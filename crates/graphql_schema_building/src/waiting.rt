@@ -6,7 +6,7 @@ ghost use Rattle.graphql_schema_building.specs.Waiting.{orphan_kinds, left_kinds
 use crate::built_in_types::is_built_in_type;
 use graphql_folding::TypeKind;
 use graphql_names::Name;
-use graphql_type_folding::{Filed, Index};
+use graphql_type_index::{Filed, Index};
 use indexmap::IndexMap;
 use indexmap::map::Slice;
 

@@ -12,8 +12,8 @@ use Rattle.graphql_folding.specs.in_definitions.DefinitionTree.{DefinitionTree}
 use Rattle.graphql_folding.specs.in_components.Lists.{has_name}
 use Rattle.graphql_folding.specs.in_schema_types.TypeParts.{TypeDefinition, type_here}
 use Rattle.graphql_folding.specs.Listed.{Definitions, type_name, types_in}
-use Rattle.graphql_type_folding.specs.declared.index.Filed.{Filed}
-use Rattle.graphql_type_folding.specs.Index.{Standing, standing_name, parts_here, standing_after, standing, positions_named, positions_of, FiledEntries, AreFiled, is_filed_before}
+use Rattle.graphql_type_index.specs.declared.index.Filed.{Filed}
+use Rattle.graphql_type_index.specs.Index.{Standing, standing_name, parts_here, standing_after, standing, positions_named, positions_of, FiledEntries, AreFiled, is_filed_before}
 
 module _ (n : List ℕ) (i : ℕ) where
   -- the first of these positions is before i

@@ -16,9 +16,10 @@ use Rattle.graphql_folding.specs.Listed.{Listed, type_name}
 use Rattle.graphql_folding.specs.Fold.{folded_type}
 use Rattle.graphql_folding.specs.BuildErrors.{Fault}
 use Rattle.graphql_type_folding.specs.TypeFaults.{faults_of_type}
-use Rattle.graphql_type_folding.specs.DefinitionsOf.{definitions_of}
+use Rattle.graphql_type_index.specs.DefinitionsOf.{definitions_of}
 use Rattle.graphql_type_folding.specs.ListTypes.{ExtendsNone}
-use Rattle.graphql_type_folding.specs.Filing.{extends_name, extensions_named, type_by, types_by, faults_by}
+use Rattle.graphql_type_folding.specs.Filing.{type_by, types_by, faults_by}
+use Rattle.graphql_type_index.specs.Index.{extends_name, extensions_named}
 
 module _ (defined : TypeParts Place) where
   abbrev named : List Listed → List Listed

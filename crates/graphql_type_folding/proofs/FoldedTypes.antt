@@ -12,11 +12,11 @@ use Rattle.graphql_folding.specs.Listed.{Definitions, Listed, numbered, type_nam
 use Rattle.graphql_folding.specs.Fold.{folded_type, folded_types}
 use Rattle.graphql_folding.specs.BuildErrors.{Fault}
 use Rattle.graphql_type_folding.specs.TypeFaults.{faults_of_type, faults_of_types, FailsInType}
-use Rattle.graphql_type_folding.proofs.Listing.{definitions_numbered}
+use Rattle.graphql_type_index.proofs.Listing.{definitions_numbered}
 use Rattle.graphql_type_folding.proofs.Telling.{told_more}
 use Rattle.graphql_type_folding.proofs.TypeFaults.{types_tell}
 use Rattle.graphql_type_folding.specs.ListTypes.{types_from, faults_from, ExtendsNone, FoldsTypes, TellsTypes}
-use Rattle.graphql_type_folding.specs.DefinitionsOf.{definitions_of}
+use Rattle.graphql_type_index.specs.DefinitionsOf.{definitions_of}
 use Rattle.graphql_type_folding.proofs.Filing.{type_behind, told_behind}
 
 -- the types and faults of a whole list

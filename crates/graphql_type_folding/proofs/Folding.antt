@@ -17,7 +17,7 @@ use Rattle.graphql_folding.specs.in_schema_types.declared.extended_type.Extended
 use Rattle.graphql_folding.specs.Listed.{Listed, type_name, types_in}
 use Rattle.graphql_folding.specs.BuildErrors.{Fault}
 use Rattle.graphql_type_folding.specs.TypeFaults.{faults_of_type}
-use Rattle.graphql_type_folding.proofs.Listing.{flat_map-push}
+use Rattle.graphql_type_index.proofs.Listing.{flat_map-push}
 use Rattle.graphql_type_folding.specs.Filing.{type_by, types_by, faults_by, FoldsOn}
 
 abbrev Types : Type 0

@@ -15,16 +15,16 @@ use Rattle.graphql_folding.specs.Listed.{Listed, type_name, types_in}
 use Rattle.graphql_folding.specs.ListedView.{listed_view}
 use Rattle.graphql_folding.specs.BuildErrors.{Fault}
 use Rattle.graphql_folding.specs.declared.listed.Listed.{Listed as Rust}
-use Rattle.graphql_type_folding.specs.DefinitionsOf.{definitions_of}
-use Rattle.graphql_type_folding.specs.declared.index.Filed.{Filed}
+use Rattle.graphql_type_index.specs.DefinitionsOf.{definitions_of}
+use Rattle.graphql_type_index.specs.declared.index.Filed.{Filed}
 use Rattle.graphql_type_folding.specs.Filing.{type_by, FoldsOn}
-use Rattle.graphql_type_folding.specs.Index.{FiledEntries, AreFiled, standing, parts_here, defined_at, extensions_under}
+use Rattle.graphql_type_index.specs.Index.{FiledEntries, AreFiled, standing, parts_here, defined_at, extensions_under}
 use Rattle.graphql_type_folding.specs.ListTypes.{types_from, faults_from}
 use Rattle.graphql_type_folding.specs.TypeFaults.{faults_of_type}
 use Rattle.graphql_type_folding.proofs.Filing.{types_enough, faults_enough}
 use Rattle.graphql_type_folding.proofs.FirstsOfFirsts.{firsts_of_firsts}
 use Rattle.graphql_type_folding.proofs.Folding.{folds_none, folds_then}
-use Rattle.graphql_type_folding.proofs.Indexing.{types_filed, extensions_filed}
+use Rattle.graphql_type_index.proofs.Indexing.{types_filed, extensions_filed}
 
 -- ---- what is defined at a position
 

@@ -1,12 +1,7 @@
 pub mod Named
-pub mod Listing
 pub mod Telling
 pub mod TypeFaults
-pub mod Under
-pub mod Extending
-pub mod Indexing
 pub mod FirstsOfFirsts
-pub mod FiledKinds
 pub mod Before
 pub mod Filing
 pub mod Folding

@@ -23,7 +23,7 @@ use Rattle.graphql_folding.specs.in_schema_types.declared.type_kind.TypeKind.The
 use Rattle.graphql_folding.specs.Listed.{Definitions, type_name, types_in, type_named}
 use Rattle.graphql_folding.specs.SchemaFold.{Root, SchemaGiver, schema_here, schema_definition_in, is_object_in, schema_is_defined}
 use Rattle.graphql_folding.specs.BuildErrors.{is_built_in_scalar}
-use Rattle.graphql_type_folding.proofs.Listing.{flat_map-push}
+use Rattle.graphql_type_index.proofs.Listing.{flat_map-push}
 use Rattle.graphql_type_folding.proofs.Named.{named, some_named, find_firsts}
 use Rattle.graphql_type_folding.specs.Seen.{Seen, first_kinds, seen_of, Sees, SeesType, kind_in, is_scalar_in, kind_seen, root_seen, schema_seen}
 

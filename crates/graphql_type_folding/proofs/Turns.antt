@@ -6,7 +6,7 @@ use Rattle.graphql_folding.specs.in_definitions.DefinitionTree.{DefinitionTree}
 use Rattle.graphql_folding.proofs.in_components.Places.{each_place-push}
 use Rattle.graphql_folding.specs.Listed.{Definitions}
 use Rattle.graphql_folding.specs.BuildErrors.{Fault}
-use Rattle.graphql_type_folding.proofs.Listing.{flat_map-push}
+use Rattle.graphql_type_index.proofs.Listing.{flat_map-push}
 use Rattle.graphql_type_folding.specs.Seen.{Seen, seen_of, definition_faults, extension_faults, collision_faults, misplaced_faults}
 
 pub told_definition : (built_in : Seen) (before : Definitions) (d : DefinitionTree Place) (own : Seen) (start faults faults' : List Fault)

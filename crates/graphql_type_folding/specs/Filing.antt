@@ -1,26 +1,15 @@
--- The extensions of a name, and the fold of types with them (private: it leads to `specs/ListTypes.antt`).
-use Rattle.std.specs.Prelude.{◌≡◌, ℕ, Bool, false, List, ◌++◌, map}
-use Rattle.std.specs.List.{filter, flat_map}
-use Rattle.std.specs.Option.{option_map_or}
-use Rattle.std.specs.Str.{bytes_eq}
+-- The fold of types with the extensions under their names (private: it leads to `specs/ListTypes.antt`).
+use Rattle.std.specs.Prelude.{◌≡◌, ℕ, List, ◌++◌, map}
+use Rattle.std.specs.List.{flat_map}
 use Rattle.graphql_names.specs.Placed.{Place}
 use Rattle.graphql_folding.specs.in_components.Lists.{firsts}
 use Rattle.graphql_folding.specs.in_components.Names.{Entries}
 use Rattle.graphql_folding.specs.in_schema_types.SchemaTree.{SchemaType}
-use Rattle.graphql_folding.specs.in_schema_types.TypeParts.{TypeDefinition, type_extension_here}
+use Rattle.graphql_folding.specs.in_schema_types.TypeParts.{TypeDefinition}
 use Rattle.graphql_folding.specs.Listed.{Listed, type_name}
 use Rattle.graphql_folding.specs.Fold.{folded_type}
 use Rattle.graphql_folding.specs.BuildErrors.{Fault}
 use Rattle.graphql_type_folding.specs.TypeFaults.{faults_of_type}
-
--- ---- extensions by name
-
-abbrev pub extends_name : List ℕ → Listed → Bool
-extends_name n l = option_map_or (λ parts. bytes_eq n parts.name.it) (type_extension_here l.definition) false
-
--- the extensions of the types of that name, of every kind, in order
-abbrev pub extensions_named : List ℕ → List Listed → List Listed
-extensions_named n list = filter (extends_name n) list
 
 -- ---- types with the extensions under their names
 

@@ -1,7 +1,5 @@
-pub mod DefinitionsOf
 pub mod TypeFaults
 pub mod ListTypes
-pub mod Index
 pub mod Filing
 pub mod OwnNames
 pub mod Misplaced
@@ -9,3 +7,4 @@ pub mod Seen
 pub mod SeenView
 pub mod OwnView
 pub use Rattle.graphql_folding.specs as in_folding
+pub use Rattle.graphql_type_index.specs as in_type_index

@@ -9,7 +9,7 @@ use Rattle.graphql_folding.specs.in_schema_types.TypeParts.{TypeDefinition, type
 use Rattle.graphql_folding.specs.Listed.{Definitions, Listed, numbered, type_name, types_in}
 use Rattle.graphql_folding.specs.Fold.{folded_type, folded_types}
 use Rattle.graphql_folding.specs.BuildErrors.{Fault}
-use Rattle.graphql_type_folding.specs.DefinitionsOf.{definitions_of}
+use Rattle.graphql_type_index.specs.DefinitionsOf.{definitions_of}
 use Rattle.graphql_type_folding.specs.TypeFaults.{faults_of_type, FailsInType}
 
 -- these extend no type

@@ -1,6 +1,6 @@
 -- What contracts see of what the texts define, by their index (private: it leads to `specs/Seen.antt`).
 use Rattle.std.specs.Prelude.{ℕ, Bool, List, map}
-use Rattle.graphql_type_folding.specs.Index.{text_kind, is_filed_before}
+use Rattle.graphql_type_index.specs.Index.{text_kind, is_filed_before}
 use Rattle.graphql_type_folding.specs.Seen.{Seen}
 use Rattle.graphql_type_folding.specs.declared.collisions.Before.{Before}
 use Rattle.graphql_type_folding.specs.declared.seen.Own.{Own}

@@ -5,16 +5,16 @@ ghost use Rattle.graphql_folding.specs.BuildErrors.{ExecutableDefinition, Schema
 ghost use Rattle.graphql_folding.specs.FaultView.{faults_of};
 ghost use Rattle.graphql_folding.specs.ListedView.{listed_view};
 ghost use Rattle.graphql_folding.specs.SchemaFold.{schema_definition_in};
-ghost use Rattle.graphql_type_folding.specs.DefinitionsOf.{definitions_of};
-ghost use Rattle.graphql_type_folding.specs.Index.{AreFiled, standing, parts_here};
+ghost use Rattle.graphql_type_index.specs.DefinitionsOf.{definitions_of};
+ghost use Rattle.graphql_type_index.specs.Index.{AreFiled, standing, parts_here};
 ghost use Rattle.graphql_type_folding.specs.Seen.{kind_in, type_faults, faults_behind, collision_faults};
 ghost use Rattle.graphql_type_folding.specs.SeenView.{seen_view};
 ghost use Rattle.graphql_type_folding.specs.OwnView.{is_defined_before};
 
-use crate::index::Filed;
 use crate::seen::{Seen, is_schema_definition};
 use graphql_folding::{BuildError, Definition, Listed, tell, type_definition};
 use graphql_names::{Name, SourceSpan};
+use graphql_type_index::Filed;
 use indexmap::IndexMap;
 use std::alloc::AllocError;
 

@@ -2,11 +2,11 @@
 ghost use Rattle.std.specs.Prelude.{◌≡◌, ◌++◌, map, IfOk, OnOk};
 ghost use Rattle.std.specs.List.{flat_map};
 ghost use Rattle.graphql_folding.specs.ListedView.{listed_view};
-ghost use Rattle.graphql_type_folding.specs.Index.{positions_of, listed_at, extensions_under};
+ghost use Rattle.graphql_type_index.specs.Index.{positions_of, listed_at, extensions_under};
 
-use crate::index::Filed;
 use graphql_folding::Listed;
 use graphql_names::Name;
+use graphql_type_index::Filed;
 use indexmap::IndexMap;
 use std::alloc::{AllocError, Global};
 

@@ -11,12 +11,10 @@
 
 mod collisions;
 mod extensions;
-mod index;
 mod misplaced;
 mod orphans;
 mod seen;
 mod types;
 
-pub use index::{Filed, Index};
 pub use misplaced::tell_misplaced;
 pub use types::fold_types;

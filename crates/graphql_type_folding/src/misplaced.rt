@@ -2,17 +2,17 @@
 ghost use Rattle.std.specs.Prelude.{◌≡◌, ◌++◌, map, OnOk};
 ghost use Rattle.graphql_folding.specs.FaultView.{faults_of};
 ghost use Rattle.graphql_folding.specs.ListedView.{listed_view};
-ghost use Rattle.graphql_type_folding.specs.DefinitionsOf.{definitions_of};
-ghost use Rattle.graphql_type_folding.specs.Index.{IsIndexOf};
+ghost use Rattle.graphql_type_index.specs.DefinitionsOf.{definitions_of};
+ghost use Rattle.graphql_type_index.specs.Index.{IsIndexOf};
 ghost use Rattle.graphql_type_folding.specs.Misplaced.{TellsMisplaced};
 ghost use Rattle.graphql_type_folding.specs.Seen.{misplaced_faults};
 
 use crate::collisions::tell_collisions;
-use crate::index::Index;
 use crate::orphans::tell_extensions;
 use crate::seen::{Own, Seen};
 use graphql_folding::{BuildError, Listed};
 use graphql_names::SourceSpan;
+use graphql_type_index::Index;
 use std::alloc::{AllocError, Global};
 
 /// Tells each definition and each extension of the texts that breaks a rule by where it stands: definitions in order,

@@ -6,7 +6,7 @@ ghost use Rattle.graphql_folding.specs.BuildErrors.{OrphanSchemaExtension, Orpha
 ghost use Rattle.graphql_folding.specs.FaultView.{faults_of};
 ghost use Rattle.graphql_folding.specs.ListedView.{listed_view};
 ghost use Rattle.graphql_folding.specs.SchemaFold.{schema_extension_here};
-ghost use Rattle.graphql_type_folding.specs.DefinitionsOf.{definitions_of};
+ghost use Rattle.graphql_type_index.specs.DefinitionsOf.{definitions_of};
 ghost use Rattle.graphql_type_folding.specs.Seen.{type_extension_faults, extension_faults};
 ghost use Rattle.graphql_type_folding.specs.SeenView.{seen_view};
 ghost use Rattle.graphql_type_folding.specs.OwnView.{own_view};

@@ -3,15 +3,15 @@ ghost use Rattle.std.specs.Prelude.{◌≡◌, ◌||◌, [], map, Option, IfOk, 
 ghost use Rattle.graphql_folding.specs.in_definitions.DefinitionTree.{definition_tree};
 ghost use Rattle.graphql_folding.specs.ListedView.{listed_view};
 ghost use Rattle.graphql_folding.specs.SchemaFold.{schema_here};
-ghost use Rattle.graphql_type_folding.specs.DefinitionsOf.{definitions_of};
+ghost use Rattle.graphql_type_index.specs.DefinitionsOf.{definitions_of};
 ghost use Rattle.graphql_type_folding.specs.Seen.{seen_of, Sees, SeesType, kind_in, is_scalar_in, kind_seen, root_seen, schema_seen};
 ghost use Rattle.graphql_type_folding.specs.SeenView.{seen_view};
 ghost use Rattle.graphql_type_folding.specs.OwnView.{own_view};
 
-use crate::index::Filed;
 use graphql_folding::{Definition, Listed, TypeKind, insert_new, type_definition};
 use graphql_names::Name;
 use graphql_operations::OperationType;
+use graphql_type_index::Filed;
 use indexmap::IndexMap;
 use std::alloc::{AllocError, Global};
 

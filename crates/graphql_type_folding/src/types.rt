@@ -8,18 +8,18 @@ ghost use Rattle.graphql_folding.specs.FaultView.{faults_of};
 ghost use Rattle.graphql_folding.specs.Listed.{types_in};
 ghost use Rattle.graphql_folding.specs.ListedView.{listed_view};
 ghost use Rattle.graphql_folding.specs.Made.{defined_view, IsDefinition};
-ghost use Rattle.graphql_type_folding.specs.DefinitionsOf.{definitions_of};
-ghost use Rattle.graphql_type_folding.specs.Index.{IsIndexOf, extensions_under, defined_at};
+ghost use Rattle.graphql_type_index.specs.DefinitionsOf.{definitions_of};
+ghost use Rattle.graphql_type_index.specs.Index.{IsIndexOf, extensions_under, defined_at};
 ghost use Rattle.graphql_type_folding.specs.ListTypes.{types_from, faults_from, FoldsTypes, TellsTypes};
 ghost use Rattle.graphql_type_folding.specs.OwnNames.{TypesUnderOwnNames};
 ghost use Rattle.graphql_type_folding.specs.Filing.{FoldsOn};
 
 use crate::extensions::extensions_of;
-use crate::index::{Filed, Index};
 use graphql_folding::{
     BuildError, Defined, ExtendedType, Listed, fold_type, insert_new, type_definition,
 };
 use graphql_names::{Name, SourceSpan};
+use graphql_type_index::{Filed, Index};
 use indexmap::IndexMap;
 use std::alloc::{AllocError, Global};
 

@@ -3,7 +3,7 @@ use Rattle.indexmap.specs.IndexMap.{insert_entry}
 use Rattle.indexmap.proofs.CallerLemmas.{insert_entry-new}
 use Rattle.graphql_components.specs.Names.{same_text}
 use Rattle.graphql_schema_types.specs.TypeView.{name_text}
-use Rattle.graphql_type_folding.proofs.Under.{under_new}
+use Rattle.graphql_type_index.proofs.Under.{under_new}
 use Rattle.graphql_field_groups.proofs.Filing.{count_new}
 use Rattle.graphql_field_groups.proofs.groups.insert_under.Goals as goal
 

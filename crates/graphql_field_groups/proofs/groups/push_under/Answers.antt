@@ -1,6 +1,6 @@
 use Rattle.std.proofs.Common.{sym, bytes_eq}
 use Rattle.graphql_names.specs.NameValue.{NameValue}
-use Rattle.graphql_type_folding.proofs.Under.{under_pushed}
+use Rattle.graphql_type_index.proofs.Under.{under_pushed}
 use Rattle.graphql_field_groups.proofs.Filing.{count_pushed}
 use Rattle.graphql_field_groups.proofs.groups.push_under.Goals as goal
 

@@ -2,7 +2,7 @@ use Rattle.std.proofs.Common.{map, sym, subst}
 use Rattle.graphql_folding.specs.in_schema_types.SchemaView.{schema_view}
 use Rattle.graphql_folding.specs.FaultView.{fault_of, faults_of}
 use Rattle.graphql_folding.specs.ListedView.{listed_view}
-use Rattle.graphql_type_folding.specs.Index.{IsIndexOf}
+use Rattle.graphql_type_index.specs.Index.{IsIndexOf}
 use Rattle.graphql_type_folding.specs.Misplaced.{TellsMisplaced}
 use Rattle.graphql_schema_folding.specs.ListFold.{definitions_of}
 use Rattle.graphql_list_folding.proofs.Folding.{folds_parts, folds_split, joined}

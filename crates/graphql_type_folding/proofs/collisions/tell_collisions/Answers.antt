@@ -5,13 +5,13 @@ use Rattle.graphql_folding.specs.FaultView.{faults_of}
 use Rattle.graphql_folding.specs.Listed.{type_name, types_in}
 use Rattle.graphql_folding.specs.ListedView.{listed_view}
 use Rattle.graphql_folding.specs.SchemaFold.{schema_definition_in}
-use Rattle.graphql_type_folding.specs.DefinitionsOf.{definitions_of}
-use Rattle.graphql_type_folding.specs.Index.{is_filed_before}
+use Rattle.graphql_type_index.specs.DefinitionsOf.{definitions_of}
+use Rattle.graphql_type_index.specs.Index.{is_filed_before}
 use Rattle.graphql_type_folding.specs.Seen.{seen_of, collision_faults}
 use Rattle.graphql_type_folding.specs.SeenView.{seen_view}
 use Rattle.graphql_type_folding.proofs.Before.{stands_before}
 use Rattle.graphql_type_folding.proofs.Behind.{faults_are}
-use Rattle.graphql_type_folding.proofs.Listing.{definitions_more, taken}
+use Rattle.graphql_type_index.proofs.Listing.{definitions_more, taken}
 use Rattle.graphql_type_folding.proofs.Seeing.{schema_more}
 use Rattle.graphql_type_folding.proofs.Turns.{told_definition}
 use Rattle.graphql_type_folding.proofs.collisions.tell_collisions.Goals as goal

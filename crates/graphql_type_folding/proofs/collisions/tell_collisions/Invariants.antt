@@ -2,7 +2,7 @@ use Rattle.std.proofs.Common.{◌≡◌, ◌++◌, map, take, is_some}
 use Rattle.graphql_folding.specs.FaultView.{faults_of}
 use Rattle.graphql_folding.specs.ListedView.{listed_view}
 use Rattle.graphql_folding.specs.SchemaFold.{schema_definition_in}
-use Rattle.graphql_type_folding.specs.DefinitionsOf.{definitions_of}
+use Rattle.graphql_type_index.specs.DefinitionsOf.{definitions_of}
 use Rattle.graphql_type_folding.specs.Seen.{collision_faults}
 use Rattle.graphql_type_folding.specs.SeenView.{seen_view}
 use Rattle.graphql_type_folding.proofs.collisions.tell_collisions.Given as goal

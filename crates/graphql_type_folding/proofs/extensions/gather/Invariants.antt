@@ -1,7 +1,7 @@
 use Rattle.std.proofs.Common.{◌≡◌, ◌∷◌, map, take}
 use Rattle.std.specs.List.{flat_map}
 use Rattle.graphql_folding.specs.ListedView.{listed_view}
-use Rattle.graphql_type_folding.specs.Index.{listed_at}
+use Rattle.graphql_type_index.specs.Index.{listed_at}
 use Rattle.graphql_type_folding.proofs.extensions.gather.Given as goal
 
 abbrev pub invariant-loop-position : goal.invariant-loop-position

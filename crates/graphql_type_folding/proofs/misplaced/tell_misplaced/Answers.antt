@@ -2,11 +2,11 @@ use Rattle.std.proofs.Common.{◌≡◌, map}
 use Rattle.std.proofs.lemmas.Result.{IfOk-weaker}
 use Rattle.graphql_folding.specs.FaultView.{faults_of}
 use Rattle.graphql_folding.specs.ListedView.{listed_view}
-use Rattle.graphql_type_folding.specs.DefinitionsOf.{definitions_of}
-use Rattle.graphql_type_folding.specs.Index.{text_kind}
+use Rattle.graphql_type_index.specs.DefinitionsOf.{definitions_of}
+use Rattle.graphql_type_index.specs.Index.{text_kind}
 use Rattle.graphql_type_folding.specs.Seen.{Seen, seen_of}
 use Rattle.graphql_type_folding.specs.SeenView.{seen_view}
-use Rattle.graphql_type_folding.proofs.FiledKinds.{defined_kinds}
+use Rattle.graphql_type_index.proofs.FiledKinds.{defined_kinds}
 use Rattle.graphql_type_folding.proofs.TellingMisplaced.{tells_misplaced}
 use Rattle.graphql_type_folding.proofs.Turns.{all_told}
 use Rattle.graphql_type_folding.proofs.misplaced.tell_misplaced.Goals as goal

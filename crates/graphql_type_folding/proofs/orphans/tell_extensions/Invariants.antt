@@ -2,7 +2,7 @@ use Rattle.std.proofs.Common.{◌≡◌, ◌++◌, map, take}
 use Rattle.std.specs.List.{flat_map}
 use Rattle.graphql_folding.specs.FaultView.{faults_of}
 use Rattle.graphql_folding.specs.ListedView.{listed_view}
-use Rattle.graphql_type_folding.specs.DefinitionsOf.{definitions_of}
+use Rattle.graphql_type_index.specs.DefinitionsOf.{definitions_of}
 use Rattle.graphql_type_folding.specs.Seen.{extension_faults}
 use Rattle.graphql_type_folding.specs.SeenView.{seen_view}
 use Rattle.graphql_type_folding.specs.OwnView.{own_view}

@@ -6,11 +6,11 @@ use Rattle.graphql_folding.specs.in_schema_types.TypeParts.{type_here}
 use Rattle.graphql_folding.specs.FaultView.{faults_of}
 use Rattle.graphql_folding.specs.Listed.{types_in}
 use Rattle.graphql_folding.specs.ListedView.{listed_view}
-use Rattle.graphql_type_folding.specs.DefinitionsOf.{definitions_of}
-use Rattle.graphql_type_folding.specs.Index.{extensions_under}
+use Rattle.graphql_type_index.specs.DefinitionsOf.{definitions_of}
+use Rattle.graphql_type_index.specs.Index.{extensions_under}
 use Rattle.graphql_type_folding.proofs.Folding.{folds_none, folds_then, types_more}
 use Rattle.graphql_type_folding.proofs.FoldingAll.{folds_same}
-use Rattle.graphql_type_folding.proofs.Listing.{definitions_more}
+use Rattle.graphql_type_index.proofs.Listing.{definitions_more}
 use Rattle.graphql_type_folding.proofs.types.fold_built_in.Goals as goal
 
 pub loop-listed-init : goal.loop-listed-init

@@ -5,11 +5,11 @@ use Rattle.std.proofs.lemmas.Grind.{take_at_read}
 use Rattle.graphql_folding.specs.in_schema_types.SchemaView.{types_view}
 use Rattle.graphql_folding.specs.FaultView.{faults_of}
 use Rattle.graphql_folding.specs.ListedView.{listed_view}
-use Rattle.graphql_type_folding.specs.DefinitionsOf.{definitions_of}
-use Rattle.graphql_type_folding.specs.Index.{defined_at, extensions_under}
+use Rattle.graphql_type_index.specs.DefinitionsOf.{definitions_of}
+use Rattle.graphql_type_index.specs.Index.{defined_at, extensions_under}
 use Rattle.graphql_type_folding.proofs.Folding.{folds_none, folds_then}
 use Rattle.graphql_type_folding.proofs.FoldingAll.{folds_same}
-use Rattle.graphql_type_folding.proofs.Listing.{flat_map-push}
+use Rattle.graphql_type_index.proofs.Listing.{flat_map-push}
 use Rattle.graphql_type_folding.proofs.types.fold_filed.Goals as goal
 
 pub loop-filed-init : goal.loop-filed-init

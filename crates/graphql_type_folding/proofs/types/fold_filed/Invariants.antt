@@ -3,9 +3,9 @@ use Rattle.std.specs.List.{flat_map}
 use Rattle.graphql_folding.specs.in_schema_types.SchemaView.{types_view}
 use Rattle.graphql_folding.specs.FaultView.{faults_of}
 use Rattle.graphql_folding.specs.ListedView.{listed_view}
-use Rattle.graphql_type_folding.specs.DefinitionsOf.{definitions_of}
+use Rattle.graphql_type_index.specs.DefinitionsOf.{definitions_of}
 use Rattle.graphql_type_folding.specs.Filing.{FoldsOn}
-use Rattle.graphql_type_folding.specs.Index.{defined_at, extensions_under}
+use Rattle.graphql_type_index.specs.Index.{defined_at, extensions_under}
 use Rattle.graphql_type_folding.proofs.types.fold_filed.Given as goal
 
 abbrev pub invariant-loop-filed : goal.invariant-loop-filed

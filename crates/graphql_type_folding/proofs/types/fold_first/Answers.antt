@@ -10,7 +10,7 @@ use Rattle.graphql_folding.specs.Fold.{folded_type}
 use Rattle.graphql_folding.specs.ListedView.{listed_view}
 use Rattle.graphql_folding.specs.Made.{defined_view}
 use Rattle.graphql_type_folding.specs.TypeFaults.{faults_of_type}
-use Rattle.graphql_type_folding.specs.Index.{extensions_under}
+use Rattle.graphql_type_index.specs.Index.{extensions_under}
 use Rattle.graphql_type_folding.proofs.Seeing.{is_absent}
 use Rattle.graphql_type_folding.proofs.Folding.{entry_view, folds_seen, folds_new}
 use Rattle.graphql_type_folding.proofs.types.fold_first.Goals as goal

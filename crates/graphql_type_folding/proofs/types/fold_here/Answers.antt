@@ -3,7 +3,7 @@ use Rattle.graphql_folding.specs.in_definitions.DefinitionTree.{definition_tree}
 use Rattle.graphql_folding.specs.in_schema_types.SchemaView.{types_view}
 use Rattle.graphql_folding.specs.FaultView.{faults_of}
 use Rattle.graphql_folding.specs.ListedView.{listed_view}
-use Rattle.graphql_type_folding.specs.Index.{extensions_under}
+use Rattle.graphql_type_index.specs.Index.{extensions_under}
 use Rattle.graphql_type_folding.proofs.FoldingAll.{folds_nothing}
 use Rattle.graphql_type_folding.proofs.types.fold_here.Goals as goal
 

@@ -3,7 +3,7 @@ use Rattle.graphql_folding.specs.in_schema_types.SchemaView.{types_view}
 use Rattle.graphql_folding.specs.FaultView.{faults_of}
 use Rattle.graphql_folding.specs.Listed.{types_in}
 use Rattle.graphql_folding.specs.ListedView.{listed_view}
-use Rattle.graphql_type_folding.specs.DefinitionsOf.{definitions_of}
+use Rattle.graphql_type_index.specs.DefinitionsOf.{definitions_of}
 use Rattle.graphql_type_folding.specs.OwnNames.{TypesUnderOwnNames}
 use Rattle.graphql_type_folding.proofs.FoldedTypes.{folds_types, tells_types}
 use Rattle.graphql_type_folding.proofs.Folding.{entry_view}

@@ -1,7 +1,7 @@
 use Rattle.std.proofs.Common.{length, map, take, drop, sym, ap, subst, ◌∙◌}
 use Rattle.graphql_folding.specs.ListedView.{listed_view}
 use Rattle.graphql_built_in.specs.Table.{built_in_definitions}
-use Rattle.graphql_type_folding.specs.Index.{IsIndexOf}
+use Rattle.graphql_type_index.specs.Index.{IsIndexOf}
 use Rattle.graphql_schema_building.specs.DefinitionsOf.{definitions_of}
 use Rattle.graphql_schema_building.specs.Settling.{unnumbered, settled_from}
 use Rattle.graphql_schema_building.specs.SettingsView.{settings_view}

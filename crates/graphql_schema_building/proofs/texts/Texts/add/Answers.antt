@@ -1,7 +1,7 @@
 use Rattle.std.proofs.Common.{map, sym, subst, ◌∙◌}
 use Rattle.std.proofs.lemmas.List.{length-map}
 use Rattle.graphql_folding.specs.ListedView.{listed_view}
-use Rattle.graphql_type_folding.specs.Index.{IsIndexOf}
+use Rattle.graphql_type_index.specs.Index.{IsIndexOf}
 use Rattle.graphql_schema_building.specs.KeptView.{definitions}
 use Rattle.graphql_schema_building.proofs.texts.Texts.add.Goals as goal
 

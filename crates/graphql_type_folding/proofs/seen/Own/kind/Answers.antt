@@ -1,6 +1,6 @@
 use Rattle.std.proofs.Common.{sym, ap, ◌∙◌}
 use Rattle.std.specs.Option.{option_map}
-use Rattle.graphql_type_folding.proofs.FiledKinds.{lookup_kind}
+use Rattle.graphql_type_index.proofs.FiledKinds.{lookup_kind}
 use Rattle.graphql_type_folding.proofs.seen.Own.kind.Goals as goal
 
 pub returns-in-None : goal.returns-in-None

@@ -1,8 +1,8 @@
 use Rattle.std.proofs.Common.{◌<◌, ◌∷◌, [], ◌++◌, map, take, length, sym, ap, ◌∙◌, arith}
 use Rattle.graphql_folding.specs.in_definitions.DefinitionTree.{definition_tree}
 use Rattle.graphql_folding.specs.ListedView.{listed_view}
-use Rattle.graphql_type_folding.specs.DefinitionsOf.{definitions_of}
-use Rattle.graphql_type_folding.proofs.Listing.{definitions_more}
+use Rattle.graphql_type_index.specs.DefinitionsOf.{definitions_of}
+use Rattle.graphql_type_index.proofs.Listing.{definitions_more}
 use Rattle.graphql_type_folding.specs.Seen.{seen_of}
 use Rattle.graphql_type_folding.proofs.seen.Seen.of.Goals as goal
 

@@ -1,6 +1,6 @@
 use Rattle.std.proofs.Common.{◌≡◌, map, take}
 use Rattle.graphql_folding.specs.ListedView.{listed_view}
-use Rattle.graphql_type_folding.specs.DefinitionsOf.{definitions_of}
+use Rattle.graphql_type_index.specs.DefinitionsOf.{definitions_of}
 use Rattle.graphql_type_folding.specs.Seen.{seen_of}
 use Rattle.graphql_type_folding.specs.SeenView.{seen_view}
 use Rattle.graphql_type_folding.proofs.seen.Seen.of.Given as goal

@@ -11,7 +11,7 @@ use Rattle.graphql_folding.specs.in_components.Lists.{each_place_after, firsts, 
 use Rattle.graphql_folding.specs.in_schema_types.TypeParts.{TypeParts, TypeDefinition, type_here}
 use Rattle.graphql_folding.specs.Listed.{Definitions, type_name, types_in}
 use Rattle.graphql_folding.specs.in_schema_types.declared.type_kind.TypeKind.{TypeKind}
-use Rattle.graphql_type_folding.specs.Index.{Standing, standing_name, parts_here, standing_after, standing, first_of, first_filed, FiledEntries, AreFiled, NamedKind, filed_kind, text_kind}
+use Rattle.graphql_type_index.specs.Index.{Standing, standing_name, parts_here, standing_after, standing, first_of, first_filed, FiledEntries, AreFiled, NamedKind, filed_kind, text_kind}
 
 -- the firsts of what is made of each
 module _ {X Y : Type 0} (f : X → Y) (key : Y → List ℕ) where

@@ -5,11 +5,11 @@ use Rattle.graphql_folding.specs.in_definitions.DefinitionTree.{definition_tree}
 use Rattle.graphql_folding.specs.in_schema_types.TypeParts.{type_extension_here}
 use Rattle.graphql_folding.specs.Made.{defined_view}
 use Rattle.graphql_folding.specs.PartsView.{parts_view}
-use Rattle.graphql_type_folding.specs.declared.index.Index.{Index}
-use Rattle.graphql_type_folding.specs.Index.{parts_here, Files, FilesUnder}
-use Rattle.graphql_type_folding.proofs.Indexing.{filed_none, filed_one}
-use Rattle.graphql_type_folding.proofs.Extending.{defines_extends_none}
-use Rattle.graphql_type_folding.proofs.index.Index.file.Goals as goal
+use Rattle.graphql_type_index.specs.declared.index.Index.{Index}
+use Rattle.graphql_type_index.specs.Index.{parts_here, Files, FilesUnder}
+use Rattle.graphql_type_index.proofs.Indexing.{filed_none, filed_one}
+use Rattle.graphql_type_index.proofs.Extending.{defines_extends_none}
+use Rattle.graphql_type_index.proofs.index.Index.file.Goals as goal
 
 pub returns-in-Some : goal.returns-in-Some
 returns-in-Some c =

@@ -6,8 +6,8 @@ ghost use Rattle.graphql_folding.specs.in_definitions.DefinitionTree.{definition
 ghost use Rattle.graphql_folding.specs.in_schema_types.TypeView.{name_text};
 ghost use Rattle.graphql_folding.specs.ListedView.{listed_view};
 ghost use Rattle.graphql_folding.specs.PartsView.{parts_view};
-ghost use Rattle.graphql_type_folding.specs.DefinitionsOf.{definitions_of};
-ghost use Rattle.graphql_type_folding.specs.Index.{IsIndexOf, Files, FilesUnder, FilesRest};
+ghost use Rattle.graphql_type_index.specs.DefinitionsOf.{definitions_of};
+ghost use Rattle.graphql_type_index.specs.Index.{IsIndexOf, Files, FilesUnder, FilesRest};
 
 use graphql_folding::{
     Definition, Listed, Parts, TypeKind, extension_parts, insert_new, type_definition,

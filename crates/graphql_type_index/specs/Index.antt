@@ -11,8 +11,8 @@ use Rattle.graphql_folding.specs.in_components.Lists.{each_place_after, firsts}
 use Rattle.graphql_folding.specs.in_schema_types.TypeParts.{TypeParts, TypeDefinition, type_here, type_extension_here}
 use Rattle.graphql_folding.specs.in_schema_types.declared.type_kind.TypeKind.{TypeKind}
 use Rattle.graphql_folding.specs.Listed.{Definitions, Listed}
-use Rattle.graphql_type_folding.specs.declared.index.Filed.{Filed}
-use Rattle.graphql_type_folding.specs.declared.index.Index.{Index}
+use Rattle.graphql_type_index.specs.declared.index.Filed.{Filed}
+use Rattle.graphql_type_index.specs.declared.index.Index.{Index}
 
 -- ---- what a list has
 
@@ -100,6 +100,15 @@ FilesRest ds from old new = IsIndexOf (take from ds) old → IsIndexOf ds new
 -- behind these, one more is filed under its name
 abbrev pub FilesUnder : ℕ → TypeParts Place → FiledEntries → FiledEntries → Type 0
 FilesUnder position parts old new = (ss : List Standing) → AreFiled ss old → AreFiled (ss ++ record { position = position; parts = parts } ∷ []) new
+
+-- ---- extensions by name
+
+abbrev pub extends_name : List ℕ → Listed → Bool
+extends_name n l = option_map_or (λ parts. bytes_eq n parts.name.it) (type_extension_here l.definition) false
+
+-- the extensions of the types of that name, of every kind, in order
+abbrev pub extensions_named : List ℕ → List Listed → List Listed
+extensions_named n list = filter (extends_name n) list
 
 -- ---- reading by positions
 

@@ -16,11 +16,10 @@ use Rattle.graphql_folding.specs.in_schema_types.TypeParts.{TypeParts, TypeDefin
 use Rattle.graphql_folding.specs.Listed.{Definitions, Listed, type_name, types_in}
 use Rattle.graphql_folding.specs.PartsView.{parts_view}
 use Rattle.graphql_folding.specs.declared.parts.Parts.{Parts}
-use Rattle.graphql_type_folding.specs.declared.index.Filed.{Filed}
-use Rattle.graphql_type_folding.specs.DefinitionsOf.{definitions_of}
-use Rattle.graphql_type_folding.specs.Filing.{extensions_named}
-use Rattle.graphql_type_folding.specs.Index.{Standing, standing_name, parts_here, standing_after, standing, positions_named, first_of, first_filed, positions_of, FiledEntries, AreFiled, FilesUnder, listed_at, defined_at, extensions_under}
-use Rattle.graphql_type_folding.proofs.Under.{added_behind, added_new}
+use Rattle.graphql_type_index.specs.declared.index.Filed.{Filed}
+use Rattle.graphql_type_index.specs.DefinitionsOf.{definitions_of}
+use Rattle.graphql_type_index.specs.Index.{Standing, standing_name, parts_here, standing_after, standing, positions_named, first_of, first_filed, positions_of, FiledEntries, AreFiled, FilesUnder, listed_at, defined_at, extensions_under, extensions_named}
+use Rattle.graphql_type_index.proofs.Under.{added_behind, added_new}
 
 abbrev test : List ℕ → NameValue → Bool
 test n k = bytes_eq n k.text

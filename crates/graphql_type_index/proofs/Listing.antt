@@ -7,7 +7,7 @@ use Rattle.graphql_folding.specs.in_definitions.DefinitionTree.{definition_tree}
 use Rattle.graphql_folding.specs.Listed.{Definitions, listed, numbered}
 use Rattle.graphql_folding.specs.ListedView.{listed_view}
 use Rattle.graphql_folding.specs.declared.listed.Listed.{Listed as RustListed}
-use Rattle.graphql_type_folding.specs.DefinitionsOf.{definitions_of}
+use Rattle.graphql_type_index.specs.DefinitionsOf.{definitions_of}
 
 numbered_after : (first : ℕ) (before ds : Definitions) → definitions_of (each_place_after (λ b d. listed first b d ∷ []) before ds) ≡ ds
 numbered_after first before [] = refl

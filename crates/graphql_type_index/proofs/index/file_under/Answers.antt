@@ -1,7 +1,7 @@
 use Rattle.std.proofs.Common.{sym}
 use Rattle.std.proofs.lemmas.Result.{IfOk-weaker}
-use Rattle.graphql_type_folding.proofs.Indexing.{files_behind}
-use Rattle.graphql_type_folding.proofs.index.file_under.Goals as goal
+use Rattle.graphql_type_index.proofs.Indexing.{files_behind}
+use Rattle.graphql_type_index.proofs.index.file_under.Goals as goal
 
 pub returns-in-Some : goal.returns-in-Some
 returns-in-Some c =

@@ -1,10 +1,10 @@
 use Rattle.std.proofs.Common.{◌<◌, ◌≤◌, map, take, length, sym, subst, ◌∙◌, arith}
 use Rattle.std.proofs.lemmas.List.{length-map, length-take-le}
 use Rattle.graphql_folding.specs.ListedView.{listed_view}
-use Rattle.graphql_type_folding.specs.DefinitionsOf.{definitions_of}
-use Rattle.graphql_type_folding.specs.Index.{IsIndexOf}
-use Rattle.graphql_type_folding.proofs.Listing.{taken_more}
-use Rattle.graphql_type_folding.proofs.index.Index.file_rest.Goals as goal
+use Rattle.graphql_type_index.specs.DefinitionsOf.{definitions_of}
+use Rattle.graphql_type_index.specs.Index.{IsIndexOf}
+use Rattle.graphql_type_index.proofs.Listing.{taken_more}
+use Rattle.graphql_type_index.proofs.index.Index.file_rest.Goals as goal
 
 pub loop-position-preserved : goal.loop-position-preserved
 loop-position-preserved c = λ was.

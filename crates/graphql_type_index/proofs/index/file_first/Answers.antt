@@ -1,8 +1,8 @@
 use Rattle.std.proofs.Common.{refl}
 use Rattle.std.proofs.lemmas.Result.{IfOk-weaker}
-use Rattle.graphql_type_folding.specs.declared.index.Filed.{Filed}
-use Rattle.graphql_type_folding.proofs.Indexing.{files_first}
-use Rattle.graphql_type_folding.proofs.index.file_first.Goals as goal
+use Rattle.graphql_type_index.specs.declared.index.Filed.{Filed}
+use Rattle.graphql_type_index.proofs.Indexing.{files_first}
+use Rattle.graphql_type_index.proofs.index.file_first.Goals as goal
 
 pub returns : goal.returns
 returns c =
