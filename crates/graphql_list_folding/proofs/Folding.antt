@@ -7,7 +7,7 @@ use Rattle.graphql_names.specs.Placed.{Place}
 use Rattle.graphql_folding.proofs.in_components.Places.{not_in_nil, Contains-first}
 use Rattle.graphql_folding.specs.in_schema_types.SchemaTree.{SchemaTree}
 use Rattle.graphql_folding.specs.in_schema_types.TypeParts.{type_extension_here}
-use Rattle.graphql_folding.specs.Listed.{Definitions, Listed, numbered}
+use Rattle.graphql_folding.specs.Listed.{Definitions, Listed}
 use Rattle.graphql_built_in.specs.Table.{built_in_definitions}
 use Rattle.graphql_folding.specs.BuildErrors.{Fault, Fails, FoldingRules, Somewhere, DirectiveDefinitionCollisionAt, DuplicateRootOperationIn}
 use Rattle.graphql_folding.specs.Fold.{folded_directives}

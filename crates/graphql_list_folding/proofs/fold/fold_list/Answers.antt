@@ -1,18 +1,11 @@
-use Rattle.std.proofs.Common.{map, sym, subst}
+use Rattle.std.proofs.Common.{map, subst}
 use Rattle.graphql_folding.specs.in_schema_types.SchemaView.{schema_view}
 use Rattle.graphql_folding.specs.FaultView.{fault_of, faults_of}
 use Rattle.graphql_folding.specs.ListedView.{listed_view}
-use Rattle.graphql_type_index.specs.Index.{IsIndexOf}
 use Rattle.graphql_type_folding.specs.Misplaced.{TellsMisplaced}
 use Rattle.graphql_schema_folding.specs.ListFold.{definitions_of}
 use Rattle.graphql_list_folding.proofs.Folding.{folds_parts, folds_split, joined}
 use Rattle.graphql_list_folding.proofs.fold.fold_list.Goals as goal
-
-pub tell_misplaced-requires : goal.tell_misplaced-requires
-tell_misplaced-requires c = subst (λ l. IsIndexOf (definitions_of (map listed_view l)) c.args.index.now) (sym c.split_at.ensures.back) c.requires.indexed
-
-pub fold_types-requires : goal.fold_types-requires
-fold_types-requires c = subst (λ l. IsIndexOf (definitions_of (map listed_view l)) c.args.index.now) (sym c.split_at.ensures.back) c.requires.indexed
 
 pub returns : goal.returns
 returns c =
