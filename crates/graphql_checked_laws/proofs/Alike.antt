@@ -92,10 +92,13 @@ module _ (one other : CheckerValue) where
 -- ---- documents
 
 -- what is answered of a document that is accepted for sure
-no_answer : (answer : Bool) → answer ≡ false → (Ok {Bool} {CheckError} answer ≡ Ok true) ⊎ (Ok {Bool} {CheckError} answer ≡ Err Memory) → ⊥
-no_answer true e h = cc
-no_answer false e (inl h) = cc
-no_answer false e (inr h) = cc
+abbrev ToYes : Result Bool CheckError → Type 0
+ToYes answer = (answer ≡ Ok true) ⊎ (answer ≡ Err Memory)
+
+-- it is not no
+not_no : ToYes (Ok false) → ⊥
+not_no (inl h) = cc
+not_no (inr h) = cc
 
 module _ (a b : CheckedSchemaValue) (document : Text) where
   pub agree : (one other : Bool) → IsAnswerOver a document one → IsAnswerOver b document other → IsCompleteOver a document (Ok one) → IsCompleteOver b document (Ok other) → EqualSchemasAgree a b document one other
@@ -103,7 +106,7 @@ module _ (a b : CheckedSchemaValue) (document : Text) where
   agree false false x y p q equal nesting bounds other_bounds = refl
   agree true false x y p q equal nesting bounds other_bounds =
       let same = equal_accept a.schema b.schema equal a.nesting a.number b.number bounds.numbered other_bounds.numbered document in
-      absurd (no_answer false refl (q (other_bounds.certain (subst (λ n. IsDocumentAccepted b.schema n b.number document) nesting (same.0 x)))))
+      absurd (not_no (q (other_bounds.certain (subst (λ n. IsDocumentAccepted b.schema n b.number document) nesting (same.0 x)))))
   agree false true x y p q equal nesting bounds other_bounds =
       let same = equal_accept a.schema b.schema equal a.nesting a.number b.number bounds.numbered other_bounds.numbered document in
-      absurd (no_answer false refl (p (bounds.certain (same.1 (subst (λ n. IsDocumentAccepted b.schema n b.number document) (sym nesting) y)))))
+      absurd (not_no (p (bounds.certain (same.1 (subst (λ n. IsDocumentAccepted b.schema n b.number document) (sym nesting) y)))))
