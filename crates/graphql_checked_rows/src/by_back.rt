@@ -1,9 +1,9 @@
 //! The road back: what an accepted pair is written as is accepted, and is written again with the same bytes.
 
-use crate::asked::{Asked, asked_of, layouts, push_texts};
+use crate::asked::{Asked, layouts};
 use crate::by_calls::{push_refusal, schema_of};
-use graphql_checked::{CheckedDocument, Layout, Refusal};
-use graphql_row_files::{Case, Lines, Problem, Tally, Way, compare, text_of};
+use graphql_checked::{CheckedDocument, CheckedSchema, Layout, Refusal};
+use graphql_row_files::{Case, Lines, Problem, Tally, Way, compare};
 use std::alloc::{AllocError, Global};
 
 /// What an accepted pair is written as, under the layout of this name.
@@ -23,24 +23,58 @@ impl Drop for Pair {
     }
 }
 
-/// Judges, where the row wants the pair accepted, what it is written as under each layout.
+/// Judges what the pair is written as under each layout. The pair must be accepted.
 pub(crate) fn by_back(
     alloc: Global,
     case: Case<'_>,
     way: Way<'_>,
+    asked: Asked,
+    schemas: &[&str],
+    document: &str,
     tally: &mut Tally,
 ) -> Result<(), Problem> {
-    if case.status != "0" {
-        return Ok(());
-    }
-    let asked = asked_of(case, way)?;
-    let document = text_of(case, way.document)?;
-    let mut schemas = Vec::new(alloc);
-    push_texts(case, &case.given.schemas, &mut schemas)?;
     let mut pairs = Vec::new(alloc);
-    match push_pairs(alloc, &schemas, document, asked, &mut pairs) {
+    match push_pairs(alloc, schemas, document, asked, &mut pairs) {
         Ok(()) => from_each(alloc, case, way, asked, &pairs, tally),
-        Err(refusal) => compare_refusal(alloc, case, way, "given", &refusal, tally),
+        Err(refusal) => compare_refusal(case, way, &refusal, tally),
+    }
+}
+
+/// Judges each of the written pairs.
+fn from_each(
+    alloc: Global,
+    case: Case<'_>,
+    way: Way<'_>,
+    asked: Asked,
+    pairs: &[Pair],
+    tally: &mut Tally,
+) -> Result<(), Problem> {
+    for from in pairs {
+        let way = Way {
+            call: from.name,
+            document: from.document.as_bytes(),
+            ..way
+        };
+        back_from(alloc, case, way, asked, from, pairs, tally)?;
+    }
+    Ok(())
+}
+
+/// Judges a written pair: it is accepted, and is written again as all of them.
+fn back_from(
+    alloc: Global,
+    case: Case<'_>,
+    way: Way<'_>,
+    asked: Asked,
+    from: &Pair,
+    pairs: &[Pair],
+    tally: &mut Tally,
+) -> Result<(), Problem> {
+    let schema = from.schema.as_str();
+    let mut again = Vec::new(alloc);
+    match push_pairs(alloc, &[schema], from.document.as_str(), asked, &mut again) {
+        Ok(()) => compare_each(alloc, case, way, pairs, &again, tally),
+        Err(refusal) => compare_refusal(case, way, &refusal, tally),
     }
 }
 
@@ -52,15 +86,33 @@ fn push_pairs(
     asked: Asked,
     pairs: &mut Vec<Pair>,
 ) -> Result<(), Refusal> {
-    let schema = schema_of(alloc, schemas, asked)?;
-    let document = schema.check(document)?;
+    match schema_of(alloc, schemas, asked) {
+        Ok(schema) => push_checked(&schema, document, pairs),
+        Err(refusal) => Err(refusal),
+    }
+}
+
+/// Adds what the schema and the document are written as under each layout, if that is accepted.
+fn push_checked(
+    schema: &CheckedSchema,
+    document: &str,
+    pairs: &mut Vec<Pair>,
+) -> Result<(), Refusal> {
+    match schema.check(document) {
+        Ok(document) => Ok(push_written(&document, pairs)?),
+        Err(refusal) => Err(refusal),
+    }
+}
+
+/// Adds what the document and its schema are written as under each layout.
+fn push_written(document: &CheckedDocument<'_>, pairs: &mut Vec<Pair>) -> Result<(), AllocError> {
     for (name, layout) in layouts() {
-        push_pair(&document, name, layout, pairs)?;
+        push_pair(document, name, layout, pairs)?;
     }
     Ok(())
 }
 
-/// Adds what the pair is written as under the layout.
+/// Adds what the document and its schema are written as under the layout.
 fn push_pair(
     document: &CheckedDocument<'_>,
     name: &'static str,
@@ -77,83 +129,62 @@ fn push_pair(
     Ok(())
 }
 
-/// Judges each written pair: it is accepted, and is written again as all of them.
-fn from_each(
-    alloc: Global,
-    case: Case<'_>,
-    way: Way<'_>,
-    asked: Asked,
-    pairs: &[Pair],
-    tally: &mut Tally,
-) -> Result<(), Problem> {
-    for from in pairs {
-        let document = from.document.as_str();
-        let way = Way {
-            document: document.as_bytes(),
-            ..way
-        };
-        let mut again = Vec::new(alloc);
-        match push_pairs(alloc, &[from.schema.as_str()], document, asked, &mut again) {
-            Ok(()) => compare_each(alloc, case, way, from.name, pairs, &again, tally)?,
-            Err(refusal) => compare_refusal(alloc, case, way, from.name, &refusal, tally)?,
-        }
-    }
-    Ok(())
-}
-
-/// Compares each of these pairs, which were read under the layout of the name `from`, with the first of that layout.
+/// Compares each of the pairs that were written again with the first of its layout.
 fn compare_each(
     alloc: Global,
     case: Case<'_>,
     way: Way<'_>,
-    from: &str,
     firsts: &[Pair],
     again: &[Pair],
     tally: &mut Tally,
 ) -> Result<(), Problem> {
     for (first, pair) in firsts.iter().zip(again) {
-        compare_pair(alloc, case, way, from, first, pair, tally)?;
+        compare_pair(alloc, case, way, first, pair, tally)?;
     }
     Ok(())
 }
 
-/// Compares a pair with the first of that layout.
+/// Compares a pair with the first of its layout: the answer that is wanted.
 fn compare_pair(
     alloc: Global,
     case: Case<'_>,
     way: Way<'_>,
-    from: &str,
     first: &Pair,
     pair: &Pair,
     tally: &mut Tally,
 ) -> Result<(), Problem> {
-    let mut call = Lines::new(alloc);
-    call.show_between("back, read as ", &from, "");
-    call.show_between(" and written as ", &first.name, ",");
     let mut out = Lines::new(alloc);
     out.show_between(&first.schema, &"\n", &first.document);
-    tally.answer.status.put("0");
-    tally
-        .answer
-        .text
-        .show_between(&pair.schema, &"\n", &pair.document);
-    let call = call.as_str();
     let out = out.as_str().as_bytes();
-    compare(Case { out, ..case }, Way { call, ..way }, tally)
+    compare_written(alloc, Case { out, ..case }, way, pair, tally)
 }
 
-/// Judges that the pair read under the layout of this name is refused, where the row wants it accepted.
-fn compare_refusal(
+/// Compares a pair that was written again with what is wanted.
+fn compare_written(
     alloc: Global,
     case: Case<'_>,
     way: Way<'_>,
-    from: &str,
-    refusal: &Refusal,
+    pair: &Pair,
     tally: &mut Tally,
 ) -> Result<(), Problem> {
     let mut call = Lines::new(alloc);
-    call.show_between("back, read as ", &from, ",");
-    push_refusal(refusal, &mut tally.answer);
+    call.show_between(way.call, &" to ", pair.name);
     let call = call.as_str();
+    let answer = &mut tally.answer;
+    answer.status.put("0");
+    answer
+        .text
+        .show_between(&pair.schema, &"\n", &pair.document);
     compare(case, Way { call, ..way }, tally)
+}
+
+/// Tells that a pair is refused, where the row wants it accepted.
+fn compare_refusal(
+    case: Case<'_>,
+    way: Way<'_>,
+    refusal: &Refusal,
+    tally: &mut Tally,
+) -> Result<(), Problem> {
+    push_refusal(refusal, &mut tally.answer);
+    compare(case, way, tally)
 }

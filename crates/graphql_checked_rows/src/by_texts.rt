@@ -1,10 +1,10 @@
 //! Rows of schema texts and documents.
 
-use crate::asked::{asked_of, push_texts};
+use crate::asked::{Asked, asked_of, push_texts};
 use crate::by_back::by_back;
 use crate::by_calls::{push_calls, push_check_texts, push_series};
 use crate::by_run::by_run;
-use graphql_row_files::{Answer, Case, Problem, Tally, Way, compare, text_of};
+use graphql_row_files::{Case, Problem, Tally, Way, compare, text_of};
 use std::alloc::Global;
 
 /// Judges the row under each of its limits.
@@ -54,22 +54,24 @@ fn by_documents(
 fn by_call(alloc: Global, case: Case<'_>, way: Way<'_>, tally: &mut Tally) -> Result<(), Problem> {
     match case.call {
         "run" => by_run(alloc, case, way, tally),
-        "all" => {
-            by_run(alloc, case, way, tally)?;
-            judge_call(alloc, case, "calls", way, tally)?;
-            judge_call(alloc, case, "check_texts", way, tally)?;
-            by_back(alloc, case, way, tally)
-        }
+        "all" => by_all(alloc, case, way, tally),
         "back" => {
             judge_call(alloc, case, call_before_back(case.out), way, tally)?;
-            by_back(alloc, case, way, tally)
+            judge_back(alloc, case, way, tally)
         }
         _ => judge_call(alloc, case, case.call, way, tally),
     }
 }
 
-/// Judges the answer of `check_texts`, or the one call by call. `check_texts` writes no texts: of those accepted the
-/// row's first line is wanted.
+/// Judges the answer of each call, and the road back.
+fn by_all(alloc: Global, case: Case<'_>, way: Way<'_>, tally: &mut Tally) -> Result<(), Problem> {
+    by_run(alloc, case, way, tally)?;
+    judge_call(alloc, case, "calls", way, tally)?;
+    judge_call(alloc, case, "check_texts", way, tally)?;
+    judge_back(alloc, case, way, tally)
+}
+
+/// Judges the texts by a call that takes them whole.
 fn judge_call(
     alloc: Global,
     case: Case<'_>,
@@ -78,32 +80,50 @@ fn judge_call(
     tally: &mut Tally,
 ) -> Result<(), Problem> {
     let way = Way { call, ..way };
-    push_answer(alloc, case, way, &mut tally.answer)?;
-    let out = if call == "calls" {
-        case.out
-    } else {
-        first_line(case.out)
-    };
-    compare(Case { out, ..case }, way, tally)
+    let document = text_of(case, way.document)?;
+    let asked = asked_of(case, way)?;
+    let mut schemas = Vec::new(alloc);
+    push_texts(case, &case.given.schemas, &mut schemas)?;
+    judge_texts(alloc, case, way, asked, &schemas, document, tally)
 }
 
-/// Adds what `check_texts` answers, or the calls.
-fn push_answer(
+/// Judges the answer of `check_texts`, the one call by call, or the road back. `check_texts` writes no texts: of those
+/// accepted the row's first line is wanted.
+fn judge_texts(
     alloc: Global,
     case: Case<'_>,
     way: Way<'_>,
-    answer: &mut Answer,
+    asked: Asked,
+    schemas: &[&str],
+    document: &str,
+    tally: &mut Tally,
 ) -> Result<(), Problem> {
-    let document = text_of(case, way.document)?;
-    let mut schemas = Vec::new(alloc);
-    push_texts(case, &case.given.schemas, &mut schemas)?;
-    let asked = asked_of(case, way)?;
-    if way.call == "calls" {
-        push_calls(alloc, &schemas, document, asked, answer);
-    } else {
-        push_check_texts(alloc, &schemas, document, asked, answer);
+    match way.call {
+        "calls" => {
+            push_calls(alloc, schemas, document, asked, &mut tally.answer);
+            compare(case, way, tally)
+        }
+        "back" => by_back(alloc, case, way, asked, schemas, document, tally),
+        _ => {
+            push_check_texts(alloc, schemas, document, asked, &mut tally.answer);
+            let out = first_line(case.out);
+            compare(Case { out, ..case }, way, tally)
+        }
     }
-    Ok(())
+}
+
+/// Judges the road back, where the row wants the pair accepted.
+fn judge_back(
+    alloc: Global,
+    case: Case<'_>,
+    way: Way<'_>,
+    tally: &mut Tally,
+) -> Result<(), Problem> {
+    if case.status == "0" {
+        judge_call(alloc, case, "back", way, tally)
+    } else {
+        Ok(())
+    }
 }
 
 /// The call that answers before the road back: one that writes texts, where the row wants more than the line `accepted`.
