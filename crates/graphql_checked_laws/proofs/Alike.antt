@@ -1,21 +1,25 @@
 -- Lemmas on answers over texts that are accepted alike, and over schemas that are equal.
-use Rattle.std.proofs.Common.{◌≡◌, ◌↔◌, ◌⊎◌, ℕ, Bool, true, false, List, Result, Ok, Err, inl, inr, refl, sym, ap, subst, ◌∙◌}
+use Rattle.std.proofs.Common.{◌≡◌, ◌↔◌, ◌⊎◌, List, Result, Ok, Err, inl, inr, sym, ap, subst, ◌∙◌}
+use Rattle.std.specs.Prelude.{IfOk, IfErr}
 use Rattle.graphql_rule_definitions.specs.Laws.{AreEqual}
 use Rattle.graphql_rearranging_laws.specs.Permuting.{IsPermuted}
 use Rattle.graphql_verdict.specs.Texts.{Text, Terms}
 use Rattle.graphql_verdict.specs.Judge.{schema_at_hand, AreSchemasCertain, IsAccepted, IsCertain, IsDocumentAccepted}
-use Rattle.graphql_verdict.specs.Out.{Out, Layout, layout_text}
-use Rattle.graphql_verdict_laws.specs.Rearranged.{AreRearranged, AreCut, AreNumbered}
+use Rattle.graphql_verdict.specs.Out.{Out, layout_text}
+use Rattle.graphql_verdict_laws.specs.Rearranged.{AreRearranged, AreCut, AreNumbered, AreAcceptedAlike}
 use Rattle.graphql_verdict_laws.proofs.AnyNumber.{equal_accept}
 use Rattle.graphql_verdict_laws.proofs.Rearranged.{all_one, rearranging, cutting}
 use Rattle.graphql_checked.specs.CheckerValue.{CheckerValue, CheckedSchemaValue, IsCheckedSchemaOf}
 use Rattle.graphql_checked.specs.Verdicts.{IsVerdict}
 use Rattle.graphql_faults.specs.declared.diagnostic_list.DiagnosticList.{DiagnosticList}
+use Rattle.graphql_checked.specs.declared.refusal.Refusal.{Refusal}
+use Rattle.graphql_checked.specs.declared.refusal.Refusal.TheVariants as refusal
 use Rattle.graphql_checked.specs.declared.verdict.Verdict.{Verdict}
 use Rattle.graphql_checked.specs.declared.verdict.Verdict.TheVariants.{Accepted, Refused}
 use Rattle.graphql_checked.specs.declared.verdict.CheckError.{CheckError}
 use Rattle.graphql_checked.specs.declared.verdict.CheckError.TheVariants.{Memory}
-use Rattle.graphql_checked_laws.specs.Alike.{SameVerdict, PassesNoBound, AreRearrangedSchemas, AreCutSchemas, AreRearrangedTexts, OneIsCertain, PassesNoBoundOver, IsAnswerOver, IsCompleteOver, EqualSchemasAgree}
+use Rattle.graphql_checked_laws.specs.Answers.{AnswersFinish}
+use Rattle.graphql_checked_laws.specs.Alike.{SameVerdict, PassesNoBound, AreAnsweredAlike, VerdictsOfRearranged, VerdictsOfCut, AreRearrangedSchemas, AreCutSchemas, FirstIsCertain, FinishAlike, SchemasOfRearranged, SchemasOfCut, DocumentsOverEqual}
 
 -- ---- verdicts
 
@@ -36,6 +40,18 @@ module _ (terms : Terms) (texts others : List Text) (document : Text) (same : Is
   same_verdict Accepted (Refused list) a b first second = not_refused list (second (other_bounds.certain (same.0 a)))
   same_verdict (Refused list) Accepted a b first second = not_refused list (first (bounds.certain (same.1 b)))
   same_verdict (Refused list) (Refused other) a b first second = tt
+
+answered : (terms : Terms) (texts others : List Text) → AreAcceptedAlike terms texts others → AreAnsweredAlike terms texts others
+answered terms texts others same document (Err e) other x y bounds other_bounds = tt
+answered terms texts others same document (Ok v) (Err e) x y bounds other_bounds = tt
+answered terms texts others same document (Ok v) (Ok w) x y bounds other_bounds =
+    same_verdict terms texts others document (same.pairs bounds.numbered other_bounds.numbered document) bounds other_bounds v w x.verdict y.verdict x.complete y.complete
+
+pub verdicts_of_rearranged : VerdictsOfRearranged
+verdicts_of_rearranged terms texts others same = answered terms texts others (rearranging terms texts others same).accepted
+
+pub verdicts_of_cut : VerdictsOfCut
+verdicts_of_cut terms texts others same = answered terms texts others (cutting terms texts others same).accepted
 
 -- ---- schemas
 
@@ -66,47 +82,42 @@ module _ (terms : Terms) (texts others : List Text) (a b : CheckedSchemaValue) (
         written = λ layout. ap (layout_text layout) first ∙ law.texts_written layout ∙ sym (ap (layout_text layout) second);
       }
 
-module _ (one other : CheckerValue) where
-  -- the same of two checkers on the same terms
-  pub rearranged_of : (a b : CheckedSchemaValue) → IsCheckedSchemaOf one.terms one.texts a → IsCheckedSchemaOf other.terms other.texts b → AreRearrangedTexts one other → AreRearrangedSchemas a b
-  rearranged_of a b is_a is_b same = rearranged one.terms one.texts other.texts a b is_a (subst (λ t. IsCheckedSchemaOf t other.texts b) (sym same.0) is_b) same.1
-
-  pub cut_of : (a b : CheckedSchemaValue) → IsCheckedSchemaOf one.terms one.texts a → IsCheckedSchemaOf other.terms other.texts b → one.terms ≡ other.terms → AreCut one.terms one.texts other.texts → AreCutSchemas a b
-  cut_of a b is_a is_b terms same = cut one.terms one.texts other.texts a b is_a (subst (λ t. IsCheckedSchemaOf t other.texts b) (sym terms) is_b) same
-
-  -- where the texts of one are accepted for sure, those of both are
-  both_certain : AreRearrangedTexts one other → OneIsCertain one other → AreSchemasCertain one.terms one.texts ↔ AreSchemasCertain one.terms other.texts
+module _ (one other : CheckerValue) (terms : one.terms ≡ other.terms) where
+  -- where the texts of the first are accepted for sure, so are those of the second
+  both_certain : AreAcceptedAlike one.terms one.texts other.texts → FirstIsCertain one other → AreSchemasCertain other.terms other.texts
   both_certain same bounds =
-      (rearranging one.terms one.texts other.texts same.1).accepted.schemas_for_sure bounds.one_numbered (subst (λ t. AreNumbered t other.texts) (sym same.0) bounds.other_numbered)
+      subst (λ t. AreSchemasCertain t other.texts) terms
+      ((same.schemas_for_sure bounds.numbered (subst (λ t. AreNumbered t other.texts) (sym terms) bounds.other_numbered)).0 bounds.certain)
 
-  pub first_certain : AreRearrangedTexts one other → OneIsCertain one other → AreSchemasCertain one.terms one.texts
-  first_certain same bounds = by bounds.certain
-    where
-      by : AreSchemasCertain one.terms one.texts ⊎ AreSchemasCertain other.terms other.texts → AreSchemasCertain one.terms one.texts
-      by (inl h) = h
-      by (inr h) = (both_certain same bounds).1 (subst (λ t. AreSchemasCertain t other.texts) (sym same.0) h)
+  module _ (Same : CheckedSchemaValue → CheckedSchemaValue → Type 0) (accepted : AreAcceptedAlike one.terms one.texts other.texts)
+      (same : (a b : CheckedSchemaValue) → IsCheckedSchemaOf one.terms one.texts a → IsCheckedSchemaOf one.terms other.texts b → Same a b) where
+    both : (a b : Result CheckedSchemaValue Refusal) → AnswersFinish one a → AnswersFinish other b → IfOk a (λ s. IfOk b (λ t. Same s t))
+    both (Err r) b x y = tt
+    both (Ok s) (Err r) x y = tt
+    both (Ok s) (Ok t) x y = same s t x.schema (subst (λ u. IsCheckedSchemaOf u other.texts t) (sym terms) y.schema)
 
-  pub second_certain : AreRearrangedTexts one other → OneIsCertain one other → AreSchemasCertain other.terms other.texts
-  second_certain same bounds = subst (λ t. AreSchemasCertain t other.texts) same.0 ((both_certain same bounds).0 (first_certain same bounds))
+    second : (b : Result CheckedSchemaValue Refusal) → AnswersFinish other b → FirstIsCertain one other → IfErr b (λ r. r ≡ refusal.Memory)
+    second (Ok t) y bounds = tt
+    second (Err r) y bounds = y.complete bounds.other_runs (both_certain accepted bounds)
+
+    finish_alike : FinishAlike Same one other
+    finish_alike a b x y = (both a b x y, second b y)
+
+pub schemas_of_rearranged : SchemasOfRearranged
+schemas_of_rearranged one other are =
+    finish_alike one other are.terms AreRearrangedSchemas (rearranging one.terms one.texts other.texts are.texts).accepted
+    (λ a b is_a is_b. rearranged one.terms one.texts other.texts a b is_a is_b are.texts)
+
+pub schemas_of_cut : SchemasOfCut
+schemas_of_cut one other are =
+    finish_alike one other are.terms AreCutSchemas (cutting one.terms one.texts other.texts are.texts).accepted
+    (λ a b is_a is_b. cut one.terms one.texts other.texts a b is_a is_b are.texts)
 
 -- ---- documents
 
--- what is answered of a document that is accepted for sure
-abbrev ToYes : Result Bool CheckError → Type 0
-ToYes answer = (answer ≡ Ok true) ⊎ (answer ≡ Err Memory)
-
--- it is not no
-not_no : ToYes (Ok false) → ⊥
-not_no (inl h) = cc
-not_no (inr h) = cc
-
-module _ (a b : CheckedSchemaValue) (document : Text) where
-  pub agree : (one other : Bool) → IsAnswerOver a document one → IsAnswerOver b document other → IsCompleteOver a document (Ok one) → IsCompleteOver b document (Ok other) → EqualSchemasAgree a b document one other
-  agree true true x y p q equal nesting bounds other_bounds = refl
-  agree false false x y p q equal nesting bounds other_bounds = refl
-  agree true false x y p q equal nesting bounds other_bounds =
-      let same = equal_accept a.schema b.schema equal a.nesting a.number b.number bounds.numbered other_bounds.numbered document in
-      absurd (not_no (q (other_bounds.certain (subst (λ n. IsDocumentAccepted b.schema n b.number document) nesting (same.0 x)))))
-  agree false true x y p q equal nesting bounds other_bounds =
-      let same = equal_accept a.schema b.schema equal a.nesting a.number b.number bounds.numbered other_bounds.numbered document in
-      absurd (not_no (p (bounds.certain (same.1 (subst (λ n. IsDocumentAccepted b.schema n b.number document) (sym nesting) y)))))
+pub documents_over_equal : DocumentsOverEqual
+documents_over_equal a b equal nesting document bounds (Err r) other x y = tt
+documents_over_equal a b equal nesting document bounds (Ok d) (Ok e) x y = tt
+documents_over_equal a b equal nesting document bounds (Ok d) (Err r) x y =
+    let same = equal_accept a.schema b.schema equal a.nesting a.number b.number bounds.numbered bounds.other_numbered document in
+    y.complete (bounds.certain (subst (λ n. IsDocumentAccepted b.schema n b.number document) nesting (same.0 x.accepted.accepted)))

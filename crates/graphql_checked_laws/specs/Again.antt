@@ -1,6 +1,8 @@
--- The road back, by calls of the checker: what is written of an accepted pair, under any plain layout, is checked again, is equal,
+-- The road back, by what the checker answers: what is written of an accepted pair, under any plain layout, is checked again, is equal,
 -- and is written as it was (GraphQL, October 2021, sections 2, 3 and 5).
-use Rattle.std.specs.Prelude.{◌≡◌, ◌≢◌, ◌↔◌, ◌⊎◌, ℕ, List, [], ◌∷◌, Result, Ok, Err}
+use Rattle.std.specs.Prelude.{◌≡◌, ◌≢◌, ◌↔◌, ◌⊎◌, false, ℕ, List, [], ◌∷◌, Result, Ok, Err, IfOk, IfErr}
+use Rattle.graphql_names.specs.Placed.{Place}
+use Rattle.graphql_meant_documents.specs.MeantTree.{MeantDocument}
 use Rattle.graphql_meant_documents.specs.Unplaced.{unplaced_document}
 use Rattle.graphql_rule_definitions.specs.Laws.{AreEqual}
 use Rattle.graphql_verdict.specs.Texts.{Text, Terms}
@@ -9,18 +11,14 @@ use Rattle.graphql_verdict.specs.Out.{Layout, layout_text}
 use Rattle.graphql_verdict.specs.Answer.{WritesDocument}
 use Rattle.graphql_verdict_laws.specs.AnyNumber.{IsNumber}
 use Rattle.graphql_road_back_laws.specs.RoadBack.{IsPlainLayout}
-use Rattle.graphql_checked.specs.CheckerValue.{CheckedSchemaValue, CheckedDocumentValue, IsCheckedSchemaOf, IsCheckedDocumentOf}
-use Rattle.graphql_checked.specs.Verdicts.{IsVerdict}
+use Rattle.graphql_checked.specs.CheckerValue.{CheckerValue, CheckedSchemaValue, IsCheckedSchemaOf, IsCheckedDocumentOf}
 use Rattle.graphql_checked.specs.declared.refusal.Refusal.{Refusal}
 use Rattle.graphql_checked.specs.declared.refusal.Refusal.TheVariants as refusal
 use Rattle.graphql_checked.specs.declared.verdict.Verdict.{Verdict}
 use Rattle.graphql_checked.specs.declared.verdict.Verdict.TheVariants.{Accepted}
 use Rattle.graphql_checked.specs.declared.verdict.CheckError.{CheckError}
 use Rattle.graphql_checked.specs.declared.verdict.CheckError.TheVariants.{Memory}
-
--- the terms of a checker with this limit, and with these first numbers of texts and of extensions
-abbrev pub terms_from : ℕ → ℕ → ℕ → Terms
-terms_from nesting files extensions = record { nesting = nesting; first_text = files; first_extension = extensions }
+use Rattle.graphql_checked_laws.specs.Answers.{AnswersTexts, AnswersFinish, AnswersCheck}
 
 -- ---- the schema
 
@@ -30,69 +28,59 @@ pub record SchemasAreSame (first again : CheckedSchemaValue) : Type 0 where
   pub nesting : first.nesting ≡ again.nesting
   pub written : (layout : Layout) → layout_text layout again.written ≡ layout_text layout first.written
 
-module _ (terms : Terms) (layout : Layout) (first : CheckedSchemaValue) where
-  -- The first schema is that of these texts, on these terms; no text has the number of what is built in; and its own
-  -- is under a plain layout.
-  pub record IsWrittenPlain (schemas : List Text) : Type 0 where
-    pub is : IsCheckedSchemaOf terms schemas first
-    pub elsewhere : terms.first_text ≢ 0
-    pub plain : IsPlainLayout layout
+-- The schema is that of these texts, on these terms; no text has the number of what is built in; and its own is under a plain layout.
+pub record IsWrittenPlain (terms : Terms) (layout : Layout) (first : CheckedSchemaValue) (schemas : List Text) : Type 0 where
+  pub is : IsCheckedSchemaOf terms schemas first
+  pub elsewhere : terms.first_text ≢ 0
+  pub plain : IsPlainLayout layout
 
-  -- this is the schema of its text
-  abbrev pub IsSchemaOfWritten : CheckedSchemaValue → Type 0
-  IsSchemaOfWritten again = IsCheckedSchemaOf terms (layout_text layout first.written ∷ []) again
+-- a checker on these terms that was given the text which is written of the schema
+abbrev pub checker_of_written : Terms → Layout → CheckedSchemaValue → CheckerValue
+checker_of_written terms layout first = record { terms = terms; texts = layout_text layout first.written ∷ []; failed = false }
 
-  -- it is the same
-  abbrev pub IsSchemaAgain : CheckedSchemaValue → Type 0
-  IsSchemaAgain again = (schemas : List Text) → IsWrittenPlain schemas → SchemasAreSame first again
-
-  -- and there is one, unless memory ran out, if its texts are accepted for sure
-  abbrev pub IsSchemaRefusedAgain : Refusal → Type 0
-  IsSchemaRefusedAgain refused = (schemas : List Text) → IsWrittenPlain schemas → AreSchemasCertain terms schemas → refused ≡ refusal.Memory
+-- gives the same schema; and gives one, unless memory runs out, where the texts are accepted for sure
+abbrev pub SchemaAgain : Type 0
+SchemaAgain = (terms : Terms) (layout : Layout) (first : CheckedSchemaValue) (schemas : List Text) → IsWrittenPlain terms layout first schemas
+    → (answer : Result CheckedSchemaValue Refusal) → AnswersFinish (checker_of_written terms layout first) answer
+    → (IfOk answer (SchemasAreSame first)) × (AreSchemasCertain terms schemas → IfErr answer (λ r. r ≡ refusal.Memory))
 
 -- ---- the document
 
--- Both documents are equal, places aside, and in every layout they are written alike.
-pub record DocumentsAreSame (first again : CheckedDocumentValue) : Type 0 where
-  pub equal : unplaced_document first.document ≡ unplaced_document again.document
-  pub written : (layout : Layout) (bytes : List ℕ) → WritesDocument layout again.schema.number again.text bytes ↔ WritesDocument layout first.schema.number first.text bytes
+-- this is the text of the document, which was checked over the schema as this text
+abbrev pub IsTextOfWritten : Layout → CheckedSchemaValue → Text → Text → Type 0
+IsTextOfWritten layout schema document text = WritesDocument layout schema.number document text
 
--- this is the text of the document
-abbrev pub IsTextOfWritten : Layout → CheckedDocumentValue → Text → Type 0
-IsTextOfWritten layout first text = WritesDocument layout first.schema.number first.text text
+-- Both documents are equal, places aside, and in every layout the same is written of their texts.
+pub record DocumentsAreSame (schema : CheckedSchemaValue) (document : Text) (first : MeantDocument Place) (other : CheckedSchemaValue) (text : Text) (again : MeantDocument Place) : Type 0 where
+  pub equal : unplaced_document first ≡ unplaced_document again
+  pub written : (layout : Layout) (bytes : List ℕ) → WritesDocument layout other.number text bytes ↔ WritesDocument layout schema.number document bytes
 
-module _ (layout : Layout) (schema : CheckedSchemaValue) (first : CheckedDocumentValue) where
-  -- The first document is accepted over its schema, which is equal to the other one, with the same built in and the same limit; and
-  -- its own text is under a plain layout.
-  pub record IsWrittenPlainOver : Type 0 where
-    pub is : IsCheckedDocumentOf first.schema first.text first.document
-    pub equal : AreEqual first.schema.schema schema.schema
-    pub nesting : first.schema.nesting ≡ schema.nesting
-    pub plain : IsPlainLayout layout
+-- The document of this text is accepted over the schema; the other schema is equal, with the same built in and the same limit, and a
+-- number is left for a document over it; and this is the document's text under a plain layout.
+pub record IsWrittenPlainOver (layout : Layout) (schema : CheckedSchemaValue) (document : Text) (first : MeantDocument Place) (other : CheckedSchemaValue) (text : Text) : Type 0 where
+  pub is : IsCheckedDocumentOf schema document first
+  pub equal : AreEqual schema.schema other.schema
+  pub nesting : schema.nesting ≡ other.nesting
+  pub numbered : IsNumber other.number
+  pub plain : IsPlainLayout layout
+  pub written : IsTextOfWritten layout schema document text
 
-  -- the document of its text is the same
-  abbrev pub IsDocumentAgain : CheckedDocumentValue → Type 0
-  IsDocumentAgain again = IsWrittenPlainOver → DocumentsAreSame first again
-
-  -- and there is one, unless memory ran out, if a number is left for it and the first is accepted for sure
-  abbrev pub IsDocumentRefusedAgain : Refusal → Type 0
-  IsDocumentRefusedAgain refused = IsWrittenPlainOver → IsNumber schema.number
-      → IsDocumentCertain first.schema.schema first.schema.nesting first.schema.number first.text → refused ≡ refusal.Memory
+-- checked over the other schema, it is the same; and it is accepted, unless memory runs out, where the first is accepted for sure
+abbrev pub DocumentAgain : Type 0
+DocumentAgain = (layout : Layout) (schema : CheckedSchemaValue) (document : Text) (first : MeantDocument Place) (other : CheckedSchemaValue) (text : Text)
+    → IsWrittenPlainOver layout schema document first other text → (answer : Result (MeantDocument Place) Refusal) → AnswersCheck other text answer
+    → (IfOk answer (DocumentsAreSame schema document first other text)) × (IsDocumentCertain schema.schema schema.nesting schema.number document → IfErr answer (λ r. r ≡ refusal.Memory))
 
 -- ---- the pair
 
--- The document is accepted over the schema of these texts, on these terms, and for sure.
-pub record IsCertainPair (terms : Terms) (first : CheckedDocumentValue) (schemas : List Text) : Type 0 where
-  pub schema : IsCheckedSchemaOf terms schemas first.schema
-  pub document : IsCheckedDocumentOf first.schema first.text first.document
-  pub certain : IsCertain terms schemas first.text
+-- The document is accepted for sure over the schema of these texts, on these terms; no text has the number of what is built in.
+pub record IsCertainPair (terms : Terms) (schema : CheckedSchemaValue) (document : Text) (schemas : List Text) : Type 0 where
+  pub is : IsCheckedSchemaOf terms schemas schema
+  pub certain : IsCertain terms schemas document
+  pub elsewhere : terms.first_text ≢ 0
 
--- the verdict is right of what is written of the pair
-abbrev pub IsVerdictOfWritten : Terms → Layout → Layout → CheckedDocumentValue → Verdict → Type 0
-IsVerdictOfWritten terms schema_layout document_layout first verdict =
-    (text : Text) × (IsTextOfWritten document_layout first text × IsVerdict terms (layout_text schema_layout first.schema.written ∷ []) text verdict)
-
--- then what is written of the pair under plain layouts is accepted, unless memory ran out
-abbrev pub IsVerdictAgain : Terms → Layout → Layout → CheckedDocumentValue → Result Verdict CheckError → Type 0
-IsVerdictAgain terms schema_layout document_layout first answer = (schemas : List Text) → IsCertainPair terms first schemas
-    → IsPlainLayout schema_layout → IsPlainLayout document_layout → (answer ≡ Ok Accepted) ⊎ (answer ≡ Err Memory)
+-- what is written of the pair, each text under a plain layout of its own, is accepted, unless memory runs out
+abbrev pub PairAgain : Type 0
+PairAgain = (terms : Terms) (schema : CheckedSchemaValue) (document : Text) (schemas : List Text) → IsCertainPair terms schema document schemas
+    → (layout next : Layout) → IsPlainLayout layout → IsPlainLayout next → (text : Text) → IsTextOfWritten next schema document text
+    → (answer : Result Verdict CheckError) → AnswersTexts terms (layout_text layout schema.written ∷ []) text answer → (answer ≡ Ok Accepted) ⊎ (answer ≡ Err Memory)

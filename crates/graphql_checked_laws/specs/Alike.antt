@@ -1,13 +1,13 @@
 -- What the checker answers of schema texts that are rearranged, or cut in two ways, and of documents over equal schemas (GraphQL,
 -- October 2021, sections 2.2, 3 and 5).
-use Rattle.std.specs.Prelude.{◌≡◌, ◌⊎◌, Bool, true, false, List, Result, Ok, Err, IfOk}
+use Rattle.std.specs.Prelude.{◌≡◌, false, List, Result, IfOk, IfErr}
+use Rattle.graphql_names.specs.Placed.{Place}
+use Rattle.graphql_meant_documents.specs.MeantTree.{MeantDocument}
 use Rattle.graphql_rule_definitions.specs.Laws.{AreEqual}
 use Rattle.graphql_rearranging_laws.specs.Permuting.{IsPermuted}
 use Rattle.graphql_verdict.specs.Texts.{Text, Terms}
 use Rattle.graphql_verdict.specs.Judge.{IsAccepted, IsCertain, AreSchemasCertain, IsDocumentAccepted, IsDocumentCertain}
-use Rattle.graphql_verdict.specs.Says.{Fault}
 use Rattle.graphql_verdict.specs.Out.{Layout, layout_text}
-use Rattle.graphql_verdict.specs.Answer.{RefusesDocument}
 use Rattle.graphql_verdict_laws.specs.AnyNumber.{IsNumber}
 use Rattle.graphql_verdict_laws.specs.Rearranged.{AreRearranged, AreCut, AreNumbered, LeaveNumber}
 use Rattle.graphql_checked.specs.CheckerValue.{CheckerValue, CheckedSchemaValue}
@@ -16,7 +16,7 @@ use Rattle.graphql_checked.specs.declared.refusal.Refusal.TheVariants as refusal
 use Rattle.graphql_checked.specs.declared.verdict.Verdict.{Verdict}
 use Rattle.graphql_checked.specs.declared.verdict.Verdict.TheVariants.{Accepted, Refused}
 use Rattle.graphql_checked.specs.declared.verdict.CheckError.{CheckError}
-use Rattle.graphql_checked.specs.declared.verdict.CheckError.TheVariants.{Memory}
+use Rattle.graphql_checked_laws.specs.Answers.{AnswersTexts, AnswersFinish, AnswersCheck}
 
 -- ---- verdicts
 
@@ -32,16 +32,16 @@ pub record PassesNoBound (terms : Terms) (schemas : List Text) (document : Text)
   pub numbered : LeaveNumber terms schemas
   pub certain : IsAccepted terms schemas document → IsCertain terms schemas document
 
-module _ (terms : Terms) (texts others : List Text) (document : Text) (answer : Result (Verdict × Verdict) CheckError) where
-  -- where neither pair passes a bound, the verdicts are the same
-  abbrev pub Agree : Type 0
-  Agree = PassesNoBound terms texts document → PassesNoBound terms others document → IfOk answer (λ v. SameVerdict v.0 v.1)
+-- where neither pair passes a bound, and memory suffices for both, the verdicts are the same
+abbrev pub AreAnsweredAlike : Terms → List Text → List Text → Type 0
+AreAnsweredAlike terms texts others = (document : Text) (one other : Result Verdict CheckError) → AnswersTexts terms texts document one → AnswersTexts terms others document other
+    → PassesNoBound terms texts document → PassesNoBound terms others document → IfOk one (λ v. IfOk other (λ w. SameVerdict v w))
 
-  abbrev pub RearrangedAgree : Type 0
-  RearrangedAgree = AreRearranged terms texts others → Agree
+abbrev pub VerdictsOfRearranged : Type 0
+VerdictsOfRearranged = (terms : Terms) (texts others : List Text) → AreRearranged terms texts others → AreAnsweredAlike terms texts others
 
-  abbrev pub CutAgree : Type 0
-  CutAgree = AreCut terms texts others → Agree
+abbrev pub VerdictsOfCut : Type 0
+VerdictsOfCut = (terms : Terms) (texts others : List Text) → AreCut terms texts others → AreAnsweredAlike terms texts others
 
 -- ---- schemas
 
@@ -58,46 +58,40 @@ pub record AreCutSchemas (a b : CheckedSchemaValue) : Type 0 where
   pub nesting : a.nesting ≡ b.nesting
   pub written : (layout : Layout) → layout_text layout a.written ≡ layout_text layout b.written
 
-module _ (one other : CheckerValue) where
-  -- the checkers are on the same terms, and were given texts that are rearranged
-  abbrev pub AreRearrangedTexts : Type 0
-  AreRearrangedTexts = (one.terms ≡ other.terms) × AreRearranged one.terms one.texts other.texts
+-- Two checkers on the same terms, whose texts are related so.
+pub record AreOfTexts (Same : Terms → List Text → List Text → Type 0) (one other : CheckerValue) : Type 0 where
+  pub terms : one.terms ≡ other.terms
+  pub texts : Same one.terms one.texts other.texts
 
-  -- these are their schemas
-  abbrev pub RearrangedSchemas : CheckedSchemaValue → CheckedSchemaValue → Type 0
-  RearrangedSchemas a b = AreRearrangedTexts → AreRearrangedSchemas a b
+-- The checkers run, there is a number for each text, and the texts of the first are accepted for sure.
+pub record FirstIsCertain (one other : CheckerValue) : Type 0 where
+  pub runs : one.failed ≡ false
+  pub other_runs : other.failed ≡ false
+  pub numbered : AreNumbered one.terms one.texts
+  pub other_numbered : AreNumbered other.terms other.texts
+  pub certain : AreSchemasCertain one.terms one.texts
 
-  abbrev pub CutSchemas : CheckedSchemaValue → CheckedSchemaValue → Type 0
-  CutSchemas a b = one.terms ≡ other.terms → AreCut one.terms one.texts other.texts → AreCutSchemas a b
+-- their schemas are the same; and where the texts of one are accepted for sure, memory alone can keep the other from its schema
+abbrev pub FinishAlike : (CheckedSchemaValue → CheckedSchemaValue → Type 0) → CheckerValue → CheckerValue → Type 0
+FinishAlike Same one other = (a b : Result CheckedSchemaValue Refusal) → AnswersFinish one a → AnswersFinish other b
+    → (IfOk a (λ s. IfOk b (λ t. Same s t))) × (FirstIsCertain one other → IfErr b (λ r. r ≡ refusal.Memory))
 
-  -- Both run, there is a number for each text, and the texts of one are accepted for sure.
-  pub record OneIsCertain : Type 0 where
-    pub one_runs : one.failed ≡ false
-    pub other_runs : other.failed ≡ false
-    pub one_numbered : AreNumbered one.terms one.texts
-    pub other_numbered : AreNumbered other.terms other.texts
-    pub certain : AreSchemasCertain one.terms one.texts ⊎ AreSchemasCertain other.terms other.texts
+abbrev pub SchemasOfRearranged : Type 0
+SchemasOfRearranged = (one other : CheckerValue) → AreOfTexts AreRearranged one other → FinishAlike AreRearrangedSchemas one other
 
-  -- then no schema is missing, unless memory ran out
-  abbrev pub RearrangedRefusal : Refusal → Type 0
-  RearrangedRefusal refused = AreRearrangedTexts → OneIsCertain → refused ≡ refusal.Memory
+abbrev pub SchemasOfCut : Type 0
+SchemasOfCut = (one other : CheckerValue) → AreOfTexts AreCut one other → FinishAlike AreCutSchemas one other
 
 -- ---- documents over equal schemas
 
--- The document passes no bound over the schema: a number is left for it, and if it is accepted, it is for sure.
-pub record PassesNoBoundOver (schema : CheckedSchemaValue) (document : Text) : Type 0 where
-  pub numbered : IsNumber schema.number
-  pub certain : IsDocumentAccepted schema.schema schema.nesting schema.number document → IsDocumentCertain schema.schema schema.nesting schema.number document
+-- A number is left for a document over both, and what is accepted over the second is accepted for sure.
+pub record SecondPassesNoBound (a b : CheckedSchemaValue) (document : Text) : Type 0 where
+  pub numbered : IsNumber a.number
+  pub other_numbered : IsNumber b.number
+  pub certain : IsDocumentAccepted b.schema b.nesting b.number document → IsDocumentCertain b.schema b.nesting b.number document
 
--- it is accepted, or it is refused with some faults
-abbrev pub IsAnswerOver : CheckedSchemaValue → Text → Bool → Type 0
-IsAnswerOver schema document true = IsDocumentAccepted schema.schema schema.nesting schema.number document
-IsAnswerOver schema document false = (faults : List Fault) × RefusesDocument schema.schema schema.nesting schema.number document faults
-
--- if it is accepted for sure, that is the answer, unless memory ran out
-abbrev pub IsCompleteOver : CheckedSchemaValue → Text → Result Bool CheckError → Type 0
-IsCompleteOver schema document answer = IsDocumentCertain schema.schema schema.nesting schema.number document → (answer ≡ Ok true) ⊎ (answer ≡ Err Memory)
-
--- over equal schemas, within the same limit, the answers are the same where no bound is passed
-abbrev pub EqualSchemasAgree : CheckedSchemaValue → CheckedSchemaValue → Text → Bool → Bool → Type 0
-EqualSchemasAgree a b document one other = AreEqual a.schema b.schema → a.nesting ≡ b.nesting → PassesNoBoundOver a document → PassesNoBoundOver b document → one ≡ other
+-- what is accepted over one is accepted over the other, unless memory runs out
+abbrev pub DocumentsOverEqual : Type 0
+DocumentsOverEqual = (a b : CheckedSchemaValue) → AreEqual a.schema b.schema → a.nesting ≡ b.nesting → (document : Text) → SecondPassesNoBound a b document
+    → (one other : Result (MeantDocument Place) Refusal) → AnswersCheck a document one → AnswersCheck b document other
+    → IfOk one (λ d. IfErr other (λ r. r ≡ refusal.Memory))

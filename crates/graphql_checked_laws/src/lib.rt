@@ -1,22 +1,38 @@
-//! Laws of the checker, carried by its calls.
+//! Laws of the checker over what its calls answer, each the contract of a function that does nothing.
 //!
-//! Neither the verdict nor the written schema hangs on how schema texts are cut, or in which order unrelated definitions come:
-//! two lists of texts that are rearranged, or cut in two ways, get the same verdict ([`verdicts_over_both`]), equal schemas
-//! ([`schemas_of_both`]), and over these the same verdict on every document ([`accepted_over_both`]).
+//! Neither the verdict nor the written schema hangs on how schema texts are cut, or in which order unrelated definitions come
+//! (`specs/Alike.antt`). What is written of an accepted pair is a canonical text: checked again it is accepted, equal, and
+//! written as it was, in every layout (`specs/Again.antt`).
 //!
-//! What is written of an accepted pair is a canonical text: checked again it is accepted, equal, and written as it was, in
-//! every layout ([`schema_again`], [`document_again`], [`verdict_again`]).
-//!
-//! Each function does what its name says, by calls of `graphql_checked` alone; its contract is the law. What the laws ask of
-//! texts, and what they promise, stands in `specs/Alike.antt` and `specs/Again.antt`.
+//! The laws speak of all that `check_texts`, `Checker::finish` and `CheckedSchema::check` may answer by their contracts, which
+//! `specs/Answers.antt` puts together, call by call.
 #![tactic(auto)]
 
-mod documents;
-mod road_back;
-mod schemas;
-mod verdicts;
+ghost use Rattle.graphql_checked_laws.specs.Alike.{VerdictsOfRearranged, SchemasOfRearranged, VerdictsOfCut, SchemasOfCut, DocumentsOverEqual};
+ghost use Rattle.graphql_checked_laws.specs.Again.{SchemaAgain, DocumentAgain, PairAgain};
 
-pub use documents::{accepted_over_both, accepts};
-pub use road_back::{document_again, schema_again, verdict_again};
-pub use schemas::schemas_of_both;
-pub use verdicts::verdicts_over_both;
+/// Schema texts that are rearranged get the same verdict with every document, and equal schemas; and the same definitions are
+/// written of these, in some order.
+pub fn rearranged_texts_are_checked_alike()
+    ensures verdicts { VerdictsOfRearranged }
+    ensures schemas { SchemasOfRearranged }
+{}
+
+/// So do schema texts that are one list of definitions, cut in two ways; and the same is written of their schemas.
+pub fn cut_texts_are_checked_alike()
+    ensures verdicts { VerdictsOfCut }
+    ensures schemas { SchemasOfCut }
+{}
+
+/// Over checked schemas that are equal, with the same built in, each document is accepted by both or by neither.
+pub fn equal_schemas_check_alike()
+    ensures { DocumentsOverEqual }
+{}
+
+/// What is written of a checked schema, of a checked document, and of a pair that is accepted, is accepted again, and equal, and
+/// written as it was.
+pub fn what_is_written_is_checked_alike()
+    ensures schema { SchemaAgain }
+    ensures document { DocumentAgain }
+    ensures pair { PairAgain }
+{}
