@@ -1,3 +1,4 @@
 pub mod Answers
+pub mod Seen
 pub mod Alike
 pub mod Again

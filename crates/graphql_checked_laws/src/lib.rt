@@ -8,8 +8,12 @@
 //! `specs/Answers.antt` puts together, call by call.
 #![tactic(auto)]
 
+mod calls;
+
 ghost use Rattle.graphql_checked_laws.specs.Alike.{VerdictsOfRearranged, SchemasOfRearranged, VerdictsOfCut, SchemasOfCut, DocumentsOverEqual};
 ghost use Rattle.graphql_checked_laws.specs.Again.{SchemaAgain, DocumentAgain, PairAgain};
+
+pub use calls::{check, check_texts, finish};
 
 /// Schema texts that are rearranged get the same verdict with every document, and equal schemas; and the same definitions are
 /// written of these, in some order.
