@@ -141,17 +141,22 @@ class Specs:
             comment = []
 
 
+def named(items):
+    """The names between the braces of a `use`, each with the name under which it stands."""
+    names = []
+    for item in items.split(","):
+        name, _, alias = item.strip().partition(" as ")
+        if name:
+            names.append((name.strip(), (alias or name).strip()))
+    return names
+
+
 def import_of(text):
     """What a `use` names: the path, the names, each with the name under which it stands, and the alias of a module."""
     text = text.strip().rstrip(";")
     found = re.match(r"(\S+?)\.\{(.*)\}$", text)
     if found:
-        names = []
-        for item in found.group(2).split(","):
-            name, _, alias = item.strip().partition(" as ")
-            if name:
-                names.append((name.strip(), (alias or name).strip()))
-        return found.group(1), names, None
+        return found.group(1), named(found.group(2)), None
     path, _, alias = text.partition(" as ")
     return path.strip(), None, (alias or path.rsplit(".", 1)[-1]).strip()
 
@@ -398,12 +403,7 @@ def use_of(text):
     text = text.strip()
     found = re.match(r"(.+?)::\{(.*)\}$", text)
     if found:
-        names = []
-        for item in found.group(2).split(","):
-            name, _, alias = item.strip().partition(" as ")
-            if name:
-                names.append((name.strip(), (alias or name).strip()))
-        return found.group(1).strip(), names, None
+        return found.group(1).strip(), named(found.group(2)), None
     name, _, alias = text.partition(" as ")
     path, _, last = name.rpartition("::")
     return path, [(last.strip(), (alias or last).strip())], None
