@@ -1,12 +1,12 @@
 //! What equality of each tree means: exactly that the trees are the same, places and sources aside.
 ghost use Rattle.std.specs.Prelude.{◌≡◌, ◌↔◌, IsTrue};
-ghost use Rattle.graphql_definitions.specs.Descriptions.{AreSameDescriptions};
-ghost use Rattle.graphql_definitions.specs.in_type_members.TypeSystemTree.{enum_value_tree, field_definition_tree, unplaced_enum, unplaced_enum_value, unplaced_field_definition, unplaced_fields, unplaced_input_object, unplaced_scalar, unplaced_schema, unplaced_union};
-ghost use Rattle.graphql_definitions.specs.in_composite_types.CompositeTree.{object_parts, object_extension_parts, interface_parts, interface_extension_parts, union_parts, union_extension_parts};
-ghost use Rattle.graphql_definitions.specs.in_input_types.InputTypeTree.{schema_parts, schema_extension_parts, scalar_parts, scalar_extension_parts, enum_parts, enum_extension_parts, input_object_parts, input_object_extension_parts};
+ghost use Rattle.tree_definitions.specs.Descriptions.{AreSameDescriptions};
+ghost use Rattle.tree_definitions.specs.in_type_members.TypeSystemTree.{enum_value_tree, field_definition_tree, unplaced_enum, unplaced_enum_value, unplaced_field_definition, unplaced_fields, unplaced_input_object, unplaced_scalar, unplaced_schema, unplaced_union};
+ghost use Rattle.tree_definitions.specs.in_composite_types.CompositeTree.{object_parts, object_extension_parts, interface_parts, interface_extension_parts, union_parts, union_extension_parts};
+ghost use Rattle.tree_definitions.specs.in_input_types.InputTypeTree.{schema_parts, schema_extension_parts, scalar_parts, scalar_extension_parts, enum_parts, enum_extension_parts, input_object_parts, input_object_extension_parts};
 
-pub use graphql_definitions::laws::{equal_definitions, equal_documents};
-use graphql_definitions::{
+pub use tree_definitions::laws::{equal_definitions, equal_documents};
+use tree_definitions::{
     EnumTypeDefinition, EnumTypeExtension, EnumValueDefinition, FieldDefinition,
     InputObjectTypeDefinition, InputObjectTypeExtension, InterfaceTypeDefinition,
     InterfaceTypeExtension, ObjectTypeDefinition, ObjectTypeExtension, ScalarTypeDefinition,
@@ -15,7 +15,7 @@ use graphql_definitions::{
 };
 
 /// Whether two field definitions are equal.
-#[tactic(auto, using(graphql_definitions::proofs::TreeEquality::equality))]
+#[tactic(auto, using(tree_definitions::proofs::TreeEquality::equality))]
 pub fn equal_field_definitions(a: &FieldDefinition, b: &FieldDefinition) -> bool
     ensures { IsTrue result ↔ (unplaced_field_definition (field_definition_tree a.now) ≡ unplaced_field_definition (field_definition_tree b.now)) }
 {
@@ -23,7 +23,7 @@ pub fn equal_field_definitions(a: &FieldDefinition, b: &FieldDefinition) -> bool
 }
 
 /// Whether two enum value definitions are equal.
-#[tactic(auto, using(graphql_definitions::proofs::TreeEquality::equality))]
+#[tactic(auto, using(tree_definitions::proofs::TreeEquality::equality))]
 pub fn equal_enum_value_definitions(a: &EnumValueDefinition, b: &EnumValueDefinition) -> bool
     ensures { IsTrue result ↔ (unplaced_enum_value (enum_value_tree a.now) ≡ unplaced_enum_value (enum_value_tree b.now)) }
 {
@@ -31,7 +31,7 @@ pub fn equal_enum_value_definitions(a: &EnumValueDefinition, b: &EnumValueDefini
 }
 
 /// Whether two schema definitions are equal.
-#[tactic(auto, using(graphql_definitions::proofs::TreeEquality::equality))]
+#[tactic(auto, using(tree_definitions::proofs::TreeEquality::equality))]
 pub fn equal_schema_definitions(a: &SchemaDefinition, b: &SchemaDefinition) -> bool
     ensures { IsTrue result ↔ (AreSameDescriptions a.now.description b.now.description × (unplaced_schema (schema_parts a.now) ≡ unplaced_schema (schema_parts b.now))) }
 {
@@ -39,7 +39,7 @@ pub fn equal_schema_definitions(a: &SchemaDefinition, b: &SchemaDefinition) -> b
 }
 
 /// Whether two schema extensions are equal.
-#[tactic(auto, using(graphql_definitions::proofs::TreeEquality::equality))]
+#[tactic(auto, using(tree_definitions::proofs::TreeEquality::equality))]
 pub fn equal_schema_extensions(a: &SchemaExtension, b: &SchemaExtension) -> bool
     ensures { IsTrue result ↔ (unplaced_schema (schema_extension_parts a.now) ≡ unplaced_schema (schema_extension_parts b.now)) }
 {
@@ -47,7 +47,7 @@ pub fn equal_schema_extensions(a: &SchemaExtension, b: &SchemaExtension) -> bool
 }
 
 /// Whether two scalar type definitions are equal.
-#[tactic(auto, using(graphql_definitions::proofs::TreeEquality::equality))]
+#[tactic(auto, using(tree_definitions::proofs::TreeEquality::equality))]
 pub fn equal_scalar_type_definitions(a: &ScalarTypeDefinition, b: &ScalarTypeDefinition) -> bool
     ensures { IsTrue result ↔ (AreSameDescriptions a.now.description b.now.description × (unplaced_scalar (scalar_parts a.now) ≡ unplaced_scalar (scalar_parts b.now))) }
 {
@@ -55,7 +55,7 @@ pub fn equal_scalar_type_definitions(a: &ScalarTypeDefinition, b: &ScalarTypeDef
 }
 
 /// Whether two scalar type extensions are equal.
-#[tactic(auto, using(graphql_definitions::proofs::TreeEquality::equality))]
+#[tactic(auto, using(tree_definitions::proofs::TreeEquality::equality))]
 pub fn equal_scalar_type_extensions(a: &ScalarTypeExtension, b: &ScalarTypeExtension) -> bool
     ensures { IsTrue result ↔ (unplaced_scalar (scalar_extension_parts a.now) ≡ unplaced_scalar (scalar_extension_parts b.now)) }
 {
@@ -63,7 +63,7 @@ pub fn equal_scalar_type_extensions(a: &ScalarTypeExtension, b: &ScalarTypeExten
 }
 
 /// Whether two object type definitions are equal.
-#[tactic(auto, using(graphql_definitions::proofs::TreeEquality::equality))]
+#[tactic(auto, using(tree_definitions::proofs::TreeEquality::equality))]
 pub fn equal_object_type_definitions(a: &ObjectTypeDefinition, b: &ObjectTypeDefinition) -> bool
     ensures { IsTrue result ↔ (AreSameDescriptions a.now.description b.now.description × (unplaced_fields (object_parts a.now) ≡ unplaced_fields (object_parts b.now))) }
 {
@@ -71,7 +71,7 @@ pub fn equal_object_type_definitions(a: &ObjectTypeDefinition, b: &ObjectTypeDef
 }
 
 /// Whether two object type extensions are equal.
-#[tactic(auto, using(graphql_definitions::proofs::TreeEquality::equality))]
+#[tactic(auto, using(tree_definitions::proofs::TreeEquality::equality))]
 pub fn equal_object_type_extensions(a: &ObjectTypeExtension, b: &ObjectTypeExtension) -> bool
     ensures { IsTrue result ↔ (unplaced_fields (object_extension_parts a.now) ≡ unplaced_fields (object_extension_parts b.now)) }
 {
@@ -79,7 +79,7 @@ pub fn equal_object_type_extensions(a: &ObjectTypeExtension, b: &ObjectTypeExten
 }
 
 /// Whether two interface type definitions are equal.
-#[tactic(auto, using(graphql_definitions::proofs::TreeEquality::equality))]
+#[tactic(auto, using(tree_definitions::proofs::TreeEquality::equality))]
 pub fn equal_interface_type_definitions(
     a: &InterfaceTypeDefinition,
     b: &InterfaceTypeDefinition,
@@ -90,7 +90,7 @@ pub fn equal_interface_type_definitions(
 }
 
 /// Whether two interface type extensions are equal.
-#[tactic(auto, using(graphql_definitions::proofs::TreeEquality::equality))]
+#[tactic(auto, using(tree_definitions::proofs::TreeEquality::equality))]
 pub fn equal_interface_type_extensions(
     a: &InterfaceTypeExtension,
     b: &InterfaceTypeExtension,
@@ -101,7 +101,7 @@ pub fn equal_interface_type_extensions(
 }
 
 /// Whether two union type definitions are equal.
-#[tactic(auto, using(graphql_definitions::proofs::TreeEquality::equality))]
+#[tactic(auto, using(tree_definitions::proofs::TreeEquality::equality))]
 pub fn equal_union_type_definitions(a: &UnionTypeDefinition, b: &UnionTypeDefinition) -> bool
     ensures { IsTrue result ↔ (AreSameDescriptions a.now.description b.now.description × (unplaced_union (union_parts a.now) ≡ unplaced_union (union_parts b.now))) }
 {
@@ -109,7 +109,7 @@ pub fn equal_union_type_definitions(a: &UnionTypeDefinition, b: &UnionTypeDefini
 }
 
 /// Whether two union type extensions are equal.
-#[tactic(auto, using(graphql_definitions::proofs::TreeEquality::equality))]
+#[tactic(auto, using(tree_definitions::proofs::TreeEquality::equality))]
 pub fn equal_union_type_extensions(a: &UnionTypeExtension, b: &UnionTypeExtension) -> bool
     ensures { IsTrue result ↔ (unplaced_union (union_extension_parts a.now) ≡ unplaced_union (union_extension_parts b.now)) }
 {
@@ -117,7 +117,7 @@ pub fn equal_union_type_extensions(a: &UnionTypeExtension, b: &UnionTypeExtensio
 }
 
 /// Whether two enum type definitions are equal.
-#[tactic(auto, using(graphql_definitions::proofs::TreeEquality::equality))]
+#[tactic(auto, using(tree_definitions::proofs::TreeEquality::equality))]
 pub fn equal_enum_type_definitions(a: &EnumTypeDefinition, b: &EnumTypeDefinition) -> bool
     ensures { IsTrue result ↔ (AreSameDescriptions a.now.description b.now.description × (unplaced_enum (enum_parts a.now) ≡ unplaced_enum (enum_parts b.now))) }
 {
@@ -125,7 +125,7 @@ pub fn equal_enum_type_definitions(a: &EnumTypeDefinition, b: &EnumTypeDefinitio
 }
 
 /// Whether two enum type extensions are equal.
-#[tactic(auto, using(graphql_definitions::proofs::TreeEquality::equality))]
+#[tactic(auto, using(tree_definitions::proofs::TreeEquality::equality))]
 pub fn equal_enum_type_extensions(a: &EnumTypeExtension, b: &EnumTypeExtension) -> bool
     ensures { IsTrue result ↔ (unplaced_enum (enum_extension_parts a.now) ≡ unplaced_enum (enum_extension_parts b.now)) }
 {
@@ -133,7 +133,7 @@ pub fn equal_enum_type_extensions(a: &EnumTypeExtension, b: &EnumTypeExtension) 
 }
 
 /// Whether two input object type definitions are equal.
-#[tactic(auto, using(graphql_definitions::proofs::TreeEquality::equality))]
+#[tactic(auto, using(tree_definitions::proofs::TreeEquality::equality))]
 pub fn equal_input_object_type_definitions(
     a: &InputObjectTypeDefinition,
     b: &InputObjectTypeDefinition,
@@ -144,7 +144,7 @@ pub fn equal_input_object_type_definitions(
 }
 
 /// Whether two input object type extensions are equal.
-#[tactic(auto, using(graphql_definitions::proofs::TreeEquality::equality))]
+#[tactic(auto, using(tree_definitions::proofs::TreeEquality::equality))]
 pub fn equal_input_object_type_extensions(
     a: &InputObjectTypeExtension,
     b: &InputObjectTypeExtension,

@@ -1,22 +1,15 @@
 //! Definitions, documents and their printer: the trees of whole texts, and the face of the crates that they stand in.
 //!
 //! For the layer above: contracts see a definition as a plain tree (`specs/DefinitionTree.antt` of
-//! `graphql_definitions`); equality and hash are those of the trees without places and sources; what is printed is the
+//! `tree_definitions`); equality and hash are those of the trees without places and sources; what is printed is the
 //! layout of the tree.
 //!
-//! The trees stand in `graphql_type_members`, `graphql_composite_types`, `graphql_input_types` and
-//! `graphql_definitions`; here are the laws of equality, and the names of everything that a caller needs.
+//! The trees stand in `tree_type_members`, `tree_composite_types`, `tree_input_types` and
+//! `tree_definitions`; here are the laws of equality, and the names of everything that a caller needs.
 #![tactic(auto)]
 
 pub mod laws;
 
-pub use graphql_definitions::{
-    Definition, Document, EnumTypeDefinition, EnumTypeExtension, EnumValueDefinition,
-    FieldDefinition, InputObjectTypeDefinition, InputObjectTypeExtension, InterfaceTypeDefinition,
-    InterfaceTypeExtension, ObjectTypeDefinition, ObjectTypeExtension, ScalarTypeDefinition,
-    ScalarTypeExtension, SchemaDefinition, SchemaExtension, SourceFile, UnionTypeDefinition,
-    UnionTypeExtension,
-};
 pub use graphql_names::{
     Cut, Device, Ending, Files, InvalidNameError, NameError, Spent, name, recompose,
 };
@@ -26,4 +19,11 @@ pub use graphql_values::{
     InlineFragment, InputValueDefinition, IntValue, Name, Named, NamedDirectives, NamedType, Node,
     NodeStr, OperationDefinition, OperationType, Selection, Serialize, SourceSpan, Tree, Type,
     Value, VariableDefinition, WriteFault, get_named_mut, ty,
+};
+pub use tree_definitions::{
+    Definition, Document, EnumTypeDefinition, EnumTypeExtension, EnumValueDefinition,
+    FieldDefinition, InputObjectTypeDefinition, InputObjectTypeExtension, InterfaceTypeDefinition,
+    InterfaceTypeExtension, ObjectTypeDefinition, ObjectTypeExtension, ScalarTypeDefinition,
+    ScalarTypeExtension, SchemaDefinition, SchemaExtension, SourceFile, UnionTypeDefinition,
+    UnionTypeExtension,
 };

@@ -2,9 +2,9 @@
 use Rattle.std.proofs.Common.{inl, inr, ◌≡◌, ◌≢◌, ℕ, ◌+◌, ◌<◌, ◌≤◌, ◌^◌, List, [], ◌∷◌, ◌++◌, length, length-append, refl, ap, ◌∙◌, subst, arith}
 use Rattle.std.proofs.Math.Nat.{lt_irrefl}
 use Rattle.graphql_read.specs.Reads.{NestingBound}
-use Rattle.graphql_verdict.specs.Texts.{Text, Tree, Terms, ReadsText, ReadsAll, document_number, PassesNumbers, IsRead}
-use Rattle.graphql_verdict.specs.Says.{Fault, IsFaultOfText, UnreadFault, spent}
-use Rattle.graphql_verdict.specs.Answer.{UnreadFaults}
+use Rattle.verdict_definitions.specs.Texts.{Text, Tree, Terms, ReadsText, ReadsAll, document_number, PassesNumbers, IsRead}
+use Rattle.verdict_definitions.specs.Says.{Fault, IsFaultOfText, UnreadFault, spent}
+use Rattle.verdict_definitions.specs.Answer.{UnreadFaults}
 use Rattle.graphql_checked.specs.Added.{IsNextNumber, AreAdded}
 
 -- ---- a text at the end of the texts, where the first has any number

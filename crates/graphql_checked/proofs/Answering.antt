@@ -2,13 +2,13 @@
 use Rattle.std.proofs.Common.{◌≡◌, ℕ, List, Result, Ok, Err, inl, refl, sym, ap, subst}
 use Rattle.std.specs.Prelude.{Vec}
 use Rattle.graphql_names.specs.Placed.{Place}
-use Rattle.graphql_meant_documents.specs.MeantTree.{MeantDocument}
+use Rattle.document_meaning.specs.MeantTree.{MeantDocument}
 use Rattle.graphql_faults.specs.DetailsView.{diagnostics_of}
-use Rattle.graphql_verdict.specs.Texts.{Text, Terms}
-use Rattle.graphql_verdict.specs.Out.{Layout, layout_text}
-use Rattle.graphql_verdict.specs.Answer.{WritesDocument, AcceptedBytes}
-use Rattle.graphql_answers.specs.declared.run_fault.Outcome.{Outcome}
-use Rattle.graphql_answers.specs.declared.run_fault.RunFault.{RunFault}
+use Rattle.verdict_definitions.specs.Texts.{Text, Terms}
+use Rattle.verdict_definitions.specs.Out.{Layout, layout_text}
+use Rattle.verdict_definitions.specs.Answer.{WritesDocument, AcceptedBytes}
+use Rattle.checker_answers.specs.declared.run_fault.Outcome.{Outcome}
+use Rattle.checker_answers.specs.declared.run_fault.RunFault.{RunFault}
 use Rattle.graphql_checked.specs.CheckerValue.{CheckedSchemaValue, IsCheckedSchemaOf, IsCheckedDocumentOf}
 use Rattle.graphql_checked.specs.Refusals.{RefusalOfSchemas, RefusalOfDocument}
 use Rattle.graphql_checked.specs.Run.{BytesOf, IsAnswerTo, AcceptsOrFails, IsWrittenAnswer, IsAnswerOfRefusal}

@@ -2,23 +2,23 @@
 use Rattle.std.proofs.Common.{inl, inr, ◌≡◌, ◌≢◌, List, [], ◌∷◌, ◌++◌, map, Contains, refl, sym, ap, ◌∙◌, subst}
 use Rattle.std.specs.Prelude.{◌↔◌}
 use Rattle.graphql_names.specs.Placed.{Place}
-use Rattle.graphql_schema_types.specs.SchemaTree.{SchemaTree}
-use Rattle.graphql_schema_types.specs.Out.{written}
-use Rattle.graphql_built_in.specs.Table.{built_in_definitions}
-use Rattle.graphql_folding.specs.BuildErrors as folding
-use Rattle.graphql_folding.specs.BuildErrors.{FoldingRules}
-use Rattle.graphql_schema_building.specs.BuilderValue.{BuilderValue}
-use Rattle.graphql_schema_building.specs.Building.{counted, folded, FailsIn}
-use Rattle.graphql_rule_definitions.specs.Judged.{judged}
-use Rattle.graphql_rule_definitions.specs.Kept.{validated}
-use Rattle.graphql_rule_definitions.specs.Rules.{SchemaRules}
+use Rattle.schema_types.specs.SchemaTree.{SchemaTree}
+use Rattle.schema_types.specs.Out.{written}
+use Rattle.schema_built_in.specs.Table.{built_in_definitions}
+use Rattle.schema_fold.specs.BuildErrors as folding
+use Rattle.schema_fold.specs.BuildErrors.{FoldingRules}
+use Rattle.schema_building.specs.BuilderValue.{BuilderValue}
+use Rattle.schema_building.specs.Building.{counted, folded, FailsIn}
+use Rattle.rule_definitions.specs.Judged.{judged}
+use Rattle.rule_definitions.specs.Kept.{validated}
+use Rattle.rule_definitions.specs.Rules.{SchemaRules}
 use Rattle.graphql_faults.specs.DetailsView.{diagnostics_of}
-use Rattle.graphql_verdict.specs.Texts.{Tree}
-use Rattle.graphql_verdict.specs.Says.{Fault, of_folding}
+use Rattle.verdict_definitions.specs.Texts.{Tree}
+use Rattle.verdict_definitions.specs.Says.{Fault, of_folding}
 use Rattle.graphql_checked.specs.Finishing.{BuildsSchema, RefusesFolding, RefusalOfFolding, RefusesSchemaRules, RefusalOfSchemaRules, IsJudgedSchema, RefusalOfBuilder}
 use Rattle.graphql_checked.specs.declared.refusal.Refusal.{Refusal}
 use Rattle.graphql_checked.specs.declared.refusal.Refusal.TheVariants.{Faults, Memory, Failed}
-use Rattle.graphql_document_rule_definitions.proofs.Unplaced.{contains_map, contains_unmap}
+use Rattle.rule_document_definitions.proofs.Unplaced.{contains_map, contains_unmap}
 
 -- a list without elements is made of one without
 map_nil : {X Y : Type 0} (f : X → Y) (xs : List X) → map f xs ≡ [] → xs ≡ []

@@ -1,24 +1,24 @@
 -- What checking a document over a checked schema comes to: it is accepted, or refused.
 use Rattle.std.proofs.Common.{inl, inr, ◌≡◌, ◌≢◌, ℕ, List, [], ◌∷◌, Contains, refl, ap, subst, ◌∙◌, sym}
 use Rattle.graphql_names.specs.Placed.{Place}
-use Rattle.graphql_schema_types.specs.SchemaTree.{SchemaTree}
-use Rattle.graphql_meant_documents.specs.MeantTree.{MeantDocument}
-use Rattle.graphql_typed_operations.specs.TypedDocument.{TypedDocumentTree}
-use Rattle.graphql_typed_operations.specs.ToAst.{ast_document}
-use Rattle.graphql_typing.specs.DocumentView.{meant_document}
-use Rattle.graphql_typing.specs.TypingFaults as typing
-use Rattle.graphql_typing.proofs.WrittenMeant.{document-written}
-use Rattle.graphql_rule_definitions.proofs.Lists.{not_in_nil, only}
-use Rattle.graphql_meant_documents.specs.Unplaced.{unplaced_document}
-use Rattle.graphql_document_rule_definitions.specs.Told.{IsValidDocument}
-use Rattle.graphql_document_rule_definitions.specs.Verdict.{WithinBounds}
+use Rattle.schema_types.specs.SchemaTree.{SchemaTree}
+use Rattle.document_meaning.specs.MeantTree.{MeantDocument}
+use Rattle.document_typed_operations.specs.TypedDocument.{TypedDocumentTree}
+use Rattle.document_typed_operations.specs.ToAst.{ast_document}
+use Rattle.document_typing.specs.DocumentView.{meant_document}
+use Rattle.document_typing.specs.TypingFaults as typing
+use Rattle.document_typing.proofs.WrittenMeant.{document-written}
+use Rattle.rule_definitions.proofs.Lists.{not_in_nil, only}
+use Rattle.document_meaning.specs.Unplaced.{unplaced_document}
+use Rattle.rule_document_definitions.specs.Told.{IsValidDocument}
+use Rattle.rule_document_definitions.specs.Verdict.{WithinBounds}
 use Rattle.graphql_faults.specs.DetailsView.{diagnostics_of}
 use Rattle.graphql_validation.specs.TellsDocument.{SomeFails}
-use Rattle.graphql_verdict.specs.Texts.{Text, Tree}
-use Rattle.graphql_verdict.specs.Judge.{document_over, IsDocumentCertain}
-use Rattle.graphql_verdict.specs.Says.{Fault, of_typing, UnreadFault, TypingFailsOver}
-use Rattle.graphql_verdict.specs.Out.{Layout, layout_text}
-use Rattle.graphql_verdict.specs.Answer.{UnreadAlone, RefusesDocument, WritesDocument}
+use Rattle.verdict_definitions.specs.Texts.{Text, Tree}
+use Rattle.verdict_definitions.specs.Judge.{document_over, IsDocumentCertain}
+use Rattle.verdict_definitions.specs.Says.{Fault, of_typing, UnreadFault, TypingFailsOver}
+use Rattle.verdict_definitions.specs.Out.{Layout, layout_text}
+use Rattle.verdict_definitions.specs.Answer.{UnreadAlone, RefusesDocument, WritesDocument}
 use Rattle.graphql_checked.specs.CheckerValue.{CheckedSchemaValue, IsCheckedDocumentOf}
 use Rattle.graphql_checked.specs.Refusals.{RefusalOfDocument}
 use Rattle.graphql_checked.specs.Checking.{IsReadDocument, IsUnreadDocument, TellsOnly, TypesDocument, RefusalOfTyping, RefusalOfRules}

@@ -5,18 +5,18 @@ use Rattle.std.specs.Prelude.{Err, Ok, IfSome, IsUtf8, Vec}
 use Rattle.std.specs.List.{AllZip}
 use Rattle.graphql_names.specs.declared.device.Device.{Device}
 use Rattle.graphql_names.specs.Device.{device_failed}
-use Rattle.graphql_verdict.specs.Texts.{Text, Terms}
-use Rattle.graphql_verdict.specs.Judge.{IsCertain}
-use Rattle.graphql_verdict.specs.Out.{Layout}
-use Rattle.graphql_verdict.specs.Answer.{Answer}
-use Rattle.graphql_answers.specs.Devices.{IsTextOf, TellsText, AreTextsOf, IsNotUtf8Of, IsNotUtf8At, HaveNotFailed}
-use Rattle.graphql_answers.specs.ReadFaults.{IsTextFault, numbered_fault, IsReadFault, IsPutFault}
-use Rattle.graphql_answers.specs.declared.read_device.TextFault.{TextFault}
-use Rattle.graphql_answers.specs.declared.read_device.TextFault.TheVariants as text
-use Rattle.graphql_answers.specs.declared.run_fault.Outcome.{Outcome}
-use Rattle.graphql_answers.specs.declared.run_fault.Outcome.TheVariants.{Accepted, Refused}
-use Rattle.graphql_answers.specs.declared.run_fault.RunFault.{RunFault}
-use Rattle.graphql_answers.specs.declared.run_fault.RunFault.TheVariants.{Memory, Reader, NotUtf8, Writer}
+use Rattle.verdict_definitions.specs.Texts.{Text, Terms}
+use Rattle.verdict_definitions.specs.Judge.{IsCertain}
+use Rattle.verdict_definitions.specs.Out.{Layout}
+use Rattle.verdict_definitions.specs.Answer.{Answer}
+use Rattle.checker_answers.specs.Devices.{IsTextOf, TellsText, AreTextsOf, IsNotUtf8Of, IsNotUtf8At, HaveNotFailed}
+use Rattle.checker_answers.specs.ReadFaults.{IsTextFault, numbered_fault, IsReadFault, IsPutFault}
+use Rattle.checker_answers.specs.declared.read_device.TextFault.{TextFault}
+use Rattle.checker_answers.specs.declared.read_device.TextFault.TheVariants as text
+use Rattle.checker_answers.specs.declared.run_fault.Outcome.{Outcome}
+use Rattle.checker_answers.specs.declared.run_fault.Outcome.TheVariants.{Accepted, Refused}
+use Rattle.checker_answers.specs.declared.run_fault.RunFault.{RunFault}
+use Rattle.checker_answers.specs.declared.run_fault.RunFault.TheVariants.{Memory, Reader, NotUtf8, Writer}
 use Rattle.graphql_checked.specs.Run.{BytesOf, TellCertain, IsAnswerToCertain, RunFaultIsDue, AcceptsOrFails}
 
 -- ---- what readers tell

@@ -1,7 +1,7 @@
 -- A text has one tree, and is not both read and unread.
 use Rattle.std.proofs.Common.{inl, inr, ◌≡◌, ◌≢◌, ℕ, ◌+◌, List, [], ◌∷◌, Contains, refl, ap, ◌∙◌, subst, Some}
 use Rattle.graphql_names.specs.declared.span.SourceSpan.{SourceSpan}
-use Rattle.graphql_components.proofs.Places.{not_in_nil, Contains-cons, Contains-first}
+use Rattle.schema_components.proofs.Places.{not_in_nil, Contains-cons, Contains-first}
 use Rattle.graphql_read.specs.in_lexer.Input.{Token}
 use Rattle.graphql_read.proofs.in_lexer.Lexed.{lex_unique}
 use Rattle.graphql_read.specs.in_grammar.Faults as read
@@ -13,9 +13,9 @@ use Rattle.graphql_read.specs.declared.fault.SyntaxFaultKind.{SyntaxFaultKind}
 use Rattle.graphql_read.specs.declared.fault.SyntaxFaultKind.TheVariants.{NoToken, Unexpected, End}
 use Rattle.graphql_read.proofs.Bounds.{memory_alone}
 use Rattle.graphql_faults.specs.DetailsTree.{Syntax}
-use Rattle.graphql_verdict.specs.Texts.{Text, Tree, DerivesIn, ReadsText, ReadsAll, IsWithin, AreWithin, IsRead, AreRead}
-use Rattle.graphql_verdict.specs.Says.{Fault, Tells, IsFaultOfText, UnreadFault, UnreadFaultFrom}
-use Rattle.graphql_verdict.specs.Answer.{UnreadFaults, AllSay}
+use Rattle.verdict_definitions.specs.Texts.{Text, Tree, DerivesIn, ReadsText, ReadsAll, IsWithin, AreWithin, IsRead, AreRead}
+use Rattle.verdict_definitions.specs.Says.{Fault, Tells, IsFaultOfText, UnreadFault, UnreadFaultFrom}
+use Rattle.verdict_definitions.specs.Answer.{UnreadFaults, AllSay}
 use Rattle.graphql_checked.specs.Unread.{IsUnread, TellsUnread}
 use Rattle.graphql_checked.specs.declared.read_text.Unread.{Unread}
 use Rattle.graphql_checked.specs.declared.read_text.Unread.TheVariants as unread

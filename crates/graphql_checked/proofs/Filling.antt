@@ -2,18 +2,18 @@
 use Rattle.std.proofs.Common.{◌≡◌, ℕ, ◌+◌, ◌<◌, false, List, [], ◌∷◌, ◌++◌, length, map, take, drop, get_or, refl, sym, ap, ◌∙◌, subst, arith, append-nil}
 use Rattle.std.proofs.lemmas.List.{map_more, map-append, take-append-drop}
 use Rattle.std.proofs.lemmas.List.Concat.{flat_map-append}
-use Rattle.graphql_definitions.specs.DefinitionTree.{document_tree}
-use Rattle.graphql_definitions.specs.Sources.{Source}
-use Rattle.graphql_definitions.specs.declared.document.Document.{Document}
-use Rattle.graphql_schema_building.specs.BuilderValue.{BuilderValue}
-use Rattle.graphql_schema_building.specs.Building.{plain_settings, IsAddRefusal}
-use Rattle.graphql_schema_building.specs.Numbers.{extension_count, HaveNumbers}
-use Rattle.graphql_schema_building.specs.declared.refusal.BuilderRefusal.{BuilderRefusal}
-use Rattle.graphql_schema_building.specs.declared.refusal.BuilderRefusal.TheVariants as builder
-use Rattle.graphql_schema_building.proofs.Numbering.{count_append}
-use Rattle.graphql_verdict.specs.Texts.{Tree}
-use Rattle.graphql_verdict.specs.Judge.{definitions_of}
-use Rattle.graphql_verdict.specs.Says.{spent}
+use Rattle.tree_definitions.specs.DefinitionTree.{document_tree}
+use Rattle.tree_definitions.specs.Sources.{Source}
+use Rattle.tree_definitions.specs.declared.document.Document.{Document}
+use Rattle.schema_building.specs.BuilderValue.{BuilderValue}
+use Rattle.schema_building.specs.Building.{plain_settings, IsAddRefusal}
+use Rattle.schema_building.specs.Numbers.{extension_count, HaveNumbers}
+use Rattle.schema_building.specs.declared.refusal.BuilderRefusal.{BuilderRefusal}
+use Rattle.schema_building.specs.declared.refusal.BuilderRefusal.TheVariants as builder
+use Rattle.schema_building.proofs.Numbering.{count_append}
+use Rattle.verdict_definitions.specs.Texts.{Tree}
+use Rattle.verdict_definitions.specs.Judge.{definitions_of}
+use Rattle.verdict_definitions.specs.Says.{spent}
 use Rattle.graphql_checked.specs.Checking.{TellsOnly}
 use Rattle.graphql_checked.specs.Finishing.{IsFilled, RefusalOfNumbers, IsOfBuilder}
 use Rattle.graphql_checked.specs.declared.refusal.Refusal.{Refusal}

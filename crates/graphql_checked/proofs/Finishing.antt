@@ -1,24 +1,24 @@
 -- What schema texts come to.
 use Rattle.std.proofs.Common.{inl, inr, ◌≡◌, ◌≢◌, ◌⊎◌, ℕ, List, [], ◌∷◌, Contains, refl, sym, ap, ◌∙◌, subst}
 use Rattle.graphql_names.specs.Placed.{Place}
-use Rattle.graphql_schema_types.specs.SchemaTree.{SchemaTree}
-use Rattle.graphql_built_in.specs.Table.{built_in_definitions}
-use Rattle.graphql_folding.specs.BuildErrors as folding
-use Rattle.graphql_folding.specs.BuildErrors.{FoldingRules}
-use Rattle.graphql_folding.specs.Fold.{fold}
-use Rattle.graphql_schema_building.specs.BuilderValue.{BuilderValue}
-use Rattle.graphql_schema_building.specs.Building.{plain_settings, counted, folded, FailsIn}
-use Rattle.graphql_schema_building.specs.Numbers.{HaveNumbers}
-use Rattle.graphql_schema_types.specs.Out.{written}
-use Rattle.graphql_rule_definitions.specs.Judged as rules
-use Rattle.graphql_rule_definitions.specs.Kept.{validated}
-use Rattle.graphql_rule_definitions.specs.Rules.{SchemaRules, RulesFail, BoundFails}
-use Rattle.graphql_rule_definitions.specs.Told.{PlacedFault}
+use Rattle.schema_types.specs.SchemaTree.{SchemaTree}
+use Rattle.schema_built_in.specs.Table.{built_in_definitions}
+use Rattle.schema_fold.specs.BuildErrors as folding
+use Rattle.schema_fold.specs.BuildErrors.{FoldingRules}
+use Rattle.schema_fold.specs.Fold.{fold}
+use Rattle.schema_building.specs.BuilderValue.{BuilderValue}
+use Rattle.schema_building.specs.Building.{plain_settings, counted, folded, FailsIn}
+use Rattle.schema_building.specs.Numbers.{HaveNumbers}
+use Rattle.schema_types.specs.Out.{written}
+use Rattle.rule_definitions.specs.Judged as rules
+use Rattle.rule_definitions.specs.Kept.{validated}
+use Rattle.rule_definitions.specs.Rules.{SchemaRules, RulesFail, BoundFails}
+use Rattle.rule_definitions.specs.Told.{PlacedFault}
 use Rattle.graphql_faults.specs.DetailsTree.{of_rule}
-use Rattle.graphql_verdict.specs.Texts.{Text, Tree, Terms, ReadsAll, document_number, AreRead}
-use Rattle.graphql_verdict.specs.Judge.{definitions_of, schema_of}
-use Rattle.graphql_verdict.specs.Says.{Fault, of_folding, spent, FoldingFails, SchemaFails}
-use Rattle.graphql_verdict.specs.Answer.{UnreadFaults, RefusesSchemas}
+use Rattle.verdict_definitions.specs.Texts.{Text, Tree, Terms, ReadsAll, document_number, AreRead}
+use Rattle.verdict_definitions.specs.Judge.{definitions_of, schema_of}
+use Rattle.verdict_definitions.specs.Says.{Fault, of_folding, spent, FoldingFails, SchemaFails}
+use Rattle.verdict_definitions.specs.Answer.{UnreadFaults, RefusesSchemas}
 use Rattle.graphql_checked.specs.Added.{IsNextNumber, AreAdded}
 use Rattle.graphql_checked.specs.CheckerValue.{IsCheckedSchemaOf}
 use Rattle.graphql_checked.specs.Finishing.{IsFilled, RefusesFolding, RefusesSchemaRules, IsJudgedSchema, RefusesBuilder, RefusalOfNumbers, RefusalOfBuilder}
@@ -26,7 +26,7 @@ use Rattle.graphql_checked.specs.Refusals.{RefusalOfSchemas}
 use Rattle.graphql_checked.specs.declared.refusal.Refusal.{Refusal}
 use Rattle.graphql_checked.specs.declared.refusal.Refusal.TheVariants.{Faults, Memory, Failed}
 use Rattle.graphql_faults.specs.DetailsView.{diagnostics_of}
-use Rattle.graphql_components.proofs.Places.{not_in_nil, Contains-cons}
+use Rattle.schema_components.proofs.Places.{not_in_nil, Contains-cons}
 use Rattle.graphql_checked.proofs.Deciding.{no_member, one_list, are_read, are_within, no_unread, read_unread, says_unread}
 
 -- ---- a builder that has the definitions of the texts

@@ -1,11 +1,11 @@
 -- Schema texts that are accepted for sure are not refused.
 use Rattle.std.proofs.Common.{inl, inr, ◌≡◌, List, refl, subst}
-use Rattle.graphql_schema_building.specs.Numbers.{HaveNumbers}
+use Rattle.schema_building.specs.Numbers.{HaveNumbers}
 use Rattle.graphql_faults.specs.DetailsView.{diagnostics_of}
-use Rattle.graphql_verdict.specs.Texts.{Text, Tree, Terms, AreRead}
-use Rattle.graphql_verdict.specs.Judge.{definitions_of, AreSchemasAccepted, AreSchemasCertain}
-use Rattle.graphql_verdict.specs.Says.{Fault, FoldingFails, SchemaRuleFails, SchemaFails, SaysSchema}
-use Rattle.graphql_verdict.specs.Answer.{RefusesSchemas}
+use Rattle.verdict_definitions.specs.Texts.{Text, Tree, Terms, AreRead}
+use Rattle.verdict_definitions.specs.Judge.{definitions_of, AreSchemasAccepted, AreSchemasCertain}
+use Rattle.verdict_definitions.specs.Says.{Fault, FoldingFails, SchemaRuleFails, SchemaFails, SaysSchema}
+use Rattle.verdict_definitions.specs.Answer.{RefusesSchemas}
 use Rattle.graphql_checked.specs.Refusals.{RefusalOfSchemas}
 use Rattle.graphql_checked.specs.declared.refusal.Refusal.{Refusal}
 use Rattle.graphql_checked.specs.declared.refusal.Refusal.TheVariants.{Faults, Memory, Failed}

@@ -3,8 +3,8 @@ use Rattle.std.proofs.Common.{◌≡◌, ◌≢◌, ◌+◌, ◌<◌, ◌^◌, �
 use Rattle.graphql_names.specs.declared.span.FileId.{FileId}
 use Rattle.graphql_read.specs.Reads.{NestingBound}
 use Rattle.graphql_faults.specs.DetailsView.{details_at, diagnostics_of}
-use Rattle.graphql_verdict.specs.Texts.{Text, Tree, ReadsText}
-use Rattle.graphql_verdict.specs.Says.{Fault, spent}
+use Rattle.verdict_definitions.specs.Texts.{Text, Tree, ReadsText}
+use Rattle.verdict_definitions.specs.Says.{Fault, spent}
 use Rattle.graphql_checked.specs.Unread.{IsUnread}
 use Rattle.graphql_checked.specs.declared.read_text.Unread.{Unread}
 use Rattle.graphql_checked.specs.declared.read_text.Unread.TheVariants as unread

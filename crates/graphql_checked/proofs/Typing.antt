@@ -2,25 +2,25 @@
 use Rattle.std.proofs.Common.{◌≡◌, ◌≢◌, List, [], ◌∷◌, ◌++◌, map, Contains, refl, ap, subst, ◌∙◌, sym}
 use Rattle.std.specs.Prelude.{◌↔◌}
 use Rattle.graphql_names.specs.Placed.{Place}
-use Rattle.graphql_schema_types.specs.SchemaTree.{SchemaTree}
-use Rattle.graphql_schema_types.specs.Plain.{plain}
-use Rattle.graphql_meant_documents.specs.MeantTree.{MeantDocument}
-use Rattle.graphql_meant_documents.specs.Unplaced.{unplaced_document}
-use Rattle.graphql_typing.specs.Meanings.{meanings}
-use Rattle.graphql_typing.specs.KeptDocument.{kept_document}
-use Rattle.graphql_typing.specs.TypedByPlace.{IsTypedDocument}
-use Rattle.graphql_typing.specs.TypingFaults as typing
-use Rattle.graphql_typing.specs.TypingFaults.{TypingFails}
-use Rattle.graphql_typing.specs.OutDoc.{written_document, out_doc}
-use Rattle.graphql_typing.specs.BuilderView.{DocumentBuilder}
-use Rattle.graphql_document_rule_definitions.specs.DocumentFaults.{OfData, OfDocument, OfLimit}
-use Rattle.graphql_document_rule_definitions.specs.Told.{PlacedDocumentFault, IsValidDocument}
-use Rattle.graphql_document_rule_definitions.specs.Verdict.{WithinBounds}
-use Rattle.graphql_document_rule_definitions.proofs.Unplaced.{contains_map, contains_unmap}
+use Rattle.schema_types.specs.SchemaTree.{SchemaTree}
+use Rattle.schema_types.specs.Plain.{plain}
+use Rattle.document_meaning.specs.MeantTree.{MeantDocument}
+use Rattle.document_meaning.specs.Unplaced.{unplaced_document}
+use Rattle.document_typing.specs.Meanings.{meanings}
+use Rattle.document_typing.specs.KeptDocument.{kept_document}
+use Rattle.document_typing.specs.TypedByPlace.{IsTypedDocument}
+use Rattle.document_typing.specs.TypingFaults as typing
+use Rattle.document_typing.specs.TypingFaults.{TypingFails}
+use Rattle.document_typing.specs.OutDoc.{written_document, out_doc}
+use Rattle.document_typing.specs.BuilderView.{DocumentBuilder}
+use Rattle.rule_document_definitions.specs.DocumentFaults.{OfData, OfDocument, OfLimit}
+use Rattle.rule_document_definitions.specs.Told.{PlacedDocumentFault, IsValidDocument}
+use Rattle.rule_document_definitions.specs.Verdict.{WithinBounds}
+use Rattle.rule_document_definitions.proofs.Unplaced.{contains_map, contains_unmap}
 use Rattle.graphql_validation.specs.Told as told
 use Rattle.graphql_validation.specs.TellsDocument.{DocumentTold}
-use Rattle.graphql_verdict.specs.Texts.{Tree}
-use Rattle.graphql_verdict.specs.Says.{Fault, of_typing, of_document, TypingFailsOver}
+use Rattle.verdict_definitions.specs.Texts.{Tree}
+use Rattle.verdict_definitions.specs.Says.{Fault, of_typing, of_document, TypingFailsOver}
 use Rattle.graphql_checked.specs.Checking.{TypesDocument, RefusesTyping, RefusesRules}
 
 -- ---- lists

@@ -1,14 +1,14 @@
 -- What the rules on schemas find, as a list of faults.
 use Rattle.std.proofs.Common.{inl, inr, ◌≡◌, ◌≢◌, ◌⊎◌, List, [], ◌++◌, map, Contains, sym, ap, ◌∙◌, subst}
 use Rattle.graphql_names.specs.Placed.{Place}
-use Rattle.graphql_schema_types.specs.SchemaTree.{SchemaTree}
-use Rattle.graphql_rule_definitions.specs.Rules.{RulesFail, BoundFails}
-use Rattle.graphql_rule_definitions.specs.Told.{PlacedFault, Told}
+use Rattle.schema_types.specs.SchemaTree.{SchemaTree}
+use Rattle.rule_definitions.specs.Rules.{RulesFail, BoundFails}
+use Rattle.rule_definitions.specs.Told.{PlacedFault, Told}
 use Rattle.graphql_faults.specs.DetailsTree.{of_rule}
 use Rattle.graphql_rules.specs.SchemaTold.{Fails, SchemaTold}
-use Rattle.graphql_verdict.specs.Says.{Fault}
+use Rattle.verdict_definitions.specs.Says.{Fault}
 use Rattle.graphql_checked.specs.Finishing.{RefusesSchemaRules}
-use Rattle.graphql_document_rule_definitions.proofs.Unplaced.{contains_unmap}
+use Rattle.rule_document_definitions.proofs.Unplaced.{contains_unmap}
 
 -- a rule fails so, or the bound is passed
 fails_so : (s : SchemaTree Place) (f : PlacedFault) → Told s Fails f → RulesFail s f ⊎ BoundFails s f

@@ -3,13 +3,13 @@ use Rattle.std.proofs.Common.{◌≡◌, ℕ, ◌+◌, ◌<◌, ◌≤◌, true,
 use Rattle.std.specs.Prelude.{IfOk}
 use Rattle.std.proofs.lemmas.List.{map_more, take_all}
 use Rattle.graphql_names.specs.Placed.{Place}
-use Rattle.graphql_schema_types.specs.SchemaTree.{SchemaTree}
-use Rattle.graphql_meant_documents.specs.MeantTree.{MeantDocument}
+use Rattle.schema_types.specs.SchemaTree.{SchemaTree}
+use Rattle.document_meaning.specs.MeantTree.{MeantDocument}
 use Rattle.graphql_faults.specs.DetailsView.{diagnostics_of}
-use Rattle.graphql_verdict.specs.Texts.{Text, Terms, document_number}
-use Rattle.graphql_verdict.specs.Judge.{schema_at_hand, IsDocumentAccepted, IsAccepted, AreSchemasCertain, IsDocumentCertain, IsCertain}
-use Rattle.graphql_verdict.specs.Says.{Fault}
-use Rattle.graphql_verdict.specs.Answer.{RefusesDocument, Refuses}
+use Rattle.verdict_definitions.specs.Texts.{Text, Terms, document_number}
+use Rattle.verdict_definitions.specs.Judge.{schema_at_hand, IsDocumentAccepted, IsAccepted, AreSchemasCertain, IsDocumentCertain, IsCertain}
+use Rattle.verdict_definitions.specs.Says.{Fault}
+use Rattle.verdict_definitions.specs.Answer.{RefusesDocument, Refuses}
 use Rattle.graphql_checked.specs.CheckerValue.{CheckerValue, CheckedSchemaValue, IsCheckedSchemaOf, IsCheckedDocumentOf}
 use Rattle.graphql_checked.specs.CheckerAnswers.{IsAddRefusal, IsFinishRefusal}
 use Rattle.graphql_checked.specs.Refusals.{RefusalOfSchemas, RefusalOfDocument}

@@ -1,9 +1,9 @@
 -- Private: leads to what `Checker::finish` answers. How a checker keeps the schema texts that it was given: what reading them gave.
 use Rattle.std.specs.Prelude.{◌≡◌, ◌≢◌, ℕ, ◌+◌, ◌^◌, ◌<◌, ◌⊎◌, List, [], ◌∷◌, ◌++◌, Some}
 use Rattle.graphql_faults.specs.DetailsView.{details_at}
-use Rattle.graphql_verdict.specs.Texts.{Text, Tree, Terms, ReadsAll, document_number}
-use Rattle.graphql_verdict.specs.Says.{Fault}
-use Rattle.graphql_verdict.specs.Answer.{UnreadFaults}
+use Rattle.verdict_definitions.specs.Texts.{Text, Tree, Terms, ReadsAll, document_number}
+use Rattle.verdict_definitions.specs.Says.{Fault}
+use Rattle.verdict_definitions.specs.Answer.{UnreadFaults}
 use Rattle.graphql_checked.specs.declared.read_text.Unread.{Unread}
 use Rattle.graphql_checked.specs.declared.read_text.Unread.TheVariants as unread
 

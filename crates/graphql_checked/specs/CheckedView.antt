@@ -1,13 +1,13 @@
 -- What contracts see of a checked schema and of a checked document: what they hold, and what that is.
 use Rattle.std.specs.Prelude.{ℕ}
-use Rattle.graphql_definitions.specs.DefinitionTree.{document_tree}
-use Rattle.graphql_definitions.specs.declared.document.Document.{Document}
+use Rattle.tree_definitions.specs.DefinitionTree.{document_tree}
+use Rattle.tree_definitions.specs.declared.document.Document.{Document}
 use Rattle.graphql_schema.specs.SchemaOf.{schema_tree}
 use Rattle.graphql_schema.specs.declared.schema.Schema.{Schema}
-use Rattle.graphql_typed_operations.specs.TypedDocument.{typed_document_tree}
-use Rattle.graphql_typed_operations.specs.declared.document.ExecutableDocument.{ExecutableDocument}
-use Rattle.graphql_typing.specs.DocumentView.{meant_document}
-use Rattle.graphql_verdict.specs.Texts.{Text}
+use Rattle.document_typed_operations.specs.TypedDocument.{typed_document_tree}
+use Rattle.document_typed_operations.specs.declared.document.ExecutableDocument.{ExecutableDocument}
+use Rattle.document_typing.specs.DocumentView.{meant_document}
+use Rattle.verdict_definitions.specs.Texts.{Text}
 use Rattle.graphql_checked.specs.CheckerValue.{CheckedSchemaValue, CheckedDocumentValue}
 
 -- how many brackets may be open at once, the number of a document, the schema at hand and what is written

@@ -1,12 +1,12 @@
 -- What contracts see of a checker, of a checked schema and of a checked document.
 use Rattle.std.specs.Prelude.{◌≡◌, ℕ, Bool, List}
 use Rattle.graphql_names.specs.Placed.{Place}
-use Rattle.graphql_schema_types.specs.SchemaTree.{SchemaTree}
-use Rattle.graphql_typing.specs.OutDoc.{written_document}
-use Rattle.graphql_meant_documents.specs.MeantTree.{MeantDocument}
-use Rattle.graphql_verdict.specs.Texts.{Text, Tree, Terms, ReadsText, document_number}
-use Rattle.graphql_verdict.specs.Judge.{schema_of, schema_at_hand, document_over, AreSchemasAccepted, IsDocumentAccepted}
-use Rattle.graphql_verdict.specs.Out.{Out, OutDoc}
+use Rattle.schema_types.specs.SchemaTree.{SchemaTree}
+use Rattle.document_typing.specs.OutDoc.{written_document}
+use Rattle.document_meaning.specs.MeantTree.{MeantDocument}
+use Rattle.verdict_definitions.specs.Texts.{Text, Tree, Terms, ReadsText, document_number}
+use Rattle.verdict_definitions.specs.Judge.{schema_of, schema_at_hand, document_over, AreSchemasAccepted, IsDocumentAccepted}
+use Rattle.verdict_definitions.specs.Out.{Out, OutDoc}
 
 -- a checker: its terms, the schema texts that it was given in order, and whether memory ran out
 pub record CheckerValue : Type 0 where

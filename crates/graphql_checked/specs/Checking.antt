@@ -1,19 +1,19 @@
 -- Private: leads to `RefusalOfDocument`. What the steps of checking a document find.
 use Rattle.std.specs.Prelude.{◌≡◌, ◌≢◌, ◌↔◌, ℕ, List, [], ◌∷◌, Contains}
 use Rattle.graphql_names.specs.Placed.{Place}
-use Rattle.graphql_schema_types.specs.SchemaTree.{SchemaTree}
-use Rattle.graphql_meant_documents.specs.MeantTree.{MeantDocument}
-use Rattle.graphql_typing.specs.TypingFaults as typing
-use Rattle.graphql_typing.specs.OutDoc.{written_document, out_doc}
-use Rattle.graphql_document_rule_definitions.specs.Told.{PlacedDocumentFault, IsValidDocument}
-use Rattle.graphql_document_rule_definitions.specs.Verdict.{WithinBounds}
-use Rattle.graphql_meant_documents.specs.Unplaced.{unplaced_document}
+use Rattle.schema_types.specs.SchemaTree.{SchemaTree}
+use Rattle.document_meaning.specs.MeantTree.{MeantDocument}
+use Rattle.document_typing.specs.TypingFaults as typing
+use Rattle.document_typing.specs.OutDoc.{written_document, out_doc}
+use Rattle.rule_document_definitions.specs.Told.{PlacedDocumentFault, IsValidDocument}
+use Rattle.rule_document_definitions.specs.Verdict.{WithinBounds}
+use Rattle.document_meaning.specs.Unplaced.{unplaced_document}
 use Rattle.graphql_faults.specs.DetailsView.{diagnostics_of}
 use Rattle.graphql_validation.specs.TellsDocument.{IsTypedUnder, SomeFails}
-use Rattle.graphql_verdict.specs.Texts.{Text, Tree, ReadsText, IsWithin}
-use Rattle.graphql_verdict.specs.Judge.{document_over}
-use Rattle.graphql_verdict.specs.Says.{Fault, of_typing, of_document, TypingFailsOver}
-use Rattle.graphql_verdict.specs.Answer.{UnreadAlone}
+use Rattle.verdict_definitions.specs.Texts.{Text, Tree, ReadsText, IsWithin}
+use Rattle.verdict_definitions.specs.Judge.{document_over}
+use Rattle.verdict_definitions.specs.Says.{Fault, of_typing, of_document, TypingFailsOver}
+use Rattle.verdict_definitions.specs.Answer.{UnreadAlone}
 use Rattle.graphql_checked.specs.CheckerValue.{CheckedSchemaValue}
 use Rattle.graphql_checked.specs.declared.refusal.Refusal.{Refusal}
 use Rattle.graphql_checked.specs.declared.refusal.Refusal.TheVariants.{Faults, Memory, Failed}

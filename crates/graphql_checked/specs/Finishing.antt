@@ -1,25 +1,25 @@
 -- Private: leads to `RefusalOfSchemas`. What building and judging a schema find.
 use Rattle.std.specs.Prelude.{◌≡◌, ◌≢◌, ◌↔◌, ◌⊎◌, ℕ, false, List, [], ◌∷◌, Contains}
 use Rattle.graphql_names.specs.Placed.{Place}
-use Rattle.graphql_schema_types.specs.SchemaTree.{SchemaTree}
-use Rattle.graphql_schema_types.specs.Out.{written}
-use Rattle.graphql_built_in.specs.Table.{built_in_definitions}
-use Rattle.graphql_folding.specs.BuildErrors as folding
-use Rattle.graphql_folding.specs.BuildErrors.{FoldingRules}
-use Rattle.graphql_schema_building.specs.BuilderValue.{BuilderValue}
-use Rattle.graphql_schema_building.specs.Building.{plain_settings, counted, folded, FailsIn}
-use Rattle.graphql_schema_building.specs.Numbers.{HaveNumbers}
-use Rattle.graphql_schema_building.specs.declared.refusal.BuilderRefusal.{BuilderRefusal}
-use Rattle.graphql_schema_building.specs.declared.refusal.BuilderRefusal.TheVariants as builder
-use Rattle.graphql_rule_definitions.specs.Judged.{judged}
-use Rattle.graphql_rule_definitions.specs.Kept.{validated}
-use Rattle.graphql_rule_definitions.specs.Rules.{SchemaRules, RulesFail, BoundFails}
-use Rattle.graphql_rule_definitions.specs.Told.{PlacedFault}
+use Rattle.schema_types.specs.SchemaTree.{SchemaTree}
+use Rattle.schema_types.specs.Out.{written}
+use Rattle.schema_built_in.specs.Table.{built_in_definitions}
+use Rattle.schema_fold.specs.BuildErrors as folding
+use Rattle.schema_fold.specs.BuildErrors.{FoldingRules}
+use Rattle.schema_building.specs.BuilderValue.{BuilderValue}
+use Rattle.schema_building.specs.Building.{plain_settings, counted, folded, FailsIn}
+use Rattle.schema_building.specs.Numbers.{HaveNumbers}
+use Rattle.schema_building.specs.declared.refusal.BuilderRefusal.{BuilderRefusal}
+use Rattle.schema_building.specs.declared.refusal.BuilderRefusal.TheVariants as builder
+use Rattle.rule_definitions.specs.Judged.{judged}
+use Rattle.rule_definitions.specs.Kept.{validated}
+use Rattle.rule_definitions.specs.Rules.{SchemaRules, RulesFail, BoundFails}
+use Rattle.rule_definitions.specs.Told.{PlacedFault}
 use Rattle.graphql_faults.specs.DetailsTree.{of_rule}
 use Rattle.graphql_faults.specs.DetailsView.{diagnostics_of}
-use Rattle.graphql_verdict.specs.Texts.{Tree}
-use Rattle.graphql_verdict.specs.Judge.{definitions_of}
-use Rattle.graphql_verdict.specs.Says.{Fault, of_folding, spent}
+use Rattle.verdict_definitions.specs.Texts.{Tree}
+use Rattle.verdict_definitions.specs.Judge.{definitions_of}
+use Rattle.verdict_definitions.specs.Says.{Fault, of_folding, spent}
 use Rattle.graphql_checked.specs.Checking.{TellsOnly}
 use Rattle.graphql_checked.specs.declared.refusal.Refusal.{Refusal}
 use Rattle.graphql_checked.specs.declared.refusal.Refusal.TheVariants.{Faults, Memory, Failed}

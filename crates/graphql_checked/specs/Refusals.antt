@@ -1,8 +1,8 @@
 -- What the refusals of the checker say of the texts.
 use Rattle.std.specs.Prelude.{List}
 use Rattle.graphql_faults.specs.DetailsView.{diagnostics_of}
-use Rattle.graphql_verdict.specs.Texts.{Text, Terms}
-use Rattle.graphql_verdict.specs.Answer.{RefusesSchemas, RefusesDocument}
+use Rattle.verdict_definitions.specs.Texts.{Text, Terms}
+use Rattle.verdict_definitions.specs.Answer.{RefusesSchemas, RefusesDocument}
 use Rattle.graphql_checked.specs.CheckerValue.{CheckedSchemaValue}
 use Rattle.graphql_checked.specs.declared.refusal.Refusal.{Refusal}
 use Rattle.graphql_checked.specs.declared.refusal.Refusal.TheVariants.{Faults, Memory, Failed}

@@ -5,15 +5,15 @@ use Rattle.std.specs.Io.KnownBytes.{Appends}
 use Rattle.graphql_names.specs.declared.device.Device.{Device}
 use Rattle.graphql_names.specs.Device.{device_inner, device_failed}
 use Rattle.graphql_faults.specs.DetailsView.{diagnostics_of}
-use Rattle.graphql_verdict.specs.Texts.{Text, Terms}
-use Rattle.graphql_verdict.specs.Judge.{IsCertain}
-use Rattle.graphql_verdict.specs.Out.{Layout, layout_text, as_lines}
-use Rattle.graphql_verdict.specs.Answer.{WritesDocument, AcceptedBytes, RefusedBytes, Answer, fault_line}
-use Rattle.graphql_answers.specs.Devices.{IsTextOf, TellsText, AreTextsOf, IsNotUtf8Of, IsNotUtf8At, HasFailedAt}
-use Rattle.graphql_answers.specs.declared.run_fault.Outcome.{Outcome}
-use Rattle.graphql_answers.specs.declared.run_fault.Outcome.TheVariants.{Accepted, Refused}
-use Rattle.graphql_answers.specs.declared.run_fault.RunFault.{RunFault}
-use Rattle.graphql_answers.specs.declared.run_fault.RunFault.TheVariants.{Memory, Reader, NotUtf8, Writer}
+use Rattle.verdict_definitions.specs.Texts.{Text, Terms}
+use Rattle.verdict_definitions.specs.Judge.{IsCertain}
+use Rattle.verdict_definitions.specs.Out.{Layout, layout_text, as_lines}
+use Rattle.verdict_definitions.specs.Answer.{WritesDocument, AcceptedBytes, RefusedBytes, Answer, fault_line}
+use Rattle.checker_answers.specs.Devices.{IsTextOf, TellsText, AreTextsOf, IsNotUtf8Of, IsNotUtf8At, HasFailedAt}
+use Rattle.checker_answers.specs.declared.run_fault.Outcome.{Outcome}
+use Rattle.checker_answers.specs.declared.run_fault.Outcome.TheVariants.{Accepted, Refused}
+use Rattle.checker_answers.specs.declared.run_fault.RunFault.{RunFault}
+use Rattle.checker_answers.specs.declared.run_fault.RunFault.TheVariants.{Memory, Reader, NotUtf8, Writer}
 use Rattle.graphql_checked.specs.CheckerValue.{CheckedSchemaValue}
 use Rattle.graphql_checked.specs.declared.refusal.Refusal.{Refusal}
 use Rattle.graphql_checked.specs.declared.refusal.Refusal.TheVariants as refusal

@@ -1,9 +1,9 @@
 -- Private: leads to what `Checker::finish` answers. What contracts see of the schema texts that a checker was given.
 use Rattle.std.specs.Prelude.{◌≡◌, ℕ, ◌+◌, ◌<◌, ◌^◌, List, map, string_bytes}
 use Rattle.graphql_names.specs.declared.span.FileId.{FileId}
-use Rattle.graphql_definitions.specs.DefinitionTree.{document_tree}
+use Rattle.tree_definitions.specs.DefinitionTree.{document_tree}
 use Rattle.graphql_faults.specs.DetailsView.{diagnostics_of}
-use Rattle.graphql_verdict.specs.Texts.{Text, Tree, Terms}
+use Rattle.verdict_definitions.specs.Texts.{Text, Tree, Terms}
 use Rattle.graphql_checked.specs.Added.{AreAdded}
 use Rattle.graphql_checked.specs.declared.schema_texts.SchemaTexts.{SchemaTexts}
 

@@ -1,8 +1,8 @@
--- Private: leads to `UnreadFault` of `graphql_verdict`. What reading answers of a text without a tree within the limit.
+-- Private: leads to `UnreadFault` of `verdict_definitions`. What reading answers of a text without a tree within the limit.
 use Rattle.std.specs.Prelude.{◌≡◌, ℕ, List, Some}
 use Rattle.graphql_read.specs.in_grammar.Faults as read
 use Rattle.graphql_faults.specs.DetailsView.{details_at}
-use Rattle.graphql_verdict.specs.Says.{Tells, IsFaultOfText}
+use Rattle.verdict_definitions.specs.Says.{Tells, IsFaultOfText}
 use Rattle.graphql_checked.specs.declared.read_text.Unread.{Unread}
 use Rattle.graphql_checked.specs.declared.read_text.Unread.TheVariants as unread
 

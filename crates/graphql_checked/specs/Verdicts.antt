@@ -1,9 +1,9 @@
 -- What the verdict on whole texts says.
 use Rattle.std.specs.Prelude.{ℕ, List, Result, Ok, Err}
 use Rattle.graphql_faults.specs.DetailsView.{diagnostics_of}
-use Rattle.graphql_verdict.specs.Texts.{Text, Terms}
-use Rattle.graphql_verdict.specs.Judge.{IsAccepted}
-use Rattle.graphql_verdict.specs.Answer.{Refuses}
+use Rattle.verdict_definitions.specs.Texts.{Text, Terms}
+use Rattle.verdict_definitions.specs.Judge.{IsAccepted}
+use Rattle.verdict_definitions.specs.Answer.{Refuses}
 use Rattle.graphql_checked.specs.declared.refusal.Refusal.{Refusal}
 use Rattle.graphql_checked.specs.declared.refusal.Refusal.TheVariants as refusal
 use Rattle.graphql_checked.specs.declared.verdict.Verdict.{Verdict}

@@ -1,15 +1,15 @@
 //! What builders find, as lists of faults.
 
 ghost use Rattle.std.specs.Prelude.{◌≡◌, map, IfOk};
-ghost use Rattle.graphql_folding.specs.FaultView.{faults_of};
-ghost use Rattle.graphql_typing.specs.FaultView as typing;
+ghost use Rattle.schema_fold.specs.FaultView.{faults_of};
+ghost use Rattle.document_typing.specs.FaultView as typing;
 ghost use Rattle.graphql_faults.specs.DetailsView.{diagnostics_of};
-ghost use Rattle.graphql_verdict.specs.Says.{of_folding, of_typing};
+ghost use Rattle.verdict_definitions.specs.Says.{of_folding, of_typing};
 
-use graphql_document_faults::BuildError as DocumentError;
+use fault_document_data::BuildError as DocumentError;
 use graphql_faults::{Details, DiagnosticList};
-use graphql_folding::BuildError as SchemaError;
 use graphql_names::SourceSpan;
+use schema_fold::BuildError as SchemaError;
 use std::alloc::{AllocError, Global};
 
 /// What breaks rules of folding, in order.

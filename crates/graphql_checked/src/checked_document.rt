@@ -1,16 +1,16 @@
 //! Documents of which every rule holds over a schema.
 
 ghost use Rattle.std.specs.Prelude.{◌≡◌, IfOk, string_bytes};
-ghost use Rattle.graphql_typed_operations.specs.TypedDocument.{typed_document_tree};
-ghost use Rattle.graphql_typing.specs.DocumentView.{meant_document};
-ghost use Rattle.graphql_layouts.specs.Layouts.{prefix_of};
-ghost use Rattle.graphql_verdict.specs.Answer.{WritesDocument};
+ghost use Rattle.document_typed_operations.specs.TypedDocument.{typed_document_tree};
+ghost use Rattle.document_typing.specs.DocumentView.{meant_document};
+ghost use Rattle.checker_layouts.specs.Layouts.{prefix_of};
+ghost use Rattle.verdict_definitions.specs.Answer.{WritesDocument};
 ghost use Rattle.graphql_checked.specs.CheckedView.{schema_value, document_value};
 ghost use Rattle.graphql_checked.specs.CheckerValue.{IsCheckedDocumentOf};
 
 use crate::checked_schema::CheckedSchema;
-use graphql_layouts::{Layout, written};
-use graphql_typed_operations::ExecutableDocument;
+use checker_layouts::{Layout, written};
+use document_typed_operations::ExecutableDocument;
 use std::alloc::AllocError;
 use std::marker::Model;
 
@@ -26,10 +26,10 @@ impl<'s> Model for CheckedDocument<'s> {
     ghost use Rattle.std.specs.Prelude.{string_bytes};
     ghost use Rattle.std.specs.Coded.{codes};
     ghost use Rattle.graphql_schema.specs.contracts.schema.Schema as of_schema;
-    ghost use Rattle.graphql_definitions.specs.contracts.document.Document as of_written;
-    ghost use Rattle.graphql_typed_operations.specs.contracts.document.ExecutableDocument as of_document;
-    ghost use Rattle.graphql_typed_operations.specs.TypedDocument.{typed_document_tree};
-    ghost use Rattle.graphql_typing.specs.DocumentView.{meant_document};
+    ghost use Rattle.tree_definitions.specs.contracts.document.Document as of_written;
+    ghost use Rattle.document_typed_operations.specs.contracts.document.ExecutableDocument as of_document;
+    ghost use Rattle.document_typed_operations.specs.TypedDocument.{typed_document_tree};
+    ghost use Rattle.document_typing.specs.DocumentView.{meant_document};
     ghost use Rattle.graphql_checked.specs.CheckedView.{CheckedDocumentParts, schema_value};
     ghost use Rattle.graphql_checked.specs.CheckerValue.{IsCheckedDocumentOf};
 

@@ -1,17 +1,17 @@
 //! Schemas of which every rule holds.
 
 ghost use Rattle.std.specs.Prelude.{◌≡◌, [], OnOk, IfOk, IfErr, string_bytes};
-ghost use Rattle.graphql_definitions.specs.DefinitionTree.{document_tree};
+ghost use Rattle.tree_definitions.specs.DefinitionTree.{document_tree};
 ghost use Rattle.graphql_faults.specs.DetailsView.{details_at, diagnostics_of};
 ghost use Rattle.graphql_schema.specs.SchemaOf.{schema_tree};
-ghost use Rattle.graphql_layouts.specs.Layouts.{prefix_of};
-ghost use Rattle.graphql_typing.specs.DocumentView.{meant_document};
-ghost use Rattle.graphql_typed_operations.specs.TypedDocument.{typed_document_tree};
-ghost use Rattle.graphql_verdict.specs.Judge.{IsDocumentCertain};
-ghost use Rattle.graphql_verdict.specs.Out.{layout_text};
+ghost use Rattle.checker_layouts.specs.Layouts.{prefix_of};
+ghost use Rattle.document_typing.specs.DocumentView.{meant_document};
+ghost use Rattle.document_typed_operations.specs.TypedDocument.{typed_document_tree};
+ghost use Rattle.verdict_definitions.specs.Judge.{IsDocumentCertain};
+ghost use Rattle.verdict_definitions.specs.Out.{layout_text};
 ghost use Rattle.graphql_checked.specs.CheckedView.{schema_value, document_value};
 ghost use Rattle.graphql_checked.specs.CheckerValue.{IsOfAcceptedTexts, IsCheckedDocumentOf};
-ghost use Rattle.graphql_document_rule_definitions.specs.Told.{IsValidDocument};
+ghost use Rattle.rule_document_definitions.specs.Told.{IsValidDocument};
 ghost use Rattle.graphql_validation.specs.TellsDocument.{IsTypedUnder};
 ghost use Rattle.graphql_checked.specs.Refusals.{RefusalOfDocument};
 ghost use Rattle.graphql_checked.specs.Checking.{IsReadDocument, IsUnreadDocument, TellsOnly, TypesDocument, RefusalOfTyping, RefusalOfRules};
@@ -21,16 +21,16 @@ use crate::build_errors::document_errors;
 use crate::checked_document::CheckedDocument;
 use crate::read_text::{Unread, read};
 use crate::refusal::Refusal;
-use graphql_definitions::Document;
+use checker_layouts::{Layout, written};
+use document_typed_operations::ExecutableDocument;
+use document_typing::{BuilderRefusal, ExecutableDocumentBuilder};
 use graphql_faults::{Details, DiagnosticList};
-use graphql_layouts::{Layout, written};
 use graphql_names::{FileId, SourceSpan};
 use graphql_schema::Schema;
-use graphql_typed_operations::ExecutableDocument;
-use graphql_typing::{BuilderRefusal, ExecutableDocumentBuilder};
 use graphql_validation::validate_executable_document;
 use std::alloc::{AllocError, Global};
 use std::marker::Model;
+use tree_definitions::Document;
 
 /// A schema of texts that are accepted: they are read, every rule holds of them, and no bound of brackets or numbers is passed.
 #[derive(Drop)]
@@ -49,7 +49,7 @@ pub struct CheckedSchema {
 impl Model for CheckedSchema {
     ghost use Rattle.std.specs.Coded.{codes};
     ghost use Rattle.graphql_schema.specs.contracts.schema.Schema as of_schema;
-    ghost use Rattle.graphql_definitions.specs.contracts.document.Document as of_document;
+    ghost use Rattle.tree_definitions.specs.contracts.document.Document as of_document;
     ghost use Rattle.graphql_checked.specs.CheckedView.{CheckedSchemaParts, schema_value};
     ghost use Rattle.graphql_checked.specs.CheckerValue.{IsOfAcceptedTexts};
 

@@ -1,7 +1,7 @@
 //! The checker of schema texts.
 
 ghost use Rattle.std.specs.Prelude.{◌≡◌, ◌++◌, ◌∷◌, [], true, false, OnOk, IfOk, IfErr};
-ghost use Rattle.graphql_verdict.specs.Judge.{AreSchemasCertain};
+ghost use Rattle.verdict_definitions.specs.Judge.{AreSchemasCertain};
 ghost use Rattle.graphql_checked.specs.CheckedView.{schema_value};
 ghost use Rattle.graphql_checked.specs.CheckerValue.{IsCheckedSchemaOf};
 ghost use Rattle.graphql_checked.specs.CheckerAnswers.{IsAddRefusal, IsFinishRefusal};
@@ -10,8 +10,8 @@ ghost use Rattle.graphql_checked.specs.declared.refusal.Refusal.TheVariants.{Mem
 use crate::checked_schema::CheckedSchema;
 use crate::refusal::Refusal;
 use crate::schema_texts::SchemaTexts;
-use graphql_components::Extensions;
 use graphql_names::Files;
+use schema_components::Extensions;
 use std::alloc::Global;
 use std::marker::Model;
 

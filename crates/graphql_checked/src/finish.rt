@@ -1,25 +1,25 @@
 //! The schema of texts that are read: built and judged.
 
 ghost use Rattle.std.specs.Prelude.{◌≡◌, [], map, OnOk, IfOk, IfErr};
-ghost use Rattle.graphql_definitions.specs.DefinitionTree.{document_tree};
+ghost use Rattle.tree_definitions.specs.DefinitionTree.{document_tree};
 ghost use Rattle.graphql_faults.specs.DetailsView.{diagnostics_of};
 ghost use Rattle.graphql_schema.specs.BuilderOf.{builder_value};
 ghost use Rattle.graphql_schema.specs.SchemaOf.{schema_tree};
-ghost use Rattle.graphql_rule_definitions.specs.Judged.{judged};
-ghost use Rattle.graphql_rule_definitions.specs.Kept.{validated};
-ghost use Rattle.graphql_rule_definitions.specs.Rules.{SchemaRules};
+ghost use Rattle.rule_definitions.specs.Judged.{judged};
+ghost use Rattle.rule_definitions.specs.Kept.{validated};
+ghost use Rattle.rule_definitions.specs.Rules.{SchemaRules};
 ghost use Rattle.graphql_checked.specs.Finishing.{IsFilled, RefusalOfNumbers, IsOfBuilder, BuildsSchema, RefusalOfFolding, RefusalOfSchemaRules, IsJudgedSchema, RefusalOfBuilder};
 
 use crate::build_errors::schema_errors;
 use crate::checked_schema::only;
 use crate::refusal::Refusal;
-use graphql_components::Extensions;
-use graphql_definitions::Document;
 use graphql_faults::{Details, DiagnosticList};
 use graphql_rules::validate_schema;
 use graphql_schema::{Schema, SchemaBuilder};
-use graphql_schema_building::BuilderRefusal;
+use schema_building::BuilderRefusal;
+use schema_components::Extensions;
 use std::alloc::{AllocError, Global};
+use tree_definitions::Document;
 
 /// A builder that has the definitions of the documents, in order, if there is a number for each extension.
 pub(crate) fn filled(

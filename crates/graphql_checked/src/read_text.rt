@@ -1,19 +1,19 @@
 //! One text, read: its document, or why it has none.
 
 ghost use Rattle.std.specs.Prelude.{◌≡◌, ◌<◌, ℕ, length, IfOk, IfErr, OnOk};
-ghost use Rattle.graphql_definitions.specs.DefinitionTree.{document_tree};
+ghost use Rattle.tree_definitions.specs.DefinitionTree.{document_tree};
 ghost use Rattle.graphql_read.specs.in_grammar.Faults as faults;
 ghost use Rattle.graphql_read.specs.Reads.{NestingBound};
 ghost use Rattle.graphql_read.specs.ReadFaults.{fault_at, fault_view};
 ghost use Rattle.graphql_read.specs.declared.fault.ReadFault.TheVariants.{Nesting};
-ghost use Rattle.graphql_verdict.specs.Texts.{ReadsText};
+ghost use Rattle.verdict_definitions.specs.Texts.{ReadsText};
 ghost use Rattle.graphql_checked.specs.Unread.{IsUnread, TellsUnread};
 
-use graphql_definitions::Document;
 use graphql_faults::Details;
 use graphql_names::{FileId, SourceSpan};
 use graphql_read::{ReadFault, SyntaxFault, parse_document};
 use std::alloc::Global;
+use tree_definitions::Document;
 
 /// Why a text has no tree.
 #[derive(Drop)]

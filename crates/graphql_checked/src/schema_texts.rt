@@ -1,10 +1,10 @@
 //! The schema texts that a checker was given, and what reading them gave.
 
 ghost use Rattle.std.specs.Prelude.{◌≡◌, ◌≢◌, ◌++◌, ◌∷◌, [], ℕ, List, OnOk, OnErr, IfOk, IfErr};
-ghost use Rattle.graphql_definitions.specs.DefinitionTree.{document_tree};
+ghost use Rattle.tree_definitions.specs.DefinitionTree.{document_tree};
 ghost use Rattle.graphql_read.specs.Reads.{NestingBound};
 ghost use Rattle.graphql_faults.specs.DetailsView.{diagnostics_of};
-ghost use Rattle.graphql_verdict.specs.Texts.{ReadsText};
+ghost use Rattle.verdict_definitions.specs.Texts.{ReadsText};
 ghost use Rattle.graphql_checked.specs.Added.{IsToldBehind};
 ghost use Rattle.graphql_checked.specs.CheckedView.{schema_value};
 ghost use Rattle.graphql_checked.specs.CheckerValue.{IsCheckedSchemaOf};
@@ -15,11 +15,11 @@ use crate::checked_schema::CheckedSchema;
 use crate::finish::{filled, judge};
 use crate::read_text::{Unread, read};
 use crate::refusal::Refusal;
-use graphql_components::Extensions;
-use graphql_definitions::Document;
 use graphql_faults::{Details, DiagnosticList};
 use graphql_names::{FileId, Files, Spent};
+use schema_components::Extensions;
 use std::alloc::{AllocError, Global};
+use tree_definitions::Document;
 
 /// Schema texts in order, and what reading them gave.
 #[derive(Drop)]

@@ -1,7 +1,7 @@
 //! The verdict on whole texts.
 
 ghost use Rattle.std.specs.Prelude.{◌≡◌, ◌⊎◌, Ok, Err, map, IfOk, IfErr};
-ghost use Rattle.graphql_verdict.specs.Judge.{AreSchemasCertain, IsCertain};
+ghost use Rattle.verdict_definitions.specs.Judge.{AreSchemasCertain, IsCertain};
 ghost use Rattle.graphql_checked.specs.CheckedView.{schema_value};
 ghost use Rattle.graphql_checked.specs.CheckerValue.{IsCheckedSchemaOf};
 ghost use Rattle.graphql_checked.specs.Refusals.{RefusalOfSchemas};

@@ -1,12 +1,12 @@
 -- What contracts see of the answers to look-ups.
 use Rattle.std.specs.Prelude.{Result, Ok, Err}
 use Rattle.graphql_names.specs.Placed.{Place, node_tree}
-use Rattle.graphql_directives.specs.DirectiveTree.{input_value_tree, directive_definition_tree}
-use Rattle.graphql_type_members.specs.TypeSystemTree.{field_definition_tree, enum_value_tree}
-use Rattle.graphql_components.specs.Given.{component_tree}
+use Rattle.tree_directives.specs.DirectiveTree.{input_value_tree, directive_definition_tree}
+use Rattle.tree_type_members.specs.TypeSystemTree.{field_definition_tree, enum_value_tree}
+use Rattle.schema_components.specs.Given.{component_tree}
 use Rattle.graphql_schema.specs.in_schema_types.SchemaTree.{SchemaTree}
 use Rattle.graphql_schema.specs.in_schema_types.TypeView.{extended_type}
-use Rattle.graphql_coordinates.specs.Coordinate.{Coordinate, OfType, OfAttribute, OfArgument, OfDirective, OfDirectiveArgument}
+use Rattle.schema_coordinates.specs.Coordinate.{Coordinate, OfType, OfAttribute, OfArgument, OfDirective, OfDirectiveArgument}
 use Rattle.graphql_coords.specs.LookUps.{Fault, MissingType, MissingAttribute, InvalidArgumentAttribute, MissingArgument, InvalidType, Attribute, OfField, OfInputField, OfEnumValue, Named, NamedType, NamedDirective, NamedAttribute, NamedArgument, found_as, type_lookup, attribute_lookup, argument_lookup, directive_lookup, directive_argument_lookup}
 use Rattle.graphql_coords.specs.declared.lookup_answers.SchemaLookupError.{SchemaLookupError}
 use Rattle.graphql_coords.specs.declared.lookup_answers.SchemaLookupError.TheVariants as error

@@ -1,11 +1,11 @@
 -- What a coordinate names in a schema, or why it names nothing.
 use Rattle.std.specs.Prelude.{ℕ, ◌||◌, List, Result, Ok, Err, ok_or, find, if◌then◌else◌}
 use Rattle.graphql_names.specs.Placed.{Placed, Place}
-use Rattle.graphql_directives.specs.DirectiveTree.{InputValueTree, DirectiveDefinitionTree}
-use Rattle.graphql_directives.specs.DirectiveQueries.{input_value_has_name}
-use Rattle.graphql_type_members.specs.TypeSystemTree.{FieldDefinitionTree, EnumValueTree}
-use Rattle.graphql_type_members.specs.ArgumentQueries.{argument_named}
-use Rattle.graphql_components.specs.Given.{Given}
+use Rattle.tree_directives.specs.DirectiveTree.{InputValueTree, DirectiveDefinitionTree}
+use Rattle.tree_directives.specs.DirectiveQueries.{input_value_has_name}
+use Rattle.tree_type_members.specs.TypeSystemTree.{FieldDefinitionTree, EnumValueTree}
+use Rattle.tree_type_members.specs.ArgumentQueries.{argument_named}
+use Rattle.schema_components.specs.Given.{Given}
 use Rattle.graphql_schema.specs.in_schema_types.SchemaTree.{SchemaType, SchemaTree, same_kind}
 use Rattle.graphql_schema.specs.in_schema_types.Addresses.{under, type_at}
 use Rattle.graphql_schema.specs.in_schema_types.declared.type_kind.TypeKind.TheVariants.{Object, Interface, Enum, InputObject}

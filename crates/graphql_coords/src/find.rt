@@ -1,19 +1,19 @@
 //! How what a coordinate names is found.
 ghost use Rattle.std.specs.Prelude.{◌≡◌};
 ghost use Rattle.graphql_names.specs.Placed.{node_tree};
-ghost use Rattle.graphql_directives.specs.DirectiveTree.{input_value_tree, directive_definition_tree};
-ghost use Rattle.graphql_type_members.specs.TypeSystemTree.{field_definition_tree, enum_value_tree};
-ghost use Rattle.graphql_components.specs.Given.{component_tree};
+ghost use Rattle.tree_directives.specs.DirectiveTree.{input_value_tree, directive_definition_tree};
+ghost use Rattle.tree_type_members.specs.TypeSystemTree.{field_definition_tree, enum_value_tree};
+ghost use Rattle.schema_components.specs.Given.{component_tree};
 ghost use Rattle.graphql_schema.specs.in_schema_types.TypeView.{extended_type};
 ghost use Rattle.graphql_schema.specs.SchemaOf.{schema_tree};
 ghost use Rattle.graphql_coords.specs.LookUps.{field_in, input_field_in, enum_value_in, attribute_in, argument_in, type_lookup, attribute_lookup, directive_lookup};
 ghost use Rattle.graphql_coords.specs.LookUpView.{answer, attribute_of};
 
 use crate::lookup_answers::{SchemaLookupError, TypeAttributeLookup};
-use graphql_directives::{DirectiveDefinition, InputValueDefinition};
 use graphql_names::{Name, Node};
 use graphql_schema::{Component, ExtendedType, Schema};
-use graphql_type_members::{EnumValueDefinition, FieldDefinition};
+use tree_directives::{DirectiveDefinition, InputValueDefinition};
+use tree_type_members::{EnumValueDefinition, FieldDefinition};
 
 /// The type of that name.
 pub(crate) fn find_type<'coord, 'schema>(

@@ -1,5 +1,5 @@
 //! What schema coordinates name: their look-ups in a schema. Their form, and how they are printed and read, is
-//! `graphql_coordinates`, whose types this gives again.
+//! `schema_coordinates`, whose types this gives again.
 //!
 //! For the layer above: look-ups answer by the schema's entries (`specs/LookUps.antt`).
 //!
@@ -10,13 +10,13 @@ mod find;
 mod lookup;
 mod lookup_answers;
 
-pub use graphql_coordinates::{
-    DirectiveArgumentCoordinate, DirectiveCoordinate, FieldArgumentCoordinate, SchemaCoordinate,
-    SchemaCoordinateParseError, TypeAttributeCoordinate, TypeCoordinate,
-};
 pub use graphql_schema::{FieldLookupError, Schema};
 pub use lookup::{
     DirectiveArgumentCoordinateExt, DirectiveCoordinateExt, FieldArgumentCoordinateExt,
     SchemaCoordinateExt, TypeAttributeCoordinateExt, TypeCoordinateExt,
 };
 pub use lookup_answers::{SchemaCoordinateLookup, SchemaLookupError, TypeAttributeLookup};
+pub use schema_coordinates::{
+    DirectiveArgumentCoordinate, DirectiveCoordinate, FieldArgumentCoordinate, SchemaCoordinate,
+    SchemaCoordinateParseError, TypeAttributeCoordinate, TypeCoordinate,
+};

@@ -1,12 +1,12 @@
 //! What coordinates name in a schema.
 ghost use Rattle.std.specs.Prelude.{◌≡◌};
 ghost use Rattle.graphql_names.specs.Placed.{node_tree};
-ghost use Rattle.graphql_directives.specs.DirectiveTree.{input_value_tree, directive_definition_tree};
-ghost use Rattle.graphql_type_members.specs.TypeSystemTree.{field_definition_tree, enum_value_tree};
-ghost use Rattle.graphql_components.specs.Given.{component_tree};
+ghost use Rattle.tree_directives.specs.DirectiveTree.{input_value_tree, directive_definition_tree};
+ghost use Rattle.tree_type_members.specs.TypeSystemTree.{field_definition_tree, enum_value_tree};
+ghost use Rattle.schema_components.specs.Given.{component_tree};
 ghost use Rattle.graphql_schema.specs.in_schema_types.TypeView.{extended_type};
 ghost use Rattle.graphql_schema.specs.SchemaOf.{schema_tree};
-ghost use Rattle.graphql_coordinates.specs.CoordinateView.{type_coordinate, attribute_coordinate, argument_coordinate, directive_coordinate, directive_argument_coordinate, schema_coordinate};
+ghost use Rattle.schema_coordinates.specs.CoordinateView.{type_coordinate, attribute_coordinate, argument_coordinate, directive_coordinate, directive_argument_coordinate, schema_coordinate};
 ghost use Rattle.graphql_coords.specs.LookUps.{type_lookup, attribute_lookup, field_lookup, input_field_lookup, enum_value_lookup, argument_lookup, directive_lookup, directive_argument_lookup};
 ghost use Rattle.graphql_coords.specs.LookUpView.{answer, attribute_of, named_of, lookup_of};
 
@@ -14,14 +14,14 @@ use crate::find::{
     argument_in, enum_value_in, field_in, find_attribute, find_directive, find_type, input_field_in,
 };
 use crate::lookup_answers::{SchemaCoordinateLookup, SchemaLookupError, TypeAttributeLookup};
-use graphql_coordinates::{
+use graphql_names::Node;
+use graphql_schema::{Component, ExtendedType, Schema};
+use schema_coordinates::{
     DirectiveArgumentCoordinate, DirectiveCoordinate, FieldArgumentCoordinate, SchemaCoordinate,
     TypeAttributeCoordinate, TypeCoordinate,
 };
-use graphql_directives::{DirectiveDefinition, InputValueDefinition};
-use graphql_names::Node;
-use graphql_schema::{Component, ExtendedType, Schema};
-use graphql_type_members::{EnumValueDefinition, FieldDefinition};
+use tree_directives::{DirectiveDefinition, InputValueDefinition};
+use tree_type_members::{EnumValueDefinition, FieldDefinition};
 
 /// The look-up of a type.
 pub trait TypeCoordinateExt {

@@ -3,11 +3,11 @@ ghost use Rattle.std.specs.Prelude.{◌≡◌};
 ghost use Rattle.graphql_coords.specs.LookUps.{NamedAttribute};
 ghost use Rattle.graphql_coords.specs.LookUpView.{attribute_of, named_of};
 
-use graphql_components::Component;
-use graphql_directives::{DirectiveDefinition, InputValueDefinition};
 use graphql_names::{Name, Node};
 use graphql_schema::ExtendedType;
-use graphql_type_members::{EnumValueDefinition, FieldDefinition};
+use schema_components::Component;
+use tree_directives::{DirectiveDefinition, InputValueDefinition};
+use tree_type_members::{EnumValueDefinition, FieldDefinition};
 
 /// Why a coordinate names nothing in a schema: the name that was not found or does not fit, or the type.
 #[derive(Clone, Copy)]

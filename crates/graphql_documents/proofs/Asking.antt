@@ -3,10 +3,10 @@ use Rattle.std.proofs.Common.{◌≡◌, List, Bool, false, true≢false, IfOk, 
 use Rattle.std.specs.Prelude.{IsTrue}
 use Rattle.std.specs.declared.alloc.AllocError.{AllocError}
 use Rattle.graphql_names.specs.Placed.{Place}
-use Rattle.graphql_operations.specs.in_directives.declared.operation_type.OperationType.TheVariants.{Query}
-use Rattle.graphql_typed_selections.specs.TypedTree.{TypedSelection}
-use Rattle.graphql_typed_operations.specs.TypedDocument.{TypedOperation}
-use Rattle.graphql_walks.specs.Reached.{Fragments, IsWalk}
+use Rattle.tree_operations.specs.in_directives.declared.operation_type.OperationType.TheVariants.{Query}
+use Rattle.document_typed_selections.specs.TypedTree.{TypedSelection}
+use Rattle.document_typed_operations.specs.TypedDocument.{TypedOperation}
+use Rattle.document_walks.specs.Reached.{Fragments, IsWalk}
 use Rattle.graphql_documents.specs.Introspection.{are_meta_fields, SaysIntrospection}
 
 module _ (fragments : Fragments Place) (o : TypedOperation Place) (left : List (TypedSelection Place)) (walk : IsWalk false fragments o.set left) where

@@ -1,11 +1,11 @@
 -- Which operations ask for the schema alone: queries of which each root field is a meta-field (GraphQL, October 2021, sections 4, 4.1 and 4.2).
 use Rattle.std.specs.Prelude.{◌≡◌, ◌↔◌, ℕ, Bool, false, IsTrue, List, [], ◌∷◌, codes}
 use Rattle.std.specs.List.{list_all}
-use Rattle.graphql_operations.specs.in_directives.declared.operation_type.OperationType.TheVariants.{Query}
-use Rattle.graphql_components.specs.Lists.{is_among}
-use Rattle.graphql_typed_selections.specs.TypedTree.{TypedSelection, TypedField, TypedSpread, TypedInline}
-use Rattle.graphql_typed_operations.specs.TypedDocument.{TypedOperation}
-use Rattle.graphql_walks.specs.Reached.{Fragments, IsWalk}
+use Rattle.tree_operations.specs.in_directives.declared.operation_type.OperationType.TheVariants.{Query}
+use Rattle.schema_components.specs.Lists.{is_among}
+use Rattle.document_typed_selections.specs.TypedTree.{TypedSelection, TypedField, TypedSpread, TypedInline}
+use Rattle.document_typed_operations.specs.TypedDocument.{TypedOperation}
+use Rattle.document_walks.specs.Reached.{Fragments, IsWalk}
 
 -- the names of the meta-fields
 abbrev pub is_meta_name : List ℕ → Bool

@@ -1,11 +1,11 @@
 -- Fields that a selection set makes: of a name, with the definition on the type of the set (GraphQL, October 2021, sections 2.5 and 5.3.1).
 use Rattle.std.specs.Prelude.{ℕ, List, [], None}
 use Rattle.graphql_names.specs.Placed.{Placed, Place, Text}
-use Rattle.graphql_typing.specs.in_literals.TypeQueries.{inner_name}
-use Rattle.graphql_schema_types.specs.in_type_members.TypeSystemTree.{FieldDefinitionTree}
-use Rattle.graphql_schema_types.specs.SchemaTree.{SchemaTree}
-use Rattle.graphql_typing.specs.in_schema.LookUps.{FieldIsMissing}
-use Rattle.graphql_typed_selections.specs.TypedTree.{TypedSelection, TypedField, typed_set, no_typed}
+use Rattle.document_typing.specs.in_literals.TypeQueries.{inner_name}
+use Rattle.schema_types.specs.in_type_members.TypeSystemTree.{FieldDefinitionTree}
+use Rattle.schema_types.specs.SchemaTree.{SchemaTree}
+use Rattle.document_typing.specs.in_schema.LookUps.{FieldIsMissing}
+use Rattle.document_typed_selections.specs.TypedTree.{TypedSelection, TypedField, typed_set, no_typed}
 use Rattle.graphql_documents.specs.declared.new_field_error.NewFieldError.{NewFieldError}
 use Rattle.graphql_documents.specs.declared.new_field_error.NewFieldError.TheVariants.{Lookup, Memory}
 

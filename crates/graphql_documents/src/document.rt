@@ -1,10 +1,10 @@
 //! Making documents.
 ghost use Rattle.std.specs.Prelude.{◌≡◌, [], false};
-ghost use Rattle.graphql_typing.specs.MeaningView.{schema_under, meanings_under};
-ghost use Rattle.graphql_typing.specs.BuilderView.{builder_value};
+ghost use Rattle.document_typing.specs.MeaningView.{schema_under, meanings_under};
+ghost use Rattle.document_typing.specs.BuilderView.{builder_value};
 
-use graphql_typed_operations::ExecutableDocument;
-use graphql_typing::{ExecutableDocumentBuilder, Schema};
+use document_typed_operations::ExecutableDocument;
+use document_typing::{ExecutableDocumentBuilder, Schema};
 use std::alloc::Global;
 
 /// Calls that make a document.

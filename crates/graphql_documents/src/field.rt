@@ -2,15 +2,15 @@
 ghost use Rattle.std.specs.Prelude.{◌≡◌};
 ghost use Rattle.std.specs.Option.{option_map};
 ghost use Rattle.graphql_names.specs.Placed.{node_tree};
-ghost use Rattle.graphql_typing.specs.in_literals.TypeQueries.{inner_name};
-ghost use Rattle.graphql_schema_types.specs.in_type_members.TypeSystemTree.{field_definition_tree};
-ghost use Rattle.graphql_schema_types.specs.TypeView.{extended_type};
-ghost use Rattle.graphql_schema_types.specs.Addresses.{type_at};
-ghost use Rattle.graphql_typing.specs.in_schema.SchemaOf.{schema_tree};
+ghost use Rattle.document_typing.specs.in_literals.TypeQueries.{inner_name};
+ghost use Rattle.schema_types.specs.in_type_members.TypeSystemTree.{field_definition_tree};
+ghost use Rattle.schema_types.specs.TypeView.{extended_type};
+ghost use Rattle.schema_types.specs.Addresses.{type_at};
+ghost use Rattle.document_typing.specs.in_schema.SchemaOf.{schema_tree};
 
-use graphql_schema_types::ExtendedType;
-use graphql_typed_selections::Field;
-use graphql_typing::Schema;
+use document_typed_selections::Field;
+use document_typing::Schema;
+use schema_types::ExtendedType;
 
 /// Calls of a field that need a schema.
 pub trait FieldExt {

@@ -1,23 +1,23 @@
 //! Making selection sets by themselves.
 ghost use Rattle.std.specs.Prelude.{◌≡◌, ◌↔◌, [], Some, IfOk, Contains};
-ghost use Rattle.graphql_operations.specs.SelectionTree.{selection_tree, selection_trees};
-ghost use Rattle.graphql_schema_types.specs.Plain.{plain};
-ghost use Rattle.graphql_typing.specs.in_schema.SchemaOf.{schema_tree};
-ghost use Rattle.graphql_typed_selections.specs.TypedTree.{typed_set_tree};
-ghost use Rattle.graphql_typing.specs.MeantTree.{meant_of_set, set_on};
-ghost use Rattle.graphql_typing.specs.Meanings.{meanings};
-ghost use Rattle.graphql_typing.specs.KeptSelections.{kept_all};
-ghost use Rattle.graphql_typing.specs.TypedByPlace.{IsSetOn};
-ghost use Rattle.graphql_typing.specs.DefinedByPlace.{IsDefinedSet};
-ghost use Rattle.graphql_typing.specs.TypingFaults.{SetFails};
-ghost use Rattle.graphql_typing.specs.FullList.{TellsSet};
-ghost use Rattle.graphql_typing.specs.FaultView.{faults_of};
+ghost use Rattle.tree_operations.specs.SelectionTree.{selection_tree, selection_trees};
+ghost use Rattle.schema_types.specs.Plain.{plain};
+ghost use Rattle.document_typing.specs.in_schema.SchemaOf.{schema_tree};
+ghost use Rattle.document_typed_selections.specs.TypedTree.{typed_set_tree};
+ghost use Rattle.document_typing.specs.MeantTree.{meant_of_set, set_on};
+ghost use Rattle.document_typing.specs.Meanings.{meanings};
+ghost use Rattle.document_typing.specs.KeptSelections.{kept_all};
+ghost use Rattle.document_typing.specs.TypedByPlace.{IsSetOn};
+ghost use Rattle.document_typing.specs.DefinedByPlace.{IsDefinedSet};
+ghost use Rattle.document_typing.specs.TypingFaults.{SetFails};
+ghost use Rattle.document_typing.specs.FullList.{TellsSet};
+ghost use Rattle.document_typing.specs.FaultView.{faults_of};
 
+use document_typed_operations::FieldSet;
+use document_typing::{BuildError, Schema, field_set_from_ast};
 use graphql_names::{Name, SourceSpan};
-use graphql_operations::Selection;
-use graphql_typed_operations::FieldSet;
-use graphql_typing::{BuildError, Schema, field_set_from_ast};
 use std::alloc::{AllocError, Global};
+use tree_operations::Selection;
 
 /// Calls that make a selection set by itself.
 pub trait FieldSetExt {

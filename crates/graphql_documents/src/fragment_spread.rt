@@ -2,12 +2,12 @@
 ghost use Rattle.std.specs.Prelude.{◌≡◌};
 ghost use Rattle.std.specs.Option.{option_map};
 ghost use Rattle.graphql_names.specs.Placed.{node_tree};
-ghost use Rattle.graphql_schema_types.specs.Addresses.{under};
-ghost use Rattle.graphql_typed_operations.specs.TypedDocument.{typed_fragment_tree, typed_document_tree};
+ghost use Rattle.schema_types.specs.Addresses.{under};
+ghost use Rattle.document_typed_operations.specs.TypedDocument.{typed_fragment_tree, typed_document_tree};
 
+use document_typed_operations::{ExecutableDocument, Fragment};
+use document_typed_selections::FragmentSpread;
 use graphql_names::Node;
-use graphql_typed_operations::{ExecutableDocument, Fragment};
-use graphql_typed_selections::FragmentSpread;
 
 /// Calls of a fragment spread that need a document.
 pub trait FragmentSpreadExt {

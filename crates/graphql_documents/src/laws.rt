@@ -1,19 +1,19 @@
 //! What follows of building a document and writing it together.
 //!
 //! The law names the kept document of `specs/KeptDocument.antt`, the faults of
-//! `specs/TypingFaults.antt` and what is written by `specs/OutDoc.antt`, all of `graphql_typing`.
+//! `specs/TypingFaults.antt` and what is written by `specs/OutDoc.antt`, all of `document_typing`.
 ghost use Rattle.std.specs.Prelude.{◌≡◌, ◌↔◌, [], IfOk, Contains};
-ghost use Rattle.graphql_definitions.specs.DefinitionTree.{document_tree};
-ghost use Rattle.graphql_typing.specs.KeptDocument.{kept_document};
-ghost use Rattle.graphql_typing.specs.TypingFaults.{TypingFails};
-ghost use Rattle.graphql_typing.specs.OutDoc.{out_doc, written_document};
-ghost use Rattle.graphql_typing.specs.FaultView.{faults_of};
-ghost use Rattle.graphql_typing.specs.BuilderView.{builder_value};
+ghost use Rattle.tree_definitions.specs.DefinitionTree.{document_tree};
+ghost use Rattle.document_typing.specs.KeptDocument.{kept_document};
+ghost use Rattle.document_typing.specs.TypingFaults.{TypingFails};
+ghost use Rattle.document_typing.specs.OutDoc.{out_doc, written_document};
+ghost use Rattle.document_typing.specs.FaultView.{faults_of};
+ghost use Rattle.document_typing.specs.BuilderView.{builder_value};
 
-use graphql_definitions::Document;
+use document_typing::{BuildError, BuilderRefusal, ExecutableDocumentBuilder};
 use graphql_names::SourceSpan;
-use graphql_typing::{BuildError, BuilderRefusal, ExecutableDocumentBuilder};
 use std::alloc::Global;
+use tree_definitions::Document;
 
 /// What is written of all that was added, and each way in which a rule of typing is broken in it. What is written is what
 /// is kept; where no rule is broken, it is all operations, one without a name first, and then all fragments, each as it

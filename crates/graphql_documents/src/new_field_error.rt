@@ -1,5 +1,5 @@
 //! Why a set makes no field.
-use graphql_typing::FieldLookupError;
+use document_typing::FieldLookupError;
 use std::alloc::AllocError;
 
 /// Why a selection set makes no field of a name.

@@ -1,14 +1,14 @@
 //! Calls of operations that need a document.
 ghost use Rattle.std.specs.Prelude.{◌≡◌, true, false, IfOk};
-ghost use Rattle.graphql_typed_operations.specs.TypedDocument.{typed_operation_tree, typed_document_tree};
-ghost use Rattle.graphql_walks.specs.Reached.{IsWalk, document_fragments};
-ghost use Rattle.graphql_walks.specs.Lending.{all_fields_is_over, all_fields_left, root_fields_is_over, root_fields_left};
+ghost use Rattle.document_typed_operations.specs.TypedDocument.{typed_operation_tree, typed_document_tree};
+ghost use Rattle.document_walks.specs.Reached.{IsWalk, document_fragments};
+ghost use Rattle.document_walks.specs.Lending.{all_fields_is_over, all_fields_left, root_fields_is_over, root_fields_left};
 ghost use Rattle.graphql_documents.specs.Introspection.{is_meta_name, are_meta_fields, SaysIntrospection};
 
 use crate::selection_set::SelectionSetExt;
+use document_typed_operations::{ExecutableDocument, Operation};
+use document_walks::{AllFields, RootFields};
 use graphql_names::Name;
-use graphql_typed_operations::{ExecutableDocument, Operation};
-use graphql_walks::{AllFields, RootFields};
 use std::alloc::{AllocError, Global};
 
 /// Calls of an operation that need its document.

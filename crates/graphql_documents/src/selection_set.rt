@@ -2,21 +2,21 @@
 ghost use Rattle.std.specs.Prelude.{◌≡◌, true, false, None, Some, IfOk, IfErr};
 ghost use Rattle.std.specs.Option.{option_map};
 ghost use Rattle.graphql_names.specs.Placed.{name_tree};
-ghost use Rattle.graphql_typing.specs.in_schema.SchemaOf.{schema_tree};
-ghost use Rattle.graphql_typing.specs.in_schema.LookUps.{field_named};
-ghost use Rattle.graphql_typed_selections.specs.TypedTree.{set_type, typed_set_tree};
-ghost use Rattle.graphql_typed_selections.specs.TypedParts.{typed_field};
-ghost use Rattle.graphql_typed_operations.specs.TypedDocument.{typed_document_tree};
-ghost use Rattle.graphql_walks.specs.Reached.{IsWalk, document_fragments};
-ghost use Rattle.graphql_walks.specs.Lending.{all_fields_is_over, all_fields_left, root_fields_is_over, root_fields_left};
+ghost use Rattle.document_typing.specs.in_schema.SchemaOf.{schema_tree};
+ghost use Rattle.document_typing.specs.in_schema.LookUps.{field_named};
+ghost use Rattle.document_typed_selections.specs.TypedTree.{set_type, typed_set_tree};
+ghost use Rattle.document_typed_selections.specs.TypedParts.{typed_field};
+ghost use Rattle.document_typed_operations.specs.TypedDocument.{typed_document_tree};
+ghost use Rattle.document_walks.specs.Reached.{IsWalk, document_fragments};
+ghost use Rattle.document_walks.specs.Lending.{all_fields_is_over, all_fields_left, root_fields_is_over, root_fields_left};
 ghost use Rattle.graphql_documents.specs.NewFields.{bare_field, IsNewFieldError};
 
 use crate::new_field_error::NewFieldError;
+use document_typed_operations::ExecutableDocument;
+use document_typed_selections::{Field, SelectionSet};
+use document_typing::Schema;
+use document_walks::{AllFields, RootFields};
 use graphql_names::Name;
-use graphql_typed_operations::ExecutableDocument;
-use graphql_typed_selections::{Field, SelectionSet};
-use graphql_typing::Schema;
-use graphql_walks::{AllFields, RootFields};
 use std::alloc::Global;
 
 /// Calls of a selection set that need a schema or a document.

@@ -2,9 +2,9 @@
 use Rattle.std.specs.Prelude.{ℕ, List, codes}
 use Rattle.graphql_read.specs.declared.fault.SyntaxFaultKind.{SyntaxFaultKind}
 use Rattle.graphql_read.specs.declared.fault.SyntaxFaultKind.TheVariants.{NoToken, Unexpected, End}
-use Rattle.graphql_folding.specs.Messages as folding
-use Rattle.graphql_document_faults.specs.DocumentMessages.{document_message}
-use Rattle.graphql_fault_data.specs.Messages.{message}
+use Rattle.schema_fold.specs.Messages as folding
+use Rattle.fault_document_data.specs.DocumentMessages.{document_message}
+use Rattle.fault_data.specs.Messages.{message}
 use Rattle.graphql_faults.specs.DetailsTree.{DetailsTree, Syntax, Nesting, Spent, SchemaBuild, DocumentBuild, Data, RecursionLimitError}
 
 abbrev pub syntax_message : SyntaxFaultKind → List ℕ

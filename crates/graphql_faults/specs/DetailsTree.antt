@@ -1,9 +1,9 @@
 -- What is wrong with texts, schemas and documents, with its data.
 use Rattle.graphql_read.specs.declared.fault.SyntaxFaultKind.{SyntaxFaultKind}
-use Rattle.graphql_folding.specs.BuildErrors.{Breach}
-use Rattle.graphql_document_faults.specs.DocumentBreaches.{DocumentBreach}
-use Rattle.graphql_fault_data.specs.in_rule_definitions.Diagnostics.{Diagnostic}
-use Rattle.graphql_fault_data.specs.in_rule_definitions.Faults.{FaultAt}
+use Rattle.schema_fold.specs.BuildErrors.{Breach}
+use Rattle.fault_document_data.specs.DocumentBreaches.{DocumentBreach}
+use Rattle.fault_data.specs.in_rule_definitions.Diagnostics.{Diagnostic}
+use Rattle.fault_data.specs.in_rule_definitions.Faults.{FaultAt}
 
 -- a P for each place that belongs to the data, an E for the places of a type's extensions
 pub data DetailsTree (P E : Type 0) : Type 0 where

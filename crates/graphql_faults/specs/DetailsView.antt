@@ -1,9 +1,9 @@
 -- What contracts see of `Details` and of a `DiagnosticList`.
 use Rattle.std.specs.Prelude.{◌≡◌, List, ◌++◌, map}
 use Rattle.graphql_names.specs.Placed.{Place}
-use Rattle.graphql_folding.specs.FaultView.{breach_of}
-use Rattle.graphql_document_faults.specs.DocumentBreachView.{document_breach_of}
-use Rattle.graphql_fault_data.specs.DiagnosticView.{diagnostic_of}
+use Rattle.schema_fold.specs.FaultView.{breach_of}
+use Rattle.fault_document_data.specs.DocumentBreachView.{document_breach_of}
+use Rattle.fault_data.specs.DiagnosticView.{diagnostic_of}
 use Rattle.graphql_faults.specs.DetailsTree as tree
 use Rattle.graphql_faults.specs.DetailsTree.{DetailsTree, DetailsAt}
 use Rattle.graphql_faults.specs.declared.details.Details.{Details}

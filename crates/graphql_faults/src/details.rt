@@ -3,10 +3,10 @@ ghost use Rattle.std.specs.Prelude.{◌≡◌, Some};
 ghost use Rattle.graphql_faults.specs.DetailsView.{details_of};
 ghost use Rattle.graphql_faults.specs.DetailsMessages.{details_message, syntax_message};
 
-use graphql_document_faults::BuildError as DocumentError;
-use graphql_fault_data::DiagnosticData;
-use graphql_folding::BuildError as SchemaError;
+use fault_data::DiagnosticData;
+use fault_document_data::BuildError as DocumentError;
 use graphql_read::SyntaxFaultKind;
+use schema_fold::BuildError as SchemaError;
 use std::fmt;
 
 /// What is wrong with a text, with a schema or with a document.

@@ -1,12 +1,12 @@
 //! Lists of what is wrong.
 ghost use Rattle.std.specs.Prelude.{◌≡◌, [], ◌∷◌, ◌++◌, length, map, OnOk, OnErr, IsTrue, ◌↔◌};
 ghost use Rattle.std.specs.Slice.Iter.{iter_rest};
-ghost use Rattle.graphql_fault_data.specs.FaultView.{fault_of, faults_of};
+ghost use Rattle.fault_data.specs.FaultView.{fault_of, faults_of};
 ghost use Rattle.graphql_faults.specs.DetailsTree.{of_rule};
 ghost use Rattle.graphql_faults.specs.DetailsView.{details_at, diagnostics_of, BeginsAs};
 
 use crate::details::Details;
-use graphql_fault_data::Fault;
+use fault_data::Fault;
 use graphql_names::SourceSpan;
 use std::alloc::{AllocError, Global};
 use std::slice;

@@ -3,8 +3,8 @@
 //! For the layers above: contracts see a list as places and plain data (`specs/DetailsTree.antt`); a list grows at its end; a
 //! message is its template, filled (`specs/DetailsMessages.antt`, and those of the crates beneath).
 //!
-//! What breaks rules stands in `graphql_fault_data`, and for typing documents, merging, subscriptions and `@defer` in
-//! `graphql_document_faults`. Begin with `details.rt` and `diagnostic_list.rt`.
+//! What breaks rules stands in `fault_data`, and for typing documents, merging, subscriptions and `@defer` in
+//! `fault_document_data`. Begin with `details.rt` and `diagnostic_list.rt`.
 #![tactic(auto)]
 
 mod comma_separated;
@@ -15,8 +15,8 @@ mod name_or_anon;
 pub use comma_separated::CommaSeparated;
 pub use details::Details;
 pub use diagnostic_list::DiagnosticList;
-pub use graphql_document_faults::{
+pub use fault_data::{DiagnosticData, Fault, tell};
+pub use fault_document_data::{
     ConflictingFieldArgument, ConflictingFieldName, ConflictingFieldType,
 };
-pub use graphql_fault_data::{DiagnosticData, Fault, tell};
 pub use name_or_anon::NameOrAnon;

@@ -1,15 +1,15 @@
 -- Where the tokens of a text stand, and when the bound of nesting is passed.
 use Rattle.std.proofs.Common.{◌≡◌, ℕ, ◌+◌, ◌-◌, ◌<◌, ◌≤◌, List, [], ◌∷◌, ◌++◌, length, take, drop, Option, Some, None, refl, sym, ap, subst, ◌∙◌, arith, append_assoc}
 use Rattle.std.proofs.lemmas.List.{length-drop}
-use Rattle.graphql_lexer.specs.Input.{Token, Ending, Ended, NoTokenAt}
-use Rattle.graphql_lexer.specs.Lex.{Piece, ArePieces, with_token, tokens_among, LexesFront, Lex, NothingBegins}
-use Rattle.graphql_lexer.specs.Cursor.{EndsAs}
-use Rattle.graphql_lexer.specs.declared.token.TokenKind.{TokenKind}
-use Rattle.graphql_lexer.proofs.Takes.{piece_takes}
-use Rattle.graphql_grammar.specs.Depth.{depth}
-use Rattle.graphql_grammar.specs.Faults as faults
-use Rattle.graphql_grammar.specs.Faults.{Symbol, StandsAt}
-use Rattle.graphql_grammar.proofs.Nests.{depth_front}
+use Rattle.read_tokens.specs.Input.{Token, Ending, Ended, NoTokenAt}
+use Rattle.read_tokens.specs.Lex.{Piece, ArePieces, with_token, tokens_among, LexesFront, Lex, NothingBegins}
+use Rattle.read_tokens.specs.Cursor.{EndsAs}
+use Rattle.read_tokens.specs.declared.token.TokenKind.{TokenKind}
+use Rattle.read_tokens.proofs.Takes.{piece_takes}
+use Rattle.read_grammar.specs.Depth.{depth}
+use Rattle.read_grammar.specs.Faults as faults
+use Rattle.read_grammar.specs.Faults.{Symbol, StandsAt}
+use Rattle.read_grammar.proofs.Nests.{depth_front}
 use Rattle.graphql_read.specs.Reads.{Reads, NestingBound, ReadsWithin, IsDue}
 use Rattle.graphql_read.specs.ReadFaults.{fault_view, StandsIn, PassesBound}
 use Rattle.graphql_read.specs.declared.fault.ReadFault.{ReadFault}

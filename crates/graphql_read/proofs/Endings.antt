@@ -1,15 +1,15 @@
 -- How a text ends, and how its reading does.
 use Rattle.std.proofs.Common.{◌≡◌, ◌⊎◌, ℕ, Bool, true, false, cond, List, [], ◌∷◌, drop, Option, Some, None, Ok, Err, refl, sym, ap, subst, ◌∙◌, inl, inr}
-use Rattle.graphql_lexer.specs.declared.terminal.Terminal.{Terminal}
-use Rattle.graphql_lexer.specs.Input.{Token, Input, Ending, Ended, NoTokenAt, next, next_of}
-use Rattle.graphql_lexer.specs.Tokens.{ignored_at, token_at}
-use Rattle.graphql_lexer.specs.Lex.{Piece, piece_at, ArePieces, Lex, NothingBegins}
-use Rattle.graphql_lexer.specs.Cursor.{EndsAs, is_stuck, is_stuck_at}
-use Rattle.graphql_lexer.proofs.Lexed.{lex_unique}
-use Rattle.graphql_grammar.specs.declared.stop.Stop.{Stop}
-use Rattle.graphql_grammar.specs.declared.stop.Stop.TheVariants.{Memory, Unexpected}
-use Rattle.graphql_grammar.specs.Reading.{Outcome, Parser, and_then, ended, ended_at, whole}
-use Rattle.graphql_grammar.proofs.Exact.{ok_is}
+use Rattle.read_tokens.specs.declared.terminal.Terminal.{Terminal}
+use Rattle.read_tokens.specs.Input.{Token, Input, Ending, Ended, NoTokenAt, next, next_of}
+use Rattle.read_tokens.specs.Tokens.{ignored_at, token_at}
+use Rattle.read_tokens.specs.Lex.{Piece, piece_at, ArePieces, Lex, NothingBegins}
+use Rattle.read_tokens.specs.Cursor.{EndsAs, is_stuck, is_stuck_at}
+use Rattle.read_tokens.proofs.Lexed.{lex_unique}
+use Rattle.read_grammar.specs.declared.stop.Stop.{Stop}
+use Rattle.read_grammar.specs.declared.stop.Stop.TheVariants.{Memory, Unexpected}
+use Rattle.read_grammar.specs.Reading.{Outcome, Parser, and_then, ended, ended_at, whole}
+use Rattle.read_grammar.proofs.Exact.{ok_is}
 use Rattle.graphql_read.specs.Calls.{end_of_text, end_of_text_at, all_of}
 
 -- ---- a text that is all tokens

@@ -14,6 +14,6 @@ pub mod Endings
 pub mod Texts
 pub mod Bounds
 pub mod Symbols
-pub use Rattle.graphql_grammar.proofs as in_grammar
-pub use Rattle.graphql_lexer.proofs as in_lexer
-pub use Rattle.graphql_operations.proofs as in_operations
+pub use Rattle.read_grammar.proofs as in_grammar
+pub use Rattle.read_tokens.proofs as in_lexer
+pub use Rattle.tree_operations.proofs as in_operations

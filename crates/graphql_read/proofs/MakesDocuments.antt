@@ -3,20 +3,20 @@ use Rattle.std.proofs.Common.{◌≡◌, ℕ, Bool, true, ◌&&◌, ◌||◌, no
 use Rattle.std.specs.List.{list_all}
 use Rattle.std.proofs.lemmas.Bool.{and_from, and_parts}
 use Rattle.graphql_names.specs.Placed.{Text}
-use Rattle.graphql_operations.specs.SelectionTree.{SelectionTrees}
-use Rattle.graphql_parse_values.specs.in_directives.DirectiveTree.{DirectiveDefinitionTree}
-use Rattle.graphql_parse_values.specs.in_values.Writable.{has_selection, selections_writable, directives_writable, directive_definition_writable}
-use Rattle.graphql_definitions.specs.DefinitionTree.{DefinitionTree, Operation, Fragment, DirectiveDefinition, Schema, ScalarType, ObjectType, InterfaceType, UnionType, EnumType, InputObjectType, ExtendSchema, ExtendScalar, ExtendObject, ExtendInterface, ExtendUnion, ExtendEnum, ExtendInputObject}
-use Rattle.graphql_definitions.specs.Writable.{has_some, schema_writable, fields_writable, enum_writable, input_object_writable, definition_writable, document_writable}
-use Rattle.graphql_lexer.specs.Input.{Token}
-use Rattle.graphql_grammar.specs.Meaning.{Meaning, start}
-use Rattle.graphql_grammar.specs.Kinds.{is_extend}
-use Rattle.graphql_grammar.specs.Rules as rule
-use Rattle.graphql_grammar.specs.Rules.{◌·◌, ◌<$>◌, ◌∣◌}
-use Rattle.graphql_grammar.specs.TypeSystemGrammar.{KindTree, SchemaKind, ScalarKind, ObjectKind, InterfaceKind, UnionKind, EnumKind, InputObjectKind}
-use Rattle.graphql_grammar.specs.TypeSystemGrammar as y
-use Rattle.graphql_grammar.specs.Grammar as g
-use Rattle.graphql_grammar.specs.Grammar.{is_empty, definition_of, described, type_system_of, extended, extension_of, has_part, Derives, DerivesSelections}
+use Rattle.tree_operations.specs.SelectionTree.{SelectionTrees}
+use Rattle.read_values.specs.in_directives.DirectiveTree.{DirectiveDefinitionTree}
+use Rattle.read_values.specs.in_values.Writable.{has_selection, selections_writable, directives_writable, directive_definition_writable}
+use Rattle.tree_definitions.specs.DefinitionTree.{DefinitionTree, Operation, Fragment, DirectiveDefinition, Schema, ScalarType, ObjectType, InterfaceType, UnionType, EnumType, InputObjectType, ExtendSchema, ExtendScalar, ExtendObject, ExtendInterface, ExtendUnion, ExtendEnum, ExtendInputObject}
+use Rattle.tree_definitions.specs.Writable.{has_some, schema_writable, fields_writable, enum_writable, input_object_writable, definition_writable, document_writable}
+use Rattle.read_tokens.specs.Input.{Token}
+use Rattle.read_grammar.specs.Meaning.{Meaning, start}
+use Rattle.read_grammar.specs.Kinds.{is_extend}
+use Rattle.read_grammar.specs.Rules as rule
+use Rattle.read_grammar.specs.Rules.{◌·◌, ◌<$>◌, ◌∣◌}
+use Rattle.read_grammar.specs.TypeSystemGrammar.{KindTree, SchemaKind, ScalarKind, ObjectKind, InterfaceKind, UnionKind, EnumKind, InputObjectKind}
+use Rattle.read_grammar.specs.TypeSystemGrammar as y
+use Rattle.read_grammar.specs.Grammar as g
+use Rattle.read_grammar.specs.Grammar.{is_empty, definition_of, described, type_system_of, extended, extension_of, has_part, Derives, DerivesSelections}
 use Rattle.graphql_read.specs.Sound.{names_root}
 use Rattle.graphql_read.proofs.Makes.{AreTerminals, Makes, mapped, mark, seq, choice, such_that, maybe_any, one_or_more, located}
 use Rattle.graphql_read.proofs.MakesOperations.{selections_makes, operation_makes, fragment_makes}

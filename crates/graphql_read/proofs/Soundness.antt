@@ -2,11 +2,11 @@
 use Rattle.std.proofs.Common.{ℕ, List, []}
 use Rattle.graphql_names.specs.declared.span.FileId.{FileId}
 use Rattle.graphql_names.specs.Placed.{Place}
-use Rattle.graphql_literals.specs.TypeTree.{TypeTree}
-use Rattle.graphql_operations.specs.SelectionTree.{SelectionTrees}
-use Rattle.graphql_definitions.specs.DefinitionTree.{DefinitionTree}
-use Rattle.graphql_grammar.specs.Grammar.{Derives, DerivesType, DerivesSelections}
-use Rattle.graphql_parse_operations.specs.in_parse_values.Meanings.{in_file, string_of}
+use Rattle.tree_literals.specs.TypeTree.{TypeTree}
+use Rattle.tree_operations.specs.SelectionTree.{SelectionTrees}
+use Rattle.tree_definitions.specs.DefinitionTree.{DefinitionTree}
+use Rattle.read_grammar.specs.Grammar.{Derives, DerivesType, DerivesSelections}
+use Rattle.read_operations.specs.in_parse_values.Meanings.{in_file, string_of}
 use Rattle.graphql_read.specs.Reads.{Reads}
 use Rattle.graphql_read.specs.Sound.{IsSound, IsSoundType, AreSound}
 use Rattle.graphql_read.proofs.Makes.{are_terminals}

@@ -2,19 +2,19 @@
 -- built in.
 use Rattle.std.proofs.Common.{◌≡◌, ◌≢◌, ℕ, ◌+◌, ◌-◌, ◌^◌, Bool, true, false, true≢false, ◌&&◌, not, ltb, ne_eqb, List, Option, refl, sym, ap, inl, inr, ◌⊎◌}
 use Rattle.graphql_names.specs.Placed.{Place, Text}
-use Rattle.graphql_literals.specs.TypeTree.{TypeTree}
-use Rattle.graphql_operations.specs.SelectionTree.{SelectionTrees}
-use Rattle.graphql_parse_values.specs.in_directives.DirectiveTree.{DirectiveDefinitionTree}
-use Rattle.graphql_definitions.specs.DefinitionTree.{DefinitionTree, Operation, Fragment}
-use Rattle.graphql_lexer.specs.Input.{Token}
-use Rattle.graphql_grammar.specs.Meaning.{Meaning, start}
-use Rattle.graphql_grammar.specs.Kinds.{is_extend}
-use Rattle.graphql_grammar.specs.Places.{place_if, place_in, meaning_in}
-use Rattle.graphql_grammar.specs.Rules.{◌<$>◌, ◌∣◌}
-use Rattle.graphql_grammar.specs.TypeSystemGrammar.{KindTree, SchemaKind, ScalarKind, ObjectKind, InterfaceKind, UnionKind, EnumKind, InputObjectKind}
-use Rattle.graphql_grammar.specs.TypeSystemGrammar as y
-use Rattle.graphql_grammar.specs.Grammar as g
-use Rattle.graphql_grammar.specs.Grammar.{described, type_system_of, extended, extension_of, has_part, Derives, DerivesType, DerivesSelections}
+use Rattle.tree_literals.specs.TypeTree.{TypeTree}
+use Rattle.tree_operations.specs.SelectionTree.{SelectionTrees}
+use Rattle.read_values.specs.in_directives.DirectiveTree.{DirectiveDefinitionTree}
+use Rattle.tree_definitions.specs.DefinitionTree.{DefinitionTree, Operation, Fragment}
+use Rattle.read_tokens.specs.Input.{Token}
+use Rattle.read_grammar.specs.Meaning.{Meaning, start}
+use Rattle.read_grammar.specs.Kinds.{is_extend}
+use Rattle.read_grammar.specs.Places.{place_if, place_in, meaning_in}
+use Rattle.read_grammar.specs.Rules.{◌<$>◌, ◌∣◌}
+use Rattle.read_grammar.specs.TypeSystemGrammar.{KindTree, SchemaKind, ScalarKind, ObjectKind, InterfaceKind, UnionKind, EnumKind, InputObjectKind}
+use Rattle.read_grammar.specs.TypeSystemGrammar as y
+use Rattle.read_grammar.specs.Grammar as g
+use Rattle.read_grammar.specs.Grammar.{described, type_system_of, extended, extension_of, has_part, Derives, DerivesType, DerivesSelections}
 use Rattle.graphql_read.specs.EachPlace.{all_in_any, all_in_text, all_in_type, all_in_input_values, all_in_directive_definition, all_in_selections, all_in_definition, all_in_document}
 use Rattle.graphql_read.specs.Sound.{is_own}
 use Rattle.graphql_read.proofs.Makes.{AreTerminals, Makes, mapped, mark, seq, choice, such_that, some_all, three}

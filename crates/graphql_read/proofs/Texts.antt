@@ -1,24 +1,24 @@
 -- What the reading of a text says of it, for each symbol.
 use Rattle.std.proofs.Common.{◌≡◌, ◌≢◌, ◌⊎◌, ℕ, suc, ◌≤◌, Bool, true, List, [], ◌∷◌, length, Option, Some, None, Ok, Err, refl, sym, ap, subst, ◌∙◌, inl, inr, arith}
 use Rattle.std.proofs.lemmas.List.{append-nil}
-use Rattle.graphql_lexer.specs.declared.terminal.Terminal.{Terminal}
-use Rattle.graphql_lexer.specs.Input.{Token, Input, Ending, Ended, NoTokenAt, next}
-use Rattle.graphql_lexer.specs.Cursor.{EndsAs, is_stuck_at, input_from}
-use Rattle.graphql_grammar.specs.declared.stop.Stop.{Stop}
-use Rattle.graphql_grammar.specs.declared.stop.Stop.TheVariants.{Memory, Unexpected, Nesting}
-use Rattle.graphql_grammar.specs.Rules.{Rule}
-use Rattle.graphql_grammar.specs.Grammar.{DerivesAs}
-use Rattle.graphql_grammar.specs.Depth.{depth}
-use Rattle.graphql_grammar.specs.Faults as faults
-use Rattle.graphql_grammar.specs.Faults.{Symbol, BeginsSome, Says}
-use Rattle.graphql_grammar.specs.Stops.{fault_of, unexpected_at}
-use Rattle.graphql_grammar.specs.Reading.{Parser, ended, ended_at, whole}
-use Rattle.graphql_grammar.proofs.Tests.{Test}
-use Rattle.graphql_grammar.proofs.Keeps as kept
-use Rattle.graphql_grammar.proofs.Keeps.{Keeps, ending_of}
-use Rattle.graphql_grammar.proofs.Parses.{Parses}
-use Rattle.graphql_grammar.proofs.Theorems as t
-use Rattle.graphql_grammar.proofs.Viable.{Viable}
+use Rattle.read_tokens.specs.declared.terminal.Terminal.{Terminal}
+use Rattle.read_tokens.specs.Input.{Token, Input, Ending, Ended, NoTokenAt, next}
+use Rattle.read_tokens.specs.Cursor.{EndsAs, is_stuck_at, input_from}
+use Rattle.read_grammar.specs.declared.stop.Stop.{Stop}
+use Rattle.read_grammar.specs.declared.stop.Stop.TheVariants.{Memory, Unexpected, Nesting}
+use Rattle.read_grammar.specs.Rules.{Rule}
+use Rattle.read_grammar.specs.Grammar.{DerivesAs}
+use Rattle.read_grammar.specs.Depth.{depth}
+use Rattle.read_grammar.specs.Faults as faults
+use Rattle.read_grammar.specs.Faults.{Symbol, BeginsSome, Says}
+use Rattle.read_grammar.specs.Stops.{fault_of, unexpected_at}
+use Rattle.read_grammar.specs.Reading.{Parser, ended, ended_at, whole}
+use Rattle.read_grammar.proofs.Tests.{Test}
+use Rattle.read_grammar.proofs.Keeps as kept
+use Rattle.read_grammar.proofs.Keeps.{Keeps, ending_of}
+use Rattle.read_grammar.proofs.Parses.{Parses}
+use Rattle.read_grammar.proofs.Theorems as t
+use Rattle.read_grammar.proofs.Viable.{Viable}
 use Rattle.graphql_read.specs.Calls.{all_of}
 use Rattle.graphql_read.specs.Reads.{ReadsWithin, IsDue}
 use Rattle.graphql_read.proofs.Endings.{AtEnd, ends_whole, not_stuck, lexed_whole, all_ok, all_err}

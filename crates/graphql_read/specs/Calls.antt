@@ -1,10 +1,10 @@
 -- Private layer: how a text is read up to its end. No public clause cites it.
 use Rattle.std.specs.Prelude.{Option, Some, None, Ok, Err, if◌then◌else◌}
-use Rattle.graphql_lexer.specs.declared.terminal.Terminal.{Terminal}
-use Rattle.graphql_lexer.specs.Input.{next}
-use Rattle.graphql_lexer.specs.Cursor.{is_stuck}
-use Rattle.graphql_grammar.specs.declared.stop.Stop.TheVariants.{Unexpected}
-use Rattle.graphql_grammar.specs.Reading.{Parser, and_then}
+use Rattle.read_tokens.specs.declared.terminal.Terminal.{Terminal}
+use Rattle.read_tokens.specs.Input.{next}
+use Rattle.read_tokens.specs.Cursor.{is_stuck}
+use Rattle.read_grammar.specs.declared.stop.Stop.TheVariants.{Unexpected}
+use Rattle.read_grammar.specs.Reading.{Parser, and_then}
 
 -- nothing is left, and no text behind the tokens that is none
 abbrev pub end_of_text_at : Option Terminal → Parser (Unit {0})

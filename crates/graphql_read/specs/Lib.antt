@@ -3,8 +3,8 @@ pub mod Sound
 pub mod Reads
 pub mod ReadFaults
 pub mod Calls
-pub use Rattle.graphql_grammar.specs as in_grammar
-pub use Rattle.graphql_parse_operations.specs.in_parse_values as in_parse_values
-pub use Rattle.graphql_parse_values.specs.in_directives as in_directives
-pub use Rattle.graphql_lexer.specs as in_lexer
-pub use Rattle.graphql_operations.specs as in_operations
+pub use Rattle.read_grammar.specs as in_grammar
+pub use Rattle.read_operations.specs.in_parse_values as in_parse_values
+pub use Rattle.read_values.specs.in_directives as in_directives
+pub use Rattle.read_tokens.specs as in_lexer
+pub use Rattle.tree_operations.specs as in_operations

@@ -2,13 +2,13 @@
 use Rattle.std.specs.Prelude.{◌≡◌, ℕ, ◌<◌, ⊤, List, [], length, map, Result, Ok, Err, Vec}
 use Rattle.std.specs.declared.alloc.Global.{Global}
 use Rattle.graphql_names.specs.Placed.{Place}
-use Rattle.graphql_operations.specs.SelectionTree.{SelectionTrees, selection_tree, selection_trees}
-use Rattle.graphql_operations.specs.declared.selection.Selection.{Selection}
-use Rattle.graphql_definitions.specs.DefinitionTree.{DefinitionTree, definition_tree}
-use Rattle.graphql_definitions.specs.Sources.{Source}
-use Rattle.graphql_definitions.specs.declared.definition.Definition.{Definition}
-use Rattle.graphql_grammar.specs.Faults as faults
-use Rattle.graphql_grammar.specs.Faults.{Fault}
+use Rattle.tree_operations.specs.SelectionTree.{SelectionTrees, selection_tree, selection_trees}
+use Rattle.tree_operations.specs.declared.selection.Selection.{Selection}
+use Rattle.tree_definitions.specs.DefinitionTree.{DefinitionTree, definition_tree}
+use Rattle.tree_definitions.specs.Sources.{Source}
+use Rattle.tree_definitions.specs.declared.definition.Definition.{Definition}
+use Rattle.read_grammar.specs.Faults as faults
+use Rattle.read_grammar.specs.Faults.{Fault}
 use Rattle.graphql_read.specs.Reads.{NestingBound}
 use Rattle.graphql_read.specs.declared.fault.SyntaxFaultKind.{SyntaxFaultKind}
 use Rattle.graphql_read.specs.declared.fault.SyntaxFaultKind.TheVariants.{NoToken, Unexpected, End}

@@ -1,10 +1,10 @@
 -- Texts of a symbol of the grammar, the bound of nesting, and what is said of a text that is none, or nests too deep.
 use Rattle.std.specs.Prelude.{ℕ, ◌<◌, ◌≤◌, List}
-use Rattle.graphql_lexer.specs.Input.{Token, Ending}
-use Rattle.graphql_lexer.specs.Lex.{LexesFront, Lex}
-use Rattle.graphql_lexer.specs.Cursor.{EndsAs}
-use Rattle.graphql_grammar.specs.Depth.{depth}
-use Rattle.graphql_grammar.specs.Faults.{Symbol, Fault, Says}
+use Rattle.read_tokens.specs.Input.{Token, Ending}
+use Rattle.read_tokens.specs.Lex.{LexesFront, Lex}
+use Rattle.read_tokens.specs.Cursor.{EndsAs}
+use Rattle.read_grammar.specs.Depth.{depth}
+use Rattle.read_grammar.specs.Faults.{Symbol, Fault, Says}
 
 -- The text is these tokens, and they are a text of the symbol with this tree.
 pub record Reads {A : Type 0} (symbol : Symbol A) (text : List ℕ) (tree : A) : Type 0 where

@@ -3,11 +3,11 @@ use Rattle.std.specs.Prelude.{◌≡◌, ◌≢◌, ℕ, Bool, true, not, List}
 use Rattle.std.specs.List.{list_all}
 use Rattle.graphql_names.specs.Places.{is_built_in}
 use Rattle.graphql_names.specs.Placed.{Place}
-use Rattle.graphql_literals.specs.TypeTree.{TypeTree}
-use Rattle.graphql_operations.specs.SelectionTree.{SelectionTrees}
-use Rattle.graphql_parse_values.specs.in_values.Writable.{type_writable, has_selection, selections_writable}
-use Rattle.graphql_definitions.specs.DefinitionTree.{DefinitionTree, Schema}
-use Rattle.graphql_definitions.specs.Writable.{has_some, document_writable}
+use Rattle.tree_literals.specs.TypeTree.{TypeTree}
+use Rattle.tree_operations.specs.SelectionTree.{SelectionTrees}
+use Rattle.read_values.specs.in_values.Writable.{type_writable, has_selection, selections_writable}
+use Rattle.tree_definitions.specs.DefinitionTree.{DefinitionTree, Schema}
+use Rattle.tree_definitions.specs.Writable.{has_some, document_writable}
 use Rattle.graphql_read.specs.EachPlace.{all_in_type, all_in_selections, all_in_document}
 
 -- a schema definition names a root (section 3.3)

@@ -1,12 +1,12 @@
 //! Documents, from texts (section 2.2).
 ghost use Rattle.std.specs.Prelude.{◌≡◌, IfOk, IfErr, List, [], ◌∷◌, map};
 ghost use Rattle.graphql_names.specs.Placed.{Place};
-ghost use Rattle.graphql_definitions.specs.DefinitionTree.{DefinitionTree, document_tree};
-ghost use Rattle.graphql_definitions.specs.Sources.{source_of, numbered_source, sources_of};
-ghost use Rattle.graphql_grammar.specs.DocumentReading as reading;
-ghost use Rattle.graphql_grammar.specs.Grammar.{Derives};
-ghost use Rattle.graphql_grammar.specs.Reading as read;
-ghost use Rattle.graphql_parse_operations.specs.in_parse_values.Meanings.{in_file};
+ghost use Rattle.tree_definitions.specs.DefinitionTree.{DefinitionTree, document_tree};
+ghost use Rattle.tree_definitions.specs.Sources.{source_of, numbered_source, sources_of};
+ghost use Rattle.read_grammar.specs.DocumentReading as reading;
+ghost use Rattle.read_grammar.specs.Grammar.{Derives};
+ghost use Rattle.read_grammar.specs.Reading as read;
+ghost use Rattle.read_operations.specs.in_parse_values.Meanings.{in_file};
 ghost use Rattle.graphql_read.specs.Calls.{all_of};
 ghost use Rattle.graphql_read.specs.ReadFaults.{fault_view, definitions_tree, unnamed_source, IsTreeUnlessMemory, StandsIn, KeepsToBound};
 ghost use Rattle.graphql_read.specs.Reads.{ReadsWithin, IsDue};
@@ -15,15 +15,15 @@ ghost use Rattle.graphql_read.specs.Sound.{IsSound};
 use crate::document_list::definitions;
 use crate::fault::ReadFault;
 use crate::finish::{end_of_text, fault};
-use graphql_definitions::{Definition, Document, SourceFile};
-use graphql_grammar::Stop;
-use graphql_lexer::Source;
 use graphql_names::FileId;
 use indexmap::IndexMap;
+use read_grammar::Stop;
+use read_tokens::Source;
 use std::alloc::{AllocError, Global};
+use tree_definitions::{Definition, Document, SourceFile};
 
 /// Document, and nothing behind it.
-#[tactic(auto, unfolding(graphql_grammar::specs::DocumentReading::document))]
+#[tactic(auto, unfolding(read_grammar::specs::DocumentReading::document))]
 fn whole_document(
     alloc: Global,
     tokens: &mut Source<'_>,

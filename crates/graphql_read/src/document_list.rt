@@ -1,21 +1,21 @@
 //! Definitions and documents (section 2.2).
 ghost use Rattle.std.specs.Prelude.{◌≡◌, map};
-ghost use Rattle.graphql_lexer.specs.Input as input;
-ghost use Rattle.graphql_definitions.specs.DefinitionTree.{definition_tree};
-ghost use Rattle.graphql_grammar.specs.Begins as begins;
-ghost use Rattle.graphql_grammar.specs.Kinds as kinds;
-ghost use Rattle.graphql_grammar.specs.DocumentReading as reading;
-ghost use Rattle.graphql_grammar.specs.Reading as read;
-ghost use Rattle.graphql_parse_operations.specs.in_parse_values.Meanings.{in_file};
+ghost use Rattle.read_tokens.specs.Input as input;
+ghost use Rattle.tree_definitions.specs.DefinitionTree.{definition_tree};
+ghost use Rattle.read_grammar.specs.Begins as begins;
+ghost use Rattle.read_grammar.specs.Kinds as kinds;
+ghost use Rattle.read_grammar.specs.DocumentReading as reading;
+ghost use Rattle.read_grammar.specs.Reading as read;
+ghost use Rattle.read_operations.specs.in_parse_values.Meanings.{in_file};
 
-use graphql_definitions::Definition;
-use graphql_grammar::Stop;
-use graphql_lexer::{Source, Terminal};
 use graphql_names::FileId;
-use graphql_parse_operations::{placed_fragment, placed_operation};
-use graphql_parse_types::{type_system_definition, type_system_extension};
-use graphql_parse_values::next_is;
+use read_grammar::Stop;
+use read_operations::{placed_fragment, placed_operation};
+use read_tokens::{Source, Terminal};
+use read_types::{type_system_definition, type_system_extension};
+use read_values::next_is;
 use std::alloc::Global;
+use tree_definitions::Definition;
 
 /// Whether an operation may begin with the next token.
 fn begins_operation(tokens: &Source<'_>) -> bool
@@ -60,7 +60,7 @@ fn begins_definition(tokens: &Source<'_>) -> bool
 }
 
 /// Definition: OperationDefinition, FragmentDefinition, TypeSystemDefinition or TypeSystemExtension.
-#[tactic(auto, unfolding(graphql_grammar::specs::DocumentReading::definition))]
+#[tactic(auto, unfolding(read_grammar::specs::DocumentReading::definition))]
 fn definition(
     alloc: Global,
     tokens: &mut Source<'_>,

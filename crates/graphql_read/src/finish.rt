@@ -1,15 +1,15 @@
 //! The end of a text, and the fault where reading stops.
 ghost use Rattle.std.specs.Prelude.{◌≡◌};
-ghost use Rattle.graphql_lexer.specs.Cursor.{next_offset};
-ghost use Rattle.graphql_grammar.specs.Reading.{Reads};
-ghost use Rattle.graphql_grammar.specs.Stops.{unexpected_at, fault_of};
+ghost use Rattle.read_tokens.specs.Cursor.{next_offset};
+ghost use Rattle.read_grammar.specs.Reading.{Reads};
+ghost use Rattle.read_grammar.specs.Stops.{unexpected_at, fault_of};
 ghost use Rattle.graphql_read.specs.Calls.{end_of_text};
 ghost use Rattle.graphql_read.specs.ReadFaults.{fault_at, fault_view};
 
 use crate::fault::{ReadFault, SyntaxFault, SyntaxFaultKind};
-use graphql_grammar::Stop;
-use graphql_lexer::Source;
-use graphql_parse_values::begin;
+use read_grammar::Stop;
+use read_tokens::Source;
+use read_values::begin;
 
 /// Whether the text ends here.
 pub fn end_of_text(tokens: &Source<'_>) -> Result<(), Stop>

@@ -13,7 +13,7 @@
 //! The one source of a document is its text, under the number of its file and without a path (`sources`).
 //!
 //! Begin with `specs/Reads.antt`, which says what these words mean of a text; tokens and grammar are those of
-//! `graphql_lexer` and `graphql_grammar`.
+//! `read_tokens` and `read_grammar`.
 #![tactic(auto)]
 
 mod document_call;
@@ -25,6 +25,6 @@ mod type_call;
 
 pub use document_call::parse_document;
 pub use fault::{ReadFault, SyntaxFault, SyntaxFaultKind};
-pub use graphql_lexer::{NextToken, Token, TokenKind, next_token};
+pub use read_tokens::{NextToken, Token, TokenKind, next_token};
 pub use selections_call::parse_selections;
 pub use type_call::parse_type;

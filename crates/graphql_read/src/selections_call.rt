@@ -1,11 +1,11 @@
 //! Selections, from texts (section 2.4).
 ghost use Rattle.std.specs.Prelude.{IfOk, IfErr};
 ghost use Rattle.graphql_names.specs.Placed.{Place};
-ghost use Rattle.graphql_operations.specs.SelectionTree.{SelectionTrees};
-ghost use Rattle.graphql_grammar.specs.OperationReading as operations;
-ghost use Rattle.graphql_grammar.specs.Reading as read;
-ghost use Rattle.graphql_grammar.specs.Grammar.{DerivesSelections};
-ghost use Rattle.graphql_parse_operations.specs.in_parse_values.Meanings.{in_file};
+ghost use Rattle.tree_operations.specs.SelectionTree.{SelectionTrees};
+ghost use Rattle.read_grammar.specs.OperationReading as operations;
+ghost use Rattle.read_grammar.specs.Reading as read;
+ghost use Rattle.read_grammar.specs.Grammar.{DerivesSelections};
+ghost use Rattle.read_operations.specs.in_parse_values.Meanings.{in_file};
 ghost use Rattle.graphql_read.specs.Calls.{all_of};
 ghost use Rattle.graphql_read.specs.ReadFaults.{fault_view, selections_tree, IsTreeUnlessMemory, StandsIn, KeepsToBound};
 ghost use Rattle.graphql_read.specs.Reads.{ReadsWithin, IsDue};
@@ -13,12 +13,12 @@ ghost use Rattle.graphql_read.specs.Sound.{AreSound};
 
 use crate::fault::ReadFault;
 use crate::finish::{end_of_text, fault};
-use graphql_grammar::Stop;
-use graphql_lexer::Source;
 use graphql_names::FileId;
-use graphql_operations::Selection;
-use graphql_parse_operations::selections;
+use read_grammar::Stop;
+use read_operations::selections;
+use read_tokens::Source;
 use std::alloc::Global;
+use tree_operations::Selection;
 
 /// `Selection+`, and nothing behind it.
 fn whole_selections(

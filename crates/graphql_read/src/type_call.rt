@@ -1,11 +1,11 @@
 //! References to types, from texts (section 2.11).
 ghost use Rattle.std.specs.Prelude.{IfOk, IfErr};
 ghost use Rattle.graphql_names.specs.Placed.{Place};
-ghost use Rattle.graphql_literals.specs.TypeTree.{TypeTree, type_tree};
-ghost use Rattle.graphql_grammar.specs.ValueReading as values;
-ghost use Rattle.graphql_grammar.specs.Reading as read;
-ghost use Rattle.graphql_grammar.specs.Grammar.{DerivesType};
-ghost use Rattle.graphql_parse_operations.specs.in_parse_values.Meanings.{in_file};
+ghost use Rattle.tree_literals.specs.TypeTree.{TypeTree, type_tree};
+ghost use Rattle.read_grammar.specs.ValueReading as values;
+ghost use Rattle.read_grammar.specs.Reading as read;
+ghost use Rattle.read_grammar.specs.Grammar.{DerivesType};
+ghost use Rattle.read_operations.specs.in_parse_values.Meanings.{in_file};
 ghost use Rattle.graphql_read.specs.Calls.{all_of};
 ghost use Rattle.graphql_read.specs.ReadFaults.{fault_view, IsTreeUnlessMemory, StandsIn, KeepsToBound};
 ghost use Rattle.graphql_read.specs.Reads.{ReadsWithin, IsDue};
@@ -13,12 +13,12 @@ ghost use Rattle.graphql_read.specs.Sound.{IsSoundType};
 
 use crate::fault::ReadFault;
 use crate::finish::{end_of_text, fault};
-use graphql_grammar::Stop;
-use graphql_lexer::Source;
-use graphql_literals::Type;
 use graphql_names::FileId;
-use graphql_parse_values::ty;
+use read_grammar::Stop;
+use read_tokens::Source;
+use read_values::ty;
 use std::alloc::Global;
+use tree_literals::Type;
 
 /// Type, and nothing behind it.
 fn whole_type(

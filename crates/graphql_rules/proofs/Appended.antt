@@ -2,8 +2,8 @@
 use Rattle.std.proofs.Common.{◌≡◌, ◌↔◌, List, [], ◌∷◌, ◌++◌, map, length, refl, sym, ap, subst, ◌∙◌, Contains, arith, append-nil}
 use Rattle.std.proofs.lemmas.List.{length-append, length-map, nil_from_length}
 use Rattle.graphql_faults.specs.DetailsTree.{of_rule}
-use Rattle.graphql_rule_definitions.specs.Told.{PlacedFault}
-use Rattle.graphql_rule_definitions.proofs.Lists.{not_in_nil, Contains-first}
+use Rattle.rule_definitions.specs.Told.{PlacedFault}
+use Rattle.rule_definitions.proofs.Lists.{not_in_nil, Contains-first}
 use Rattle.graphql_rules.specs.Appends.{Telling, AppendsThese, Appends}
 
 -- nothing stands behind what is as it was

@@ -1,20 +1,20 @@
 -- Faults of arguments and of a variable that is given, from what is told of them.
 use Rattle.std.proofs.Common.{◌≡◌, ℕ, ◌↔◌, List, [], ◌∷◌, ◌++◌, sym, ap, subst, ◌∙◌, Contains}
 use Rattle.graphql_names.specs.Placed.{Placed, Place, node_tree}
-use Rattle.graphql_literals.specs.TypeTree.{unplaced_type}
-use Rattle.graphql_directives.specs.DirectiveTree.{ArgumentTree, InputValueTree, directive_tree, input_value_tree, unplaced_input_value}
-use Rattle.graphql_directives.specs.declared.directive.Directive.{Directive}
-use Rattle.graphql_directives.specs.declared.input_value.InputValueDefinition.{InputValueDefinition}
+use Rattle.tree_literals.specs.TypeTree.{unplaced_type}
+use Rattle.tree_directives.specs.DirectiveTree.{ArgumentTree, InputValueTree, directive_tree, input_value_tree, unplaced_input_value}
+use Rattle.tree_directives.specs.declared.directive.Directive.{Directive}
+use Rattle.tree_directives.specs.declared.input_value.InputValueDefinition.{InputValueDefinition}
 use Rattle.graphql_names.specs.Node.{content, place}
 use Rattle.graphql_names.specs.declared.node.Node.{Node}
-use Rattle.graphql_rule_definitions.specs.Diagnostics.{DisallowedVariableUsage}
-use Rattle.graphql_rule_definitions.specs.Faults.{wrong}
-use Rattle.graphql_rule_definitions.specs.Values.{Variables, defined_name}
-use Rattle.graphql_rule_definitions.specs.Uses.{argument_name, IsVariableUsageAllowed}
-use Rattle.graphql_rule_definitions.specs.Told.{PlacedFault}
-use Rattle.graphql_use_rules.specs.Steps.{Lists, DisallowedUsage}
-use Rattle.graphql_rule_definitions.proofs.Firsts.{first_is_found}
-use Rattle.graphql_rule_definitions.proofs.Listing.{Gains}
+use Rattle.rule_definitions.specs.Diagnostics.{DisallowedVariableUsage}
+use Rattle.rule_definitions.specs.Faults.{wrong}
+use Rattle.rule_definitions.specs.Values.{Variables, defined_name}
+use Rattle.rule_definitions.specs.Uses.{argument_name, IsVariableUsageAllowed}
+use Rattle.rule_definitions.specs.Told.{PlacedFault}
+use Rattle.rule_uses.specs.Steps.{Lists, DisallowedUsage}
+use Rattle.rule_definitions.proofs.Firsts.{first_is_found}
+use Rattle.rule_definitions.proofs.Listing.{Gains}
 use Rattle.graphql_rules.specs.Given.{Each, UsageBreaks}
 
 -- what was added to nothing is all that is there

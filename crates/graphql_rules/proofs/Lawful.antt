@@ -3,16 +3,16 @@ use Rattle.std.proofs.Common.{◌≡◌, refl, sym, subst}
 use Rattle.graphql_names.specs.Placed.{Place}
 use Rattle.graphql_schema.specs.SchemaOf.{schema_tree}
 use Rattle.graphql_schema.specs.declared.schema.Schema.{Schema}
-use Rattle.graphql_components.specs.Names.{Entries}
-use Rattle.graphql_rule_definitions.specs.in_schema_types.SchemaTree.{SchemaType, SchemaTree}
-use Rattle.graphql_rule_definitions.specs.Distinct.{AreAllDistinct}
-use Rattle.graphql_rule_definitions.specs.Judged.{judged}
-use Rattle.graphql_rule_definitions.specs.Kept.{validated}
-use Rattle.graphql_rule_definitions.specs.Rules.{SchemaRules}
-use Rattle.graphql_schema_laws.specs.Implementing.{ImplementsInOrder}
-use Rattle.graphql_schema_laws.specs.Literals.{HasTheFiveAlone, HasNoKeywordValue, InputTypesHaveLiterals}
-use Rattle.graphql_schema_laws.proofs.Validated.{ordered_after, literals_after}
-use Rattle.graphql_schema_laws.proofs.Named.{has_names}
+use Rattle.schema_components.specs.Names.{Entries}
+use Rattle.rule_definitions.specs.in_schema_types.SchemaTree.{SchemaType, SchemaTree}
+use Rattle.rule_definitions.specs.Distinct.{AreAllDistinct}
+use Rattle.rule_definitions.specs.Judged.{judged}
+use Rattle.rule_definitions.specs.Kept.{validated}
+use Rattle.rule_definitions.specs.Rules.{SchemaRules}
+use Rattle.rule_schema_laws.specs.Implementing.{ImplementsInOrder}
+use Rattle.rule_schema_laws.specs.Literals.{HasTheFiveAlone, HasNoKeywordValue, InputTypesHaveLiterals}
+use Rattle.rule_schema_laws.proofs.Validated.{ordered_after, literals_after}
+use Rattle.rule_schema_laws.proofs.Named.{has_names}
 
 -- with the types of what is left, a schema is what is left
 pub left_is : (s : SchemaTree Place) (types : Entries (SchemaType Place)) → types ≡ (validated s).types → record s { types = types } ≡ validated s

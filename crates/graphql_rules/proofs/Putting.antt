@@ -8,26 +8,26 @@ use Rattle.indexmap.specs.IndexMap.{IndexMap, insert_entry}
 use Rattle.graphql_names.specs.NameValue.{NameValue}
 use Rattle.graphql_names.specs.Placed.{Placed, Place, node_tree}
 use Rattle.graphql_names.specs.declared.node.Node.{Node}
-use Rattle.graphql_components.specs.Names.{Entries, same_text}
-use Rattle.graphql_components.specs.Given.{Given, component_tree}
-use Rattle.graphql_components.specs.declared.component.Component.{Component}
-use Rattle.graphql_directives.specs.DirectiveTree.{DirectiveDefinitionTree, input_value_tree, directive_definition_tree}
-use Rattle.graphql_directives.specs.declared.directive.DirectiveDefinition.{DirectiveDefinition}
-use Rattle.graphql_directives.specs.declared.input_value.InputValueDefinition.{InputValueDefinition}
-use Rattle.graphql_type_members.specs.TypeSystemTree.{FieldDefinitionTree, field_definition_tree}
-use Rattle.graphql_type_members.specs.declared.field_definition.FieldDefinition.{FieldDefinition}
-use Rattle.graphql_schema_types.specs.TypeView.{name_text, extended_type, object_type, interface_type, input_object_type}
-use Rattle.graphql_schema_types.specs.declared.extended_type.ExtendedType.{ExtendedType}
-use Rattle.graphql_schema_types.specs.declared.kinds.ObjectType.{ObjectType}
-use Rattle.graphql_schema_types.specs.declared.kinds.InterfaceType.{InterfaceType}
-use Rattle.graphql_schema_types.specs.declared.kinds.InputObjectType.{InputObjectType}
-use Rattle.graphql_schema_types.specs.SchemaTree.{SchemaType, SchemaTree}
-use Rattle.graphql_schema_types.specs.Addresses.{under, type_at}
-use Rattle.graphql_schema_types.specs.SchemaView.{types_view, definitions_view}
+use Rattle.schema_components.specs.Names.{Entries, same_text}
+use Rattle.schema_components.specs.Given.{Given, component_tree}
+use Rattle.schema_components.specs.declared.component.Component.{Component}
+use Rattle.tree_directives.specs.DirectiveTree.{DirectiveDefinitionTree, input_value_tree, directive_definition_tree}
+use Rattle.tree_directives.specs.declared.directive.DirectiveDefinition.{DirectiveDefinition}
+use Rattle.tree_directives.specs.declared.input_value.InputValueDefinition.{InputValueDefinition}
+use Rattle.tree_type_members.specs.TypeSystemTree.{FieldDefinitionTree, field_definition_tree}
+use Rattle.tree_type_members.specs.declared.field_definition.FieldDefinition.{FieldDefinition}
+use Rattle.schema_types.specs.TypeView.{name_text, extended_type, object_type, interface_type, input_object_type}
+use Rattle.schema_types.specs.declared.extended_type.ExtendedType.{ExtendedType}
+use Rattle.schema_types.specs.declared.kinds.ObjectType.{ObjectType}
+use Rattle.schema_types.specs.declared.kinds.InterfaceType.{InterfaceType}
+use Rattle.schema_types.specs.declared.kinds.InputObjectType.{InputObjectType}
+use Rattle.schema_types.specs.SchemaTree.{SchemaType, SchemaTree}
+use Rattle.schema_types.specs.Addresses.{under, type_at}
+use Rattle.schema_types.specs.SchemaView.{types_view, definitions_view}
 use Rattle.graphql_schema.specs.SchemaOf.{schema_tree}
 use Rattle.graphql_schema.specs.declared.schema.Schema.{Schema}
-use Rattle.graphql_rule_definitions.specs.TypesUsed.{scalar_names}
-use Rattle.graphql_rule_definitions.specs.Kept.{is_dropped, is_missing, is_inside, is_inside_arguments, is_inside_field, is_inside_type, built_in_scalar, kept, validated, is_referenced}
+use Rattle.rule_definitions.specs.TypesUsed.{scalar_names}
+use Rattle.rule_definitions.specs.Kept.{is_dropped, is_missing, is_inside, is_inside_arguments, is_inside_field, is_inside_type, built_in_scalar, kept, validated, is_referenced}
 use Rattle.graphql_rules.specs.Putting.{put_under, and_kept, and_missing}
 
 -- a test on the values of a map

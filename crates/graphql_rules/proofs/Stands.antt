@@ -4,9 +4,9 @@ use Rattle.graphql_names.specs.Placed.{Place}
 use Rattle.graphql_names.specs.Places.{span_end, RecomposesBoth, Recomposes}
 use Rattle.graphql_names.specs.declared.span.FileId.{FileId}
 use Rattle.graphql_names.specs.declared.span.SourceSpan.{SourceSpan}
-use Rattle.graphql_rule_definitions.specs.in_schema_types.SchemaTree.{SchemaTree}
-use Rattle.graphql_rule_definitions.specs.in_schema_types.Addresses.{DirectiveDefinitionAt, NameAt, place_at}
-use Rattle.graphql_rule_definitions.specs.Spots.{Spot, At, HeadAt, ItemAt, KeyAt, EntryAt, spot_place, StandsAt}
+use Rattle.rule_definitions.specs.in_schema_types.SchemaTree.{SchemaTree}
+use Rattle.rule_definitions.specs.in_schema_types.Addresses.{DirectiveDefinitionAt, NameAt, place_at}
+use Rattle.rule_definitions.specs.Spots.{Spot, At, HeadAt, ItemAt, KeyAt, EntryAt, spot_place, StandsAt}
 
 decide : (a b : ℕ) → (a ≡ b) ⊎ (a ≡ b → ⊥)
 decide zero zero = inl refl

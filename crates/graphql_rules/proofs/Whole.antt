@@ -2,17 +2,17 @@
 use Rattle.std.proofs.Common.{◌≡◌, ◌⊎◌, ◌↔◌, List, [], ◌∷◌, refl, sym, subst, inl, inr, Contains}
 use Rattle.std.proofs.lemmas.List.Elements.{Contains-append_left, Contains-append_right, Contains-append_cases}
 use Rattle.graphql_names.specs.Placed.{Place}
-use Rattle.graphql_rule_definitions.specs.in_schema_types.SchemaTree.{SchemaTree}
-use Rattle.graphql_rule_definitions.specs.Diagnostics.{map_places}
-use Rattle.graphql_rule_definitions.specs.Spots.{spot_place}
-use Rattle.graphql_rule_definitions.specs.Faults.{SchemaFault}
-use Rattle.graphql_rule_definitions.specs.Judged.{Judged, judged}
-use Rattle.graphql_rule_definitions.specs.Rules.{InterfacesBreak, SchemaUsesBreak, SchemaRules, extension_places_at}
-use Rattle.graphql_rule_definitions.specs.Told.{PlacedFault, Told}
-use Rattle.graphql_rule_definitions.proofs.Lists.{not_in_nil, Contains-first}
-use Rattle.graphql_type_rules.specs.TypesBreak.{TypesBreak}
-use Rattle.graphql_cycle_rules.specs.Told.{CyclesFail, CyclesTold}
-use Rattle.graphql_rule_definitions.proofs.Listing.{Gains}
+use Rattle.rule_definitions.specs.in_schema_types.SchemaTree.{SchemaTree}
+use Rattle.rule_definitions.specs.Diagnostics.{map_places}
+use Rattle.rule_definitions.specs.Spots.{spot_place}
+use Rattle.rule_definitions.specs.Faults.{SchemaFault}
+use Rattle.rule_definitions.specs.Judged.{Judged, judged}
+use Rattle.rule_definitions.specs.Rules.{InterfacesBreak, SchemaUsesBreak, SchemaRules, extension_places_at}
+use Rattle.rule_definitions.specs.Told.{PlacedFault, Told}
+use Rattle.rule_definitions.proofs.Lists.{not_in_nil, Contains-first}
+use Rattle.rule_types.specs.TypesBreak.{TypesBreak}
+use Rattle.rule_cycles.specs.Told.{CyclesFail, CyclesTold}
+use Rattle.rule_definitions.proofs.Listing.{Gains}
 use Rattle.graphql_rules.specs.SchemaTold.{Fails, BreaksBesideCycles, IsWithinReferenceBound, TellsSchema}
 use Rattle.graphql_rules.proofs.Stands.{stands}
 

@@ -1,7 +1,7 @@
 -- What a check adds at the end of a list.
 use Rattle.std.specs.Prelude.{◌≡◌, ◌++◌, List, map, Contains, ◌↔◌}
 use Rattle.graphql_names.specs.Placed.{Place}
-use Rattle.graphql_rule_definitions.specs.Told.{PlacedFault}
+use Rattle.rule_definitions.specs.Told.{PlacedFault}
 use Rattle.graphql_faults.specs.DetailsTree.{DetailsAt, of_rule}
 
 -- what a list tells, in order

@@ -2,16 +2,16 @@
 use Rattle.std.specs.Prelude.{◌≡◌, List, [], ◌∷◌, ⊤}
 use Rattle.graphql_names.specs.Placed.{Placed, Place, node_tree}
 use Rattle.graphql_names.specs.declared.node.Node.{Node}
-use Rattle.graphql_literals.specs.TypeTree.{unplaced_type}
-use Rattle.graphql_literals.specs.ValueQueries.{variable_name}
-use Rattle.graphql_directives.specs.DirectiveTree.{ArgumentTree, DirectiveTree, InputValueTree, directive_tree}
-use Rattle.graphql_directives.specs.declared.directive.Directive.{Directive}
-use Rattle.graphql_rule_definitions.specs.Diagnostics.{DisallowedVariableUsage}
-use Rattle.graphql_rule_definitions.specs.Faults.{wrong}
-use Rattle.graphql_rule_definitions.specs.Words.{Present, FirstNamed}
-use Rattle.graphql_rule_definitions.specs.Values.{Variables, defined_name}
-use Rattle.graphql_rule_definitions.specs.Uses.{argument_name, IsVariableUsageAllowed}
-use Rattle.graphql_rule_definitions.specs.Told.{PlacedFault}
+use Rattle.tree_literals.specs.TypeTree.{unplaced_type}
+use Rattle.tree_literals.specs.ValueQueries.{variable_name}
+use Rattle.tree_directives.specs.DirectiveTree.{ArgumentTree, DirectiveTree, InputValueTree, directive_tree}
+use Rattle.tree_directives.specs.declared.directive.Directive.{Directive}
+use Rattle.rule_definitions.specs.Diagnostics.{DisallowedVariableUsage}
+use Rattle.rule_definitions.specs.Faults.{wrong}
+use Rattle.rule_definitions.specs.Words.{Present, FirstNamed}
+use Rattle.rule_definitions.specs.Values.{Variables, defined_name}
+use Rattle.rule_definitions.specs.Uses.{argument_name, IsVariableUsageAllowed}
+use Rattle.rule_definitions.specs.Told.{PlacedFault}
 
 -- each of these gives that of those, in order
 abbrev pub Each : {A B : Type 0} → (A → B → Type 0) → List A → List B → Type 0

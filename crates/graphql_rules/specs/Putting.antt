@@ -2,9 +2,9 @@
 use Rattle.std.specs.Prelude.{ℕ, List, [], ◌∷◌, if◌then◌else◌}
 use Rattle.std.specs.Str.{bytes_eq}
 use Rattle.graphql_names.specs.Placed.{Place}
-use Rattle.graphql_components.specs.Names.{Entries}
-use Rattle.graphql_schema_types.specs.SchemaTree.{SchemaType, SchemaTree}
-use Rattle.graphql_rule_definitions.specs.Kept.{is_dropped, is_missing, built_in_scalar}
+use Rattle.schema_components.specs.Names.{Entries}
+use Rattle.schema_types.specs.SchemaTree.{SchemaType, SchemaTree}
+use Rattle.rule_definitions.specs.Kept.{is_dropped, is_missing, built_in_scalar}
 
 -- the entries with this under the name: in the place of what stood under it, else last
 abbrev pub put_under : {A : Type 0} → List ℕ → A → Entries A → Entries A

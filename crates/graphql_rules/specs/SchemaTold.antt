@@ -1,13 +1,13 @@
 -- What is told of a schema (GraphQL, October 2021, sections 3 and 5).
 use Rattle.std.specs.Prelude.{ℕ, List, Contains, ◌⊎◌}
 use Rattle.graphql_names.specs.Placed.{Place}
-use Rattle.graphql_rule_definitions.specs.in_schema_types.SchemaTree.{SchemaTree}
-use Rattle.graphql_rule_definitions.specs.Faults.{SchemaFault}
-use Rattle.graphql_rule_definitions.specs.Judged.{Judged, judged}
-use Rattle.graphql_rule_definitions.specs.Cycles.{PassesReferenceBound}
-use Rattle.graphql_rule_definitions.specs.Rules.{ReferencesBreak, EmptyBreaks, InterfacesBreak, SchemaUsesBreak, Breaks}
-use Rattle.graphql_rule_definitions.specs.Told.{PlacedFault, Told}
-use Rattle.graphql_cycle_rules.specs.Told.{IsInputCycle, IsDirectiveCycle, AnswersInput, AnswersDirective}
+use Rattle.rule_definitions.specs.in_schema_types.SchemaTree.{SchemaTree}
+use Rattle.rule_definitions.specs.Faults.{SchemaFault}
+use Rattle.rule_definitions.specs.Judged.{Judged, judged}
+use Rattle.rule_definitions.specs.Cycles.{PassesReferenceBound}
+use Rattle.rule_definitions.specs.Rules.{ReferencesBreak, EmptyBreaks, InterfacesBreak, SchemaUsesBreak, Breaks}
+use Rattle.rule_definitions.specs.Told.{PlacedFault, Told}
+use Rattle.rule_cycles.specs.Told.{IsInputCycle, IsDirectiveCycle, AnswersInput, AnswersDirective}
 use Rattle.graphql_rules.specs.Appends.{Telling, AppendsThese}
 
 -- a rule fails so, or the bound on references is passed

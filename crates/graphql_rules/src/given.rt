@@ -3,26 +3,26 @@ ghost use Rattle.std.specs.Prelude.{◌≡◌, ◌↔◌, ⊤, List, IfOk, OnOk,
 ghost use Rattle.std.specs.Iterator.{IsFinite, HoldsAlong, DrainsIf};
 ghost use Rattle.graphql_names.specs.Node.{content};
 ghost use Rattle.graphql_names.specs.Placed.{Place, node_tree};
-ghost use Rattle.graphql_directives.specs.DirectiveTree.{Directives, argument_tree, input_value_tree, unplaced_input_value};
-ghost use Rattle.graphql_rule_definitions.specs.in_schema_types.Addresses.{place_at};
-ghost use Rattle.graphql_rule_definitions.specs.Judged.{judged};
-ghost use Rattle.graphql_rule_definitions.specs.Uses.{UsesBreak};
-ghost use Rattle.graphql_value_rules.specs.Wanting.{variables_of};
-ghost use Rattle.graphql_use_rules.specs.Alone.{ArgumentsBreak};
-ghost use Rattle.graphql_use_rules.specs.Trees.{arguments_of, directives_of, tree_of};
+ghost use Rattle.tree_directives.specs.DirectiveTree.{Directives, argument_tree, input_value_tree, unplaced_input_value};
+ghost use Rattle.rule_definitions.specs.in_schema_types.Addresses.{place_at};
+ghost use Rattle.rule_definitions.specs.Judged.{judged};
+ghost use Rattle.rule_definitions.specs.Uses.{UsesBreak};
+ghost use Rattle.rule_values.specs.Wanting.{variables_of};
+ghost use Rattle.rule_uses.specs.Alone.{ArgumentsBreak};
+ghost use Rattle.rule_uses.specs.Trees.{arguments_of, directives_of, tree_of};
 ghost use Rattle.graphql_faults.specs.DetailsView.{diagnostics_of, BeginsAs};
 ghost use Rattle.graphql_rules.specs.Appends.{Appends};
 ghost use Rattle.graphql_rules.specs.Given.{Each, LeadsTo, UsageBreaks};
 
-use graphql_directives::{Argument, Directive, DirectiveLocation, InputValueDefinition};
 use graphql_faults::DiagnosticList;
 use graphql_names::Node;
-use graphql_operations::VariableDefinition;
 use graphql_schema::Schema;
-use graphql_use_rules::{check_arguments_alone, check_directives, disallowed_variable_usage};
-use graphql_value_rules::DefinedVariables;
+use rule_uses::{check_arguments_alone, check_directives, disallowed_variable_usage};
+use rule_values::DefinedVariables;
 use std::alloc::{AllocError, Global};
 use std::ops::Deref;
+use tree_directives::{Argument, Directive, DirectiveLocation, InputValueDefinition};
+use tree_operations::VariableDefinition;
 
 /// The nodes that the iterator gives, in order.
 fn nodes_of<D: Deref<Target = Node<Directive>> + Drop, I: IntoIterator<Item = D>>(

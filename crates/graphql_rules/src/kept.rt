@@ -2,20 +2,20 @@
 ghost use Rattle.std.specs.Prelude.{◌≡◌, fold, IfOk, OnOk, [], Some};
 ghost use Rattle.graphql_names.specs.NameSyntax.{IsName};
 ghost use Rattle.graphql_names.specs.Placed.{name_tree};
-ghost use Rattle.graphql_schema_types.specs.SchemaView.{types_view};
-ghost use Rattle.graphql_schema_types.specs.TypeView.{extended_type};
+ghost use Rattle.schema_types.specs.SchemaView.{types_view};
+ghost use Rattle.schema_types.specs.TypeView.{extended_type};
 ghost use Rattle.graphql_schema.specs.SchemaOf.{schema_tree};
-ghost use Rattle.graphql_schema_types.specs.BuiltIn.{built_in, name as bare_name};
-ghost use Rattle.graphql_rule_definitions.specs.TypesUsed.{scalar_names};
-ghost use Rattle.graphql_rule_definitions.specs.Kept.{is_dropped, is_missing, built_in_scalar, validated};
+ghost use Rattle.schema_types.specs.BuiltIn.{built_in, name as bare_name};
+ghost use Rattle.rule_definitions.specs.TypesUsed.{scalar_names};
+ghost use Rattle.rule_definitions.specs.Kept.{is_dropped, is_missing, built_in_scalar, validated};
 ghost use Rattle.graphql_rules.specs.Putting.{put_under, and_kept, and_missing};
 
 use crate::references::is_referenced;
-use graphql_components::DirectiveList;
 use graphql_names::{FileId, Name, Node, SourceSpan};
 use graphql_schema::Schema;
-use graphql_schema_types::{ExtendedType, ScalarType};
 use indexmap::IndexMap;
+use schema_components::DirectiveList;
+use schema_types::{ExtendedType, ScalarType};
 use std::alloc::{AllocError, Global};
 
 /// The types of the schema as validated: without each built-in scalar that is the inner type of no field, argument or

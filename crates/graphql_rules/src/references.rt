@@ -2,21 +2,21 @@
 ghost use Rattle.std.specs.Prelude.{◌≡◌, map};
 ghost use Rattle.std.specs.List.{list_any};
 ghost use Rattle.graphql_names.specs.Placed.{node_tree};
-ghost use Rattle.graphql_literals.specs.TypeTree.{type_tree};
-ghost use Rattle.graphql_directives.specs.DirectiveTree.{input_value_tree, directive_definition_tree};
-ghost use Rattle.graphql_type_members.specs.TypeSystemTree.{field_definition_tree};
-ghost use Rattle.graphql_components.specs.Given.{component_tree};
-ghost use Rattle.graphql_schema_types.specs.TypeView.{extended_type};
+ghost use Rattle.tree_literals.specs.TypeTree.{type_tree};
+ghost use Rattle.tree_directives.specs.DirectiveTree.{input_value_tree, directive_definition_tree};
+ghost use Rattle.tree_type_members.specs.TypeSystemTree.{field_definition_tree};
+ghost use Rattle.schema_components.specs.Given.{component_tree};
+ghost use Rattle.schema_types.specs.TypeView.{extended_type};
 ghost use Rattle.graphql_schema.specs.SchemaOf.{schema_tree};
-ghost use Rattle.graphql_rule_definitions.specs.Kept.{is_inside, is_inside_arguments, is_inside_field, is_inside_type, is_referenced};
+ghost use Rattle.rule_definitions.specs.Kept.{is_inside, is_inside_arguments, is_inside_field, is_inside_type, is_referenced};
 
-use graphql_components::Component;
-use graphql_directives::{DirectiveDefinition, InputValueDefinition};
-use graphql_literals::Type;
 use graphql_names::Node;
 use graphql_schema::Schema;
-use graphql_schema_types::ExtendedType;
-use graphql_type_members::FieldDefinition;
+use schema_components::Component;
+use schema_types::ExtendedType;
+use tree_directives::{DirectiveDefinition, InputValueDefinition};
+use tree_literals::Type;
+use tree_type_members::FieldDefinition;
 
 /// Whether the name stands inside the reference to a type.
 fn is_inside(name: &str, ty: &Type) -> bool

@@ -1,25 +1,25 @@
 //! Every rule on a schema.
 ghost use Rattle.std.specs.Prelude.{◌≡◌, IfOk, OnOk, OnErr};
 ghost use Rattle.graphql_schema.specs.SchemaOf.{schema_tree};
-ghost use Rattle.graphql_fault_data.specs.FaultView.{faults_of};
-ghost use Rattle.graphql_rule_definitions.specs.Distinct.{AreAllDistinct};
-ghost use Rattle.graphql_rule_definitions.specs.Judged.{judged};
-ghost use Rattle.graphql_rule_definitions.specs.Kept.{validated};
-ghost use Rattle.graphql_rule_definitions.specs.Rules.{SchemaRules};
+ghost use Rattle.fault_data.specs.FaultView.{faults_of};
+ghost use Rattle.rule_definitions.specs.Distinct.{AreAllDistinct};
+ghost use Rattle.rule_definitions.specs.Judged.{judged};
+ghost use Rattle.rule_definitions.specs.Kept.{validated};
+ghost use Rattle.rule_definitions.specs.Rules.{SchemaRules};
 ghost use Rattle.graphql_faults.specs.DetailsView.{diagnostics_of, BeginsAs};
-ghost use Rattle.graphql_schema_laws.specs.Implementing.{ImplementsInOrder};
-ghost use Rattle.graphql_schema_laws.specs.Literals.{HasTheFiveAlone, HasNoKeywordValue, InputTypesHaveLiterals};
+ghost use Rattle.rule_schema_laws.specs.Implementing.{ImplementsInOrder};
+ghost use Rattle.rule_schema_laws.specs.Literals.{HasTheFiveAlone, HasNoKeywordValue, InputTypesHaveLiterals};
 ghost use Rattle.graphql_rules.specs.SchemaTold.{IsWithinReferenceBound, TellsSchema, SchemaTold};
 
 use crate::kept::kept_types;
-use graphql_cycle_rules::check_cycles;
-use graphql_fault_data::Fault;
+use fault_data::Fault;
 use graphql_faults::DiagnosticList;
-use graphql_interface_rules::check_interfaces;
 use graphql_schema::Schema;
 use graphql_schema::laws::names_differ;
-use graphql_type_rules::check_types;
-use graphql_use_rules::check_schema_directives;
+use rule_cycles::check_cycles;
+use rule_interfaces::check_interfaces;
+use rule_types::check_types;
+use rule_uses::check_schema_directives;
 use std::alloc::{AllocError, Global};
 
 /// Tells every fault of the rules on schemas (sections 3 and 5), and then keeps of the types all but the built-in scalars

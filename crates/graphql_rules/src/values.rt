@@ -1,23 +1,23 @@
 //! Rules on values.
 ghost use Rattle.std.specs.Prelude.{◌≡◌, ◌↔◌, OnOk, OnErr};
 ghost use Rattle.graphql_names.specs.Node.{content, place};
-ghost use Rattle.graphql_literals.specs.ValueTree.{value_tree};
-ghost use Rattle.graphql_rule_definitions.specs.in_schema_types.Addresses.{place_at};
+ghost use Rattle.tree_literals.specs.ValueTree.{value_tree};
+ghost use Rattle.rule_definitions.specs.in_schema_types.Addresses.{place_at};
 ghost use Rattle.graphql_schema.specs.SchemaOf.{schema_tree};
-ghost use Rattle.graphql_rule_definitions.specs.Judged.{judged};
-ghost use Rattle.graphql_rule_definitions.specs.Accepts.{Accepts};
-ghost use Rattle.graphql_rule_definitions.specs.Values.{ValueBreaks};
-ghost use Rattle.graphql_value_rules.specs.Wanting.{wanted_type, variables_of};
+ghost use Rattle.rule_definitions.specs.Judged.{judged};
+ghost use Rattle.rule_definitions.specs.Accepts.{Accepts};
+ghost use Rattle.rule_definitions.specs.Values.{ValueBreaks};
+ghost use Rattle.rule_values.specs.Wanting.{wanted_type, variables_of};
 ghost use Rattle.graphql_faults.specs.DetailsView.{diagnostics_of, BeginsAs};
 ghost use Rattle.graphql_rules.specs.Appends.{Appends};
 
 use graphql_faults::DiagnosticList;
-use graphql_literals::{Type, Value};
 use graphql_names::Node;
-use graphql_operations::VariableDefinition;
 use graphql_schema::Schema;
-use graphql_value_rules::{DefinedVariables, check_value};
+use rule_values::{DefinedVariables, check_value};
 use std::alloc::{AllocError, Global};
+use tree_literals::{Type, Value};
+use tree_operations::VariableDefinition;
 
 /// Tells the faults of a value that is given for a type (section 5.6), and each variable in it, at any depth, that is none
 /// of `variables` (section 5.8.3): nothing exactly where the type accepts the value. After a refusal the list begins as

@@ -6,25 +6,25 @@ use Rattle.std.specs.Str.{bytes_eq}
 use Rattle.std.proofs.lemmas.List.{map-append}
 use Rattle.std.proofs.lemmas.List.Elements.{Contains-append_cases, Contains-append_right}
 use Rattle.graphql_names.specs.NameValue.{NameValue}
-use Rattle.graphql_components.specs.Names.{Entries, same_text}
-use Rattle.graphql_components.specs.Given.{component_tree, component_name_tree, given_name}
-use Rattle.graphql_components.specs.declared.component_name.ComponentName.{ComponentName}
-use Rattle.graphql_components.proofs.ComponentEquality.{component_text}
+use Rattle.schema_components.specs.Names.{Entries, same_text}
+use Rattle.schema_components.specs.Given.{component_tree, component_name_tree, given_name}
+use Rattle.schema_components.specs.declared.component_name.ComponentName.{ComponentName}
+use Rattle.schema_components.proofs.ComponentEquality.{component_text}
 use Rattle.graphql_names.specs.Placed.{Placed, Place, node_tree}
 use Rattle.graphql_names.specs.declared.node.Node.{Node}
-use Rattle.graphql_directives.specs.declared.directive.DirectiveDefinition.{DirectiveDefinition}
-use Rattle.graphql_schema_building.specs.in_schema_types.SchemaTree.{SchemaType, SchemaTree}
-use Rattle.graphql_schema_building.specs.in_schema_types.declared.extended_type.ExtendedType.{ExtendedType}
-use Rattle.graphql_directives.specs.DirectiveTree.{DirectiveDefinitionTree, input_value_tree, directive_definition_tree}
-use Rattle.graphql_type_members.specs.TypeSystemTree.{field_definition_tree, enum_value_tree}
-use Rattle.graphql_schema_building.specs.in_schema_types.TypeView.{name_text, extended_type, scalar_type, object_type, interface_type, union_type, enum_type, input_object_type}
-use Rattle.graphql_schema_building.specs.in_schema_types.declared.kinds.ScalarType.{ScalarType}
-use Rattle.graphql_schema_building.specs.in_schema_types.declared.kinds.ObjectType.{ObjectType}
-use Rattle.graphql_schema_building.specs.in_schema_types.declared.kinds.InterfaceType.{InterfaceType}
-use Rattle.graphql_schema_building.specs.in_schema_types.declared.kinds.UnionType.{UnionType}
-use Rattle.graphql_schema_building.specs.in_schema_types.declared.kinds.EnumType.{EnumType}
-use Rattle.graphql_schema_building.specs.in_schema_types.declared.kinds.InputObjectType.{InputObjectType}
-use Rattle.graphql_schema_building.specs.in_schema_types.Distinct.{ArePartsDistinct, AreAllDistinct}
+use Rattle.tree_directives.specs.declared.directive.DirectiveDefinition.{DirectiveDefinition}
+use Rattle.schema_building.specs.in_schema_types.SchemaTree.{SchemaType, SchemaTree}
+use Rattle.schema_building.specs.in_schema_types.declared.extended_type.ExtendedType.{ExtendedType}
+use Rattle.tree_directives.specs.DirectiveTree.{DirectiveDefinitionTree, input_value_tree, directive_definition_tree}
+use Rattle.tree_type_members.specs.TypeSystemTree.{field_definition_tree, enum_value_tree}
+use Rattle.schema_building.specs.in_schema_types.TypeView.{name_text, extended_type, scalar_type, object_type, interface_type, union_type, enum_type, input_object_type}
+use Rattle.schema_building.specs.in_schema_types.declared.kinds.ScalarType.{ScalarType}
+use Rattle.schema_building.specs.in_schema_types.declared.kinds.ObjectType.{ObjectType}
+use Rattle.schema_building.specs.in_schema_types.declared.kinds.InterfaceType.{InterfaceType}
+use Rattle.schema_building.specs.in_schema_types.declared.kinds.UnionType.{UnionType}
+use Rattle.schema_building.specs.in_schema_types.declared.kinds.EnumType.{EnumType}
+use Rattle.schema_building.specs.in_schema_types.declared.kinds.InputObjectType.{InputObjectType}
+use Rattle.schema_building.specs.in_schema_types.Distinct.{ArePartsDistinct, AreAllDistinct}
 
 module _ {X : Type 0} where
   not_in_nil : {R : Type 0} (y : X) → Contains [] y → R

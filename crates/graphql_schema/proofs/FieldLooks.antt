@@ -7,15 +7,15 @@ use Rattle.std.specs.Str.{bytes_eq}
 use Rattle.std.specs.Cmp.Lexicographic.{nat_list_cmp_total, texts_ties}
 use Rattle.std.specs.FinMap as fin
 use Rattle.graphql_names.specs.Placed.{Placed, Place, Text}
-use Rattle.graphql_type_members.specs.TypeSystemTree.{FieldDefinitionTree, unplaced_field_definition}
-use Rattle.graphql_schema_building.specs.in_built_in.MetaFields.{meta_field_of}
-use Rattle.graphql_schema_building.specs.in_schema_types.SchemaTree.{SchemaType, SchemaTree}
-use Rattle.graphql_schema_building.specs.in_schema_types.Addresses.{under}
-use Rattle.graphql_schema_building.proofs.in_schema_types.UnderNames.{get_under}
-use Rattle.graphql_schema_building.specs.in_schema_types.Plain.{plain, plain_type}
-use Rattle.graphql_schema_building.specs.in_schema_types.Looks.{looks, type_looks}
-use Rattle.graphql_components.specs.Names.{named}
-use Rattle.graphql_components.specs.Given.{Given, given_name, plain_given}
+use Rattle.tree_type_members.specs.TypeSystemTree.{FieldDefinitionTree, unplaced_field_definition}
+use Rattle.schema_building.specs.in_built_in.MetaFields.{meta_field_of}
+use Rattle.schema_building.specs.in_schema_types.SchemaTree.{SchemaType, SchemaTree}
+use Rattle.schema_building.specs.in_schema_types.Addresses.{under}
+use Rattle.schema_building.proofs.in_schema_types.UnderNames.{get_under}
+use Rattle.schema_building.specs.in_schema_types.Plain.{plain, plain_type}
+use Rattle.schema_building.specs.in_schema_types.Looks.{looks, type_looks}
+use Rattle.schema_components.specs.Names.{named}
+use Rattle.schema_components.specs.Given.{Given, given_name, plain_given}
 use Rattle.graphql_schema.specs.MetaField.{by_definition}
 use Rattle.graphql_schema.specs.LookUps.{is_composite_kind, meta_field_on}
 use Rattle.graphql_schema.specs.LookUps as look_up

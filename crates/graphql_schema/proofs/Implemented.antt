@@ -10,15 +10,15 @@ use Rattle.std.proofs.lemmas.List.Folds.{list_any-append}
 use Rattle.std.proofs.lemmas.Slice.Eq.{bytes_eq-Decides}
 use Rattle.graphql_names.specs.NameValue.{NameValue}
 use Rattle.graphql_names.specs.Placed.{Place, Text}
-use Rattle.graphql_components.specs.Lists.{is_among, firsts, has_name}
-use Rattle.graphql_components.specs.Given.{Given, given_name}
-use Rattle.graphql_components.proofs.Firsts.{has_name-firsts, firsts-push_new, firsts-push_seen}
-use Rattle.graphql_schema_building.specs.in_schema_types.SchemaTree.{SchemaType, same_kind}
-use Rattle.graphql_schema_building.specs.in_schema_types.TypeView.{name_text, extended_type}
-use Rattle.graphql_schema_building.specs.in_schema_types.declared.extended_type.ExtendedType.{ExtendedType}
-use Rattle.graphql_schema_building.specs.in_schema_types.declared.extended_type.ExtendedType.TheVariants as rust
-use Rattle.graphql_schema_building.specs.in_schema_types.declared.type_kind.TypeKind.{TypeKind}
-use Rattle.graphql_schema_building.specs.in_schema_types.declared.type_kind.TypeKind.TheVariants as kind
+use Rattle.schema_components.specs.Lists.{is_among, firsts, has_name}
+use Rattle.schema_components.specs.Given.{Given, given_name}
+use Rattle.schema_components.proofs.Firsts.{has_name-firsts, firsts-push_new, firsts-push_seen}
+use Rattle.schema_building.specs.in_schema_types.SchemaTree.{SchemaType, same_kind}
+use Rattle.schema_building.specs.in_schema_types.TypeView.{name_text, extended_type}
+use Rattle.schema_building.specs.in_schema_types.declared.extended_type.ExtendedType.{ExtendedType}
+use Rattle.schema_building.specs.in_schema_types.declared.extended_type.ExtendedType.TheVariants as rust
+use Rattle.schema_building.specs.in_schema_types.declared.type_kind.TypeKind.{TypeKind}
+use Rattle.schema_building.specs.in_schema_types.declared.type_kind.TypeKind.TheVariants as kind
 use Rattle.graphql_schema.specs.Implementers.{ImplementersTree}
 use Rattle.graphql_schema.specs.Noting.{nobody, with_name, and_type, and_naming, naming, namings_of, noted_in}
 

@@ -8,9 +8,9 @@ use Rattle.std.specs.Option.{option_map, option_copied}
 use Rattle.std.specs.Str.{bytes_eq}
 use Rattle.indexmap.specs.IndexMap.{IndexMap, get}
 use Rattle.graphql_names.specs.NameValue.{NameValue}
-use Rattle.graphql_components.specs.Names.{same_text, entries_of}
-use Rattle.graphql_schema_building.specs.in_schema_types.TypeView.{name_text}
-use Rattle.graphql_schema_building.specs.in_schema_types.Addresses.{under}
+use Rattle.schema_components.specs.Names.{same_text, entries_of}
+use Rattle.schema_building.specs.in_schema_types.TypeView.{name_text}
+use Rattle.schema_building.specs.in_schema_types.Addresses.{under}
 
 module _ {X A : Type 0} (f : X → A) (k : NameValue) where
   under-lookup : (es : List (NameValue × X)) → under k.text (map (λ e. (name_text e.0, f e.1)) es) ≡ option_map f (lookup (same_text name_text k) es)

@@ -3,13 +3,13 @@ use Rattle.std.proofs.Common.{◌≡◌, ap}
 use Rattle.std.specs.Bool.{Decides}
 use Rattle.graphql_names.specs.Node.{content}
 use Rattle.graphql_names.specs.Placed.{node_tree}
-use Rattle.graphql_directives.specs.DirectiveTree.{directive_definition_tree}
-use Rattle.graphql_components.proofs.in_values.Decided.{through, pair_decides}
-use Rattle.graphql_components.proofs.in_values.DirectiveEquality.{directive_definition_eq-Decides}
-use Rattle.graphql_components.proofs.NamedEquality.{maps_decide}
-use Rattle.graphql_schema_building.specs.in_schema_types.TypeView.{name_text, extended_type}
-use Rattle.graphql_schema_building.specs.in_schema_types.Plain.{PlainSchema, plain, plain_type, plain_directive_definition}
-use Rattle.graphql_schema_building.proofs.in_schema_types.TypeEquality.{type_eq-Decides, roots_eq-Decides}
+use Rattle.tree_directives.specs.DirectiveTree.{directive_definition_tree}
+use Rattle.schema_components.proofs.in_values.Decided.{through, pair_decides}
+use Rattle.schema_components.proofs.in_values.DirectiveEquality.{directive_definition_eq-Decides}
+use Rattle.schema_components.proofs.NamedEquality.{maps_decide}
+use Rattle.schema_building.specs.in_schema_types.TypeView.{name_text, extended_type}
+use Rattle.schema_building.specs.in_schema_types.Plain.{PlainSchema, plain, plain_type, plain_directive_definition}
+use Rattle.schema_building.proofs.in_schema_types.TypeEquality.{type_eq-Decides, roots_eq-Decides}
 use Rattle.graphql_schema.specs.SchemaOf.{schema_tree}
 use Rattle.graphql_schema.specs.declared.schema.Schema.{Schema}
 use Rattle.graphql_schema.specs.contracts.schema.SchemaPartialEq.TheImpl as schema_impl

@@ -10,15 +10,15 @@ use Rattle.std.proofs.lemmas.Map.Keys.{IsDistinct-head, IsDistinct-tail}
 use Rattle.std.proofs.lemmas.Slice.Eq.{bytes_eq-Decides}
 use Rattle.graphql_names.specs.NameValue.{NameValue}
 use Rattle.graphql_names.specs.Placed.{Place, Text}
-use Rattle.graphql_components.specs.Lists.{is_among}
-use Rattle.graphql_components.specs.Names.{Entries, same_text}
-use Rattle.graphql_components.specs.Given.{Given, given_name}
-use Rattle.graphql_schema_building.specs.in_schema_types.SchemaTree.{SchemaType, SchemaTree, same_kind}
-use Rattle.graphql_schema_building.specs.in_schema_types.TypeView.{name_text, extended_type}
-use Rattle.graphql_schema_building.specs.in_schema_types.Addresses.{under, type_at}
-use Rattle.graphql_schema_building.specs.in_schema_types.declared.extended_type.ExtendedType.{ExtendedType}
-use Rattle.graphql_schema_building.specs.in_schema_types.declared.type_kind.TypeKind.{TypeKind}
-use Rattle.graphql_schema_building.specs.in_schema_types.declared.type_kind.TypeKind.TheVariants as kind
+use Rattle.schema_components.specs.Lists.{is_among}
+use Rattle.schema_components.specs.Names.{Entries, same_text}
+use Rattle.schema_components.specs.Given.{Given, given_name}
+use Rattle.schema_building.specs.in_schema_types.SchemaTree.{SchemaType, SchemaTree, same_kind}
+use Rattle.schema_building.specs.in_schema_types.TypeView.{name_text, extended_type}
+use Rattle.schema_building.specs.in_schema_types.Addresses.{under, type_at}
+use Rattle.schema_building.specs.in_schema_types.declared.extended_type.ExtendedType.{ExtendedType}
+use Rattle.schema_building.specs.in_schema_types.declared.type_kind.TypeKind.{TypeKind}
+use Rattle.schema_building.specs.in_schema_types.declared.type_kind.TypeKind.TheVariants as kind
 use Rattle.graphql_schema.specs.Implementers.{ImplementersTree, implementers_in}
 use Rattle.graphql_schema.specs.Noting.{Naming, nobody, with_name, and_type, and_naming, naming, namings_of, namings, noted_in}
 use Rattle.graphql_schema.specs.LookUps.{implements}

@@ -3,12 +3,12 @@ use Rattle.std.specs.Prelude.{◌≡◌, ℕ, Bool, false, ◌&&◌, List, Optio
 use Rattle.std.specs.Option.{option_map, option_map_or, option_or}
 use Rattle.std.specs.Str.{bytes_eq}
 use Rattle.graphql_names.specs.Placed.{Place}
-use Rattle.graphql_type_members.specs.TypeSystemTree.{FieldDefinitionTree, unplaced_field_definition}
-use Rattle.graphql_schema_building.specs.in_built_in.MetaFields.{meta_field_of}
-use Rattle.graphql_schema_building.specs.in_schema_types.SchemaTree.{SchemaTree}
-use Rattle.graphql_schema_building.specs.in_schema_types.Plain.{plain}
-use Rattle.graphql_schema_building.specs.in_schema_types.Looks.{Looks, TypeLooks, looks}
-use Rattle.graphql_components.specs.Given.{plain_given}
+use Rattle.tree_type_members.specs.TypeSystemTree.{FieldDefinitionTree, unplaced_field_definition}
+use Rattle.schema_building.specs.in_built_in.MetaFields.{meta_field_of}
+use Rattle.schema_building.specs.in_schema_types.SchemaTree.{SchemaTree}
+use Rattle.schema_building.specs.in_schema_types.Plain.{plain}
+use Rattle.schema_building.specs.in_schema_types.Looks.{Looks, TypeLooks, looks}
+use Rattle.schema_components.specs.Given.{plain_given}
 use Rattle.graphql_schema.specs.LookUps.{is_composite_kind}
 use Rattle.graphql_schema.specs.LookUps as look_up
 

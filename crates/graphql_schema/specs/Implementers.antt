@@ -2,10 +2,10 @@
 use Rattle.std.specs.Prelude.{ℕ, List, ◌&&◌, map, filter, Option, None, Some, if◌then◌else◌}
 use Rattle.std.specs.List.{list_any}
 use Rattle.graphql_names.specs.Placed.{Place}
-use Rattle.graphql_components.specs.Lists.{firsts}
-use Rattle.graphql_schema_building.specs.in_schema_types.SchemaTree.{SchemaTree, same_kind}
-use Rattle.graphql_schema_building.specs.in_schema_types.declared.type_kind.TypeKind.{TypeKind}
-use Rattle.graphql_schema_building.specs.in_schema_types.declared.type_kind.TypeKind.TheVariants.{Object, Interface}
+use Rattle.schema_components.specs.Lists.{firsts}
+use Rattle.schema_building.specs.in_schema_types.SchemaTree.{SchemaTree, same_kind}
+use Rattle.schema_building.specs.in_schema_types.declared.type_kind.TypeKind.{TypeKind}
+use Rattle.schema_building.specs.in_schema_types.declared.type_kind.TypeKind.TheVariants.{Object, Interface}
 use Rattle.graphql_schema.specs.LookUps.{implements}
 
 -- the names of the objects and of the interfaces that name one interface

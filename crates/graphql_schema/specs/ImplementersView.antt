@@ -4,8 +4,8 @@ use Rattle.std.specs.Option.{option_map}
 use Rattle.std.specs.Slice.Iter.{iter_rest}
 use Rattle.indexmap.specs.IndexMap.{IndexMap, get}
 use Rattle.graphql_names.specs.NameValue.{NameValue}
-use Rattle.graphql_components.specs.Names.{same_text}
-use Rattle.graphql_schema_building.specs.in_schema_types.TypeView.{name_text}
+use Rattle.schema_components.specs.Names.{same_text}
+use Rattle.schema_building.specs.in_schema_types.TypeView.{name_text}
 use Rattle.graphql_schema.specs.Implementers.{ImplementersTree}
 use Rattle.graphql_schema.specs.declared.implementers.Implementers.{Implementers}
 use Rattle.graphql_schema.specs.declared.implementers.ImplementersNames.{ImplementersNames}

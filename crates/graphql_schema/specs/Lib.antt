@@ -7,33 +7,33 @@ pub mod Implementers
 pub mod Noting
 pub mod ImplementersView
 pub mod Subtypes
-pub use Rattle.graphql_components.specs.Names
-pub use Rattle.graphql_components.specs.Given
-pub use Rattle.graphql_components.specs.Applied
-pub use Rattle.graphql_schema_building.specs.in_schema_types.SchemaTree
-pub use Rattle.graphql_schema_building.specs.in_schema_types.TypeView
-pub use Rattle.graphql_schema_building.specs.in_schema_types.SchemaView
-pub use Rattle.graphql_schema_building.specs.in_schema_types.Origins
-pub use Rattle.graphql_schema_building.specs.in_schema_types.Plain
-pub use Rattle.graphql_schema_building.specs.in_schema_types.Looks
-pub use Rattle.graphql_schema_building.specs.in_schema_types.Addresses
-pub use Rattle.graphql_schema_building.specs.in_schema_types.Out
-pub use Rattle.graphql_schema_building.specs.in_folding.Listed
-pub use Rattle.graphql_schema_building.specs.in_folding.Components
-pub use Rattle.graphql_schema_building.specs.in_folding.SchemaFold
-pub use Rattle.graphql_schema_building.specs.in_folding.Fold
-pub use Rattle.graphql_schema_building.specs.in_folding.BuildErrors
-pub use Rattle.graphql_schema_building.specs.in_folding.FaultView
-pub use Rattle.graphql_schema_building.specs.in_folding.Messages
-pub use Rattle.graphql_schema_building.specs.in_folding.Adoption
-pub use Rattle.graphql_schema_building.specs.in_built_in.Table
-pub use Rattle.graphql_schema_building.specs.in_built_in.MetaFields
-pub use Rattle.graphql_list_folding.specs.in_type_folding.OwnNames
-pub use Rattle.graphql_schema_building.specs.BuilderValue
-pub use Rattle.graphql_schema_building.specs.Building
-pub use Rattle.graphql_schema_building.specs.Numbers
-pub use Rattle.graphql_schema_building.specs.SourcesView
-pub use Rattle.graphql_schema_building.specs.Waiting
-pub use Rattle.graphql_schema_building.specs.in_schema_types as in_schema_types
-pub use Rattle.graphql_schema_building.specs.in_built_in as in_built_in
-pub use Rattle.graphql_schema_building.specs as in_schema_building
+pub use Rattle.schema_components.specs.Names
+pub use Rattle.schema_components.specs.Given
+pub use Rattle.schema_components.specs.Applied
+pub use Rattle.schema_building.specs.in_schema_types.SchemaTree
+pub use Rattle.schema_building.specs.in_schema_types.TypeView
+pub use Rattle.schema_building.specs.in_schema_types.SchemaView
+pub use Rattle.schema_building.specs.in_schema_types.Origins
+pub use Rattle.schema_building.specs.in_schema_types.Plain
+pub use Rattle.schema_building.specs.in_schema_types.Looks
+pub use Rattle.schema_building.specs.in_schema_types.Addresses
+pub use Rattle.schema_building.specs.in_schema_types.Out
+pub use Rattle.schema_building.specs.in_folding.Listed
+pub use Rattle.schema_building.specs.in_folding.Components
+pub use Rattle.schema_building.specs.in_folding.SchemaFold
+pub use Rattle.schema_building.specs.in_folding.Fold
+pub use Rattle.schema_building.specs.in_folding.BuildErrors
+pub use Rattle.schema_building.specs.in_folding.FaultView
+pub use Rattle.schema_building.specs.in_folding.Messages
+pub use Rattle.schema_building.specs.in_folding.Adoption
+pub use Rattle.schema_building.specs.in_built_in.Table
+pub use Rattle.schema_building.specs.in_built_in.MetaFields
+pub use Rattle.schema_fold_lists.specs.in_type_folding.OwnNames
+pub use Rattle.schema_building.specs.BuilderValue
+pub use Rattle.schema_building.specs.Building
+pub use Rattle.schema_building.specs.Numbers
+pub use Rattle.schema_building.specs.SourcesView
+pub use Rattle.schema_building.specs.Waiting
+pub use Rattle.schema_building.specs.in_schema_types as in_schema_types
+pub use Rattle.schema_building.specs.in_built_in as in_built_in
+pub use Rattle.schema_building.specs as in_schema_building

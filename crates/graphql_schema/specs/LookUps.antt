@@ -3,18 +3,18 @@ use Rattle.std.specs.Prelude.{◌≡◌, ℕ, Bool, false, ◌&&◌, ◌||◌, L
 use Rattle.std.specs.Option.{option_map, option_map_or, option_or}
 use Rattle.std.specs.Str.{bytes_eq}
 use Rattle.graphql_names.specs.Placed.{Placed, Place}
-use Rattle.graphql_literals.specs.TypeTree.{TypeTree}
-use Rattle.graphql_literals.specs.TypeQueries.{inner_name}
-use Rattle.graphql_type_members.specs.TypeSystemTree.{FieldDefinitionTree}
-use Rattle.graphql_components.specs.Lists.{is_among}
-use Rattle.graphql_components.specs.Given.{Given, given_name}
-use Rattle.graphql_schema_building.specs.in_schema_types.SchemaTree.{SchemaType, SchemaTree, same_kind}
-use Rattle.graphql_schema_building.specs.in_schema_types.Addresses.{under, type_at, root_at}
-use Rattle.graphql_schema_building.specs.in_schema_types.TypeView.{extended_type}
-use Rattle.graphql_schema_building.specs.in_schema_types.declared.type_kind.TypeKind.{TypeKind}
-use Rattle.graphql_schema_building.specs.in_schema_types.declared.type_kind.TypeKind.TheVariants.{Object, Interface, Union}
-use Rattle.graphql_directives.specs.declared.operation_type.OperationType.TheVariants.{Query}
-use Rattle.graphql_schema_building.specs.in_built_in.MetaFields.{meta_field_of}
+use Rattle.tree_literals.specs.TypeTree.{TypeTree}
+use Rattle.tree_literals.specs.TypeQueries.{inner_name}
+use Rattle.tree_type_members.specs.TypeSystemTree.{FieldDefinitionTree}
+use Rattle.schema_components.specs.Lists.{is_among}
+use Rattle.schema_components.specs.Given.{Given, given_name}
+use Rattle.schema_building.specs.in_schema_types.SchemaTree.{SchemaType, SchemaTree, same_kind}
+use Rattle.schema_building.specs.in_schema_types.Addresses.{under, type_at, root_at}
+use Rattle.schema_building.specs.in_schema_types.TypeView.{extended_type}
+use Rattle.schema_building.specs.in_schema_types.declared.type_kind.TypeKind.{TypeKind}
+use Rattle.schema_building.specs.in_schema_types.declared.type_kind.TypeKind.TheVariants.{Object, Interface, Union}
+use Rattle.tree_directives.specs.declared.operation_type.OperationType.TheVariants.{Query}
+use Rattle.schema_building.specs.in_built_in.MetaFields.{meta_field_of}
 use Rattle.graphql_schema.specs.MetaField.{by_definition}
 use Rattle.graphql_schema.specs.declared.field_lookup.FieldLookupError.{FieldLookupError}
 use Rattle.graphql_schema.specs.declared.field_lookup.FieldLookupError.TheVariants.{NoSuchType, NoSuchField}

@@ -3,10 +3,10 @@ use Rattle.std.specs.Prelude.{ℕ, Bool, List, [], ◌∷◌, ◌++◌, map, Opt
 use Rattle.std.specs.List.{flat_map}
 use Rattle.std.specs.Str.{bytes_eq}
 use Rattle.graphql_names.specs.Placed.{Place, Text}
-use Rattle.graphql_components.specs.Lists.{is_among}
-use Rattle.graphql_components.specs.Given.{Given, given_name}
-use Rattle.graphql_schema_building.specs.in_schema_types.SchemaTree.{SchemaType, SchemaTree, same_kind}
-use Rattle.graphql_schema_building.specs.in_schema_types.declared.type_kind.TypeKind.TheVariants.{Object}
+use Rattle.schema_components.specs.Lists.{is_among}
+use Rattle.schema_components.specs.Given.{Given, given_name}
+use Rattle.schema_building.specs.in_schema_types.SchemaTree.{SchemaType, SchemaTree, same_kind}
+use Rattle.schema_building.specs.in_schema_types.declared.type_kind.TypeKind.TheVariants.{Object}
 use Rattle.graphql_schema.specs.Implementers.{ImplementersTree}
 
 -- a type, an object or an interface, names an interface

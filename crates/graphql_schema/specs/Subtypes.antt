@@ -2,9 +2,9 @@
 use Rattle.std.specs.Prelude.{◌≡◌, ℕ, Bool, true, false, ◌||◌, List, Option, is_some}
 use Rattle.std.specs.Option.{option_map_or}
 use Rattle.graphql_names.specs.Placed.{Place}
-use Rattle.graphql_components.specs.Lists.{is_among}
-use Rattle.graphql_schema_building.specs.in_schema_types.SchemaTree.{SchemaTree}
-use Rattle.graphql_schema_building.specs.in_schema_types.declared.type_kind.TypeKind.TheVariants.{Interface}
+use Rattle.schema_components.specs.Lists.{is_among}
+use Rattle.schema_building.specs.in_schema_types.SchemaTree.{SchemaTree}
+use Rattle.schema_building.specs.in_schema_types.declared.type_kind.TypeKind.TheVariants.{Interface}
 use Rattle.graphql_schema.specs.Implementers.{ImplementersTree, implementers_in}
 use Rattle.graphql_schema.specs.LookUps.{type_of_kind, is_subtype}
 

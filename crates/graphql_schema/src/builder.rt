@@ -1,30 +1,30 @@
 //! The builder of schemas.
 ghost use Rattle.std.specs.Prelude.{◌≡◌, ◌≤◌, ◌↔◌, ◌++◌, [], true, false, drop, length, map, IfOk, IfErr, OnOk, Contains};
-ghost use Rattle.graphql_schema_writing.specs.in_definitions.DefinitionTree.{document_tree};
-ghost use Rattle.graphql_schema_writing.specs.in_definitions.Sources.{sources_of};
-ghost use Rattle.graphql_schema_building.specs.in_built_in.Table.{built_in_definitions};
-ghost use Rattle.graphql_schema_building.specs.in_folding.BuildErrors.{FoldingRules};
-ghost use Rattle.graphql_schema_building.specs.in_folding.FaultView.{faults_of};
-ghost use Rattle.graphql_schema_building.specs.in_folding.Fold.{fold};
-ghost use Rattle.graphql_schema_building.specs.in_folding.ListedView.{listed_view};
-ghost use Rattle.graphql_schema_building.specs.in_type_index.Index.{IsIndexOf};
-ghost use Rattle.graphql_schema_building.specs.DefinitionsOf.{definitions_of};
-ghost use Rattle.graphql_schema_building.specs.Building.{plain_settings, counted, folded, FailsIn, lent_names, IsAddRefusal, IsBuildRefusal};
-ghost use Rattle.graphql_schema_building.specs.Numbers.{HaveNumbers};
-ghost use Rattle.graphql_schema_building.specs.SourcesView.{sources_view, with_sources};
-ghost use Rattle.graphql_schema_building.specs.Waiting.{left_names};
-ghost use Rattle.graphql_list_folding.specs.ListBuilt.{Folds};
-ghost use Rattle.graphql_list_folding.specs.in_type_folding.OwnNames.{UnderOwnNames};
+ghost use Rattle.schema_writing.specs.in_definitions.DefinitionTree.{document_tree};
+ghost use Rattle.schema_writing.specs.in_definitions.Sources.{sources_of};
+ghost use Rattle.schema_building.specs.in_built_in.Table.{built_in_definitions};
+ghost use Rattle.schema_building.specs.in_folding.BuildErrors.{FoldingRules};
+ghost use Rattle.schema_building.specs.in_folding.FaultView.{faults_of};
+ghost use Rattle.schema_building.specs.in_folding.Fold.{fold};
+ghost use Rattle.schema_building.specs.in_folding.ListedView.{listed_view};
+ghost use Rattle.schema_building.specs.in_type_index.Index.{IsIndexOf};
+ghost use Rattle.schema_building.specs.DefinitionsOf.{definitions_of};
+ghost use Rattle.schema_building.specs.Building.{plain_settings, counted, folded, FailsIn, lent_names, IsAddRefusal, IsBuildRefusal};
+ghost use Rattle.schema_building.specs.Numbers.{HaveNumbers};
+ghost use Rattle.schema_building.specs.SourcesView.{sources_view, with_sources};
+ghost use Rattle.schema_building.specs.Waiting.{left_names};
+ghost use Rattle.schema_fold_lists.specs.ListBuilt.{Folds};
+ghost use Rattle.schema_fold_lists.specs.in_type_folding.OwnNames.{UnderOwnNames};
 ghost use Rattle.graphql_schema.specs.BuilderOf.{builder_value};
 ghost use Rattle.graphql_schema.specs.SchemaOf.{schema_tree};
 
 use crate::meta_fields::MetaFields;
 use crate::schema::Schema;
-use graphql_components::Extensions;
-use graphql_list_folding::{BuildError, fold_list};
 use graphql_names::SourceSpan;
-use graphql_schema_building::{BuilderRefusal, Building, OrphanExtensionTypes, SettledList};
-use graphql_schema_writing::Document;
+use schema_building::{BuilderRefusal, Building, OrphanExtensionTypes, SettledList};
+use schema_components::Extensions;
+use schema_fold_lists::{BuildError, fold_list};
+use schema_writing::Document;
 use std::alloc::{AllocError, Global};
 
 /// Takes the definitions of documents, and builds the schema of them all behind what is built in.

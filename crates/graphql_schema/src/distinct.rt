@@ -1,10 +1,10 @@
 //! Things of one kind stand under different names, as in every map and set.
-ghost use Rattle.graphql_schema_building.specs.in_schema_types.TypeView.{extended_type};
+ghost use Rattle.schema_building.specs.in_schema_types.TypeView.{extended_type};
 ghost use Rattle.graphql_schema.specs.SchemaOf.{schema_tree};
-ghost use Rattle.graphql_schema_building.specs.in_schema_types.Distinct.{ArePartsDistinct, AreEachDistinct, AreAllDistinct};
+ghost use Rattle.schema_building.specs.in_schema_types.Distinct.{ArePartsDistinct, AreEachDistinct, AreAllDistinct};
 
 use crate::schema::Schema;
-use graphql_schema_writing::ExtendedType;
+use schema_writing::ExtendedType;
 
 /// No two types, directive definitions, or parts of a type of one kind have one name. It says nothing else.
 pub fn names_differ(schema: &Schema)

@@ -1,18 +1,18 @@
 //! Fields of types by name.
 ghost use Rattle.std.specs.Prelude.{◌≡◌, Some, IfOk, IfErr};
 ghost use Rattle.std.specs.Option.{option_map};
-ghost use Rattle.graphql_type_members.specs.TypeSystemTree.{field_definition_tree};
-ghost use Rattle.graphql_components.specs.Given.{component_tree};
-ghost use Rattle.graphql_schema_building.specs.in_schema_types.Addresses.{under};
-ghost use Rattle.graphql_schema_building.specs.in_schema_types.TypeView.{extended_type};
+ghost use Rattle.tree_type_members.specs.TypeSystemTree.{field_definition_tree};
+ghost use Rattle.schema_components.specs.Given.{component_tree};
+ghost use Rattle.schema_building.specs.in_schema_types.Addresses.{under};
+ghost use Rattle.schema_building.specs.in_schema_types.TypeView.{extended_type};
 ghost use Rattle.graphql_schema.specs.SchemaOf.{schema_tree};
 ghost use Rattle.graphql_schema.specs.LookUps.{is_query_root, field_on, field_named, FieldIsMissing};
 
 use crate::schema::Schema;
-use graphql_components::Component;
 use graphql_names::Name;
-use graphql_schema_writing::ExtendedType;
-use graphql_type_members::FieldDefinition;
+use schema_components::Component;
+use schema_writing::ExtendedType;
+use tree_type_members::FieldDefinition;
 
 /// Why a type has no field of a name.
 #[derive(Clone, Copy)]

@@ -2,8 +2,8 @@
 ghost use Rattle.std.specs.Prelude.{◌≡◌, ◌++◌, fold, IfOk, OnOk};
 ghost use Rattle.std.specs.Iterator.{YieldsFirstRef, item_count};
 ghost use Rattle.graphql_names.specs.NameValue.{NameValue};
-ghost use Rattle.graphql_components.specs.Given.{component_name_tree};
-ghost use Rattle.graphql_schema_building.specs.in_schema_types.TypeView.{extended_type};
+ghost use Rattle.schema_components.specs.Given.{component_name_tree};
+ghost use Rattle.schema_building.specs.in_schema_types.TypeView.{extended_type};
 ghost use Rattle.graphql_schema.specs.SchemaOf.{schema_tree};
 ghost use Rattle.graphql_schema.specs.Implementers.{implementers_in};
 ghost use Rattle.graphql_schema.specs.Noting.{nobody, and_type, and_naming, naming, namings_of};
@@ -11,10 +11,10 @@ ghost use Rattle.graphql_schema.specs.ImplementersView.{implementers_tree, imple
 
 use crate::schema::Schema;
 use crate::subtype::interfaces_of;
-use graphql_components::ComponentName;
 use graphql_names::Name;
-use graphql_schema_writing::ExtendedType;
 use indexmap::{IndexMap, IndexSet};
+use schema_components::ComponentName;
+use schema_writing::ExtendedType;
 use std::alloc::{AllocError, Global};
 use std::slice;
 

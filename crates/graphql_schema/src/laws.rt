@@ -2,7 +2,7 @@
 //! subtypes of an interface are its implementers; what fields a type has is a fact of the schema without places; and no
 //! two things of one kind have one name.
 ghost use Rattle.std.specs.Prelude.{◌≡◌, ◌↔◌, IsTrue};
-ghost use Rattle.graphql_schema_building.specs.in_schema_types.Plain.{plain};
+ghost use Rattle.schema_building.specs.in_schema_types.Plain.{plain};
 ghost use Rattle.graphql_schema.specs.SchemaOf.{schema_tree};
 ghost use Rattle.graphql_schema.specs.Subtypes.{SubtypesAreImplementers};
 ghost use Rattle.graphql_schema.specs.FieldLooks.{FieldsArePlain};

@@ -6,8 +6,8 @@
 //! A builder gives the fold of the definitions that were added, with each way in which a folding rule is broken
 //! (`builder.rt`), and `to_ast` gives the definitions that are written of a schema.
 //!
-//! Types and components stand in `graphql_schema_types` and `graphql_components`, a builder's state in
-//! `graphql_schema_building`, the fold in `graphql_list_folding`, the write-out in `graphql_schema_writing`; here are
+//! Types and components stand in `schema_types` and `schema_components`, a builder's state in
+//! `schema_building`, the fold in `schema_fold_lists`, the write-out in `schema_writing`; here are
 //! the whole schema, and the names of everything that a caller needs. Begin with `schema.rt` and `builder.rt`.
 #![tactic(auto)]
 
@@ -24,15 +24,15 @@ mod types_by_name;
 
 pub use builder::SchemaBuilder;
 pub use field_lookup::FieldLookupError;
-pub use graphql_components::{
+pub use implementers::{Implementers, ImplementersNames};
+pub use schema::Schema;
+pub use schema_building::{BuilderRefusal, OrphanExtensionTypes};
+pub use schema_components::{
     Component, ComponentName, ComponentOrigin, DirectiveList, ExtensionId, Extensions,
     NamedComponents,
 };
-pub use graphql_list_folding::BuildError;
-pub use graphql_schema_building::{BuilderRefusal, OrphanExtensionTypes};
-pub use graphql_schema_writing::{
+pub use schema_fold_lists::BuildError;
+pub use schema_writing::{
     EnumType, ExtendedType, InputObjectType, InterfaceType, ObjectType, Origins, RootOperations,
     ScalarType, SchemaDefinition, TypeKind, UnionType,
 };
-pub use implementers::{Implementers, ImplementersNames};
-pub use schema::Schema;

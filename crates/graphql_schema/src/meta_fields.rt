@@ -1,17 +1,17 @@
 //! The definitions of a schema's meta-fields.
 ghost use Rattle.std.specs.Prelude.{◌≡◌};
 ghost use Rattle.std.specs.Option.{option_map};
-ghost use Rattle.graphql_type_members.specs.TypeSystemTree.{field_definition_tree};
-ghost use Rattle.graphql_schema_building.specs.in_built_in.MetaFields.{typename_field, schema_field, type_field, meta_field_of};
-ghost use Rattle.graphql_components.specs.Given.{component_tree};
+ghost use Rattle.tree_type_members.specs.TypeSystemTree.{field_definition_tree};
+ghost use Rattle.schema_building.specs.in_built_in.MetaFields.{typename_field, schema_field, type_field, meta_field_of};
+ghost use Rattle.schema_components.specs.Given.{component_tree};
 ghost use Rattle.graphql_schema.specs.MetaField.{by_definition};
 
-use graphql_components::{Component, ComponentOrigin};
-use graphql_list_folding::{schema_field, type_field, typename_field};
 use graphql_names::Name;
-use graphql_type_members::FieldDefinition;
+use schema_components::{Component, ComponentOrigin};
+use schema_fold_lists::{schema_field, type_field, typename_field};
 use std::alloc::{AllocError, Global};
 use std::marker::Model;
+use tree_type_members::FieldDefinition;
 
 /// The definitions of `__typename`, `__schema` and `__type` (sections 4.1 and 4.2).
 #[derive(Drop)]

@@ -2,15 +2,15 @@
 ghost use Rattle.std.specs.Prelude.{◌≡◌};
 ghost use Rattle.std.specs.Option.{option_map};
 ghost use Rattle.graphql_names.specs.Placed.{name_tree};
-ghost use Rattle.graphql_schema_building.specs.in_schema_types.Addresses.{root_at};
+ghost use Rattle.schema_building.specs.in_schema_types.Addresses.{root_at};
 ghost use Rattle.graphql_schema.specs.SchemaOf.{schema_tree};
 
 use crate::meta_fields::MetaFields;
-use graphql_directives::DirectiveDefinition;
 use graphql_names::{FileId, Name, Node};
-use graphql_operations::OperationType;
-use graphql_schema_writing::{ExtendedType, SchemaDefinition, SourceFile};
 use indexmap::IndexMap;
+use schema_writing::{ExtendedType, SchemaDefinition, SourceFile};
+use tree_directives::DirectiveDefinition;
+use tree_operations::OperationType;
 
 /// A schema (section 3): its schema definition, and its directive definitions and types under their names, in order;
 /// and the texts that it was read from, by the numbers of their files. It holds the definitions of the meta-fields too,

@@ -1,15 +1,15 @@
 //! Subtypes of unions and interfaces.
 ghost use Rattle.std.specs.Prelude.{◌≡◌, map};
-ghost use Rattle.graphql_components.specs.Lists.{is_among};
-ghost use Rattle.graphql_components.specs.Given.{component_name_tree, given_name};
-ghost use Rattle.graphql_schema_building.specs.in_schema_types.TypeView.{extended_type};
+ghost use Rattle.schema_components.specs.Lists.{is_among};
+ghost use Rattle.schema_components.specs.Given.{component_name_tree, given_name};
+ghost use Rattle.schema_building.specs.in_schema_types.TypeView.{extended_type};
 ghost use Rattle.graphql_schema.specs.SchemaOf.{schema_tree};
 ghost use Rattle.graphql_schema.specs.LookUps.{is_subtype, implements};
 
 use crate::schema::Schema;
-use graphql_components::ComponentName;
 use graphql_names::Name;
-use graphql_schema_writing::ExtendedType;
+use schema_components::ComponentName;
+use schema_writing::ExtendedType;
 
 impl Schema {
     /// Whether `maybe_subtype` is a member of the union `abstract_type`, or an object or interface that names the

@@ -1,12 +1,12 @@
 //! Schemas as documents.
 ghost use Rattle.std.specs.Prelude.{◌≡◌, [], IfOk};
-ghost use Rattle.graphql_schema_writing.specs.in_definitions.DefinitionTree.{document_tree};
-ghost use Rattle.graphql_schema_building.specs.in_schema_types.Out.{written};
+ghost use Rattle.schema_writing.specs.in_definitions.DefinitionTree.{document_tree};
+ghost use Rattle.schema_building.specs.in_schema_types.Out.{written};
 ghost use Rattle.graphql_schema.specs.SchemaOf.{schema_tree};
 
 use crate::schema::Schema;
-use graphql_schema_writing::{Document, written_definitions};
 use indexmap::IndexMap;
+use schema_writing::{Document, written_definitions};
 use std::alloc::{AllocError, Global};
 
 impl Schema {

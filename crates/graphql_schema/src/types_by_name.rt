@@ -2,20 +2,20 @@
 ghost use Rattle.std.specs.Prelude.{◌≡◌};
 ghost use Rattle.std.specs.Option.{option_map};
 ghost use Rattle.graphql_names.specs.Node.{content, place};
-ghost use Rattle.graphql_literals.specs.TypeTree.{type_tree};
-ghost use Rattle.graphql_schema_building.specs.in_schema_types.SchemaTree.{is_input_kind, is_output_kind};
-ghost use Rattle.graphql_schema_building.specs.in_schema_types.TypeView.{extended_type, scalar_type, object_type, interface_type, union_type, enum_type, input_object_type};
-ghost use Rattle.graphql_schema_building.specs.in_schema_types.Addresses.{type_at};
-ghost use Rattle.graphql_schema_building.specs.in_schema_types.declared.type_kind.TypeKind.TheVariants as kind;
+ghost use Rattle.tree_literals.specs.TypeTree.{type_tree};
+ghost use Rattle.schema_building.specs.in_schema_types.SchemaTree.{is_input_kind, is_output_kind};
+ghost use Rattle.schema_building.specs.in_schema_types.TypeView.{extended_type, scalar_type, object_type, interface_type, union_type, enum_type, input_object_type};
+ghost use Rattle.schema_building.specs.in_schema_types.Addresses.{type_at};
+ghost use Rattle.schema_building.specs.in_schema_types.declared.type_kind.TypeKind.TheVariants as kind;
 ghost use Rattle.graphql_schema.specs.SchemaOf.{schema_tree};
 ghost use Rattle.graphql_schema.specs.LookUps.{type_of_kind, inner_kind_is};
 
 use crate::schema::Schema;
-use graphql_literals::Type;
 use graphql_names::{Name, Node};
-use graphql_schema_writing::{
+use schema_writing::{
     EnumType, ExtendedType, InputObjectType, InterfaceType, ObjectType, ScalarType, UnionType,
 };
+use tree_literals::Type;
 
 impl Schema {
     /// The type of that name, of whichever kind, if there is one.

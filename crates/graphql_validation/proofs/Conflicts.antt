@@ -5,19 +5,19 @@ use Rattle.std.proofs.lemmas.List.{map-append}
 use Rattle.std.proofs.lemmas.List.Elements.{Contains-append_cases}
 use Rattle.std.specs.Prelude.{IsTrue}
 use Rattle.graphql_names.specs.Placed.{Place}
-use Rattle.graphql_meant_documents.specs.MeantTree.{MeantOperation, MeantDocument}
-use Rattle.graphql_rule_definitions.proofs.Lists.{not_in_nil, only, Contains-first}
-use Rattle.graphql_rule_definitions.specs.Judged.{Judged}
-use Rattle.graphql_document_rule_definitions.specs.DocumentFaults.{Broken, OfDocument, OfLimit}
-use Rattle.graphql_document_rule_definitions.specs.Merging.{FieldsMerge}
-use Rattle.graphql_document_rule_definitions.specs.Told.{PlacedDocumentFault}
-use Rattle.graphql_document_rule_definitions.proofs.MergingFacts.{merging_breaks_nothing}
-use Rattle.graphql_document_rule_definitions.proofs.Stable.{merge_if_nothing_breaks}
-use Rattle.graphql_merging.specs.Examined.{Breaches}
-use Rattle.graphql_merging.specs.Verdict.{ExaminesOperation}
-use Rattle.graphql_merging.specs.declared.operation.Examined.{Examined}
-use Rattle.graphql_reach.specs.Broken.{brokens_of}
-use Rattle.graphql_reach.proofs.Bridge.{from_map}
+use Rattle.document_meaning.specs.MeantTree.{MeantOperation, MeantDocument}
+use Rattle.rule_definitions.proofs.Lists.{not_in_nil, only, Contains-first}
+use Rattle.rule_definitions.specs.Judged.{Judged}
+use Rattle.rule_document_definitions.specs.DocumentFaults.{Broken, OfDocument, OfLimit}
+use Rattle.rule_document_definitions.specs.Merging.{FieldsMerge}
+use Rattle.rule_document_definitions.specs.Told.{PlacedDocumentFault}
+use Rattle.rule_document_definitions.proofs.MergingFacts.{merging_breaks_nothing}
+use Rattle.rule_document_definitions.proofs.Stable.{merge_if_nothing_breaks}
+use Rattle.rule_merging.specs.Examined.{Breaches}
+use Rattle.rule_merging.specs.Verdict.{ExaminesOperation}
+use Rattle.rule_merging.specs.declared.operation.Examined.{Examined}
+use Rattle.rule_reach.specs.Broken.{brokens_of}
+use Rattle.rule_reach.proofs.Bridge.{from_map}
 use Rattle.graphql_validation.specs.Merged.{MergingFailsAt, AreSettledIf, limit_told, conflicts_told}
 use Rattle.graphql_validation.specs.Told.{Telling, of_document}
 use Rattle.graphql_validation.proofs.Telling.{breaches_told, nothing_told, told_nothing}

@@ -2,16 +2,16 @@
 use Rattle.std.proofs.Common.{◌↔◌, ◌⊎◌, inl, inr, ◌++◌, ℕ, List, [], sym, subst, Contains}
 use Rattle.std.proofs.lemmas.List.Elements.{Contains-append_left, Contains-append_right, Contains-append_cases}
 use Rattle.graphql_names.specs.Placed.{Place}
-use Rattle.graphql_rule_definitions.proofs.Lists.{not_in_nil}
-use Rattle.graphql_meant_documents.specs.MeantTree.{MeantOperation, MeantFragment, MeantDocument}
-use Rattle.graphql_rule_definitions.specs.Told.{PlacedFault}
-use Rattle.graphql_document_rule_definitions.specs.DocumentFaults.{OfData}
-use Rattle.graphql_document_rule_definitions.specs.Fragments.{ReachesItself, UnusedFragmentAt, RecursiveFragmentDefinitionAt}
-use Rattle.graphql_document_rule_definitions.specs.Limits.{SpreadBoundFails}
-use Rattle.graphql_document_rule_definitions.specs.Reached.{AtOperation}
-use Rattle.graphql_document_rule_definitions.specs.Told.{places_alone}
-use Rattle.graphql_fragment_cycles.specs.Used.{IsUsed, AreUsed}
-use Rattle.graphql_fragment_cycles.specs.Told.{Answers}
+use Rattle.rule_definitions.proofs.Lists.{not_in_nil}
+use Rattle.document_meaning.specs.MeantTree.{MeantOperation, MeantFragment, MeantDocument}
+use Rattle.rule_definitions.specs.Told.{PlacedFault}
+use Rattle.rule_document_definitions.specs.DocumentFaults.{OfData}
+use Rattle.rule_document_definitions.specs.Fragments.{ReachesItself, UnusedFragmentAt, RecursiveFragmentDefinitionAt}
+use Rattle.rule_document_definitions.specs.Limits.{SpreadBoundFails}
+use Rattle.rule_document_definitions.specs.Reached.{AtOperation}
+use Rattle.rule_document_definitions.specs.Told.{places_alone}
+use Rattle.rule_fragment_cycles.specs.Used.{IsUsed, AreUsed}
+use Rattle.rule_fragment_cycles.specs.Told.{Answers}
 use Rattle.graphql_validation.specs.Operations.{ReachesNamed, NotesNames, FragmentsTold, TellsData}
 
 module _ (d : MeantDocument Place) where

@@ -2,22 +2,22 @@
 use Rattle.std.proofs.Common.{◌≡◌, inl, inr, Bool, List, [], ◌∷◌, None, refl, ap, sym, subst, Contains, true≢false, is_some}
 use Rattle.std.specs.Prelude.{IsTrue}
 use Rattle.graphql_names.specs.Placed.{Place}
-use Rattle.graphql_schema_types.specs.SchemaTree.{SchemaTree}
-use Rattle.graphql_rule_definitions.proofs.Lists.{not_in_nil, Contains-first}
-use Rattle.graphql_meant_documents.specs.MeantTree.{MeantSet, MeantOperation, MeantFragment, MeantDocument}
-use Rattle.graphql_meant_documents.specs.Unplaced.{unplaced_set}
-use Rattle.graphql_rule_definitions.specs.Told.{PlacedFault}
-use Rattle.graphql_document_rule_definitions.specs.DocumentFaults.{Broken, OfData, OfDocument, OfLimit}
-use Rattle.graphql_document_rule_definitions.specs.FieldSets.{document_of_set}
-use Rattle.graphql_document_rule_definitions.specs.Limits.{PassesPathBound}
-use Rattle.graphql_document_rule_definitions.specs.Reached.{ReachesFragment}
-use Rattle.graphql_document_rule_definitions.specs.Verdict.{FieldSetWithinBounds}
-use Rattle.graphql_document_rule_definitions.specs.Told.{PlacedDocumentFault, SetRulesFail, IsValidFieldSet}
-use Rattle.graphql_document_rule_definitions.proofs.Verdicts.{set_valid_where_nothing_is_told, set_within_bounds_where_nothing_is_told}
-use Rattle.graphql_fragment_cycles.specs.Used.{AreUnderOwnNames}
-use Rattle.graphql_selection_rules.proofs.Typing.{field_set_reaches_typed}
-use Rattle.graphql_typing.specs.Meanings.{meanings}
-use Rattle.graphql_schema_types.specs.Plain.{plain}
+use Rattle.schema_types.specs.SchemaTree.{SchemaTree}
+use Rattle.rule_definitions.proofs.Lists.{not_in_nil, Contains-first}
+use Rattle.document_meaning.specs.MeantTree.{MeantSet, MeantOperation, MeantFragment, MeantDocument}
+use Rattle.document_meaning.specs.Unplaced.{unplaced_set}
+use Rattle.rule_definitions.specs.Told.{PlacedFault}
+use Rattle.rule_document_definitions.specs.DocumentFaults.{Broken, OfData, OfDocument, OfLimit}
+use Rattle.rule_document_definitions.specs.FieldSets.{document_of_set}
+use Rattle.rule_document_definitions.specs.Limits.{PassesPathBound}
+use Rattle.rule_document_definitions.specs.Reached.{ReachesFragment}
+use Rattle.rule_document_definitions.specs.Verdict.{FieldSetWithinBounds}
+use Rattle.rule_document_definitions.specs.Told.{PlacedDocumentFault, SetRulesFail, IsValidFieldSet}
+use Rattle.rule_document_definitions.proofs.Verdicts.{set_valid_where_nothing_is_told, set_within_bounds_where_nothing_is_told}
+use Rattle.rule_fragment_cycles.specs.Used.{AreUnderOwnNames}
+use Rattle.rule_selections.proofs.Typing.{field_set_reaches_typed}
+use Rattle.document_typing.specs.Meanings.{meanings}
+use Rattle.schema_types.specs.Plain.{plain}
 use Rattle.graphql_validation.specs.Operations.{AreReachesTyped, TellsData, AllUnder, OperationFails, all_told}
 use Rattle.graphql_validation.specs.Told.{IsTypedSet, SetFails, TellsFieldSet}
 use Rattle.graphql_validation.proofs.Telling.{data_in, told_cases, bound_is}

@@ -4,12 +4,12 @@ use Rattle.std.proofs.lemmas.List.{map-append}
 use Rattle.std.proofs.lemmas.List.Elements.{Contains-append_cases}
 use Rattle.std.specs.Prelude.{IsTrue}
 use Rattle.graphql_names.specs.Placed.{Place}
-use Rattle.graphql_meant_documents.specs.MeantTree.{MeantOperation, MeantDocument}
-use Rattle.graphql_rule_definitions.proofs.Lists.{not_in_nil, only, Contains-first}
-use Rattle.graphql_rule_definitions.specs.Judged.{Judged}
-use Rattle.graphql_document_rule_definitions.specs.Merging.{FieldsMerge}
-use Rattle.graphql_document_rule_definitions.specs.Selected.{operations}
-use Rattle.graphql_document_rule_definitions.specs.Told.{PlacedDocumentFault}
+use Rattle.document_meaning.specs.MeantTree.{MeantOperation, MeantDocument}
+use Rattle.rule_definitions.proofs.Lists.{not_in_nil, only, Contains-first}
+use Rattle.rule_definitions.specs.Judged.{Judged}
+use Rattle.rule_document_definitions.specs.Merging.{FieldsMerge}
+use Rattle.rule_document_definitions.specs.Selected.{operations}
+use Rattle.rule_document_definitions.specs.Told.{PlacedDocumentFault}
 use Rattle.graphql_faults.specs.DetailsView.{BeginsAs}
 use Rattle.graphql_validation.specs.Merged.{MergingTold, DocumentMergingTold}
 use Rattle.graphql_validation.specs.Told.{Telling, of_document}

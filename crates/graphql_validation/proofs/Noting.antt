@@ -6,13 +6,13 @@ use Rattle.std.proofs.lemmas.Map.Views.{Contains-from_any}
 use Rattle.std.proofs.lemmas.Slice.Eq.{bytes_eq-Decides}
 use Rattle.indexmap.specs.IndexSet.{insert_key}
 use Rattle.graphql_names.specs.Placed.{Place}
-use Rattle.graphql_rule_definitions.proofs.Lists.{not_in_nil, Contains-cons, Contains-first}
-use Rattle.graphql_meant_documents.specs.MeantTree.{MeantOperation, MeantFragment, MeantDocument}
-use Rattle.graphql_rule_definitions.specs.Words.{AtSomeIndex}
-use Rattle.graphql_document_rule_definitions.specs.Selected.{own}
-use Rattle.graphql_rule_definitions.proofs.Listing.{index_append}
-use Rattle.graphql_reach.specs.Reach.{Member, IsReach}
-use Rattle.graphql_reach.proofs.Bridge.{from_map, to_map}
+use Rattle.rule_definitions.proofs.Lists.{not_in_nil, Contains-cons, Contains-first}
+use Rattle.document_meaning.specs.MeantTree.{MeantOperation, MeantFragment, MeantDocument}
+use Rattle.rule_definitions.specs.Words.{AtSomeIndex}
+use Rattle.rule_document_definitions.specs.Selected.{own}
+use Rattle.rule_definitions.proofs.Listing.{index_append}
+use Rattle.rule_reach.specs.Reach.{Member, IsReach}
+use Rattle.rule_reach.proofs.Bridge.{from_map, to_map}
 use Rattle.graphql_validation.specs.Operations.{ReachesNamed, NotesNames, with_fragments}
 
 -- one name more

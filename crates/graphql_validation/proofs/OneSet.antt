@@ -4,16 +4,16 @@ use Rattle.graphql_names.specs.NameValue.{NameValue}
 use Rattle.graphql_names.specs.Node.{content, place}
 use Rattle.graphql_names.specs.Placed.{Place, Placed, node_tree}
 use Rattle.graphql_names.specs.declared.node.Node.{Node}
-use Rattle.graphql_typed_selections.specs.TypedTree.{TypedSet}
-use Rattle.graphql_typed_operations.specs.OperationsByName.{with_operation}
-use Rattle.graphql_typed_operations.specs.TypedDocument.{TypedOperation, TypedOperations, typed_operation_tree, typed_fragment_tree, typed_operations_tree}
-use Rattle.graphql_typed_operations.specs.declared.document.ExecutableDocument.{ExecutableDocument}
-use Rattle.graphql_typed_operations.specs.declared.operation.Fragment.{Fragment}
-use Rattle.graphql_typed_operations.specs.declared.operation.Operation.{Operation}
-use Rattle.graphql_meant_documents.specs.MeantTree.{MeantDocument, meant_of_set}
-use Rattle.graphql_typing.specs.DocumentView.{meant_document}
-use Rattle.graphql_document_rule_definitions.specs.FieldSets.{document_of_set}
-use Rattle.graphql_subscription_rules.specs.Told.{document_meant}
+use Rattle.document_typed_selections.specs.TypedTree.{TypedSet}
+use Rattle.document_typed_operations.specs.OperationsByName.{with_operation}
+use Rattle.document_typed_operations.specs.TypedDocument.{TypedOperation, TypedOperations, typed_operation_tree, typed_fragment_tree, typed_operations_tree}
+use Rattle.document_typed_operations.specs.declared.document.ExecutableDocument.{ExecutableDocument}
+use Rattle.document_typed_operations.specs.declared.operation.Fragment.{Fragment}
+use Rattle.document_typed_operations.specs.declared.operation.Operation.{Operation}
+use Rattle.document_meaning.specs.MeantTree.{MeantDocument, meant_of_set}
+use Rattle.document_typing.specs.DocumentView.{meant_document}
+use Rattle.rule_document_definitions.specs.FieldSets.{document_of_set}
+use Rattle.rule_subscriptions.specs.Told.{document_meant}
 use Rattle.graphql_validation.specs.Operations.{query_on}
 
 -- these operations, and these fragments

@@ -6,16 +6,16 @@ use Rattle.std.specs.Option.{option_map}
 use Rattle.std.proofs.lemmas.List.Elements.{Contains-append_right}
 use Rattle.graphql_names.specs.Placed.{Placed, Place, node_tree}
 use Rattle.graphql_names.specs.declared.node.Node.{Node}
-use Rattle.graphql_schema_types.specs.in_components.Names.{Entries}
-use Rattle.graphql_typed_operations.specs.OperationsByName.{operations_list}
-use Rattle.graphql_typed_operations.specs.TypedDocument.{TypedOperation, typed_operation_tree, typed_operations_tree, typed_document_tree}
-use Rattle.graphql_typed_operations.specs.declared.operation.Operation.{Operation}
-use Rattle.graphql_typed_operations.specs.declared.document.ExecutableDocument.{ExecutableDocument}
-use Rattle.graphql_meant_documents.specs.MeantTree.{MeantOperation}
-use Rattle.graphql_typing.specs.DocumentView.{meant_by_operation}
-use Rattle.graphql_rule_definitions.proofs.Lists.{Contains-first}
-use Rattle.graphql_document_rule_definitions.specs.Selected.{operations}
-use Rattle.graphql_subscription_rules.specs.Told.{document_meant, operation_meant}
+use Rattle.schema_types.specs.in_components.Names.{Entries}
+use Rattle.document_typed_operations.specs.OperationsByName.{operations_list}
+use Rattle.document_typed_operations.specs.TypedDocument.{TypedOperation, typed_operation_tree, typed_operations_tree, typed_document_tree}
+use Rattle.document_typed_operations.specs.declared.operation.Operation.{Operation}
+use Rattle.document_typed_operations.specs.declared.document.ExecutableDocument.{ExecutableDocument}
+use Rattle.document_meaning.specs.MeantTree.{MeantOperation}
+use Rattle.document_typing.specs.DocumentView.{meant_by_operation}
+use Rattle.rule_definitions.proofs.Lists.{Contains-first}
+use Rattle.rule_document_definitions.specs.Selected.{operations}
+use Rattle.rule_subscriptions.specs.Told.{document_meant, operation_meant}
 
 -- what is lent of operations
 abbrev pub lent_operation : Bor (Node Operation) → MeantOperation Place

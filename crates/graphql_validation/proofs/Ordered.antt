@@ -1,16 +1,16 @@
 -- What the checks of an operation tell, in their order, is what its rules tell.
 use Rattle.std.proofs.Common.{◌↔◌, ◌⊎◌, inl, inr}
 use Rattle.graphql_names.specs.Placed.{Place}
-use Rattle.graphql_schema_types.specs.SchemaTree.{SchemaTree}
-use Rattle.graphql_meant_documents.specs.MeantTree.{MeantOperation, MeantFragment, MeantDocument}
-use Rattle.graphql_rule_definitions.specs.Judged.{judged}
-use Rattle.graphql_rule_definitions.specs.Told.{PlacedFault}
-use Rattle.graphql_document_rule_definitions.specs.Fragments.{ReachesItself, UndefinedFragmentAt, RecursiveFragmentDefinitionAt, InvalidFragmentTargetAt, InvalidFragmentSpreadAt}
-use Rattle.graphql_document_rule_definitions.specs.Reached.{ReachesFragment}
-use Rattle.graphql_document_rule_definitions.specs.Selections.{SelectionsBreak}
-use Rattle.graphql_document_rule_definitions.specs.Standalone.{GivenInBreaks}
-use Rattle.graphql_document_rule_definitions.specs.Told.{place_or_built_in, places_in, places_alone}
-use Rattle.graphql_variable_rules.specs.Parts.{VariablesBreakAlone, VariablesBreakUnder}
+use Rattle.schema_types.specs.SchemaTree.{SchemaTree}
+use Rattle.document_meaning.specs.MeantTree.{MeantOperation, MeantFragment, MeantDocument}
+use Rattle.rule_definitions.specs.Judged.{judged}
+use Rattle.rule_definitions.specs.Told.{PlacedFault}
+use Rattle.rule_document_definitions.specs.Fragments.{ReachesItself, UndefinedFragmentAt, RecursiveFragmentDefinitionAt, InvalidFragmentTargetAt, InvalidFragmentSpreadAt}
+use Rattle.rule_document_definitions.specs.Reached.{ReachesFragment}
+use Rattle.rule_document_definitions.specs.Selections.{SelectionsBreak}
+use Rattle.rule_document_definitions.specs.Standalone.{GivenInBreaks}
+use Rattle.rule_document_definitions.specs.Told.{place_or_built_in, places_in, places_alone}
+use Rattle.rule_variables.specs.Parts.{VariablesBreakAlone, VariablesBreakUnder}
 use Rattle.graphql_validation.specs.Operations.{OperationFailsAlone, OperationFails, AllAlone, AllUnder}
 
 module _ (d : MeantDocument Place) (o : MeantOperation Place) (f : PlacedFault) where

@@ -2,16 +2,16 @@
 use Rattle.std.proofs.Common.{◌≡◌, ◌↔◌, ◌⊎◌, inl, inr, ◌++◌, List, [], ◌∷◌, refl, ap, sym, ◌∙◌, subst, Contains, append_assoc, append-nil}
 use Rattle.std.proofs.lemmas.List.Elements.{Contains-append_left, Contains-append_right, Contains-append_cases}
 use Rattle.graphql_names.specs.Placed.{Place}
-use Rattle.graphql_meant_documents.specs.MeantTree.{MeantOperation, MeantDocument}
-use Rattle.graphql_rule_definitions.proofs.Lists.{not_in_nil, only, Contains-first}
-use Rattle.graphql_document_rule_definitions.specs.DocumentFaults.{Broken}
-use Rattle.graphql_document_rule_definitions.specs.DocumentRules.{DeferredBreaks}
-use Rattle.graphql_document_rule_definitions.specs.Reached.{AtOperation}
-use Rattle.graphql_document_rule_definitions.specs.Selected.{operations}
-use Rattle.graphql_document_rule_definitions.specs.Subscriptions.{SubscriptionBreaks}
-use Rattle.graphql_reach.specs.Broken.{brokens_of}
-use Rattle.graphql_reach.proofs.AddingBroken.{Breaches}
-use Rattle.graphql_subscription_rules.specs.Told.{AreAlike, TellsSubscription, AddsSubscription}
+use Rattle.document_meaning.specs.MeantTree.{MeantOperation, MeantDocument}
+use Rattle.rule_definitions.proofs.Lists.{not_in_nil, only, Contains-first}
+use Rattle.rule_document_definitions.specs.DocumentFaults.{Broken}
+use Rattle.rule_document_definitions.specs.DocumentRules.{DeferredBreaks}
+use Rattle.rule_document_definitions.specs.Reached.{AtOperation}
+use Rattle.rule_document_definitions.specs.Selected.{operations}
+use Rattle.rule_document_definitions.specs.Subscriptions.{SubscriptionBreaks}
+use Rattle.rule_reach.specs.Broken.{brokens_of}
+use Rattle.rule_reach.proofs.AddingBroken.{Breaches}
+use Rattle.rule_subscriptions.specs.Told.{AreAlike, TellsSubscription, AddsSubscription}
 use Rattle.graphql_validation.specs.Operations.{TellsSubscriptions, AddsSubscriptions, TellsBreaches}
 
 module _ (d : MeantDocument Place) where

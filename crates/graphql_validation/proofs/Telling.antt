@@ -6,12 +6,12 @@ use Rattle.std.specs.Result.{OnErr}
 use Rattle.graphql_faults.specs.DetailsView.{BeginsAs}
 use Rattle.std.proofs.lemmas.List.Elements.{Contains-append_left, Contains-append_right, Contains-append_cases}
 use Rattle.graphql_names.specs.Placed.{Place}
-use Rattle.graphql_rule_definitions.specs.Told.{PlacedFault}
+use Rattle.rule_definitions.specs.Told.{PlacedFault}
 use Rattle.graphql_faults.specs.DetailsTree.{of_rule}
-use Rattle.graphql_document_rule_definitions.specs.DocumentFaults.{Broken, OfData, OfDocument, OfLimit}
-use Rattle.graphql_document_rule_definitions.specs.Told.{PlacedDocumentFault}
-use Rattle.graphql_rule_definitions.proofs.Lists.{not_in_nil, only}
-use Rattle.graphql_reach.proofs.Bridge.{from_map, to_map}
+use Rattle.rule_document_definitions.specs.DocumentFaults.{Broken, OfData, OfDocument, OfLimit}
+use Rattle.rule_document_definitions.specs.Told.{PlacedDocumentFault}
+use Rattle.rule_definitions.proofs.Lists.{not_in_nil, only}
+use Rattle.rule_reach.proofs.Bridge.{from_map, to_map}
 use Rattle.graphql_validation.specs.Operations.{bound_told, all_told}
 use Rattle.graphql_validation.specs.Told.{Telling, of_document}
 

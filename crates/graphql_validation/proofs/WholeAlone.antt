@@ -2,19 +2,19 @@
 use Rattle.std.proofs.Common.{◌≡◌, ◌↔◌, ◌⊎◌, inl, inr, Bool, List, [], ◌∷◌, refl, subst, Contains}
 use Rattle.std.specs.Prelude.{IsTrue}
 use Rattle.graphql_names.specs.Placed.{Place}
-use Rattle.graphql_rule_definitions.proofs.Lists.{not_in_nil, Contains-first}
-use Rattle.graphql_meant_documents.specs.MeantTree.{MeantFragment, MeantDocument}
-use Rattle.graphql_meant_documents.specs.Unplaced.{unplaced_document}
-use Rattle.graphql_rule_definitions.specs.Told.{PlacedFault}
-use Rattle.graphql_document_rule_definitions.specs.DocumentFaults.{Broken, OfData, OfDocument, OfLimit}
-use Rattle.graphql_document_rule_definitions.specs.DocumentRules.{DeferredBreaks}
-use Rattle.graphql_document_rule_definitions.specs.Fragments.{ReachesItself}
-use Rattle.graphql_document_rule_definitions.specs.Limits.{PassesPathBound}
-use Rattle.graphql_document_rule_definitions.specs.Verdict.{WithinBounds}
-use Rattle.graphql_document_rule_definitions.specs.Named.{AreNamed}
-use Rattle.graphql_document_rule_definitions.specs.Told.{PlacedDocumentFault, DocumentFailsAlone, DocumentBoundFails, IsValidAlone}
-use Rattle.graphql_document_rule_definitions.proofs.Verdicts.{valid_alone_where_nothing_is_told, within_bounds_where_nothing_is_told}
-use Rattle.graphql_fragment_cycles.specs.Used.{IsUsed}
+use Rattle.rule_definitions.proofs.Lists.{not_in_nil, Contains-first}
+use Rattle.document_meaning.specs.MeantTree.{MeantFragment, MeantDocument}
+use Rattle.document_meaning.specs.Unplaced.{unplaced_document}
+use Rattle.rule_definitions.specs.Told.{PlacedFault}
+use Rattle.rule_document_definitions.specs.DocumentFaults.{Broken, OfData, OfDocument, OfLimit}
+use Rattle.rule_document_definitions.specs.DocumentRules.{DeferredBreaks}
+use Rattle.rule_document_definitions.specs.Fragments.{ReachesItself}
+use Rattle.rule_document_definitions.specs.Limits.{PassesPathBound}
+use Rattle.rule_document_definitions.specs.Verdict.{WithinBounds}
+use Rattle.rule_document_definitions.specs.Named.{AreNamed}
+use Rattle.rule_document_definitions.specs.Told.{PlacedDocumentFault, DocumentFailsAlone, DocumentBoundFails, IsValidAlone}
+use Rattle.rule_document_definitions.proofs.Verdicts.{valid_alone_where_nothing_is_told, within_bounds_where_nothing_is_told}
+use Rattle.rule_fragment_cycles.specs.Used.{IsUsed}
 use Rattle.graphql_validation.specs.Operations.{TellsData, AllAlone, OperationFailsAlone, all_told}
 use Rattle.graphql_validation.proofs.Telling.{data_in, broken_in, told_cases, bound_is}
 use Rattle.graphql_validation.proofs.Ordered.{beside_alone}

@@ -3,30 +3,30 @@ use Rattle.std.proofs.Common.{◌≡◌, inl, inr, Bool, true, false, List, [], 
 use Rattle.std.proofs.lemmas.List.Elements.{Contains-append_right}
 use Rattle.std.specs.Prelude.{IsTrue}
 use Rattle.graphql_names.specs.Placed.{Place}
-use Rattle.graphql_schema_types.specs.SchemaTree.{SchemaTree}
-use Rattle.graphql_schema_types.specs.Plain.{plain}
-use Rattle.graphql_meant_documents.specs.MeantTree.{MeantOperation, MeantFragment, MeantDocument}
-use Rattle.graphql_meant_documents.specs.Unplaced.{unplaced_document}
-use Rattle.graphql_rule_definitions.proofs.Lists.{not_in_nil, Contains-first}
-use Rattle.graphql_rule_definitions.specs.Judged.{judged}
-use Rattle.graphql_rule_definitions.specs.Told.{PlacedFault}
-use Rattle.graphql_document_rule_definitions.specs.DocumentFaults.{Broken, OfData, OfDocument, OfLimit}
-use Rattle.graphql_document_rule_definitions.specs.Fragments.{ReachesItself}
-use Rattle.graphql_document_rule_definitions.specs.Limits.{PassesPathBound}
-use Rattle.graphql_document_rule_definitions.specs.Merging.{FieldsMerge}
-use Rattle.graphql_document_rule_definitions.specs.Named.{AreNamed}
-use Rattle.graphql_document_rule_definitions.specs.Reached.{AtOperation}
-use Rattle.graphql_document_rule_definitions.specs.Selected.{operations}
-use Rattle.graphql_document_rule_definitions.specs.Subscriptions.{SubscriptionBreaks}
-use Rattle.graphql_document_rule_definitions.specs.Told.{PlacedDocumentFault, DocumentFails, DocumentMergingFails, IsValidDocument}
-use Rattle.graphql_document_rule_definitions.specs.Verdict.{WithinBounds}
-use Rattle.graphql_document_rule_definitions.proofs.MergingFacts.{merging_breaks_nothing}
-use Rattle.graphql_document_rule_definitions.proofs.Verdicts.{valid_where_nothing_is_told, within_bounds_where_nothing_is_told}
-use Rattle.graphql_fragment_cycles.specs.Used.{AreUnderOwnNames, IsUsed}
-use Rattle.graphql_selection_rules.proofs.Typing.{document_reaches_typed}
-use Rattle.graphql_subscription_rules.specs.Nested.{NestsTooDeep}
-use Rattle.graphql_subscription_rules.specs.Told.{AreAlike}
-use Rattle.graphql_typing.specs.Meanings.{meanings}
+use Rattle.schema_types.specs.SchemaTree.{SchemaTree}
+use Rattle.schema_types.specs.Plain.{plain}
+use Rattle.document_meaning.specs.MeantTree.{MeantOperation, MeantFragment, MeantDocument}
+use Rattle.document_meaning.specs.Unplaced.{unplaced_document}
+use Rattle.rule_definitions.proofs.Lists.{not_in_nil, Contains-first}
+use Rattle.rule_definitions.specs.Judged.{judged}
+use Rattle.rule_definitions.specs.Told.{PlacedFault}
+use Rattle.rule_document_definitions.specs.DocumentFaults.{Broken, OfData, OfDocument, OfLimit}
+use Rattle.rule_document_definitions.specs.Fragments.{ReachesItself}
+use Rattle.rule_document_definitions.specs.Limits.{PassesPathBound}
+use Rattle.rule_document_definitions.specs.Merging.{FieldsMerge}
+use Rattle.rule_document_definitions.specs.Named.{AreNamed}
+use Rattle.rule_document_definitions.specs.Reached.{AtOperation}
+use Rattle.rule_document_definitions.specs.Selected.{operations}
+use Rattle.rule_document_definitions.specs.Subscriptions.{SubscriptionBreaks}
+use Rattle.rule_document_definitions.specs.Told.{PlacedDocumentFault, DocumentFails, DocumentMergingFails, IsValidDocument}
+use Rattle.rule_document_definitions.specs.Verdict.{WithinBounds}
+use Rattle.rule_document_definitions.proofs.MergingFacts.{merging_breaks_nothing}
+use Rattle.rule_document_definitions.proofs.Verdicts.{valid_where_nothing_is_told, within_bounds_where_nothing_is_told}
+use Rattle.rule_fragment_cycles.specs.Used.{AreUnderOwnNames, IsUsed}
+use Rattle.rule_selections.proofs.Typing.{document_reaches_typed}
+use Rattle.rule_subscriptions.specs.Nested.{NestsTooDeep}
+use Rattle.rule_subscriptions.specs.Told.{AreAlike}
+use Rattle.document_typing.specs.Meanings.{meanings}
 use Rattle.graphql_validation.specs.Merged.{MergingFailsAt}
 use Rattle.graphql_validation.specs.Operations.{AreReachesTyped, TellsData, AllUnder, OperationFails, TellsBreaches, bound_told, all_told}
 use Rattle.graphql_validation.specs.Told.{AnswersFragment}

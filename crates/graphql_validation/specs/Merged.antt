@@ -1,15 +1,15 @@
 -- What merging tells of an operation, and what it keeps (GraphQL, October 2021, section 5.3.2).
 use Rattle.std.specs.Prelude.{◌≡◌, ◌++◌, ◌∷◌, Bool, true, false, List, [], map, Contains}
 use Rattle.graphql_names.specs.Placed.{Place}
-use Rattle.graphql_meant_documents.specs.MeantTree.{MeantOperation, MeantDocument}
-use Rattle.graphql_rule_definitions.specs.Judged.{Judged}
-use Rattle.graphql_document_rule_definitions.specs.DocumentFaults.{Broken, OfData, OfDocument, OfLimit}
-use Rattle.graphql_document_rule_definitions.specs.Merging.{MergingBreaks}
-use Rattle.graphql_document_rule_definitions.specs.Limits.{PassesChainBound}
-use Rattle.graphql_document_rule_definitions.specs.Reached.{AtOperation}
-use Rattle.graphql_document_rule_definitions.specs.Told.{PlacedDocumentFault}
-use Rattle.graphql_merging.specs.Verdict.{AreBothSettled}
-use Rattle.graphql_merging.specs.declared.operation.Examined.{Examined}
+use Rattle.document_meaning.specs.MeantTree.{MeantOperation, MeantDocument}
+use Rattle.rule_definitions.specs.Judged.{Judged}
+use Rattle.rule_document_definitions.specs.DocumentFaults.{Broken, OfData, OfDocument, OfLimit}
+use Rattle.rule_document_definitions.specs.Merging.{MergingBreaks}
+use Rattle.rule_document_definitions.specs.Limits.{PassesChainBound}
+use Rattle.rule_document_definitions.specs.Reached.{AtOperation}
+use Rattle.rule_document_definitions.specs.Told.{PlacedDocumentFault}
+use Rattle.rule_merging.specs.Verdict.{AreBothSettled}
+use Rattle.rule_merging.specs.declared.operation.Examined.{Examined}
 use Rattle.graphql_validation.specs.Told.{Telling, of_document}
 
 module _ (s : Judged) (d : MeantDocument Place) where

@@ -2,11 +2,11 @@
 use Rattle.std.specs.Prelude.{ℕ, Bool, List}
 use Rattle.graphql_names.specs.Placed.{Place}
 use Rattle.graphql_schema.specs.SchemaOf.{schema_tree}
-use Rattle.graphql_meant_documents.specs.MeantTree.{MeantDocument}
-use Rattle.graphql_rule_definitions.specs.Judged.{Judged, judged}
-use Rattle.graphql_merging_laws.specs.Contents.{PlainField}
-use Rattle.graphql_merging.specs.Counted.{IsCountedBy}
-use Rattle.graphql_merging.specs.Verdict.{document_meant, lists_examined, comparisons_of}
+use Rattle.document_meaning.specs.MeantTree.{MeantDocument}
+use Rattle.rule_definitions.specs.Judged.{Judged, judged}
+use Rattle.rule_merging_laws.specs.Contents.{PlainField}
+use Rattle.rule_merging.specs.Counted.{IsCountedBy}
+use Rattle.rule_merging.specs.Verdict.{document_meant, lists_examined, comparisons_of}
 use Rattle.graphql_validation.specs.declared.merging.FieldsInSetCanMerge.{FieldsInSetCanMerge}
 
 pub record Merger : Type 0 where

@@ -4,32 +4,32 @@ use Rattle.std.specs.Str.{bytes_eq}
 use Rattle.std.specs.declared.alloc.Global.{Global}
 use Rattle.indexmap.specs.IndexSet.{insert_key}
 use Rattle.graphql_names.specs.Placed.{Place}
-use Rattle.graphql_directives.specs.declared.operation_type.OperationType.TheVariants as operation
-use Rattle.graphql_schema_types.specs.SchemaTree.{SchemaTree}
-use Rattle.graphql_schema_types.specs.Plain.{plain}
-use Rattle.graphql_typed_selections.specs.TypedTree.{TypedSet}
-use Rattle.graphql_typed_operations.specs.TypedDocument.{TypedOperation}
-use Rattle.graphql_typing.specs.Meanings.{meanings}
-use Rattle.graphql_document_faults.specs.declared.build_error.BuildError.{BuildError}
-use Rattle.graphql_meant_documents.specs.MeantTree.{MeantOperation, MeantFragment, MeantDocument}
-use Rattle.graphql_rule_definitions.specs.Judged.{judged}
-use Rattle.graphql_rule_definitions.specs.Told.{PlacedFault}
-use Rattle.graphql_document_rule_definitions.specs.DocumentFaults.{Broken, OfData, OfDocument, OfLimit}
-use Rattle.graphql_document_rule_definitions.specs.DocumentRules.{DeferredBreaks}
-use Rattle.graphql_document_rule_definitions.specs.Limits.{SpreadBoundFails}
-use Rattle.graphql_document_rule_definitions.specs.Reached.{ReachesFragment, AtOperation}
-use Rattle.graphql_document_rule_definitions.specs.Selected.{operations}
-use Rattle.graphql_document_rule_definitions.specs.Selections.{SelectionsBreak}
-use Rattle.graphql_document_rule_definitions.specs.Subscriptions.{SubscriptionBreaks}
-use Rattle.graphql_document_rule_definitions.specs.Variables.{VariablesBreak, UniqueVariableAt, UniqueDefaultKeyAt, UnusedVariableAt}
-use Rattle.graphql_document_rule_definitions.specs.Fragments.{ReachesItself, UndefinedFragmentAt, UnusedFragmentAt, InvalidFragmentTargetAt, InvalidFragmentSpreadAt, FragmentsBreak}
-use Rattle.graphql_document_rule_definitions.specs.Standalone.{GivenInBreaks, OperationBreaksAlone}
-use Rattle.graphql_document_rule_definitions.specs.Told.{PlacedDocumentFault, places_in, places_alone}
-use Rattle.graphql_reach.specs.Broken.{brokens_of}
-use Rattle.graphql_selection_rules.specs.Typed.{ReachesTyped}
-use Rattle.graphql_subscription_rules.specs.Told.{AreAlike}
-use Rattle.graphql_fragment_cycles.specs.Told.{Answers, TellsCycles}
-use Rattle.graphql_fragment_cycles.specs.Used.{IsUsed}
+use Rattle.tree_directives.specs.declared.operation_type.OperationType.TheVariants as operation
+use Rattle.schema_types.specs.SchemaTree.{SchemaTree}
+use Rattle.schema_types.specs.Plain.{plain}
+use Rattle.document_typed_selections.specs.TypedTree.{TypedSet}
+use Rattle.document_typed_operations.specs.TypedDocument.{TypedOperation}
+use Rattle.document_typing.specs.Meanings.{meanings}
+use Rattle.fault_document_data.specs.declared.build_error.BuildError.{BuildError}
+use Rattle.document_meaning.specs.MeantTree.{MeantOperation, MeantFragment, MeantDocument}
+use Rattle.rule_definitions.specs.Judged.{judged}
+use Rattle.rule_definitions.specs.Told.{PlacedFault}
+use Rattle.rule_document_definitions.specs.DocumentFaults.{Broken, OfData, OfDocument, OfLimit}
+use Rattle.rule_document_definitions.specs.DocumentRules.{DeferredBreaks}
+use Rattle.rule_document_definitions.specs.Limits.{SpreadBoundFails}
+use Rattle.rule_document_definitions.specs.Reached.{ReachesFragment, AtOperation}
+use Rattle.rule_document_definitions.specs.Selected.{operations}
+use Rattle.rule_document_definitions.specs.Selections.{SelectionsBreak}
+use Rattle.rule_document_definitions.specs.Subscriptions.{SubscriptionBreaks}
+use Rattle.rule_document_definitions.specs.Variables.{VariablesBreak, UniqueVariableAt, UniqueDefaultKeyAt, UnusedVariableAt}
+use Rattle.rule_document_definitions.specs.Fragments.{ReachesItself, UndefinedFragmentAt, UnusedFragmentAt, InvalidFragmentTargetAt, InvalidFragmentSpreadAt, FragmentsBreak}
+use Rattle.rule_document_definitions.specs.Standalone.{GivenInBreaks, OperationBreaksAlone}
+use Rattle.rule_document_definitions.specs.Told.{PlacedDocumentFault, places_in, places_alone}
+use Rattle.rule_reach.specs.Broken.{brokens_of}
+use Rattle.rule_selections.specs.Typed.{ReachesTyped}
+use Rattle.rule_subscriptions.specs.Told.{AreAlike}
+use Rattle.rule_fragment_cycles.specs.Told.{Answers, TellsCycles}
+use Rattle.rule_fragment_cycles.specs.Used.{IsUsed}
 
 module _ (d : MeantDocument Place) (o : MeantOperation Place) where
   -- a rule without a schema fails so in an operation, that on fragments that reach themselves aside

@@ -1,21 +1,21 @@
 -- What is told of a document under a schema (GraphQL, October 2021, section 5).
 use Rattle.std.specs.Prelude.{◌≡◌, ◌++◌, List, map, Contains, ◌⊎◌, None}
 use Rattle.graphql_names.specs.Placed.{Place}
-use Rattle.graphql_schema_types.specs.SchemaTree.{SchemaTree}
-use Rattle.graphql_schema_types.specs.Plain.{plain}
-use Rattle.graphql_meant_documents.specs.MeantTree.{MeantOperation, MeantFragment, MeantDocument}
-use Rattle.graphql_typing.specs.Meanings.{meanings}
-use Rattle.graphql_typing.specs.TypedByPlace.{IsTypedDocument}
-use Rattle.graphql_document_rule_definitions.specs.DocumentFaults.{Broken, OfData, OfDocument, OfLimit}
-use Rattle.graphql_document_rule_definitions.specs.DocumentRules.{DeferredBreaks}
-use Rattle.graphql_document_rule_definitions.specs.Fragments.{ReachesItself, UnusedFragmentAt}
-use Rattle.graphql_document_rule_definitions.specs.Reached.{AtOperation}
-use Rattle.graphql_document_rule_definitions.specs.Selected.{operations}
-use Rattle.graphql_document_rule_definitions.specs.Subscriptions.{SubscriptionBreaks}
-use Rattle.graphql_document_rule_definitions.specs.Told.{PlacedDocumentFault, DocumentFails, DocumentMergingFails, DocumentBoundFails}
-use Rattle.graphql_fragment_cycles.specs.Used.{IsUsed}
-use Rattle.graphql_subscription_rules.specs.Nested.{NestsTooDeep}
-use Rattle.graphql_subscription_rules.specs.Told.{AreAlike}
+use Rattle.schema_types.specs.SchemaTree.{SchemaTree}
+use Rattle.schema_types.specs.Plain.{plain}
+use Rattle.document_meaning.specs.MeantTree.{MeantOperation, MeantFragment, MeantDocument}
+use Rattle.document_typing.specs.Meanings.{meanings}
+use Rattle.document_typing.specs.TypedByPlace.{IsTypedDocument}
+use Rattle.rule_document_definitions.specs.DocumentFaults.{Broken, OfData, OfDocument, OfLimit}
+use Rattle.rule_document_definitions.specs.DocumentRules.{DeferredBreaks}
+use Rattle.rule_document_definitions.specs.Fragments.{ReachesItself, UnusedFragmentAt}
+use Rattle.rule_document_definitions.specs.Reached.{AtOperation}
+use Rattle.rule_document_definitions.specs.Selected.{operations}
+use Rattle.rule_document_definitions.specs.Subscriptions.{SubscriptionBreaks}
+use Rattle.rule_document_definitions.specs.Told.{PlacedDocumentFault, DocumentFails, DocumentMergingFails, DocumentBoundFails}
+use Rattle.rule_fragment_cycles.specs.Used.{IsUsed}
+use Rattle.rule_subscriptions.specs.Nested.{NestsTooDeep}
+use Rattle.rule_subscriptions.specs.Told.{AreAlike}
 use Rattle.graphql_validation.specs.Operations.{OperationFails}
 use Rattle.graphql_validation.specs.Told.{Telling, of_document, AnswersFragment}
 

@@ -1,22 +1,22 @@
 -- What is told of a document, and of a field set (GraphQL, October 2021, section 5).
 use Rattle.std.specs.Prelude.{◌≡◌, ℕ, List, ◌++◌, map, Contains, ◌⊎◌}
 use Rattle.graphql_names.specs.Placed.{Place}
-use Rattle.graphql_schema_types.specs.SchemaTree.{SchemaTree}
-use Rattle.graphql_schema_types.specs.Plain.{plain}
-use Rattle.graphql_typed_selections.specs.TypedTree.{typed_set_tree}
-use Rattle.graphql_typed_operations.specs.declared.document.FieldSet.{FieldSet}
-use Rattle.graphql_meant_documents.specs.MeantTree.{MeantSet, MeantFragment, MeantDocument, meant_of_set}
-use Rattle.graphql_typing.specs.Meanings.{meanings}
-use Rattle.graphql_typing.specs.TypedByPlace.{IsSetOn}
-use Rattle.graphql_rule_definitions.specs.Told.{PlacedFault}
-use Rattle.graphql_document_rule_definitions.specs.DocumentFaults.{OfData, OfDocument, OfLimit}
-use Rattle.graphql_document_rule_definitions.specs.Reached.{AtOperation}
-use Rattle.graphql_document_rule_definitions.specs.Fragments.{ReachesItself, UnusedFragmentAt}
-use Rattle.graphql_document_rule_definitions.specs.DocumentRules.{DeferredBreaks}
-use Rattle.graphql_document_rule_definitions.specs.Told.{PlacedDocumentFault, SetRulesFail, SetBoundFails, DocumentBoundFails, DocumentFailsAlone}
+use Rattle.schema_types.specs.SchemaTree.{SchemaTree}
+use Rattle.schema_types.specs.Plain.{plain}
+use Rattle.document_typed_selections.specs.TypedTree.{typed_set_tree}
+use Rattle.document_typed_operations.specs.declared.document.FieldSet.{FieldSet}
+use Rattle.document_meaning.specs.MeantTree.{MeantSet, MeantFragment, MeantDocument, meant_of_set}
+use Rattle.document_typing.specs.Meanings.{meanings}
+use Rattle.document_typing.specs.TypedByPlace.{IsSetOn}
+use Rattle.rule_definitions.specs.Told.{PlacedFault}
+use Rattle.rule_document_definitions.specs.DocumentFaults.{OfData, OfDocument, OfLimit}
+use Rattle.rule_document_definitions.specs.Reached.{AtOperation}
+use Rattle.rule_document_definitions.specs.Fragments.{ReachesItself, UnusedFragmentAt}
+use Rattle.rule_document_definitions.specs.DocumentRules.{DeferredBreaks}
+use Rattle.rule_document_definitions.specs.Told.{PlacedDocumentFault, SetRulesFail, SetBoundFails, DocumentBoundFails, DocumentFailsAlone}
 use Rattle.graphql_faults.specs.DetailsTree.{DetailsAt, DocumentBuild, RecursionLimitError, of_rule}
-use Rattle.graphql_fragment_cycles.specs.Used.{IsUsed}
-use Rattle.graphql_fragment_cycles.specs.Told.{Answers}
+use Rattle.rule_fragment_cycles.specs.Used.{IsUsed}
+use Rattle.rule_fragment_cycles.specs.Told.{Answers}
 use Rattle.graphql_validation.specs.Operations.{OperationFailsAlone}
 
 -- what a list tells, in order

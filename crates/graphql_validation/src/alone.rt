@@ -1,27 +1,27 @@
 //! What is judged without a schema, operation by operation.
 ghost use Rattle.std.specs.Prelude.{◌↔◌, Contains, IfOk, OnOk};
 ghost use Rattle.graphql_names.specs.Placed.{Place};
-ghost use Rattle.graphql_fault_data.specs.Adds.{Adds};
-ghost use Rattle.graphql_fault_data.specs.FaultView.{faults_of};
-ghost use Rattle.graphql_document_rule_definitions.specs.Defer.{DeferBreaks};
-ghost use Rattle.graphql_document_rule_definitions.specs.DocumentFaults.{Broken};
-ghost use Rattle.graphql_document_rule_definitions.specs.DocumentRules.{DeferredBreaks};
-ghost use Rattle.graphql_document_rule_definitions.specs.Reached.{AtOperation};
-ghost use Rattle.graphql_reach.specs.Broken.{brokens_of, AddsBroken};
-ghost use Rattle.graphql_fragment_cycles.specs.Used.{AreUnderOwnNames, names_of};
-ghost use Rattle.graphql_subscription_rules.specs.Told.{document_meant, operation_meant};
+ghost use Rattle.fault_data.specs.Adds.{Adds};
+ghost use Rattle.fault_data.specs.FaultView.{faults_of};
+ghost use Rattle.rule_document_definitions.specs.Defer.{DeferBreaks};
+ghost use Rattle.rule_document_definitions.specs.DocumentFaults.{Broken};
+ghost use Rattle.rule_document_definitions.specs.DocumentRules.{DeferredBreaks};
+ghost use Rattle.rule_document_definitions.specs.Reached.{AtOperation};
+ghost use Rattle.rule_reach.specs.Broken.{brokens_of, AddsBroken};
+ghost use Rattle.rule_fragment_cycles.specs.Used.{AreUnderOwnNames, names_of};
+ghost use Rattle.rule_subscriptions.specs.Told.{document_meant, operation_meant};
 ghost use Rattle.graphql_validation.specs.Operations.{OperationFailsAlone, ReachesNamed, NotesNames, TellsData, AllAlone};
 
 use crate::found::{Found, check_fragments, note_fragments};
 use crate::told::Breach;
-use graphql_fault_data::Fault;
-use graphql_fragment_rules::check_spreads;
+use document_typed_operations::{ExecutableDocument, Operation};
+use fault_data::Fault;
 use graphql_names::Node;
-use graphql_reach::reach;
-use graphql_selection_rules::check_selections_alone;
-use graphql_subscription_rules::{check_defer, check_labels};
-use graphql_typed_operations::{ExecutableDocument, Operation};
-use graphql_variable_rules::check_variables_alone;
+use rule_fragments::check_spreads;
+use rule_reach::reach;
+use rule_selections::check_selections_alone;
+use rule_subscriptions::{check_defer, check_labels};
+use rule_variables::check_variables_alone;
 use std::alloc::{AllocError, Global};
 
 /// Adds the faults of an operation without a schema, and notes the fragments that it reaches.

@@ -2,17 +2,17 @@
 ghost use Rattle.std.specs.Prelude.{◌≡◌, ◌↔◌, [], false, Contains, IsTrue, OnErr, OnOk};
 ghost use Rattle.graphql_names.specs.Placed.{Place};
 ghost use Rattle.graphql_schema.specs.SchemaOf.{schema_tree};
-ghost use Rattle.graphql_meant_documents.specs.MeantTree.{MeantOperation};
-ghost use Rattle.graphql_meant_documents.specs.Unplaced.{unplaced_document};
-ghost use Rattle.graphql_rule_definitions.specs.Judged.{judged};
-ghost use Rattle.graphql_document_rule_definitions.specs.Merging.{FieldsMerge};
-ghost use Rattle.graphql_document_rule_definitions.specs.Selected.{operations};
-ghost use Rattle.graphql_document_rule_definitions.specs.Told.{IsValidDocument};
-ghost use Rattle.graphql_document_rule_definitions.specs.Verdict.{WithinBounds};
-ghost use Rattle.graphql_fault_data.specs.FaultView.{faults_of};
+ghost use Rattle.document_meaning.specs.MeantTree.{MeantOperation};
+ghost use Rattle.document_meaning.specs.Unplaced.{unplaced_document};
+ghost use Rattle.rule_definitions.specs.Judged.{judged};
+ghost use Rattle.rule_document_definitions.specs.Merging.{FieldsMerge};
+ghost use Rattle.rule_document_definitions.specs.Selected.{operations};
+ghost use Rattle.rule_document_definitions.specs.Told.{IsValidDocument};
+ghost use Rattle.rule_document_definitions.specs.Verdict.{WithinBounds};
+ghost use Rattle.fault_data.specs.FaultView.{faults_of};
 ghost use Rattle.graphql_faults.specs.DetailsView.{diagnostics_of, BeginsAs};
-ghost use Rattle.graphql_reach.specs.Broken.{brokens_of};
-ghost use Rattle.graphql_subscription_rules.specs.Told.{document_meant};
+ghost use Rattle.rule_reach.specs.Broken.{brokens_of};
+ghost use Rattle.rule_subscriptions.specs.Told.{document_meant};
 ghost use Rattle.graphql_validation.specs.Merged.{DocumentMergingTold};
 ghost use Rattle.graphql_validation.specs.TellsDocument.{IsTypedUnder, DocumentTold};
 
@@ -20,11 +20,11 @@ use crate::found::fragments_differ;
 use crate::merging::FieldsInSetCanMerge;
 use crate::told::{Breach, append_all};
 use crate::under_schema::{breaches_under, faults_under};
-use graphql_fault_data::Fault;
+use document_typed_operations::ExecutableDocument;
+use fault_data::Fault;
 use graphql_faults::DiagnosticList;
 use graphql_schema::Schema;
-use graphql_subscription_rules::passes_path_bound;
-use graphql_typed_operations::ExecutableDocument;
+use rule_subscriptions::passes_path_bound;
 use std::alloc::{AllocError, Global};
 
 /// Whether there is nothing to tell.

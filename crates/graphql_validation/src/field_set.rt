@@ -2,27 +2,27 @@
 ghost use Rattle.std.specs.Prelude.{◌≡◌, None, IfOk, OnErr, OnOk};
 ghost use Rattle.graphql_names.specs.Placed.{Place};
 ghost use Rattle.graphql_schema.specs.SchemaOf.{schema_tree};
-ghost use Rattle.graphql_document_rule_definitions.specs.FieldSets.{document_of_set};
-ghost use Rattle.graphql_document_rule_definitions.specs.Verdict.{FieldSetWithinBounds};
-ghost use Rattle.graphql_document_rule_definitions.specs.Told.{IsValidFieldSet};
+ghost use Rattle.rule_document_definitions.specs.FieldSets.{document_of_set};
+ghost use Rattle.rule_document_definitions.specs.Verdict.{FieldSetWithinBounds};
+ghost use Rattle.rule_document_definitions.specs.Told.{IsValidFieldSet};
 ghost use Rattle.graphql_faults.specs.DetailsView.{diagnostics_of, BeginsAs};
-ghost use Rattle.graphql_meant_documents.specs.Unplaced.{unplaced_set};
-ghost use Rattle.graphql_subscription_rules.specs.Told.{document_meant};
-ghost use Rattle.graphql_typed_operations.specs.TypedDocument.{typed_operation_tree};
-ghost use Rattle.graphql_typed_selections.specs.TypedTree.{typed_set_tree};
+ghost use Rattle.document_meaning.specs.Unplaced.{unplaced_set};
+ghost use Rattle.rule_subscriptions.specs.Told.{document_meant};
+ghost use Rattle.document_typed_operations.specs.TypedDocument.{typed_operation_tree};
+ghost use Rattle.document_typed_selections.specs.TypedTree.{typed_set_tree};
 ghost use Rattle.graphql_validation.specs.Operations.{query_on};
 ghost use Rattle.graphql_validation.specs.Told.{set_meant, IsTypedSet, FieldSetTold};
 
 use crate::told::append_all;
 use crate::under_schema::faults_under;
-use graphql_directives::{DirectiveList, OperationType};
+use document_typed_operations::{ExecutableDocument, FieldSet, Operation, OperationMap};
 use graphql_faults::DiagnosticList;
 use graphql_names::Node;
 use graphql_schema::Schema;
-use graphql_subscription_rules::passes_path_bound;
-use graphql_typed_operations::{ExecutableDocument, FieldSet, Operation, OperationMap};
 use indexmap::IndexMap;
+use rule_subscriptions::passes_path_bound;
 use std::alloc::{AllocError, Global};
+use tree_directives::{DirectiveList, OperationType};
 
 /// A query that selects what the set does. It shares what the set holds.
 fn query_on(alloc: Global, set: &FieldSet) -> Result<Operation, AllocError>

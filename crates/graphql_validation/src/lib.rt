@@ -2,11 +2,11 @@
 //!
 //! For the layers above: a call adds to a list what breaks the rules of its document, each fault at its place, and nothing
 //! else (`specs/Told.antt`, `specs/TellsDocument.antt`); it adds nothing exactly where all rules hold, memory and the bounds
-//! aside. What breaks a rule is a predicate named after its variant, in `graphql_document_rule_definitions`.
+//! aside. What breaks a rule is a predicate named after its variant, in `rule_document_definitions`.
 //!
-//! The rules stand in inner crates side by side: `graphql_variable_rules`, `graphql_selection_rules`,
-//! `graphql_fragment_rules`, `graphql_fragment_cycles`, `graphql_subscription_rules`; what an operation reaches is found once,
-//! by `graphql_reach`. Fields are merged by `graphql_merging`, operation by operation (`merging.rt`). Begin with `document.rt`,
+//! The rules stand in inner crates side by side: `rule_variables`, `rule_selections`,
+//! `rule_fragments`, `rule_fragment_cycles`, `rule_subscriptions`; what an operation reaches is found once,
+//! by `rule_reach`. Fields are merged by `rule_merging`, operation by operation (`merging.rt`). Begin with `document.rt`,
 //! `field_set.rt` and `standalone.rt`.
 #![tactic(auto)]
 

@@ -1,21 +1,21 @@
 //! Whether the fields of operations merge.
 ghost use Rattle.std.specs.Prelude.{◌≡◌, ◌↔◌, ◌++◌, [], false, map, Contains, IsTrue, OnOk, OnErr};
-ghost use Rattle.graphql_document_rule_definitions.specs.Merging.{FieldsMerge};
-ghost use Rattle.graphql_document_rule_definitions.specs.Selected.{operations};
+ghost use Rattle.rule_document_definitions.specs.Merging.{FieldsMerge};
+ghost use Rattle.rule_document_definitions.specs.Selected.{operations};
 ghost use Rattle.graphql_faults.specs.DetailsView.{diagnostics_of, BeginsAs};
-ghost use Rattle.graphql_reach.specs.Broken.{brokens_of};
-ghost use Rattle.graphql_rule_definitions.specs.Judged.{judged};
+ghost use Rattle.rule_reach.specs.Broken.{brokens_of};
+ghost use Rattle.rule_definitions.specs.Judged.{judged};
 ghost use Rattle.graphql_schema.specs.SchemaOf.{schema_tree};
-ghost use Rattle.graphql_subscription_rules.specs.Told.{document_meant, operation_meant};
+ghost use Rattle.rule_subscriptions.specs.Told.{document_meant, operation_meant};
 ghost use Rattle.graphql_validation.specs.Merged.{MergingTold, AreSettledIf, limit_told, conflicts_told};
 ghost use Rattle.graphql_validation.specs.Told.{of_document};
 
 use crate::told::{Breach, append_breaches};
+use document_typed_operations::{ExecutableDocument, Operation};
 use graphql_faults::{Details, DiagnosticList};
-use graphql_merging::{Examined, examine_operation};
 use graphql_names::Node;
 use graphql_schema::Schema;
-use graphql_typed_operations::{ExecutableDocument, Operation};
+use rule_merging::{Examined, examine_operation};
 use std::alloc::{AllocError, Global};
 
 /// Whether the fields of operations merge (section 5.3.2, "FieldsInSetCanMerge"). What was examined is kept over all

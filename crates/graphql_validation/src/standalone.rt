@@ -1,19 +1,19 @@
 //! Every rule on a document without a schema.
 ghost use Rattle.std.specs.Prelude.{◌≡◌, OnErr, OnOk};
-ghost use Rattle.graphql_meant_documents.specs.Unplaced.{unplaced_document};
-ghost use Rattle.graphql_document_rule_definitions.specs.Verdict.{WithinBounds};
-ghost use Rattle.graphql_document_rule_definitions.specs.Told.{IsValidAlone};
+ghost use Rattle.document_meaning.specs.Unplaced.{unplaced_document};
+ghost use Rattle.rule_document_definitions.specs.Verdict.{WithinBounds};
+ghost use Rattle.rule_document_definitions.specs.Told.{IsValidAlone};
 ghost use Rattle.graphql_faults.specs.DetailsView.{diagnostics_of, BeginsAs};
-ghost use Rattle.graphql_fragment_cycles.specs.Used.{AreUnderOwnNames};
-ghost use Rattle.graphql_subscription_rules.specs.Told.{document_meant};
+ghost use Rattle.rule_fragment_cycles.specs.Used.{AreUnderOwnNames};
+ghost use Rattle.rule_subscriptions.specs.Told.{document_meant};
 ghost use Rattle.graphql_validation.specs.Told.{AloneTold};
 
 use crate::alone::{deferred_breaches, faults_alone};
 use crate::found::fragments_differ;
 use crate::told::append_all;
+use document_typed_operations::ExecutableDocument;
 use graphql_faults::DiagnosticList;
-use graphql_subscription_rules::passes_path_bound;
-use graphql_typed_operations::ExecutableDocument;
+use rule_subscriptions::passes_path_bound;
 use std::alloc::{AllocError, Global};
 
 /// Tells what breaks the rules that need no schema (sections 5.4.2, 5.5, 5.6.3, 5.7.1 and 5.8): UniqueArgument,

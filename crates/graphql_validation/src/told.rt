@@ -1,14 +1,14 @@
 //! Adding what is told to a list.
 ghost use Rattle.std.specs.Prelude.{◌≡◌, ◌++◌, map, OnErr, OnOk};
-ghost use Rattle.graphql_document_rule_definitions.specs.DocumentFaults.{OfDocument};
-ghost use Rattle.graphql_fault_data.specs.FaultView.{faults_of};
+ghost use Rattle.rule_document_definitions.specs.DocumentFaults.{OfDocument};
+ghost use Rattle.fault_data.specs.FaultView.{faults_of};
 ghost use Rattle.graphql_faults.specs.DetailsView.{diagnostics_of, BeginsAs};
-ghost use Rattle.graphql_reach.specs.Broken.{brokens_of};
+ghost use Rattle.rule_reach.specs.Broken.{brokens_of};
 ghost use Rattle.graphql_validation.specs.Operations.{bound_told, all_told};
 ghost use Rattle.graphql_validation.specs.Told.{of_document};
 
-use graphql_document_faults::BuildError;
-use graphql_fault_data::Fault;
+use fault_data::Fault;
+use fault_document_data::BuildError;
 use graphql_faults::{Details, DiagnosticList};
 use graphql_names::SourceSpan;
 use std::alloc::AllocError;

@@ -1,32 +1,32 @@
 //! What is judged under a schema, operation by operation.
 ghost use Rattle.std.specs.Prelude.{IfOk, OnOk};
-ghost use Rattle.graphql_document_rule_definitions.specs.Reached.{AtOperation};
-ghost use Rattle.graphql_document_rule_definitions.specs.Selected.{operations};
-ghost use Rattle.graphql_fault_data.specs.Adds.{Adds};
-ghost use Rattle.graphql_fault_data.specs.FaultView.{faults_of};
-ghost use Rattle.graphql_fragment_cycles.specs.Used.{AreUnderOwnNames, names_of};
-ghost use Rattle.graphql_fragment_rules.specs.Possible.{ArePossible};
-ghost use Rattle.graphql_reach.specs.Broken.{brokens_of};
-ghost use Rattle.graphql_rule_definitions.specs.Judged.{judged};
+ghost use Rattle.rule_document_definitions.specs.Reached.{AtOperation};
+ghost use Rattle.rule_document_definitions.specs.Selected.{operations};
+ghost use Rattle.fault_data.specs.Adds.{Adds};
+ghost use Rattle.fault_data.specs.FaultView.{faults_of};
+ghost use Rattle.rule_fragment_cycles.specs.Used.{AreUnderOwnNames, names_of};
+ghost use Rattle.rule_fragments.specs.Possible.{ArePossible};
+ghost use Rattle.rule_reach.specs.Broken.{brokens_of};
+ghost use Rattle.rule_definitions.specs.Judged.{judged};
 ghost use Rattle.graphql_schema.specs.SchemaOf.{schema_tree};
-ghost use Rattle.graphql_schema_types.specs.Plain.{plain};
-ghost use Rattle.graphql_selection_rules.specs.Typed.{ReachesTyped};
-ghost use Rattle.graphql_subscription_rules.specs.Told.{document_meant, operation_meant};
-ghost use Rattle.graphql_typing.specs.Meanings.{meanings};
+ghost use Rattle.schema_types.specs.Plain.{plain};
+ghost use Rattle.rule_selections.specs.Typed.{ReachesTyped};
+ghost use Rattle.rule_subscriptions.specs.Told.{document_meant, operation_meant};
+ghost use Rattle.document_typing.specs.Meanings.{meanings};
 ghost use Rattle.graphql_validation.specs.Operations.{OperationFails, ReachesNamed, NotesNames, AreReachesTyped, TellsData, AllUnder, AddsSubscriptions, TellsBreaches};
 
 use crate::alone::deferred_breaches;
 use crate::found::{Found, check_fragments, note_fragments};
 use crate::told::Breach;
-use graphql_fault_data::Fault;
-use graphql_fragment_rules::{PossibleTypes, check_applications, check_spreads};
+use document_typed_operations::{ExecutableDocument, Operation};
+use fault_data::Fault;
 use graphql_names::Node;
-use graphql_reach::reach;
 use graphql_schema::Schema;
-use graphql_selection_rules::check_selections;
-use graphql_subscription_rules::check_subscription;
-use graphql_typed_operations::{ExecutableDocument, Operation};
-use graphql_variable_rules::{check_variables, check_variables_alone};
+use rule_fragments::{PossibleTypes, check_applications, check_spreads};
+use rule_reach::reach;
+use rule_selections::check_selections;
+use rule_subscriptions::check_subscription;
+use rule_variables::{check_variables, check_variables_alone};
 use std::alloc::{AllocError, Global};
 
 /// Adds the faults of an operation under a schema, and notes the fragments that it reaches.

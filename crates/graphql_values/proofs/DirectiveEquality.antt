@@ -5,25 +5,25 @@ use Rattle.std.specs.Cmp.{booleans_Decides}
 use Rattle.std.proofs.lemmas.Slice.Eq.{slice_eq-Decides}
 use denote.Enum.Bare.{same_true, true_same}
 use Rattle.graphql_names.specs.Placed.{text_tree, unplaced_text}
-use Rattle.graphql_literals.specs.TypeTree.{type_tree, unplaced_type}
-use Rattle.graphql_literals.specs.ValueTree.{value_tree, unplaced_value}
-use Rattle.graphql_operations.specs.in_directives.DirectiveTree.{ArgumentTree, DirectiveTree, InputValueTree, DirectiveDefinitionTree, argument_tree, directive_tree, directives_tree, input_value_tree, directive_definition_tree, unplaced_argument, unplaced_directive, unplaced_directives, unplaced_input_value, unplaced_directive_definition}
+use Rattle.tree_literals.specs.TypeTree.{type_tree, unplaced_type}
+use Rattle.tree_literals.specs.ValueTree.{value_tree, unplaced_value}
+use Rattle.tree_operations.specs.in_directives.DirectiveTree.{ArgumentTree, DirectiveTree, InputValueTree, DirectiveDefinitionTree, argument_tree, directive_tree, directives_tree, input_value_tree, directive_definition_tree, unplaced_argument, unplaced_directive, unplaced_directives, unplaced_input_value, unplaced_directive_definition}
 use Rattle.graphql_values.proofs.Decided.{through, pair_decides, name_decides, text_decides, node_decides, nodes_decide, options_decide}
 use Rattle.graphql_values.proofs.TypeEquality.{type_eq, type_eq-Decides}
 use Rattle.graphql_values.proofs.ValueEquality.{value_eq, value_eq-Decides}
-use Rattle.graphql_operations.specs.in_directives.declared.directive.Argument.{Argument}
-use Rattle.graphql_operations.specs.in_directives.declared.directive.Directive.{Directive}
-use Rattle.graphql_operations.specs.in_directives.declared.directive.DirectiveList.{DirectiveList}
-use Rattle.graphql_operations.specs.in_directives.declared.directive.DirectiveDefinition.{DirectiveDefinition}
-use Rattle.graphql_operations.specs.in_directives.declared.directive_location.DirectiveLocation.{DirectiveLocation}
-use Rattle.graphql_operations.specs.in_directives.declared.input_value.InputValueDefinition.{InputValueDefinition}
-use Rattle.graphql_operations.specs.in_directives.contracts.directive_location.DirectiveLocation.{the_type}
-use Rattle.graphql_operations.specs.in_directives.contracts.directive_location.DirectiveLocationPartialEq.TheImpl as location
-use Rattle.graphql_operations.specs.in_directives.contracts.directive.ArgumentPartialEq.TheImpl as argument
-use Rattle.graphql_operations.specs.in_directives.contracts.directive.DirectivePartialEq.TheImpl as directive
-use Rattle.graphql_operations.specs.in_directives.contracts.directive.DirectiveListPartialEq.TheImpl as directive_list
-use Rattle.graphql_operations.specs.in_directives.contracts.directive.DirectiveDefinitionPartialEq.TheImpl as directive_definition
-use Rattle.graphql_operations.specs.in_directives.contracts.input_value.InputValueDefinitionPartialEq.TheImpl as input_value
+use Rattle.tree_operations.specs.in_directives.declared.directive.Argument.{Argument}
+use Rattle.tree_operations.specs.in_directives.declared.directive.Directive.{Directive}
+use Rattle.tree_operations.specs.in_directives.declared.directive.DirectiveList.{DirectiveList}
+use Rattle.tree_operations.specs.in_directives.declared.directive.DirectiveDefinition.{DirectiveDefinition}
+use Rattle.tree_operations.specs.in_directives.declared.directive_location.DirectiveLocation.{DirectiveLocation}
+use Rattle.tree_operations.specs.in_directives.declared.input_value.InputValueDefinition.{InputValueDefinition}
+use Rattle.tree_operations.specs.in_directives.contracts.directive_location.DirectiveLocation.{the_type}
+use Rattle.tree_operations.specs.in_directives.contracts.directive_location.DirectiveLocationPartialEq.TheImpl as location
+use Rattle.tree_operations.specs.in_directives.contracts.directive.ArgumentPartialEq.TheImpl as argument
+use Rattle.tree_operations.specs.in_directives.contracts.directive.DirectivePartialEq.TheImpl as directive
+use Rattle.tree_operations.specs.in_directives.contracts.directive.DirectiveListPartialEq.TheImpl as directive_list
+use Rattle.tree_operations.specs.in_directives.contracts.directive.DirectiveDefinitionPartialEq.TheImpl as directive_definition
+use Rattle.tree_operations.specs.in_directives.contracts.input_value.InputValueDefinitionPartialEq.TheImpl as input_value
 
 abbrev pub argument_eq : Argument → Argument → Bool
 argument_eq = argument.ghosts.eq

@@ -3,23 +3,23 @@ use Rattle.std.proofs.Common.{◌≡◌, Bool, ap}
 use Rattle.std.specs.Bool.{Decides}
 use denote.Enum.Bare.{same_true, true_same}
 use Rattle.graphql_names.specs.Placed.{name_tree, unplaced_text}
-use Rattle.graphql_literals.specs.TypeTree.{type_tree, unplaced_type}
-use Rattle.graphql_literals.specs.ValueTree.{value_tree, unplaced_value}
-use Rattle.graphql_operations.specs.OperationTree.{VariableDefinitionTree, OperationTree, FragmentTree, variable_definition_tree, operation_tree, fragment_tree, unplaced_variable_definition, unplaced_operation, unplaced_fragment}
+use Rattle.tree_literals.specs.TypeTree.{type_tree, unplaced_type}
+use Rattle.tree_literals.specs.ValueTree.{value_tree, unplaced_value}
+use Rattle.tree_operations.specs.OperationTree.{VariableDefinitionTree, OperationTree, FragmentTree, variable_definition_tree, operation_tree, fragment_tree, unplaced_variable_definition, unplaced_operation, unplaced_fragment}
 use Rattle.graphql_values.proofs.Decided.{through, pair_decides, name_decides, node_decides, nodes_decide, options_decide}
 use Rattle.graphql_values.proofs.TypeEquality.{type_eq, type_eq-Decides}
 use Rattle.graphql_values.proofs.ValueEquality.{value_eq, value_eq-Decides}
 use Rattle.graphql_values.proofs.DirectiveEquality.{directive_list_eq-Decides}
 use Rattle.graphql_values.proofs.SelectionEquality.{selections_decide}
-use Rattle.graphql_operations.specs.in_directives.declared.operation_type.OperationType.{OperationType}
-use Rattle.graphql_operations.specs.declared.operation.VariableDefinition.{VariableDefinition}
-use Rattle.graphql_operations.specs.declared.operation.OperationDefinition.{OperationDefinition}
-use Rattle.graphql_operations.specs.declared.operation.FragmentDefinition.{FragmentDefinition}
-use Rattle.graphql_directives.specs.contracts.operation_type.OperationType.{the_type}
-use Rattle.graphql_directives.specs.contracts.operation_type.OperationTypePartialEq.TheImpl as operation_type
-use Rattle.graphql_operations.specs.contracts.operation.VariableDefinitionPartialEq.TheImpl as variable
-use Rattle.graphql_operations.specs.contracts.operation.OperationDefinitionPartialEq.TheImpl as operation
-use Rattle.graphql_operations.specs.contracts.operation.FragmentDefinitionPartialEq.TheImpl as fragment
+use Rattle.tree_operations.specs.in_directives.declared.operation_type.OperationType.{OperationType}
+use Rattle.tree_operations.specs.declared.operation.VariableDefinition.{VariableDefinition}
+use Rattle.tree_operations.specs.declared.operation.OperationDefinition.{OperationDefinition}
+use Rattle.tree_operations.specs.declared.operation.FragmentDefinition.{FragmentDefinition}
+use Rattle.tree_directives.specs.contracts.operation_type.OperationType.{the_type}
+use Rattle.tree_directives.specs.contracts.operation_type.OperationTypePartialEq.TheImpl as operation_type
+use Rattle.tree_operations.specs.contracts.operation.VariableDefinitionPartialEq.TheImpl as variable
+use Rattle.tree_operations.specs.contracts.operation.OperationDefinitionPartialEq.TheImpl as operation
+use Rattle.tree_operations.specs.contracts.operation.FragmentDefinitionPartialEq.TheImpl as fragment
 
 abbrev pub operation_type_eq : OperationType → OperationType → Bool
 operation_type_eq = operation_type.ghosts.eq

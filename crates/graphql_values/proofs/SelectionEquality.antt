@@ -5,26 +5,26 @@ use Rattle.std.specs.Cmp.Lexicographic.{pointwise}
 use Rattle.std.specs.Option.{option_map}
 use Rattle.graphql_names.specs.Node.{content, place}
 use Rattle.graphql_names.specs.Placed.{Place, name_tree, unplaced_text}
-use Rattle.graphql_operations.specs.in_directives.DirectiveTree.{argument_tree, directives_tree, unplaced_argument}
-use Rattle.graphql_operations.specs.SelectionTree.{SelectionTree, FieldTree, SpreadTree, InlineTree, SelectionTrees, FieldHead, selection_then, selection_trees, selection_tree, AtPlace, selection_step, field_step, inline_step, unplaced_selection, unplaced_selections}
-use Rattle.graphql_operations.specs.SelectionParts.{field_head, field_tree, spread_tree, inline_tree}
+use Rattle.tree_operations.specs.in_directives.DirectiveTree.{argument_tree, directives_tree, unplaced_argument}
+use Rattle.tree_operations.specs.SelectionTree.{SelectionTree, FieldTree, SpreadTree, InlineTree, SelectionTrees, FieldHead, selection_then, selection_trees, selection_tree, AtPlace, selection_step, field_step, inline_step, unplaced_selection, unplaced_selections}
+use Rattle.tree_operations.specs.SelectionParts.{field_head, field_tree, spread_tree, inline_tree}
 use Rattle.graphql_values.proofs.Decided.{Each, through, carried, pair_decides, name_decides, nodes_decide, options_decide}
-use Rattle.graphql_operations.proofs.SelectionTrees.{selection_trees-map, field_at, inline_at}
+use Rattle.tree_operations.proofs.SelectionTrees.{selection_trees-map, field_at, inline_at}
 use Rattle.graphql_values.proofs.DirectiveEquality.{argument_eq, argument_eq-Decides, directive_list_eq-Decides}
-use Rattle.graphql_operations.specs.declared.selection.Selection.{Selection}
-use Rattle.graphql_operations.specs.declared.selection.Field.{Field}
-use Rattle.graphql_operations.specs.declared.selection.FragmentSpread.{FragmentSpread}
-use Rattle.graphql_operations.specs.declared.selection.InlineFragment.{InlineFragment}
-use Rattle.graphql_operations.specs.declared.selection.Selection.TheOpen.{Selection-F, Field-F, InlineFragment-F, Field as FieldOf, FragmentSpread as SpreadOf, InlineFragment as InlineOf}
-use Rattle.graphql_operations.specs.declared.selection.Selection.TheViews.{out-Selection, roll-Selection, out-roll-Selection, roll-Field, out-roll-Field, roll-InlineFragment, out-roll-InlineFragment}
-use Rattle.graphql_operations.specs.declared.selection.Selection.TheFolds.{map-Selection, map-Field, map-InlineFragment, fold_out-Selection, fold_out-Field, fold_out-InlineFragment, ind-Selection, ind-Field, ind-InlineFragment}
-use Rattle.graphql_operations.specs.contracts.selection.SelectionPartialEq.TheImpl as selection
-use Rattle.graphql_operations.specs.contracts.selection.SelectionPartialEq.TheImpl.Laws as selection_laws
-use Rattle.graphql_operations.specs.contracts.selection.FieldPartialEq.TheImpl as field
-use Rattle.graphql_operations.specs.contracts.selection.FieldPartialEq.TheImpl.Laws as field_laws
-use Rattle.graphql_operations.specs.contracts.selection.InlineFragmentPartialEq.TheImpl as inline
-use Rattle.graphql_operations.specs.contracts.selection.InlineFragmentPartialEq.TheImpl.Laws as inline_laws
-use Rattle.graphql_operations.specs.contracts.selection.FragmentSpreadPartialEq.TheImpl as spread
+use Rattle.tree_operations.specs.declared.selection.Selection.{Selection}
+use Rattle.tree_operations.specs.declared.selection.Field.{Field}
+use Rattle.tree_operations.specs.declared.selection.FragmentSpread.{FragmentSpread}
+use Rattle.tree_operations.specs.declared.selection.InlineFragment.{InlineFragment}
+use Rattle.tree_operations.specs.declared.selection.Selection.TheOpen.{Selection-F, Field-F, InlineFragment-F, Field as FieldOf, FragmentSpread as SpreadOf, InlineFragment as InlineOf}
+use Rattle.tree_operations.specs.declared.selection.Selection.TheViews.{out-Selection, roll-Selection, out-roll-Selection, roll-Field, out-roll-Field, roll-InlineFragment, out-roll-InlineFragment}
+use Rattle.tree_operations.specs.declared.selection.Selection.TheFolds.{map-Selection, map-Field, map-InlineFragment, fold_out-Selection, fold_out-Field, fold_out-InlineFragment, ind-Selection, ind-Field, ind-InlineFragment}
+use Rattle.tree_operations.specs.contracts.selection.SelectionPartialEq.TheImpl as selection
+use Rattle.tree_operations.specs.contracts.selection.SelectionPartialEq.TheImpl.Laws as selection_laws
+use Rattle.tree_operations.specs.contracts.selection.FieldPartialEq.TheImpl as field
+use Rattle.tree_operations.specs.contracts.selection.FieldPartialEq.TheImpl.Laws as field_laws
+use Rattle.tree_operations.specs.contracts.selection.InlineFragmentPartialEq.TheImpl as inline
+use Rattle.tree_operations.specs.contracts.selection.InlineFragmentPartialEq.TheImpl.Laws as inline_laws
+use Rattle.tree_operations.specs.contracts.selection.FragmentSpreadPartialEq.TheImpl as spread
 
 abbrev pub selection_eq : Selection → Selection → Bool
 selection_eq = selection.ghosts.eq

@@ -2,14 +2,14 @@
 use Rattle.std.proofs.Common.{◌≡◌, Bool, refl, ap, ◌∙◌, subst}
 use Rattle.std.specs.Bool.{Decides}
 use Rattle.graphql_names.specs.Placed.{Place, name_tree}
-use Rattle.graphql_literals.specs.TypeTree.{TypeTree, NamedTree, NonNullNamedTree, ListTree, NonNullListTree, type_tree, type_tree_step, unplaced_type}
+use Rattle.tree_literals.specs.TypeTree.{TypeTree, NamedTree, NonNullNamedTree, ListTree, NonNullListTree, type_tree, type_tree_step, unplaced_type}
 use Rattle.graphql_values.proofs.Decided.{through, carried, name_decides}
-use Rattle.graphql_literals.specs.declared.ty.«Type».{«Type»}
-use Rattle.graphql_literals.specs.declared.ty.«Type».TheOpen.{Type-F, Named, NonNullNamed, List, NonNullList}
-use Rattle.graphql_literals.specs.declared.ty.«Type».TheViews.{out-Type, roll-Type, out-roll-Type, parts_is-Type}
-use Rattle.graphql_literals.specs.declared.ty.«Type».TheFolds.{map-Type, fold_out-Type, ind-Type}
-use Rattle.graphql_literals.specs.contracts.ty.TypePartialEq.TheImpl as eq
-use Rattle.graphql_literals.specs.contracts.ty.TypePartialEq.TheImpl.Laws as eq_laws
+use Rattle.tree_literals.specs.declared.ty.«Type».{«Type»}
+use Rattle.tree_literals.specs.declared.ty.«Type».TheOpen.{Type-F, Named, NonNullNamed, List, NonNullList}
+use Rattle.tree_literals.specs.declared.ty.«Type».TheViews.{out-Type, roll-Type, out-roll-Type, parts_is-Type}
+use Rattle.tree_literals.specs.declared.ty.«Type».TheFolds.{map-Type, fold_out-Type, ind-Type}
+use Rattle.tree_literals.specs.contracts.ty.TypePartialEq.TheImpl as eq
+use Rattle.tree_literals.specs.contracts.ty.TypePartialEq.TheImpl.Laws as eq_laws
 
 abbrev pub type_eq : «Type» → «Type» → Bool
 type_eq = eq.ghosts.eq

@@ -2,35 +2,35 @@ pub mod ValueLayout
 pub mod Writable
 pub mod OperationQueries
 pub use Rattle.graphql_names.specs.Placed
-pub use Rattle.graphql_operations.specs.in_printing.Joined
-pub use Rattle.graphql_operations.specs.in_printing.Puts
-pub use Rattle.graphql_operations.specs.in_printing.Shown
-pub use Rattle.graphql_operations.specs.in_printing.Levels
-pub use Rattle.graphql_operations.specs.in_printing.EscapeRuns
-pub use Rattle.graphql_operations.specs.in_printing.LineLayout
-pub use Rattle.graphql_operations.specs.in_printing.StringLayout
-pub use Rattle.graphql_operations.specs.in_printing.Serialized
-pub use Rattle.graphql_literals.specs.NumberSyntax
-pub use Rattle.graphql_literals.specs.NumberValue
-pub use Rattle.graphql_literals.specs.TypeTree
-pub use Rattle.graphql_literals.specs.ValueTree
-pub use Rattle.graphql_literals.specs.TypeQueries
-pub use Rattle.graphql_literals.specs.ValueQueries
-pub use Rattle.graphql_literals.specs.ValueWritable
-pub use Rattle.graphql_operations.specs.in_directives.DirectiveTree
-pub use Rattle.graphql_operations.specs.in_directives.DirectiveQueries
-pub use Rattle.graphql_operations.specs.in_directives.DirectiveNodes
-pub use Rattle.graphql_operations.specs.in_directives.DirectivePlaces
-pub use Rattle.graphql_operations.specs.in_directives.NamedNodes
-pub use Rattle.graphql_operations.specs.in_directives.DirectiveLayout
-pub use Rattle.graphql_operations.specs.in_directives.InputLayout
-pub use Rattle.graphql_operations.specs.in_directives.DirectiveWritable
-pub use Rattle.graphql_operations.specs.SelectionTree
-pub use Rattle.graphql_operations.specs.SelectionParts
-pub use Rattle.graphql_operations.specs.OperationTree
-pub use Rattle.graphql_operations.specs.OperationLayout
-pub use Rattle.graphql_operations.specs.OperationWritable
-pub use Rattle.graphql_operations.specs.in_directives as in_directives
-pub use Rattle.graphql_literals.specs as in_literals
+pub use Rattle.tree_operations.specs.in_printing.Joined
+pub use Rattle.tree_operations.specs.in_printing.Puts
+pub use Rattle.tree_operations.specs.in_printing.Shown
+pub use Rattle.tree_operations.specs.in_printing.Levels
+pub use Rattle.tree_operations.specs.in_printing.EscapeRuns
+pub use Rattle.tree_operations.specs.in_printing.LineLayout
+pub use Rattle.tree_operations.specs.in_printing.StringLayout
+pub use Rattle.tree_operations.specs.in_printing.Serialized
+pub use Rattle.tree_literals.specs.NumberSyntax
+pub use Rattle.tree_literals.specs.NumberValue
+pub use Rattle.tree_literals.specs.TypeTree
+pub use Rattle.tree_literals.specs.ValueTree
+pub use Rattle.tree_literals.specs.TypeQueries
+pub use Rattle.tree_literals.specs.ValueQueries
+pub use Rattle.tree_literals.specs.ValueWritable
+pub use Rattle.tree_operations.specs.in_directives.DirectiveTree
+pub use Rattle.tree_operations.specs.in_directives.DirectiveQueries
+pub use Rattle.tree_operations.specs.in_directives.DirectiveNodes
+pub use Rattle.tree_operations.specs.in_directives.DirectivePlaces
+pub use Rattle.tree_operations.specs.in_directives.NamedNodes
+pub use Rattle.tree_operations.specs.in_directives.DirectiveLayout
+pub use Rattle.tree_operations.specs.in_directives.InputLayout
+pub use Rattle.tree_operations.specs.in_directives.DirectiveWritable
+pub use Rattle.tree_operations.specs.SelectionTree
+pub use Rattle.tree_operations.specs.SelectionParts
+pub use Rattle.tree_operations.specs.OperationTree
+pub use Rattle.tree_operations.specs.OperationLayout
+pub use Rattle.tree_operations.specs.OperationWritable
+pub use Rattle.tree_operations.specs.in_directives as in_directives
+pub use Rattle.tree_literals.specs as in_literals
 pub use Rattle.graphql_names.specs as in_names
-pub use Rattle.graphql_operations.specs as in_operations
+pub use Rattle.tree_operations.specs as in_operations

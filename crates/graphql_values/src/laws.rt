@@ -1,24 +1,24 @@
 //! Laws of the trees, each on the contract of a call: assignable types are ordered, what is written through a borrow stands in
 //! the list, and `==` is the sameness of two trees whatever their places.
 ghost use Rattle.std.specs.Prelude.{◌≡◌, ◌↔◌, IsTrue, IfOk, None, Some, if◌then◌else◌, filter, is_some, slice_get, slice_set};
-ghost use Rattle.graphql_operations.specs.in_directives.DirectiveNodes.{node_has_name};
-ghost use Rattle.graphql_operations.specs.in_directives.NamedNodes.{nth_place};
-ghost use Rattle.graphql_literals.specs.TypeTree.{type_tree, unplaced_type};
-ghost use Rattle.graphql_literals.specs.TypeQueries.{AreTypesCompatible};
-ghost use Rattle.graphql_literals.specs.ValueTree.{value_tree, unplaced_value};
-ghost use Rattle.graphql_operations.specs.in_directives.DirectiveTree.{argument_tree, directive_tree, directives_tree, input_value_tree, directive_definition_tree, unplaced_argument, unplaced_directive, unplaced_directives, unplaced_input_value, unplaced_directive_definition};
-ghost use Rattle.graphql_operations.specs.SelectionTree.{selection_tree, unplaced_selection};
-ghost use Rattle.graphql_operations.specs.SelectionParts.{field_tree, spread_tree, inline_tree};
-ghost use Rattle.graphql_operations.specs.OperationTree.{variable_definition_tree, operation_tree, fragment_tree, unplaced_variable_definition, unplaced_operation, unplaced_fragment};
+ghost use Rattle.tree_operations.specs.in_directives.DirectiveNodes.{node_has_name};
+ghost use Rattle.tree_operations.specs.in_directives.NamedNodes.{nth_place};
+ghost use Rattle.tree_literals.specs.TypeTree.{type_tree, unplaced_type};
+ghost use Rattle.tree_literals.specs.TypeQueries.{AreTypesCompatible};
+ghost use Rattle.tree_literals.specs.ValueTree.{value_tree, unplaced_value};
+ghost use Rattle.tree_operations.specs.in_directives.DirectiveTree.{argument_tree, directive_tree, directives_tree, input_value_tree, directive_definition_tree, unplaced_argument, unplaced_directive, unplaced_directives, unplaced_input_value, unplaced_directive_definition};
+ghost use Rattle.tree_operations.specs.SelectionTree.{selection_tree, unplaced_selection};
+ghost use Rattle.tree_operations.specs.SelectionParts.{field_tree, spread_tree, inline_tree};
+ghost use Rattle.tree_operations.specs.OperationTree.{variable_definition_tree, operation_tree, fragment_tree, unplaced_variable_definition, unplaced_operation, unplaced_fragment};
 
-use graphql_literals::{IntValue, Type, Value};
 use graphql_names::Node;
-use graphql_operations::{
+use std::alloc::{AllocError, Global};
+use tree_literals::{IntValue, Type, Value};
+use tree_operations::{
     Argument, Directive, DirectiveDefinition, DirectiveList, Field, FragmentDefinition,
     FragmentSpread, InlineFragment, InputValueDefinition, OperationDefinition, Selection,
     VariableDefinition, get_named_mut,
 };
-use std::alloc::{AllocError, Global};
 
 /// `is_assignable_to` is reflexive, transitive, and antisymmetric but for places.
 pub fn assignable_types_are_ordered(a: &Type, b: &Type, c: &Type)

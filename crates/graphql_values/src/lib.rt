@@ -1,22 +1,22 @@
 //! Types, values, directives, selections and operations, which documents and schemas are made of, and
 //! the base of the printer: the face of the crates that hold them, and the laws of their trees.
 //!
-//! The printer's base is `graphql_printing`; types and values are in `graphql_literals`, arguments, directives and the
-//! definitions of input values in `graphql_directives`, selections and operations in `graphql_operations`.
+//! The printer's base is `tree_printing`; types and values are in `tree_literals`, arguments, directives and the
+//! definitions of input values in `tree_directives`, selections and operations in `tree_operations`.
 //!
 //! For the layer above: contracts see each of these as a plain tree (`Placed`, `ValueTree` and their neighbours, which
 //! `specs/Lib.antt` names); equality and hash are those of the trees without places; what is printed is the layout of
 //! the tree.
 //!
-//! Begin with `laws.rt`, and with `specs/ValueTree.antt` and `value.rt` of `graphql_literals`.
+//! Begin with `laws.rt`, and with `specs/ValueTree.antt` and `value.rt` of `tree_literals`.
 #![tactic(auto)]
 
 pub mod laws;
 mod ty_macro;
 
-pub use graphql_literals::{FloatValue, IntValue, NamedType, Type, Value, can_be_enum, put_type};
 pub use graphql_names::{FileId, Name, Node, NodeStr, SourceSpan};
-pub use graphql_operations::{
+pub use tree_literals::{FloatValue, IntValue, NamedType, Type, Value, can_be_enum, put_type};
+pub use tree_operations::{
     Argument, ArgumentByNameError, Cause, Directive, DirectiveDefinition, DirectiveList,
     DirectiveLocation, Field, FragmentDefinition, FragmentSpread, InlineFragment,
     InputValueDefinition, Level, Named, NamedDirectives, OperationDefinition, OperationType,

@@ -1,8 +1,8 @@
 use Rattle.std.proofs.Common.{◌≡◌, ◌++◌, length, map}
 use Rattle.std.specs.Vec.Iter.{into_iter_items, into_iter_len}
-use Rattle.graphql_typing.specs.FaultView.{fault_of}
+use Rattle.document_typing.specs.FaultView.{fault_of}
 use Rattle.graphql_faults.specs.DetailsView.{diagnostics_of}
-use Rattle.graphql_verdict.specs.Says.{of_typing}
+use Rattle.verdict_definitions.specs.Says.{of_typing}
 use Rattle.graphql_checked.proofs.build_errors.document_errors.Given as goal
 
 abbrev pub invariant-loop-place : goal.invariant-loop-place

@@ -1,10 +1,10 @@
 use Rattle.std.proofs.Common.{◌≡◌, ◌∷◌, [], ◌++◌, length, sym, ap, ◌∙◌, append_assoc, arith}
 use Rattle.std.specs.Vec.Iter.{into_iter_items}
 use Rattle.graphql_names.specs.Placed.{Place}
-use Rattle.graphql_folding.specs.FaultView.{fault_of}
-use Rattle.graphql_folding.specs.declared.build_error.BuildError.{BuildError}
+use Rattle.schema_fold.specs.FaultView.{fault_of}
+use Rattle.schema_fold.specs.declared.build_error.BuildError.{BuildError}
 use Rattle.graphql_faults.proofs.Growing.{grown_more, grown_all}
-use Rattle.graphql_verdict.specs.Says.{of_folding}
+use Rattle.verdict_definitions.specs.Says.{of_folding}
 use Rattle.graphql_checked.proofs.build_errors.schema_errors.Goals as goal
 
 pub loop-place-preserved : goal.loop-place-preserved

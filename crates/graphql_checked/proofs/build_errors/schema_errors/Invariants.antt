@@ -1,8 +1,8 @@
 use Rattle.std.proofs.Common.{◌≡◌, ◌++◌, length, map}
 use Rattle.std.specs.Vec.Iter.{into_iter_items, into_iter_len}
-use Rattle.graphql_folding.specs.FaultView.{fault_of}
+use Rattle.schema_fold.specs.FaultView.{fault_of}
 use Rattle.graphql_faults.specs.DetailsView.{diagnostics_of}
-use Rattle.graphql_verdict.specs.Says.{of_folding}
+use Rattle.verdict_definitions.specs.Says.{of_folding}
 use Rattle.graphql_checked.proofs.build_errors.schema_errors.Given as goal
 
 abbrev pub invariant-loop-place : goal.invariant-loop-place

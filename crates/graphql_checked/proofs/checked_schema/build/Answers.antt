@@ -1,10 +1,10 @@
 use Rattle.std.proofs.Common.{◌++◌, ap, subst, ◌∙◌}
-use Rattle.graphql_definitions.specs.DefinitionTree.{document_tree}
+use Rattle.tree_definitions.specs.DefinitionTree.{document_tree}
 use Rattle.graphql_schema.specs.SchemaOf.{schema_tree}
-use Rattle.graphql_typing.specs.BuilderView.{DocumentBuilder, builder_value}
-use Rattle.graphql_typing.specs.DocumentView.{meant_document}
-use Rattle.graphql_typing.specs.FaultView.{faults_of}
-use Rattle.graphql_typed_operations.specs.TypedDocument.{typed_document_tree}
+use Rattle.document_typing.specs.BuilderView.{DocumentBuilder, builder_value}
+use Rattle.document_typing.specs.DocumentView.{meant_document}
+use Rattle.document_typing.specs.FaultView.{faults_of}
+use Rattle.document_typed_operations.specs.TypedDocument.{typed_document_tree}
 use Rattle.graphql_faults.specs.DetailsView.{diagnostics_of}
 use Rattle.graphql_checked.specs.CheckedView.{CheckedSchemaParts}
 use Rattle.graphql_checked.specs.Checking.{TypesDocument}

@@ -1,8 +1,8 @@
 use Rattle.std.proofs.Common.{sym, subst, refl, ◌∙◌}
 use Rattle.graphql_schema.specs.SchemaOf.{schema_tree}
-use Rattle.graphql_typing.specs.DocumentView.{meant_document}
-use Rattle.graphql_typed_operations.specs.TypedDocument.{typed_document_tree}
-use Rattle.graphql_document_rule_definitions.specs.Told.{IsValidDocument}
+use Rattle.document_typing.specs.DocumentView.{meant_document}
+use Rattle.document_typed_operations.specs.TypedDocument.{typed_document_tree}
+use Rattle.rule_document_definitions.specs.Told.{IsValidDocument}
 use Rattle.graphql_faults.specs.DetailsView.{diagnostics_of}
 use Rattle.graphql_validation.specs.TellsDocument.{IsTypedUnder}
 use Rattle.graphql_checked.specs.CheckedView.{CheckedSchemaParts}

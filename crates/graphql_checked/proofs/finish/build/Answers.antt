@@ -1,4 +1,4 @@
-use Rattle.graphql_folding.specs.FaultView.{faults_of}
+use Rattle.schema_fold.specs.FaultView.{faults_of}
 use Rattle.graphql_schema.specs.BuilderOf.{builder_value}
 use Rattle.graphql_schema.specs.SchemaOf.{schema_tree}
 use Rattle.graphql_checked.proofs.Building.{builds}

@@ -1,6 +1,6 @@
 use Rattle.std.proofs.Common.{map, subst}
 use Rattle.std.proofs.lemmas.List.{take_all}
-use Rattle.graphql_definitions.specs.DefinitionTree.{document_tree}
+use Rattle.tree_definitions.specs.DefinitionTree.{document_tree}
 use Rattle.graphql_schema.specs.BuilderOf.{builder_value}
 use Rattle.graphql_checked.specs.Finishing.{IsFilled}
 use Rattle.graphql_checked.proofs.Filling.{filled_first, filled_more, unfilled_refusal}

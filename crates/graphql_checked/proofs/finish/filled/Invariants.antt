@@ -1,5 +1,5 @@
 use Rattle.std.proofs.Common.{map, take}
-use Rattle.graphql_definitions.specs.DefinitionTree.{document_tree}
+use Rattle.tree_definitions.specs.DefinitionTree.{document_tree}
 use Rattle.graphql_schema.specs.BuilderOf.{builder_value}
 use Rattle.graphql_checked.specs.Finishing.{IsFilled}
 use Rattle.graphql_checked.proofs.finish.filled.Given as goal

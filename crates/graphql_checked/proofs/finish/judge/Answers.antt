@@ -1,5 +1,5 @@
 use Rattle.std.proofs.lemmas.Result.{err_from_is_err_and}
-use Rattle.graphql_definitions.specs.DefinitionTree.{document_tree}
+use Rattle.tree_definitions.specs.DefinitionTree.{document_tree}
 use Rattle.graphql_schema.specs.BuilderOf.{builder_value}
 use Rattle.graphql_schema.specs.SchemaOf.{schema_tree}
 use Rattle.graphql_checked.proofs.Building.{rules_refusal, judged_schema}

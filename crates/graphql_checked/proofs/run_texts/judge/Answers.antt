@@ -1,5 +1,5 @@
 use Rattle.std.proofs.Common.{map, string_bytes}
-use Rattle.graphql_layouts.specs.Layouts.{prefix_of}
+use Rattle.checker_layouts.specs.Layouts.{prefix_of}
 use Rattle.graphql_checked.specs.Verdicts.{first_terms}
 use Rattle.graphql_checked.proofs.Verdicts.{certain_schemas}
 use Rattle.graphql_checked.proofs.Answering.{schemas_answer, memory_answer}

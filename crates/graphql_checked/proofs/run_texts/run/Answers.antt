@@ -1,7 +1,7 @@
 use Rattle.std.proofs.Common.{map, string_bytes, ap, sym, subst}
 use Rattle.std.proofs.lemmas.Result.{err_from_is_err_and}
-use Rattle.graphql_layouts.specs.Layouts.{prefix_of}
-use Rattle.graphql_answers.specs.Devices.{AreTextsOf, IsTextOf}
+use Rattle.checker_layouts.specs.Layouts.{prefix_of}
+use Rattle.checker_answers.specs.Devices.{AreTextsOf, IsTextOf}
 use Rattle.graphql_checked.specs.Run.{BytesOf}
 use Rattle.graphql_checked.specs.Verdicts.{first_terms}
 use Rattle.graphql_checked.proofs.Completing.{reader_fault, certain_fault, certain_outcome, certain_here, put_due, none_failed}

@@ -1,7 +1,7 @@
 use Rattle.std.proofs.Common.{ap, sym, subst}
 use Rattle.std.specs.Prelude.{IfOk, IfErr}
 use Rattle.std.proofs.lemmas.Result.{err_from_is_err_and, IfErr-weaker}
-use Rattle.graphql_verdict.specs.Judge.{AreSchemasCertain}
+use Rattle.verdict_definitions.specs.Judge.{AreSchemasCertain}
 use Rattle.graphql_checked.specs.CheckerValue.{CheckerValue, IsCheckedSchemaOf}
 use Rattle.graphql_checked.specs.CheckedView.{schema_value}
 use Rattle.graphql_checked.specs.CheckerAnswers.{IsFinishRefusal}

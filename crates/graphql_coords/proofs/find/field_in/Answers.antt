@@ -3,11 +3,11 @@ use Rattle.graphql_coords.specs.LookUpView.{answer}
 use Rattle.graphql_coords.specs.declared.lookup_answers.SchemaLookupError.TheVariants as error
 use Rattle.graphql_schema.proofs.Lookups.{got}
 use Rattle.graphql_coords.proofs.Answering.{answer_ok_or}
-use Rattle.graphql_type_members.specs.TypeSystemTree.{field_definition_tree}
-use Rattle.graphql_type_members.specs.declared.field_definition.FieldDefinition.{FieldDefinition}
-use Rattle.graphql_components.specs.Names.{entries_of}
-use Rattle.graphql_components.specs.Given.{component_tree}
-use Rattle.graphql_components.specs.declared.component.Component.{Component}
+use Rattle.tree_type_members.specs.TypeSystemTree.{field_definition_tree}
+use Rattle.tree_type_members.specs.declared.field_definition.FieldDefinition.{FieldDefinition}
+use Rattle.schema_components.specs.Names.{entries_of}
+use Rattle.schema_components.specs.Given.{component_tree}
+use Rattle.schema_components.specs.declared.component.Component.{Component}
 use Rattle.graphql_schema.specs.in_schema_types.TypeView.{name_text, extended_type}
 use Rattle.graphql_schema.specs.in_schema_types.Addresses.{under}
 use Rattle.graphql_coords.specs.LookUps.{field_in}

@@ -5,8 +5,8 @@ use Rattle.graphql_schema.proofs.Lookups.{got}
 use Rattle.graphql_coords.proofs.Answering.{answer_ok_or}
 use Rattle.graphql_names.specs.declared.node.Node.{Node}
 use Rattle.graphql_names.specs.Placed.{node_tree}
-use Rattle.graphql_directives.specs.DirectiveTree.{directive_definition_tree}
-use Rattle.graphql_directives.specs.declared.directive.DirectiveDefinition.{DirectiveDefinition}
+use Rattle.tree_directives.specs.DirectiveTree.{directive_definition_tree}
+use Rattle.tree_directives.specs.declared.directive.DirectiveDefinition.{DirectiveDefinition}
 use Rattle.graphql_coords.proofs.find.find_directive.Goals as goal
 
 pub returns : goal.returns

@@ -1,7 +1,7 @@
 use Rattle.std.proofs.Common.{ap, ◌∙◌}
-use Rattle.graphql_typing.specs.in_typed_operations.TypedDocument.{typed_document_tree}
-use Rattle.graphql_typing.specs.OutDoc.{written_document}
-use Rattle.graphql_typing.proofs.WrittenMeant.{document-written}
+use Rattle.document_typing.specs.in_typed_operations.TypedDocument.{typed_document_tree}
+use Rattle.document_typing.specs.OutDoc.{written_document}
+use Rattle.document_typing.proofs.WrittenMeant.{document-written}
 use Rattle.graphql_documents.proofs.laws.written_and_told.Goals as goal
 
 pub returns-clause-written : goal.returns-clause-written

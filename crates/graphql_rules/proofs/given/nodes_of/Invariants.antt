@@ -1,4 +1,4 @@
-use Rattle.graphql_use_rules.specs.Trees.{directives_of}
+use Rattle.rule_uses.specs.Trees.{directives_of}
 use Rattle.graphql_rules.specs.Given.{Each, LeadsTo}
 use Rattle.graphql_rules.proofs.given.nodes_of.Given as goal
 

@@ -1,8 +1,8 @@
 use Rattle.std.proofs.Common.{ap, map}
 use Rattle.std.proofs.lemmas.Result.{on_ok_weaker}
-use Rattle.graphql_fault_data.specs.FaultView.{fault_of, faults_of}
-use Rattle.graphql_use_rules.specs.Alone.{ArgumentsBreak}
-use Rattle.graphql_use_rules.specs.Trees.{arguments_of}
+use Rattle.fault_data.specs.FaultView.{fault_of, faults_of}
+use Rattle.rule_uses.specs.Alone.{ArgumentsBreak}
+use Rattle.rule_uses.specs.Trees.{arguments_of}
 use Rattle.graphql_rules.proofs.GivenFacts.{only_added}
 use Rattle.graphql_rules.proofs.given.validate_arguments.Goals as goal
 

@@ -1,15 +1,15 @@
 use Rattle.std.proofs.Common.{List, ap, map, sym, subst}
 use Rattle.std.proofs.lemmas.Result.{on_ok_weaker}
 use Rattle.graphql_names.specs.declared.node.Node.{Node}
-use Rattle.graphql_directives.specs.declared.directive.Directive.{Directive}
-use Rattle.graphql_operations.specs.declared.operation.VariableDefinition.{VariableDefinition}
-use Rattle.graphql_rule_definitions.specs.in_schema_types.Addresses.{place_at}
-use Rattle.graphql_rule_definitions.specs.Judged.{judged}
-use Rattle.graphql_rule_definitions.specs.Uses.{UsesBreak}
-use Rattle.graphql_fault_data.specs.FaultView.{fault_of, faults_of}
-use Rattle.graphql_fault_data.specs.Adds.{Adds}
-use Rattle.graphql_value_rules.specs.Wanting.{variables_of}
-use Rattle.graphql_use_rules.specs.Trees.{directives_of, tree_of}
+use Rattle.tree_directives.specs.declared.directive.Directive.{Directive}
+use Rattle.tree_operations.specs.declared.operation.VariableDefinition.{VariableDefinition}
+use Rattle.rule_definitions.specs.in_schema_types.Addresses.{place_at}
+use Rattle.rule_definitions.specs.Judged.{judged}
+use Rattle.rule_definitions.specs.Uses.{UsesBreak}
+use Rattle.fault_data.specs.FaultView.{fault_of, faults_of}
+use Rattle.fault_data.specs.Adds.{Adds}
+use Rattle.rule_values.specs.Wanting.{variables_of}
+use Rattle.rule_uses.specs.Trees.{directives_of, tree_of}
 use Rattle.graphql_rules.specs.Given.{Each, LeadsTo}
 use Rattle.graphql_rules.proofs.GivenFacts.{only_added}
 use Rattle.graphql_rules.proofs.given.validate_directives.Goals as goal

@@ -1,13 +1,13 @@
 use Rattle.std.proofs.Common.{List, [], ◌∷◌, map, Option, option_to_list, sym, subst, append-nil}
 use Rattle.graphql_names.specs.Placed.{node_tree}
 use Rattle.graphql_names.specs.declared.node.Node.{Node}
-use Rattle.graphql_directives.specs.DirectiveTree.{argument_tree, input_value_tree}
-use Rattle.graphql_operations.specs.declared.operation.VariableDefinition.{VariableDefinition}
-use Rattle.graphql_fault_data.specs.FaultView.{fault_of}
-use Rattle.graphql_fault_data.specs.declared.fault.Fault.{Fault}
-use Rattle.graphql_use_rules.specs.Steps.{Lists, DisallowedUsage}
+use Rattle.tree_directives.specs.DirectiveTree.{argument_tree, input_value_tree}
+use Rattle.tree_operations.specs.declared.operation.VariableDefinition.{VariableDefinition}
+use Rattle.fault_data.specs.FaultView.{fault_of}
+use Rattle.fault_data.specs.declared.fault.Fault.{Fault}
+use Rattle.rule_uses.specs.Steps.{Lists, DisallowedUsage}
 use Rattle.graphql_faults.specs.DetailsView.{diagnostics_of}
-use Rattle.graphql_value_rules.specs.Wanting.{variables_of}
+use Rattle.rule_values.specs.Wanting.{variables_of}
 use Rattle.graphql_rules.proofs.GivenFacts.{usage_told}
 use Rattle.graphql_rules.proofs.given.validate_variable_usage.Goals as goal
 

@@ -1,7 +1,7 @@
 use Rattle.std.proofs.Common.{◌&&◌, is_none, option_map, ap, sym, ◌∙◌}
-use Rattle.graphql_schema_types.specs.TypeView.{extended_type}
+use Rattle.schema_types.specs.TypeView.{extended_type}
 use Rattle.graphql_schema.specs.SchemaOf.{schema_tree}
-use Rattle.graphql_rule_definitions.specs.Kept.{is_referenced}
+use Rattle.rule_definitions.specs.Kept.{is_referenced}
 use Rattle.graphql_rules.proofs.kept.is_missing.Goals as goal
 
 pub returns-in-None : goal.returns-in-None

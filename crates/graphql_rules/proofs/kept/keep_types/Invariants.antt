@@ -1,9 +1,9 @@
 use Rattle.std.proofs.Common.{◌≡◌, map}
 use Rattle.std.specs.Prelude.{fold}
 use Rattle.graphql_names.specs.NameValue.{NameValue}
-use Rattle.graphql_schema_types.specs.declared.extended_type.ExtendedType.{ExtendedType}
-use Rattle.graphql_schema_types.specs.SchemaView.{types_view}
-use Rattle.graphql_schema_types.specs.TypeView.{name_text, extended_type}
+use Rattle.schema_types.specs.declared.extended_type.ExtendedType.{ExtendedType}
+use Rattle.schema_types.specs.SchemaView.{types_view}
+use Rattle.schema_types.specs.TypeView.{name_text, extended_type}
 use Rattle.graphql_schema.specs.SchemaOf.{schema_tree}
 use Rattle.graphql_rules.specs.Putting.{and_kept}
 use Rattle.graphql_rules.proofs.kept.keep_types.Given as goal

@@ -1,5 +1,5 @@
 use Rattle.std.proofs.Common.{map, ap, ◌∙◌}
-use Rattle.graphql_schema_types.specs.TypeView.{name_text, extended_type}
+use Rattle.schema_types.specs.TypeView.{name_text, extended_type}
 use Rattle.graphql_rules.proofs.Putting.{put-insert}
 use Rattle.graphql_rules.proofs.kept.put_type.Goals as goal
 

@@ -1,8 +1,8 @@
 use Rattle.std.proofs.Common.{◌≡◌, drop, map}
 use Rattle.std.specs.List.{list_any}
-use Rattle.graphql_type_members.specs.TypeSystemTree.{field_definition_tree}
-use Rattle.graphql_components.specs.Given.{component_tree}
-use Rattle.graphql_rule_definitions.specs.Kept.{is_inside_field}
+use Rattle.tree_type_members.specs.TypeSystemTree.{field_definition_tree}
+use Rattle.schema_components.specs.Given.{component_tree}
+use Rattle.rule_definitions.specs.Kept.{is_inside_field}
 use Rattle.graphql_rules.proofs.references.is_inside_fields.Given as goal
 
 abbrev pub invariant-loop-field : goal.invariant-loop-field

@@ -1,8 +1,8 @@
 use Rattle.std.proofs.Common.{◌≡◌, drop, map}
 use Rattle.std.specs.List.{list_any}
-use Rattle.graphql_directives.specs.DirectiveTree.{input_value_tree}
-use Rattle.graphql_components.specs.Given.{component_tree}
-use Rattle.graphql_rule_definitions.specs.Kept.{is_inside}
+use Rattle.tree_directives.specs.DirectiveTree.{input_value_tree}
+use Rattle.schema_components.specs.Given.{component_tree}
+use Rattle.rule_definitions.specs.Kept.{is_inside}
 use Rattle.graphql_rules.proofs.references.is_inside_inputs.Given as goal
 
 abbrev pub invariant-loop-field : goal.invariant-loop-field

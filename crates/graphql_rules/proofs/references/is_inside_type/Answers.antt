@@ -1,8 +1,8 @@
 use Rattle.std.proofs.Common.{ap, sym, ◌∙◌}
 use Rattle.std.specs.Map.{values_of}
 use Rattle.graphql_names.specs.Node.{content, place}
-use Rattle.graphql_schema_types.specs.TypeView.{extended_type}
-use Rattle.graphql_rule_definitions.specs.Kept.{is_inside_type}
+use Rattle.schema_types.specs.TypeView.{extended_type}
+use Rattle.rule_definitions.specs.Kept.{is_inside_type}
 use Rattle.graphql_rules.proofs.Putting.{object_inside, interface_inside, input_inside}
 use Rattle.graphql_rules.proofs.references.is_inside_type.Goals as goal
 

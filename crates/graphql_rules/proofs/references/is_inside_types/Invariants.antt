@@ -1,7 +1,7 @@
 use Rattle.std.proofs.Common.{◌≡◌, drop, map}
 use Rattle.std.specs.List.{list_any}
-use Rattle.graphql_schema_types.specs.TypeView.{extended_type}
-use Rattle.graphql_rule_definitions.specs.Kept.{is_inside_type}
+use Rattle.schema_types.specs.TypeView.{extended_type}
+use Rattle.rule_definitions.specs.Kept.{is_inside_type}
 use Rattle.graphql_rules.proofs.references.is_inside_types.Given as goal
 
 abbrev pub invariant-loop-ty : goal.invariant-loop-ty

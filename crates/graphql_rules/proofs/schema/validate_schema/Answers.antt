@@ -1,11 +1,11 @@
 use Rattle.graphql_schema.specs.SchemaOf.{schema_tree}
-use Rattle.graphql_schema_types.specs.SchemaView.{types_view}
-use Rattle.graphql_rule_definitions.specs.Judged.{judged}
-use Rattle.graphql_fault_data.specs.FaultView.{faults_of}
+use Rattle.schema_types.specs.SchemaView.{types_view}
+use Rattle.rule_definitions.specs.Judged.{judged}
+use Rattle.fault_data.specs.FaultView.{faults_of}
 use Rattle.graphql_faults.specs.DetailsView.{diagnostics_of}
 use Rattle.graphql_rules.proofs.Whole.{silent_keeps, kept_is_silent}
 use Rattle.graphql_rules.proofs.Appended.{nothing_behind, behind_nothing}
-use Rattle.graphql_schema_laws.proofs.Ordered.{ordered}
+use Rattle.rule_schema_laws.proofs.Ordered.{ordered}
 use Rattle.graphql_rules.proofs.Lawful.{left_is, ordered_left, literals_left}
 use Rattle.graphql_rules.proofs.schema.validate_schema.Goals as goal
 

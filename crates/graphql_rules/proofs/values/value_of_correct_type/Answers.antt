@@ -3,16 +3,16 @@ use Rattle.std.proofs.lemmas.Result.{on_ok_weaker}
 use Rattle.graphql_names.specs.Placed.{Place}
 use Rattle.graphql_names.specs.Node.{content, place}
 use Rattle.graphql_names.specs.declared.node.Node.{Node}
-use Rattle.graphql_literals.specs.ValueTree.{value_tree}
-use Rattle.graphql_operations.specs.declared.operation.VariableDefinition.{VariableDefinition}
+use Rattle.tree_literals.specs.ValueTree.{value_tree}
+use Rattle.tree_operations.specs.declared.operation.VariableDefinition.{VariableDefinition}
 use Rattle.graphql_schema.specs.SchemaOf.{schema_tree}
-use Rattle.graphql_rule_definitions.specs.in_schema_types.Addresses.{place_at}
-use Rattle.graphql_rule_definitions.specs.Judged.{judged}
-use Rattle.graphql_rule_definitions.specs.Values.{ValueBreaks}
-use Rattle.graphql_rule_definitions.proofs.Accepting.{accepts_where_quiet}
-use Rattle.graphql_value_rules.specs.Wanting.{wanted_type, variables_of}
-use Rattle.graphql_fault_data.specs.FaultView.{fault_of, faults_of}
-use Rattle.graphql_fault_data.specs.Adds.{Adds}
+use Rattle.rule_definitions.specs.in_schema_types.Addresses.{place_at}
+use Rattle.rule_definitions.specs.Judged.{judged}
+use Rattle.rule_definitions.specs.Values.{ValueBreaks}
+use Rattle.rule_definitions.proofs.Accepting.{accepts_where_quiet}
+use Rattle.rule_values.specs.Wanting.{wanted_type, variables_of}
+use Rattle.fault_data.specs.FaultView.{fault_of, faults_of}
+use Rattle.fault_data.specs.Adds.{Adds}
 use Rattle.graphql_faults.specs.DetailsView.{diagnostics_of}
 use Rattle.graphql_rules.proofs.Appended.{silent_where_kept}
 use Rattle.graphql_rules.proofs.GivenFacts.{only_added}

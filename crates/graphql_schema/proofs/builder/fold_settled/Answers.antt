@@ -1,8 +1,8 @@
 use Rattle.std.proofs.Common.{map, subst}
-use Rattle.graphql_schema_building.specs.in_folding.FaultView.{faults_of}
-use Rattle.graphql_schema_building.specs.in_folding.ListedView.{listed_view}
-use Rattle.graphql_list_folding.specs.FoldedView.{folded_view}
-use Rattle.graphql_list_folding.specs.ListBuilt.{Folds}
+use Rattle.schema_building.specs.in_folding.FaultView.{faults_of}
+use Rattle.schema_building.specs.in_folding.ListedView.{listed_view}
+use Rattle.schema_fold_lists.specs.FoldedView.{folded_view}
+use Rattle.schema_fold_lists.specs.ListBuilt.{Folds}
 use Rattle.graphql_schema.proofs.builder.fold_settled.Goals as goal
 
 pub returns-clause-folds : goal.returns-clause-folds

@@ -1,7 +1,7 @@
 use Rattle.graphql_names.specs.NameValue.{NameValue}
-use Rattle.graphql_schema_building.specs.in_schema_types.TypeView.{extended_type}
-use Rattle.graphql_schema_building.specs.in_schema_types.declared.extended_type.ExtendedType.{ExtendedType}
-use Rattle.graphql_schema_building.specs.in_schema_types.Distinct.{ArePartsDistinct}
+use Rattle.schema_building.specs.in_schema_types.TypeView.{extended_type}
+use Rattle.schema_building.specs.in_schema_types.declared.extended_type.ExtendedType.{ExtendedType}
+use Rattle.schema_building.specs.in_schema_types.Distinct.{ArePartsDistinct}
 use Rattle.graphql_schema.proofs.DistinctFacts.{each_push}
 use Rattle.graphql_schema.proofs.distinct.each_differ.Goals as goal
 

@@ -3,15 +3,15 @@ use Rattle.std.specs.List.{IsDistinct}
 use Rattle.std.specs.Map.{keys_of}
 use Rattle.std.specs.Str.{bytes_eq}
 use Rattle.graphql_names.specs.Node.{content, place}
-use Rattle.graphql_components.specs.Names.{same_text}
-use Rattle.graphql_schema_building.specs.in_schema_types.TypeView.{name_text, extended_type}
-use Rattle.graphql_schema_building.specs.in_schema_types.declared.extended_type.ExtendedType.{ExtendedType}
-use Rattle.graphql_schema_building.specs.in_schema_types.declared.kinds.ObjectType.{ObjectType}
-use Rattle.graphql_schema_building.specs.in_schema_types.declared.kinds.InterfaceType.{InterfaceType}
-use Rattle.graphql_schema_building.specs.in_schema_types.declared.kinds.UnionType.{UnionType}
-use Rattle.graphql_schema_building.specs.in_schema_types.declared.kinds.EnumType.{EnumType}
-use Rattle.graphql_schema_building.specs.in_schema_types.declared.kinds.InputObjectType.{InputObjectType}
-use Rattle.graphql_schema_building.specs.in_schema_types.Distinct.{ArePartsDistinct}
+use Rattle.schema_components.specs.Names.{same_text}
+use Rattle.schema_building.specs.in_schema_types.TypeView.{name_text, extended_type}
+use Rattle.schema_building.specs.in_schema_types.declared.extended_type.ExtendedType.{ExtendedType}
+use Rattle.schema_building.specs.in_schema_types.declared.kinds.ObjectType.{ObjectType}
+use Rattle.schema_building.specs.in_schema_types.declared.kinds.InterfaceType.{InterfaceType}
+use Rattle.schema_building.specs.in_schema_types.declared.kinds.UnionType.{UnionType}
+use Rattle.schema_building.specs.in_schema_types.declared.kinds.EnumType.{EnumType}
+use Rattle.schema_building.specs.in_schema_types.declared.kinds.InputObjectType.{InputObjectType}
+use Rattle.schema_building.specs.in_schema_types.Distinct.{ArePartsDistinct}
 use Rattle.graphql_schema.proofs.DistinctFacts.{scalar_parts, object_parts, interface_parts, union_parts, enum_parts, input_parts}
 use Rattle.graphql_schema.proofs.distinct.parts_differ.Goals as goal
 

@@ -1,11 +1,11 @@
 use Rattle.std.proofs.Common.{sym, ap, ◌∙◌}
-use Rattle.graphql_type_members.specs.TypeSystemTree.{field_definition_tree}
-use Rattle.graphql_components.specs.Names.{entries_of}
-use Rattle.graphql_components.specs.Given.{component_tree}
-use Rattle.graphql_schema_building.specs.in_schema_types.TypeView.{name_text, extended_type}
-use Rattle.graphql_schema_building.specs.in_schema_types.Addresses.{under}
-use Rattle.graphql_schema_building.specs.in_schema_types.declared.kinds.ObjectType.{ObjectType}
-use Rattle.graphql_schema_building.specs.in_schema_types.declared.kinds.InterfaceType.{InterfaceType}
+use Rattle.tree_type_members.specs.TypeSystemTree.{field_definition_tree}
+use Rattle.schema_components.specs.Names.{entries_of}
+use Rattle.schema_components.specs.Given.{component_tree}
+use Rattle.schema_building.specs.in_schema_types.TypeView.{name_text, extended_type}
+use Rattle.schema_building.specs.in_schema_types.Addresses.{under}
+use Rattle.schema_building.specs.in_schema_types.declared.kinds.ObjectType.{ObjectType}
+use Rattle.schema_building.specs.in_schema_types.declared.kinds.InterfaceType.{InterfaceType}
 use Rattle.graphql_schema.proofs.Lookups.{got}
 use Rattle.graphql_schema.proofs.field_lookup.field_of.Goals as goal
 

@@ -4,9 +4,9 @@ use Rattle.std.proofs.lemmas.Result.{IfOk-weaker}
 use Rattle.indexmap.specs.IndexMap.{get}
 use Rattle.indexmap.specs.Entry.{map_with_value, entry_value}
 use Rattle.graphql_names.specs.NameValue.{NameValue}
-use Rattle.graphql_components.specs.Names.{same_text}
-use Rattle.graphql_components.specs.Given.{component_name_tree}
-use Rattle.graphql_schema_building.specs.in_schema_types.TypeView.{name_text}
+use Rattle.schema_components.specs.Names.{same_text}
+use Rattle.schema_components.specs.Given.{component_name_tree}
+use Rattle.schema_building.specs.in_schema_types.TypeView.{name_text}
 use Rattle.graphql_schema.specs.Noting.{and_type, naming}
 use Rattle.graphql_schema.specs.ImplementersView.{implementers_tree}
 use Rattle.graphql_schema.proofs.Implementing.{noted, or_nobody}

@@ -2,8 +2,8 @@ use Rattle.std.proofs.Common.{◌<◌, ◌∷◌, [], ◌++◌, map, take, lengt
 use Rattle.std.specs.Prelude.{fold}
 use Rattle.std.proofs.lemmas.List.{map_more, map-append, take_all}
 use Rattle.std.proofs.lemmas.Grind.{fold-append}
-use Rattle.graphql_components.specs.Given.{component_name_tree}
-use Rattle.graphql_schema_building.specs.in_schema_types.TypeView.{extended_type}
+use Rattle.schema_components.specs.Given.{component_name_tree}
+use Rattle.schema_building.specs.in_schema_types.TypeView.{extended_type}
 use Rattle.graphql_schema.specs.Noting.{and_naming, naming}
 use Rattle.graphql_schema.specs.ImplementersView.{implementers_at}
 use Rattle.graphql_schema.proofs.implementers.note_type.Goals as goal

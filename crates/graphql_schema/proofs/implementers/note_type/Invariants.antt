@@ -1,7 +1,7 @@
 use Rattle.std.proofs.Common.{◌≡◌, map, take}
 use Rattle.std.specs.Prelude.{fold}
 use Rattle.graphql_names.specs.NameValue.{NameValue}
-use Rattle.graphql_components.specs.Given.{component_name_tree}
+use Rattle.schema_components.specs.Given.{component_name_tree}
 use Rattle.graphql_schema.specs.Noting.{and_naming, naming}
 use Rattle.graphql_schema.specs.ImplementersView.{implementers_at}
 use Rattle.graphql_schema.proofs.implementers.note_type.Given as goal

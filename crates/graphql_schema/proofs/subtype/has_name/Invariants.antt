@@ -1,6 +1,6 @@
 use Rattle.std.proofs.Common.{◌≡◌, drop, map}
-use Rattle.graphql_components.specs.Lists.{is_among}
-use Rattle.graphql_components.specs.Given.{component_name_tree, given_name}
+use Rattle.schema_components.specs.Lists.{is_among}
+use Rattle.schema_components.specs.Given.{component_name_tree, given_name}
 use Rattle.graphql_schema.proofs.subtype.has_name.Given as goal
 
 abbrev pub invariant-loop-component : goal.invariant-loop-component

@@ -1,15 +1,15 @@
 use Rattle.std.proofs.Common.{◌∙◌, ◌∷◌, [], ◌++◌, map, subst}
-use Rattle.graphql_fault_data.specs.FaultView.{faults_of}
-use Rattle.graphql_fault_data.specs.Adds.{Adds}
+use Rattle.fault_data.specs.FaultView.{faults_of}
+use Rattle.fault_data.specs.Adds.{Adds}
 use Rattle.graphql_names.specs.Placed.{Place}
-use Rattle.graphql_typed_operations.specs.OperationsByName.{left_operations}
-use Rattle.graphql_meant_documents.specs.MeantTree.{MeantOperation}
-use Rattle.graphql_rule_definitions.specs.Words.{AtSomeIndex}
-use Rattle.graphql_document_rule_definitions.specs.Selected.{operations}
-use Rattle.graphql_fragment_cycles.specs.Used.{names_of}
-use Rattle.graphql_rule_definitions.proofs.Listing.{gains_none, gains_more, gains_same}
-use Rattle.graphql_reach.proofs.AtReaches.{some_index}
-use Rattle.graphql_subscription_rules.specs.Told.{document_meant, operation_meant}
+use Rattle.document_typed_operations.specs.OperationsByName.{left_operations}
+use Rattle.document_meaning.specs.MeantTree.{MeantOperation}
+use Rattle.rule_definitions.specs.Words.{AtSomeIndex}
+use Rattle.rule_document_definitions.specs.Selected.{operations}
+use Rattle.rule_fragment_cycles.specs.Used.{names_of}
+use Rattle.rule_definitions.proofs.Listing.{gains_none, gains_more, gains_same}
+use Rattle.rule_reach.proofs.AtReaches.{some_index}
+use Rattle.rule_subscriptions.specs.Told.{document_meant, operation_meant}
 use Rattle.graphql_validation.specs.Operations.{OperationFailsAlone, ReachesNamed, NotesNames}
 use Rattle.graphql_validation.proofs.Noting.{notes_none, notes_more, notes_same}
 use Rattle.graphql_validation.proofs.Operations.{lent_operation, lent_operations, all_operations, one_behind, lent_more, lent_all}

@@ -1,14 +1,14 @@
 use Rattle.std.proofs.Common.{◌≡◌, ◌∙◌, ◌∷◌, [], ◌++◌, map, sym, subst, Contains}
 use Rattle.std.specs.Prelude.{IsTrue}
-use Rattle.graphql_document_rule_definitions.specs.Merging.{FieldsMerge}
-use Rattle.graphql_document_rule_definitions.specs.Selected.{operations}
+use Rattle.rule_document_definitions.specs.Merging.{FieldsMerge}
+use Rattle.rule_document_definitions.specs.Selected.{operations}
 use Rattle.graphql_faults.specs.DetailsView.{diagnostics_of}
-use Rattle.graphql_meant_documents.specs.MeantTree.{MeantDocument}
+use Rattle.document_meaning.specs.MeantTree.{MeantDocument}
 use Rattle.graphql_names.specs.Placed.{Place}
-use Rattle.graphql_rule_definitions.specs.Judged.{Judged, judged}
+use Rattle.rule_definitions.specs.Judged.{Judged, judged}
 use Rattle.graphql_schema.specs.SchemaOf.{schema_tree}
-use Rattle.graphql_subscription_rules.specs.Told.{document_meant, operation_meant}
-use Rattle.graphql_typed_operations.specs.OperationsByName.{left_operations}
+use Rattle.rule_subscriptions.specs.Told.{document_meant, operation_meant}
+use Rattle.document_typed_operations.specs.OperationsByName.{left_operations}
 use Rattle.graphql_validation.specs.Merged.{MergingTold}
 use Rattle.graphql_validation.specs.Merger.{merger_of}
 use Rattle.graphql_validation.proofs.MergedOperations.{merging_none, merging_more, merging_begins, so_far_none, so_far_more}

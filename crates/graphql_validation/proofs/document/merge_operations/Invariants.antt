@@ -1,10 +1,10 @@
 use Rattle.std.proofs.Common.{◌≡◌, ◌++◌, map}
-use Rattle.graphql_document_rule_definitions.specs.Selected.{operations}
+use Rattle.rule_document_definitions.specs.Selected.{operations}
 use Rattle.graphql_faults.specs.DetailsView.{diagnostics_of}
-use Rattle.graphql_rule_definitions.specs.Judged.{judged}
+use Rattle.rule_definitions.specs.Judged.{judged}
 use Rattle.graphql_schema.specs.SchemaOf.{schema_tree}
-use Rattle.graphql_subscription_rules.specs.Told.{document_meant, operation_meant}
-use Rattle.graphql_typed_operations.specs.OperationsByName.{left_operations}
+use Rattle.rule_subscriptions.specs.Told.{document_meant, operation_meant}
+use Rattle.document_typed_operations.specs.OperationsByName.{left_operations}
 use Rattle.graphql_validation.specs.Merged.{DocumentMergingTold}
 use Rattle.graphql_validation.specs.Merger.{merger_of}
 use Rattle.graphql_validation.proofs.MergedOperations.{MergeSoFar}

@@ -1,6 +1,6 @@
 use Rattle.std.proofs.Common.{◌∙◌, ap}
-use Rattle.graphql_typed_selections.specs.TypedTree.{typed_set_tree}
-use Rattle.graphql_typed_operations.specs.TypedDocument.{typed_operation_tree}
+use Rattle.document_typed_selections.specs.TypedTree.{typed_set_tree}
+use Rattle.document_typed_operations.specs.TypedDocument.{typed_operation_tree}
 use Rattle.graphql_validation.proofs.OneSet.{document_of_one}
 use Rattle.graphql_validation.proofs.field_set.document_of_set.Goals as goal
 

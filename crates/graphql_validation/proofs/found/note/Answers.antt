@@ -2,8 +2,8 @@ use Rattle.std.proofs.Common.{map, ap, ◌∙◌}
 use Rattle.std.specs.Str.{bytes_eq}
 use Rattle.indexmap.specs.IndexSet.{insert_key}
 use Rattle.graphql_names.specs.NameValue.{NameValue}
-use Rattle.graphql_fragment_cycles.specs.Used.{names_of}
-use Rattle.graphql_variable_rules.proofs.Names.{inserted}
+use Rattle.rule_fragment_cycles.specs.Used.{names_of}
+use Rattle.rule_variables.proofs.Names.{inserted}
 use Rattle.graphql_validation.proofs.found.note.Goals as goal
 
 pub returns : goal.returns

@@ -1,5 +1,5 @@
-use Rattle.graphql_reach.specs.Broken.{brokens_of}
-use Rattle.graphql_subscription_rules.specs.Told.{document_meant}
+use Rattle.rule_reach.specs.Broken.{brokens_of}
+use Rattle.rule_subscriptions.specs.Told.{document_meant}
 use Rattle.graphql_validation.proofs.Subscribed.{tells_breaches}
 use Rattle.graphql_validation.proofs.under_schema.breaches_under.Goals as goal
 

@@ -1,15 +1,15 @@
 use Rattle.std.proofs.Common.{refl, subst}
 use Rattle.std.proofs.lemmas.Result.{on_ok_weaker}
-use Rattle.graphql_fault_data.specs.FaultView.{faults_of}
+use Rattle.fault_data.specs.FaultView.{faults_of}
 use Rattle.graphql_schema.specs.SchemaOf.{schema_tree}
-use Rattle.graphql_typed_selections.specs.TypedTree.{typed_set_tree}
-use Rattle.graphql_typed_operations.specs.declared.operation.Operation.{Operation}
-use Rattle.graphql_document_rule_definitions.specs.Told.{place_or_built_in}
-use Rattle.graphql_fragment_cycles.specs.Used.{names_of}
-use Rattle.graphql_rule_definitions.proofs.Listing.{gains_both, gains_same}
-use Rattle.graphql_reach.specs.Reach.{reached_members, reached_fragments_of}
-use Rattle.graphql_reach.proofs.OfDocuments.{ReachesFrom, operation_reaches}
-use Rattle.graphql_subscription_rules.specs.Told.{document_meant, operation_meant}
+use Rattle.document_typed_selections.specs.TypedTree.{typed_set_tree}
+use Rattle.document_typed_operations.specs.declared.operation.Operation.{Operation}
+use Rattle.rule_document_definitions.specs.Told.{place_or_built_in}
+use Rattle.rule_fragment_cycles.specs.Used.{names_of}
+use Rattle.rule_definitions.proofs.Listing.{gains_both, gains_same}
+use Rattle.rule_reach.specs.Reach.{reached_members, reached_fragments_of}
+use Rattle.rule_reach.proofs.OfDocuments.{ReachesFrom, operation_reaches}
+use Rattle.rule_subscriptions.specs.Told.{document_meant, operation_meant}
 use Rattle.graphql_validation.proofs.Noting.{fragments_noted}
 use Rattle.graphql_validation.proofs.Ordered.{ordered_under}
 use Rattle.graphql_validation.proofs.under_schema.check_operation.Goals as goal

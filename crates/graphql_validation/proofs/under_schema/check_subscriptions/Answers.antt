@@ -1,7 +1,7 @@
 use Rattle.std.proofs.Common.{◌∙◌, ◌∷◌, [], ◌++◌, map, subst}
-use Rattle.graphql_typed_operations.specs.OperationsByName.{left_operations}
-use Rattle.graphql_document_rule_definitions.specs.Selected.{operations}
-use Rattle.graphql_subscription_rules.specs.Told.{document_meant, operation_meant}
+use Rattle.document_typed_operations.specs.OperationsByName.{left_operations}
+use Rattle.rule_document_definitions.specs.Selected.{operations}
+use Rattle.rule_subscriptions.specs.Told.{document_meant, operation_meant}
 use Rattle.graphql_validation.specs.Operations.{AddsSubscriptions}
 use Rattle.graphql_validation.proofs.Operations.{lent_operation, lent_operations, all_operations, one_behind, lent_more, lent_all}
 use Rattle.graphql_validation.proofs.Subscribed.{subscriptions_none, subscriptions_more}

@@ -1,9 +1,9 @@
 use Rattle.std.proofs.Common.{subst}
 use Rattle.std.proofs.lemmas.Result.{IfOk-weaker}
 use Rattle.std.specs.Prelude.{string_bytes}
-use Rattle.graphql_layouts.specs.Layouts.{prefix_of}
+use Rattle.checker_layouts.specs.Layouts.{prefix_of}
 use Rattle.graphql_checked.specs.CheckedView.{document_value}
-use Rattle.graphql_verdict.specs.Answer.{WritesDocument}
+use Rattle.verdict_definitions.specs.Answer.{WritesDocument}
 use Rattle.graphql_checked.proofs.Checking.{writes_document}
 use Rattle.graphql_checked.proofs.checked_document.CheckedDocument.written.Goals as goal
 

@@ -1,7 +1,7 @@
 use Rattle.std.proofs.lemmas.Result.{err_from_is_err_and}
-use Rattle.graphql_definitions.specs.DefinitionTree.{document_tree}
-use Rattle.graphql_typing.specs.DocumentView.{meant_document}
-use Rattle.graphql_typed_operations.specs.TypedDocument.{typed_document_tree}
+use Rattle.tree_definitions.specs.DefinitionTree.{document_tree}
+use Rattle.document_typing.specs.DocumentView.{meant_document}
+use Rattle.document_typed_operations.specs.TypedDocument.{typed_document_tree}
 use Rattle.graphql_checked.specs.CheckedView.{schema_value}
 use Rattle.graphql_checked.proofs.Checking.{unread_refusal, unread_certain, typing_refusal, typing_certain, rules_refusal, rules_certain, accepted_document}
 use Rattle.graphql_checked.proofs.checked_schema.CheckedSchema.check.Goals as goal

@@ -1,6 +1,6 @@
 use Rattle.std.proofs.Common.{◌≡◌, false, subst}
 use Rattle.std.proofs.lemmas.Result.{IfErr-weaker}
-use Rattle.graphql_verdict.specs.Judge.{AreSchemasCertain}
+use Rattle.verdict_definitions.specs.Judge.{AreSchemasCertain}
 use Rattle.graphql_checked.specs.Refusals.{RefusalOfSchemas}
 use Rattle.graphql_checked.specs.TextsView.{terms_of, texts_of}
 use Rattle.graphql_checked.specs.declared.refusal.Refusal.TheVariants.{Memory}

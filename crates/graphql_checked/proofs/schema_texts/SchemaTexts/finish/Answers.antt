@@ -1,6 +1,6 @@
 use Rattle.std.proofs.Common.{◌≡◌, [], map, refl, subst, ◌∙◌}
 use Rattle.std.proofs.lemmas.Result.{err_from_is_err_and}
-use Rattle.graphql_definitions.specs.DefinitionTree.{document_tree}
+use Rattle.tree_definitions.specs.DefinitionTree.{document_tree}
 use Rattle.graphql_schema.specs.BuilderOf.{builder_value}
 use Rattle.graphql_schema.specs.SchemaOf.{schema_tree}
 use Rattle.graphql_faults.specs.DetailsView.{diagnostics_of}

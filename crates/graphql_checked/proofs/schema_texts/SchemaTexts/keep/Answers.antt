@@ -1,6 +1,6 @@
 use Rattle.std.proofs.Common.{◌≡◌, ◌+◌, ◌++◌, ◌∷◌, [], arith}
 use Rattle.std.proofs.lemmas.Grind.{common_steps}
-use Rattle.graphql_definitions.specs.DefinitionTree.{document_tree}
+use Rattle.tree_definitions.specs.DefinitionTree.{document_tree}
 use Rattle.graphql_checked.specs.TextsView.{texts_of, trees_of}
 use Rattle.graphql_checked.proofs.TextsReading.{reading_of, behind_kept, tree_kept}
 use Rattle.graphql_checked.proofs.schema_texts.SchemaTexts.keep.Goals as goal

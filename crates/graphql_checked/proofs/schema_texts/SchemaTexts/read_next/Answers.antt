@@ -1,7 +1,7 @@
 use Rattle.std.proofs.Common.{◌≡◌, ◌++◌, ◌∷◌, []}
 use Rattle.std.proofs.lemmas.Result.{on_ok_weaker}
 use Rattle.graphql_faults.specs.DetailsView.{diagnostics_of}
-use Rattle.graphql_verdict.specs.Says.{spent}
+use Rattle.verdict_definitions.specs.Says.{spent}
 use Rattle.graphql_checked.specs.TextsView.{texts_of, IsReadingOf}
 use Rattle.graphql_checked.proofs.TextsReading.{reading_of, before_next, spent_kept}
 use Rattle.graphql_checked.proofs.schema_texts.SchemaTexts.read_next.Goals as goal

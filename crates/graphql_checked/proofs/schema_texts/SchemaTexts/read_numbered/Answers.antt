@@ -1,9 +1,9 @@
 use Rattle.std.proofs.Common.{◌+◌, ◌++◌, ◌∷◌, ℕ, List, []}
 use Rattle.std.proofs.lemmas.Result.{on_ok_weaker}
-use Rattle.graphql_definitions.specs.DefinitionTree.{document_tree}
+use Rattle.tree_definitions.specs.DefinitionTree.{document_tree}
 use Rattle.graphql_read.specs.Reads.{NestingBound}
 use Rattle.graphql_faults.specs.DetailsView.{diagnostics_of}
-use Rattle.graphql_verdict.specs.Texts.{ReadsText}
+use Rattle.verdict_definitions.specs.Texts.{ReadsText}
 use Rattle.graphql_checked.specs.Added.{IsToldBehind}
 use Rattle.graphql_checked.specs.TextsView.{texts_of, IsReadingOf}
 use Rattle.graphql_checked.proofs.TextsReading.{reading_of, unread_kept}

@@ -1,8 +1,8 @@
 use Rattle.std.proofs.Common.{ap, ◌∙◌}
 use Rattle.graphql_names.specs.Placed.{Place, Text}
-use Rattle.graphql_typing.specs.in_literals.TypeQueries.{inner_name}
-use Rattle.graphql_schema_types.specs.Addresses.{type_at}
-use Rattle.graphql_typing.specs.in_schema.SchemaOf.{schema_tree}
+use Rattle.document_typing.specs.in_literals.TypeQueries.{inner_name}
+use Rattle.schema_types.specs.Addresses.{type_at}
+use Rattle.document_typing.specs.in_schema.SchemaOf.{schema_tree}
 use Rattle.graphql_documents.proofs.field.FieldFieldExt.inner_type_def.Goals as goal
 
 pub returns : goal.returns

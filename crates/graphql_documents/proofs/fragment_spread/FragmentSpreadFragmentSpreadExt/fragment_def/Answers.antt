@@ -1,6 +1,6 @@
 use Rattle.graphql_names.specs.Placed.{node_tree}
-use Rattle.graphql_typing.proofs.in_schema.Lookups.{got}
-use Rattle.graphql_typed_operations.specs.TypedDocument.{typed_fragment_tree}
+use Rattle.document_typing.proofs.in_schema.Lookups.{got}
+use Rattle.document_typed_operations.specs.TypedDocument.{typed_fragment_tree}
 use Rattle.graphql_documents.proofs.fragment_spread.FragmentSpreadFragmentSpreadExt.fragment_def.Goals as goal
 
 pub returns : goal.returns

@@ -1,6 +1,6 @@
 use Rattle.std.proofs.Common.{◌≡◌, ◌∷◌, [], ◌++◌, length, sym, ap, ◌∙◌, append_assoc, arith}
 use Rattle.std.specs.Vec.Iter.{into_iter_items}
-use Rattle.graphql_fault_data.specs.FaultView.{fault_of}
+use Rattle.fault_data.specs.FaultView.{fault_of}
 use Rattle.graphql_faults.specs.DetailsTree.{of_rule}
 use Rattle.graphql_faults.proofs.Growing.{grown_more, grown_all, grown_kept}
 use Rattle.graphql_faults.proofs.diagnostic_list.DiagnosticList.append_faults.Goals as goal

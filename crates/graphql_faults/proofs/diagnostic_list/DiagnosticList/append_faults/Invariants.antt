@@ -1,6 +1,6 @@
 use Rattle.std.proofs.Common.{◌≡◌, ◌++◌, length, map}
 use Rattle.std.specs.Vec.Iter.{into_iter_items, into_iter_len}
-use Rattle.graphql_fault_data.specs.FaultView.{fault_of}
+use Rattle.fault_data.specs.FaultView.{fault_of}
 use Rattle.graphql_faults.specs.DetailsTree.{of_rule}
 use Rattle.graphql_faults.specs.DetailsView.{diagnostics_of}
 use Rattle.graphql_faults.proofs.diagnostic_list.DiagnosticList.append_faults.Given as goal

@@ -1,11 +1,11 @@
 use Rattle.std.proofs.Common.{sym, subst, ◌∙◌}
-use Rattle.graphql_schema_building.specs.in_built_in.Table.{built_in_definitions}
-use Rattle.graphql_schema_building.specs.in_folding.FaultView.{faults_of}
-use Rattle.graphql_schema_building.specs.Building.{counted}
-use Rattle.graphql_schema_building.specs.BuildingView.{builder_view}
-use Rattle.graphql_list_folding.specs.in_type_folding.OwnNames.{UnderOwnNames}
-use Rattle.graphql_list_folding.proofs.in_type_folding.OwnNames.{under_own_names}
-use Rattle.graphql_list_folding.proofs.Folding.{faultless}
+use Rattle.schema_building.specs.in_built_in.Table.{built_in_definitions}
+use Rattle.schema_building.specs.in_folding.FaultView.{faults_of}
+use Rattle.schema_building.specs.Building.{counted}
+use Rattle.schema_building.specs.BuildingView.{builder_view}
+use Rattle.schema_fold_lists.specs.in_type_folding.OwnNames.{UnderOwnNames}
+use Rattle.schema_fold_lists.proofs.in_type_folding.OwnNames.{under_own_names}
+use Rattle.schema_fold_lists.proofs.Folding.{faultless}
 use Rattle.graphql_schema.proofs.builder.SchemaBuilder.build.Goals as goal
 
 pub returns-clause-schema : goal.returns-clause-schema

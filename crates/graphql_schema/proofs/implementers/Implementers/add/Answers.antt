@@ -1,8 +1,8 @@
 use Rattle.std.proofs.Common.{map, sym, ap, ◌∙◌}
 use Rattle.indexmap.specs.IndexSet.{insert_key}
 use Rattle.graphql_names.specs.NameValue.{NameValue}
-use Rattle.graphql_components.specs.Names.{same_text}
-use Rattle.graphql_schema_building.specs.in_schema_types.TypeView.{name_text}
+use Rattle.schema_components.specs.Names.{same_text}
+use Rattle.schema_building.specs.in_schema_types.TypeView.{name_text}
 use Rattle.graphql_schema.specs.Noting.{and_type}
 use Rattle.graphql_schema.specs.ImplementersView.{implementers_tree}
 use Rattle.graphql_schema.proofs.Implementing.{added}

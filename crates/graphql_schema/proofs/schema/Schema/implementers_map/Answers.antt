@@ -6,8 +6,8 @@ use Rattle.std.proofs.lemmas.Grind.{fold-append}
 use Rattle.std.proofs.lemmas.List.{map-append}
 use Rattle.std.proofs.lemmas.Iterator.Consumers.{YieldsList-end, YieldsList-from_rest}
 use Rattle.graphql_names.specs.NameValue.{NameValue}
-use Rattle.graphql_schema_building.specs.in_schema_types.TypeView.{name_text, extended_type}
-use Rattle.graphql_schema_building.specs.in_schema_types.declared.extended_type.ExtendedType.{ExtendedType}
+use Rattle.schema_building.specs.in_schema_types.TypeView.{name_text, extended_type}
+use Rattle.schema_building.specs.in_schema_types.declared.extended_type.ExtendedType.{ExtendedType}
 use Rattle.graphql_schema.specs.Noting.{and_naming, namings_of, noted_in}
 use Rattle.graphql_schema.proofs.Implementing.{namings_push}
 use Rattle.graphql_schema.proofs.Implemented.{noted_is}

@@ -1,7 +1,7 @@
 use Rattle.std.proofs.Common.{ap, ◌∙◌}
-use Rattle.graphql_schema_building.specs.Building.{folded}
-use Rattle.graphql_schema_building.specs.BuilderValue.{BuilderValue}
-use Rattle.graphql_list_folding.proofs.BuiltIn.{built_in_rules}
+use Rattle.schema_building.specs.Building.{folded}
+use Rattle.schema_building.specs.BuilderValue.{BuilderValue}
+use Rattle.schema_fold_lists.proofs.BuiltIn.{built_in_rules}
 use Rattle.graphql_schema.proofs.schema.Schema.new.Goals as goal
 
 pub returns-in-Ok-clause-schema : goal.returns-in-Ok-clause-schema

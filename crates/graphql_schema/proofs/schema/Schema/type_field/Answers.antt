@@ -3,14 +3,14 @@ use Rattle.std.specs.Prelude.{option_and_then}
 use Rattle.std.specs.Option.{option_map, option_or}
 use Rattle.graphql_names.specs.NameValue.{NameValue}
 use Rattle.graphql_names.specs.Placed.{Place}
-use Rattle.graphql_type_members.specs.TypeSystemTree.{field_definition_tree}
-use Rattle.graphql_type_members.specs.declared.field_definition.FieldDefinition.{FieldDefinition}
-use Rattle.graphql_components.specs.Given.{component_tree}
-use Rattle.graphql_components.specs.declared.component.Component.{Component}
-use Rattle.graphql_schema_building.specs.in_schema_types.SchemaTree.{SchemaType, SchemaTree}
-use Rattle.graphql_schema_building.specs.in_schema_types.Addresses.{under, type_at}
-use Rattle.graphql_schema_building.specs.in_schema_types.TypeView.{extended_type}
-use Rattle.graphql_schema_building.specs.in_schema_types.declared.extended_type.ExtendedType.{ExtendedType}
+use Rattle.tree_type_members.specs.TypeSystemTree.{field_definition_tree}
+use Rattle.tree_type_members.specs.declared.field_definition.FieldDefinition.{FieldDefinition}
+use Rattle.schema_components.specs.Given.{component_tree}
+use Rattle.schema_components.specs.declared.component.Component.{Component}
+use Rattle.schema_building.specs.in_schema_types.SchemaTree.{SchemaType, SchemaTree}
+use Rattle.schema_building.specs.in_schema_types.Addresses.{under, type_at}
+use Rattle.schema_building.specs.in_schema_types.TypeView.{extended_type}
+use Rattle.schema_building.specs.in_schema_types.declared.extended_type.ExtendedType.{ExtendedType}
 use Rattle.graphql_schema.specs.SchemaOf.{schema_tree}
 use Rattle.graphql_schema.specs.LookUps.{meta_field_on, field_on, field_named}
 use Rattle.graphql_schema.proofs.Lookups.{got_pair, found_key}

@@ -1,4 +1,4 @@
-use Rattle.graphql_schema_building.specs.in_schema_types.TypeView.{extended_type}
+use Rattle.schema_building.specs.in_schema_types.TypeView.{extended_type}
 use Rattle.graphql_schema.proofs.Lookups.{got}
 use Rattle.graphql_schema.proofs.schema.Schema.type_named.Goals as goal
 

@@ -1,6 +1,6 @@
-use Rattle.graphql_rule_definitions.specs.Judged.{judged}
+use Rattle.rule_definitions.specs.Judged.{judged}
 use Rattle.graphql_schema.specs.SchemaOf.{schema_tree}
-use Rattle.graphql_subscription_rules.specs.Told.{document_meant}
+use Rattle.rule_subscriptions.specs.Told.{document_meant}
 use Rattle.graphql_validation.proofs.merging.FieldsInSetCanMerge.new.Goals as goal
 
 pub invariant_of-result : goal.invariant_of-result

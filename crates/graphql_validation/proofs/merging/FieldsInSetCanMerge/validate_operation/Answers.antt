@@ -1,9 +1,9 @@
 use Rattle.std.proofs.Common.{map, ap, sym, true≢false}
 use Rattle.graphql_faults.specs.DetailsView.{diagnostics_of}
-use Rattle.graphql_reach.specs.Broken.{broken_of, brokens_of}
-use Rattle.graphql_rule_definitions.specs.Judged.{judged}
+use Rattle.rule_reach.specs.Broken.{broken_of, brokens_of}
+use Rattle.rule_definitions.specs.Judged.{judged}
 use Rattle.graphql_schema.specs.SchemaOf.{schema_tree}
-use Rattle.graphql_subscription_rules.specs.Told.{document_meant, operation_meant}
+use Rattle.rule_subscriptions.specs.Told.{document_meant, operation_meant}
 use Rattle.graphql_validation.specs.Merged.{conflicts_told}
 use Rattle.graphql_validation.proofs.Conflicts.{conflicts_right, only_no_conflicts, stays_exactly, still_settled, settled_merges}
 use Rattle.graphql_validation.proofs.Telling.{nothing_told, begins_same, refused_so}

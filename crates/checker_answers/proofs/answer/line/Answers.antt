@@ -1,0 +1,11 @@
+use Rattle.std.proofs.Common.{◌++◌, codes, string_bytes, ap, ◌∙◌}
+use Rattle.graphql_faults.specs.DetailsMessages.{details_message}
+use Rattle.graphql_faults.specs.DetailsView.{details_of}
+use Rattle.checker_answers.proofs.AnswerBytes.{four_texts, made_as}
+use Rattle.checker_answers.proofs.answer.line.Goals as goal
+
+pub returns : goal.returns
+returns c =
+    let told = details_message (details_of c.args.details.now) in
+    made_as c.format.result _ _ (four_texts (string_bytes c.in_ok-place.place) (codes ": ") told (codes "\n")
+    ∙ ap (λ place. place ++ codes ": " ++ told ++ codes "\n") c.in_ok-place.ensures) c.format.ensures.ok

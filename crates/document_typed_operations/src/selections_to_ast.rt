@@ -1,0 +1,92 @@
+//! Selections as they are written: without definitions and types.
+ghost use Rattle.std.specs.Prelude.{◌≡◌, IfOk};
+ghost use Rattle.tree_operations.specs.SelectionTree.{selection_tree, selection_trees};
+ghost use Rattle.document_typed_selections.specs.TypedTree.{typed_selection_tree, typed_set_tree};
+ghost use Rattle.document_typed_selections.specs.TypedParts.{typed_field_node, typed_spread_node, typed_inline_node};
+ghost use Rattle.document_typed_operations.specs.ToAst.{ast_selection, ast_set};
+
+use crate::written_node::{node_at, push_made};
+use document_typed_selections::{Field, FragmentSpread, InlineFragment, Selection, SelectionSet};
+use graphql_names::{Node, copies_of_four, copies_of_two};
+use std::alloc::{AllocError, Global};
+use tree_operations as ast;
+
+/// The selections of a set, which share what they hold.
+#[cycle(writing)]
+pub(crate) fn set_to_ast(
+    alloc: Global,
+    set: &SelectionSet,
+) -> Result<Vec<ast::Selection>, AllocError>
+    ensures { IfOk result (λ v. selection_trees selection_tree v.items ≡ ast_set (typed_set_tree set.now)) }
+{
+    let mut written = Vec::new(alloc);
+    for selection in &set.selections {
+        push_made(&mut written, selection_to_ast(alloc, selection))?;
+    }
+    Ok(written)
+}
+
+/// A selection as it is written.
+#[cycle(writing)]
+#[tactic(auto, using(document_typed_selections::proofs::TypedTrees::typed_tree_rules))]
+fn selection_to_ast(alloc: Global, selection: &Selection) -> Result<ast::Selection, AllocError>
+    ensures { IfOk result (λ s. selection_tree s ≡ ast_selection (typed_selection_tree selection.now)) }
+{
+    match selection {
+        Selection::Field(field) => field_to_ast(alloc, field),
+        Selection::FragmentSpread(spread) => spread_to_ast(alloc, spread),
+        Selection::InlineFragment(inline) => inline_to_ast(alloc, inline),
+    }
+}
+
+/// A field with what it selects.
+#[cycle(writing)]
+fn field_to_ast(alloc: Global, node: &Node<Field>) -> Result<ast::Selection, AllocError>
+    ensures { IfOk result (λ s. selection_tree s ≡ ast_selection (typed_field_node node.now)) }
+{
+    let field = node.content();
+    let selection_set = set_to_ast(alloc, &field.selection_set)?;
+    let (alias, name, arguments, directives) = copies_of_four(
+        &field.alias,
+        &field.name,
+        &field.arguments,
+        &field.directives,
+    )?;
+    let written = ast::Field {
+        alias,
+        name,
+        arguments,
+        directives,
+        selection_set,
+    };
+    Ok(ast::Selection::Field(node_at(alloc, node, written)?))
+}
+
+/// An inline fragment with what it selects.
+#[cycle(writing)]
+fn inline_to_ast(alloc: Global, node: &Node<InlineFragment>) -> Result<ast::Selection, AllocError>
+    ensures { IfOk result (λ s. selection_tree s ≡ ast_selection (typed_inline_node node.now)) }
+{
+    let inline = node.content();
+    let selection_set = set_to_ast(alloc, &inline.selection_set)?;
+    let (type_condition, directives) = copies_of_two(&inline.type_condition, &inline.directives)?;
+    let written = ast::InlineFragment {
+        type_condition,
+        directives,
+        selection_set,
+    };
+    Ok(ast::Selection::InlineFragment(node_at(alloc, node, written)?))
+}
+
+/// A spread.
+fn spread_to_ast(alloc: Global, node: &Node<FragmentSpread>) -> Result<ast::Selection, AllocError>
+    ensures { IfOk result (λ s. selection_tree s ≡ ast_selection (typed_spread_node node.now)) }
+{
+    let spread = node.content();
+    let (fragment_name, directives) = copies_of_two(&spread.fragment_name, &spread.directives)?;
+    let written = ast::FragmentSpread {
+        fragment_name,
+        directives,
+    };
+    Ok(ast::Selection::FragmentSpread(node_at(alloc, node, written)?))
+}

@@ -1,0 +1,6 @@
+use Rattle.std.proofs.Common.{rules}
+use Rattle.document_typed_selections.proofs.TypedEquality.{selection_eq-Decides}
+use Rattle.document_typed_selections.proofs.laws.equal_selections.Goals as goal
+
+pub returns : goal.returns
+returns c = let h = selection_eq-Decides c.args.a.now c.args.b.now in rw c.eq.ensures (search (rules, h))

@@ -1,0 +1,10 @@
+use Rattle.std.proofs.Common.{◌≡◌, drop, map}
+use Rattle.std.specs.Prelude.{find}
+use Rattle.graphql_names.specs.Placed.{node_tree}
+use Rattle.tree_directives.specs.DirectiveTree.{argument_tree}
+use Rattle.tree_directives.specs.DirectiveQueries.{argument_has_name}
+use Rattle.document_typed_selections.specs.TypedParts.{typed_head}
+use Rattle.document_typed_selections.proofs.selection.Field.specified_argument_by_name.Given as goal
+
+abbrev pub invariant-loop-argument : goal.invariant-loop-argument
+invariant-loop-argument l = find (argument_has_name l.name) (typed_head l.self).arguments ≡ find (argument_has_name l.name) (map (node_tree argument_tree) (drop l.argument-index l.argument-items))

@@ -1,0 +1,30 @@
+-- Which selections have a meaning, and what is kept of a selection set (GraphQL, October 2021, sections 5.3.1, 5.3.3 and 5.5.1.2).
+use Rattle.std.specs.Prelude.{ℕ, Bool, not, ◌&&◌, ◌||◌, List, [], ◌∷◌, ◌++◌, None, Some, if◌then◌else◌}
+use Rattle.std.specs.Option.{option_map_or}
+use Rattle.tree_operations.specs.SelectionTree.{SelectionTree, FieldTree, SpreadTree, InlineTree, SelectionTrees, no_selections, selection_then}
+use Rattle.tree_operations.specs.OperationWritable.{has_selection}
+use Rattle.document_typing.specs.MeantTree.{MeantSelection, MeantField, MeantSpread, MeantInline, set_on}
+use Rattle.document_typing.specs.Meanings.{Meanings, inner_type}
+
+-- values of the type of that name have no fields: it is a scalar or an enum
+abbrev pub is_leaf : Meanings → List ℕ → Bool
+is_leaf m t = m.is_scalar t || m.is_enum t
+
+-- a field of that inner type may select so: on a leaf there is no set
+abbrev pub may_select : {P : Type 0} → Meanings → List ℕ → SelectionTrees P → Bool
+may_select m t ts = not (has_selection ts && is_leaf m t)
+
+abbrev mutual
+  -- what is kept of a selection that stands under the type t: with its meaning, or nothing if it has none
+  pub kept : {P : Type 0} → Meanings → SelectionTree P → List ℕ → List (MeantSelection P)
+  kept m (FieldTree p h ts) t = option_map_or
+      (λ d. if may_select m (inner_type d) ts then MeantField p d h (set_on (inner_type d) (kept_all m ts (inner_type d))) ∷ [] else [])
+      (m.field t h.name.it) []
+  kept m (SpreadTree p n ds) t = MeantSpread p n ds ∷ []
+  kept m (InlineTree p None ds ts) t = MeantInline p None ds (set_on t (kept_all m ts t)) ∷ []
+  kept m (InlineTree p (Some c) ds ts) t = if m.has_type c.it then MeantInline p (Some c) ds (set_on c.it (kept_all m ts c.it)) ∷ [] else []
+
+  -- of a set's selections, those that have a meaning
+  pub kept_all : {P : Type 0} → Meanings → SelectionTrees P → List ℕ → List (MeantSelection P)
+  kept_all m no_selections t = []
+  kept_all m (selection_then s ss) t = kept m s t ++ kept_all m ss t

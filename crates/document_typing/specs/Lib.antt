@@ -1,0 +1,20 @@
+pub use Rattle.document_meaning.specs.MeantTree
+pub mod Meanings
+pub mod KeptSelections
+pub mod KeptDocument
+pub mod TypingFaults
+pub mod FullList
+pub mod OutDoc
+pub mod TypedByPlace
+pub mod DefinedByPlace
+pub mod FaultView
+pub mod MeaningView
+pub mod SetFaults
+pub mod DefinedField
+pub mod Steps
+pub mod DocumentView
+pub mod StepsView
+pub mod BuilderView
+pub use Rattle.graphql_schema.specs as in_schema
+pub use Rattle.tree_literals.specs as in_literals
+pub use Rattle.document_typed_operations.specs as in_typed_operations

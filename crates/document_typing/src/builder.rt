@@ -1,0 +1,115 @@
+//! The builder of documents.
+ghost use Rattle.std.specs.Prelude.{◌≡◌, ◌↔◌, ◌++◌, [], ◌∷◌, map, true, false, IfOk, IfErr, OnOk, Contains};
+ghost use Rattle.tree_definitions.specs.DefinitionTree.{definition_tree, document_tree};
+ghost use Rattle.tree_definitions.specs.Sources.{sources_of};
+ghost use Rattle.graphql_schema.specs.SourcesView.{sources_view, with_sources};
+ghost use Rattle.document_typed_operations.specs.TypedDocument.{typed_document_tree};
+ghost use Rattle.document_typing.specs.KeptDocument.{kept_document};
+ghost use Rattle.document_typing.specs.TypingFaults.{TypingFails};
+ghost use Rattle.document_typing.specs.FullList.{TellsAll};
+ghost use Rattle.document_typing.specs.OutDoc.{out_doc, written_document};
+ghost use Rattle.document_typing.specs.TypedByPlace.{IsTypedDocument};
+ghost use Rattle.document_typing.specs.DefinedByPlace.{IsDefinedDocument};
+ghost use Rattle.document_typing.specs.FaultView.{faults_of};
+ghost use Rattle.document_typing.specs.DocumentView.{meant_document};
+ghost use Rattle.document_typing.specs.MeaningView.{schema_under, meanings_under};
+ghost use Rattle.document_typing.specs.BuilderView.{builder_value, IsAddRefusal, IsBuildRefusal};
+
+use crate::document::type_document;
+use crate::refusal::BuilderRefusal;
+use crate::sources::add_sources;
+use document_typed_operations::ExecutableDocument;
+use fault_document_data::BuildError;
+use graphql_names::{FileId, SourceSpan};
+use graphql_schema::Schema;
+use indexmap::IndexMap;
+use std::alloc::{AllocError, Global};
+use tree_definitions::{Definition, Document, SourceFile};
+
+/// Takes the definitions of documents, and gives them all a meaning under a schema, or without one.
+///
+/// Contracts see it by `builder_value` alone: the schema and what it says, the definitions and sources that were added, in
+/// order, and whether memory ran out.
+#[derive(Drop)]
+pub struct ExecutableDocumentBuilder<'schema> {
+    alloc: Global,
+    schema: Option<&'schema Schema>,
+    definitions: Vec<Definition>,
+    sources: IndexMap<FileId, SourceFile>,
+    failed: bool,
+}
+
+impl<'schema> ExecutableDocumentBuilder<'schema> {
+    /// A builder of no definitions, under this schema or without one. It takes no memory.
+    pub fn new(alloc: Global, schema: Option<&'schema Schema>) -> ExecutableDocumentBuilder<'schema>
+        ensures { builder_value result ≡ record { schema = schema_under schema.entry; meanings = meanings_under schema.entry; definitions = []; sources = []; failed = false } }
+    {
+        ExecutableDocumentBuilder {
+            alloc,
+            schema,
+            definitions: Vec::new(alloc),
+            sources: IndexMap::new(alloc),
+            failed: false,
+        }
+    }
+
+    /// Adds the definitions and the sources of a document behind the others.
+    ///
+    /// Where memory runs out it answers so, and from then on [`BuilderRefusal::Failed`].
+    pub fn add_ast_document(&mut self, document: &Document) -> Result<(), BuilderRefusal>
+        ensures running { OnOk result ((builder_value self.old).failed ≡ false) }
+        ensures added { OnOk result (builder_value self.new ≡ record (builder_value self.old) { definitions = (builder_value self.old).definitions ++ document_tree document.now; sources = with_sources (builder_value self.old).sources (sources_of document.now) }) }
+        ensures refused { IfErr result (IsAddRefusal (builder_value self.old) (builder_value self.new)) }
+    {
+        if self.failed {
+            return Err(BuilderRefusal::Failed);
+        }
+        match add_document(&mut self.definitions, &mut self.sources, document) {
+            Ok(()) => Ok(()),
+            Err(_) => {
+                self.failed = true;
+                Err(BuilderRefusal::Memory)
+            }
+        }
+    }
+
+    /// The document that is kept, which is typed by its place and has the schema's definitions, and each way in which a rule of typing is broken. Where
+    /// none is, the whole document is kept.
+    pub fn build(
+        self,
+    ) -> Result<(ExecutableDocument, Vec<(Option<SourceSpan>, BuildError)>), BuilderRefusal>
+        ensures running { OnOk result ((builder_value self.entry).failed ≡ false) }
+        ensures document { IfOk result (λ r. meant_document (typed_document_tree r.0) ≡ kept_document (builder_value self.entry).meanings (builder_value self.entry).definitions) }
+        ensures typed { IfOk result (λ r. IsTypedDocument (builder_value self.entry).meanings (meant_document (typed_document_tree r.0))) }
+        ensures defined { IfOk result (λ r. IsDefinedDocument (builder_value self.entry).schema (typed_document_tree r.0)) }
+        ensures whole { IfOk result (λ r. faults_of r.1 ≡ [] → written_document (meant_document (typed_document_tree r.0)) ≡ out_doc (builder_value self.entry).definitions) }
+        ensures sources { IfOk result (λ r. sources_view r.0.sources ≡ (builder_value self.entry).sources) }
+        ensures faults { IfOk result (λ r. (f : _) → Contains (faults_of r.1) f ↔ TypingFails (builder_value self.entry).meanings (builder_value self.entry).definitions f) }
+        ensures full { IfOk result (λ r. TellsAll (builder_value self.entry).meanings (builder_value self.entry).definitions (faults_of r.1)) }
+        ensures refused { IfErr result (IsBuildRefusal (builder_value self.entry)) }
+    {
+        if self.failed {
+            return Err(BuilderRefusal::Failed);
+        }
+        let typed = type_document(self.alloc, self.schema, &self.definitions)?;
+        let document = ExecutableDocument {
+            sources: self.sources,
+            operations: typed.operations,
+            fragments: typed.fragments,
+        };
+        Ok((document, typed.faults))
+    }
+}
+
+/// Adds copies of what a document has to what a builder keeps.
+fn add_document(
+    definitions: &mut Vec<Definition>,
+    sources: &mut IndexMap<FileId, SourceFile>,
+    document: &Document,
+) -> Result<(), AllocError>
+    ensures definitions { OnOk result (map definition_tree definitions.new.items ≡ map definition_tree definitions.old.items ++ document_tree document.now) }
+    ensures sources { OnOk result (sources_view sources.new ≡ with_sources (sources_view sources.old) (sources_of document.now)) }
+{
+    definitions.extend_with_clones(&document.definitions)?;
+    add_sources(sources, &document.sources)
+}

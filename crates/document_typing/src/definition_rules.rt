@@ -1,0 +1,99 @@
+//! Rules of typing on definitions: each tells where it is broken.
+ghost use Rattle.std.specs.Prelude.{◌≡◌, ◌++◌, [], ◌∷◌, OnOk};
+ghost use Rattle.fault_document_data.specs.DocumentBreaches as breach;
+ghost use Rattle.document_typing.specs.TypingFaults.{At};
+ghost use Rattle.document_typing.specs.Steps.{faults_if};
+ghost use Rattle.document_typing.specs.FaultView.{faults_of};
+
+use crate::rules::tell;
+use fault_document_data::BuildError;
+use graphql_names::{Name, SourceSpan};
+use std::alloc::AllocError;
+use tree_operations::OperationType;
+
+/// A document holds operations and fragments alone (section 5.1.1): this definition is of the type system.
+pub(crate) fn type_system_definition(
+    location: Option<SourceSpan>,
+    faults: &mut Vec<(Option<SourceSpan>, BuildError)>,
+) -> Result<(), AllocError>
+    ensures { OnOk result (faults_of faults.new ≡ faults_of faults.old ++ At location breach.TypeSystemDefinition ∷ []) }
+{
+    tell(location, BuildError::TypeSystemDefinition, faults)
+}
+
+/// An operation without a name stands alone (section 5.2.2.1): this one stands beside others.
+pub(crate) fn ambiguous_anonymous_operation(
+    location: Option<SourceSpan>,
+    faults: &mut Vec<(Option<SourceSpan>, BuildError)>,
+) -> Result<(), AllocError>
+    ensures { OnOk result (faults_of faults.new ≡ faults_of faults.old ++ At location breach.AmbiguousAnonymousOperation ∷ []) }
+{
+    tell(location, BuildError::AmbiguousAnonymousOperation, faults)
+}
+
+/// The schema has the root of an operation (section 3.3.1): it does not have this one.
+pub(crate) fn undefined_root_operation(
+    location: Option<SourceSpan>,
+    operation_type: OperationType,
+    faults: &mut Vec<(Option<SourceSpan>, BuildError)>,
+) -> Result<(), AllocError>
+    ensures { OnOk result (faults_of faults.new ≡ faults_of faults.old ++ At location (breach.UndefinedRootOperation operation_type) ∷ []) }
+{
+    tell(
+        location,
+        BuildError::UndefinedRootOperation { operation_type },
+        faults,
+    )
+}
+
+/// No two operations have one name (section 5.2.1.1): whether an earlier one has this name is known.
+pub(crate) fn operation_name_collision(
+    is_known: bool,
+    location: Option<SourceSpan>,
+    name: &Name,
+    faults: &mut Vec<(Option<SourceSpan>, BuildError)>,
+) -> Result<(), AllocError>
+    ensures { OnOk result (faults_of faults.new ≡ faults_of faults.old ++ faults_if is_known (At location (breach.OperationNameCollision name.now.text))) }
+{
+    if !is_known {
+        return Ok(());
+    }
+    let name = name.clone()?;
+    tell(
+        location,
+        BuildError::OperationNameCollision { name },
+        faults,
+    )
+}
+
+/// No two fragments have one name (section 5.5.1.1): whether an earlier one has this name is known.
+pub(crate) fn fragment_name_collision(
+    is_known: bool,
+    location: Option<SourceSpan>,
+    name: &Name,
+    faults: &mut Vec<(Option<SourceSpan>, BuildError)>,
+) -> Result<(), AllocError>
+    ensures { OnOk result (faults_of faults.new ≡ faults_of faults.old ++ faults_if is_known (At location (breach.FragmentNameCollision name.now.text))) }
+{
+    if !is_known {
+        return Ok(());
+    }
+    let name = name.clone()?;
+    tell(location, BuildError::FragmentNameCollision { name }, faults)
+}
+
+/// A fragment is on a type that is there (section 5.5.1.2): this one is not.
+pub(crate) fn undefined_type_in_named_fragment_type_condition(
+    location: Option<SourceSpan>,
+    type_name: &Name,
+    faults: &mut Vec<(Option<SourceSpan>, BuildError)>,
+) -> Result<(), AllocError>
+    ensures { OnOk result (faults_of faults.new ≡ faults_of faults.old ++ At location (breach.UndefinedTypeInNamedFragmentTypeCondition type_name.now.text) ∷ []) }
+{
+    let type_name = type_name.clone()?;
+    tell(
+        location,
+        BuildError::UndefinedTypeInNamedFragmentTypeCondition { type_name },
+        faults,
+    )
+}

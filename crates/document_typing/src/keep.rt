@@ -1,0 +1,93 @@
+//! Selections with their meaning, put behind those that are kept.
+ghost use Rattle.std.specs.Prelude.{◌≡◌, ◌++◌, [], ◌∷◌, ℕ, List, Option, OnOk};
+ghost use Rattle.std.specs.Option.{option_map};
+ghost use Rattle.graphql_names.specs.Node.{content, place};
+ghost use Rattle.graphql_names.specs.Placed.{Place, name_tree, node_tree};
+ghost use Rattle.tree_directives.specs.DirectiveTree.{directives_tree};
+ghost use Rattle.tree_operations.specs.SelectionParts.{field_head};
+ghost use Rattle.tree_type_members.specs.TypeSystemTree.{field_definition_tree, unplaced_field_definition};
+ghost use Rattle.schema_types.specs.SchemaTree.{SchemaTree};
+ghost use Rattle.document_typed_selections.specs.TypedTree.{typed_set_tree};
+ghost use Rattle.document_typing.specs.MeantTree.{MeantField, MeantSpread, MeantInline, meant_of_set};
+ghost use Rattle.document_typing.specs.DefinedByPlace.{IsDefinitionOf, IsDefinedSet};
+ghost use Rattle.document_typing.specs.MeaningView.{meant_selections, AreKeptDefined};
+
+use document_typed_selections as typed;
+use graphql_names::{Node, copies_of_four, copies_of_two};
+use std::alloc::{AllocError, Global};
+use tree_operations::{Field, FragmentSpread, InlineFragment};
+use tree_type_members::FieldDefinition;
+
+/// Keeps a field with its definition, which it shares with the schema, and its set. It shares arguments and directives
+/// with the tree.
+#[tactic(auto, using(document_typed_selections::proofs::TypedTrees::typed_tree_rules))]
+pub(crate) fn keep_field(
+    alloc: Global,
+    definition: Node<FieldDefinition>,
+    field: &Node<Field>,
+    set: typed::SelectionSet,
+    kept: &mut Vec<typed::Selection>,
+) -> Result<(), AllocError>
+    ensures meant { OnOk result (meant_selections kept.new ≡ meant_selections kept.old ++ MeantField (place field.now) (unplaced_field_definition (field_definition_tree (content definition))) (field_head (content field.now)) (meant_of_set (typed_set_tree set)) ∷ []) }
+    ensures defined { OnOk result ((s : Option (SchemaTree Place)) (t : List ℕ) → IsDefinitionOf s t (name_tree (content field.now).name) (node_tree field_definition_tree definition) → IsDefinedSet s (typed_set_tree set) → AreKeptDefined s t kept.old → AreKeptDefined s t kept.new) }
+{
+    let tree = field.content();
+    let (alias, name, arguments, directives) = copies_of_four(
+        &tree.alias,
+        &tree.name,
+        &tree.arguments,
+        &tree.directives,
+    )?;
+    let typed = typed::Field {
+        definition,
+        alias,
+        name,
+        arguments,
+        directives,
+        selection_set: set,
+    };
+    kept.push(typed::Selection::Field(field.same_location(alloc, typed)?))?;
+    Ok(())
+}
+
+/// Keeps a spread.
+#[tactic(auto, using(document_typed_selections::proofs::TypedTrees::typed_tree_rules))]
+pub(crate) fn keep_spread(
+    alloc: Global,
+    spread: &Node<FragmentSpread>,
+    kept: &mut Vec<typed::Selection>,
+) -> Result<(), AllocError>
+    ensures meant { OnOk result (meant_selections kept.new ≡ meant_selections kept.old ++ MeantSpread (place spread.now) (name_tree (content spread.now).fragment_name) (directives_tree (content spread.now).directives) ∷ []) }
+    ensures defined { OnOk result ((s : Option (SchemaTree Place)) (t : List ℕ) → AreKeptDefined s t kept.old → AreKeptDefined s t kept.new) }
+{
+    let tree = spread.content();
+    let (fragment_name, directives) = copies_of_two(&tree.fragment_name, &tree.directives)?;
+    let typed = typed::FragmentSpread {
+        fragment_name,
+        directives,
+    };
+    kept.push(typed::Selection::FragmentSpread(spread.same_location(alloc, typed)?))?;
+    Ok(())
+}
+
+/// Keeps an inline fragment with its set.
+#[tactic(auto, using(document_typed_selections::proofs::TypedTrees::typed_tree_rules))]
+pub(crate) fn keep_inline(
+    alloc: Global,
+    inline: &Node<InlineFragment>,
+    set: typed::SelectionSet,
+    kept: &mut Vec<typed::Selection>,
+) -> Result<(), AllocError>
+    ensures meant { OnOk result (meant_selections kept.new ≡ meant_selections kept.old ++ MeantInline (place inline.now) (option_map name_tree (content inline.now).type_condition) (directives_tree (content inline.now).directives) (meant_of_set (typed_set_tree set)) ∷ []) }
+    ensures defined { OnOk result ((s : Option (SchemaTree Place)) (t : List ℕ) → IsDefinedSet s (typed_set_tree set) → AreKeptDefined s t kept.old → AreKeptDefined s t kept.new) }
+{
+    let tree = inline.content();
+    let (type_condition, directives) = copies_of_two(&tree.type_condition, &tree.directives)?;
+    let typed = typed::InlineFragment {
+        type_condition,
+        directives,
+        selection_set: set,
+    };
+    kept.push(typed::Selection::InlineFragment(inline.same_location(alloc, typed)?))?;
+    Ok(())
+}

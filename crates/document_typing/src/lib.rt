@@ -1,0 +1,28 @@
+//! Typing of documents: what selections mean under a schema, or without one, and what has no meaning.
+//!
+//! For the layer above: what is kept of a document and of a set is that of `specs/KeptDocument.antt` and
+//! `specs/KeptSelections.antt`, over what a schema says of names alone (`specs/Meanings.antt`), so equal schemas give the
+//! same; the faults are the ways in which a rule of `specs/TypingFaults.antt` is broken, none left out
+//! (`specs/FullList.antt`).
+//!
+//! Begin with `specs/Meanings.antt` and `selections.rt`; `document.rt` has whole documents.
+#![tactic(auto)]
+
+mod builder;
+mod definition_rules;
+mod document;
+mod field_set;
+mod keep;
+mod look_ups;
+mod refusal;
+mod rules;
+mod selections;
+mod sources;
+
+pub use builder::ExecutableDocumentBuilder;
+pub use fault_document_data::{
+    BuildError, ConflictingFieldArgument, ConflictingFieldName, ConflictingFieldType,
+};
+pub use field_set::field_set_from_ast;
+pub use graphql_schema::{FieldLookupError, Schema};
+pub use refusal::BuilderRefusal;

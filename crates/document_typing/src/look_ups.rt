@@ -1,0 +1,138 @@
+//! What a schema says of names, or what holds of them without a schema.
+ghost use Rattle.std.specs.Prelude.{◌≡◌, ℕ, Bool, IfOk, IfSome};
+ghost use Rattle.std.specs.FinMap as fin;
+ghost use Rattle.std.specs.Option.{option_map};
+ghost use Rattle.graphql_names.specs.Node.{content};
+ghost use Rattle.graphql_names.specs.Placed.{name_tree, node_tree};
+ghost use Rattle.tree_type_members.specs.TypeSystemTree.{field_definition_tree, unplaced_field_definition};
+ghost use Rattle.schema_types.specs.Plain.{plain, plain_type};
+ghost use Rattle.schema_types.specs.TypeView.{extended_type};
+ghost use Rattle.graphql_schema.specs.SchemaOf.{schema_tree};
+ghost use Rattle.tree_operations.specs.OperationQueries.{default_root_name};
+ghost use Rattle.document_typing.specs.Meanings.{inner_type, unknown_definition};
+ghost use Rattle.document_typing.specs.KeptSelections.{is_leaf};
+ghost use Rattle.document_typing.specs.DefinedField.{definition_view};
+ghost use Rattle.document_typing.specs.DefinedByPlace.{unknown_field, IsDefinitionOf};
+ghost use Rattle.document_typing.specs.MeaningView.{schema_under, meanings_under};
+
+use graphql_names::{Name, Node};
+use graphql_schema::Schema;
+use schema_types::ExtendedType;
+use std::alloc::{AllocError, Global};
+use tree_directives::DirectiveList;
+use tree_literals::Type;
+use tree_operations::OperationType;
+use tree_type_members::FieldDefinition;
+
+/// The type of that name, if there is one: what a schema without places has under the name.
+fn type_named<'schema>(schema: &'schema Schema, name: &Name) -> Option<&'schema ExtendedType>
+    ensures { option_map (λ t. plain_type (extended_type t.now)) result ≡ fin.get (plain (schema_tree schema.now)).types name.now.text }
+{
+    schema.type_named(name)
+}
+
+/// Whether a type of that name is there. Without a schema each is.
+pub(crate) fn has_type(schema: Option<&Schema>, name: &Name) -> bool
+    ensures { result ≡ (meanings_under schema.entry).has_type name.now.text }
+{
+    match schema {
+        None => true,
+        Some(schema) => type_named(schema, name).is_some(),
+    }
+}
+
+/// Whether the type of that name is a scalar. Without a schema none is.
+pub(crate) fn is_scalar(schema: Option<&Schema>, name: &Name) -> bool
+    ensures { result ≡ (meanings_under schema.entry).is_scalar name.now.text }
+{
+    match schema {
+        None => false,
+        Some(schema) => match type_named(schema, name) {
+            None => false,
+            Some(ty) => ty.is_scalar(),
+        },
+    }
+}
+
+/// Whether values of the type of that name have no fields: it is a scalar or an enum. Without a schema none is.
+pub(crate) fn is_leaf(schema: Option<&Schema>, name: &Name) -> bool
+    ensures { result ≡ is_leaf (meanings_under schema.entry) name.now.text }
+{
+    match schema {
+        None => false,
+        Some(schema) => match type_named(schema, name) {
+            None => false,
+            Some(ty) => ty.is_scalar() || ty.is_enum(),
+        },
+    }
+}
+
+/// The definition of a field of that name without a schema: its type is `UNKNOWN`.
+fn unknown_field(alloc: Global, name: &Name) -> Result<Node<FieldDefinition>, AllocError>
+    ensures view { IfOk result (λ n. definition_view n ≡ unknown_definition name.now.text) }
+    ensures defined { IfOk result (λ n. node_tree field_definition_tree n ≡ unknown_field (name_tree name.now)) }
+{
+    let name = name.clone()?;
+    let definition = FieldDefinition {
+        description: None,
+        name,
+        arguments: Vec::new(alloc),
+        ty: Type::Named(Name::new_static_unchecked("UNKNOWN")),
+        directives: DirectiveList::new(alloc),
+    };
+    Ok(Node::new(alloc, definition)?)
+}
+
+/// The definition of the field of that name on the type of that name, if there is one. It is shared with the schema;
+/// without a schema each field has one.
+pub(crate) fn definition_of(
+    alloc: Global,
+    schema: Option<&Schema>,
+    type_name: &Name,
+    field_name: &Name,
+) -> Result<Option<Node<FieldDefinition>>, AllocError>
+    ensures view { IfOk result (λ r. option_map definition_view r ≡ (meanings_under schema.entry).field type_name.now.text field_name.now.text) }
+    ensures defined { IfOk result (λ r. IfSome r (λ d. IsDefinitionOf (schema_under schema.entry) type_name.now.text (name_tree field_name.now) (node_tree field_definition_tree d))) }
+{
+    let Some(schema) = schema else {
+        return Ok(Some(unknown_field(alloc, field_name)?));
+    };
+    match schema.type_field(type_name, field_name) {
+        Ok(field) => Ok(Some(field.node.clone()?)),
+        Err(_) => Ok(None),
+    }
+}
+
+/// The name inside the type of a field.
+pub(crate) fn inner_name(definition: &Node<FieldDefinition>) -> &Name
+    ensures { result.now.text ≡ inner_type (definition_view definition.now) }
+{
+    definition.content().ty.inner_named_type()
+}
+
+/// The name that the root of that operation has by default (section 3.3.1).
+fn default_root(operation_type: OperationType) -> Name
+    ensures { result.text ≡ default_root_name operation_type }
+{
+    match operation_type {
+        OperationType::Query => Name::new_static_unchecked("Query"),
+        OperationType::Mutation => Name::new_static_unchecked("Mutation"),
+        OperationType::Subscription => Name::new_static_unchecked("Subscription"),
+    }
+}
+
+/// The name of the root of that operation, if there is one. Without a schema it is the default name.
+pub(crate) fn root_of(
+    schema: Option<&Schema>,
+    operation_type: OperationType,
+) -> Result<Option<Name>, AllocError>
+    ensures { IfOk result (λ r. option_map (λ n. n.text) r ≡ (meanings_under schema.entry).root operation_type) }
+{
+    let Some(schema) = schema else {
+        return Ok(Some(default_root(operation_type)));
+    };
+    match schema.root_operation(operation_type) {
+        None => Ok(None),
+        Some(name) => Ok(Some(name.clone()?)),
+    }
+}

@@ -1,0 +1,95 @@
+//! The rules of typing on selections: each gives what breaks it.
+ghost use Rattle.std.specs.Prelude.{◌≡◌, ◌++◌, [], ◌∷◌, true, OnOk};
+ghost use Rattle.fault_document_data.specs.DocumentBreaches as breach;
+ghost use Rattle.fault_document_data.specs.DocumentBreachView.{document_breach_of};
+ghost use Rattle.document_typing.specs.FaultView.{faults_of};
+ghost use Rattle.tree_operations.specs.SelectionTree.{selection_tree, selection_trees};
+ghost use Rattle.document_typing.specs.KeptSelections.{is_leaf, may_select};
+ghost use Rattle.document_typing.specs.SetFaults.{leaf_faults};
+ghost use Rattle.document_typing.specs.MeaningView.{meanings_under};
+
+use crate::look_ups::{is_leaf, is_scalar};
+use fault_document_data::BuildError;
+use graphql_names::{Name, SourceSpan};
+use graphql_schema::Schema;
+use std::alloc::AllocError;
+use tree_operations::Selection;
+
+/// Tells a fault at a place.
+pub(crate) fn tell(
+    location: Option<SourceSpan>,
+    error: BuildError,
+    faults: &mut Vec<(Option<SourceSpan>, BuildError)>,
+) -> Result<(), AllocError>
+    ensures { OnOk result (faults_of faults.new ≡ faults_of faults.old ++ record { place = location; breach = document_breach_of error } ∷ []) }
+{
+    faults.push((location, error))?;
+    Ok(())
+}
+
+/// A field is defined on the type that it is selected on (section 5.3.1): this one is not.
+pub(crate) fn undefined_field(
+    location: Option<SourceSpan>,
+    type_name: &Name,
+    field_name: &Name,
+    faults: &mut Vec<(Option<SourceSpan>, BuildError)>,
+) -> Result<(), AllocError>
+    ensures { OnOk result (faults_of faults.new ≡ faults_of faults.old ++ record { place = location; breach = breach.UndefinedField type_name.now.text field_name.now.text } ∷ []) }
+{
+    let type_name = type_name.clone()?;
+    let field_name = field_name.clone()?;
+    tell(
+        location,
+        BuildError::UndefinedField {
+            type_name,
+            field_name,
+        },
+        faults,
+    )
+}
+
+/// Whether a field of that inner type may select so: on a leaf there is no set (section 5.3.3).
+pub(crate) fn may_select(
+    schema: Option<&Schema>,
+    type_name: &Name,
+    selections: &[Selection],
+) -> bool
+    ensures { result ≡ may_select (meanings_under schema.entry) type_name.now.text (selection_trees selection_tree selections.now) }
+{
+    selections.is_empty() || !is_leaf(schema, type_name)
+}
+
+/// Tells of a set on a leaf, which is a scalar or an enum.
+pub(crate) fn subselection_on_leaf(
+    schema: Option<&Schema>,
+    location: Option<SourceSpan>,
+    type_name: &Name,
+    faults: &mut Vec<(Option<SourceSpan>, BuildError)>,
+) -> Result<(), AllocError>
+    requires { is_leaf (meanings_under schema) type_name.now.text ≡ true }
+    ensures { OnOk result (faults_of faults.new ≡ faults_of faults.old ++ leaf_faults (meanings_under schema.entry) location type_name.now.text) }
+{
+    let type_name = type_name.clone()?;
+    let error = if is_scalar(schema, &type_name) {
+        BuildError::SubselectionOnScalarType { type_name }
+    } else {
+        BuildError::SubselectionOnEnumType { type_name }
+    };
+    tell(location, error, faults)
+}
+
+/// An inline fragment is on a type that is there (section 5.5.1.2): this one is not.
+pub(crate) fn undefined_type_in_inline_fragment_type_condition(
+    location: Option<SourceSpan>,
+    type_name: &Name,
+    faults: &mut Vec<(Option<SourceSpan>, BuildError)>,
+) -> Result<(), AllocError>
+    ensures { OnOk result (faults_of faults.new ≡ faults_of faults.old ++ record { place = location; breach = breach.UndefinedTypeInInlineFragmentTypeCondition type_name.now.text } ∷ []) }
+{
+    let type_name = type_name.clone()?;
+    tell(
+        location,
+        BuildError::UndefinedTypeInInlineFragmentTypeCondition { type_name },
+        faults,
+    )
+}

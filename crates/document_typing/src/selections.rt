@@ -1,0 +1,172 @@
+//! Typing of selections.
+ghost use Rattle.std.specs.Prelude.{◌≡◌, ◌++◌, [], ◌∷◌, ℕ, List, IfOk, OnOk};
+ghost use Rattle.std.specs.Option.{option_map};
+ghost use Rattle.graphql_names.specs.Node.{content, place};
+ghost use Rattle.graphql_names.specs.Placed.{name_tree, node_tree};
+ghost use Rattle.tree_directives.specs.DirectiveTree.{directives_tree};
+ghost use Rattle.tree_operations.specs.SelectionTree.{selection_tree, selection_trees};
+ghost use Rattle.tree_operations.specs.SelectionParts.{field_node_tree, inline_node_tree};
+ghost use Rattle.tree_type_members.specs.TypeSystemTree.{field_definition_tree};
+ghost use Rattle.document_typed_selections.specs.TypedTree.{set_type, typed_set_tree};
+ghost use Rattle.document_typing.specs.MeantTree.{MeantInline, meant_of_set, set_on};
+ghost use Rattle.document_typing.specs.KeptSelections.{kept, kept_all};
+ghost use Rattle.document_typing.specs.SetFaults.{selection_faults, set_faults};
+ghost use Rattle.document_typing.specs.DefinedField.{definition_view, kept_defined, defined_faults};
+ghost use Rattle.document_typing.specs.FaultView.{faults_of};
+ghost use Rattle.document_typing.specs.DefinedByPlace.{IsDefinitionOf, IsDefinedSet};
+ghost use Rattle.document_typing.specs.MeaningView.{schema_under, meanings_under, meant_selections, AreKeptDefined};
+
+use crate::keep::{keep_field, keep_inline, keep_spread};
+use crate::look_ups::{definition_of, has_type, inner_name};
+use crate::rules::{
+    may_select, subselection_on_leaf, undefined_field,
+    undefined_type_in_inline_fragment_type_condition,
+};
+use document_typed_selections as typed;
+use fault_document_data::BuildError;
+use graphql_names::{Name, Node, SourceSpan};
+use graphql_schema::Schema;
+use std::alloc::{AllocError, Global};
+use tree_operations::{Field, InlineFragment, Selection};
+use tree_type_members::FieldDefinition;
+
+/// The set on the type of those selections that have a meaning under it, with it; the others are told.
+#[cycle(typing)]
+pub(crate) fn type_set(
+    alloc: Global,
+    schema: Option<&Schema>,
+    type_name: &Name,
+    selections: &[Selection],
+    faults: &mut Vec<(Option<SourceSpan>, BuildError)>,
+) -> Result<typed::SelectionSet, AllocError>
+    ensures kept { IfOk result (λ s. meant_of_set (typed_set_tree s) ≡ set_on type_name.now.text (kept_all (meanings_under schema.entry) (selection_trees selection_tree selections.now) type_name.now.text)) }
+    ensures ty { IfOk result (λ s. set_type (typed_set_tree s) ≡ name_tree type_name.now) }
+    ensures defined { IfOk result (λ s. IsDefinedSet (schema_under schema.entry) (typed_set_tree s)) }
+    ensures faults { OnOk result (faults_of faults.new ≡ faults_of faults.old ++ set_faults (meanings_under schema.entry) (selection_trees selection_tree selections.now) type_name.now.text) }
+{
+    let mut kept = Vec::new(alloc);
+    for selection in selections {
+        type_selection(alloc, schema, type_name, selection, &mut kept, faults)?;
+    }
+    Ok(typed::SelectionSet {
+        ty: type_name.clone()?,
+        selections: kept,
+    })
+}
+
+/// Keeps the selection with its meaning under the type, or tells that it has none.
+#[cycle(typing)]
+#[tactic(auto, using(tree_operations::proofs::SelectionTrees::selection_tree_rules))]
+fn type_selection(
+    alloc: Global,
+    schema: Option<&Schema>,
+    parent: &Name,
+    selection: &Selection,
+    out: &mut Vec<typed::Selection>,
+    faults: &mut Vec<(Option<SourceSpan>, BuildError)>,
+) -> Result<(), AllocError>
+    ensures kept { OnOk result (meant_selections out.new ≡ meant_selections out.old ++ kept (meanings_under schema.entry) (selection_tree selection.now) parent.now.text) }
+    ensures defined { OnOk result (AreKeptDefined (schema_under schema.entry) parent.now.text out.old → AreKeptDefined (schema_under schema.entry) parent.now.text out.new) }
+    ensures faults { OnOk result (faults_of faults.new ≡ faults_of faults.old ++ selection_faults (meanings_under schema.entry) (selection_tree selection.now) parent.now.text) }
+{
+    match selection {
+        Selection::Field(field) => type_field(alloc, schema, parent, field, out, faults),
+        Selection::FragmentSpread(spread) => keep_spread(alloc, spread, out),
+        Selection::InlineFragment(inline) => type_inline(
+            alloc, schema, parent, inline, out, faults,
+        ),
+    }
+}
+
+/// Keeps the field with its definition on the type, or tells that it has none (section 5.3.1).
+#[cycle(typing)]
+fn type_field(
+    alloc: Global,
+    schema: Option<&Schema>,
+    parent: &Name,
+    field: &Node<Field>,
+    out: &mut Vec<typed::Selection>,
+    faults: &mut Vec<(Option<SourceSpan>, BuildError)>,
+) -> Result<(), AllocError>
+    ensures kept { OnOk result (meant_selections out.new ≡ meant_selections out.old ++ kept (meanings_under schema.entry) (field_node_tree field.now) parent.now.text) }
+    ensures defined { OnOk result (AreKeptDefined (schema_under schema.entry) parent.now.text out.old → AreKeptDefined (schema_under schema.entry) parent.now.text out.new) }
+    ensures faults { OnOk result (faults_of faults.new ≡ faults_of faults.old ++ selection_faults (meanings_under schema.entry) (field_node_tree field.now) parent.now.text) }
+{
+    let name = &field.content().name;
+    match definition_of(alloc, schema, parent, name)? {
+        None => undefined_field(field.location(), parent, name, faults),
+        Some(definition) => type_defined_field(alloc, schema, definition, field, out, faults),
+    }
+}
+
+/// Keeps the field with its definition, or tells that it selects from a leaf (section 5.3.3).
+#[cycle(typing)]
+fn type_defined_field(
+    alloc: Global,
+    schema: Option<&Schema>,
+    definition: Node<FieldDefinition>,
+    field: &Node<Field>,
+    out: &mut Vec<typed::Selection>,
+    faults: &mut Vec<(Option<SourceSpan>, BuildError)>,
+) -> Result<(), AllocError>
+    ensures kept { OnOk result (meant_selections out.new ≡ meant_selections out.old ++ kept_defined (meanings_under schema.entry) (definition_view definition) field.now) }
+    ensures defined { OnOk result ((t : List ℕ) → IsDefinitionOf (schema_under schema.entry) t (name_tree (content field.now).name) (node_tree field_definition_tree definition) → AreKeptDefined (schema_under schema.entry) t out.old → AreKeptDefined (schema_under schema.entry) t out.new) }
+    ensures faults { OnOk result (faults_of faults.new ≡ faults_of faults.old ++ defined_faults (meanings_under schema.entry) (definition_view definition) field.now) }
+{
+    let inner = inner_name(&definition);
+    let selections = &field.content().selection_set;
+    if !may_select(schema, inner, selections) {
+        return subselection_on_leaf(schema, field.location(), inner, faults);
+    }
+    let set = type_set(alloc, schema, inner, selections, faults)?;
+    keep_field(alloc, definition, field, set, out)
+}
+
+/// Keeps the inline fragment with its set, on the type of its condition or else on that around it, or tells that its
+/// condition is not there (section 5.5.1.2).
+#[cycle(typing)]
+fn type_inline(
+    alloc: Global,
+    schema: Option<&Schema>,
+    parent: &Name,
+    inline: &Node<InlineFragment>,
+    out: &mut Vec<typed::Selection>,
+    faults: &mut Vec<(Option<SourceSpan>, BuildError)>,
+) -> Result<(), AllocError>
+    ensures kept { OnOk result (meant_selections out.new ≡ meant_selections out.old ++ kept (meanings_under schema.entry) (inline_node_tree inline.now) parent.now.text) }
+    ensures defined { OnOk result (AreKeptDefined (schema_under schema.entry) parent.now.text out.old → AreKeptDefined (schema_under schema.entry) parent.now.text out.new) }
+    ensures faults { OnOk result (faults_of faults.new ≡ faults_of faults.old ++ selection_faults (meanings_under schema.entry) (inline_node_tree inline.now) parent.now.text) }
+{
+    match &inline.content().type_condition {
+        None => type_inline_on(alloc, schema, parent, inline, out, faults),
+        Some(condition) => {
+            if !has_type(schema, condition) {
+                return undefined_type_in_inline_fragment_type_condition(
+                    inline.location(),
+                    condition,
+                    faults,
+                );
+            }
+            type_inline_on(alloc, schema, condition, inline, out, faults)
+        }
+    }
+}
+
+/// Keeps the inline fragment with its set on that type.
+#[cycle(typing)]
+fn type_inline_on(
+    alloc: Global,
+    schema: Option<&Schema>,
+    type_name: &Name,
+    inline: &Node<InlineFragment>,
+    out: &mut Vec<typed::Selection>,
+    faults: &mut Vec<(Option<SourceSpan>, BuildError)>,
+) -> Result<(), AllocError>
+    ensures kept { OnOk result (meant_selections out.new ≡ meant_selections out.old ++ MeantInline (place inline.now) (option_map name_tree (content inline.now).type_condition) (directives_tree (content inline.now).directives) (set_on type_name.now.text (kept_all (meanings_under schema.entry) (selection_trees selection_tree (content inline.now).selection_set.items) type_name.now.text)) ∷ []) }
+    ensures defined { OnOk result ((t : List ℕ) → AreKeptDefined (schema_under schema.entry) t out.old → AreKeptDefined (schema_under schema.entry) t out.new) }
+    ensures faults { OnOk result (faults_of faults.new ≡ faults_of faults.old ++ set_faults (meanings_under schema.entry) (selection_trees selection_tree (content inline.now).selection_set.items) type_name.now.text) }
+{
+    let selections = &inline.content().selection_set;
+    let set = type_set(alloc, schema, type_name, selections, faults)?;
+    keep_inline(alloc, inline, set, out)
+}

@@ -1,0 +1,3 @@
+pub mod GapTexts
+pub mod Judgings
+pub use Rattle.rule_definitions.proofs as in_rule_definitions

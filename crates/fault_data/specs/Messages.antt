@@ -1,0 +1,70 @@
+-- The text of what breaks a rule: its template, filled with what it tells.
+use Rattle.std.specs.Prelude.{ℕ, List, ◌++◌, codes, Option, None, Some}
+use Rattle.tree_literals.specs.ValueLayout.{type_text}
+use Rattle.tree_literals.specs.ValueQueries.{value_description}
+use Rattle.tree_directives.specs.DirectivePlaces.{location_keyword}
+use Rattle.schema_coordinates.specs.Coordinate.{printed}
+use Rattle.rule_definitions.specs.Diagnostics.{Diagnostic, QueryRootOperationType, UndefinedDefinition, RootOperationObjectType, DuplicateRootOperationType, ReservedName, OutputType, InputType, EmptyFieldSet, EmptyValueSet, EmptyMemberSet, EmptyInputValueSet, UnionMemberObjectType, RecursiveInterfaceDefinition, TransitiveImplementedInterfaces, MissingInterfaceField, InvalidImplementationFieldType, MissingInterfaceFieldArgument, InvalidImplementationFieldArgumentType, ExtraRequiredImplementationFieldArgument, UniqueInputValue, RecursiveInputObjectDefinition, RecursiveDirectiveDefinition, DeeplyNestedType, UndefinedDirective, UniqueDirective, UnsupportedLocation, UniqueArgument, UndefinedArgument, RequiredArgument, DisallowedVariableUsage, UnsupportedValueType, IntCoercionError, FloatCoercionError, UndefinedVariable, UndefinedEnumValue, UndefinedInputValue, RequiredField, UniqueVariable, VariableInputType, UnusedVariable, MissingSubselection, UndefinedFragment, InvalidFragmentTarget, InvalidFragmentSpread, UnusedFragment, RecursiveFragmentDefinition, RecursionError}
+
+-- `type.field`
+abbrev pub dotted : List ℕ → List ℕ → List ℕ
+dotted type field = type ++ (codes "." ++ field)
+
+-- a fragment by its name, or without one
+abbrev pub fragment_words : Option (List ℕ) → List ℕ
+fragment_words None = codes "inline fragment"
+fragment_words (Some name) = codes "fragment `" ++ (name ++ codes "`")
+
+module _ {P E : Type 0} where
+  abbrev pub message : Diagnostic P E → List ℕ
+  -- ---- schemas
+  message QueryRootOperationType = codes "missing query root operation type in schema definition"
+  message (UndefinedDefinition name) = codes "cannot find type `" ++ (name ++ codes "` in this document")
+  message (RootOperationObjectType name describe_type) = codes "`" ++ (name ++ codes "` field must return an object type")
+  message (DuplicateRootOperationType name original_operation original_definition redefined_operation redefined_definition) = codes "the same type `" ++ (name ++ codes "` must not be used for multiple root operation types")
+  message (ReservedName name describe) = describe ++ (codes " cannot be named `" ++ (name ++ codes "` as names starting with two underscores are reserved"))
+  message (OutputType name describe_type type_location) = codes "`" ++ (name ++ codes "` field must return an output type")
+  message (InputType name describe_type type_location) = codes "`" ++ (name ++ codes "` field must be of an input type")
+  message (EmptyFieldSet type_name type_location extensions_locations) = codes "`" ++ (type_name ++ codes "` has no fields")
+  message (EmptyValueSet type_name type_location extensions_locations) = codes "`" ++ (type_name ++ codes "` has no enum values")
+  message (EmptyMemberSet type_name type_location extensions_locations) = codes "`" ++ (type_name ++ codes "` has no member types")
+  message (EmptyInputValueSet type_name type_location extensions_locations) = codes "`" ++ (type_name ++ codes "` has no input values")
+  message (UnionMemberObjectType name describe_type) = codes "union member `" ++ (name ++ codes "` must be an object type")
+  message (RecursiveInterfaceDefinition name) = codes "interface " ++ (name ++ codes " cannot implement itself")
+  message (TransitiveImplementedInterfaces interface via_interface transitive_interface_location missing_interface) = codes "interface `" ++ (interface ++ (codes "` declares that it implements `" ++ (via_interface ++ (codes "`, but to do so it must also implement `" ++ (missing_interface ++ codes "`")))))
+  message (MissingInterfaceField name implements_location interface field field_location) = codes "type `" ++ (name ++ (codes "` does not satisfy interface `" ++ (interface ++ (codes "`: missing field `" ++ (field ++ codes "`")))))
+  message (InvalidImplementationFieldType name interface field interface_type actual_type field_location interface_field_location) = codes "interface field `" ++ (dotted interface field ++ (codes "` expects type `" ++ (type_text interface_type ++ (codes "` but `" ++ (dotted name field ++ (codes "` of type `" ++ (type_text actual_type ++ codes "` is not a proper subtype")))))))
+  message (MissingInterfaceFieldArgument name interface field argument field_location interface_argument_location) = codes "interface field `" ++ (dotted interface field ++ (codes "` expects argument `" ++ (argument ++ (codes "` but `" ++ (dotted name field ++ codes "` does not provide it")))))
+  message (InvalidImplementationFieldArgumentType name interface field argument interface_type actual_type argument_location interface_argument_location) = codes "interface field `" ++ (dotted interface field ++ (codes "` expects argument `" ++ (argument ++ (codes "` of type `" ++ (type_text interface_type ++ (codes "` but `" ++ (dotted name field ++ (codes "` provides type `" ++ (type_text actual_type ++ codes "`")))))))))
+  message (ExtraRequiredImplementationFieldArgument name interface field argument argument_location interface_field_location) = codes "`" ++ (dotted name field ++ (codes "` has extra required argument `" ++ (argument ++ (codes "` not present in interface `" ++ (dotted interface field ++ codes "`")))))
+  message (UniqueInputValue name original_definition redefined_definition) = codes "the value `" ++ (name ++ codes "` is defined multiple times")
+  message (RecursiveInputObjectDefinition name trace) = codes "`" ++ (name ++ codes "` input object cannot reference itself")
+  message (RecursiveDirectiveDefinition name trace) = codes "`" ++ (name ++ codes "` directive definition cannot reference itself")
+  message (DeeplyNestedType name describe_type) = codes "`" ++ (name ++ codes "` contains too much nesting")
+  -- ---- uses of directives and arguments
+  message (UndefinedDirective name) = codes "cannot find directive `@" ++ (name ++ codes "` in this document")
+  message (UniqueDirective name original_application) = codes "non-repeatable directive " ++ (name ++ codes " can only be used once per location")
+  message (UnsupportedLocation name location valid_locations definition_location) = name ++ (codes " directive is not supported for " ++ (location_keyword location ++ codes " location"))
+  message (UniqueArgument name original_definition redefined_definition) = codes "the argument `" ++ (name ++ codes "` is provided multiple times")
+  message (UndefinedArgument name coordinate definition_location) = codes "the argument `" ++ (name ++ (codes "` is not supported by `" ++ (printed coordinate ++ codes "`")))
+  message (RequiredArgument name coordinate expected_type definition_location) = codes "the required argument `" ++ (printed coordinate ++ codes "` is not provided")
+  message (DisallowedVariableUsage variable variable_type variable_location argument argument_type argument_location) = codes "variable `$" ++ (variable ++ (codes "` of type `" ++ (type_text variable_type ++ (codes "` cannot be used for argument `" ++ (argument ++ (codes "` of type `" ++ (type_text argument_type ++ codes "`")))))))
+  -- ---- values
+  message (UnsupportedValueType value ty definition_location) = codes "expected value of type " ++ (type_text ty ++ (codes ", found " ++ value_description value))
+  message (IntCoercionError value) = codes "int cannot represent non 32-bit signed integer value"
+  message (FloatCoercionError value) = codes "float cannot represent non-finite 64-bit floating point value"
+  message (UndefinedVariable name) = codes "variable `$" ++ (name ++ codes "` is not defined")
+  message (UndefinedEnumValue value definition definition_location) = codes "value `" ++ (value ++ (codes "` does not exist on `" ++ (definition ++ codes "`")))
+  message (UndefinedInputValue value definition definition_location) = codes "field `" ++ (value ++ (codes "` does not exist on `" ++ (definition ++ codes "`")))
+  message (RequiredField name coordinate expected_type definition_location) = codes "the required field `" ++ (printed coordinate ++ codes "` is not provided")
+  -- ---- documents
+  message (UniqueVariable name original_definition redefined_definition) = codes "the variable `$" ++ (name ++ codes "` is declared multiple times")
+  message (VariableInputType name ty describe_type) = codes "`$" ++ (name ++ codes "` variable must be of an input type")
+  message (UnusedVariable name) = codes "unused variable: `$" ++ (name ++ codes "`")
+  message (MissingSubselection coordinate output_type describe_type) = codes "interface, union and object types must have a subselection set"
+  message (UndefinedFragment name) = codes "cannot find fragment `" ++ (name ++ codes "` in this document")
+  message (InvalidFragmentTarget name ty) = fragment_words name ++ codes " must have a composite type in its type condition"
+  message (InvalidFragmentSpread name type_name type_condition fragment_location type_location) = fragment_words name ++ (codes " with type condition `" ++ (type_condition ++ (codes "` cannot be applied to `" ++ (type_name ++ codes "`"))))
+  message (UnusedFragment name) = codes "fragment `" ++ (name ++ codes "` must be used in an operation")
+  message (RecursiveFragmentDefinition head_location name trace) = codes "`" ++ (name ++ codes "` fragment cannot reference itself")
+  message RecursionError = codes "too much recursion"

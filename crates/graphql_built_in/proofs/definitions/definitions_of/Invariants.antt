@@ -1,7 +1,0 @@
-use Rattle.std.proofs.Common.{◌≡◌, map, take}
-use Rattle.graphql_folding.specs.in_definitions.DefinitionTree.{definition_tree}
-use Rattle.graphql_built_in.specs.Rows.{row_definition}
-use Rattle.graphql_built_in.proofs.definitions.definitions_of.Given as goal
-
-abbrev pub invariant-loop-row : goal.invariant-loop-row
-invariant-loop-row l = map definition_tree l.definitions.items ≡ map row_definition (take l.row-index l.rows)

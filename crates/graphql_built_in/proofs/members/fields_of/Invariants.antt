@@ -1,8 +1,0 @@
-use Rattle.std.proofs.Common.{◌≡◌, map, take}
-use Rattle.graphql_names.specs.Placed.{node_tree}
-use Rattle.graphql_type_members.specs.TypeSystemTree.{field_definition_tree}
-use Rattle.graphql_built_in.specs.Rows.{row_field}
-use Rattle.graphql_built_in.proofs.members.fields_of.Given as goal
-
-abbrev pub invariant-loop-row : goal.invariant-loop-row
-invariant-loop-row l = map (node_tree field_definition_tree) l.fields.items ≡ map row_field (take l.row-index l.rows)

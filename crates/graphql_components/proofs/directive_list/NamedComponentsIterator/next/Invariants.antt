@@ -1,9 +1,0 @@
-use Rattle.std.proofs.Common.{◌≡◌, length}
-use Rattle.graphql_components.specs.LeftNamed.{left_named}
-use Rattle.graphql_components.proofs.directive_list.NamedComponentsIterator.next.Given as goal
-
-abbrev pub invariant-loop-first : goal.invariant-loop-first
-invariant-loop-first l = left_named l.self ≡ left_named l.initial.self
-
-abbrev pub decreases-loop-first : goal.decreases-loop-first
-decreases-loop-first l = length l.self.rest.now

@@ -1,8 +1,0 @@
-use Rattle.std.proofs.Common.{map}
-use Rattle.graphql_printing.specs.in_names.Placed.{name_tree}
-use Rattle.graphql_type_members.specs.TypeSystemTree.{field_definition_tree}
-use Rattle.graphql_names.proofs.Copies.{nodes-copies, equal-copies}
-use Rattle.graphql_composite_types.proofs.copies.clone_members.Goals as goal
-
-pub returns : goal.returns
-returns c = (λ i. map name_tree (equal-copies _ _ c.in_ok-clone.ensures.cases.0 i), nodes-copies field_definition_tree _ _ c.in_ok-clone-2.ensures.cases.0)

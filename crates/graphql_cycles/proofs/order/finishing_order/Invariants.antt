@@ -1,6 +1,0 @@
-use Rattle.std.proofs.Common.{◌+◌, length}
-use Rattle.graphql_cycles.specs.Order.{to_enter}
-use Rattle.graphql_cycles.proofs.order.finishing_order.Given as goal
-
-abbrev pub decreases-loop-visit : goal.decreases-loop-visit
-decreases-loop-visit l = to_enter l.entered.items l.references + length l.pending.items

@@ -1,6 +1,0 @@
-use Rattle.std.proofs.Common.{take}
-use Rattle.graphql_cycles.specs.Referrers.{AddsReferrer}
-use Rattle.graphql_cycles.proofs.referrers.add_referrer.Given as goal
-
-abbrev pub invariant-loop-target : goal.invariant-loop-target
-invariant-loop-target l = AddsReferrer l.node (take l.target-index l.targets) l.fn.referrers l.referrers

@@ -1,9 +1,0 @@
-use Rattle.std.proofs.Common.{◌≡◌, length}
-use Rattle.graphql_cycles.specs.Ways.{Goes}
-use Rattle.graphql_cycles.proofs.ways.follow.Given as goal
-
-abbrev pub invariant-loop : goal.invariant-loop
-invariant-loop l = record {
-  goes : Goes l.steps l.stops l.start l.way.items l.node;
-  long : length l.way.items ≡ l.counter;
-}

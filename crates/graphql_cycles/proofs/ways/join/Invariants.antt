@@ -1,9 +1,0 @@
-use Rattle.std.proofs.Common.{◌≡◌, ◌++◌, ℕ, List, length}
-use Rattle.std.specs.Prelude.{Contains}
-use Rattle.graphql_cycles.proofs.ways.join.Given as goal
-
-abbrev pub invariant-loop-node : goal.invariant-loop-node
-invariant-loop-node l = (rest : List ℕ) × ((l.fn.ahead.items ≡ l.ahead.items ++ rest) × ((n : ℕ) × (Contains l.ahead.items n × Contains l.behind n)))
-
-abbrev pub decreases-loop-node : goal.decreases-loop-node
-decreases-loop-node l = length l.ahead.items

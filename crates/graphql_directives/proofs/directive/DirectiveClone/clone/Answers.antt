@@ -1,9 +1,0 @@
-use Rattle.std.proofs.Common.{rules}
-use Rattle.graphql_directives.specs.DirectiveTree.{argument_tree}
-use Rattle.graphql_names.proofs.Copies.{nodes-copies}
-use Rattle.graphql_directives.proofs.directive.DirectiveClone.clone.Goals as goal
-
-pub returns : goal.returns
-returns c =
-    let arguments = nodes-copies argument_tree _ _ c.in_ok-clone-2.ensures.cases.0 in
-    search (rules, arguments)

@@ -1,7 +1,0 @@
-pub mod DiagnosticView
-pub mod FaultView
-pub mod Adds
-pub mod Messages
-pub mod FilledTemplate
-pub mod CopyGroups
-pub use Rattle.graphql_rule_definitions.specs as in_rule_definitions

@@ -1,8 +1,0 @@
-pub mod Filing
-pub mod Sharing
-pub mod Telling
-pub mod Shaped
-pub mod ShapesTold
-pub mod Lists
--- For the layer above.
-pub use Rattle.graphql_field_selections.proofs as in_field_selections

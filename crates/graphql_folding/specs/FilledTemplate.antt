@@ -1,6 +1,0 @@
--- The text of a template with its gaps filled (private: it leads to `specs/Messages.antt`).
-use Rattle.std.specs.Prelude.{ℕ, List, ◌++◌}
-use Rattle.graphql_folding.specs.declared.build_error_text.Template.{Template}
-
-abbrev pub filled : Template → List ℕ
-filled t = t.front.now ++ (t.first.now ++ (t.middle.now ++ (t.second.now ++ t.back.now)))

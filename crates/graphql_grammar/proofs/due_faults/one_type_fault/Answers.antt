@@ -1,6 +1,0 @@
-use Rattle.graphql_grammar.specs.Grammar.{DerivesType}
-use Rattle.graphql_grammar.proofs.OneFault.{one_fault}
-use Rattle.graphql_grammar.proofs.due_faults.one_type_fault.Goals as goal
-
-pub returns : goal.returns
-returns c = λ m tokens ending nesting fault other f o says also. one_fault (DerivesType m) tokens ending nesting fault other f o says also

@@ -1,5 +1,0 @@
-use Rattle.graphql_grammar.proofs.Laws.{one_document}
-use Rattle.graphql_grammar.proofs.one_tree.one_document_tree.Goals as goal
-
-pub returns : goal.returns
-returns c = λ m tokens tree other. one_document m tokens tree other

@@ -1,9 +1,0 @@
--- Words by their first byte, for the private function that looks them up; users need not read it.
-use Rattle.std.specs.Prelude.{ℕ, ◌==◌, List}
-use Rattle.std.specs.List.{filter}
-use Rattle.graphql_lexer.specs.Bytes.{begins_by}
-use Rattle.graphql_lexer.specs.Terminals.{Word}
-
--- those of the words that begin with the byte
-abbrev pub starting : ℕ → List Word → List Word
-starting b words = filter (λ word. begins_by (λ x. b == x) word.0) words

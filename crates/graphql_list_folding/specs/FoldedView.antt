@@ -1,8 +1,0 @@
--- What contracts see of what a list folds to.
-use Rattle.graphql_names.specs.Placed.{Place}
-use Rattle.graphql_folding.specs.in_schema_types.SchemaTree.{SchemaTree}
-use Rattle.graphql_folding.specs.in_schema_types.SchemaView.{schema_view}
-use Rattle.graphql_list_folding.specs.declared.fold.Folded.{Folded}
-
-abbrev pub folded_view : Folded → SchemaTree Place
-folded_view f = schema_view f.schema_definition f.directive_definitions f.types

@@ -1,6 +1,0 @@
-use Rattle.graphql_literals.proofs.NumberLemmas.{digits-nonempty}
-use Rattle.graphql_literals.proofs.number_parts.is_digits.Goals as goal
-
-pub returns-in-Some : goal.returns-in-Some
-returns-in-Some c =
-    digits-nonempty _ _ _ _ c.in-Some.ensures.cases.0 c.all_digits.ensures

@@ -1,8 +1,0 @@
-use Rattle.std.proofs.Common.{◌≡◌, map, drop}
-use Rattle.graphql_names.specs.Placed.{node_tree}
-use Rattle.graphql_operations.specs.OperationTree.{variable_definition_tree}
-use Rattle.graphql_operations.specs.OperationWritable.{variables_writable}
-use Rattle.graphql_operations.proofs.writable_operation.variables_are_writable.Given as goal
-
-abbrev pub invariant-loop-variable : goal.invariant-loop-variable
-invariant-loop-variable l = variables_writable (map (node_tree variable_definition_tree) l.variables) ≡ variables_writable (map (node_tree variable_definition_tree) (drop l.variable-index l.variables))

@@ -1,2 +1,0 @@
-pub mod MemberSteps
-pub use Rattle.graphql_parse_values.specs as in_parse_values

@@ -1,6 +1,0 @@
-use Rattle.std.proofs.Common.{rules}
-use Rattle.graphql_parse_operations.proofs.SelectionRules.{selection_tree_spread}
-use Rattle.graphql_parse_operations.proofs.selection_parts.placed_spread.Goals as goal
-
-pub returns : goal.returns
-returns c = rw (selection_tree_spread c.in_ok-new_parsed.field-0, c.in_ok-new_parsed.ensures.content, c.in_ok-new_parsed.ensures.place) (search rules)

@@ -1,9 +1,0 @@
-pub mod Same
-pub mod KeptFacts
-pub mod Accepting
-pub mod Examples
-pub use Rattle.graphql_cycles.proofs.Lists
-pub mod Lookups
-pub mod Tells
-pub mod Listing
-pub mod Firsts

@@ -1,9 +1,0 @@
-pub mod Numbering
-pub mod Adding
-pub mod Sourcing
-pub mod Awaited
-pub mod Settled
-pub mod Growing
-pub mod Keeping
-pub mod Schemas
-pub use Rattle.graphql_folding.proofs.in_schema_types as in_schema_types

@@ -1,8 +1,0 @@
-use Rattle.std.proofs.Common.{◌≡◌, drop, map}
-use Rattle.graphql_folding.specs.SchemaFold.{is_object_in}
-use Rattle.graphql_folding.specs.ListedView.{listed_view}
-use Rattle.graphql_schema_building.specs.DefinitionsOf.{definitions_of}
-use Rattle.graphql_schema_building.proofs.defined.is_object.Given as goal
-
-abbrev pub invariant-loop-listed : goal.invariant-loop-listed
-invariant-loop-listed l = is_object_in (definitions_of (map listed_view (drop l.listed-index l.list))) l.name ≡ is_object_in (definitions_of (map listed_view l.list)) l.name

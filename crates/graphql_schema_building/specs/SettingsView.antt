@@ -1,6 +1,0 @@
--- What contracts see of a builder's settings.
-use Rattle.graphql_folding.specs.Adoption.{Settings}
-use Rattle.graphql_schema_building.specs.declared.settle.Settings.{Settings as Rust}
-
-abbrev pub settings_view : Rust → Settings
-settings_view s = record { adopts = s.adopts; ignores = s.ignores }

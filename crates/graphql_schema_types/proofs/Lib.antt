@@ -1,5 +1,0 @@
-pub mod TypeEquality
-pub mod Noted
-pub mod UnderNames
-pub use Rattle.graphql_components.proofs as in_components
-pub use Rattle.graphql_components.proofs.in_values as in_values

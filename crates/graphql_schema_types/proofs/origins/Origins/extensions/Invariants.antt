@@ -1,6 +1,0 @@
-use Rattle.std.proofs.Common.{◌≡◌}
-use Rattle.graphql_schema_types.specs.Origins.{extensions_in}
-use Rattle.graphql_schema_types.proofs.origins.Origins.extensions.Given as goal
-
-abbrev pub invariant-loop-origin : goal.invariant-loop-origin
-invariant-loop-origin l = l.ids.keys ≡ extensions_in l.yielded

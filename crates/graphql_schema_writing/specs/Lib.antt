@@ -1,5 +1,0 @@
-pub mod Filed
-pub mod Contents
-pub mod ContentsView
-pub mod SchemaParts
-pub use Rattle.graphql_schema_types.specs.in_definitions as in_definitions

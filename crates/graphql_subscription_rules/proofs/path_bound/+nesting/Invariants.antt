@@ -1,8 +1,0 @@
-use Rattle.std.proofs.Common.{◌≡◌, false, take}
-use Rattle.std.specs.List.{list_any}
-use Rattle.graphql_subscription_rules.specs.Nested.{deeper_of}
-use Rattle.graphql_subscription_rules.specs.Rooted.{lent}
-use Rattle.graphql_subscription_rules.proofs.path_bound.+nesting.Given as goal
-
-abbrev pub invariant-nests_deeper-loop-selection : goal.invariant-nests_deeper-loop-selection
-invariant-nests_deeper-loop-selection l = list_any (λ s. deeper_of l.bound (lent s)) (take l.selection-index l.set.selections.items) ≡ false

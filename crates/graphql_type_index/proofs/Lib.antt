@@ -1,6 +1,0 @@
-pub mod Under
-pub mod Listing
-pub mod Extending
-pub mod Indexing
-pub mod FiledKinds
-pub use Rattle.graphql_folding.proofs as in_folding

@@ -1,6 +1,0 @@
-use Rattle.graphql_directives.specs.DirectiveTree.{input_value_tree}
-use Rattle.graphql_names.proofs.Copies.{nodes-copies}
-use Rattle.graphql_type_members.proofs.field_definition.clone_signature.Goals as goal
-
-pub returns : goal.returns
-returns c = (nodes-copies input_value_tree _ _ c.in_ok-clone.ensures.cases.0, c.in_ok-clone-2.ensures.cases)

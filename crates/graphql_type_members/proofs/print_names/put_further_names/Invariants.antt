@@ -1,9 +1,0 @@
-use Rattle.std.proofs.Common.{map, take}
-use Rattle.graphql_names.specs.Placed.{name_tree}
-use Rattle.graphql_printing.specs.Joined.{further_text}
-use Rattle.graphql_type_members.specs.TypeSystemLayout.{name_text}
-use Rattle.graphql_type_members.proofs.print_names.put_further_names.Given as goal
-
-abbrev pub invariant-loop-name : goal.invariant-loop-name
-invariant-loop-name g l =
-    g.S.Sink.puts l.fn.sink (further_text l.sign (map name_text (map name_tree (take l.name-index l.names)))) l.sink

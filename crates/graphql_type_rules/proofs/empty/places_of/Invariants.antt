@@ -1,6 +1,0 @@
-use Rattle.std.proofs.Common.{◌≡◌, map, take}
-use Rattle.graphql_components.specs.Given.{place_of}
-use Rattle.graphql_type_rules.proofs.empty.places_of.Given as goal
-
-abbrev pub invariant-loop-extension : goal.invariant-loop-extension
-invariant-loop-extension l = l.places.items ≡ map place_of (take l.extension-index l.extension-items)

@@ -1,9 +1,0 @@
-use Rattle.std.proofs.Common.{◌≡◌, ◌++◌, map, take}
-use Rattle.graphql_names.specs.Placed.{node_tree}
-use Rattle.graphql_definitions.specs.DefinitionTree.{definition_tree}
-use Rattle.graphql_typed_operations.specs.TypedDocument.{typed_fragment_tree}
-use Rattle.graphql_typed_operations.specs.ToAst.{ast_fragment}
-use Rattle.graphql_typed_operations.proofs.to_ast.write_fragments.Given as goal
-
-abbrev pub invariant-loop-fragment : goal.invariant-loop-fragment
-invariant-loop-fragment l = map definition_tree l.out.items ≡ map definition_tree l.fn.out.items ++ map (λ n. ast_fragment (node_tree typed_fragment_tree n)) (take l.fragment-index l.fragments)

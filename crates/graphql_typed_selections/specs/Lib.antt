@@ -1,4 +1,0 @@
-pub mod TypedTree
-pub mod TypedParts
-pub mod OwnFields
-pub use Rattle.graphql_type_members.specs as in_type_members

@@ -1,9 +1,0 @@
-pub mod Moved
-pub mod SchemaUses
-pub mod Laws
-pub mod Trees
-pub mod Alone
-pub mod UseFaults
-pub mod Steps
--- The crates beneath, for those above.
-pub use Rattle.graphql_value_rules.specs.in_rule_definitions as in_rule_definitions

@@ -1,8 +1,0 @@
-use Rattle.std.proofs.Common.{◌≡◌, ◌++◌, map}
-use Rattle.graphql_fault_data.specs.FaultView.{faults_of}
-use Rattle.graphql_value_rules.specs.Wanting.{is_missing, required_among}
-use Rattle.graphql_value_rules.proofs.objects.tell_each_required.Given as goal
-
-abbrev pub invariant-loop-field_name : goal.invariant-loop-field_name
-invariant-loop-field_name l =
-    faults_of l.faults ≡ faults_of l.fn.faults ++ required_among (is_missing l.nulls) l.name.text l.location (map (λ e. (e.0.now, e.1.now)) l.yielded)

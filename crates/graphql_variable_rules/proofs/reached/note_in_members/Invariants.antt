@@ -1,7 +1,0 @@
-use Rattle.std.proofs.Common.{◌≡◌, drop, map}
-use Rattle.graphql_reach.specs.Reach.{member_of}
-use Rattle.graphql_variable_rules.specs.UsedNames.{noted_names, with_members}
-use Rattle.graphql_variable_rules.proofs.reached.note_in_members.Given as goal
-
-abbrev pub invariant-loop-selection : goal.invariant-loop-selection
-invariant-loop-selection l = with_members (noted_names l.fn.names) (map member_of l.selection-items) ≡ with_members (noted_names l.names) (map member_of (drop l.selection-index l.selection-items))

@@ -1,8 +1,0 @@
-use Rattle.std.proofs.Common.{◌≡◌, drop, map}
-use Rattle.graphql_names.specs.Placed.{node_tree}
-use Rattle.graphql_directives.specs.DirectiveTree.{directive_tree, directives_tree}
-use Rattle.graphql_variable_rules.specs.UsedNames.{noted_names, with_directives}
-use Rattle.graphql_variable_rules.proofs.used.note_in_directives.Given as goal
-
-abbrev pub invariant-loop-directive : goal.invariant-loop-directive
-invariant-loop-directive l = with_directives (noted_names l.fn.names) (directives_tree l.directives) ≡ with_directives (noted_names l.names) (map (node_tree directive_tree) (drop l.directive-index l.directives.0.items))

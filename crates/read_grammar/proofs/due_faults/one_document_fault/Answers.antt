@@ -1,0 +1,6 @@
+use Rattle.read_grammar.specs.Grammar.{Derives}
+use Rattle.read_grammar.proofs.OneFault.{one_fault}
+use Rattle.read_grammar.proofs.due_faults.one_document_fault.Goals as goal
+
+pub returns : goal.returns
+returns c = λ m tokens ending nesting fault other f o says also. one_fault (Derives m) tokens ending nesting fault other f o says also

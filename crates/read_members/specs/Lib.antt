@@ -1,0 +1,2 @@
+pub mod MemberSteps
+pub use Rattle.read_values.specs as in_parse_values

@@ -1,0 +1,51 @@
+-- Private layer: the parts of definitions within the type system. No public clause cites it.
+use Rattle.std.specs.Prelude.{ℕ, Bool, List, ◌++◌, Option}
+use Rattle.graphql_names.specs.Placed.{Placed, Text}
+use Rattle.tree_literals.specs.ValueTree.{ValueTree}
+use Rattle.tree_literals.specs.TypeTree.{TypeTree}
+use Rattle.tree_directives.specs.DirectiveTree.{Directives, InputValues}
+use Rattle.tree_directives.specs.declared.directive_location.DirectiveLocation.{DirectiveLocation}
+use Rattle.read_tokens.specs.declared.terminal.Terminal.{Terminal}
+use Rattle.read_grammar.specs.Meaning.{Meaning}
+use Rattle.read_grammar.specs.Kinds.{is_at, is_colon, is_directive, is_equals, is_on, is_open_paren, is_repeatable, is_string}
+use Rattle.read_grammar.specs.Reading.{Parser, mark, when, try, many, behind, placed, ◌⊙◌, ◌<&>◌}
+use Rattle.read_grammar.specs.TypeSystemReading.{description, arguments_definition, directive_locations}
+use Rattle.read_grammar.specs.ValueGrammar.{constant}
+use Rattle.read_grammar.specs.ValueReading.{name, default_value, directives, type}
+
+-- the first of several with marks between, before which a mark may stand too
+abbrev pub first : {A : Type 0} → (Terminal → Bool) → Parser A → Parser A
+first is p = when is (behind is p) p
+
+-- those that are found, and the others behind them, each behind a mark
+abbrev pub others : {A : Type 0} → (Terminal → Bool) → Parser A → List A → Parser (List A)
+others is p found = (λ xs. found ++ xs) <&> many is (behind is p)
+
+-- with what a directive's definition begins
+abbrev pub directive_marks : Parser (Unit {0} × Unit {0})
+directive_marks = mark is_directive ⊙ mark is_at
+
+-- what stands behind the arguments of a directive
+abbrev pub directive_end : Parser (Option (Unit {0}) × (Unit {0} × List DirectiveLocation))
+directive_end = try is_repeatable (mark is_repeatable) ⊙ mark is_on ⊙ directive_locations
+
+module _ {P : Type 0} (m : Meaning P) where
+  -- a name, and the description before it
+  abbrev pub described_name : Parser (Option (Text P) × Text P)
+  described_name = try is_string (description m) ⊙ name m
+
+  -- what stands behind the name of an input value
+  abbrev pub input_value_rest : ℕ → Parser (Unit {0} × (Placed P (TypeTree P) × (Option (Placed P (ValueTree P)) × Option (Directives P))))
+  input_value_rest n = mark is_colon ⊙ placed m (type m n) ⊙ try is_equals (default_value m n) ⊙ try is_at (directives m constant n)
+
+  -- what stands behind the arguments of a field
+  abbrev pub field_end : ℕ → Parser (Unit {0} × (TypeTree P × Option (Directives P)))
+  field_end n = mark is_colon ⊙ type m n ⊙ try is_at (directives m constant n)
+
+  -- what stands behind the name of a field
+  abbrev pub field_rest : ℕ → Parser (Option (InputValues P) × (Unit {0} × (TypeTree P × Option (Directives P))))
+  field_rest n = try is_open_paren (arguments_definition m n) ⊙ field_end n
+
+  -- what stands behind the name of a directive
+  abbrev pub directive_rest : ℕ → Parser (Option (InputValues P) × (Option (Unit {0}) × (Unit {0} × List DirectiveLocation)))
+  directive_rest n = try is_open_paren (arguments_definition m n) ⊙ directive_end

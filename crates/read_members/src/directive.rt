@@ -1,0 +1,95 @@
+//! Definitions of directives (section 3.13).
+ghost use Rattle.std.specs.Prelude.{◌≡◌, map};
+ghost use Rattle.std.specs.Option.{option_map};
+ghost use Rattle.graphql_names.specs.Placed.{node_tree};
+ghost use Rattle.tree_directives.specs.DirectiveTree.{directive_definition_tree, input_value_tree};
+ghost use Rattle.read_grammar.specs.Kinds as kinds;
+ghost use Rattle.read_grammar.specs.Reading as read;
+ghost use Rattle.read_grammar.specs.Reading.{Reads};
+ghost use Rattle.read_grammar.specs.TypeSystemReading as reading;
+ghost use Rattle.read_values.specs.Meanings.{in_file};
+ghost use Rattle.read_members.specs.MemberSteps as steps;
+
+use crate::input_value_list::{input_values_or_none, optional_arguments_definition};
+use crate::location_list::directive_locations;
+use graphql_names::{FileId, Node};
+use read_grammar::Stop;
+use read_tokens::{Source, Terminal};
+use read_values::{expect, name, next_is};
+use std::alloc::Global;
+use tree_directives::{DirectiveDefinition, DirectiveLocation, InputValueDefinition};
+
+/// `"directive" "@"`
+fn directive_marks(tokens: &mut Source<'_>) -> Result<(), Stop>
+    ensures { Reads (λ x. (tt, tt)) (steps.directive_marks tokens.old) result tokens.new }
+{
+    expect(tokens, Terminal::Directive)?;
+    expect(tokens, Terminal::At)?;
+    Ok(())
+}
+
+/// `repeatable`, or nothing.
+fn optional_repeatable(tokens: &mut Source<'_>) -> Result<Option<()>, Stop>
+    ensures { Reads (λ x. x) (read.try kinds.is_repeatable (read.mark kinds.is_repeatable) tokens.old) result tokens.new }
+{
+    if !next_is(tokens, Terminal::Repeatable) {
+        return Ok(None);
+    }
+    Ok(Some(expect(tokens, Terminal::Repeatable)?))
+}
+
+/// What stands behind the arguments of a directive: `"repeatable"? "on" DirectiveLocations`.
+fn directive_end(
+    alloc: Global,
+    tokens: &mut Source<'_>,
+) -> Result<(Option<()>, Vec<DirectiveLocation>), Stop>
+    ensures { Reads (λ x. (x.0, (tt, x.1.items))) (steps.directive_end tokens.old) result tokens.new }
+{
+    let repeatable = optional_repeatable(tokens)?;
+    expect(tokens, Terminal::On)?;
+    let locations = directive_locations(alloc, tokens)?;
+    Ok((repeatable, locations))
+}
+
+/// What stands behind the name of a directive: `ArgumentsDefinition? "repeatable"? "on" DirectiveLocations`.
+fn directive_rest(
+    alloc: Global,
+    tokens: &mut Source<'_>,
+    file: FileId,
+    depth: usize,
+) -> Result<
+    (
+        Option<Vec<Node<InputValueDefinition>>>,
+        Option<()>,
+        Vec<DirectiveLocation>,
+    ),
+    Stop,
+>
+    ensures { Reads (λ x. (option_map (λ v. map (node_tree input_value_tree) v.items) x.0, (x.1, (tt, x.2.items)))) (steps.directive_rest (in_file file) depth tokens.old) result tokens.new }
+{
+    let arguments = optional_arguments_definition(alloc, tokens, file, depth)?;
+    let (repeatable, locations) = directive_end(alloc, tokens)?;
+    Ok((arguments, repeatable, locations))
+}
+
+/// DirectiveDefinition, behind its description:
+/// `"directive" "@" Name ArgumentsDefinition? "repeatable"? "on" DirectiveLocations`.
+pub fn directive_definition(
+    alloc: Global,
+    tokens: &mut Source<'_>,
+    file: FileId,
+    depth: usize,
+) -> Result<DirectiveDefinition, Stop>
+    ensures { Reads directive_definition_tree (reading.directive_definition (in_file file) depth tokens.old) result tokens.new }
+{
+    directive_marks(tokens)?;
+    let name = name(alloc, tokens, file)?;
+    let (arguments, repeatable, locations) = directive_rest(alloc, tokens, file, depth)?;
+    Ok(DirectiveDefinition {
+        description: None,
+        name,
+        arguments: input_values_or_none(alloc, arguments),
+        repeatable: repeatable.is_some(),
+        locations,
+    })
+}

@@ -1,0 +1,109 @@
+-- Selections are read part by part.
+use Rattle.std.proofs.Common.{◌≡◌, ◌⊎◌, ℕ, Bool, true, false, cond, Option, Ok, Err, inl, inr, refl, ap, ◌∙◌}
+use Rattle.std.specs.Prelude.{[], unwrap_or}
+use Rattle.graphql_names.specs.Node.{content, place}
+use Rattle.graphql_names.specs.declared.node.Node.{Node}
+use Rattle.graphql_names.specs.Placed.{Placed, Place, Text, name_tree}
+use Rattle.tree_directives.specs.DirectiveTree.{Arguments, Directives, directives_tree}
+use Rattle.tree_operations.specs.SelectionTree.{FieldHead, SelectionTree, SelectionTrees, FieldTree, SpreadTree, InlineTree, no_selections, AtPlace, field_step, inline_step, selection_step, selection_tree}
+use Rattle.tree_operations.specs.declared.selection.Selection.{Selection}
+use Rattle.tree_operations.specs.declared.selection.Field.{Field}
+use Rattle.tree_operations.specs.declared.selection.FragmentSpread.{FragmentSpread}
+use Rattle.tree_operations.specs.declared.selection.InlineFragment.{InlineFragment}
+use Rattle.tree_operations.specs.declared.selection.Selection.TheVariants.{FragmentSpread as Spread}
+use Rattle.tree_operations.specs.declared.selection.Selection.TheViews.{outs-FragmentSpread}
+use Rattle.tree_operations.specs.declared.selection.Selection.TheFolds.{map-Selection, fold_out-Selection}
+use Rattle.tree_operations.proofs.SelectionTrees.{field_at, inline_at}
+use Rattle.read_tokens.specs.Input.{Input, next}
+use Rattle.read_grammar.specs.Meaning.{Meaning, begin_of, place_between}
+use Rattle.read_grammar.specs.Kinds.{next_is, is_on, is_at, is_spread, is_fragment_name, is_name, is_open_paren, is_open_brace}
+use Rattle.read_grammar.specs.OperationGrammar.{field_of}
+use Rattle.read_grammar.specs.OperationReading as o
+use Rattle.read_grammar.specs.OperationReading.{Dotted, dotted_of}
+use Rattle.read_grammar.specs.Reading.{Outcome, Parser, and_then, mark, try, ◌⊙◌}
+use Rattle.read_grammar.specs.ValueGrammar.{with_variables}
+use Rattle.read_grammar.specs.ValueReading.{arguments, directives}
+use Rattle.read_operations.specs.SelectionSteps.{field_parts, spread_parts, inline_parts, spread_since, inline_since, dots}
+
+abbrev done : {A : Type 0} → A → Input → Outcome A
+done x z = Ok (x, z)
+
+module _ {P : Type 0} (m : Meaning P) where
+  abbrev FieldRead : Type 0
+  FieldRead = (Option (Text P) × Text P) × (Option (Arguments P) × (Option (Directives P) × Option (SelectionTrees P)))
+
+  abbrev ordered : FieldRead → Option (Text P) × (Text P × (Option (Arguments P) × (Option (Directives P) × Option (SelectionTrees P))))
+  ordered x = (x.0.0, (x.0.1, x.1))
+
+  abbrev parted : FieldRead → FieldHead P × SelectionTrees P
+  parted x = (record { alias = x.0.0; name = x.0.1; arguments = unwrap_or x.1.0 []; directives = unwrap_or x.1.1.0 [] }, unwrap_or x.1.1.1 no_selections)
+
+  abbrev put : {A : Type 0} → A → P → Placed P A
+  put x p = record { it = x; place = p }
+
+  abbrev pub field_from : Input → Outcome (FieldHead P × SelectionTrees P) → Outcome (SelectionTree P)
+  field_from i y = and_then y (λ f z. done (FieldTree (place_between m i z) f.0 f.1) z)
+
+  pub field_is : (n : ℕ) (s : Parser (SelectionTrees P)) (i : Input) → o.field m n s i ≡ field_from i (field_parts m n s i)
+  unfolding o.field
+  field_is n s i = go ((o.alias_and_name m ⊙ try is_open_paren (arguments m with_variables n) ⊙ try is_at (directives m with_variables n) ⊙ try is_open_brace s) i)
+    where
+      go : (y : Outcome FieldRead) → and_then (and_then (and_then y (λ x z. done (ordered x) z)) (λ x z. done (put x (place_between m i z)) z)) (λ x z. done (field_of x) z) ≡ field_from i (and_then y (λ x z. done (parted x) z))
+      go (Ok x) = refl
+      go (Err e) = refl
+
+  abbrev pub spread_from : Input → Outcome (Text P × Directives P) → Outcome (SelectionTree P)
+  spread_from i y = and_then y (λ s z. done (SpreadTree (place_between m i z) s.0 s.1) z)
+
+  abbrev pub inline_from : Input → Outcome (Option (Text P) × (Directives P × SelectionTrees P)) → Outcome (SelectionTree P)
+  inline_from i y = and_then y (λ f z. done (InlineTree (place_between m i z) f.0 f.1.0 f.1.1) z)
+
+  abbrev pub dots_from : ℕ → Parser (SelectionTrees P) → Input → Outcome (Unit {0}) → Outcome (SelectionTree P)
+  dots_from n s i y = and_then y (λ u k. cond (next_is is_fragment_name (next k)) (spread_from i (spread_parts m n k)) (inline_from i (inline_parts m n s k)))
+
+  abbrev SpreadRead : Type 0
+  SpreadRead = Text P × Option (Directives P)
+
+  abbrev InlineRead : Type 0
+  InlineRead = Option (Text P) × (Option (Directives P) × SelectionTrees P)
+
+  abbrev either_way : SpreadRead ⊎ InlineRead → Dotted P
+  either_way x = x
+
+  abbrev finish : Input → Unit {0} → Outcome (Dotted P) → Outcome (SelectionTree P)
+  finish i u y = and_then (and_then (and_then y (λ x z. done (u, x) z)) (λ x z. done (put x (place_between m i z)) z)) (λ x z. done (dotted_of x) z)
+
+  dots_is : (n : ℕ) (s : Parser (SelectionTrees P)) (i : Input) → dots m n s i ≡ dots_from n s i (mark is_spread i)
+  unfolding o.dotted
+  dots_is n s i = go (mark is_spread i)
+    where
+      two : (u : Unit {0}) (t : Bool) (a : Outcome SpreadRead) (b : Outcome InlineRead)
+          → finish i u (cond t (and_then a (λ x z. done (either_way (inl x)) z)) (and_then b (λ x z. done (either_way (inr x)) z))) ≡ cond t (spread_from i (and_then a (λ x z. done (x.0, unwrap_or x.1 []) z))) (inline_from i (and_then b (λ x z. done (x.0, (unwrap_or x.1.0 [], x.1.1)) z)))
+      two u true (Ok x) b = refl
+      two u true (Err e) b = refl
+      two u false a (Ok x) = refl
+      two u false a (Err e) = refl
+
+      go : (y : Outcome (Unit {0})) → and_then (and_then (and_then y (λ u k. and_then (o.dotted m n s k) (λ x z. done (u, x) z))) (λ x z. done (put x (place_between m i z)) z)) (λ x z. done (dotted_of x) z) ≡ dots_from n s i y
+      go (Err e) = refl
+      go (Ok k) = two k.0 (next_is is_fragment_name (next k.1)) ((o.fragment_name m ⊙ try is_at (directives m with_variables n)) k.1) ((try is_on (o.type_condition m) ⊙ try is_at (directives m with_variables n) ⊙ s) k.1)
+
+  pub dots_spread : (n : ℕ) (s : Parser (SelectionTrees P)) (i k : Input) → mark is_spread i ≡ Ok (tt, k) → next_is is_fragment_name (next k) ≡ true → dots m n s i ≡ spread_since m (begin_of i.ahead) n k
+  dots_spread n s i k read goes = dots_is n s i ∙ rw (read, goes) refl
+
+  pub dots_inline : (n : ℕ) (s : Parser (SelectionTrees P)) (i k : Input) → mark is_spread i ≡ Ok (tt, k) → next_is is_fragment_name (next k) ≡ false → dots m n s i ≡ inline_since m (begin_of i.ahead) n s k
+  dots_inline n s i k read other = dots_is n s i ∙ rw (read, other) refl
+
+  pub selection_field : (n : ℕ) (s : Parser (SelectionTrees P)) (i : Input) → next_is is_name (next i) ≡ true → o.selection m n s i ≡ o.field m n s i
+  unfolding o.selection
+  selection_field n s i h = rw h refl
+
+  pub selection_dots : (n : ℕ) (s : Parser (SelectionTrees P)) (i : Input) → next_is is_name (next i) ≡ false → o.selection m n s i ≡ dots m n s i
+  unfolding o.selection
+  selection_dots n s i h = rw h refl
+
+-- the tree of a fragment spread
+pub selection_tree_spread : (n : Node FragmentSpread) → selection_tree (Spread n) ≡ SpreadTree (place n) (name_tree (content n).fragment_name) (directives_tree (content n).directives)
+selection_tree_spread n =
+    fold_out-Selection (SelectionTree Place) AtPlace AtPlace selection_step field_step inline_step (Spread n)
+    ∙ ap (λ x. selection_step (map-Selection Selection Field InlineFragment (SelectionTree Place) AtPlace AtPlace selection_tree field_at inline_at x)) (outs-FragmentSpread n)

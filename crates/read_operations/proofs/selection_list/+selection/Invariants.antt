@@ -1,0 +1,53 @@
+use Rattle.std.proofs.Common.{◌≡◌, ◌+◌, ◌*◌, length}
+use Rattle.std.specs.Prelude.{map}
+use Rattle.tree_operations.specs.SelectionTree.{selection_tree}
+use Rattle.read_grammar.specs.Begins as begins
+use Rattle.read_grammar.specs.Reading as read
+use Rattle.read_grammar.specs.OperationReading as reading
+use Rattle.read_grammar.proofs.Steps.{with_front}
+use Rattle.read_values.specs.Meanings.{in_file}
+use Rattle.read_operations.proofs.selection_list.+selection.Given as goal
+
+abbrev pub decreases-selection_set : goal.decreases-selection_set
+decreases-selection_set l = 8 * l.depth
+
+abbrev pub decreases-optional_selection_set : goal.decreases-optional_selection_set
+decreases-optional_selection_set l = 8 * l.depth + 1
+
+abbrev pub decreases-directives_and_set : goal.decreases-directives_and_set
+decreases-directives_and_set l = 8 * l.depth + 1
+
+abbrev pub decreases-directives_and_any_set : goal.decreases-directives_and_any_set
+decreases-directives_and_any_set l = 8 * l.depth + 2
+
+abbrev pub decreases-behind_name : goal.decreases-behind_name
+decreases-behind_name l = 8 * l.depth + 3
+
+abbrev pub decreases-inline : goal.decreases-inline
+decreases-inline l = 8 * l.depth + 2
+
+abbrev pub decreases-field : goal.decreases-field
+decreases-field l = 8 * l.depth + 4
+
+abbrev pub decreases-placed_inline : goal.decreases-placed_inline
+decreases-placed_inline l = 8 * l.depth + 3
+
+abbrev pub decreases-placed_field : goal.decreases-placed_field
+decreases-placed_field l = 8 * l.depth + 5
+
+abbrev pub decreases-dots : goal.decreases-dots
+decreases-dots l = 8 * l.depth + 4
+
+abbrev pub decreases-selection : goal.decreases-selection
+decreases-selection l = 8 * l.depth + 6
+
+abbrev pub decreases-some_selections : goal.decreases-some_selections
+decreases-some_selections l = 8 * l.depth + 7
+
+abbrev pub invariant-some_selections-turns : goal.invariant-some_selections-turns
+invariant-some_selections-turns l =
+    with_front (map selection_tree l.found.items) (read.many begins.begins_selection (reading.selection (in_file l.file) l.depth (reading.selection_set (in_file l.file) l.depth)) l.tokens)
+    ≡ read.some begins.begins_selection (reading.selection (in_file l.file) l.depth (reading.selection_set (in_file l.file) l.depth)) l.initial.tokens
+
+abbrev pub decreases-some_selections-turns : goal.decreases-some_selections-turns
+decreases-some_selections-turns l = length l.tokens.ahead

@@ -1,0 +1,68 @@
+-- Private layer: the parts of selections. No public clause cites it.
+use Rattle.std.specs.Prelude.{ℕ, [], Option, Ok, unwrap_or}
+use Rattle.std.specs.Option.{option_map}
+use Rattle.graphql_names.specs.declared.name.Name.{Name}
+use Rattle.graphql_names.specs.Placed.{Place, Text, name_tree}
+use Rattle.tree_directives.specs.DirectiveTree.{Arguments, Directives, directives_tree}
+use Rattle.tree_operations.specs.SelectionTree.{FieldHead, SelectionTree, SelectionTrees, SpreadTree, InlineTree, no_selections, selection_trees, selection_tree}
+use Rattle.tree_operations.specs.SelectionParts.{field_head}
+use Rattle.tree_operations.specs.declared.selection.Field.{Field}
+use Rattle.tree_operations.specs.declared.selection.FragmentSpread.{FragmentSpread}
+use Rattle.tree_operations.specs.declared.selection.InlineFragment.{InlineFragment}
+use Rattle.read_grammar.specs.Meaning.{Meaning}
+use Rattle.read_grammar.specs.Kinds.{is_on, is_at, is_spread, is_open_paren, is_open_brace}
+use Rattle.read_grammar.specs.Reading.{Parser, and_then, mark, try, placed, ◌⊙◌, ◌<&>◌}
+use Rattle.read_grammar.specs.ValueGrammar.{with_variables}
+use Rattle.read_grammar.specs.ValueReading.{arguments, directives}
+use Rattle.read_grammar.specs.OperationReading.{alias_and_name, fragment_name, type_condition, dotted, dotted_of}
+
+-- ---- what a tree in memory shows without its place
+
+abbrev pub alias_view : Option Name × Name → Option (Text Place) × Text Place
+alias_view x = (option_map name_tree x.0, name_tree x.1)
+
+abbrev pub field_view : Field → FieldHead Place × SelectionTrees Place
+field_view f = (field_head f, selection_trees selection_tree f.selection_set.items)
+
+abbrev pub spread_view : FragmentSpread → Text Place × Directives Place
+spread_view s = (name_tree s.fragment_name, directives_tree s.directives)
+
+abbrev pub inline_view : InlineFragment → Option (Text Place) × (Directives Place × SelectionTrees Place)
+inline_view f = (option_map name_tree f.type_condition, (directives_tree f.directives, selection_trees selection_tree f.selection_set.items))
+
+-- ---- how it is read
+
+module _ {P : Type 0} (m : Meaning P) where
+  -- Directives? SelectionSet
+  abbrev pub directives_and_set : ℕ → Parser (SelectionTrees P) → Parser (Option (Directives P) × SelectionTrees P)
+  directives_and_set n set = try is_at (directives m with_variables n) ⊙ set
+
+  -- Directives? SelectionSet?
+  abbrev pub directives_and_any_set : ℕ → Parser (SelectionTrees P) → Parser (Option (Directives P) × Option (SelectionTrees P))
+  directives_and_any_set n set = try is_at (directives m with_variables n) ⊙ try is_open_brace set
+
+  -- Arguments? Directives? SelectionSet?
+  abbrev pub behind_name : ℕ → Parser (SelectionTrees P) → Parser (Option (Arguments P) × (Option (Directives P) × Option (SelectionTrees P)))
+  behind_name n set = try is_open_paren (arguments m with_variables n) ⊙ try is_at (directives m with_variables n) ⊙ try is_open_brace set
+
+  abbrev pub field_parts : ℕ → Parser (SelectionTrees P) → Parser (FieldHead P × SelectionTrees P)
+  field_parts n set =
+      (λ x. (record { alias = x.0.0; name = x.0.1; arguments = unwrap_or x.1.0 []; directives = unwrap_or x.1.1.0 [] }, unwrap_or x.1.1.1 no_selections))
+      <&> alias_and_name m ⊙ try is_open_paren (arguments m with_variables n) ⊙ try is_at (directives m with_variables n) ⊙ try is_open_brace set
+
+  abbrev pub spread_parts : ℕ → Parser (Text P × Directives P)
+  spread_parts n = (λ x. (x.0, unwrap_or x.1 [])) <&> fragment_name m ⊙ try is_at (directives m with_variables n)
+
+  abbrev pub inline_parts : ℕ → Parser (SelectionTrees P) → Parser (Option (Text P) × (Directives P × SelectionTrees P))
+  inline_parts n set = (λ x. (x.0, (unwrap_or x.1.0 [], x.1.1))) <&> try is_on (type_condition m) ⊙ try is_at (directives m with_variables n) ⊙ set
+
+  -- the same as selections, which begin at this offset
+  abbrev pub spread_since : ℕ → ℕ → Parser (SelectionTree P)
+  spread_since begin n i = and_then (spread_parts n i) (λ x o. Ok (SpreadTree (m.place begin o.last) x.0 x.1, o))
+
+  abbrev pub inline_since : ℕ → ℕ → Parser (SelectionTrees P) → Parser (SelectionTree P)
+  inline_since begin n set i = and_then (inline_parts n set i) (λ x o. Ok (InlineTree (m.place begin o.last) x.0 x.1.0 x.1.1, o))
+
+  -- what begins with three dots
+  abbrev pub dots : ℕ → Parser (SelectionTrees P) → Parser (SelectionTree P)
+  dots n set = dotted_of <&> placed m (mark is_spread ⊙ dotted m n set)

@@ -1,0 +1,61 @@
+//! Operation types, names of fragments and type conditions (sections 2.3 and 2.8).
+ghost use Rattle.std.specs.Prelude.{◌≡◌};
+ghost use Rattle.read_tokens.specs.Input as input;
+ghost use Rattle.graphql_names.specs.Placed.{name_tree};
+ghost use Rattle.read_grammar.specs.Kinds as kinds;
+ghost use Rattle.read_grammar.specs.OperationReading as reading;
+ghost use Rattle.read_grammar.specs.Reading.{Reads};
+ghost use Rattle.read_values.specs.Meanings.{in_file};
+
+use graphql_names::{FileId, Name};
+use read_grammar::Stop;
+use read_tokens::{Source, Terminal};
+use read_values::{expect, name, next_is, next_is_name};
+use std::alloc::Global;
+use tree_operations::OperationType;
+
+/// OperationType: `query`, `mutation` or `subscription`.
+#[tactic(auto, using(read_grammar::proofs::Moves::mark_yes), unfolding(read_grammar::specs::OperationReading::operation_type))]
+pub fn operation_type(tokens: &mut Source<'_>) -> Result<OperationType, Stop>
+    ensures { Reads (λ x. x) (reading.operation_type tokens.old) result tokens.new }
+{
+    if next_is(tokens, Terminal::Query) {
+        tokens.skip();
+        return Ok(OperationType::Query);
+    }
+    if next_is(tokens, Terminal::Mutation) {
+        tokens.skip();
+        return Ok(OperationType::Mutation);
+    }
+    if next_is(tokens, Terminal::Subscription) {
+        tokens.skip();
+        return Ok(OperationType::Subscription);
+    }
+    Err(Stop::Unexpected)
+}
+
+/// Whether the next token is a Name but `on`.
+pub fn next_is_fragment_name(tokens: &Source<'_>) -> bool
+    ensures { result ≡ kinds.next_is kinds.is_fragment_name (input.next tokens.now) }
+{
+    next_is_name(tokens) && !next_is(tokens, Terminal::On)
+}
+
+/// FragmentName: `Name` but not `on`.
+pub fn fragment_name(alloc: Global, tokens: &mut Source<'_>, file: FileId) -> Result<Name, Stop>
+    ensures { Reads name_tree (reading.fragment_name (in_file file) tokens.old) result tokens.new }
+{
+    if !next_is_fragment_name(tokens) {
+        return Err(Stop::Unexpected);
+    }
+    name(alloc, tokens, file)
+}
+
+/// TypeCondition: `"on" Name`, its name.
+#[tactic(auto, unfolding(read_grammar::specs::OperationReading::type_condition))]
+pub fn type_condition(alloc: Global, tokens: &mut Source<'_>, file: FileId) -> Result<Name, Stop>
+    ensures { Reads name_tree (reading.type_condition (in_file file) tokens.old) result tokens.new }
+{
+    expect(tokens, Terminal::On)?;
+    name(alloc, tokens, file)
+}

@@ -1,0 +1,73 @@
+//! Fragments (section 2.8).
+ghost use Rattle.std.specs.Option.{option_map};
+ghost use Rattle.graphql_names.specs.Placed.{name_tree, node_tree};
+ghost use Rattle.tree_directives.specs.DirectiveTree.{directives_tree};
+ghost use Rattle.tree_operations.specs.SelectionTree.{selection_tree, selection_trees};
+ghost use Rattle.tree_operations.specs.OperationTree.{fragment_tree};
+ghost use Rattle.read_grammar.specs.OperationReading as reading;
+ghost use Rattle.read_grammar.specs.Reading as read;
+ghost use Rattle.read_grammar.specs.Reading.{Reads};
+ghost use Rattle.read_values.specs.Meanings.{in_file};
+ghost use Rattle.read_operations.specs.OperationSteps as steps;
+
+use crate::condition::{fragment_name, type_condition};
+use crate::selection_list::directives_and_set;
+use graphql_names::{FileId, Name, Node};
+use read_grammar::Stop;
+use read_tokens::{Source, Terminal};
+use read_values::{begin, directives_or_none, expect, since};
+use std::alloc::Global;
+use tree_directives::DirectiveList;
+use tree_operations::{FragmentDefinition, Selection};
+
+/// `TypeCondition Directives? SelectionSet`
+fn condition_and_set(
+    alloc: Global,
+    tokens: &mut Source<'_>,
+    file: FileId,
+    depth: usize,
+) -> Result<(Name, (Option<DirectiveList>, Vec<Selection>)), Stop>
+    ensures { Reads (λ x. (name_tree x.0, (option_map directives_tree x.1.0, selection_trees selection_tree x.1.1.items))) (steps.condition_and_set (in_file file) depth tokens.old) result tokens.new }
+{
+    let condition = type_condition(alloc, tokens, file)?;
+    let behind = directives_and_set(alloc, tokens, file, depth)?;
+    Ok((condition, behind))
+}
+
+/// FragmentDefinition: `"fragment" FragmentName TypeCondition Directives? SelectionSet`.
+#[tactic(auto, unfolding(read_grammar::specs::OperationReading::fragment_definition))]
+pub fn fragment_definition(
+    alloc: Global,
+    tokens: &mut Source<'_>,
+    file: FileId,
+    depth: usize,
+) -> Result<FragmentDefinition, Stop>
+    ensures { Reads fragment_tree (reading.fragment_definition (in_file file) depth tokens.old) result tokens.new }
+{
+    expect(tokens, Terminal::Fragment)?;
+    let name = fragment_name(alloc, tokens, file)?;
+    let (type_condition, (directives, selection_set)) = condition_and_set(
+        alloc, tokens, file, depth,
+    )?;
+    Ok(FragmentDefinition {
+        name,
+        type_condition,
+        directives: directives_or_none(alloc, directives),
+        selection_set,
+    })
+}
+
+/// A fragment with its place.
+pub fn placed_fragment(
+    alloc: Global,
+    tokens: &mut Source<'_>,
+    file: FileId,
+    depth: usize,
+) -> Result<Node<FragmentDefinition>, Stop>
+    ensures { Reads (node_tree fragment_tree) (read.placed (in_file file) (reading.fragment_definition (in_file file) depth) tokens.old) result tokens.new }
+{
+    let begin = begin(tokens);
+    let found = fragment_definition(alloc, tokens, file, depth)?;
+    let place = since(tokens, file, begin);
+    Ok(Node::new_parsed(alloc, found, place)?)
+}

@@ -1,0 +1,246 @@
+//! Selections (sections 2.4, 2.5 and 2.8).
+ghost use Rattle.std.specs.Prelude.{◌≡◌, map};
+ghost use Rattle.std.specs.Option.{option_map};
+ghost use Rattle.graphql_names.specs.Placed.{node_tree};
+ghost use Rattle.tree_directives.specs.DirectiveTree.{argument_tree, directives_tree};
+ghost use Rattle.tree_operations.specs.SelectionTree.{selection_tree, selection_trees};
+ghost use Rattle.read_grammar.specs.Begins as begins;
+ghost use Rattle.read_grammar.specs.Kinds as kinds;
+ghost use Rattle.read_grammar.specs.OperationReading as reading;
+ghost use Rattle.read_grammar.specs.Reading as read;
+ghost use Rattle.read_grammar.specs.Reading.{Reads};
+ghost use Rattle.read_values.specs.Meanings.{in_file};
+ghost use Rattle.read_operations.specs.SelectionSteps as steps;
+
+use crate::condition::next_is_fragment_name;
+use crate::selection_parts::{
+    alias_and_name, begins_selection, optional_condition, placed_spread, selections_or_none,
+};
+use graphql_names::{FileId, Node};
+use read_grammar::Stop;
+use read_tokens::{Source, Terminal};
+use read_values::{
+    arguments_or_none, begin, directives_or_none, expect, next_is, next_is_name, open,
+    optional_arguments, optional_directives, since,
+};
+use std::alloc::Global;
+use tree_directives::{Argument, DirectiveList};
+use tree_operations::{Field, InlineFragment, Selection};
+
+/// SelectionSet, or nothing.
+#[cycle(selection)]
+fn optional_selection_set(
+    alloc: Global,
+    tokens: &mut Source<'_>,
+    file: FileId,
+    depth: usize,
+) -> Result<Option<Vec<Selection>>, Stop>
+    ensures { Reads (option_map (λ v. selection_trees selection_tree v.items)) (read.try kinds.is_open_brace (reading.selection_set (in_file file) depth) tokens.old) result tokens.new }
+{
+    if !next_is(tokens, Terminal::OpenBrace) {
+        return Ok(None);
+    }
+    Ok(Some(selection_set(alloc, tokens, file, depth)?))
+}
+
+/// `Directives? SelectionSet?`
+#[cycle(selection)]
+fn directives_and_any_set(
+    alloc: Global,
+    tokens: &mut Source<'_>,
+    file: FileId,
+    depth: usize,
+) -> Result<(Option<DirectiveList>, Option<Vec<Selection>>), Stop>
+    ensures { Reads (λ x. (option_map directives_tree x.0, option_map (λ v. selection_trees selection_tree v.items) x.1)) (steps.directives_and_any_set (in_file file) depth (reading.selection_set (in_file file) depth) tokens.old) result tokens.new }
+{
+    let directives = optional_directives(alloc, tokens, file, false, depth)?;
+    let selections = optional_selection_set(alloc, tokens, file, depth)?;
+    Ok((directives, selections))
+}
+
+/// What stands behind the name of a field: `Arguments? Directives? SelectionSet?`.
+#[cycle(selection)]
+fn behind_name(
+    alloc: Global,
+    tokens: &mut Source<'_>,
+    file: FileId,
+    depth: usize,
+) -> Result<
+    (
+        Option<Vec<Node<Argument>>>,
+        (Option<DirectiveList>, Option<Vec<Selection>>),
+    ),
+    Stop,
+>
+    ensures { Reads (λ x. (option_map (λ v. map (node_tree argument_tree) v.items) x.0, (option_map directives_tree x.1.0, option_map (λ v. selection_trees selection_tree v.items) x.1.1))) (steps.behind_name (in_file file) depth (reading.selection_set (in_file file) depth) tokens.old) result tokens.new }
+{
+    let arguments = optional_arguments(alloc, tokens, file, false, depth)?;
+    let behind = directives_and_any_set(alloc, tokens, file, depth)?;
+    Ok((arguments, behind))
+}
+
+/// Field: `Alias? Name Arguments? Directives? SelectionSet?`.
+#[cycle(selection)]
+fn field(alloc: Global, tokens: &mut Source<'_>, file: FileId, depth: usize) -> Result<Field, Stop>
+    ensures { Reads steps.field_view (steps.field_parts (in_file file) depth (reading.selection_set (in_file file) depth) tokens.old) result tokens.new }
+{
+    let (alias, name) = alias_and_name(alloc, tokens, file)?;
+    let (arguments, (directives, selections)) = behind_name(alloc, tokens, file, depth)?;
+    Ok(Field {
+        alias,
+        name,
+        arguments: arguments_or_none(alloc, arguments),
+        directives: directives_or_none(alloc, directives),
+        selection_set: selections_or_none(alloc, selections),
+    })
+}
+
+/// A field with its place.
+#[cycle(selection)]
+fn placed_field(
+    alloc: Global,
+    tokens: &mut Source<'_>,
+    file: FileId,
+    depth: usize,
+) -> Result<Selection, Stop>
+    ensures { Reads selection_tree (reading.field (in_file file) depth (reading.selection_set (in_file file) depth) tokens.old) result tokens.new }
+{
+    let begin = begin(tokens);
+    let found = field(alloc, tokens, file, depth)?;
+    let place = since(tokens, file, begin);
+    Ok(Selection::Field(Node::new_parsed(alloc, found, place)?))
+}
+
+/// `Directives? SelectionSet`
+#[cycle(selection)]
+pub fn directives_and_set(
+    alloc: Global,
+    tokens: &mut Source<'_>,
+    file: FileId,
+    depth: usize,
+) -> Result<(Option<DirectiveList>, Vec<Selection>), Stop>
+    ensures { Reads (λ x. (option_map directives_tree x.0, selection_trees selection_tree x.1.items)) (steps.directives_and_set (in_file file) depth (reading.selection_set (in_file file) depth) tokens.old) result tokens.new }
+{
+    let directives = optional_directives(alloc, tokens, file, false, depth)?;
+    let selections = selection_set(alloc, tokens, file, depth)?;
+    Ok((directives, selections))
+}
+
+/// `TypeCondition? Directives? SelectionSet`
+#[cycle(selection)]
+fn inline(
+    alloc: Global,
+    tokens: &mut Source<'_>,
+    file: FileId,
+    depth: usize,
+) -> Result<InlineFragment, Stop>
+    ensures { Reads steps.inline_view (steps.inline_parts (in_file file) depth (reading.selection_set (in_file file) depth) tokens.old) result tokens.new }
+{
+    let type_condition = optional_condition(alloc, tokens, file)?;
+    let (directives, selection_set) = directives_and_set(alloc, tokens, file, depth)?;
+    Ok(InlineFragment {
+        type_condition,
+        directives: directives_or_none(alloc, directives),
+        selection_set,
+    })
+}
+
+/// InlineFragment, of which the dots are read that begin it.
+#[cycle(selection)]
+fn placed_inline(
+    alloc: Global,
+    tokens: &mut Source<'_>,
+    file: FileId,
+    begin: usize,
+    depth: usize,
+) -> Result<Selection, Stop>
+    ensures { Reads selection_tree (steps.inline_since (in_file file) begin depth (reading.selection_set (in_file file) depth) tokens.old) result tokens.new }
+{
+    let found = inline(alloc, tokens, file, depth)?;
+    let place = since(tokens, file, begin);
+    Ok(Selection::InlineFragment(Node::new_parsed(alloc, found, place)?))
+}
+
+/// FragmentSpread or InlineFragment: what begins with `...`.
+#[cycle(selection)]
+fn dots(
+    alloc: Global,
+    tokens: &mut Source<'_>,
+    file: FileId,
+    depth: usize,
+) -> Result<Selection, Stop>
+    ensures { Reads selection_tree (steps.dots (in_file file) depth (reading.selection_set (in_file file) depth) tokens.old) result tokens.new }
+{
+    let begin = begin(tokens);
+    expect(tokens, Terminal::Spread)?;
+    if next_is_fragment_name(tokens) {
+        return placed_spread(alloc, tokens, file, begin, depth);
+    }
+    placed_inline(alloc, tokens, file, begin, depth)
+}
+
+/// Selection: Field, FragmentSpread or InlineFragment.
+#[cycle(selection)]
+fn selection(
+    alloc: Global,
+    tokens: &mut Source<'_>,
+    file: FileId,
+    depth: usize,
+) -> Result<Selection, Stop>
+    ensures { Reads selection_tree (reading.selection (in_file file) depth (reading.selection_set (in_file file) depth) tokens.old) result tokens.new }
+{
+    if next_is_name(tokens) {
+        return placed_field(alloc, tokens, file, depth);
+    }
+    dots(alloc, tokens, file, depth)
+}
+
+/// One or more selections.
+#[cycle(selection)]
+fn some_selections(
+    alloc: Global,
+    tokens: &mut Source<'_>,
+    file: FileId,
+    depth: usize,
+) -> Result<Vec<Selection>, Stop>
+    ensures { Reads (λ v. map selection_tree v.items) (read.some begins.begins_selection (reading.selection (in_file file) depth (reading.selection_set (in_file file) depth)) tokens.old) result tokens.new }
+{
+    if !begins_selection(tokens) {
+        return Err(Stop::Unexpected);
+    }
+    let mut found = Vec::new(alloc);
+    'turns: while begins_selection(tokens) {
+        found.push(selection(alloc, tokens, file, depth)?)?;
+    }
+    Ok(found)
+}
+
+/// SelectionSet: `"{" Selection+ "}"`.
+#[cycle(selection)]
+pub fn selection_set(
+    alloc: Global,
+    tokens: &mut Source<'_>,
+    file: FileId,
+    depth: usize,
+) -> Result<Vec<Selection>, Stop>
+    ensures { Reads (λ v. selection_trees selection_tree v.items) (reading.selection_set (in_file file) depth tokens.old) result tokens.new }
+{
+    open(tokens, Terminal::OpenBrace, depth)?;
+    let found = some_selections(alloc, tokens, file, depth - 1)?;
+    expect(tokens, Terminal::CloseBrace)?;
+    Ok(found)
+}
+
+/// `Selection+`: selections without braces.
+#[tactic(auto, unfolding(read_grammar::specs::OperationReading::selections, read_grammar::specs::OperationReading::selection_list))]
+pub fn selections(
+    alloc: Global,
+    tokens: &mut Source<'_>,
+    file: FileId,
+    depth: usize,
+) -> Result<Vec<Selection>, Stop>
+    ensures { Reads (λ v. selection_trees selection_tree v.items) (reading.selections (in_file file) depth tokens.old) result tokens.new }
+{
+    let found = some_selections(alloc, tokens, file, depth)?;
+    Ok(found)
+}

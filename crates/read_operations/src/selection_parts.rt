@@ -1,0 +1,104 @@
+//! Parts of selections that hold no selections (sections 2.4, 2.5, 2.7 and 2.8).
+ghost use Rattle.std.specs.Prelude.{◌≡◌, unwrap_or};
+ghost use Rattle.std.specs.Option.{option_map};
+ghost use Rattle.read_tokens.specs.Input as input;
+ghost use Rattle.graphql_names.specs.Placed.{name_tree};
+ghost use Rattle.tree_operations.specs.SelectionTree.{selection_tree, selection_trees, no_selections};
+ghost use Rattle.read_grammar.specs.Begins as begins;
+ghost use Rattle.read_grammar.specs.Kinds as kinds;
+ghost use Rattle.read_grammar.specs.OperationReading as reading;
+ghost use Rattle.read_grammar.specs.Reading as read;
+ghost use Rattle.read_grammar.specs.Reading.{Reads};
+ghost use Rattle.read_values.specs.Meanings.{in_file};
+ghost use Rattle.read_operations.specs.SelectionSteps as steps;
+
+use crate::condition::{fragment_name, type_condition};
+use graphql_names::{FileId, Name, Node};
+use read_grammar::Stop;
+use read_tokens::{Source, Terminal};
+use read_values::{
+    directives_or_none, expect, name, next_is, next_is_name, optional_directives, since,
+};
+use std::alloc::Global;
+use tree_operations::{FragmentSpread, Selection};
+
+/// Whether a selection may begin with the next token.
+pub fn begins_selection(tokens: &Source<'_>) -> bool
+    ensures { result ≡ kinds.next_is begins.begins_selection (input.next tokens.now) }
+{
+    next_is_name(tokens) || next_is(tokens, Terminal::Spread)
+}
+
+/// `(Name ":")? Name`: an alias, where a colon follows the first name, and a name.
+#[tactic(auto, unfolding(read_grammar::specs::OperationReading::alias_and_name))]
+pub fn alias_and_name(
+    alloc: Global,
+    tokens: &mut Source<'_>,
+    file: FileId,
+) -> Result<(Option<Name>, Name), Stop>
+    ensures { Reads steps.alias_view (reading.alias_and_name (in_file file) tokens.old) result tokens.new }
+{
+    let first = name(alloc, tokens, file)?;
+    if !next_is(tokens, Terminal::Colon) {
+        return Ok((None, first));
+    }
+    expect(tokens, Terminal::Colon)?;
+    let second = name(alloc, tokens, file)?;
+    Ok((Some(first), second))
+}
+
+/// TypeCondition, or nothing.
+pub fn optional_condition(
+    alloc: Global,
+    tokens: &mut Source<'_>,
+    file: FileId,
+) -> Result<Option<Name>, Stop>
+    ensures { Reads (option_map name_tree) (read.try kinds.is_on (reading.type_condition (in_file file)) tokens.old) result tokens.new }
+{
+    if !next_is(tokens, Terminal::On) {
+        return Ok(None);
+    }
+    Ok(Some(type_condition(alloc, tokens, file)?))
+}
+
+/// `FragmentName Directives?`
+fn spread(
+    alloc: Global,
+    tokens: &mut Source<'_>,
+    file: FileId,
+    depth: usize,
+) -> Result<FragmentSpread, Stop>
+    ensures { Reads steps.spread_view (steps.spread_parts (in_file file) depth tokens.old) result tokens.new }
+{
+    let fragment_name = fragment_name(alloc, tokens, file)?;
+    let directives = optional_directives(alloc, tokens, file, false, depth)?;
+    Ok(FragmentSpread {
+        fragment_name,
+        directives: directives_or_none(alloc, directives),
+    })
+}
+
+/// FragmentSpread, of which the dots are read that begin it.
+pub fn placed_spread(
+    alloc: Global,
+    tokens: &mut Source<'_>,
+    file: FileId,
+    begin: usize,
+    depth: usize,
+) -> Result<Selection, Stop>
+    ensures { Reads selection_tree (steps.spread_since (in_file file) begin depth tokens.old) result tokens.new }
+{
+    let found = spread(alloc, tokens, file, depth)?;
+    let place = since(tokens, file, begin);
+    Ok(Selection::FragmentSpread(Node::new_parsed(alloc, found, place)?))
+}
+
+/// The selections, of which there are none where they are left out.
+pub fn selections_or_none(alloc: Global, found: Option<Vec<Selection>>) -> Vec<Selection>
+    ensures { selection_trees selection_tree result.items ≡ unwrap_or (option_map (λ v. selection_trees selection_tree v.items) found) no_selections }
+{
+    match found {
+        None => Vec::new(alloc),
+        Some(selections) => selections,
+    }
+}

@@ -1,0 +1,111 @@
+//! Definitions of variables (section 2.10).
+ghost use Rattle.std.specs.Prelude.{◌≡◌, map};
+ghost use Rattle.std.specs.Option.{option_map};
+ghost use Rattle.graphql_names.specs.Placed.{node_tree};
+ghost use Rattle.tree_literals.specs.TypeTree.{type_tree};
+ghost use Rattle.tree_literals.specs.ValueTree.{value_tree};
+ghost use Rattle.tree_directives.specs.DirectiveTree.{directives_tree};
+ghost use Rattle.tree_operations.specs.OperationTree.{variable_definition_tree};
+ghost use Rattle.read_grammar.specs.Kinds as kinds;
+ghost use Rattle.read_grammar.specs.OperationReading as reading;
+ghost use Rattle.read_grammar.specs.Reading as read;
+ghost use Rattle.read_grammar.specs.Reading.{Reads};
+ghost use Rattle.read_values.specs.Meanings.{in_file};
+ghost use Rattle.read_operations.specs.OperationSteps as steps;
+
+use graphql_names::{FileId, Node};
+use read_grammar::Stop;
+use read_tokens::{Source, Terminal};
+use read_values::{
+    begin, directives_or_none, expect, next_is, open, optional_default, optional_directives,
+    placed_type, since, variable,
+};
+use std::alloc::Global;
+use tree_directives::DirectiveList;
+use tree_literals::{Type, Value};
+use tree_operations::VariableDefinition;
+
+/// `Type DefaultValue? Directives?`, without variables in its values.
+fn type_and_default(
+    alloc: Global,
+    tokens: &mut Source<'_>,
+    file: FileId,
+    depth: usize,
+) -> Result<(Node<Type>, (Option<Node<Value>>, Option<DirectiveList>)), Stop>
+    ensures { Reads (λ x. (node_tree type_tree x.0, (option_map (node_tree value_tree) x.1.0, option_map directives_tree x.1.1))) (steps.type_and_default (in_file file) depth tokens.old) result tokens.new }
+{
+    let ty = placed_type(alloc, tokens, file, depth)?;
+    let default_value = optional_default(alloc, tokens, file, depth)?;
+    let directives = optional_directives(alloc, tokens, file, true, depth)?;
+    Ok((ty, (default_value, directives)))
+}
+
+/// VariableDefinition: `Variable ":" Type DefaultValue? Directives?`, without variables in its values.
+#[tactic(auto, unfolding(read_grammar::specs::OperationReading::variable_definition))]
+fn variable_definition(
+    alloc: Global,
+    tokens: &mut Source<'_>,
+    file: FileId,
+    depth: usize,
+) -> Result<VariableDefinition, Stop>
+    ensures { Reads variable_definition_tree (reading.variable_definition (in_file file) depth tokens.old) result tokens.new }
+{
+    let name = variable(alloc, tokens, file)?;
+    expect(tokens, Terminal::Colon)?;
+    let (ty, (default_value, directives)) = type_and_default(alloc, tokens, file, depth)?;
+    Ok(VariableDefinition {
+        name,
+        ty,
+        default_value,
+        directives: directives_or_none(alloc, directives),
+    })
+}
+
+/// A definition of a variable with its place.
+fn placed_variable_definition(
+    alloc: Global,
+    tokens: &mut Source<'_>,
+    file: FileId,
+    depth: usize,
+) -> Result<Node<VariableDefinition>, Stop>
+    ensures { Reads (node_tree variable_definition_tree) (read.placed (in_file file) (reading.variable_definition (in_file file) depth) tokens.old) result tokens.new }
+{
+    let begin = begin(tokens);
+    let found = variable_definition(alloc, tokens, file, depth)?;
+    let place = since(tokens, file, begin);
+    Ok(Node::new_parsed(alloc, found, place)?)
+}
+
+/// One or more definitions of variables.
+fn some_variable_definitions(
+    alloc: Global,
+    tokens: &mut Source<'_>,
+    file: FileId,
+    depth: usize,
+) -> Result<Vec<Node<VariableDefinition>>, Stop>
+    ensures { Reads (λ v. map (node_tree variable_definition_tree) v.items) (read.some kinds.is_dollar (read.placed (in_file file) (reading.variable_definition (in_file file) depth)) tokens.old) result tokens.new }
+{
+    if !next_is(tokens, Terminal::Dollar) {
+        return Err(Stop::Unexpected);
+    }
+    let mut found = Vec::new(alloc);
+    'turns: while next_is(tokens, Terminal::Dollar) {
+        found.push(placed_variable_definition(alloc, tokens, file, depth)?)?;
+    }
+    Ok(found)
+}
+
+/// VariableDefinitions: `"(" VariableDefinition+ ")"`.
+pub fn variable_definitions(
+    alloc: Global,
+    tokens: &mut Source<'_>,
+    file: FileId,
+    depth: usize,
+) -> Result<Vec<Node<VariableDefinition>>, Stop>
+    ensures { Reads (λ v. map (node_tree variable_definition_tree) v.items) (reading.variable_definitions (in_file file) depth tokens.old) result tokens.new }
+{
+    open(tokens, Terminal::OpenParen, depth)?;
+    let found = some_variable_definitions(alloc, tokens, file, depth - 1)?;
+    expect(tokens, Terminal::CloseParen)?;
+    Ok(found)
+}

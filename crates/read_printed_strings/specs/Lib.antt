@@ -1,0 +1,2 @@
+pub mod Readings
+pub use Rattle.tree_printing.specs as in_printing

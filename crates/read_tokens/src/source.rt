@@ -1,0 +1,116 @@
+//! A cursor over the tokens of a text.
+ghost use Rattle.std.specs.Prelude.{◌≡◌, ◌≤◌, length, drop};
+ghost use Rattle.read_tokens.specs.Input as input;
+ghost use Rattle.read_tokens.specs.Cursor as spec;
+ghost use Rattle.read_tokens.specs.Forms.{FormOf};
+
+use crate::next::{past_ignored, token_from, token_text};
+use crate::terminal::Terminal;
+use crate::terminals::terminal_of;
+use std::marker::Model;
+
+/// The tokens of a text, one after the other. Each is cut when it comes, and none is kept.
+#[derive(Drop)]
+pub struct Source<'a> {
+    text: &'a str,
+    /// Where the next token begins, or the tokens end, in bytes.
+    at: usize,
+    /// The symbol of the next token, and its length in bytes.
+    next: Option<(Terminal, usize)>,
+    last: usize,
+}
+
+impl<'a> Model for Source<'a> {
+    ghost use Rattle.read_tokens.specs.Input.{Input};
+
+    ghost Value = { Input };
+
+    ghost use Rattle.read_tokens.specs.Cursor.{source_of, IsReady};
+
+    ghost view = { source_of };
+
+    ghost invariant = { IsReady };
+}
+
+/// The symbol of the token that starts at a place, and its length.
+#[tactic(auto, unfolding(crate::specs::Cursor::symbol_at))]
+fn symbol_at(text: &str, at: usize) -> Option<(Terminal, usize)>
+    requires { at ≤ length text.now }
+    ensures { result ≡ spec.symbol_at (drop at text.now) }
+{
+    let (kind, length) = token_from(text, at)?;
+    Some((
+        terminal_of(kind, token_text(text, at, length).as_bytes()),
+        length,
+    ))
+}
+
+impl<'a> Source<'a> {
+    /// The tokens of a text.
+    #[tactic(auto, using(crate::proofs::Rests::from_past, crate::proofs::Rests::nothing_ignored, crate::proofs::Lexed::ends_as))]
+    pub fn new(text: &'a str) -> Source<'a>
+        ensures shows { result ≡ spec.input_from 0 0 text.now }
+        ensures lexed { spec.EndsAs text.now result.ahead result.ending }
+    {
+        let at = past_ignored(text, 0);
+        Source {
+            text,
+            at,
+            next: symbol_at(text, at),
+            last: 0,
+        }
+    }
+
+    /// The symbol of the next token.
+    #[tactic(auto, using(crate::proofs::Rests::next_is))]
+    pub fn peek(&self) -> Option<Terminal>
+        ensures { result ≡ input.next self.now }
+    {
+        match self.next {
+            None => None,
+            Some((terminal, _)) => Some(terminal),
+        }
+    }
+
+    /// Passes over the next token and gives its text, which is empty where no token is left.
+    #[tactic(auto, using(crate::proofs::Rests::skip_text, crate::proofs::Rests::skip_behind, crate::proofs::Rests::skip_none, crate::proofs::Rests::nothing_ignored, crate::proofs::Rests::symbol_token, crate::proofs::Ends::token_fits))]
+    pub fn skip(&mut self) -> &'a str
+        ensures text { result.now ≡ spec.text_of self.old.ahead }
+        ensures behind { self.new ≡ spec.skipped self.old }
+        ensures form { FormOf (input.next self.old) result.now }
+    {
+        let Some((_, length)) = self.next else {
+            return "";
+        };
+        let token = token_text(self.text, self.at, length);
+        let last = self.at + length;
+        let at = past_ignored(self.text, last);
+        self.next = symbol_at(self.text, at);
+        self.at = at;
+        self.last = last;
+        token
+    }
+
+    /// Where the next token begins, or, where none is left, where the text ends or no token starts, in bytes.
+    #[tactic(auto, using(crate::proofs::Rests::offset_is))]
+    pub fn offset(&self) -> usize
+        ensures { result ≡ spec.next_offset self.now }
+    {
+        self.at
+    }
+
+    /// Where the last token ends that was passed over, in bytes; 0 before the first.
+    pub fn last(&self) -> usize
+        ensures { result ≡ self.now.last }
+    {
+        self.last
+    }
+
+    /// Whether no token is left since none starts where the text goes on.
+    #[tactic(auto, using(crate::proofs::Rests::stuck_is))]
+    pub fn is_stuck(&self) -> bool
+        ensures { result ≡ spec.is_stuck self.now }
+    {
+        self.next.is_none() && self.at < self.text.len()
+    }
+}

@@ -1,0 +1,123 @@
+//! Objects, interfaces and unions (sections 3.6 to 3.8).
+ghost use Rattle.std.specs.Prelude.{◌≡◌, map};
+ghost use Rattle.std.specs.Option.{option_map};
+ghost use Rattle.tree_directives.specs.DirectiveTree.{directives_tree};
+ghost use Rattle.graphql_names.specs.Placed.{name_tree, node_tree};
+ghost use Rattle.tree_type_members.specs.TypeSystemTree.{field_definition_tree};
+ghost use Rattle.read_grammar.specs.Reading.{Reads};
+ghost use Rattle.read_types.specs.KindSteps as steps;
+ghost use Rattle.read_types.specs.KindTrees.{kind_tree};
+ghost use Rattle.read_members.specs.in_parse_values.Meanings.{in_file};
+
+use crate::kind::Kind;
+use graphql_names::{FileId, Node};
+use read_grammar::Stop;
+use read_members::{
+    fields_or_none, names_or_none, optional_fields_definition, optional_implements_interfaces,
+    optional_union_member_types,
+};
+use read_tokens::{Source, Terminal};
+use read_values::{directives_or_none, expect, name, optional_directives};
+use std::alloc::Global;
+use tree_composite_types::{InterfaceTypeExtension, ObjectTypeExtension, UnionTypeExtension};
+use tree_directives::DirectiveList;
+use tree_literals::NamedType;
+use tree_type_members::FieldDefinition;
+
+/// What stands behind the name of an object or an interface: `ImplementsInterfaces? Directives? FieldsDefinition?`.
+fn fields_rest(
+    alloc: Global,
+    tokens: &mut Source<'_>,
+    file: FileId,
+    depth: usize,
+) -> Result<
+    (
+        Option<Vec<NamedType>>,
+        Option<DirectiveList>,
+        Option<Vec<Node<FieldDefinition>>>,
+    ),
+    Stop,
+>
+    ensures { Reads (λ x. (option_map (λ v. map name_tree v.items) x.0, (option_map directives_tree x.1, option_map (λ v. map (node_tree field_definition_tree) v.items) x.2))) (steps.fields_rest (in_file file) depth tokens.old) result tokens.new }
+{
+    let interfaces = optional_implements_interfaces(alloc, tokens, file)?;
+    let directives = optional_directives(alloc, tokens, file, true, depth)?;
+    let fields = optional_fields_definition(alloc, tokens, file, depth)?;
+    Ok((interfaces, directives, fields))
+}
+
+/// ObjectTypeDefinition (section 3.6): `"type" Name ImplementsInterfaces? Directives? FieldsDefinition?`.
+#[tactic(auto, unfolding(read_grammar::specs::TypeSystemReading::object_type))]
+pub fn object_type(
+    alloc: Global,
+    tokens: &mut Source<'_>,
+    file: FileId,
+    depth: usize,
+) -> Result<Kind, Stop>
+    ensures { Reads kind_tree (steps.object_kind (in_file file) depth tokens.old) result tokens.new }
+{
+    expect(tokens, Terminal::Type)?;
+    let name = name(alloc, tokens, file)?;
+    let (interfaces, directives, fields) = fields_rest(alloc, tokens, file, depth)?;
+    Ok(Kind::Object(ObjectTypeExtension {
+        name,
+        implements_interfaces: names_or_none(alloc, interfaces),
+        directives: directives_or_none(alloc, directives),
+        fields: fields_or_none(alloc, fields),
+    }))
+}
+
+/// InterfaceTypeDefinition (section 3.7): `"interface" Name ImplementsInterfaces? Directives? FieldsDefinition?`.
+#[tactic(auto, unfolding(read_grammar::specs::TypeSystemReading::interface_type))]
+pub fn interface_type(
+    alloc: Global,
+    tokens: &mut Source<'_>,
+    file: FileId,
+    depth: usize,
+) -> Result<Kind, Stop>
+    ensures { Reads kind_tree (steps.interface_kind (in_file file) depth tokens.old) result tokens.new }
+{
+    expect(tokens, Terminal::Interface)?;
+    let name = name(alloc, tokens, file)?;
+    let (interfaces, directives, fields) = fields_rest(alloc, tokens, file, depth)?;
+    Ok(Kind::Interface(InterfaceTypeExtension {
+        name,
+        implements_interfaces: names_or_none(alloc, interfaces),
+        directives: directives_or_none(alloc, directives),
+        fields: fields_or_none(alloc, fields),
+    }))
+}
+
+/// What stands behind the name of a union: `Directives? UnionMemberTypes?`.
+fn union_rest(
+    alloc: Global,
+    tokens: &mut Source<'_>,
+    file: FileId,
+    depth: usize,
+) -> Result<(Option<DirectiveList>, Option<Vec<NamedType>>), Stop>
+    ensures { Reads (λ x. (option_map directives_tree x.0, option_map (λ v. map name_tree v.items) x.1)) (steps.union_rest (in_file file) depth tokens.old) result tokens.new }
+{
+    let directives = optional_directives(alloc, tokens, file, true, depth)?;
+    let members = optional_union_member_types(alloc, tokens, file)?;
+    Ok((directives, members))
+}
+
+/// UnionTypeDefinition (section 3.8): `"union" Name Directives? UnionMemberTypes?`.
+#[tactic(auto, unfolding(read_grammar::specs::TypeSystemReading::union_type))]
+pub fn union_type(
+    alloc: Global,
+    tokens: &mut Source<'_>,
+    file: FileId,
+    depth: usize,
+) -> Result<Kind, Stop>
+    ensures { Reads kind_tree (steps.union_kind (in_file file) depth tokens.old) result tokens.new }
+{
+    expect(tokens, Terminal::Union)?;
+    let name = name(alloc, tokens, file)?;
+    let (directives, members) = union_rest(alloc, tokens, file, depth)?;
+    Ok(Kind::Union(UnionTypeExtension {
+        name,
+        directives: directives_or_none(alloc, directives),
+        members: names_or_none(alloc, members),
+    }))
+}

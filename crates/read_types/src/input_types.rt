@@ -1,0 +1,123 @@
+//! Types that input can have: scalars, enums and input objects (sections 3.5, 3.9 and 3.10).
+ghost use Rattle.std.specs.Prelude.{◌≡◌, map};
+ghost use Rattle.std.specs.Option.{option_map};
+ghost use Rattle.tree_directives.specs.DirectiveTree.{directives_tree, input_value_tree};
+ghost use Rattle.graphql_names.specs.Placed.{node_tree};
+ghost use Rattle.tree_type_members.specs.TypeSystemTree.{enum_value_tree};
+ghost use Rattle.read_grammar.specs.Reading.{Reads};
+ghost use Rattle.read_types.specs.KindSteps as steps;
+ghost use Rattle.read_types.specs.KindTrees.{kind_tree};
+ghost use Rattle.read_members.specs.in_parse_values.Meanings.{in_file};
+
+use crate::kind::Kind;
+use graphql_names::{FileId, Node};
+use read_grammar::Stop;
+use read_members::{
+    enum_values_or_none, input_values_or_none, optional_enum_values_definition,
+    optional_input_fields_definition,
+};
+use read_tokens::{Source, Terminal};
+use read_values::{directives_or_none, expect, name, optional_directives};
+use std::alloc::Global;
+use tree_directives::{DirectiveList, InputValueDefinition};
+use tree_input_types::{EnumTypeExtension, InputObjectTypeExtension, ScalarTypeExtension};
+use tree_type_members::EnumValueDefinition;
+
+/// ScalarTypeDefinition (section 3.5): `"scalar" Name Directives?`.
+#[tactic(auto, unfolding(read_grammar::specs::TypeSystemReading::scalar_type))]
+pub fn scalar_type(
+    alloc: Global,
+    tokens: &mut Source<'_>,
+    file: FileId,
+    depth: usize,
+) -> Result<Kind, Stop>
+    ensures { Reads kind_tree (steps.scalar_kind (in_file file) depth tokens.old) result tokens.new }
+{
+    expect(tokens, Terminal::Scalar)?;
+    let name = name(alloc, tokens, file)?;
+    let directives = optional_directives(alloc, tokens, file, true, depth)?;
+    Ok(Kind::Scalar(ScalarTypeExtension {
+        name,
+        directives: directives_or_none(alloc, directives),
+    }))
+}
+
+/// What stands behind the name of an enum: `Directives? EnumValuesDefinition?`.
+fn enum_rest(
+    alloc: Global,
+    tokens: &mut Source<'_>,
+    file: FileId,
+    depth: usize,
+) -> Result<
+    (
+        Option<DirectiveList>,
+        Option<Vec<Node<EnumValueDefinition>>>,
+    ),
+    Stop,
+>
+    ensures { Reads (λ x. (option_map directives_tree x.0, option_map (λ v. map (node_tree enum_value_tree) v.items) x.1)) (steps.enum_rest (in_file file) depth tokens.old) result tokens.new }
+{
+    let directives = optional_directives(alloc, tokens, file, true, depth)?;
+    let values = optional_enum_values_definition(alloc, tokens, file, depth)?;
+    Ok((directives, values))
+}
+
+/// EnumTypeDefinition (section 3.9): `"enum" Name Directives? EnumValuesDefinition?`.
+#[tactic(auto, unfolding(read_grammar::specs::TypeSystemReading::enum_type))]
+pub fn enum_type(
+    alloc: Global,
+    tokens: &mut Source<'_>,
+    file: FileId,
+    depth: usize,
+) -> Result<Kind, Stop>
+    ensures { Reads kind_tree (steps.enum_kind (in_file file) depth tokens.old) result tokens.new }
+{
+    expect(tokens, Terminal::Enum)?;
+    let name = name(alloc, tokens, file)?;
+    let (directives, values) = enum_rest(alloc, tokens, file, depth)?;
+    Ok(Kind::Enum(EnumTypeExtension {
+        name,
+        directives: directives_or_none(alloc, directives),
+        values: enum_values_or_none(alloc, values),
+    }))
+}
+
+/// What stands behind the name of an input object: `Directives? InputFieldsDefinition?`.
+fn input_object_rest(
+    alloc: Global,
+    tokens: &mut Source<'_>,
+    file: FileId,
+    depth: usize,
+) -> Result<
+    (
+        Option<DirectiveList>,
+        Option<Vec<Node<InputValueDefinition>>>,
+    ),
+    Stop,
+>
+    ensures { Reads (λ x. (option_map directives_tree x.0, option_map (λ v. map (node_tree input_value_tree) v.items) x.1)) (steps.input_object_rest (in_file file) depth tokens.old) result tokens.new }
+{
+    let directives = optional_directives(alloc, tokens, file, true, depth)?;
+    let fields = optional_input_fields_definition(alloc, tokens, file, depth)?;
+    Ok((directives, fields))
+}
+
+/// InputObjectTypeDefinition (section 3.10): `"input" Name Directives? InputFieldsDefinition?`.
+#[tactic(auto, unfolding(read_grammar::specs::TypeSystemReading::input_object_type))]
+pub fn input_object_type(
+    alloc: Global,
+    tokens: &mut Source<'_>,
+    file: FileId,
+    depth: usize,
+) -> Result<Kind, Stop>
+    ensures { Reads kind_tree (steps.input_object_kind (in_file file) depth tokens.old) result tokens.new }
+{
+    expect(tokens, Terminal::Input)?;
+    let name = name(alloc, tokens, file)?;
+    let (directives, fields) = input_object_rest(alloc, tokens, file, depth)?;
+    Ok(Kind::InputObject(InputObjectTypeExtension {
+        name,
+        directives: directives_or_none(alloc, directives),
+        fields: input_values_or_none(alloc, fields),
+    }))
+}

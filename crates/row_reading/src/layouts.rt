@@ -1,0 +1,81 @@
+//! Rows of documents that are printed under each layout, read again and printed again.
+
+use crate::print::{Form, form_named, laid_out};
+use graphql_names::FileId;
+use graphql_read::parse_document;
+use row_files::{Answer, Case, Lines, Problem, Tally, Way, compare, text_of};
+use std::alloc::Global;
+use tree_definitions::Document;
+
+/// The layouts, by their words.
+const LAYOUTS: [&str; 4] = ["line", "two", "four", "tab"];
+
+/// Judges the row: each of its inputs, under each layout. On one line it is to print the row's `flat`, or itself where
+/// there is none.
+pub(crate) fn by_layouts(alloc: Global, case: Case<'_>, tally: &mut Tally) -> Result<(), Problem> {
+    for input in &case.given.inputs {
+        let flat = case.given.flat.first().unwrap_or(input);
+        for layout in &LAYOUTS {
+            by_layout(alloc, case, layout, flat, input, tally)?;
+        }
+    }
+    Ok(())
+}
+
+/// Judges the input under a layout. The row tells what is printed on one line and under two spaces.
+fn by_layout(
+    alloc: Global,
+    case: Case<'_>,
+    layout: &str,
+    flat: &[u8],
+    input: &[u8],
+    tally: &mut Tally,
+) -> Result<(), Problem> {
+    push_answer(alloc, text_of(case, input)?, layout, &mut tally.answer);
+    let out = match layout {
+        "line" => flat,
+        "two" => case.out,
+        _ => {
+            tally.answer.text.clear();
+            &[]
+        }
+    };
+    let wanted = Case { out, ..case };
+    compare(wanted, Way::whole(layout, input, usize::MAX), tally)
+}
+
+/// Adds what is printed of the text under the layout, and whether that reads as it was and is printed alike.
+fn push_answer(alloc: Global, text: &str, layout: &str, answer: &mut Answer) {
+    let form = form_named(layout).unwrap_or(Form::Unsaid);
+    match parse_document(alloc, text, FileId(1), usize::MAX) {
+        Ok(document) => push_printed(alloc, &document, form, answer),
+        Err(_) => answer.status.put("1 the input is not read"),
+    }
+}
+
+/// Adds what is printed of the document, and whether that reads as it and is printed alike.
+fn push_printed(alloc: Global, document: &Document, form: Form, answer: &mut Answer) {
+    answer.text.show(&laid_out(document, form, 0));
+    let status = read_again(alloc, document, form, answer.text.as_str());
+    answer.status.put(status);
+}
+
+/// Whether what is printed of the document reads as it, places aside, and is printed alike.
+fn read_again(alloc: Global, document: &Document, form: Form, printed: &str) -> &'static str {
+    match parse_document(alloc, printed, FileId(2), usize::MAX) {
+        Ok(again) if again == *document => printed_twice(alloc, &again, form, printed),
+        Ok(_) => "1 what is printed reads as another document",
+        Err(_) => "1 what is printed is not read",
+    }
+}
+
+/// Whether the document that was read again is printed alike.
+fn printed_twice(alloc: Global, again: &Document, form: Form, printed: &str) -> &'static str {
+    let mut twice = Lines::new(alloc);
+    twice.show(&laid_out(again, form, 0));
+    if twice.as_str() == printed {
+        "0"
+    } else {
+        "1 what was read again is printed otherwise"
+    }
+}

@@ -1,0 +1,144 @@
+//! Rows of texts that are read by themselves.
+
+use graphql_names::FileId;
+use graphql_read::{
+    NextToken, ReadFault, SyntaxFaultKind, Token, next_token, parse_document, parse_selections,
+    parse_type,
+};
+use row_files::{Answer, Case, Lines, Problem, Tally, Way, compare, text_of};
+use std::alloc::Global;
+use tree_operations::Selection;
+use tree_printing::Tree;
+
+/// Judges the row: each of its inputs, under each of its limits.
+pub(crate) fn by_read(alloc: Global, case: Case<'_>, tally: &mut Tally) -> Result<(), Problem> {
+    for nesting in &case.given.limits {
+        for input in &case.given.inputs {
+            by_input(alloc, case, input, *nesting, tally)?;
+        }
+    }
+    Ok(())
+}
+
+/// Judges the answer to an input, which must be UTF-8. The output that is wanted may be the input as it stands.
+fn by_input(
+    alloc: Global,
+    case: Case<'_>,
+    input: &[u8],
+    nesting: usize,
+    tally: &mut Tally,
+) -> Result<(), Problem> {
+    let text = text_of(case, input)?;
+    push_answer(alloc, case.call, text, nesting, &mut tally.answer);
+    let (status, out) = if case.status == "0 as it stands" {
+        ("0", input)
+    } else {
+        (case.status, case.out)
+    };
+    let wanted = Case {
+        status,
+        out,
+        ..case
+    };
+    compare(wanted, Way::whole(case.call, input, nesting), tally)
+}
+
+/// Adds the answer of the call.
+fn push_answer(alloc: Global, call: &str, text: &str, nesting: usize, answer: &mut Answer) {
+    match call {
+        "parse_type" => push_type(alloc, text, nesting, answer),
+        "parse_selections" => push_selections(alloc, text, nesting, answer),
+        "next_token" => push_tokens(text, answer),
+        _ => push_document(alloc, text, nesting, answer),
+    }
+}
+
+/// Adds what a document that is read prints on one line.
+fn push_document(alloc: Global, text: &str, nesting: usize, answer: &mut Answer) {
+    match parse_document(alloc, text, FileId(1), nesting) {
+        Ok(document) => answer.show("0", &document.serialize().no_indent()),
+        Err(fault) => push_fault(fault, &mut answer.status),
+    }
+}
+
+/// Adds what a type that is read prints.
+fn push_type(alloc: Global, text: &str, nesting: usize, answer: &mut Answer) {
+    match parse_type(alloc, text, FileId(1), nesting) {
+        Ok(ty) => answer.show("0", &ty),
+        Err(fault) => push_fault(fault, &mut answer.status),
+    }
+}
+
+/// Adds what each selection that is read prints on a line of its own.
+fn push_selections(alloc: Global, text: &str, nesting: usize, answer: &mut Answer) {
+    match parse_selections(alloc, text, FileId(1), nesting) {
+        Ok(selections) => push_lines(&selections, answer),
+        Err(fault) => push_fault(fault, &mut answer.status),
+    }
+}
+
+/// Adds each selection on a line of its own.
+fn push_lines(selections: &[Selection], answer: &mut Answer) {
+    for selection in selections {
+        let shown = selection.serialize().no_indent();
+        answer.text.show_between("", &shown, "\n");
+    }
+    answer.status.put("0");
+}
+
+/// Adds a fault and its place.
+fn push_fault(fault: ReadFault, status: &mut Lines) {
+    match fault {
+        ReadFault::Syntax(fault) => push_place(kind_words(fault.kind), fault.offset, status),
+        ReadFault::Nesting { offset } => push_place("1 nesting ", offset, status),
+        ReadFault::Memory => status.put("4 out of memory"),
+    }
+}
+
+/// Adds these words and a place.
+fn push_place(words: &str, offset: usize, status: &mut Lines) {
+    status.show_between(words, &offset, "");
+}
+
+/// A fault of the tokens in words.
+fn kind_words(kind: SyntaxFaultKind) -> &'static str {
+    match kind {
+        SyntaxFaultKind::NoToken => "1 no token ",
+        SyntaxFaultKind::Unexpected => "1 unexpected ",
+        SyntaxFaultKind::End => "1 end ",
+    }
+}
+
+/// Adds the offset, the kind and the text of each token on a line of its own, up to the end or to where none starts, and
+/// the place of that.
+fn push_tokens(text: &str, answer: &mut Answer) {
+    let mut at = 0;
+    for _ in 0..=text.len() {
+        match token_at(text, at) {
+            NextToken::Token(token) => {
+                push_token(token, &mut answer.text);
+                at = token.offset.saturating_add(token.text.len());
+            }
+            NextToken::End => return answer.status.put("0"),
+            NextToken::NoToken(offset) => {
+                return push_place("1 no token ", offset, &mut answer.status);
+            }
+        }
+    }
+}
+
+/// Adds the offset, the kind and the text of a token.
+fn push_token(token: Token<'_>, lines: &mut Lines) {
+    lines.show_between("", &token.offset, " ");
+    lines.debug(&token.kind);
+    lines.show_between(" ", &token.text, "\n");
+}
+
+/// The next token from this offset on.
+fn token_at(text: &str, at: usize) -> NextToken<'_> {
+    if text.is_char_boundary(at) {
+        next_token(text, at)
+    } else {
+        NextToken::NoToken(at)
+    }
+}

@@ -1,0 +1,34 @@
+//! Schemas that are judged as a whole.
+
+use crate::told::push_told;
+use graphql_faults::DiagnosticList;
+use graphql_rules::validate_schema;
+use graphql_schema::Schema;
+use row_files::{Answer, Case, Lines, Problem, number};
+use std::alloc::Global;
+
+/// Adds what breaks a rule in the schema, or in so many of its types as the row says, behind the scalars that are left
+/// where the call asks for them.
+pub(crate) fn push_rules(
+    alloc: Global,
+    case: Case<'_>,
+    schema: &mut Schema,
+    answer: &mut Answer,
+) -> Result<(), Problem> {
+    schema.types.truncate(number(case.row, "types", "most")?);
+    let mut list = DiagnosticList::new(alloc);
+    validate_schema(alloc, &mut list, schema)?;
+    if case.call == "kept" {
+        push_scalars(schema, &mut answer.text);
+    }
+    Ok(push_told(alloc, &list, answer)?)
+}
+
+/// Adds the name of each scalar among the types, a line each.
+fn push_scalars(schema: &Schema, lines: &mut Lines) {
+    for ty in schema.types.values() {
+        if ty.is_scalar() {
+            lines.show_between("", ty.name(), "\n");
+        }
+    }
+}

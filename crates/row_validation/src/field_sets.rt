@@ -1,0 +1,56 @@
+//! Sets of fields that are judged by themselves.
+
+use crate::input::Input;
+use crate::told::{push_told, push_typing};
+use graphql_documents::{FieldSet, FieldSetExt};
+use graphql_faults::DiagnosticList;
+use graphql_names::{FileId, Name};
+use graphql_read::parse_selections;
+use graphql_schema::Schema;
+use graphql_validation::validate_field_set;
+use row_files::{Answer, Case, Problem, read_of};
+use std::alloc::Global;
+use tree_operations::Selection;
+
+/// Adds what has no meaning in the input, selections that must be read, under the row's type, and then what breaks a rule
+/// in what is kept.
+pub(crate) fn push_field_set(
+    alloc: Global,
+    case: Case<'_>,
+    schema: &Schema,
+    input: Input<'_>,
+    answer: &mut Answer,
+) -> Result<(), Problem> {
+    let file = FileId(case.given.next_file());
+    let selections = read_of(
+        case,
+        parse_selections(alloc, input.text, file, input.nesting),
+    )?;
+    let name = type_name(alloc, case)?;
+    push_selections(alloc, case, schema, &name, &selections, answer)
+}
+
+/// The name of the row's type.
+fn type_name(alloc: Global, case: Case<'_>) -> Result<Name, Problem> {
+    let field = case.row.needed("type")?;
+    match Name::new(alloc, field.value) {
+        Ok(name) => Ok(name),
+        Err(_) => Err(field.problem("this is no name")),
+    }
+}
+
+/// Adds what is wrong with the selections under the type of this name.
+fn push_selections(
+    alloc: Global,
+    case: Case<'_>,
+    schema: &Schema,
+    name: &Name,
+    selections: &[Selection],
+    answer: &mut Answer,
+) -> Result<(), Problem> {
+    let (set, faults) = FieldSet::from_ast(alloc, schema, name, selections)?;
+    push_typing(alloc, &faults, answer)?;
+    let mut list = DiagnosticList::new(alloc);
+    validate_field_set(alloc, &mut list, schema, &set)?;
+    push_told(alloc, case, &list, answer)
+}

@@ -1,0 +1,54 @@
+//! Merging by itself, operation by operation.
+
+use crate::told::{push_returned, push_told};
+use graphql_documents::ExecutableDocument;
+use graphql_faults::DiagnosticList;
+use graphql_schema::Schema;
+use graphql_validation::FieldsInSetCanMerge;
+use row_files::{Answer, Case, Problem, number, says};
+use std::alloc::Global;
+
+/// Adds what does not merge in each operation, in order, then whether the value that judges them is clean behind each, and
+/// how often it compared shapes, where the row asks for another number.
+pub(crate) fn push_merging(
+    alloc: Global,
+    case: Case<'_>,
+    schema: &Schema,
+    document: &ExecutableDocument,
+    answer: &mut Answer,
+) -> Result<(), Problem> {
+    let mut list = DiagnosticList::new(alloc);
+    let mut merging = FieldsInSetCanMerge::new(alloc, schema, document);
+    let mut cleans = Vec::new(alloc);
+    for operation in document.operations.iter() {
+        merging.validate_operation(operation, &mut list)?;
+        cleans.push(merging.is_clean())?;
+    }
+    if says(case.row, "returns", "yes")? {
+        return push_returned(alloc, case, &list, answer);
+    }
+    push_told(alloc, case, &list, answer)?;
+    push_cleans(&cleans, answer);
+    push_comparisons(case, merging.comparisons(), answer)
+}
+
+/// Adds to the status whether the value is clean behind each operation.
+fn push_cleans(cleans: &[bool], answer: &mut Answer) {
+    for is_clean in cleans {
+        answer
+            .status
+            .put(if *is_clean { " clean" } else { " unclean" });
+    }
+}
+
+/// Adds how often shapes were compared, where that is less or more than the row says.
+fn push_comparisons(case: Case<'_>, comparisons: u128, answer: &mut Answer) -> Result<(), Problem> {
+    let least = number(case.row, "at_least", "0")? as u128;
+    let most = number(case.row, "at_most", "most")? as u128;
+    if comparisons < least || comparisons > most {
+        answer
+            .text
+            .show_between("comparisons: ", &comparisons, "\n");
+    }
+    Ok(())
+}

@@ -1,0 +1,7 @@
+use Rattle.std.proofs.Common.{ℕ, Bool}
+use Rattle.rule_cycle_search.specs.Depths.{AreCounted}
+use Rattle.rule_cycle_search.proofs.Counting.{HasMost}
+use Rattle.rule_cycle_search.proofs.depths.depth_of.Given as goal
+
+abbrev pub invariant-loop-next : goal.invariant-loop-next
+invariant-loop-next l = (kind : ℕ → Bool) → AreCounted l.graph kind l.depths → HasMost l.graph kind l.node l.parts.from.items l.step.center l.most

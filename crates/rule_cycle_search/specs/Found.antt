@@ -1,0 +1,18 @@
+-- What is found of the roots.
+use Rattle.std.specs.Prelude.{◌≡◌, ℕ, List, length, slice_get, Some}
+use Rattle.rule_cycle_search.specs.declared.graph.Graph.{Graph}
+use Rattle.rule_cycle_search.specs.declared.found.Found.{Found}
+use Rattle.rule_cycle_search.specs.declared.found.Found.TheVariants.{Nothing, WayBack, Deep}
+use Rattle.rule_cycle_search.specs.Graph.{IsWayBack, IsDeep}
+
+module _ (g : Graph) where
+  -- this is so of the root
+  abbrev pub Finds : ℕ → Found → Type 0
+  Finds root Nothing = (path : List ℕ) → IsWayBack g root path → ⊥
+  Finds root (WayBack path) = IsWayBack g root path.items
+  Finds root Deep = IsDeep g root
+
+  -- and so on for all roots, in order
+  pub record AreFound (all : List Found) : Type 0 where
+    pub long : length all ≡ g.roots
+    pub each : (root : ℕ) (found : Found) → slice_get all root ≡ Some found → Finds root found

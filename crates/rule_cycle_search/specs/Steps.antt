@@ -1,0 +1,18 @@
+-- The steps of nodes.
+use Rattle.std.specs.Prelude.{◌≡◌, ◌==◌, ℕ, Bool, true, false, List, slice_get, count_by, not}
+use Rattle.std.specs.Option.{option_map_or}
+use Rattle.rule_cycle_search.specs.declared.steps.Step.{Step}
+
+-- the step of the node is one to this center
+abbrev pub is_in : List Step → ℕ → ℕ → Bool
+is_in steps c n = option_map_or (λ s. s.center == c) (slice_get steps n) false
+
+abbrev pub IsIn : List Step → ℕ → ℕ → Type 0
+IsIn steps c n = is_in steps c n ≡ true
+
+abbrev pub via_at : List Step → ℕ → ℕ
+via_at steps n = option_map_or (λ s. s.via) (slice_get steps n) n
+
+-- how many have none to this center
+abbrev pub left : ℕ → List Step → ℕ
+left c steps = count_by (λ s. not (s.center == c)) steps

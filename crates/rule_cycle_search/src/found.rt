@@ -1,0 +1,138 @@
+//! What is found of the roots.
+ghost use Rattle.std.specs.Prelude.{◌≡◌, ◌<◌, ℕ, true, false, Contains, MatchOption, IfOk, slice_get, Some};
+ghost use Rattle.rule_cycle_search.specs.Graph.{references, AreTooMany, IsDeep};
+ghost use Rattle.rule_cycle_search.specs.Steps.{is_in};
+ghost use Rattle.rule_cycle_search.specs.Referrers.{AreReferrers};
+ghost use Rattle.rule_cycle_search.specs.Parts.{IsWhole};
+ghost use Rattle.rule_cycle_search.specs.Found.{Finds, AreFound};
+
+use crate::depths::find_depths;
+use crate::graph::{Graph, listed};
+use crate::order::finishing_order;
+use crate::parts::{Parts, find_parts};
+use crate::referrers::referrers;
+use crate::steps::{Step, is_in};
+use crate::ways::{follow, join};
+use std::alloc::{AllocError, Global};
+
+/// What is found of a root.
+#[derive(Drop)]
+pub enum Found {
+    /// It does not lead back to itself.
+    Nothing,
+    /// These references lead from it back to it.
+    WayBack(Vec<usize>),
+    /// A way from it holds more nodes of a kind than the bound.
+    Deep,
+}
+
+/// Whether the way holds more nodes of a kind than the bound.
+fn is_long(graph: &Graph, way: &[usize]) -> bool
+    ensures { result ≡ true → AreTooMany graph.now way.now }
+{
+    let bound = graph.bound as usize;
+    let mut firsts = 0;
+    for node in way {
+        if *node < graph.first_kind {
+            firsts += 1;
+        }
+    }
+    firsts > bound || way.len() - firsts > bound
+}
+
+/// The first of these nodes that is in the part of this center.
+fn first_in(steps: &[Step], center: usize, nodes: &[usize]) -> Option<usize>
+    ensures { MatchOption result ((n : ℕ) → Contains nodes.now n → is_in steps.now center n ≡ false) (λ n. Contains nodes.now n × (is_in steps.now center n ≡ true)) }
+{
+    for node in nodes {
+        if is_in(steps, center, *node) {
+            return Some(*node);
+        }
+    }
+    None
+}
+
+/// The way round from a root over one that refers to it, where both are in the part of this center.
+fn way_round(
+    alloc: Global,
+    graph: &Graph,
+    parts: &Parts,
+    center: usize,
+    root: usize,
+    last: usize,
+) -> Result<Found, AllocError>
+    requires whole { IsWhole graph.now parts.now.toward.items parts.now.from.items }
+    requires root_in { is_in parts.now.from.items center root ≡ true }
+    requires last_in { is_in parts.now.from.items center last ≡ true }
+    requires refers { Contains (references graph.now last) root }
+    ensures { IfOk result (λ found. Finds graph.now root found) }
+{
+    let Some(mut ahead) = follow(alloc, &parts.toward, root, &[center], graph.bound)? else {
+        return Ok(Found::Deep);
+    };
+    let Some(mut behind) = follow(alloc, &parts.from, last, &ahead, graph.bound)? else {
+        return Ok(Found::Deep);
+    };
+    join(&mut ahead, &mut behind)?;
+    if is_long(graph, &ahead) {
+        return Ok(Found::Deep);
+    }
+    ahead.rotate_left(1);
+    Ok(Found::WayBack(ahead))
+}
+
+/// What is found of a root: a way back is one over a node of its own part that refers to it. Where there is none, some
+/// other way from it may be too long.
+fn look_back(
+    alloc: Global,
+    graph: &Graph,
+    referrers: &[Vec<usize>],
+    parts: &Parts,
+    root: usize,
+    is_deep: bool,
+) -> Result<Found, AllocError>
+    requires referrers { AreReferrers graph.now.references.items referrers.now }
+    requires whole { IsWhole graph.now parts.now.toward.items parts.now.from.items }
+    requires deep { is_deep ≡ true → IsDeep graph.now root }
+    ensures { IfOk result (λ found. Finds graph.now root found) }
+{
+    let Some(step) = parts.from.get(root) else {
+        return Ok(Found::Nothing);
+    };
+    match first_in(&parts.from, step.center, listed(referrers, root)) {
+        None if is_deep => Ok(Found::Deep),
+        None => Ok(Found::Nothing),
+        Some(last) => way_round(alloc, graph, parts, step.center, root, last),
+    }
+}
+
+/// Whether the ways from a node were counted beyond the bound.
+fn is_beyond(depths: &[usize], node: usize, bound: u32) -> bool
+    ensures { result ≡ true → (n : ℕ) × ((slice_get depths.now node ≡ Some n) × (bound < n)) }
+{
+    match depths.get(node) {
+        Some(depth) => *depth > bound as usize,
+        None => false,
+    }
+}
+
+/// For each root, in order, whether it leads back to itself, and by which references; or that a way from it is too
+/// long. It takes time linear in the references, and for each root no more than ways of bounded length take. It fails
+/// only where memory is refused.
+pub fn ways_back(alloc: Global, graph: &Graph) -> Result<Vec<Found>, AllocError>
+    ensures { IfOk result (λ all. AreFound graph.now all.items) }
+{
+    let referrers = referrers(alloc, &graph.references)?;
+    let order = finishing_order(alloc, &graph.references)?;
+    let parts = find_parts(alloc, graph, &referrers, &order)?;
+    let firsts = find_depths(alloc, graph, &parts, &order, true)?;
+    let others = find_depths(alloc, graph, &parts, &order, false)?;
+    let mut all = Vec::new(alloc);
+    for root in 0..graph.roots {
+        let is_deep = is_beyond(&firsts, root, graph.bound)
+            || is_beyond(&others, root, graph.bound);
+        let found = look_back(alloc, graph, &referrers, &parts, root, is_deep)?;
+        all.push(found)?;
+    }
+    Ok(all)
+}

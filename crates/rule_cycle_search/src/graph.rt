@@ -1,0 +1,25 @@
+//! Graphs whose nodes are numbers.
+ghost use Rattle.std.specs.Prelude.{◌≡◌, map};
+ghost use Rattle.rule_cycle_search.specs.Graph.{listed};
+
+/// What nodes refer to, by number. Those of the first kind come first, then those of the other; the first ones are also
+/// judged, they are the roots.
+#[derive(Drop)]
+pub struct Graph {
+    pub references: Vec<Vec<usize>>,
+    /// How many nodes are of the first kind: nodes of a kind are counted by themselves.
+    pub first_kind: usize,
+    pub roots: usize,
+    /// The most nodes of a kind on a way.
+    pub bound: u32,
+}
+
+/// What is listed at a number, nothing where there is no list.
+pub(crate) fn listed(lists: &[Vec<usize>], node: usize) -> &[usize]
+    ensures { result.now ≡ listed lists.now node }
+{
+    match lists.get(node) {
+        Some(list) => list.as_slice(),
+        None => &[],
+    }
+}

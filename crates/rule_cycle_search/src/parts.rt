@@ -1,0 +1,74 @@
+//! Parts of a graph: nodes that lead to each other.
+ghost use Rattle.std.specs.Prelude.{◌≡◌, replicate, IfOk, OnOk};
+ghost use Rattle.rule_cycle_search.specs.Referrers.{AreReferrers};
+ghost use Rattle.rule_cycle_search.specs.Parts.{IsParted, IsWhole, Settles};
+
+use crate::graph::Graph;
+use crate::spread::spread;
+use crate::steps::{Step, is_in};
+use std::alloc::{AllocError, Global};
+
+/// The steps of nodes to the centers of their parts, and back from there.
+#[derive(Drop)]
+pub(crate) struct Parts {
+    pub(crate) toward: Vec<Step>,
+    pub(crate) from: Vec<Step>,
+}
+
+/// Finds the part of a node, if it is in none as yet: all that leads to the node, and to which that leads.
+fn settle(
+    alloc: Global,
+    graph: &Graph,
+    referrers: &[Vec<usize>],
+    node: usize,
+    toward: &mut [Step],
+    from: &mut [Step],
+) -> Result<(), AllocError>
+    requires referrers { AreReferrers graph.now.references.items referrers.now }
+    requires parted { IsParted graph.now toward.old from.old }
+    ensures { OnOk result (Settles graph.now node from.old toward.new from.new) }
+{
+    let unsettled = graph.references.len();
+    if !is_in(from, unsettled, node) {
+        return Ok(());
+    }
+    spread(alloc, referrers, from, unsettled, node, toward)?;
+    spread(alloc, &graph.references, toward, node, node, from)
+}
+
+/// No step is known as yet.
+fn no_steps(alloc: Global, nodes: usize) -> Result<Vec<Step>, AllocError>
+    ensures { IfOk result (λ r. r.items ≡ replicate nodes (record { center = nodes; via = nodes })) }
+{
+    let mut steps = Vec::new(alloc);
+    for _ in 0..nodes {
+        steps.push(Step {
+            center: nodes,
+            via: nodes,
+        })?;
+    }
+    Ok(steps)
+}
+
+/// Settles all nodes, first as the order has them, last to first. Where that is an order in which a search into depth
+/// leaves them, what leads to a node is no more than its part, so that each reference is gone along a few times in all.
+pub(crate) fn find_parts(
+    alloc: Global,
+    graph: &Graph,
+    referrers: &[Vec<usize>],
+    order: &[usize],
+) -> Result<Parts, AllocError>
+    requires { AreReferrers graph.now.references.items referrers.now }
+    ensures { IfOk result (λ parts. IsWhole graph.now parts.toward.items parts.from.items) }
+{
+    let nodes = graph.references.len();
+    let mut toward = no_steps(alloc, nodes)?;
+    let mut from = no_steps(alloc, nodes)?;
+    for node in order.iter().rev() {
+        settle(alloc, graph, referrers, *node, &mut toward, &mut from)?;
+    }
+    for node in 0..nodes {
+        settle(alloc, graph, referrers, node, &mut toward, &mut from)?;
+    }
+    Ok(Parts { toward, from })
+}

@@ -1,0 +1,29 @@
+-- What is told of the roots of a graph, one after the other.
+use Rattle.std.specs.Prelude.{◌≡◌, ℕ, ◌<◌, List, [], ◌++◌, Contains, ◌⊎◌}
+use Rattle.rule_cycle_search.specs.declared.graph.Graph.{Graph}
+use Rattle.rule_cycle_search.specs.declared.found.Found.{Found}
+use Rattle.rule_cycle_search.specs.declared.found.Found.TheVariants.{Nothing, WayBack, Deep}
+use Rattle.rule_cycle_search.specs.Graph.{IsWayBack, IsDeep}
+
+-- `Recursive root path l`: l tells that the path leads from the root back to it; `IsTooLong root l`: that its ways are too long
+module _ {F : Type 0} (Recursive : ℕ → List ℕ → List F → Type 0) (IsTooLong : ℕ → List F → Type 0) where
+  -- l tells what was found of the root
+  abbrev pub TellsFound : ℕ → Found → List F → Type 0
+  TellsFound root Nothing l = l ≡ []
+  TellsFound root (WayBack path) l = Recursive root path.items l
+  TellsFound root Deep l = IsTooLong root l
+
+  module _ (g : Graph) where
+    abbrev pub IsOfRoot : ℕ → List F → Type 0
+    IsOfRoot root l = ((path : List ℕ) × (IsWayBack g root path × Recursive root path l)) ⊎ (IsDeep g root × IsTooLong root l)
+
+    -- nothing is told of a root to which no way leads back, else what is told of it is at the end
+    abbrev pub TellsRoot : ℕ → List F → List F → Type 0
+    TellsRoot root old new = ((new ≡ old) × ((path : List ℕ) → IsWayBack g root path → ⊥)) ⊎ ((l : List F) × (IsOfRoot root l × (new ≡ old ++ l)))
+
+    -- the same of all roots below a number
+    pub record TellsRoots (number : ℕ) (old new : List F) : Type 0 where
+      pub added : List F
+      pub is : new ≡ old ++ added
+      pub right : (f : F) → Contains added f → (root : ℕ) × ((l : List F) × (IsOfRoot root l × Contains l f))
+      pub full : (root : ℕ) → root < number → (path : List ℕ) → IsWayBack g root path → (l : List F) × (IsOfRoot root l × ((f : F) → Contains l f → Contains added f))

@@ -1,0 +1,109 @@
+//! The faults of directives that reach themselves (section 3.13).
+ghost use Rattle.std.specs.Prelude.{◌≡◌, ◌++◌, map, reverse, IfOk, OnOk, option_to_list, option_and_then};
+ghost use Rattle.graphql_names.specs.Placed.{node_tree};
+ghost use Rattle.graphql_names.specs.Places.{Recomposes};
+ghost use Rattle.tree_directives.specs.DirectiveTree.{directive_tree, directive_definition_tree};
+ghost use Rattle.graphql_schema.specs.SchemaOf.{schema_tree};
+ghost use Rattle.fault_data.specs.FaultView.{fault_of};
+ghost use Rattle.rule_cycles.specs.Labels.{along};
+ghost use Rattle.rule_cycles.specs.UseViews.{use_between};
+ghost use Rattle.rule_cycles.specs.UseGraph.{AreUseReferences};
+ghost use Rattle.rule_cycles.specs.DirectiveFaults.{directives_of, TellsDirective, TellsDeepDirective};
+
+use crate::uses::UseReferences;
+use fault_data::{DiagnosticData, Fault};
+use graphql_names::{Node, SourceSpan, recompose};
+use graphql_schema::Schema;
+use std::alloc::{AllocError, Global};
+use tree_directives::{Directive, DirectiveDefinition};
+
+/// From the first token of a directive's definition to its name.
+fn head(definition: &Node<DirectiveDefinition>) -> Option<SourceSpan>
+    ensures { Recomposes (node_tree directive_definition_tree definition.now).place (node_tree directive_definition_tree definition.now).it.name.place result }
+{
+    recompose(definition.location(), definition.content().name.location())
+}
+
+/// Adds the directive by which something first refers to another, if it does by one.
+fn add_use_between(
+    references: &UseReferences,
+    from: usize,
+    to: usize,
+    trace: &mut Vec<Node<Directive>>,
+) -> Result<(), AllocError>
+    ensures { OnOk result (map (node_tree directive_tree) trace.new.items ≡ map (node_tree directive_tree) trace.old.items ++ option_to_list (option_and_then (λ by. by) (use_between references.now from to))) }
+{
+    match references.first(from, to) {
+        Some(Some(directive)) => {
+            trace.push(directive.clone()?)?;
+            Ok(())
+        }
+        _ => Ok(()),
+    }
+}
+
+/// The directives along a path from the root, from the last to the first.
+fn use_trace(
+    alloc: Global,
+    references: &UseReferences,
+    root: usize,
+    path: &[usize],
+) -> Result<Vec<Node<Directive>>, AllocError>
+    ensures { IfOk result (λ r. map (node_tree directive_tree) r.items ≡ reverse (directives_of (along (use_between references.now) root path.now))) }
+{
+    let mut trace = Vec::new(alloc);
+    let mut from = root;
+    for to in path {
+        add_use_between(references, from, *to, &mut trace)?;
+        from = *to;
+    }
+    trace.reverse();
+    Ok(trace)
+}
+
+/// The directive of that number reaches itself (RecursiveDirectiveDefinition).
+pub(crate) fn recursive_directive_definition(
+    alloc: Global,
+    schema: &Schema,
+    references: &UseReferences,
+    root: usize,
+    path: &[usize],
+) -> Result<Option<Fault>, AllocError>
+    requires { AreUseReferences (schema_tree schema.now) references.now }
+    ensures { IfOk result (λ r. TellsDirective (schema_tree schema.now) root path.now (map fault_of (option_to_list r))) }
+{
+    match schema.directive_definitions.get_index(root) {
+        None => Ok(None),
+        Some((name, definition)) => {
+            let trace = use_trace(alloc, references, root, path)?;
+            let name = name.clone()?;
+            Ok(Some(Fault {
+                location: head(definition),
+                data: DiagnosticData::RecursiveDirectiveDefinition { name, trace },
+            }))
+        }
+    }
+}
+
+/// A way without repetition from the directive of that number holds more than 32 directives, or more than 32 types
+/// (DeeplyNestedType).
+pub(crate) fn deeply_nested_directive(
+    schema: &Schema,
+    root: usize,
+) -> Result<Option<Fault>, AllocError>
+    ensures { IfOk result (λ r. TellsDeepDirective (schema_tree schema.now) root (map fault_of (option_to_list r))) }
+{
+    match schema.directive_definitions.get_index(root) {
+        None => Ok(None),
+        Some((name, definition)) => {
+            let name = name.clone()?;
+            Ok(Some(Fault {
+                location: head(definition),
+                data: DiagnosticData::DeeplyNestedType {
+                    name,
+                    describe_type: "directive",
+                },
+            }))
+        }
+    }
+}

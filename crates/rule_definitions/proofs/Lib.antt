@@ -1,0 +1,9 @@
+pub mod Same
+pub mod KeptFacts
+pub mod Accepting
+pub mod Examples
+pub use Rattle.rule_cycle_search.proofs.Lists
+pub mod Lookups
+pub mod Tells
+pub mod Listing
+pub mod Firsts

@@ -1,0 +1,101 @@
+-- Definitions that lead back to themselves, and the bound on references (GraphQL, October 2021, sections 3.10 and 3.13).
+-- A way is a path of references from a name, as `rule_cycle_search` has it.
+use Rattle.std.specs.Prelude.{◌≡◌, ℕ, ◌<◌, Bool, true, false, List, ◌∷◌, codes, reverse, length, count_by, filter_map, is_some, Option, None, Some, ◌⊎◌}
+use Rattle.graphql_names.specs.Placed.{Placed, Text}
+use Rattle.tree_literals.specs.TypeTree.{NonNullNamedTree}
+use Rattle.tree_directives.specs.DirectiveTree.{DirectiveTree, InputValueTree}
+use Rattle.schema_types.specs.Addresses.{Address, TypeAt, ValueAt, InputAt, DirectiveDefinitionAt, ArgumentAt, DirectiveAt}
+use Rattle.schema_types.specs.declared.type_kind.TypeKind.TheVariants as kind
+use Rattle.rule_cycle_search.specs.Paths.{Leads, IsWay, HasNoRepeat}
+use Rattle.rule_definitions.specs.Diagnostics.{RecursiveInputObjectDefinition, RecursiveDirectiveDefinition, DeeplyNestedType}
+use Rattle.rule_definitions.specs.Words.{Present, Somewhere, AtSomeIndex}
+use Rattle.rule_definitions.specs.Spots.{Spot, At, HeadAt}
+use Rattle.rule_definitions.specs.Faults.{SchemaFault, wrong}
+use Rattle.rule_definitions.specs.Judged.{Judged, bare}
+use Rattle.rule_definitions.specs.TypesUsed.{named_in}
+
+-- the greatest number of directives, or of types, on a way
+abbrev pub reference_bound : ℕ
+reference_bound = 32
+
+-- a node that refers, with the spot at which it stands
+abbrev pub Referring : Type 0 → Type 0
+Referring A = Placed Spot A
+
+-- a directive, or a type
+pub data Thing : Type 0 where
+  ADirective : (name : List ℕ) → Thing
+  AType : (name : List ℕ) → Thing
+
+abbrev pub is_directive : Thing → Bool
+is_directive (ADirective n) = true
+is_directive (AType n) = false
+
+abbrev pub is_type : Thing → Bool
+is_type (ADirective n) = false
+is_type (AType n) = true
+
+module _ (s : Judged) where
+  -- ---- input objects
+
+  -- an input object refers to another by a field of type `Name!`
+  abbrev pub RefersToInput : List ℕ → Referring (InputValueTree (Unit {0})) → List ℕ → Type 0
+  RefersToInput n by to = Present (s.type_named n) (λ t. (t.kind ≡ kind.InputObject) × (Somewhere t.input (λ m v.
+      (by ≡ record { it = v; place = At (InputAt n m) }) × ((name : Text (Unit {0})) × ((v.ty.it ≡ NonNullNamedTree name) × (name.it ≡ to))))
+      × Present (s.type_named to) (λ u. u.kind ≡ kind.InputObject)))
+
+  -- ---- directives
+
+  -- one of these directives, applied there, refers to its definition, if it has one
+  abbrev pub RefersByUse : Address → List (DirectiveTree (Unit {0})) → Option (Referring (DirectiveTree (Unit {0}))) → Thing → Type 0
+  RefersByUse holder ds by to = AtSomeIndex ds (λ i d.
+      (by ≡ Some (record { it = d; place = At (DirectiveAt holder i) })) × ((to ≡ ADirective d.name.it) × (is_some (s.directive d.name.it) ≡ true)))
+
+  -- an argument definition or input field refers by its directives, and to its type, if that is there
+  abbrev pub RefersByInput : Address → InputValueTree (Unit {0}) → Option (Referring (DirectiveTree (Unit {0}))) → Thing → Type 0
+  RefersByInput at v by to = RefersByUse at (bare v.directives) by to ⊎ ((by ≡ None) × ((to ≡ AType (named_in v.ty.it)) × (is_some (s.type_named (named_in v.ty.it)) ≡ true)))
+
+  -- a directive refers by its arguments; a type by its directives, its enum values and its input fields
+  abbrev pub Refers : Thing → Option (Referring (DirectiveTree (Unit {0}))) → Thing → Type 0
+  Refers (ADirective n) by to = Present (s.directive n) (λ d. AtSomeIndex d.arguments (λ i v.
+      RefersByInput (ArgumentAt (DirectiveDefinitionAt n) i) v.it by to))
+  Refers (AType n) by to = Present (s.type_named n) (λ t.
+      RefersByUse (TypeAt n) t.directives by to
+      ⊎ (Somewhere t.value (λ m v. RefersByUse (ValueAt n m) (bare v.directives) by to)
+      ⊎ Somewhere t.input (λ m v. RefersByInput (InputAt n m) v by to)))
+
+-- the directives by which a way refers, from the last to the first
+abbrev pub trace_of : List (Option (Referring (DirectiveTree (Unit {0})))) → List (Referring (DirectiveTree (Unit {0})))
+trace_of bys = reverse (filter_map (λ by. by) bys)
+
+module _ (s : Judged) (fault : SchemaFault) where
+  -- RecursiveInputObjectDefinition: no fields of type `Name!` lead from an input object back to it (section 3.10)
+  abbrev pub RecursiveInputObjectDefinitionAt : Type 0
+  RecursiveInputObjectDefinitionAt = (n : List ℕ) × ((by : Referring (InputValueTree (Unit {0}))) × ((rest : List (Referring (InputValueTree (Unit {0})))) × (
+      Leads (RefersToInput s) n (by ∷ rest) n
+      × (fault ≡ wrong (At (TypeAt n)) (RecursiveInputObjectDefinition n (reverse (by ∷ rest)))))))
+
+  -- RecursiveDirectiveDefinition: a directive does not reach itself (section 3.13)
+  abbrev pub RecursiveDirectiveDefinitionAt : Type 0
+  RecursiveDirectiveDefinitionAt = (n : List ℕ) × ((by : Option (Referring (DirectiveTree (Unit {0})))) × ((rest : List (Option (Referring (DirectiveTree (Unit {0}))))) × (
+      Leads (Refers s) (ADirective n) (by ∷ rest) (ADirective n)
+      × (fault ≡ wrong (HeadAt n) (RecursiveDirectiveDefinition n (trace_of (by ∷ rest)))))))
+
+  -- ---- the bound: not a rule, but what may be answered where it is passed
+
+  -- DeeplyNestedType: a way without repetition from an input object holds more of them than the bound
+  abbrev pub DeeplyNestedInputObjectAt : Type 0
+  DeeplyNestedInputObjectAt = (n : List ℕ) × ((rest : List (List ℕ)) × (
+      IsWay (RefersToInput s) (n ∷ rest) × (HasNoRepeat (n ∷ rest) × ((reference_bound < length (n ∷ rest))
+      × (fault ≡ wrong (At (TypeAt n)) (DeeplyNestedType n (codes "input object")))))))
+
+  -- DeeplyNestedType: a way without repetition from a directive holds more directives, or more types, than the bound
+  abbrev pub DeeplyNestedDirectiveAt : Type 0
+  DeeplyNestedDirectiveAt = (n : List ℕ) × ((rest : List Thing) × (
+      IsWay (Refers s) (ADirective n ∷ rest) × (HasNoRepeat (ADirective n ∷ rest)
+      × (((reference_bound < count_by is_directive (ADirective n ∷ rest)) ⊎ (reference_bound < count_by is_type (ADirective n ∷ rest)))
+      × (fault ≡ wrong (HeadAt n) (DeeplyNestedType n (codes "directive")))))))
+
+  -- ReferenceBound is passed, and this tells it
+  abbrev pub PassesReferenceBound : Type 0
+  PassesReferenceBound = DeeplyNestedInputObjectAt ⊎ DeeplyNestedDirectiveAt

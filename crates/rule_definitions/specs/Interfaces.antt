@@ -1,0 +1,86 @@
+-- Rules on types that implement interfaces (GraphQL, October 2021, sections 3.6, 3.7, and IsValidImplementation in 3.6.1).
+use Rattle.std.specs.Prelude.{◌≡◌, ◌≢◌, ℕ, Bool, true, false, ◌&&◌, ◌||◌, List, None, bytes_eq}
+use Rattle.std.specs.Option.{option_map_or}
+use Rattle.tree_literals.specs.TypeTree.{TypeTree, NamedTree, NonNullNamedTree, ListTree, NonNullListTree}
+use Rattle.tree_directives.specs.DirectiveQueries.{is_required_input}
+use Rattle.tree_type_members.specs.TypeSystemTree.{FieldDefinitionTree}
+use Rattle.schema_types.specs.SchemaTree.{same_kind}
+use Rattle.schema_types.specs.Looks.{TypeLooks}
+use Rattle.schema_types.specs.Addresses.{TypeAt, FieldAt, ImplementsAt, ArgumentAt}
+use Rattle.schema_types.specs.declared.type_kind.TypeKind.TheVariants as kind
+use Rattle.rule_definitions.specs.Diagnostics.{UndefinedDefinition, RecursiveInterfaceDefinition, TransitiveImplementedInterfaces, MissingInterfaceField, InvalidImplementationFieldType, MissingInterfaceFieldArgument, InvalidImplementationFieldArgumentType, ExtraRequiredImplementationFieldArgument}
+use Rattle.rule_definitions.specs.Words.{Present, Somewhere, Among, AtSomeIndex, FirstNamed, Lacks}
+use Rattle.rule_definitions.specs.Faults.{SchemaFault, told}
+use Rattle.rule_definitions.specs.Judged.{Judged, AtType}
+
+module _ (s : Judged) where
+  -- what is named t is a member of the union n, or names the interface n among its interfaces (IsSubType, section 3.6.1)
+  abbrev pub is_subtype : List ℕ → List ℕ → Bool
+  is_subtype n t = option_map_or (λ a. (same_kind a.kind kind.Union && a.has_member t)
+      || (same_kind a.kind kind.Interface && option_map_or (λ b. b.implements n) (s.type_named t) false)) (s.type_named n) false
+
+  -- a field of the second type serves where an interface has one of the first (IsValidImplementationFieldType, section 3.6.1)
+  abbrev pub is_valid_type : TypeTree (Unit {0}) → TypeTree (Unit {0}) → Bool
+  is_valid_type (NamedTree wanted) (NamedTree n) = bytes_eq wanted.it n.it || is_subtype wanted.it n.it
+  is_valid_type (NamedTree wanted) (NonNullNamedTree n) = bytes_eq wanted.it n.it || is_subtype wanted.it n.it
+  is_valid_type (NonNullNamedTree wanted) (NonNullNamedTree n) = bytes_eq wanted.it n.it || is_subtype wanted.it n.it
+  is_valid_type (ListTree wanted) (ListTree t) = is_valid_type wanted t
+  is_valid_type (ListTree wanted) (NonNullListTree t) = is_valid_type wanted t
+  is_valid_type (NonNullListTree wanted) (NonNullListTree t) = is_valid_type wanted t
+  is_valid_type _ _ = false
+
+  -- ---- at some place
+
+  -- type n implements the interface i, which is there
+  abbrev pub AtImplemented : (List ℕ → TypeLooks → List ℕ → TypeLooks → Type 0) → Type 0
+  AtImplemented P = AtType s (λ n t. Among t.implements (λ i. Present (s.type_named i) (λ over. (over.kind ≡ kind.Interface) × P n t i over)))
+
+  -- type n has a field m, and so has an interface i that it implements
+  abbrev pub AtImplementation : (List ℕ → List ℕ → List ℕ → FieldDefinitionTree (Unit {0}) → FieldDefinitionTree (Unit {0}) → Type 0) → Type 0
+  AtImplementation P = AtImplemented (λ n t i over. Somewhere over.field (λ m wanted. Present (t.field m) (λ field. P n i m wanted field)))
+
+module _ (s : Judged) (fault : SchemaFault) where
+  -- UndefinedDefinition: what a type implements is an interface
+  abbrev pub UndefinedInterfaceAt : Type 0
+  UndefinedInterfaceAt = AtType s (λ n t. Among t.implements (λ i.
+      (Present (s.type_named i) (λ over. over.kind ≡ kind.Interface) → ⊥) × (fault ≡ told (ImplementsAt n i) (UndefinedDefinition i))))
+
+  -- RecursiveInterfaceDefinition: an interface does not implement itself (section 3.7)
+  abbrev pub RecursiveInterfaceDefinitionAt : Type 0
+  RecursiveInterfaceDefinitionAt = AtType s (λ n t. (t.kind ≡ kind.Interface)
+      × ((t.implements n ≡ true) × (fault ≡ told (ImplementsAt n n) (RecursiveInterfaceDefinition n))))
+
+  -- TransitiveImplementedInterfaces: a type also implements what its interfaces implement (sections 3.6 and 3.7)
+  abbrev pub TransitiveImplementedInterfacesAt : Type 0
+  TransitiveImplementedInterfacesAt = AtImplemented s (λ n t i over. Among over.implements (λ missing. (t.implements missing ≡ false)
+      × (fault ≡ told (TypeAt n) (TransitiveImplementedInterfaces n i (ImplementsAt i missing) missing))))
+
+  -- MissingInterfaceField: a type has each field of its interfaces
+  abbrev pub MissingInterfaceFieldAt : Type 0
+  MissingInterfaceFieldAt = AtImplemented s (λ n t i over. Somewhere over.field (λ m wanted. (t.field m ≡ None)
+      × (fault ≡ told (TypeAt n) (MissingInterfaceField n (ImplementsAt n i) i m (FieldAt i m)))))
+
+  -- InvalidImplementationFieldType: the field's type serves for the interface's
+  abbrev pub InvalidImplementationFieldTypeAt : Type 0
+  InvalidImplementationFieldTypeAt = AtImplementation s (λ n i m wanted field. (is_valid_type s wanted.ty field.ty ≡ false)
+      × (fault ≡ told (FieldAt n m) (InvalidImplementationFieldType n i m wanted.ty field.ty (FieldAt n m) (FieldAt i m))))
+
+  -- MissingInterfaceFieldArgument: the field has each argument of the interface's field
+  abbrev pub MissingInterfaceFieldArgumentAt : Type 0
+  MissingInterfaceFieldArgumentAt = AtImplementation s (λ n i m wanted field. AtSomeIndex wanted.arguments (λ k w.
+      Lacks (λ v. v.it.name.it) field.arguments w.it.name.it
+      × (fault ≡ told (FieldAt n m) (MissingInterfaceFieldArgument n i m w.it.name.it (FieldAt n m) (ArgumentAt (FieldAt i m) k)))))
+
+  -- InvalidImplementationFieldArgumentType: it has the same type there
+  abbrev pub InvalidImplementationFieldArgumentTypeAt : Type 0
+  InvalidImplementationFieldArgumentTypeAt = AtImplementation s (λ n i m wanted field. AtSomeIndex wanted.arguments (λ k w.
+      FirstNamed (λ v. v.it.name.it) field.arguments w.it.name.it (λ j v. (w.it.ty.it ≢ v.it.ty.it)
+      × (fault ≡ told (ArgumentAt (FieldAt n m) j) (InvalidImplementationFieldArgumentType n i m w.it.name.it w.it.ty.it v.it.ty.it
+      (ArgumentAt (FieldAt n m) j) (ArgumentAt (FieldAt i m) k))))))
+
+  -- ExtraRequiredImplementationFieldArgument: no further argument of the field is required
+  abbrev pub ExtraRequiredImplementationFieldArgumentAt : Type 0
+  ExtraRequiredImplementationFieldArgumentAt = AtImplementation s (λ n i m wanted field. AtSomeIndex field.arguments (λ j v.
+      Lacks (λ w. w.it.name.it) wanted.arguments v.it.name.it × ((is_required_input v.it ≡ true)
+      × (fault ≡ told (ArgumentAt (FieldAt n m) j) (ExtraRequiredImplementationFieldArgument n i m v.it.name.it
+      (ArgumentAt (FieldAt n m) j) (FieldAt i m))))))

@@ -1,0 +1,31 @@
+-- Equal schemas with equal marks: rules read the same of both, so they keep and break the same rules, at the same addresses. And what
+-- a type accepts keeps the rules on values.
+use Rattle.std.specs.Prelude.{◌≡◌, ◌↔◌}
+use Rattle.graphql_names.specs.Placed.{Place}
+use Rattle.tree_literals.specs.ValueTree.{ValueTree}
+use Rattle.schema_types.specs.SchemaTree.{SchemaTree}
+use Rattle.schema_types.specs.Plain.{plain}
+use Rattle.schema_types.specs.Addresses.{Address, is_marked}
+use Rattle.rule_definitions.specs.Faults.{SchemaFault}
+use Rattle.rule_definitions.specs.Judged.{Judged, judged}
+use Rattle.rule_definitions.specs.Values.{Wanted, Variables, KeepsValueRules}
+use Rattle.rule_definitions.specs.Accepts.{Accepts}
+use Rattle.rule_definitions.specs.Rules.{Breaks, SchemaRules}
+
+-- equal, places, origins and order aside, and with the same built in
+pub record AreEqual (a b : SchemaTree Place) : Type 0 where
+  pub same : plain a ≡ plain b
+  pub marks : (at : Address) → is_marked a at ≡ is_marked b at
+
+abbrev pub ReadTheSame : Type 0
+ReadTheSame = (a b : SchemaTree Place) → AreEqual a b → judged a ≡ judged b
+
+abbrev pub SameBreaches : Type 0
+SameBreaches = (a b : SchemaTree Place) → AreEqual a b → (fault : SchemaFault) → Breaks (judged a) fault ↔ Breaks (judged b) fault
+
+abbrev pub SameVerdict : Type 0
+SameVerdict = (a b : SchemaTree Place) → AreEqual a b → SchemaRules (judged a) ↔ SchemaRules (judged b)
+
+abbrev pub AcceptsWhereRulesHold : Type 0
+AcceptsWhereRulesHold = (at : Address → Place) (s : Judged) (variables : Variables Place) (ty : Wanted Place) (p : Place) (v : ValueTree Place) →
+    Accepts s variables ty.it v ↔ KeepsValueRules at s variables ty p v

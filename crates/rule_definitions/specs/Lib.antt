@@ -1,0 +1,21 @@
+pub mod Words
+pub mod Diagnostics
+pub mod Spots
+pub mod Faults
+pub mod Judged
+pub mod Roots
+pub mod ReservedNames
+pub mod TypesUsed
+pub mod Empty
+pub mod Interfaces
+pub mod Cycles
+pub mod Values
+pub mod Accepts
+pub mod Uses
+pub mod Rules
+pub mod Told
+pub use Rattle.schema_types.specs.Distinct
+pub mod Kept
+pub mod Laws
+pub use Rattle.schema_components.specs as in_components
+pub use Rattle.schema_types.specs as in_schema_types

@@ -1,0 +1,58 @@
+-- Rules on the types that fields, input values and unions name (GraphQL, October 2021, sections 3.4.2, 3.6, 3.8, 3.10).
+use Rattle.std.specs.Prelude.{◌≡◌, ◌≢◌, ℕ, false, List, [], ◌∷◌, codes, Contains, None}
+use Rattle.tree_literals.specs.TypeTree.{TypeTree}
+use Rattle.tree_literals.specs.TypeQueries.{inner_name}
+use Rattle.schema_types.specs.SchemaTree.{kind_words, is_input_kind, is_output_kind}
+use Rattle.schema_types.specs.Addresses.{Address, FieldAt, MemberAt, TypeNameAt, TypeReferenceAt, ArgumentAt}
+use Rattle.schema_types.specs.declared.type_kind.TypeKind.TheVariants as kind
+use Rattle.rule_definitions.specs.Diagnostics.{UndefinedDefinition, OutputType, InputType, UnionMemberObjectType, UniqueInputValue}
+use Rattle.rule_definitions.specs.Words.{Present, Among, Repeats}
+use Rattle.rule_definitions.specs.Faults.{SchemaFault, told}
+use Rattle.rule_definitions.specs.Judged.{Judged, AtType, AtField, AtInputValue, AtArguments}
+
+-- the names of the five built-in scalars (section 3.5)
+abbrev pub scalar_names : List (List ℕ)
+scalar_names = codes "Int" ∷ codes "Float" ∷ codes "String" ∷ codes "Boolean" ∷ codes "ID" ∷ []
+
+-- the name inside a reference to a type
+abbrev pub named_in : TypeTree (Unit {0}) → List ℕ
+named_in ty = (inner_name ty).it
+
+module _ (s : Judged) (fault : SchemaFault) where
+  -- the type of this reference is not there, and is none of the five
+  abbrev pub IsUndefinedAt : Address → TypeTree (Unit {0}) → Type 0
+  IsUndefinedAt at ty = (s.type_named (named_in ty) ≡ None)
+      × ((Contains scalar_names (named_in ty) → ⊥) × (fault ≡ told (TypeNameAt at) (UndefinedDefinition (named_in ty))))
+
+  -- UndefinedDefinition: the type of a field is there
+  abbrev pub UndefinedFieldTypeAt : Type 0
+  UndefinedFieldTypeAt = AtField s (λ n m f. IsUndefinedAt (FieldAt n m) f.ty)
+
+  -- UndefinedDefinition: the type of an argument or input field is there
+  abbrev pub UndefinedInputTypeAt : Type 0
+  UndefinedInputTypeAt = AtInputValue s (λ at v. IsUndefinedAt at v.ty.it)
+
+  -- UndefinedDefinition: the members of a union are there (section 3.8)
+  abbrev pub UndefinedMemberAt : Type 0
+  UndefinedMemberAt = AtType s (λ n t. Among t.has_member (λ m.
+      (s.type_named m ≡ None) × (fault ≡ told (MemberAt n m) (UndefinedDefinition m))))
+
+  -- OutputType: a field's type is an output type (sections 3.6 and 3.7)
+  abbrev pub OutputTypeAt : Type 0
+  OutputTypeAt = AtField s (λ n m f. Present (s.type_named (named_in f.ty)) (λ t.
+      (is_output_kind t.kind ≡ false) × (fault ≡ told (FieldAt n m) (OutputType m (kind_words t.kind) (TypeNameAt (FieldAt n m))))))
+
+  -- InputType: the type of an argument or input field is an input type (sections 3.6.1, 3.10 and 3.13)
+  abbrev pub InputTypeAt : Type 0
+  InputTypeAt = AtInputValue s (λ at v. Present (s.type_named (named_in v.ty.it)) (λ t.
+      (is_input_kind t.kind ≡ false) × (fault ≡ told at (InputType v.name.it (kind_words t.kind) (TypeReferenceAt at)))))
+
+  -- UnionMemberObjectType: the members of a union are object types (section 3.8)
+  abbrev pub UnionMemberObjectTypeAt : Type 0
+  UnionMemberObjectTypeAt = AtType s (λ n t. Among t.has_member (λ m. Present (s.type_named m) (λ member.
+      (member.kind ≢ kind.Object) × (fault ≡ told (MemberAt n m) (UnionMemberObjectType m (kind_words member.kind))))))
+
+  -- UniqueInputValue: the arguments of a field or directive have different names (sections 3.6 and 3.13)
+  abbrev pub UniqueArgumentDefinitionAt : Type 0
+  UniqueArgumentDefinitionAt = AtArguments s (λ holder vs. Repeats (λ v. v.it.name.it) vs (λ i first j later.
+      fault ≡ told (ArgumentAt holder i) (UniqueInputValue first.it.name.it (ArgumentAt holder i) (ArgumentAt holder j))))

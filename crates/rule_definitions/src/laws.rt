@@ -1,0 +1,16 @@
+//! Laws of the rules, each the contract of a function that does nothing.
+
+ghost use Rattle.rule_definitions.specs.Laws.{ReadTheSame, SameBreaches, SameVerdict, AcceptsWhereRulesHold};
+
+/// Schemas that are equal, with the same built in, break the same rules at the same addresses, whatever the rules are:
+/// rules read the same of both.
+pub fn equal_schemas_same_breaches()
+    ensures read { ReadTheSame }
+    ensures breaches { SameBreaches }
+    ensures verdict { SameVerdict }
+{}
+
+/// A type accepts a value exactly where no rule on values fails of it, wherever schema, type and value stand.
+pub fn types_accept_where_rules_hold()
+    ensures { AcceptsWhereRulesHold }
+{}

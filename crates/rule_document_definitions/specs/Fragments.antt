@@ -1,0 +1,106 @@
+-- Rules on fragments (GraphQL, October 2021, section 5.5).
+use Rattle.std.specs.Prelude.{◌≡◌, ℕ, true, false, ◌&&◌, not, List, ◌∷◌, reverse, Contains, Option, None, Some, ◌⊎◌}
+use Rattle.graphql_names.specs.Placed.{Placed}
+use Rattle.tree_directives.specs.DirectiveTree.{unplaced_directives}
+use Rattle.schema_types.specs.Addresses.{TypeAt}
+use Rattle.schema_types.specs.SchemaTree.{is_leaf_kind, is_output_kind}
+use Rattle.schema_types.specs.declared.type_kind.TypeKind.TheVariants as kind
+use Rattle.schema_types.specs.Looks.{TypeLooks}
+use Rattle.document_meaning.specs.MeantTree.{MeantSelection, MeantSpread, MeantOperation, MeantFragment, MeantDocument}
+use Rattle.rule_definitions.specs.Diagnostics.{SpreadTree, UndefinedFragment, UnusedFragment, RecursiveFragmentDefinition, InvalidFragmentTarget, InvalidFragmentSpread}
+use Rattle.rule_definitions.specs.Words.{Present}
+use Rattle.rule_definitions.specs.Faults.{FaultAt, wrong}
+use Rattle.rule_definitions.specs.Judged.{Judged}
+use Rattle.rule_cycle_search.specs.Paths.{Leads}
+use Rattle.rule_document_definitions.specs.Places.{Places}
+use Rattle.rule_document_definitions.specs.Selected.{InFragment, Standing, all_in, spread_name, inline_condition, selection_place, fragments, fragment_named}
+use Rattle.rule_document_definitions.specs.Reached.{ReachesFragment, AtOperation, AtReached, AtReachedFragment}
+
+-- ---- types
+
+-- an object, an interface or a union
+abbrev pub IsCompositeType : TypeLooks → Type 0
+IsCompositeType t = (is_output_kind t.kind && not (is_leaf_kind t.kind)) ≡ true
+
+abbrev pub IsNoCompositeType : TypeLooks → Type 0
+IsNoCompositeType t = (is_output_kind t.kind && not (is_leaf_kind t.kind)) ≡ false
+
+module _ (s : Judged) where
+  -- the type of this name is there, and is composite, is not
+  abbrev pub IsComposite : List ℕ → Type 0
+  IsComposite n = Present (s.type_named n) IsCompositeType
+
+  abbrev pub IsNotComposite : List ℕ → Type 0
+  IsNotComposite n = Present (s.type_named n) IsNoCompositeType
+
+  -- values of the type can be of this object type (GetPossibleTypes, section 5.5.2.3)
+  abbrev pub CanBe : List ℕ → List ℕ → Type 0
+  CanBe n object = Present (s.type_named object) (λ u. (u.kind ≡ kind.Object)
+      × ((object ≡ n) ⊎ ((u.implements n ≡ true) ⊎ Present (s.type_named n) (λ t. t.has_member object ≡ true))))
+
+  -- a fragment on the second may stand where the first is: the same, or an object type in common
+  abbrev pub MayApply : List ℕ → List ℕ → Type 0
+  MayApply parent condition = (condition ≡ parent) ⊎ ((object : List ℕ) × (CanBe parent object × CanBe condition object))
+
+-- ---- references
+
+-- the spread that a selection is, without places in it, with its place
+abbrev pub as_spread : {P : Type 0} → MeantSelection P → Option (Placed P SpreadTree)
+as_spread (MeantSpread p n ds) = Some (record { it = record { fragment_name = n.it; directives = unplaced_directives ds }; place = p })
+as_spread _ = None
+
+-- a fragment refers to another by a spread, at any depth of its selections
+abbrev pub RefersBySpread : {P : Type 0} → MeantDocument P → List ℕ → Placed P SpreadTree → List ℕ → Type 0
+RefersBySpread {P} d n by to = Present (fragment_named d n) (λ f. (x : Standing P) × (
+    Contains (all_in (InFragment n) f.set) x × ((as_spread x.it ≡ Some by) × ((by.it.fragment_name ≡ to) × Present (fragment_named d to) (λ g. Unit {0})))))
+
+-- spreads lead from the fragment back to it
+abbrev pub ReachesItself : {P : Type 0} → MeantDocument P → MeantFragment P → Type 0
+ReachesItself {P} d f = (by : Placed P SpreadTree) × ((rest : List (Placed P SpreadTree)) × Leads (RefersBySpread d) f.name.it (by ∷ rest) f.name.it)
+
+-- no fragment that the operation reaches reaches itself
+abbrev pub HasNoLoop : {P : Type 0} → MeantDocument P → MeantOperation P → Type 0
+HasNoLoop d o = AtReachedFragment d o (ReachesItself d) → ⊥
+
+-- ---- rules that ask nothing of a schema
+
+module _ {P E : Type 0} (d : MeantDocument P) (fault : FaultAt P E) where
+  -- UndefinedFragment: a fragment that is spread is there (section 5.5.2.1)
+  abbrev pub UndefinedFragmentAt : MeantOperation P → Type 0
+  UndefinedFragmentAt o = AtReached d o (λ x. Present (spread_name x.it) (λ n.
+      (fragment_named d n ≡ None) × (fault ≡ wrong (selection_place x.it) (UndefinedFragment n))))
+
+  -- RecursiveFragmentDefinition: no spreads lead from a fragment back to it (section 5.5.2.2)
+  abbrev pub RecursiveFragmentDefinitionAt : Places P → MeantOperation P → Type 0
+  RecursiveFragmentDefinitionAt places o = AtReachedFragment d o (λ f. (by : Placed P SpreadTree) × ((rest : List (Placed P SpreadTree)) × (
+      Leads (RefersBySpread d) f.name.it (by ∷ rest) f.name.it
+      × ((head : P) × (places.Spans f.place f.name.place head
+      × (fault ≡ wrong f.place (RecursiveFragmentDefinition head f.name.it (reverse (by ∷ rest)))))))))
+
+  -- UnusedFragment: each fragment is used in an operation (section 5.5.1.4)
+  abbrev pub UnusedFragmentAt : Type 0
+  UnusedFragmentAt = (f : MeantFragment P) × (Contains (fragments d) f
+      × ((AtOperation d (λ o. ReachesFragment d o f) → ⊥) × (fault ≡ wrong f.place (UnusedFragment f.name.it))))
+
+-- ---- rules under a schema
+
+module _ {P E : Type 0} (s : Judged) (d : MeantDocument P) (o : MeantOperation P) (fault : FaultAt P E) where
+  -- InvalidFragmentTarget: a fragment is on a composite type (section 5.5.1.3)
+  abbrev pub InvalidFragmentTargetAt : Type 0
+  InvalidFragmentTargetAt =
+      AtReachedFragment d o (λ f. IsNotComposite s f.type_condition.it × (fault ≡ wrong f.place (InvalidFragmentTarget (Some f.name.it) f.type_condition.it)))
+      ⊎ AtReached d o (λ x. Present (inline_condition x.it) (λ c. IsNotComposite s c × (fault ≡ wrong (selection_place x.it) (InvalidFragmentTarget None c))))
+
+  -- InvalidFragmentSpread: a fragment can apply where it stands (section 5.5.2.3)
+  abbrev pub InvalidFragmentSpreadAt : Places P → Type 0
+  InvalidFragmentSpreadAt places = AtReached d o (λ x.
+      Present (spread_name x.it) (λ n. Present (fragment_named d n) (λ f. (MayApply s x.parent f.type_condition.it → ⊥)
+      × (fault ≡ wrong (selection_place x.it) (InvalidFragmentSpread (Some n) x.parent f.type_condition.it f.place (places.at (TypeAt x.parent))))))
+      ⊎ Present (inline_condition x.it) (λ c. (MayApply s x.parent c → ⊥)
+      × (fault ≡ wrong (selection_place x.it) (InvalidFragmentSpread None x.parent c (selection_place x.it) (places.at (TypeAt x.parent))))))
+
+-- a rule on fragments fails so, in an operation
+abbrev pub FragmentsBreak : {P E : Type 0} → Places P → Judged → MeantDocument P → MeantOperation P → FaultAt P E → Type 0
+FragmentsBreak places s d o fault =
+    UndefinedFragmentAt d fault o ⊎ (RecursiveFragmentDefinitionAt d fault places o
+    ⊎ (InvalidFragmentTargetAt s d o fault ⊎ InvalidFragmentSpreadAt s d o fault places))

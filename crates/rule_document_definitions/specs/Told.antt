@@ -1,0 +1,71 @@
+-- The rules at the places of a schema and of a document, over the schema at hand (GraphQL, October 2021, section 5).
+use Rattle.std.specs.Prelude.{Bool, false, List, None, is_none, if◌then◌else◌}
+use Rattle.graphql_names.specs.Placed.{Place}
+use Rattle.graphql_names.specs.Places.{Recomposes}
+use Rattle.schema_types.specs.SchemaTree.{SchemaTree}
+use Rattle.schema_types.specs.BuiltIn.{built_in}
+use Rattle.schema_types.specs.Addresses.{Address, FieldAt, ArgumentAt, TypeReferenceAt, place_at, field_at}
+use Rattle.document_meaning.specs.MeantTree.{MeantSet, MeantDocument}
+use Rattle.document_meaning.specs.Unplaced.{unplaced_document, unplaced_set}
+use Rattle.rule_definitions.specs.Judged.{judged}
+use Rattle.rule_document_definitions.specs.Places.{Places}
+use Rattle.rule_document_definitions.specs.DocumentFaults.{DocumentFault}
+use Rattle.rule_document_definitions.specs.DocumentRules.{RulesFail, MergingFails}
+use Rattle.rule_document_definitions.specs.Limits.{BoundFails}
+use Rattle.rule_document_definitions.specs.FieldSets.{FieldSetFails, FieldSetBoundFails}
+use Rattle.rule_document_definitions.specs.Standalone.{StandaloneFails}
+use Rattle.rule_document_definitions.specs.Verdict.{DocumentRules, Merging, FieldSetRules, StandaloneRules}
+
+module _ (s : SchemaTree Place) where
+  -- a field that no definition gives its type, or something in it: a meta-field
+  abbrev pub is_of_meta_field : Address → Bool
+  is_of_meta_field (FieldAt n m) = is_none (field_at s n m)
+  is_of_meta_field (ArgumentAt holder i) = is_of_meta_field holder
+  is_of_meta_field (TypeReferenceAt holder) = is_of_meta_field holder
+  is_of_meta_field _ = false
+
+  -- where it is written; meta-fields stand where all that is built in does
+  abbrev pub place_or_built_in : Address → Place
+  place_or_built_in a = if is_of_meta_field a then built_in else place_at s a
+
+abbrev pub places_in : SchemaTree Place → Places Place
+places_in s = record { at = place_or_built_in s; Spans = Recomposes; nowhere = None }
+
+-- without a schema no address has a place
+abbrev pub places_alone : Places Place
+places_alone = record { at = λ a. None; Spans = Recomposes; nowhere = None }
+
+abbrev pub PlacedDocumentFault : Type 0
+PlacedDocumentFault = DocumentFault Place (List Place)
+
+module _ (s : SchemaTree Place) where
+  -- a rule on documents, on merging, on field sets fails, and this tells it
+  abbrev pub DocumentFails : MeantDocument Place → PlacedDocumentFault → Type 0
+  DocumentFails d fault = RulesFail (places_in s) (judged s) d fault
+
+  abbrev pub DocumentMergingFails : MeantDocument Place → PlacedDocumentFault → Type 0
+  DocumentMergingFails d fault = MergingFails (judged s) d fault
+
+  abbrev pub SetRulesFail : MeantSet Place → PlacedDocumentFault → Type 0
+  SetRulesFail set fault = FieldSetFails (places_in s) (judged s) set fault
+
+  -- every rule holds of the document, of the field set
+  abbrev pub IsValidDocument : MeantDocument Place → Type 0
+  IsValidDocument d = DocumentRules (judged s) (unplaced_document d) × Merging (judged s) (unplaced_document d)
+
+  abbrev pub IsValidFieldSet : MeantSet Place → Type 0
+  IsValidFieldSet set = FieldSetRules (judged s) (unplaced_set set)
+
+-- a bound is passed, and this tells it: under a schema or without one
+abbrev pub DocumentBoundFails : MeantDocument Place → PlacedDocumentFault → Type 0
+DocumentBoundFails d fault = BoundFails places_alone d fault
+
+abbrev pub SetBoundFails : MeantSet Place → PlacedDocumentFault → Type 0
+SetBoundFails set fault = FieldSetBoundFails places_alone set fault
+
+-- the rules without a schema
+abbrev pub DocumentFailsAlone : MeantDocument Place → PlacedDocumentFault → Type 0
+DocumentFailsAlone d fault = StandaloneFails places_alone d fault
+
+abbrev pub IsValidAlone : MeantDocument Place → Type 0
+IsValidAlone d = StandaloneRules (unplaced_document d)

@@ -1,0 +1,103 @@
+-- Rules on the variables of an operation (GraphQL, October 2021, section 5.8).
+use Rattle.std.specs.Prelude.{◌≡◌, ℕ, false, List, [], None, ◌⊎◌}
+use Rattle.tree_literals.specs.TypeTree.{unplaced_type}
+use Rattle.tree_literals.specs.ValueTree.{ValueTree, ItemTrees, EntryTrees, VariableTree, ListTree, ObjectTree, no_items, item_then, no_entries, entry_then}
+use Rattle.tree_directives.specs.DirectiveTree.{Arguments, Directives}
+use Rattle.tree_directives.specs.declared.directive_location.DirectiveLocation.TheVariants as location
+use Rattle.tree_operations.specs.OperationTree.{VariableDefinitionTree}
+use Rattle.schema_types.specs.SchemaTree.{kind_words, is_input_kind}
+use Rattle.document_meaning.specs.MeantTree.{MeantOperation, MeantDocument}
+use Rattle.rule_definitions.specs.Diagnostics.{UndefinedDefinition, UniqueVariable, VariableInputType, UnusedVariable}
+use Rattle.rule_definitions.specs.Words.{Present, AtSomeIndex, Repeats}
+use Rattle.rule_definitions.specs.Faults.{FaultAt, wrong}
+use Rattle.rule_definitions.specs.Judged.{Judged}
+use Rattle.rule_definitions.specs.Values.{Wanted, wanted_name, defined_name, UniqueInputValueIn, ValueBreaks}
+use Rattle.rule_definitions.specs.Uses.{UsesBreak}
+use Rattle.rule_document_definitions.specs.Places.{Places}
+use Rattle.rule_document_definitions.specs.Selected.{Standing, as_field, selection_directives}
+use Rattle.rule_document_definitions.specs.Reached.{AtReached, AtReachedFragment}
+
+-- ---- where variables stand
+
+module _ {P : Type 0} (n : List ℕ) where
+  -- the variable stands in a value, at any depth
+  abbrev mutual
+    pub StandsInValue : ValueTree P → Type 0
+    StandsInValue (VariableTree v) = v.it ≡ n
+    StandsInValue (ListTree ts) = StandsInItems ts
+    StandsInValue (ObjectTree es) = StandsInEntries es
+    StandsInValue v = ⊥
+
+    pub StandsInItems : ItemTrees P → Type 0
+    StandsInItems no_items = ⊥
+    StandsInItems (item_then p v ts) = StandsInValue v ⊎ StandsInItems ts
+
+    pub StandsInEntries : EntryTrees P → Type 0
+    StandsInEntries no_entries = ⊥
+    StandsInEntries (entry_then k p v es) = StandsInValue v ⊎ StandsInEntries es
+
+  abbrev pub StandsInArguments : Arguments P → Type 0
+  StandsInArguments given = AtSomeIndex given (λ i a. StandsInValue a.it.value.it)
+
+  abbrev pub StandsInDirectives : Directives P → Type 0
+  StandsInDirectives ds = AtSomeIndex ds (λ i d. StandsInArguments d.it.arguments)
+
+  abbrev pub StandsInSelection : Standing P → Type 0
+  StandsInSelection x = StandsInDirectives (selection_directives x.it) ⊎ Present (as_field x) (λ f. StandsInArguments f.head.arguments)
+
+  -- the operation uses the variable: in its directives, in a selection that it reaches, or in the directives of a fragment that it reaches
+  abbrev pub IsUsedIn : MeantDocument P → MeantOperation P → Type 0
+  IsUsedIn d o =
+      StandsInDirectives o.directives
+      ⊎ (AtReached d o StandsInSelection
+      ⊎ AtReachedFragment d o (λ f. StandsInDirectives f.directives))
+
+-- the type of a variable, with its place
+abbrev pub wanted_by : {P : Type 0} → VariableDefinitionTree P → Wanted P
+wanted_by x = record { it = unplaced_type x.ty.it; place = x.ty.place }
+
+-- ---- rules that ask nothing of a schema
+
+module _ {P E : Type 0} (o : MeantOperation P) (fault : FaultAt P E) where
+  -- UniqueVariable: the variables of an operation differ in name (section 5.8.1)
+  abbrev pub UniqueVariableAt : Type 0
+  UniqueVariableAt = Repeats defined_name o.variables (λ i first j later.
+      fault ≡ wrong later.place (UniqueVariable (defined_name later) first.place later.place))
+
+  -- UniqueInputValue: the keys of an object in a default differ (section 5.6.3)
+  abbrev pub UniqueDefaultKeyAt : Type 0
+  UniqueDefaultKeyAt = AtSomeIndex o.variables (λ i x. Present x.it.default_value (λ v. UniqueInputValueIn v.it fault))
+
+  -- UnusedVariable: each variable is used (section 5.8.4)
+  abbrev pub UnusedVariableAt : Places P → MeantDocument P → Type 0
+  UnusedVariableAt places d = AtSomeIndex o.variables (λ i x. (IsUsedIn (defined_name x) d o → ⊥) × ((head : P) × (
+      places.Spans x.place x.it.name.place head × (fault ≡ wrong head (UnusedVariable (defined_name x))))))
+
+-- ---- rules under a schema
+
+module _ {P E : Type 0} (s : Judged) (o : MeantOperation P) (fault : FaultAt P E) where
+  -- UndefinedDefinition: the type of a variable is there (section 5.8.2)
+  abbrev pub UndefinedVariableTypeAt : Type 0
+  UndefinedVariableTypeAt = AtSomeIndex o.variables (λ i x.
+      (s.type_named (wanted_name (wanted_by x.it)) ≡ None) × (fault ≡ wrong x.place (UndefinedDefinition (wanted_name (wanted_by x.it)))))
+
+  -- VariableInputType: it is an input type (section 5.8.2)
+  abbrev pub VariableInputTypeAt : Type 0
+  VariableInputTypeAt = AtSomeIndex o.variables (λ i x. Present (s.type_named (wanted_name (wanted_by x.it))) (λ t.
+      (is_input_kind t.kind ≡ false) × (fault ≡ wrong x.place (VariableInputType (defined_name x) (unplaced_type x.it.ty.it) (kind_words t.kind)))))
+
+  -- the rules on values, of a default against the variable's type (section 5.6.1); a default has no variables
+  abbrev pub DefaultValueBreaks : Places P → Type 0
+  DefaultValueBreaks places = AtSomeIndex o.variables (λ i x. Present x.it.default_value (λ v.
+      ValueBreaks places.at s [] (wanted_by x.it) v.place v.it fault))
+
+  -- the rules on uses, of the directives of a variable (section 5.7)
+  abbrev pub VariableDirectivesBreak : Places P → Type 0
+  VariableDirectivesBreak places = AtSomeIndex o.variables (λ i x. UsesBreak places.at s [] location.VariableDefinition x.it.directives fault)
+
+-- a rule on variables fails so
+abbrev pub VariablesBreak : {P E : Type 0} → Places P → Judged → MeantDocument P → MeantOperation P → FaultAt P E → Type 0
+VariablesBreak places s d o fault =
+    UniqueVariableAt o fault ⊎ (UniqueDefaultKeyAt o fault ⊎ (UnusedVariableAt o fault places d
+    ⊎ (UndefinedVariableTypeAt s o fault ⊎ (VariableInputTypeAt s o fault
+    ⊎ (DefaultValueBreaks s o fault places ⊎ VariableDirectivesBreak s o fault places)))))

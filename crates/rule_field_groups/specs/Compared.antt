@@ -1,0 +1,13 @@
+-- How often shapes are compared in a pass.
+use Rattle.std.specs.Prelude.{ℕ, List, length}
+use Rattle.rule_field_groups.specs.declared.pass.Pass.{Pass}
+use Rattle.rule_field_groups.specs.declared.pass.Pass.TheVariants.{Shapes, Selections}
+
+-- how often shapes are compared, at most, for two fields, and for a list of so many, in a pass
+abbrev pub compared_once : Pass → ℕ
+compared_once Shapes = 1
+compared_once Selections = 0
+
+abbrev pub compared : {X : Type 0} → Pass → List X → ℕ
+compared Shapes list = length list
+compared Selections list = 0

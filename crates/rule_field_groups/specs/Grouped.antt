@@ -1,0 +1,76 @@
+-- Groups of a list of field selections (private: it leads to `Sharing.antt` of the laws of merging).
+use Rattle.std.specs.Prelude.{◌≡◌, ℕ, Bool, ◌&&◌, ◌||◌, not, List, [], map, filter, length, Vec, Contains, ◌⊎◌}
+use Rattle.std.specs.List.{sum, list_any}
+use Rattle.std.specs.Map.{lookup}
+use Rattle.std.specs.Option.{option_map_or}
+use Rattle.std.specs.Str.{bytes_eq}
+use Rattle.std.specs.declared.alloc.Global.{Global}
+use Rattle.indexmap.specs.IndexMap.{IndexMap, values}
+use Rattle.indexmap.specs.IndexSet.{IndexSet}
+use Rattle.graphql_names.specs.NameValue.{NameValue}
+use Rattle.rule_definitions.specs.Judged.{Judged}
+use Rattle.rule_document_definitions.specs.Selected.{response_key}
+use Rattle.rule_document_definitions.specs.Merging.{IsAbstract}
+use Rattle.rule_field_selections.specs.Fields.{field_of}
+use Rattle.rule_field_selections.specs.declared.field_selection.FieldSelection.{FieldSelection}
+use Rattle.rule_field_groups.specs.Kinds.{is_abstract}
+
+-- what stands under a name, none if there is no entry
+abbrev pub items_under : {X S : Type 0} → List ℕ → IndexMap NameValue (Vec X Global) S → List X
+items_under n m = option_map_or (λ v. v.items) (lookup (λ k. bytes_eq n k.text) m.entries) []
+
+-- the lists that it has, and how many items stand in them
+abbrev pub lists_in : {X S : Type 0} → IndexMap NameValue (Vec X Global) S → List (List X)
+lists_in m = map (λ v. v.items) (values m)
+
+abbrev pub count_in : {X S : Type 0} → IndexMap NameValue (Vec X Global) S → ℕ
+count_in m = sum (map length (lists_in m))
+
+abbrev pub lists_of : {X : Type 0} → Vec (Vec X Global) Global → List (List X)
+lists_of lists = map (λ v. v.items) lists.items
+
+-- the response key, the type that it is selected on
+abbrev pub key_of : FieldSelection → List ℕ
+key_of x = response_key (field_of x)
+
+abbrev pub parent_of : FieldSelection → List ℕ
+parent_of x = (field_of x).parent
+
+-- it has this name
+abbrev pub has : {X : Type 0} → (X → List ℕ) → List ℕ → X → Bool
+has name n x = bytes_eq n (name x)
+
+-- the name is among these
+abbrev pub is_noted : {S : Type 0} → List ℕ → IndexSet NameValue S → Bool
+is_noted n names = list_any (λ k. bytes_eq n k.text) names.keys
+
+-- it is selected on this type, which is not abstract
+abbrev pub is_own_parent : Judged → List ℕ → FieldSelection → Bool
+is_own_parent s n x = bytes_eq n (parent_of x) && not (is_abstract s (parent_of x))
+
+-- it is selected on this type, or on an abstract one
+abbrev pub is_on_one : Judged → List ℕ → FieldSelection → Bool
+is_on_one s n x = bytes_eq n (parent_of x) || is_abstract s (parent_of x)
+
+-- those of the list that pass some test, in the list's order
+abbrev pub IsPartOf : {X : Type 0} → List X → List X → Type 0
+IsPartOf {X} list part = (test : X → Bool) × (part ≡ filter test list)
+
+abbrev pub ArePartsOf : {X : Type 0} → List X → List (List X) → Type 0
+ArePartsOf {X} list parts = (part : List X) → Contains parts part → IsPartOf list part
+
+-- for each name that is had, those that have it, and no other groups
+pub record AreFiled {X : Type 0} (name : X → List ℕ) (list : List X) (groups : List (List X)) : Type 0 where
+  pub has_all : (x : X) → Contains list x → Contains groups (filter (has name (name x)) list)
+  pub only : (group : List X) → Contains groups group → (n : List ℕ) × (group ≡ filter (has name n) list)
+
+-- each is in a group that has all on its type and on abstract ones, and each group is of those on one type and on abstract ones
+abbrev pub IsOnOne : Judged → List ℕ → FieldSelection → Type 0
+IsOnOne s parent x = (parent_of x ≡ parent) ⊎ IsAbstract s (parent_of x)
+
+pub record AreParentGroups (s : Judged) (list : List FieldSelection) (groups : List (List FieldSelection)) : Type 0 where
+  pub has_all : (x : FieldSelection) → Contains list x
+      → (group : List FieldSelection) × (Contains groups group × ((y : FieldSelection) → Contains list y → IsOnOne s (parent_of x) y → Contains group y))
+  pub only : (group : List FieldSelection) → Contains groups group
+      → (parent : List ℕ) × ((y : FieldSelection) → Contains group y → Contains list y × IsOnOne s parent y)
+  pub parts : ArePartsOf list groups

@@ -1,0 +1,280 @@
+//! Conflicts of two fields.
+ghost use Rattle.std.specs.Prelude.{◌≡◌, ◌≤◌, ◌+◌, MatchOption, IfOk, OnOk};
+ghost use Rattle.schema_coordinates.specs.CoordinateView.{attribute_coordinate, argument_coordinate};
+ghost use Rattle.fault_document_data.specs.DocumentBreachView.{given_value};
+ghost use Rattle.graphql_schema.specs.SchemaOf.{schema_tree};
+ghost use Rattle.rule_definitions.specs.Judged.{judged};
+ghost use Rattle.rule_document_definitions.specs.Merging.{SameShape, SameName, SameNameAndArguments};
+ghost use Rattle.rule_document_definitions.specs.SameValues.{SameArguments, plain_given};
+ghost use Rattle.rule_reach.specs.Broken.{broken_of};
+ghost use Rattle.rule_field_selections.specs.Fields.{field_of, fields_of};
+ghost use Rattle.rule_field_groups.specs.Passes.{TypesConflict, NamesConflict, ArgumentsConflict, SelectionsConflict, Compares, AddsGroup, coordinate_of, coordinate_of_argument, type_conflict, name_conflict, argument_conflict};
+ghost use Rattle.rule_field_groups.specs.Compared.{compared, compared_once};
+
+use crate::pass::Pass;
+use crate::shapes::same_type;
+use fault_document_data::{
+    BuildError, ConflictingFieldArgument, ConflictingFieldName, ConflictingFieldType,
+};
+use graphql_names::{Name, SourceSpan, copies_of_three};
+use graphql_schema::Schema;
+use rule_field_selections::FieldSelection;
+use rule_reach::tell_breach;
+use rule_same_values::differing_argument;
+use schema_coordinates::{FieldArgumentCoordinate, TypeAttributeCoordinate};
+use std::alloc::{AllocError, Global};
+use tree_literals::Value;
+
+/// What breaks a rule, with its place.
+pub type Breach = (Option<SourceSpan>, BuildError);
+
+/// One more, or no more where this is the greatest number.
+fn count_one(count: &mut u128)
+    ensures { count.new ≤ count.old + 1 }
+{
+    *count = count.saturating_add(1);
+}
+
+/// The coordinates of two fields.
+fn coordinates(
+    first: FieldSelection<'_>,
+    other: FieldSelection<'_>,
+) -> Result<(TypeAttributeCoordinate, TypeAttributeCoordinate), AllocError>
+    ensures first { IfOk result (λ c. attribute_coordinate c.0 ≡ coordinate_of (field_of first.entry)) }
+    ensures other { IfOk result (λ c. attribute_coordinate c.1 ≡ coordinate_of (field_of other.entry)) }
+{
+    let coordinate = first.coordinate()?;
+    Ok((coordinate, other.coordinate()?))
+}
+
+/// What is told of fields whose types have different shapes.
+fn told_types(
+    alloc: Global,
+    first: FieldSelection<'_>,
+    other: FieldSelection<'_>,
+) -> Result<Breach, AllocError>
+    ensures { IfOk result (λ b. broken_of b ≡ type_conflict (field_of first.entry) (field_of other.entry)) }
+{
+    let (alias, original_type, conflicting_type) = copies_of_three(
+        other.response_key(),
+        first.field.content().ty(),
+        other.field.content().ty(),
+    )?;
+    let (original_coordinate, conflicting_coordinate) = coordinates(first, other)?;
+    let conflict = ConflictingFieldType {
+        alias,
+        original_location: first.field.location(),
+        original_coordinate,
+        original_type,
+        conflicting_location: other.field.location(),
+        conflicting_coordinate,
+        conflicting_type,
+    };
+    let conflict = BuildError::ConflictingFieldType(Box::new(alloc, conflict)?);
+    Ok((other.field.location(), conflict))
+}
+
+/// ConflictingFieldType: fields of one response key have one shape (section 5.3.2, "SameResponseShape"). Each comparison is
+/// counted.
+fn conflicting_field_type(
+    alloc: Global,
+    schema: &Schema,
+    first: FieldSelection<'_>,
+    other: FieldSelection<'_>,
+    comparisons: &mut u128,
+) -> Result<Option<Breach>, AllocError>
+    ensures told { IfOk result (λ r. MatchOption r (SameShape (judged (schema_tree schema.now)) (field_of first.entry) (field_of other.entry)) (λ b. TypesConflict (judged (schema_tree schema.now)) (broken_of b) (field_of first.entry) (field_of other.entry))) }
+    ensures counted { comparisons.new ≤ comparisons.old + 1 }
+{
+    count_one(comparisons);
+    if same_type(
+        schema,
+        first.field.content().ty(),
+        other.field.content().ty(),
+    ) {
+        return Ok(None);
+    }
+    Ok(Some(told_types(alloc, first, other)?))
+}
+
+/// What is told of fields of different names.
+fn told_names(
+    alloc: Global,
+    first: FieldSelection<'_>,
+    other: FieldSelection<'_>,
+) -> Result<Breach, AllocError>
+    ensures { IfOk result (λ b. broken_of b ≡ name_conflict (field_of first.entry) (field_of other.entry)) }
+{
+    let alias = other.response_key().clone()?;
+    let (original_selection, conflicting_selection) = coordinates(first, other)?;
+    let conflict = ConflictingFieldName {
+        alias,
+        original_location: first.field.location(),
+        original_selection,
+        conflicting_location: other.field.location(),
+        conflicting_selection,
+    };
+    let conflict = BuildError::ConflictingFieldName(Box::new(alloc, conflict)?);
+    Ok((other.field.location(), conflict))
+}
+
+/// ConflictingFieldName: fields that one object may have under one response key have one name (section 5.3.2, "must have
+/// identical field names").
+fn conflicting_field_name(
+    alloc: Global,
+    first: FieldSelection<'_>,
+    other: FieldSelection<'_>,
+) -> Result<Option<Breach>, AllocError>
+    ensures { IfOk result (λ r. MatchOption r (SameName (field_of first.entry) (field_of other.entry)) (λ b. NamesConflict (broken_of b) (field_of first.entry) (field_of other.entry))) }
+{
+    if first.field.content().name.as_str() == other.field.content().name.as_str() {
+        return Ok(None);
+    }
+    Ok(Some(told_names(alloc, first, other)?))
+}
+
+/// The coordinate of the field's argument of that name.
+fn coordinate_of_argument(
+    field: FieldSelection<'_>,
+    name: &Name,
+) -> Result<FieldArgumentCoordinate, AllocError>
+    ensures { IfOk result (λ c. argument_coordinate c ≡ coordinate_of_argument name.now.text (field_of field.entry)) }
+{
+    let coordinate = field.coordinate()?;
+    Ok(coordinate.with_argument(name.clone()?))
+}
+
+/// The coordinates of the arguments of that name of two fields.
+fn argument_coordinates(
+    first: FieldSelection<'_>,
+    other: FieldSelection<'_>,
+    name: &Name,
+) -> Result<(FieldArgumentCoordinate, FieldArgumentCoordinate), AllocError>
+    ensures first { IfOk result (λ c. argument_coordinate c.0 ≡ coordinate_of_argument name.now.text (field_of first.entry)) }
+    ensures other { IfOk result (λ c. argument_coordinate c.1 ≡ coordinate_of_argument name.now.text (field_of other.entry)) }
+{
+    let coordinate = coordinate_of_argument(first, name)?;
+    Ok((coordinate, coordinate_of_argument(other, name)?))
+}
+
+/// What the field gives for the argument of that name, if anything.
+fn value_given(field: FieldSelection<'_>, name: &Name) -> Result<Option<Value>, AllocError>
+    ensures { IfOk result (λ v. given_value v ≡ plain_given name.now.text (field_of field.entry).head.arguments) }
+{
+    match field
+        .field
+        .content()
+        .specified_argument_by_name(name.as_str())
+    {
+        None => Ok(None),
+        Some(value) => Ok(Some(value.content().clone()?)),
+    }
+}
+
+/// What two fields give for the argument of that name.
+fn values_given(
+    first: FieldSelection<'_>,
+    other: FieldSelection<'_>,
+    name: &Name,
+) -> Result<(Option<Value>, Option<Value>), AllocError>
+    ensures first { IfOk result (λ v. given_value v.0 ≡ plain_given name.now.text (field_of first.entry).head.arguments) }
+    ensures other { IfOk result (λ v. given_value v.1 ≡ plain_given name.now.text (field_of other.entry).head.arguments) }
+{
+    let value = value_given(first, name)?;
+    Ok((value, value_given(other, name)?))
+}
+
+/// What is told of fields that give the argument of that name different values.
+fn told_arguments(
+    alloc: Global,
+    first: FieldSelection<'_>,
+    other: FieldSelection<'_>,
+    name: &Name,
+) -> Result<Breach, AllocError>
+    ensures { IfOk result (λ b. broken_of b ≡ argument_conflict name.now.text (field_of first.entry) (field_of other.entry)) }
+{
+    let alias = other.response_key().clone()?;
+    let (original_coordinate, conflicting_coordinate) = argument_coordinates(first, other, name)?;
+    let (original_value, conflicting_value) = values_given(first, other, name)?;
+    let conflict = ConflictingFieldArgument {
+        alias,
+        original_location: first.field.location(),
+        original_coordinate,
+        original_value,
+        conflicting_location: other.field.location(),
+        conflicting_coordinate,
+        conflicting_value,
+    };
+    let conflict = BuildError::ConflictingFieldArgument(Box::new(alloc, conflict)?);
+    Ok((other.field.location(), conflict))
+}
+
+/// ConflictingFieldArgument: fields that one object may have under one response key have the same arguments (section 5.3.2,
+/// "must have identical sets of arguments"). The first argument that differs is told.
+fn conflicting_field_argument(
+    alloc: Global,
+    first: FieldSelection<'_>,
+    other: FieldSelection<'_>,
+) -> Result<Option<Breach>, AllocError>
+    ensures { IfOk result (λ r. MatchOption r (SameArguments (field_of first.entry).head.arguments (field_of other.entry).head.arguments) (λ b. ArgumentsConflict (broken_of b) (field_of first.entry) (field_of other.entry))) }
+{
+    let given = first.field.content().arguments.as_slice();
+    let differing = differing_argument(alloc, given, other.field.content().arguments.as_slice())?;
+    match differing {
+        None => Ok(None),
+        Some(name) => Ok(Some(told_arguments(alloc, first, other, &name)?)),
+    }
+}
+
+/// What is told of the names or else of the arguments of two fields, if these are not the same.
+fn conflicting_selection(
+    alloc: Global,
+    first: FieldSelection<'_>,
+    other: FieldSelection<'_>,
+) -> Result<Option<Breach>, AllocError>
+    ensures { IfOk result (λ r. MatchOption r (SameNameAndArguments (field_of first.entry) (field_of other.entry)) (λ b. SelectionsConflict (broken_of b) (field_of first.entry) (field_of other.entry))) }
+{
+    match conflicting_field_name(alloc, first, other)? {
+        Some(breach) => Ok(Some(breach)),
+        None => conflicting_field_argument(alloc, first, other),
+    }
+}
+
+/// What is told of two fields of a group, if they do not agree.
+fn conflict(
+    alloc: Global,
+    pass: Pass,
+    schema: &Schema,
+    fields: (FieldSelection<'_>, FieldSelection<'_>),
+    comparisons: &mut u128,
+) -> Result<Option<Breach>, AllocError>
+    ensures told { IfOk result (λ r. Compares pass (judged (schema_tree schema.now)) (field_of fields.entry.0) (field_of fields.entry.1) r) }
+    ensures counted { comparisons.new ≤ comparisons.old + compared_once pass }
+{
+    match pass {
+        Pass::Shapes => { conflicting_field_type(alloc, schema, fields.0, fields.1, comparisons) }
+        Pass::Selections => conflicting_selection(alloc, fields.0, fields.1),
+    }
+}
+
+/// Tells each further field of a group that does not agree with the first one.
+pub fn check_group(
+    pass: Pass,
+    schema: &Schema,
+    group: &[FieldSelection<'_>],
+    breaches: &mut Vec<Breach>,
+    comparisons: &mut u128,
+) -> Result<(), AllocError>
+    ensures told { OnOk result (AddsGroup pass (judged (schema_tree schema.now)) (fields_of group.now) breaches.old breaches.new) }
+    ensures counted { comparisons.new ≤ comparisons.old + compared pass group.now }
+{
+    let alloc = *breaches.allocator();
+    let Some((first, others)) = group.split_first() else {
+        return Ok(());
+    };
+    for other in others {
+        let breach = conflict(alloc, pass, schema, (*first, *other), comparisons)?;
+        tell_breach(breaches, breach)?;
+    }
+    Ok(())
+}

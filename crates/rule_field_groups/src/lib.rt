@@ -1,0 +1,25 @@
+//! Fields of a list that go together, and what is told of those that do not merge (section 5.3.2, "Field Selection Merging").
+//!
+//! Two passes compare the fields of a list (`Pass`): fields of one response key in shape, and fields that one object may have
+//! in name and arguments. In each group every field is compared with the first one.
+//!
+//! For the layer above: `groups_of` gives the groups of a list in a pass (`AreGroups`, over `Together` of
+//! `specs/Passes.antt`); `check_group` adds what of a group does not agree (`AddsGroup`), and counts how often shapes were
+//! compared (`specs/Compared.antt`); `starting_list` gives the fields of an operation's set, `list_below` what the fields of a
+//! group select, each content once (`AreStartingWith`, `IsMerged` of `specs/Below.antt`).
+//!
+//! Begin with `groups.rt` and `conflicts.rt`, then `below.rt`.
+#![tactic(auto)]
+
+mod below;
+mod conflicts;
+mod groups;
+mod kinds;
+mod pass;
+mod shapes;
+
+pub use below::{list_below, starting_list};
+pub use conflicts::{Breach, check_group};
+pub use groups::groups_of;
+pub use pass::Pass;
+pub use rule_field_selections::FieldSelection;

@@ -1,0 +1,11 @@
+-- What is told of one fragment, where those names are used (private: it leads to `Fragments.antt` of the rules' definitions).
+use Rattle.std.specs.Prelude.{ℕ, List, [], ◌∷◌, bytes_eq, if◌then◌else◌}
+use Rattle.std.specs.List.{list_any}
+use Rattle.graphql_names.specs.Placed.{Place}
+use Rattle.document_meaning.specs.MeantTree.{MeantFragment}
+use Rattle.rule_definitions.specs.Diagnostics.{UnusedFragment}
+use Rattle.rule_definitions.specs.Faults.{wrong}
+use Rattle.rule_definitions.specs.Told.{PlacedFault}
+
+abbrev pub unused_fragment : List (List ℕ) → MeantFragment Place → List PlacedFault
+unused_fragment names f = if list_any (bytes_eq f.name.it) names then [] else wrong f.place (UnusedFragment f.name.it) ∷ []

@@ -1,0 +1,44 @@
+-- Fragments where they stand, and what the check tells of them (private: it leads to InvalidFragmentSpread of the rules' definitions).
+use Rattle.std.specs.Prelude.{ℕ, List, [], ◌∷◌, Option, None, Some, if◌then◌else◌}
+use Rattle.std.specs.Option.{option_map, option_map_or}
+use Rattle.graphql_names.specs.Placed.{Place}
+use Rattle.schema_components.specs.Names.{Entries}
+use Rattle.schema_types.specs.SchemaTree.{SchemaTree}
+use Rattle.schema_types.specs.Addresses.{TypeAt, under, place_at}
+use Rattle.document_meaning.specs.MeantTree.{MeantSelection, MeantField, MeantSpread, MeantInline, MeantFragment}
+use Rattle.rule_definitions.specs.Diagnostics.{InvalidFragmentSpread}
+use Rattle.rule_definitions.specs.Faults.{wrong}
+use Rattle.rule_definitions.specs.Told.{PlacedFault}
+use Rattle.rule_reach.specs.Reach.{Member}
+use Rattle.rule_fragments.specs.Possible.{may_apply}
+use Rattle.rule_fragments.specs.declared.applications.Application.{Application}
+use Rattle.rule_fragments.specs.declared.possible_types.PossibleTypes.{PossibleTypes}
+
+-- a fragment where it stands: its name, if it has one, its condition, where it stands and where it is defined
+pub record ApplicationTree : Type 0 where
+  pub name : Option (List ℕ)
+  pub condition : List ℕ
+  pub place : Place
+  pub fragment_place : Place
+
+abbrev pub application_tree : Application → ApplicationTree
+application_tree a = record { name = option_map (λ n. n.now.text) a.name; condition = a.condition.now.text; place = a.location; fragment_place = a.fragment_location }
+
+-- the fragment that a selection applies, among these
+abbrev pub application_in : Entries (MeantFragment Place) → MeantSelection Place → Option ApplicationTree
+application_in fragments (MeantField p d h s) = None
+application_in fragments (MeantSpread p n ds) = option_map (λ f. record { name = Some n.it; condition = f.type_condition.it; place = p; fragment_place = f.place }) (under n.it fragments)
+application_in fragments (MeantInline p c ds s) = option_map (λ n. record { name = None; condition = n.it; place = p; fragment_place = p }) c
+
+module _ (s : SchemaTree Place) where
+  -- what is told of a fragment that cannot apply under a type
+  abbrev pub spread_told : List ℕ → ApplicationTree → PlacedFault
+  spread_told parent a = wrong a.place (InvalidFragmentSpread a.name parent a.condition a.fragment_place (place_at s (TypeAt parent)))
+
+  module _ (possible : PossibleTypes) where
+    abbrev pub application_fault : List ℕ → ApplicationTree → List PlacedFault
+    application_fault parent a = if may_apply possible parent a.condition then [] else spread_told parent a ∷ []
+
+    -- InvalidFragmentSpread: what is told of a selection after the name of the type of its set
+    abbrev pub invalid_fragment_spread : Entries (MeantFragment Place) → Member Place → List PlacedFault
+    invalid_fragment_spread fragments e = option_map_or (application_fault e.0) (application_in fragments e.1) []

@@ -1,0 +1,170 @@
+//! Fragments where they stand, and the rules on the types that they are on.
+ghost use Rattle.std.specs.Prelude.{◌≡◌, [], ◌++◌, ◌⊎◌, map, flat_map, IfOk, OnOk, option_to_list};
+ghost use Rattle.std.specs.Option.{option_map};
+ghost use Rattle.graphql_names.specs.Placed.{Place};
+ghost use Rattle.schema_types.specs.Addresses.{TypeAt, place_at};
+ghost use Rattle.graphql_schema.specs.SchemaOf.{schema_tree};
+ghost use Rattle.document_typed_selections.specs.TypedTree.{typed_selection_tree};
+ghost use Rattle.document_typed_selections.specs.TypedParts.{typed_spread_node, typed_inline_node};
+ghost use Rattle.document_meaning.specs.MeantTree.{MeantOperation, MeantDocument, meant};
+ghost use Rattle.fault_data.specs.FaultView.{fault_of, faults_of};
+ghost use Rattle.fault_data.specs.Adds.{Adds};
+ghost use Rattle.rule_definitions.specs.Judged.{judged};
+ghost use Rattle.rule_document_definitions.specs.Fragments.{InvalidFragmentTargetAt, InvalidFragmentSpreadAt};
+ghost use Rattle.rule_document_definitions.specs.Told.{places_in};
+ghost use Rattle.rule_reach.specs.Reach.{Reaches, meant_fragments, reached_members};
+ghost use Rattle.rule_fragments.specs.Possible.{ArePossible};
+ghost use Rattle.rule_fragments.specs.Applied.{application_tree, application_in, invalid_fragment_spread, spread_told};
+
+use crate::names::copied_name;
+use crate::possible_types::PossibleTypes;
+use crate::targets::check_targets;
+use document_typed_operations::FragmentMap;
+use document_typed_selections::{FragmentSpread, InlineFragment, Selection};
+use fault_data::{DiagnosticData, Fault, tell};
+use graphql_names::{Name, Node, SourceSpan};
+use graphql_schema::Schema;
+use rule_reach::Reach;
+use std::alloc::AllocError;
+
+/// A fragment where it stands: by its name, or inline with a condition.
+#[derive(Drop)]
+struct Application<'doc> {
+    /// None of an inline fragment.
+    name: Option<&'doc Name>,
+    condition: &'doc Name,
+    /// Where it stands.
+    location: Option<SourceSpan>,
+    /// Where it is defined: an inline fragment, where it stands.
+    fragment_location: Option<SourceSpan>,
+}
+
+/// The fragment that is spread, if it is there.
+fn spread_application<'doc>(
+    spread: &'doc Node<FragmentSpread>,
+    fragments: &'doc FragmentMap,
+) -> Option<Application<'doc>>
+    ensures { option_map application_tree result ≡ application_in (meant_fragments fragments.now) (meant (typed_spread_node spread.now)) }
+{
+    let name = &spread.content().fragment_name;
+    match fragments.get(name) {
+        None => None,
+        Some(fragment) => Some(Application {
+            name: Some(name),
+            condition: fragment.content().type_condition(),
+            location: spread.location(),
+            fragment_location: fragment.location(),
+        }),
+    }
+}
+
+/// The inline fragment, if it has a condition.
+fn inline_application<'doc>(inline: &'doc Node<InlineFragment>) -> Option<Application<'doc>>
+    ensures { option_map application_tree result ≡ application_in [] (meant (typed_inline_node inline.now)) }
+{
+    match &inline.content().type_condition {
+        None => None,
+        Some(condition) => Some(Application {
+            name: None,
+            condition,
+            location: inline.location(),
+            fragment_location: inline.location(),
+        }),
+    }
+}
+
+/// The fragment that stands at a selection, if one does that is there and has a condition.
+#[tactic(auto, using(document_typed_selections::proofs::TypedTrees::typed_tree_rules))]
+fn application_of<'doc>(
+    selection: &'doc Selection,
+    fragments: &'doc FragmentMap,
+) -> Option<Application<'doc>>
+    ensures { option_map application_tree result ≡ application_in (meant_fragments fragments.now) (meant (typed_selection_tree selection.now)) }
+{
+    match selection {
+        Selection::Field(_) => None,
+        Selection::FragmentSpread(spread) => spread_application(spread, fragments),
+        Selection::InlineFragment(inline) => inline_application(inline),
+    }
+}
+
+/// Where the type of that name is defined.
+fn type_location(schema: &Schema, name: &Name) -> Option<SourceSpan>
+    ensures { result ≡ place_at (schema_tree schema.now) (TypeAt name.now.text) }
+{
+    match schema.type_named(name) {
+        None => None,
+        Some(ty) => ty.location(),
+    }
+}
+
+/// What is told of a fragment that cannot apply where the type is `parent`.
+fn told_spread(
+    schema: &Schema,
+    parent: &Name,
+    application: &Application<'_>,
+) -> Result<Fault, AllocError>
+    ensures { IfOk result (λ r. fault_of r ≡ spread_told (schema_tree schema.now) parent.now.text (application_tree application.now)) }
+{
+    let data = DiagnosticData::InvalidFragmentSpread {
+        name: copied_name(application.name)?,
+        type_name: parent.clone()?,
+        type_condition: application.condition.clone()?,
+        fragment_location: application.fragment_location,
+        type_location: type_location(schema, parent),
+    };
+    let location = application.location;
+    Ok(Fault { location, data })
+}
+
+/// InvalidFragmentSpread: a fragment can apply where it stands (section 5.5.2.3).
+fn invalid_fragment_spread(
+    schema: &Schema,
+    possible: &PossibleTypes,
+    fragments: &FragmentMap,
+    parent: &Name,
+    selection: &Selection,
+) -> Result<Option<Fault>, AllocError>
+    ensures { IfOk result (λ r. map fault_of (option_to_list r) ≡ invalid_fragment_spread (schema_tree schema.now) possible.now (meant_fragments fragments.now) (parent.now.text, meant (typed_selection_tree selection.now))) }
+{
+    let Some(application) = application_of(selection, fragments) else {
+        return Ok(None);
+    };
+    if possible.may_apply(parent, application.condition) {
+        return Ok(None);
+    }
+    Ok(Some(told_spread(schema, parent, &application)?))
+}
+
+/// Adds InvalidFragmentSpread for each selection.
+fn check_fragment_spreads(
+    schema: &Schema,
+    possible: &PossibleTypes,
+    fragments: &FragmentMap,
+    reach: &Reach<'_>,
+    faults: &mut Vec<Fault>,
+) -> Result<(), AllocError>
+    ensures { OnOk result (faults_of faults.new ≡ faults_of faults.old ++ flat_map (invalid_fragment_spread (schema_tree schema.now) possible.now (meant_fragments fragments.now)) (reached_members reach.now)) }
+{
+    for (parent, selection) in &reach.selections {
+        let fault = invalid_fragment_spread(schema, possible, fragments, parent, selection)?;
+        tell(faults, fault)?;
+    }
+    Ok(())
+}
+
+/// Adds the faults of the types of fragments that an operation reaches: InvalidFragmentTarget, of a fragment on a type that is
+/// not composite, and InvalidFragmentSpread, of one that cannot apply where it stands. `possible` has the possible types of the
+/// schema. Fails where memory is refused.
+pub fn check_applications(
+    schema: &Schema,
+    possible: &PossibleTypes,
+    fragments: &FragmentMap,
+    reach: &Reach<'_>,
+    faults: &mut Vec<Fault>,
+) -> Result<(), AllocError>
+    ensures { OnOk result ((d : MeantDocument Place) (o : MeantOperation Place) → Reaches d o reach.now → d.fragments ≡ meant_fragments fragments.now → ArePossible (judged (schema_tree schema.now)) possible.now → Adds faults.old faults.new (λ f. InvalidFragmentTargetAt (judged (schema_tree schema.now)) d o f ⊎ InvalidFragmentSpreadAt (judged (schema_tree schema.now)) d o f (places_in (schema_tree schema.now)))) }
+{
+    check_targets(schema, reach, faults)?;
+    check_fragment_spreads(schema, possible, fragments, reach, faults)
+}

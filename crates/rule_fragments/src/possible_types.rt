@@ -1,0 +1,198 @@
+//! The object types that values of each type can be.
+ghost use Rattle.std.specs.Prelude.{◌≡◌, ◌∷◌, [], map, IfOk, OnOk};
+ghost use Rattle.schema_components.specs.Given.{component_name_tree, given_name};
+ghost use Rattle.schema_types.specs.TypeView.{extended_type, name_text};
+ghost use Rattle.graphql_schema.specs.SchemaOf.{schema_tree};
+ghost use Rattle.rule_definitions.specs.Judged.{judged};
+ghost use Rattle.rule_fragments.specs.Possible.{ArePossible, AddsNotes, may_apply, share_one};
+ghost use Rattle.rule_fragments.specs.Noting.{object_notes, own_notes, is_object, member_note, member_notes, type_notes};
+
+use graphql_names::Name;
+use graphql_schema::Schema;
+use indexmap::{IndexMap, IndexSet};
+use schema_components::ComponentName;
+use schema_types::ExtendedType;
+use std::alloc::{AllocError, Global};
+
+/// For each type of a schema the names of the object types that its values can be (GetPossibleTypes, section 5.5.2.3): of an
+/// object itself, of an interface the objects that implement it, of a union the objects among its members.
+#[derive(Drop)]
+pub struct PossibleTypes {
+    objects: IndexMap<Name, IndexSet<Name>>,
+}
+
+impl PossibleTypes {
+    /// Those of the schema. Fails where memory is refused.
+    pub fn new(alloc: Global, schema: &Schema) -> Result<PossibleTypes, AllocError>
+        ensures { IfOk result (λ p. ArePossible (judged (schema_tree schema.now)) p) }
+    {
+        // each name is in the map once
+        let _count = schema.types.len();
+        let mut objects = IndexMap::new(alloc);
+        for (name, ty) in &schema.types {
+            note_type(schema, &mut objects, name, ty)?;
+        }
+        Ok(PossibleTypes { objects })
+    }
+
+    /// Whether a fragment on the type `condition` can apply where the type is `parent`: they are the same, or have an object in
+    /// common.
+    pub(crate) fn may_apply(&self, parent: &Name, condition: &Name) -> bool
+        ensures { result ≡ may_apply self.now parent.now.text condition.now.text }
+    {
+        if *condition == *parent {
+            return true;
+        }
+        let Some(here) = self.objects.get(parent) else {
+            return false;
+        };
+        match self.objects.get(condition) {
+            None => false,
+            Some(there) => share_one(here, there),
+        }
+    }
+}
+
+/// Whether the sets have a name in common.
+fn share_one(a: &IndexSet<Name>, b: &IndexSet<Name>) -> bool
+    ensures { result ≡ share_one (map name_text a.now.keys) (map name_text b.now.keys) }
+{
+    if a.len() <= b.len() {
+        some_is_in(a, b)
+    } else {
+        some_is_in(b, a)
+    }
+}
+
+/// Whether one of the names is in the set.
+fn some_is_in(names: &IndexSet<Name>, set: &IndexSet<Name>) -> bool
+    ensures { result ≡ share_one (map name_text names.now.keys) (map name_text set.now.keys) }
+{
+    for name in names.as_slice() {
+        if set.contains(name) {
+            return true;
+        }
+    }
+    false
+}
+
+/// Notes of which types the values can be of this one, if it is an object; of a union, which objects its values can be.
+fn note_type(
+    schema: &Schema,
+    noted: &mut IndexMap<Name, IndexSet<Name>>,
+    name: &Name,
+    ty: &ExtendedType,
+) -> Result<(), AllocError>
+    ensures { OnOk result (AddsNotes noted.old noted.new (type_notes (schema_tree schema.now) (name.now.text, extended_type ty.now))) }
+{
+    note_own(noted, name, ty)?;
+    note_members(schema, noted, name, members_of(ty))
+}
+
+/// Notes the type under its name and those of its interfaces, if it is an object.
+fn note_own(
+    noted: &mut IndexMap<Name, IndexSet<Name>>,
+    name: &Name,
+    ty: &ExtendedType,
+) -> Result<(), AllocError>
+    ensures { OnOk result (AddsNotes noted.old noted.new (own_notes (name.now.text, extended_type ty.now))) }
+{
+    if ty.is_object() {
+        note_object(noted, name, interfaces_of(ty))
+    } else {
+        Ok(())
+    }
+}
+
+/// The interfaces that a type lists.
+fn interfaces_of(ty: &ExtendedType) -> &[ComponentName]
+    ensures { map component_name_tree result.now ≡ (extended_type ty.now).interfaces }
+{
+    match ty {
+        ExtendedType::Object(own) => own.content().implements_interfaces.as_slice(),
+        ExtendedType::Interface(own) => own.content().implements_interfaces.as_slice(),
+        _ => &[],
+    }
+}
+
+/// The members of a union; no other type has any.
+fn members_of(ty: &ExtendedType) -> &[ComponentName]
+    ensures { map component_name_tree result.now ≡ (extended_type ty.now).members }
+{
+    match ty {
+        ExtendedType::Union(own) => own.content().members.as_slice(),
+        _ => &[],
+    }
+}
+
+/// Notes an object under its name and those of its interfaces.
+fn note_object(
+    noted: &mut IndexMap<Name, IndexSet<Name>>,
+    name: &Name,
+    interfaces: &[ComponentName],
+) -> Result<(), AllocError>
+    ensures { OnOk result (AddsNotes noted.old noted.new (object_notes name.now.text (map given_name (map component_name_tree interfaces.now)))) }
+{
+    note(noted, name, name)?;
+    for interface in interfaces {
+        note(noted, &interface.name, name)?;
+    }
+    Ok(())
+}
+
+/// Notes the objects among the members of a union under its name.
+fn note_members(
+    schema: &Schema,
+    noted: &mut IndexMap<Name, IndexSet<Name>>,
+    name: &Name,
+    members: &[ComponentName],
+) -> Result<(), AllocError>
+    ensures { OnOk result (AddsNotes noted.old noted.new (member_notes (schema_tree schema.now) name.now.text (map given_name (map component_name_tree members.now)))) }
+{
+    for member in members {
+        note_member(schema, noted, name, &member.name)?;
+    }
+    Ok(())
+}
+
+/// Notes a member of a union under its name, if it is an object.
+fn note_member(
+    schema: &Schema,
+    noted: &mut IndexMap<Name, IndexSet<Name>>,
+    name: &Name,
+    member: &Name,
+) -> Result<(), AllocError>
+    ensures { OnOk result (AddsNotes noted.old noted.new (member_note (schema_tree schema.now) name.now.text member.now.text)) }
+{
+    if is_object(schema, member) {
+        note(noted, name, member)
+    } else {
+        Ok(())
+    }
+}
+
+/// Whether the type of that name is there and an object.
+fn is_object(schema: &Schema, name: &Name) -> bool
+    ensures { result ≡ is_object (schema_tree schema.now) name.now.text }
+{
+    match schema.type_named(name) {
+        None => false,
+        Some(ty) => ty.is_object(),
+    }
+}
+
+/// Notes the object under the name of a type.
+fn note(
+    noted: &mut IndexMap<Name, IndexSet<Name>>,
+    ty: &Name,
+    object: &Name,
+) -> Result<(), AllocError>
+    ensures { OnOk result (AddsNotes noted.old noted.new ((ty.now.text, object.now.text) ∷ [])) }
+{
+    let none = IndexSet::new(*noted.allocator());
+    let ty = ty.clone()?;
+    let object = object.clone()?;
+    let objects = noted.entry(ty)?.or_insert(none);
+    objects.insert(object)?;
+    Ok(())
+}

@@ -1,0 +1,51 @@
+//! Spreads of fragments that are not there.
+ghost use Rattle.std.specs.Prelude.{◌≡◌, map, IfOk, OnOk, option_to_list};
+ghost use Rattle.graphql_names.specs.Placed.{Place};
+ghost use Rattle.document_typed_selections.specs.TypedTree.{typed_selection_tree};
+ghost use Rattle.document_meaning.specs.MeantTree.{MeantOperation, MeantDocument, meant};
+ghost use Rattle.fault_data.specs.FaultView.{fault_of};
+ghost use Rattle.fault_data.specs.Adds.{Adds};
+ghost use Rattle.rule_document_definitions.specs.Fragments.{UndefinedFragmentAt};
+ghost use Rattle.rule_reach.specs.Reach.{Reaches, meant_fragments};
+ghost use Rattle.rule_fragments.specs.Listed.{undefined_fragment};
+
+use document_typed_operations::FragmentMap;
+use document_typed_selections::Selection;
+use fault_data::{DiagnosticData, Fault, tell};
+use rule_reach::Reach;
+use std::alloc::AllocError;
+
+/// UndefinedFragment: a fragment that is spread is there (section 5.5.2.1).
+fn undefined_fragment(
+    fragments: &FragmentMap,
+    selection: &Selection,
+) -> Result<Option<Fault>, AllocError>
+    ensures { IfOk result (λ r. map fault_of (option_to_list r) ≡ undefined_fragment (meant_fragments fragments.now) (meant (typed_selection_tree selection.now))) }
+{
+    let Some(spread) = selection.as_fragment_spread() else {
+        return Ok(None);
+    };
+    let name = &spread.content().fragment_name;
+    if fragments.contains_key(name) {
+        return Ok(None);
+    }
+    let name = name.clone()?;
+    Ok(Some(Fault {
+        location: spread.location(),
+        data: DiagnosticData::UndefinedFragment { name },
+    }))
+}
+
+/// Adds UndefinedFragment for each spread that is reached of a fragment that is not there. Fails where memory is refused.
+pub fn check_spreads(
+    fragments: &FragmentMap,
+    reach: &Reach<'_>,
+    faults: &mut Vec<Fault>,
+) -> Result<(), AllocError>
+    ensures { OnOk result ((d : MeantDocument Place) (o : MeantOperation Place) → Reaches d o reach.now → d.fragments ≡ meant_fragments fragments.now → Adds faults.old faults.new (λ f. UndefinedFragmentAt d f o)) }
+{
+    for (_, selection) in &reach.selections {
+        tell(faults, undefined_fragment(fragments, selection)?)?;
+    }
+    Ok(())
+}

@@ -1,0 +1,121 @@
+//! Types that fragments are on.
+ghost use Rattle.std.specs.Prelude.{◌≡◌, ◌++◌, map, flat_map, None, IfOk, OnOk, option_to_list};
+ghost use Rattle.std.specs.Option.{option_map};
+ghost use Rattle.graphql_names.specs.Placed.{Place, node_tree};
+ghost use Rattle.graphql_schema.specs.SchemaOf.{schema_tree};
+ghost use Rattle.document_typed_operations.specs.TypedDocument.{typed_fragment_tree};
+ghost use Rattle.document_typed_selections.specs.TypedTree.{typed_selection_tree};
+ghost use Rattle.document_meaning.specs.MeantTree.{MeantOperation, MeantDocument, meant};
+ghost use Rattle.document_typing.specs.DocumentView.{meant_by_fragment};
+ghost use Rattle.fault_data.specs.FaultView.{fault_of, faults_of};
+ghost use Rattle.fault_data.specs.Adds.{Adds};
+ghost use Rattle.rule_definitions.specs.Judged.{judged};
+ghost use Rattle.rule_document_definitions.specs.Fragments.{InvalidFragmentTargetAt};
+ghost use Rattle.rule_reach.specs.Reach.{Reaches, reached_members, reached_fragments_of};
+ghost use Rattle.rule_fragments.specs.Listed.{is_no_composite, invalid_fragment_target, fragment_target, inline_target};
+
+use crate::names::copied_name;
+use document_typed_operations::Fragment;
+use document_typed_selections::Selection;
+use fault_data::{DiagnosticData, Fault, tell};
+use graphql_names::{Name, Node, SourceSpan};
+use graphql_schema::Schema;
+use rule_reach::Reach;
+use std::alloc::AllocError;
+
+/// Whether the type of that name is there and is no object, interface or union.
+fn is_no_composite(schema: &Schema, name: &Name) -> bool
+    ensures { result ≡ is_no_composite (schema_tree schema.now) name.now.text }
+{
+    match schema.type_named(name) {
+        None => false,
+        Some(ty) => !(ty.is_output_type() && !ty.is_leaf()),
+    }
+}
+
+/// InvalidFragmentTarget: a fragment is on a composite type (section 5.5.1.3). An inline fragment has no name.
+fn invalid_fragment_target(
+    schema: &Schema,
+    location: Option<SourceSpan>,
+    name: Option<&Name>,
+    condition: &Name,
+) -> Result<Option<Fault>, AllocError>
+    ensures { IfOk result (λ r. map fault_of (option_to_list r) ≡ invalid_fragment_target (schema_tree schema.now) location (option_map (λ n. n.now.text) name.entry) condition.now.text) }
+{
+    if !is_no_composite(schema, condition) {
+        return Ok(None);
+    }
+    let name = copied_name(name)?;
+    let ty = condition.clone()?;
+    Ok(Some(Fault {
+        location,
+        data: DiagnosticData::InvalidFragmentTarget { name, ty },
+    }))
+}
+
+/// That rule for a fragment.
+fn fragment_target(schema: &Schema, fragment: &Node<Fragment>) -> Result<Option<Fault>, AllocError>
+    ensures { IfOk result (λ r. map fault_of (option_to_list r) ≡ fragment_target (schema_tree schema.now) (meant_by_fragment (node_tree typed_fragment_tree fragment.now))) }
+{
+    let defined = fragment.content();
+    invalid_fragment_target(
+        schema,
+        fragment.location(),
+        Some(&defined.name),
+        defined.type_condition(),
+    )
+}
+
+/// That rule for a selection, if it is an inline fragment with a condition.
+fn inline_target(schema: &Schema, selection: &Selection) -> Result<Option<Fault>, AllocError>
+    ensures { IfOk result (λ r. map fault_of (option_to_list r) ≡ inline_target (schema_tree schema.now) (meant (typed_selection_tree selection.now))) }
+{
+    let Some(inline) = selection.as_inline_fragment() else {
+        return Ok(None);
+    };
+    match &inline.content().type_condition {
+        None => Ok(None),
+        Some(condition) => invalid_fragment_target(schema, inline.location(), None, condition),
+    }
+}
+
+/// Adds InvalidFragmentTarget for each fragment.
+fn check_fragment_targets(
+    schema: &Schema,
+    reach: &Reach<'_>,
+    faults: &mut Vec<Fault>,
+) -> Result<(), AllocError>
+    ensures { OnOk result (faults_of faults.new ≡ faults_of faults.old ++ flat_map (fragment_target (schema_tree schema.now)) (reached_fragments_of reach.now)) }
+{
+    for index in 0..reach.fragments.len() {
+        tell(faults, fragment_target(schema, reach.fragments[index])?)?;
+    }
+    Ok(())
+}
+
+/// Adds InvalidFragmentTarget for each inline fragment.
+fn check_inline_targets(
+    schema: &Schema,
+    reach: &Reach<'_>,
+    faults: &mut Vec<Fault>,
+) -> Result<(), AllocError>
+    ensures { OnOk result (faults_of faults.new ≡ faults_of faults.old ++ flat_map (λ e. inline_target (schema_tree schema.now) e.1) (reached_members reach.now)) }
+{
+    for (_, selection) in &reach.selections {
+        tell(faults, inline_target(schema, selection)?)?;
+    }
+    Ok(())
+}
+
+/// Adds InvalidFragmentTarget for each fragment that is reached, by name or inline, on a type that is not composite. Fails where
+/// memory is refused.
+pub(crate) fn check_targets(
+    schema: &Schema,
+    reach: &Reach<'_>,
+    faults: &mut Vec<Fault>,
+) -> Result<(), AllocError>
+    ensures { OnOk result ((d : MeantDocument Place) (o : MeantOperation Place) → Reaches d o reach.now → Adds faults.old faults.new (λ f. InvalidFragmentTargetAt (judged (schema_tree schema.now)) d o f)) }
+{
+    check_fragment_targets(schema, reach, faults)?;
+    check_inline_targets(schema, reach, faults)
+}

@@ -1,0 +1,282 @@
+//! Rules on the arguments of fields over an interface's fields (section 3.6.1, IsValidImplementation).
+ghost use Rattle.std.specs.Prelude.{◌≡◌, ◌++◌, [], ◌∷◌, map, IfOk, OnOk, option_to_list, flat_map};
+ghost use Rattle.std.specs.Option.{option_map, option_map_or};
+ghost use Rattle.graphql_names.specs.Placed.{node_tree};
+ghost use Rattle.tree_literals.specs.TypeTree.{type_tree, unplaced_type};
+ghost use Rattle.tree_directives.specs.DirectiveTree.{input_value_tree};
+ghost use Rattle.tree_type_members.specs.TypeSystemTree.{field_definition_tree};
+ghost use Rattle.fault_data.specs.FaultView.{fault_of, faults_of};
+ghost use Rattle.rule_interfaces.specs.InterfaceFaults.{first_named, same_type, missing_interface_field_argument, invalid_implementation_field_argument_type, extra_required_argument, wanted_argument_faults, own_argument_faults, arguments_faults};
+ghost use Rattle.rule_interfaces.specs.Firsts.{AreFirsts};
+
+use crate::copies::{copy_arguments, copy_names};
+use fault_data::{DiagnosticData, Fault, tell};
+use graphql_names::{Name, Node};
+use indexmap::IndexMap;
+use std::alloc::{AllocError, Global};
+use tree_directives::InputValueDefinition;
+use tree_literals::Type;
+use tree_type_members::FieldDefinition;
+
+/// The first argument definition of each name.
+type Firsts = IndexMap<Name, Node<InputValueDefinition>>;
+
+/// Tells the faults of a field's arguments over those of an interface's field.
+pub(crate) fn check_arguments(
+    alloc: Global,
+    name: &Name,
+    interface: &Name,
+    field_name: &Name,
+    wanted: &Node<FieldDefinition>,
+    field: &Node<FieldDefinition>,
+    faults: &mut Vec<Fault>,
+) -> Result<(), AllocError>
+    ensures { OnOk result (faults_of faults.new ≡ faults_of faults.old ++ arguments_faults name.now.text interface.now.text field_name.now.text (node_tree field_definition_tree wanted.now) (node_tree field_definition_tree field.now)) }
+{
+    check_wanted(alloc, name, interface, field_name, wanted, field, faults)?;
+    check_own(alloc, name, interface, field_name, wanted, field, faults)
+}
+
+/// Tells the faults of the arguments of an interface's field.
+fn check_wanted(
+    alloc: Global,
+    name: &Name,
+    interface: &Name,
+    field_name: &Name,
+    wanted: &Node<FieldDefinition>,
+    field: &Node<FieldDefinition>,
+    faults: &mut Vec<Fault>,
+) -> Result<(), AllocError>
+    ensures { OnOk result (faults_of faults.new ≡ faults_of faults.old ++ flat_map (wanted_argument_faults name.now.text interface.now.text field_name.now.text (node_tree field_definition_tree wanted.now) (node_tree field_definition_tree field.now) (node_tree field_definition_tree field.now).it.arguments) (node_tree field_definition_tree wanted.now).it.arguments) }
+{
+    let own = firsts(alloc, &field.content().arguments)?;
+    check_wanted_arguments(name, interface, field_name, wanted, field, &own, faults)
+}
+
+/// Tells the faults of the arguments of a type's field that the interface's field lacks.
+fn check_own(
+    alloc: Global,
+    name: &Name,
+    interface: &Name,
+    field_name: &Name,
+    wanted: &Node<FieldDefinition>,
+    field: &Node<FieldDefinition>,
+    faults: &mut Vec<Fault>,
+) -> Result<(), AllocError>
+    ensures { OnOk result (faults_of faults.new ≡ faults_of faults.old ++ flat_map (own_argument_faults name.now.text interface.now.text field_name.now.text (node_tree field_definition_tree wanted.now) (node_tree field_definition_tree field.now) (node_tree field_definition_tree wanted.now).it.arguments) (node_tree field_definition_tree field.now).it.arguments) }
+{
+    let of_interface = firsts(alloc, &wanted.content().arguments)?;
+    check_own_arguments(
+        name,
+        interface,
+        field_name,
+        wanted,
+        field,
+        &of_interface,
+        faults,
+    )
+}
+
+/// The first argument definition of each name.
+fn firsts(alloc: Global, arguments: &[Node<InputValueDefinition>]) -> Result<Firsts, AllocError>
+    ensures { IfOk result (λ m. AreFirsts m (map (node_tree input_value_tree) arguments.now)) }
+{
+    let mut firsts = IndexMap::new(alloc);
+    for argument in arguments {
+        note_first(&mut firsts, argument)?;
+    }
+    Ok(firsts)
+}
+
+/// Notes an argument definition, if it is the first of its name.
+fn note_first(firsts: &mut Firsts, argument: &Node<InputValueDefinition>) -> Result<(), AllocError>
+    ensures { (before : _) → AreFirsts firsts.old before → OnOk result (AreFirsts firsts.new (before ++ node_tree input_value_tree argument.now ∷ [])) }
+{
+    if first_like(firsts, argument).is_some() {
+        return Ok(());
+    }
+    firsts.insert(argument.content().name.clone()?, argument.clone()?)?;
+    Ok(())
+}
+
+/// The first argument definition that has the name of this one.
+fn first_like<'a>(
+    firsts: &'a Firsts,
+    argument: &Node<InputValueDefinition>,
+) -> Option<&'a Node<InputValueDefinition>>
+    ensures { (vs : _) → AreFirsts firsts.now vs → option_map (λ a. node_tree input_value_tree a.now) result ≡ first_named vs (node_tree input_value_tree argument.now).it.name.it }
+{
+    firsts.get(&argument.content().name)
+}
+
+/// Tells the faults of each argument of an interface's field.
+fn check_wanted_arguments(
+    name: &Name,
+    interface: &Name,
+    field_name: &Name,
+    wanted: &Node<FieldDefinition>,
+    field: &Node<FieldDefinition>,
+    own: &Firsts,
+    faults: &mut Vec<Fault>,
+) -> Result<(), AllocError>
+    ensures { (vs : _) → AreFirsts own.now vs → OnOk result (faults_of faults.new ≡ faults_of faults.old ++ flat_map (wanted_argument_faults name.now.text interface.now.text field_name.now.text (node_tree field_definition_tree wanted.now) (node_tree field_definition_tree field.now) vs) (node_tree field_definition_tree wanted.now).it.arguments) }
+{
+    for argument in &wanted.content().arguments {
+        tell(
+            faults,
+            wanted_argument_fault(name, interface, field_name, field, own, argument)?,
+        )?;
+    }
+    Ok(())
+}
+
+/// The fault of an argument of an interface's field, where `own` has the arguments of the type's field.
+fn wanted_argument_fault(
+    name: &Name,
+    interface: &Name,
+    field_name: &Name,
+    field: &Node<FieldDefinition>,
+    own: &Firsts,
+    argument: &Node<InputValueDefinition>,
+) -> Result<Option<Fault>, AllocError>
+    ensures { (vs : _) → (wanted : _) → AreFirsts own.now vs → IfOk result (λ r. map fault_of (option_to_list r) ≡ wanted_argument_faults name.now.text interface.now.text field_name.now.text wanted (node_tree field_definition_tree field.now) vs (node_tree input_value_tree argument.now)) }
+{
+    match first_like(own, argument) {
+        None => missing_interface_field_argument(name, interface, field_name, field, argument),
+        Some(given) => invalid_implementation_field_argument_type(
+            name, interface, field_name, argument, given,
+        ),
+    }
+}
+
+/// Tells each required argument of a field that the interface's field lacks.
+fn check_own_arguments(
+    name: &Name,
+    interface: &Name,
+    field_name: &Name,
+    wanted: &Node<FieldDefinition>,
+    field: &Node<FieldDefinition>,
+    of_interface: &Firsts,
+    faults: &mut Vec<Fault>,
+) -> Result<(), AllocError>
+    ensures { (vs : _) → AreFirsts of_interface.now vs → OnOk result (faults_of faults.new ≡ faults_of faults.old ++ flat_map (own_argument_faults name.now.text interface.now.text field_name.now.text (node_tree field_definition_tree wanted.now) (node_tree field_definition_tree field.now) vs) (node_tree field_definition_tree field.now).it.arguments) }
+{
+    for argument in &field.content().arguments {
+        tell(
+            faults,
+            own_argument_fault(name, interface, field_name, wanted, of_interface, argument)?,
+        )?;
+    }
+    Ok(())
+}
+
+/// The fault of an argument of a type's field, where `of_interface` has the arguments of the interface's field.
+fn own_argument_fault(
+    name: &Name,
+    interface: &Name,
+    field_name: &Name,
+    wanted: &Node<FieldDefinition>,
+    of_interface: &Firsts,
+    argument: &Node<InputValueDefinition>,
+) -> Result<Option<Fault>, AllocError>
+    ensures { (ws : _) → (field : _) → AreFirsts of_interface.now ws → IfOk result (λ r. map fault_of (option_to_list r) ≡ own_argument_faults name.now.text interface.now.text field_name.now.text (node_tree field_definition_tree wanted.now) field ws (node_tree input_value_tree argument.now)) }
+{
+    match first_like(of_interface, argument) {
+        Some(_) => Ok(None),
+        None => extra_required_implementation_field_argument(
+            name, interface, field_name, wanted, argument,
+        ),
+    }
+}
+
+/// MissingInterfaceFieldArgument: a field has each argument of its interface's field. Told of one that it lacks.
+fn missing_interface_field_argument(
+    name: &Name,
+    interface: &Name,
+    field_name: &Name,
+    field: &Node<FieldDefinition>,
+    argument: &Node<InputValueDefinition>,
+) -> Result<Option<Fault>, AllocError>
+    ensures { (wanted : _) → IfOk result (λ r. map fault_of (option_to_list r) ≡ missing_interface_field_argument name.now.text interface.now.text field_name.now.text wanted (node_tree field_definition_tree field.now) (node_tree input_value_tree argument.now)) }
+{
+    let field_location = field.location();
+    let (name, interface, field) = copy_names(name, interface, field_name)?;
+    Ok(Some(Fault {
+        location: field_location,
+        data: DiagnosticData::MissingInterfaceFieldArgument {
+            name,
+            interface,
+            field,
+            argument: argument.content().name.clone()?,
+            field_location,
+            interface_argument_location: argument.location(),
+        },
+    }))
+}
+
+/// InvalidImplementationFieldArgumentType: an argument has the type that the interface's has.
+fn invalid_implementation_field_argument_type(
+    name: &Name,
+    interface: &Name,
+    field_name: &Name,
+    wanted: &Node<InputValueDefinition>,
+    given: &Node<InputValueDefinition>,
+) -> Result<Option<Fault>, AllocError>
+    ensures { IfOk result (λ r. map fault_of (option_to_list r) ≡ invalid_implementation_field_argument_type name.now.text interface.now.text field_name.now.text (node_tree input_value_tree wanted.now) (node_tree input_value_tree given.now)) }
+{
+    if same_type(wanted.content().ty.content(), given.content().ty.content()) {
+        return Ok(None);
+    }
+    let (name, interface, field) = copy_names(name, interface, field_name)?;
+    let (argument, interface_type, actual_type) = copy_arguments(
+        wanted.content(),
+        given.content(),
+    )?;
+    Ok(Some(Fault {
+        location: given.location(),
+        data: DiagnosticData::InvalidImplementationFieldArgumentType {
+            name,
+            interface,
+            field,
+            argument,
+            interface_type,
+            actual_type,
+            argument_location: given.location(),
+            interface_argument_location: wanted.location(),
+        },
+    }))
+}
+
+/// Whether two references to types are the same, places aside.
+fn same_type(a: &Type, b: &Type) -> bool
+    ensures { result ≡ same_type (unplaced_type (type_tree a.now)) (unplaced_type (type_tree b.now)) }
+{
+    *a == *b
+}
+
+/// ExtraRequiredImplementationFieldArgument: an argument that the interface's field lacks is not required.
+fn extra_required_implementation_field_argument(
+    name: &Name,
+    interface: &Name,
+    field_name: &Name,
+    wanted: &Node<FieldDefinition>,
+    argument: &Node<InputValueDefinition>,
+) -> Result<Option<Fault>, AllocError>
+    ensures { (field : _) → IfOk result (λ r. map fault_of (option_to_list r) ≡ extra_required_argument name.now.text interface.now.text field_name.now.text (node_tree field_definition_tree wanted.now) field (node_tree input_value_tree argument.now)) }
+{
+    if !argument.content().is_required() {
+        return Ok(None);
+    }
+    let (name, interface, field) = copy_names(name, interface, field_name)?;
+    Ok(Some(Fault {
+        location: argument.location(),
+        data: DiagnosticData::ExtraRequiredImplementationFieldArgument {
+            name,
+            interface,
+            field,
+            argument: argument.content().name.clone()?,
+            argument_location: argument.location(),
+            interface_field_location: wanted.location(),
+        },
+    }))
+}

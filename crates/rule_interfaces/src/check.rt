@@ -1,0 +1,118 @@
+//! Tells which rules on interfaces a schema breaks.
+ghost use Rattle.std.specs.Prelude.{◌≡◌, ◌++◌, OnOk};
+ghost use Rattle.graphql_names.specs.Node.{content, place};
+ghost use Rattle.graphql_names.specs.Placed.{name_tree};
+ghost use Rattle.schema_components.specs.Given.{component_name_tree};
+ghost use Rattle.schema_types.specs.TypeView.{extended_type, interface_type};
+ghost use Rattle.graphql_schema.specs.SchemaOf.{schema_tree};
+ghost use Rattle.fault_data.specs.Adds.{Adds};
+ghost use Rattle.fault_data.specs.FaultView.{faults_of};
+ghost use Rattle.schema_types.specs.Distinct.{AreAllDistinct};
+ghost use Rattle.fault_data.specs.in_rule_definitions.Rules.{InterfacesBreak};
+ghost use Rattle.fault_data.specs.in_rule_definitions.Told.{Told};
+ghost use Rattle.rule_interfaces.specs.InterfaceFaults.{type_faults, interface_faults, listed_faults, over_faults, types_faults};
+
+use crate::fields::check_each_field;
+use crate::interfaces::{check_transitive, recursive_interface_definition, undefined_interface};
+use crate::look_ups::interfaces_of;
+use fault_data::{Fault, tell};
+use graphql_names::{Name, Node};
+use graphql_schema::Schema;
+use schema_components::ComponentName;
+use schema_types::{ExtendedType, InterfaceType};
+use std::alloc::{AllocError, Global};
+
+/// Tells each fault of the rules on interfaces. It fails only where memory is refused; then some may be told.
+pub fn check_interfaces(
+    alloc: Global,
+    schema: &Schema,
+    faults: &mut Vec<Fault>,
+) -> Result<(), AllocError>
+    requires distinct { AreAllDistinct (schema_tree schema.now) }
+    ensures { OnOk result (Adds faults.old faults.new (Told (schema_tree schema.now) InterfacesBreak)) }
+{
+    check_each_type(alloc, schema, faults)
+}
+
+/// Tells the faults of each type.
+fn check_each_type(
+    alloc: Global,
+    schema: &Schema,
+    faults: &mut Vec<Fault>,
+) -> Result<(), AllocError>
+    ensures { OnOk result (faults_of faults.new ≡ faults_of faults.old ++ types_faults (schema_tree schema.now) schema.now.types.entries) }
+{
+    for (name, ty) in &schema.types {
+        check_type(alloc, schema, name, ty, faults)?;
+    }
+    Ok(())
+}
+
+/// Tells the faults of a type over each of its interfaces.
+fn check_type(
+    alloc: Global,
+    schema: &Schema,
+    name: &Name,
+    ty: &ExtendedType,
+    faults: &mut Vec<Fault>,
+) -> Result<(), AllocError>
+    ensures { OnOk result (faults_of faults.new ≡ faults_of faults.old ++ type_faults (schema_tree schema.now) name.now.text (extended_type ty.now)) }
+{
+    for interface in interfaces_of(ty) {
+        check_interface(alloc, schema, name, ty, interface, faults)?;
+    }
+    Ok(())
+}
+
+/// Tells the faults of a type over one of its interfaces.
+fn check_interface(
+    alloc: Global,
+    schema: &Schema,
+    name: &Name,
+    ty: &ExtendedType,
+    interface: &ComponentName,
+    faults: &mut Vec<Fault>,
+) -> Result<(), AllocError>
+    ensures { OnOk result (faults_of faults.new ≡ faults_of faults.old ++ interface_faults (schema_tree schema.now) name.now.text (extended_type ty.now) (component_name_tree interface.now)) }
+{
+    tell(
+        faults,
+        recursive_interface_definition(name, ty, &interface.name)?,
+    )?;
+    check_listed(alloc, schema, name, ty, &interface.name, faults)
+}
+
+/// Tells the faults of a type over an interface of that name, which it lists, whether it is there or not.
+fn check_listed(
+    alloc: Global,
+    schema: &Schema,
+    name: &Name,
+    ty: &ExtendedType,
+    interface: &Name,
+    faults: &mut Vec<Fault>,
+) -> Result<(), AllocError>
+    ensures { OnOk result (faults_of faults.new ≡ faults_of faults.old ++ listed_faults (schema_tree schema.now) name.now.text (extended_type ty.now) (name_tree interface.now)) }
+{
+    match schema.get_interface(interface) {
+        None => tell(faults, undefined_interface(interface)?),
+        Some(over) => check_over(alloc, schema, name, ty, interface, over, faults),
+    }
+}
+
+/// Tells the faults of a type over an interface that it lists and that is there.
+fn check_over(
+    alloc: Global,
+    schema: &Schema,
+    name: &Name,
+    ty: &ExtendedType,
+    interface: &Name,
+    over: &Node<InterfaceType>,
+    faults: &mut Vec<Fault>,
+) -> Result<(), AllocError>
+    ensures { OnOk result (faults_of faults.new ≡ faults_of faults.old ++ over_faults (schema_tree schema.now) name.now.text (extended_type ty.now) (name_tree interface.now) (interface_type (place over.now) (content over.now))) }
+{
+    let over = over.content();
+    let listed = over.implements_interfaces.as_slice();
+    check_transitive(name, ty, interface, listed, faults)?;
+    check_each_field(alloc, schema, name, ty, interface, &over.fields, faults)
+}

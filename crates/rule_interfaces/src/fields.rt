@@ -1,0 +1,155 @@
+//! Rules on the fields of types that implement interfaces (section 3.6.1, IsValidImplementation).
+ghost use Rattle.std.specs.Prelude.{◌≡◌, ◌++◌, map, IfOk, OnOk, option_to_list};
+ghost use Rattle.graphql_names.specs.Placed.{name_tree, node_tree};
+ghost use Rattle.tree_type_members.specs.TypeSystemTree.{field_definition_tree};
+ghost use Rattle.schema_types.specs.TypeView.{extended_type};
+ghost use Rattle.graphql_schema.specs.SchemaOf.{schema_tree};
+ghost use Rattle.fault_data.specs.FaultView.{fault_of, faults_of};
+ghost use Rattle.rule_interfaces.specs.InterfaceFaults.{missing_interface_field, invalid_implementation_field_type, field_faults, each_field_faults, implementation_faults};
+
+use crate::arguments::check_arguments;
+use crate::copies::{copy_names, copy_types};
+use crate::look_ups::own_field;
+use crate::valid_types::is_valid_implementation_field_type;
+use fault_data::{DiagnosticData, Fault, tell};
+use graphql_names::{Name, Node};
+use graphql_schema::Schema;
+use indexmap::IndexMap;
+use schema_components::Component;
+use schema_types::ExtendedType;
+use std::alloc::{AllocError, Global};
+use tree_type_members::FieldDefinition;
+
+/// Tells the faults of a type over each of these fields of an interface.
+pub(crate) fn check_each_field(
+    alloc: Global,
+    schema: &Schema,
+    name: &Name,
+    ty: &ExtendedType,
+    interface: &Name,
+    fields: &IndexMap<Name, Component<FieldDefinition>>,
+    faults: &mut Vec<Fault>,
+) -> Result<(), AllocError>
+    ensures { OnOk result (faults_of faults.new ≡ faults_of faults.old ++ each_field_faults (schema_tree schema.now) name.now.text (extended_type ty.now) (name_tree interface.now) fields.now.entries) }
+{
+    for (field_name, wanted) in fields {
+        check_field(
+            alloc,
+            schema,
+            name,
+            ty,
+            interface,
+            field_name,
+            &wanted.node,
+            faults,
+        )?;
+    }
+    Ok(())
+}
+
+/// Tells the faults of a type over a field of an interface.
+fn check_field(
+    alloc: Global,
+    schema: &Schema,
+    name: &Name,
+    ty: &ExtendedType,
+    interface: &Name,
+    field_name: &Name,
+    wanted: &Node<FieldDefinition>,
+    faults: &mut Vec<Fault>,
+) -> Result<(), AllocError>
+    ensures { OnOk result (faults_of faults.new ≡ faults_of faults.old ++ field_faults (schema_tree schema.now) name.now.text (extended_type ty.now) (name_tree interface.now) field_name.now.text (node_tree field_definition_tree wanted.now)) }
+{
+    match own_field(ty, field_name) {
+        None => tell(
+            faults,
+            missing_interface_field(name, ty, interface, field_name, wanted)?,
+        ),
+        Some(field) => check_implementation(
+            alloc,
+            schema,
+            name,
+            interface,
+            field_name,
+            wanted,
+            &field.node,
+            faults,
+        ),
+    }
+}
+
+/// Tells the faults of a field over an interface's field of that name.
+fn check_implementation(
+    alloc: Global,
+    schema: &Schema,
+    name: &Name,
+    interface: &Name,
+    field_name: &Name,
+    wanted: &Node<FieldDefinition>,
+    field: &Node<FieldDefinition>,
+    faults: &mut Vec<Fault>,
+) -> Result<(), AllocError>
+    ensures { OnOk result (faults_of faults.new ≡ faults_of faults.old ++ implementation_faults (schema_tree schema.now) name.now.text interface.now.text field_name.now.text (node_tree field_definition_tree wanted.now) (node_tree field_definition_tree field.now)) }
+{
+    tell(
+        faults,
+        invalid_implementation_field_type(schema, name, interface, field_name, wanted, field)?,
+    )?;
+    check_arguments(alloc, name, interface, field_name, wanted, field, faults)
+}
+
+/// MissingInterfaceField: a type has each field of its interfaces. Told of one that it lacks.
+fn missing_interface_field(
+    name: &Name,
+    ty: &ExtendedType,
+    interface: &Name,
+    field_name: &Name,
+    wanted: &Node<FieldDefinition>,
+) -> Result<Option<Fault>, AllocError>
+    ensures { IfOk result (λ r. map fault_of (option_to_list r) ≡ missing_interface_field name.now.text (extended_type ty.now) (name_tree interface.now) field_name.now.text (node_tree field_definition_tree wanted.now)) }
+{
+    let implements_location = interface.location();
+    let (name, interface, field) = copy_names(name, interface, field_name)?;
+    Ok(Some(Fault {
+        location: ty.location(),
+        data: DiagnosticData::MissingInterfaceField {
+            name,
+            implements_location,
+            interface,
+            field,
+            field_location: wanted.location(),
+        },
+    }))
+}
+
+/// InvalidImplementationFieldType: the type of a field serves where the interface has one.
+fn invalid_implementation_field_type(
+    schema: &Schema,
+    name: &Name,
+    interface: &Name,
+    field_name: &Name,
+    wanted: &Node<FieldDefinition>,
+    field: &Node<FieldDefinition>,
+) -> Result<Option<Fault>, AllocError>
+    ensures { IfOk result (λ r. map fault_of (option_to_list r) ≡ invalid_implementation_field_type name.now.text interface.now.text field_name.now.text (node_tree field_definition_tree wanted.now) (node_tree field_definition_tree field.now) (schema_tree schema.now)) }
+{
+    let interface_type = &wanted.content().ty;
+    let actual_type = &field.content().ty;
+    if is_valid_implementation_field_type(schema, interface_type, actual_type) {
+        return Ok(None);
+    }
+    let (name, interface, field_name) = copy_names(name, interface, field_name)?;
+    let (interface_type, actual_type) = copy_types(interface_type, actual_type)?;
+    Ok(Some(Fault {
+        location: field.location(),
+        data: DiagnosticData::InvalidImplementationFieldType {
+            name,
+            interface,
+            field: field_name,
+            interface_type,
+            actual_type,
+            field_location: field.location(),
+            interface_field_location: wanted.location(),
+        },
+    }))
+}

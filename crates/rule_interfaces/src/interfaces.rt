@@ -1,0 +1,90 @@
+//! Rules on the interfaces that a type lists (sections 3.6 and 3.7).
+ghost use Rattle.std.specs.Prelude.{◌≡◌, ◌++◌, map, IfOk, OnOk, flat_map, option_to_list};
+ghost use Rattle.graphql_names.specs.Placed.{name_tree};
+ghost use Rattle.schema_components.specs.Given.{component_name_tree};
+ghost use Rattle.schema_types.specs.TypeView.{extended_type};
+ghost use Rattle.fault_data.specs.FaultView.{fault_of, faults_of};
+ghost use Rattle.rule_interfaces.specs.InterfaceFaults.{undefined_interface, recursive_interface_definition, transitive_implemented_interfaces};
+
+use crate::look_ups::implements;
+use fault_data::{DiagnosticData, Fault, tell};
+use graphql_names::Name;
+use schema_components::ComponentName;
+use schema_types::ExtendedType;
+use std::alloc::AllocError;
+
+/// UndefinedDefinition: what a type implements is an interface. Told of one that is not.
+pub(crate) fn undefined_interface(interface: &Name) -> Result<Option<Fault>, AllocError>
+    ensures { IfOk result (λ r. map fault_of (option_to_list r) ≡ undefined_interface (name_tree interface.now)) }
+{
+    Ok(Some(Fault {
+        location: interface.location(),
+        data: DiagnosticData::UndefinedDefinition {
+            name: interface.clone()?,
+        },
+    }))
+}
+
+/// RecursiveInterfaceDefinition: an interface does not implement itself.
+pub(crate) fn recursive_interface_definition(
+    name: &Name,
+    ty: &ExtendedType,
+    interface: &Name,
+) -> Result<Option<Fault>, AllocError>
+    ensures { IfOk result (λ r. map fault_of (option_to_list r) ≡ recursive_interface_definition name.now.text (extended_type ty.now) (name_tree interface.now)) }
+{
+    if !ty.is_interface() {
+        return Ok(None);
+    }
+    if interface.as_str() == name.as_str() {
+        return Ok(Some(Fault {
+            location: interface.location(),
+            data: DiagnosticData::RecursiveInterfaceDefinition {
+                name: name.clone()?,
+            },
+        }));
+    }
+    Ok(None)
+}
+
+/// Tells each of these interfaces, which an interface lists, that a type that lists it does not.
+pub(crate) fn check_transitive(
+    name: &Name,
+    ty: &ExtendedType,
+    interface: &Name,
+    listed: &[ComponentName],
+    faults: &mut Vec<Fault>,
+) -> Result<(), AllocError>
+    ensures { OnOk result (faults_of faults.new ≡ faults_of faults.old ++ flat_map (λ g. transitive_implemented_interfaces name.now.text (extended_type ty.now) (name_tree interface.now) g.it) (map component_name_tree listed.now)) }
+{
+    for missing in listed {
+        tell(
+            faults,
+            transitive_implemented_interfaces(name, ty, interface, missing)?,
+        )?;
+    }
+    Ok(())
+}
+
+/// TransitiveImplementedInterfaces: a type lists what its interfaces list.
+fn transitive_implemented_interfaces(
+    name: &Name,
+    ty: &ExtendedType,
+    interface: &Name,
+    missing: &ComponentName,
+) -> Result<Option<Fault>, AllocError>
+    ensures { IfOk result (λ r. map fault_of (option_to_list r) ≡ transitive_implemented_interfaces name.now.text (extended_type ty.now) (name_tree interface.now) (name_tree missing.now.name)) }
+{
+    if implements(ty, missing) {
+        return Ok(None);
+    }
+    Ok(Some(Fault {
+        location: ty.location(),
+        data: DiagnosticData::TransitiveImplementedInterfaces {
+            interface: name.clone()?,
+            via_interface: interface.clone()?,
+            transitive_interface_location: missing.name.location(),
+            missing_interface: missing.name.clone()?,
+        },
+    }))
+}

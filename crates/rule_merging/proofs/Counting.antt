@@ -1,0 +1,150 @@
+-- How often shapes are compared, and that the members of each list that is examined are last fields of chains.
+use Rattle.std.proofs.Common.{◌≡◌, ◌∙◌, ℕ, suc, ◌+◌, ◌<◌, ◌≤◌, true, List, [], ◌∷◌, ◌++◌, map, length, get_or, drop, Contains, refl, sym, ap, subst, append_assoc, append-nil, add-one, arith, inl, inr}
+use Rattle.std.specs.List.{sum}
+use Rattle.std.proofs.lemmas.List.{length-map}
+use Rattle.std.proofs.lemmas.List.Sums.{sum-map, sum_by-append}
+use Rattle.std.proofs.lemmas.List.Elements.{Contains-append_cases}
+use Rattle.std.proofs.Math.Seq.{drop-cons}
+use Rattle.graphql_names.specs.Placed.{Place}
+use Rattle.rule_definitions.proofs.Lists.{not_in_nil, only}
+use Rattle.rule_cycle_search.specs.Paths.{HasNoRepeat}
+use Rattle.document_meaning.specs.MeantTree.{MeantOperation, MeantDocument}
+use Rattle.rule_definitions.specs.Judged.{Judged}
+use Rattle.rule_document_definitions.specs.DocumentFaults.{Broken}
+use Rattle.rule_document_definitions.specs.Selected.{StandingField, operations}
+use Rattle.rule_document_definitions.specs.Chains.{Chain}
+use Rattle.rule_document_definitions.specs.Contents.{ContentBelow}
+use Rattle.rule_document_definitions.specs.Merging.{Below, Starts}
+use Rattle.rule_document_definitions.proofs.Unplaced.{contains_map, contains_unmap}
+use Rattle.rule_field_groups.specs.in_field_selections.Fields.{field_of, fields_of}
+use Rattle.rule_field_groups.specs.in_field_selections.declared.field_selection.FieldSelection.{FieldSelection}
+use Rattle.rule_merging_laws.specs.Contents.{PlainField, PlainBelow, unplaced_content}
+use Rattle.rule_merging_laws.proofs.Elsewhere.{content_starts}
+use Rattle.rule_merging_laws.proofs.PlainFacts.{plain_below, below_standing}
+use Rattle.rule_field_groups.specs.declared.pass.Pass.{Pass}
+use Rattle.rule_field_groups.specs.declared.pass.Pass.TheVariants.{Shapes, Selections}
+use Rattle.rule_field_groups.specs.Below.{contents_of, AreStarting}
+use Rattle.rule_merging.specs.Remembered.{Remembers}
+use Rattle.rule_merging.specs.Examined.{ListsExamined}
+use Rattle.rule_field_groups.specs.Compared.{compared}
+use Rattle.rule_merging.specs.Counted.{IsLast, IsListed, AreListed, Grows, IsCountedBy}
+use Rattle.rule_field_groups.proofs.Lists.{none_twice, apart_more}
+
+-- ---- sums
+
+sums : {X : Type 0} (f : X → ℕ) (xs ys : List X) → sum (map f (xs ++ ys)) ≡ sum (map f xs) + sum (map f ys)
+sums f xs ys = omega (arith, sum-map f (xs ++ ys), sum-map f xs, sum-map f ys, sum_by-append f xs ys)
+
+drop_first : {X : Type 0} (xs : List X) (i : ℕ) (x : X) → i < length xs → x ≡ get_or xs i x → drop i xs ≡ x ∷ drop (i + 1) xs
+drop_first xs i x h e = drop-cons xs i x h ∙ (rw add-one (ap (λ y. y ∷ drop (suc i) xs) (sym e)))
+
+-- what is left of a list, its first one taken
+pub left_of : {X Y : Type 0} (f : Y → ℕ) (u : X → Y) (xs : List X) (i : ℕ) (x : X) → i < length xs → x ≡ get_or xs i x → sum (map f (map u (drop i xs))) ≡ f (u x) + sum (map f (map u (drop (i + 1) xs)))
+left_of f u xs i x h e = omega (arith, ap (λ l. sum (map f (map u l))) (drop_first xs i x h e), sums f (u x ∷ []) (map u (drop (i + 1) xs)))
+
+-- where nothing is compared
+no_sum : {X : Type 0} (lists : List (List X)) → sum (map (compared Selections) lists) ≡ 0
+no_sum [] = refl
+no_sum (list ∷ lists) = no_sum lists
+
+-- a list is as long as its contents
+pub compared_contents : (pass : Pass) (list : List FieldSelection) → compared pass (contents_of list) ≡ compared pass list
+compared_contents Shapes list = length-map (fields_of list) unplaced_content ∙ length-map list field_of
+compared_contents Selections list = refl
+
+-- ---- last fields of chains
+
+chain_on : {F : Type 0} (Under : F → F → Type 0) (First : F → Type 0) (c : List F) (f g : F) → Chain Under First (c ++ f ∷ []) → Under f g → Chain Under First ((c ++ f ∷ []) ++ g ∷ [])
+chain_on Under First [] f g p b = (p.0, (b, tt))
+chain_on Under First (e ∷ c) f g p b = (p.0, chain_on Under (Under e) c f g p.1 b)
+
+module _ (d : MeantDocument Place) where
+  -- what lies below one
+  last_below : (f y : StandingField Place) → IsLast d (unplaced_content f) → ContentBelow d f y → IsLast d (unplaced_content y)
+  last_below f y (o, (c, (e, (there, (chain, same))))) b =
+      let g = below_standing d e (unplaced_content y) (subst (λ x. PlainBelow d x (unplaced_content y)) (sym same) (plain_below d f y b)) in
+      (o, (c ++ e ∷ [], (g.0, (there, (chain_on (Below d) (Starts d o) c e g.0 chain g.1.0, g.1.1)))))
+
+  -- what starts
+  pub starting_listed : (o : MeantOperation Place) (list : List FieldSelection) → Contains (operations d) o → AreStarting d o list → IsListed d (contents_of list)
+  starting_listed o list there starting = record {
+    apart = starting.1.1;
+    last = λ x c.
+        let y = contains_unmap unplaced_content (fields_of list) x c in
+        let f = content_starts d o y.0 (starting.0 y.0 y.1.0) in
+        (o, ([], (f.0, (there, ((f.1.0, tt), ap unplaced_content f.1.1 ∙ y.1.1)))));
+  }
+
+  -- lists below groups of such lists
+  pub listed_next : (pass : Pass) (s : Judged) (lists : List (List FieldSelection)) (old new : List (List PlainField)) (added : List (Broken Place)) (next : List (List FieldSelection))
+      → AreListed d lists → ListsExamined pass s d lists old new added next → AreListed d next
+  listed_next pass s lists old new added next listed h list c = record {
+    apart = h.apart list c;
+    last = λ x k.
+        let y = contains_unmap unplaced_content (fields_of list) x k in
+        let u = (h.under list c).1 in
+        let f = u.1.1.1.1 y.0 y.1.0 in
+        let w = u.1.1.1.0 f.0 f.0 f.1.0 f.1.0 in
+        subst (IsLast d) y.1.1 (last_below f.0 y.0 ((listed u.0 u.1.0).last (unplaced_content f.0) (contains_map unplaced_content (fields_of u.0) f.0 w.0)) f.1.1);
+  }
+
+  pub one_listed : (list : List FieldSelection) → IsListed d (contents_of list) → AreListed d (list ∷ [])
+  one_listed list listed l c = subst (λ k. IsListed d (contents_of k)) (sym (only list l c)) listed
+
+  -- ---- lists that come to those that were examined
+
+  -- none
+  pub grows_not : (pass : Pass) (lists : List (List PlainField)) (count : ℕ) → Grows d pass lists lists count count
+  grows_not pass lists count = record {
+    added = [];
+    is = sym (append-nil lists);
+    count = omega arith;
+    listed = λ list c. not_in_nil list c;
+    different = λ apart. apart;
+  }
+
+  -- the same lists under another name
+  pub grows_same : (pass : Pass) (old new : List (List PlainField)) (count : ℕ) → new ≡ old → Grows d pass old new count count
+  grows_same pass old new count e = subst (λ l. Grows d pass old l count count) (sym e) (grows_not pass old count)
+
+  -- one
+  pub grows_one : (pass : Pass) (list : List FieldSelection) (old new : List (List PlainField)) (before after : ℕ) → IsListed d (contents_of list) → Remembers old (contents_of list) true new
+      → after ≤ before + compared pass list → Grows d pass old new before after
+  grows_one pass list old new before after listed (none, is) count = record {
+    added = contents_of list ∷ [];
+    is = is;
+    count = omega (arith, compared_contents pass list);
+    listed = λ l c. subst (IsListed d) (sym (only (contents_of list) l c)) listed;
+    different = λ apart. subst HasNoRepeat (sym is) (apart_more old (contents_of list) apart none);
+  }
+
+  -- some and then others
+  pub grows_on : (pass : Pass) (old mid new : List (List PlainField)) (before between after : ℕ) → Grows d pass old mid before between → Grows d pass mid new between after → Grows d pass old new before after
+  grows_on pass old mid new before between after first later = record {
+    added = first.added ++ later.added;
+    is = later.is ∙ ap (λ l. l ++ later.added) first.is ∙ append_assoc old first.added later.added;
+    count = omega (arith, first.count, later.count, sums (compared pass) first.added later.added);
+    listed = λ list c. elim (Contains-append_cases first.added later.added list c) [ inl a ↦ first.listed list a | inr b ↦ later.listed list b ];
+    different = λ apart. later.different (first.different apart);
+  }
+
+  -- ---- the count
+
+  pub none_counted : IsCountedBy d [] 0
+  none_counted = record { bound = omega arith; different = none_twice; listed = λ list c. not_in_nil list c }
+
+  -- lists that were examined for shapes
+  pub shapes_counted : (old new : List (List PlainField)) (before after : ℕ) → IsCountedBy d old before → Grows d Shapes old new before after → IsCountedBy d new after
+  shapes_counted old new before after so_far more = record {
+    bound = subst (λ l. after ≤ sum (map length l)) (sym more.is) (omega (arith, so_far.bound, more.count, sums length old more.added));
+    different = more.different so_far.different;
+    listed = λ list c. elim (Contains-append_cases old more.added list (subst (λ l. Contains l list) more.is c)) [ inl a ↦ so_far.listed list a | inr b ↦ more.listed list b ];
+  }
+
+  -- lists that were examined for names and arguments do not count
+  pub selections_counted : (lists old new : List (List PlainField)) (before after : ℕ) → IsCountedBy d lists before → Grows d Selections old new before after → IsCountedBy d lists after
+  selections_counted lists old new before after so_far more = record {
+    bound = omega (arith, so_far.bound, more.count, no_sum more.added);
+    different = so_far.different;
+    listed = so_far.listed;
+  }

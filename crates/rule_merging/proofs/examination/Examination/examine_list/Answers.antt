@@ -1,0 +1,78 @@
+use Rattle.std.proofs.Common.{◌≡◌, ◌<◌, ◌≤◌, ◌+◌, List, [], ◌++◌, ◌∷◌, map, take, length, sym, ap, subst, ◌∙◌, append-nil, arith}
+use Rattle.std.specs.List.{sum}
+use Rattle.std.proofs.lemmas.List.{take_all, map-append}
+use Rattle.graphql_names.specs.Placed.{Place}
+use Rattle.rule_document_definitions.specs.Selected.{StandingField}
+use Rattle.rule_field_groups.specs.in_reach.Broken.{brokens_of}
+use Rattle.rule_field_groups.specs.in_field_selections.Fields.{fields_of}
+use Rattle.rule_field_groups.specs.Compared.{compared}
+use Rattle.rule_field_groups.specs.Grouped.{lists_of}
+use Rattle.rule_merging.specs.Examined.{GroupsExamined, ExaminesGroup, schema_of, document_of}
+use Rattle.rule_merging.proofs.Examining.{items_in, lists_front, no_groups, GroupsTold, groups_step}
+use Rattle.rule_merging.proofs.Counting.{left_of}
+use Rattle.rule_merging.proofs.examination.Examination.examine_list.Goals as goal
+
+pub loop-group-init : goal.loop-group-init
+loop-group-init c =
+    let e = c.args.self.now in
+    let all : sum (map (compared e.pass) (map items_in c.deref-group-items.result.now)) ≤ compared e.pass c.args.list.now =
+    subst (λ l. sum (map (compared e.pass) (map items_in l)) ≤ compared e.pass c.args.list.now) (sym c.deref-group-items.ensures.value) c.in_ok-groups.ensures.counted in
+    record {
+      examined = ([], ([], (sym (append-nil (brokens_of c.args.breaches.now)), (sym (append-nil (lists_of c.args.next.now)), no_groups e.pass (schema_of e) (document_of e)))));
+      counted = omega (arith, all);
+    }
+
+pub loop-group-preserved : goal.loop-group-preserved
+loop-group-preserved c =
+    let e = c.args.self.now in
+    let xs = c.deref-group-items.result.now in
+    let i = c.loop-group.group-index in
+    let x = c.group-item.result in
+    let h : i < length xs = omega arith in
+    let inv = c.loop-group.invariant in
+    let here = c.in_ok-examine_group.ensures in
+    let groups : List (List (StandingField Place)) = map fields_of (map items_in (take i xs)) in
+    let front : map fields_of (map items_in (take (i + 1) xs)) ≡ groups ++ fields_of x.items ∷ [] =
+    ap (map fields_of) (lists_front xs i x h c.group-item.is) ∙ map-append fields_of (map items_in (take i xs)) (x.items ∷ []) in
+    record {
+      examined = subst
+          (GroupsTold e.pass (schema_of e) (document_of e) (brokens_of c.args.breaches.now) (brokens_of c.examine_group.new.breaches) (lists_of c.args.next.now) (lists_of c.examine_group.new.next)) (sym front)
+          (groups_step e.pass (schema_of e) (document_of e) (brokens_of c.args.breaches.now) (brokens_of c.loop-group.breaches) (brokens_of c.examine_group.new.breaches)
+          (lists_of c.args.next.now) (lists_of c.loop-group.next) (lists_of c.examine_group.new.next) groups (fields_of x.items) inv.examined
+          (subst (λ l. ExaminesGroup e (fields_of l) c.loop-group.breaches c.examine_group.new.breaches (lists_of c.loop-group.next) (lists_of c.examine_group.new.next)) c.deref.ensures.value here.examined));
+      counted = omega (arith, inv.counted, here.counted, left_of (compared e.pass) items_in xs i x h c.group-item.is, ap (compared e.pass) c.deref.ensures.value);
+    }
+
+pub returns-in_err-examine_group-clause-counted : goal.returns-in_err-examine_group-clause-counted
+returns-in_err-examine_group-clause-counted c =
+    let e = c.args.self.now in
+    let xs = c.deref-group-items.result.now in
+    let i = c.loop-group.group-index in
+    let x = c.group-item.result in
+    let h : i < length xs = omega arith in
+    omega (arith, c.loop-group.invariant.counted, c.in_err-examine_group.ensures.counted, left_of (compared e.pass) items_in xs i x h c.group-item.is, ap (compared e.pass) c.deref.ensures.value)
+
+pub returns-clause-examined : goal.returns-clause-examined
+returns-clause-examined c =
+    let e = c.args.self.now in
+    let t = c.loop-group.invariant.examined in
+    let all = ap (λ l. map fields_of (map items_in l)) (take_all c.loop-group.group-index c.deref-group-items.result.now c.loop-group-test.false ∙ c.deref-group-items.ensures.value) in (
+      t.0,
+      (
+        t.1.0,
+        (
+          t.1.1.0,
+          (
+            t.1.1.1.0,
+            record {
+              groups = map fields_of (lists_of c.in_ok-groups.groups);
+              are = c.in_ok-groups.ensures.groups;
+              examined = subst (λ gs. GroupsExamined e.pass (schema_of e) (document_of e) gs t.0 t.1.0) all t.1.1.1.1;
+            },
+          ),
+        ),
+      ),
+    )
+
+pub returns-clause-counted : goal.returns-clause-counted
+returns-clause-counted c = omega (arith, c.loop-group.invariant.counted)

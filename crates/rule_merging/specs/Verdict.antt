@@ -1,0 +1,55 @@
+-- What the examination of an operation comes to.
+use Rattle.std.specs.Prelude.{◌≡◌, ◌++◌, ℕ, Bool, true, false, List, [], Contains}
+use Rattle.graphql_names.specs.Placed.{Place, node_tree}
+use Rattle.graphql_names.specs.declared.node.Node.{Node}
+use Rattle.document_typed_operations.specs.TypedDocument.{typed_operation_tree, typed_document_tree}
+use Rattle.document_typed_operations.specs.declared.operation.Operation.{Operation}
+use Rattle.document_typed_operations.specs.declared.document.ExecutableDocument.{ExecutableDocument}
+use Rattle.document_meaning.specs.MeantTree.{MeantOperation, MeantDocument}
+use Rattle.document_typing.specs.DocumentView.{meant_by_operation, meant_document}
+use Rattle.rule_definitions.specs.Judged.{Judged}
+use Rattle.rule_document_definitions.specs.DocumentFaults.{Broken}
+use Rattle.rule_document_definitions.specs.Merging.{FieldsMerge, MergingBreaks}
+use Rattle.rule_document_definitions.specs.Limits.{PassesChainBound}
+use Rattle.rule_field_groups.specs.in_reach.Broken.{brokens_of}
+use Rattle.rule_merging_laws.specs.Contents.{PlainField}
+use Rattle.rule_merging.specs.Counted.{IsCountedBy}
+use Rattle.rule_merging.specs.Remembered.{remembered}
+use Rattle.rule_merging.specs.Examined.{Breaches, AreSettled}
+use Rattle.rule_merging.specs.declared.operation.Examined.{Examined}
+use Rattle.rule_field_groups.specs.declared.pass.Pass.TheVariants.{Shapes, Selections}
+
+-- what a document, what an operation means
+abbrev pub document_meant : ExecutableDocument → MeantDocument Place
+document_meant d = meant_document (typed_document_tree d)
+
+abbrev pub operation_meant : Node Operation → MeantOperation Place
+operation_meant o = meant_by_operation (node_tree typed_operation_tree o)
+
+module _ (s : Judged) (d : MeantDocument Place) where
+  -- the lists that were examined are settled, in both passes
+  abbrev pub AreBothSettled : Examined → Type 0
+  AreBothSettled e = AreSettled d Shapes s (remembered e.shapes) × AreSettled d Selections s (remembered e.selections)
+
+  -- what is told is true; where nothing is told and nothing is left, settled lists stay settled, and the fields of the operation merge
+  pub record OperationExamined (o : MeantOperation Place) (old new : Examined) (added : List (Broken Place)) (left : Bool) : Type 0 where
+    pub right : (fault : Broken Place) → Contains added fault → MergingBreaks s d o fault
+    pub settled : added ≡ [] → left ≡ false → AreBothSettled old → AreBothSettled new × FieldsMerge s d o
+    pub bound : left ≡ true → PassesChainBound d o
+
+  abbrev pub ExaminesOperation : MeantOperation Place → Examined → Examined → Breaches → Breaches → Bool → Type 0
+  ExaminesOperation o old new breaches told left = (added : List (Broken Place)) × ((brokens_of told ≡ brokens_of breaches ++ added) × OperationExamined o old new added left)
+
+-- the lists that were examined for shapes, and how often shapes were compared
+abbrev pub lists_examined : Examined → List (List PlainField)
+lists_examined e = remembered e.shapes
+
+abbrev pub comparisons_of : Examined → ℕ
+comparisons_of e = e.comparisons
+
+abbrev pub IsCounted : MeantDocument Place → Examined → Type 0
+IsCounted d e = IsCountedBy d (lists_examined e) (comparisons_of e)
+
+-- the breaches that were there, as they stood, and behind them only such as the fields of the operation break
+abbrev pub AddsConflicts : Judged → MeantDocument Place → MeantOperation Place → Breaches → Breaches → Type 0
+AddsConflicts s d o old new = (added : List (Broken Place)) × ((brokens_of new ≡ brokens_of old ++ added) × ((fault : Broken Place) → Contains added fault → MergingBreaks s d o fault))

@@ -1,0 +1,79 @@
+//! The examination of an operation, in both passes.
+ghost use Rattle.std.specs.Prelude.{◌≡◌, Contains, IfOk};
+ghost use Rattle.document_typing.specs.in_schema.SchemaOf.{schema_tree};
+ghost use Rattle.rule_definitions.specs.Judged.{judged};
+ghost use Rattle.graphql_names.specs.Placed.{Place};
+ghost use Rattle.document_meaning.specs.MeantTree.{MeantDocument};
+ghost use Rattle.rule_definitions.specs.Judged.{Judged};
+ghost use Rattle.rule_document_definitions.specs.Selected.{operations};
+ghost use Rattle.rule_merging.specs.Verdict.{document_meant, operation_meant, comparisons_of, AreBothSettled, IsCounted, ExaminesOperation};
+
+use crate::examination::Examination;
+use crate::remembered::Remembered;
+use document_typed_operations::{ExecutableDocument, Operation};
+use document_typing::Schema;
+use graphql_names::Node;
+use rule_field_groups::{Breach, Pass, starting_list};
+use std::alloc::{AllocError, Global};
+
+/// The lists that were examined in each pass, over all operations so far, and how often shapes were compared.
+#[derive(Drop)]
+pub struct Examined<'doc> {
+    pub(crate) shapes: Remembered<'doc>,
+    pub(crate) selections: Remembered<'doc>,
+    pub(crate) comparisons: u128,
+}
+
+impl<'doc> Examined<'doc> {
+    /// Nothing.
+    pub fn new(alloc: Global) -> Examined<'doc>
+        ensures settled { (s : Judged) → (d : MeantDocument Place) → AreBothSettled s d result }
+        ensures counted { (d : MeantDocument Place) → IsCounted d result }
+        ensures none { comparisons_of result ≡ 0 }
+    {
+        Examined {
+            shapes: Remembered::new(alloc),
+            selections: Remembered::new(alloc),
+            comparisons: 0,
+        }
+    }
+
+    /// How often the shapes of two fields were compared; where this is the greatest number, at least as often.
+    pub fn comparisons(&self) -> u128
+        ensures { result ≡ comparisons_of self.now }
+    {
+        self.comparisons
+    }
+}
+
+/// Examines the fields of an operation and all below them, in both passes. Whether lists are left behind 128 levels is given.
+pub fn examine_operation<'doc>(
+    schema: &'doc Schema,
+    document: &'doc ExecutableDocument,
+    operation: &'doc Node<Operation>,
+    examined: &mut Examined<'doc>,
+    breaches: &mut Vec<Breach>,
+) -> Result<bool, AllocError>
+    ensures examined { IfOk result (λ left. ExaminesOperation (judged (schema_tree schema.now)) (document_meant document.now) (operation_meant operation.now) examined.old examined.new breaches.old breaches.new left) }
+    ensures counted { Contains (operations (document_meant document.now)) (operation_meant operation.now) → IsCounted (document_meant document.now) examined.old → IsCounted (document_meant document.now) examined.new }
+{
+    let alloc = *breaches.allocator();
+    let set = &operation.content().selection_set;
+    let start = starting_list(alloc, &document.fragments, set)?;
+    let again = Vec::from_slice(alloc, &start)?;
+    let by_shape = Examination {
+        pass: Pass::Shapes,
+        schema,
+        document,
+    };
+    let comparisons = &mut examined.comparisons;
+    let left = by_shape.examine_all(start, &mut examined.shapes, breaches, comparisons)?;
+    let by_selection = Examination {
+        pass: Pass::Selections,
+        schema,
+        document,
+    };
+    let comparisons = &mut examined.comparisons;
+    let too = by_selection.examine_all(again, &mut examined.selections, breaches, comparisons)?;
+    Ok(left || too)
+}

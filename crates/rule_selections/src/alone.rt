@@ -1,0 +1,96 @@
+//! Rules on each selection that an operation reaches, without a schema.
+ghost use Rattle.std.specs.Prelude.{OnOk};
+ghost use Rattle.graphql_names.specs.Node.{content};
+ghost use Rattle.graphql_names.specs.NameValue.{NameValue};
+ghost use Rattle.graphql_names.specs.Placed.{Place, node_tree};
+ghost use Rattle.fault_data.specs.Adds.{Adds};
+ghost use Rattle.rule_definitions.specs.Words.{AtSomeIndex};
+ghost use Rattle.rule_values.specs.Wanting.{variables_of};
+ghost use Rattle.document_meaning.specs.MeantTree.{MeantDocument, meant};
+ghost use Rattle.document_typed_selections.specs.TypedTree.{typed_selection_tree};
+ghost use Rattle.document_typed_operations.specs.TypedDocument.{typed_fragment_tree, typed_operation_tree};
+ghost use Rattle.document_typing.specs.DocumentView.{meant_by_operation};
+ghost use Rattle.rule_document_definitions.specs.Standalone.{GivenInBreaks};
+ghost use Rattle.rule_document_definitions.specs.Told.{places_alone};
+ghost use Rattle.rule_reach.specs.Reach.{reached_members, reached_fragments_of, Reaches};
+ghost use Rattle.rule_uses.specs.Alone.{DirectivesAloneBreak};
+ghost use Rattle.rule_selections.specs.Steps.{SelectionAloneBreaks};
+
+use document_typed_operations::{Fragment, Operation};
+use document_typed_selections::Selection;
+use graphql_names::Node;
+use rule_reach::Reach;
+use rule_uses::{check_arguments_alone, check_directives_alone};
+use rule_values::Fault;
+use std::alloc::AllocError;
+use tree_operations::VariableDefinition;
+
+/// Adds the faults of the directives of each variable.
+fn check_variables_alone(
+    variables: &[Node<VariableDefinition>],
+    faults: &mut Vec<Fault>,
+) -> Result<(), AllocError>
+    ensures { OnOk result (Adds faults.old faults.new (λ f. AtSomeIndex (variables_of variables.now) (λ i x. DirectivesAloneBreak x.it.directives f))) }
+{
+    for variable in variables {
+        check_directives_alone(&variable.content().directives.0, faults)?;
+    }
+    Ok(())
+}
+
+/// Adds the faults of a selection: of its directives, and of the arguments of a field.
+fn check_selection_alone(selection: &Selection, faults: &mut Vec<Fault>) -> Result<(), AllocError>
+    ensures { OnOk result ((parent : NameValue) → Adds faults.old faults.new (SelectionAloneBreaks (parent.text, meant (typed_selection_tree selection.now)))) }
+{
+    check_directives_alone(&selection.directives().0, faults)?;
+    match selection.as_field() {
+        None => Ok(()),
+        Some(field) => check_arguments_alone(&field.content().arguments, faults),
+    }
+}
+
+/// Adds the faults of each selection.
+fn check_each_selection_alone(reach: &Reach<'_>, faults: &mut Vec<Fault>) -> Result<(), AllocError>
+    ensures { OnOk result (Adds faults.old faults.new (λ f. AtSomeIndex (reached_members reach.now) (λ i e. SelectionAloneBreaks e f))) }
+{
+    for (_, selection) in &reach.selections {
+        check_selection_alone(selection, faults)?;
+    }
+    Ok(())
+}
+
+/// Adds the faults of the directives of a fragment.
+fn check_fragment_alone(
+    fragment: &Node<Fragment>,
+    faults: &mut Vec<Fault>,
+) -> Result<(), AllocError>
+    ensures { OnOk result (Adds faults.old faults.new (DirectivesAloneBreak (typed_fragment_tree (content fragment.now)).directives)) }
+{
+    check_directives_alone(&fragment.content().directives.0, faults)
+}
+
+/// Adds the faults of the directives of each fragment.
+fn check_fragments_alone(reach: &Reach<'_>, faults: &mut Vec<Fault>) -> Result<(), AllocError>
+    ensures { OnOk result (Adds faults.old faults.new (λ f. AtSomeIndex (reached_fragments_of reach.now) (λ i x. DirectivesAloneBreak x.directives f))) }
+{
+    for index in 0..reach.fragments.len() {
+        check_fragment_alone(reach.fragments[index], faults)?;
+    }
+    Ok(())
+}
+
+/// Adds the faults that hold without a schema of what an operation reaches: UniqueArgument and UniqueInputValue of what is
+/// given to fields and directives, and UndefinedDirective of each directive, of those of the variables too.
+pub fn check_selections_alone(
+    operation: &Node<Operation>,
+    reach: &Reach<'_>,
+    faults: &mut Vec<Fault>,
+) -> Result<(), AllocError>
+    ensures { OnOk result ((d : MeantDocument Place) → Reaches d (meant_by_operation (node_tree typed_operation_tree operation.now)) reach.now → Adds faults.old faults.new (λ fault. GivenInBreaks places_alone d fault (meant_by_operation (node_tree typed_operation_tree operation.now)))) }
+{
+    let operation = operation.content();
+    check_directives_alone(&operation.directives.0, faults)?;
+    check_variables_alone(&operation.variables, faults)?;
+    check_each_selection_alone(reach, faults)?;
+    check_fragments_alone(reach, faults)
+}

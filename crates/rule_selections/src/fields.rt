@@ -1,0 +1,121 @@
+//! Rules on one field.
+ghost use Rattle.std.specs.Prelude.{◌≡◌, ◌&&◌, not, map, IfOk, OnOk, option_to_list};
+ghost use Rattle.std.specs.Option.{option_map};
+ghost use Rattle.schema_types.specs.SchemaTree.{is_leaf_kind, is_output_kind};
+ghost use Rattle.schema_types.specs.Addresses.{type_at};
+ghost use Rattle.graphql_schema.specs.SchemaOf.{schema_tree};
+ghost use Rattle.fault_data.specs.FaultView.{fault_of};
+ghost use Rattle.fault_data.specs.Adds.{Adds};
+ghost use Rattle.rule_definitions.specs.Judged.{judged};
+ghost use Rattle.rule_definitions.specs.Uses.{TakerBreaks};
+ghost use Rattle.rule_values.specs.Wanting.{variables_of};
+ghost use Rattle.rule_document_definitions.specs.Selections.{field_taker};
+ghost use Rattle.rule_document_definitions.specs.Told.{place_or_built_in, places_in};
+ghost use Rattle.rule_selections.specs.Steps.{standing_field, missing_subselection, without_subselection, IsDefined, FieldBreaks};
+
+use document_typed_selections::Field;
+use graphql_names::{Name, Node};
+use rule_uses::{Taker, TakerName, check_given, check_taken};
+use rule_values::{DefinedVariables, DiagnosticData, Fault, Schema, TypeAttributeCoordinate, tell};
+use schema_types::TypeKind;
+use std::alloc::AllocError;
+
+/// The kind of the type of that name, if it is there.
+fn kind_named(schema: &Schema, name: &Name) -> Option<TypeKind>
+    ensures { result ≡ option_map (λ t. t.kind) (type_at (schema_tree schema.now) name.now.text) }
+{
+    match schema.type_named(name) {
+        None => None,
+        Some(ty) => Some(ty.kind()),
+    }
+}
+
+/// Whether values of such types have fields: objects, interfaces and unions.
+fn is_composite(kind: TypeKind) -> bool
+    ensures { result ≡ (is_output_kind kind && not (is_leaf_kind kind)) }
+{
+    kind.is_output_type() && !kind.is_leaf()
+}
+
+/// MissingSubselection: a field whose values have fields selects some of them (section 5.3.3).
+fn missing_subselection(
+    schema: &Schema,
+    parent: &Name,
+    field: &Node<Field>,
+) -> Result<Option<Fault>, AllocError>
+    ensures { IfOk result (λ r. map fault_of (option_to_list r) ≡ missing_subselection (judged (schema_tree schema.now)) (standing_field parent.now field.now)) }
+{
+    let selected = field.content();
+    if !selected.selection_set.is_empty() {
+        return Ok(None);
+    }
+    match kind_named(schema, selected.ty().inner_named_type()) {
+        Some(kind) if is_composite(kind) => Ok(Some(told_missing(parent, field, kind)?)),
+        _ => Ok(None),
+    }
+}
+
+/// What is told of a field of such a type that selects nothing.
+fn told_missing(parent: &Name, field: &Node<Field>, kind: TypeKind) -> Result<Fault, AllocError>
+    ensures { IfOk result (λ r. fault_of r ≡ without_subselection (standing_field parent.now field.now) kind) }
+{
+    let selected = field.content();
+    let coordinate = coordinate_of(parent, &selected.name)?;
+    let data = DiagnosticData::MissingSubselection {
+        coordinate,
+        output_type: selected.ty().inner_named_type().clone()?,
+        describe_type: kind.describe(),
+    };
+    let location = field.location();
+    Ok(Fault { location, data })
+}
+
+/// `T.f`
+fn coordinate_of(parent: &Name, field: &Name) -> Result<TypeAttributeCoordinate, AllocError>
+    ensures { IfOk result (λ c. (c.ty.text ≡ parent.now.text) × (c.attribute.text ≡ field.now.text)) }
+{
+    let ty = parent.clone()?;
+    Ok(TypeAttributeCoordinate {
+        ty,
+        attribute: field.clone()?,
+    })
+}
+
+/// Adds the faults of what is given by the definition of the field on the type around it.
+fn check_defined(
+    schema: &Schema,
+    parent: &Name,
+    field: &Node<Field>,
+    variables: &DefinedVariables<'_>,
+    faults: &mut Vec<Fault>,
+) -> Result<(), AllocError>
+    ensures { OnOk result (IsDefined (schema_tree schema.now) (standing_field parent.now field.now) → Adds faults.old faults.new (TakerBreaks (place_or_built_in (schema_tree schema.now)) (judged (schema_tree schema.now)) (variables_of variables.now) (field_taker (places_in (schema_tree schema.now)) (standing_field parent.now field.now)))) }
+{
+    let selected = field.content();
+    let Ok(definition) = schema.type_field(parent, &selected.name) else {
+        return Ok(());
+    };
+    let taker = Taker {
+        location: field.location(),
+        given: selected.arguments.as_slice(),
+        definitions: definition.node.content().arguments.as_slice(),
+        definition_location: definition.node.location(),
+        name: TakerName::OfField(parent, &selected.name),
+    };
+    check_taken(schema, &taker, variables, faults)
+}
+
+/// Adds the faults of a field: MissingSubselection, and the rules on its arguments, directives aside.
+pub(crate) fn check_field(
+    schema: &Schema,
+    parent: &Name,
+    field: &Node<Field>,
+    variables: &DefinedVariables<'_>,
+    faults: &mut Vec<Fault>,
+) -> Result<(), AllocError>
+    ensures { OnOk result (IsDefined (schema_tree schema.now) (standing_field parent.now field.now) → Adds faults.old faults.new (FieldBreaks (schema_tree schema.now) (variables_of variables.now) (standing_field parent.now field.now))) }
+{
+    tell(faults, missing_subselection(schema, parent, field)?)?;
+    check_given(&field.content().arguments, variables, faults)?;
+    check_defined(schema, parent, field, variables, faults)
+}

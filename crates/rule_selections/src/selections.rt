@@ -1,0 +1,146 @@
+//! Rules on each selection that an operation reaches, under a schema.
+ghost use Rattle.std.specs.Prelude.{◌≡◌, Contains, OnOk};
+ghost use Rattle.graphql_names.specs.Node.{content};
+ghost use Rattle.graphql_names.specs.Placed.{Place, node_tree};
+ghost use Rattle.schema_types.specs.Plain.{plain};
+ghost use Rattle.schema_types.specs.Addresses.{place_at};
+ghost use Rattle.graphql_schema.specs.SchemaOf.{schema_tree};
+ghost use Rattle.fault_data.specs.Adds.{Adds};
+ghost use Rattle.rule_definitions.specs.Words.{AtSomeIndex};
+ghost use Rattle.rule_definitions.specs.Judged.{judged};
+ghost use Rattle.rule_definitions.specs.Uses.{UsesBreak};
+ghost use Rattle.rule_values.specs.Wanting.{variables_of};
+ghost use Rattle.tree_directives.specs.declared.directive_location.DirectiveLocation.TheVariants as location;
+ghost use Rattle.document_meaning.specs.MeantTree.{MeantDocument, meant};
+ghost use Rattle.document_typed_selections.specs.TypedTree.{typed_selection_tree};
+ghost use Rattle.document_typed_operations.specs.TypedDocument.{typed_fragment_tree, typed_operation_tree};
+ghost use Rattle.document_typing.specs.DocumentView.{meant_by_operation};
+ghost use Rattle.document_typing.specs.Meanings.{meanings};
+ghost use Rattle.document_typing.specs.TypedByPlace.{IsTyped};
+ghost use Rattle.rule_document_definitions.specs.Selected.{selection_location};
+ghost use Rattle.rule_document_definitions.specs.Selections.{SelectionsBreak};
+ghost use Rattle.rule_document_definitions.specs.Told.{places_in};
+ghost use Rattle.rule_reach.specs.Reach.{Member, reached_members, reached_fragments_of, Reaches};
+ghost use Rattle.rule_selections.specs.Steps.{SelectionBreaks};
+ghost use Rattle.rule_selections.specs.Typed.{ReachesTyped};
+
+use crate::fields::check_field;
+use document_typed_operations::{Fragment, Operation};
+use document_typed_selections::Selection;
+use graphql_names::Node;
+use rule_reach::Reach;
+use rule_uses::check_uses;
+use rule_values::{DefinedVariables, Fault, Schema};
+use std::alloc::AllocError;
+use tree_directives::DirectiveLocation;
+use tree_literals::NamedType;
+
+/// Where the directives of such a selection stand.
+#[tactic(auto, using(crate::proofs::Members::location_rules))]
+fn location_of(selection: &Selection) -> DirectiveLocation
+    ensures { result ≡ selection_location (meant (typed_selection_tree selection.now)) }
+{
+    match selection {
+        Selection::Field(_) => DirectiveLocation::Field,
+        Selection::FragmentSpread(_) => DirectiveLocation::FragmentSpread,
+        Selection::InlineFragment(_) => DirectiveLocation::InlineFragment,
+    }
+}
+
+/// Adds the faults of a selection: of its directives, and of a field by itself.
+fn check_selection(
+    schema: &Schema,
+    parent: &NamedType,
+    selection: &Selection,
+    variables: &DefinedVariables<'_>,
+    faults: &mut Vec<Fault>,
+) -> Result<(), AllocError>
+    ensures { OnOk result (IsTyped (meanings (plain (schema_tree schema.now))) parent.now.text (meant (typed_selection_tree selection.now)) → Adds faults.old faults.new (SelectionBreaks (schema_tree schema.now) (variables_of variables.now) (parent.now.text, meant (typed_selection_tree selection.now)))) }
+{
+    let location = location_of(selection);
+    check_uses(
+        schema,
+        &selection.directives().0,
+        location,
+        variables,
+        faults,
+    )?;
+    match selection.as_field() {
+        None => Ok(()),
+        Some(field) => check_field(schema, parent, field, variables, faults),
+    }
+}
+
+/// Adds the faults of each selection.
+fn check_each_selection(
+    schema: &Schema,
+    reach: &Reach<'_>,
+    variables: &DefinedVariables<'_>,
+    faults: &mut Vec<Fault>,
+) -> Result<(), AllocError>
+    ensures { OnOk result (((e : Member Place) → Contains (reached_members reach.now) e → IsTyped (meanings (plain (schema_tree schema.now))) e.0 e.1) → Adds faults.old faults.new (λ f. AtSomeIndex (reached_members reach.now) (λ i e. SelectionBreaks (schema_tree schema.now) (variables_of variables.now) e f))) }
+{
+    for (parent, selection) in &reach.selections {
+        check_selection(schema, parent, selection, variables, faults)?;
+    }
+    Ok(())
+}
+
+/// Adds the faults of the directives of a fragment.
+fn check_fragment(
+    schema: &Schema,
+    fragment: &Node<Fragment>,
+    variables: &DefinedVariables<'_>,
+    faults: &mut Vec<Fault>,
+) -> Result<(), AllocError>
+    ensures { OnOk result (Adds faults.old faults.new (UsesBreak (place_at (schema_tree schema.now)) (judged (schema_tree schema.now)) (variables_of variables.now) location.FragmentDefinition (typed_fragment_tree (content fragment.now)).directives)) }
+{
+    let directives = &fragment.content().directives.0;
+    check_uses(
+        schema,
+        directives,
+        DirectiveLocation::FragmentDefinition,
+        variables,
+        faults,
+    )
+}
+
+/// Adds the faults of the directives of each fragment.
+fn check_fragments(
+    schema: &Schema,
+    reach: &Reach<'_>,
+    variables: &DefinedVariables<'_>,
+    faults: &mut Vec<Fault>,
+) -> Result<(), AllocError>
+    ensures { OnOk result (Adds faults.old faults.new (λ f. AtSomeIndex (reached_fragments_of reach.now) (λ i x. UsesBreak (place_at (schema_tree schema.now)) (judged (schema_tree schema.now)) (variables_of variables.now) location.FragmentDefinition x.directives f))) }
+{
+    for index in 0..reach.fragments.len() {
+        check_fragment(schema, reach.fragments[index], variables, faults)?;
+    }
+    Ok(())
+}
+
+/// Adds the faults of what an operation reaches, where that is typed: MissingSubselection, the rules on arguments of those of
+/// fields, and the rules on directives of those of the operation, of each selection and of each fragment.
+pub fn check_selections(
+    schema: &Schema,
+    operation: &Node<Operation>,
+    reach: &Reach<'_>,
+    faults: &mut Vec<Fault>,
+) -> Result<(), AllocError>
+    ensures { OnOk result ((d : MeantDocument Place) → Reaches d (meant_by_operation (node_tree typed_operation_tree operation.now)) reach.now → ReachesTyped (meanings (plain (schema_tree schema.now))) d (meant_by_operation (node_tree typed_operation_tree operation.now)) → Adds faults.old faults.new (λ fault. SelectionsBreak (places_in (schema_tree schema.now)) (judged (schema_tree schema.now)) d (meant_by_operation (node_tree typed_operation_tree operation.now)) fault)) }
+{
+    let operation = operation.content();
+    let alloc = *faults.allocator();
+    let variables = DefinedVariables::new(alloc, operation.variables.as_slice())?;
+    let location = DirectiveLocation::from(operation.operation_type);
+    check_uses(
+        schema,
+        &operation.directives.0,
+        location,
+        &variables,
+        faults,
+    )?;
+    check_each_selection(schema, reach, &variables, faults)?;
+    check_fragments(schema, reach, &variables, faults)
+}

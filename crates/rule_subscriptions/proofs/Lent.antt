@@ -1,0 +1,33 @@
+-- What is lent by a walk, one by one.
+use Rattle.std.proofs.Common.{◌≡◌, ◌++◌, suc, length, List, [], ◌∷◌, map, refl, sym, ap, subst, ◌∙◌, append_assoc, append-nil}
+use Rattle.std.specs.Borrow.{Bor}
+use Rattle.std.proofs.lemmas.List.{map-append}
+use Rattle.graphql_names.specs.Placed.{Place}
+use Rattle.graphql_names.specs.NameValue.{NameValue}
+use Rattle.document_typed_selections.specs.TypedTree.{typed_selection_tree}
+use Rattle.document_typed_selections.specs.declared.selection.Selection.{Selection}
+use Rattle.document_meaning.specs.MeantTree.{MeantSelection, meant}
+use Rattle.document_walks.specs.Reached.{Member}
+use Rattle.document_walks.specs.WalkView.{lent_member}
+use Rattle.rule_subscriptions.specs.Rooted.{lent, lent_all}
+
+abbrev pub members_lent : List (Member Place) → List (MeantSelection Place)
+members_lent es = map (λ e. meant e.1) es
+
+-- one more is pushed, a copy of what is lent
+pub lent_push : (xs : List Selection) (x : Selection) → lent_all (xs ++ x ∷ []) ≡ lent_all xs ++ lent x ∷ []
+lent_push xs x = map-append lent xs (x ∷ [])
+
+pub taken : (xs ys : List Selection) (e : Bor NameValue × Bor Selection) (copy : Selection) (left rest : List (Member Place)) (all : List (MeantSelection Place)) → left ≡ lent_member e ∷ rest → typed_selection_tree copy ≡ typed_selection_tree e.1.now
+    → ys ≡ xs ++ copy ∷ [] → lent_all xs ++ members_lent left ≡ all → lent_all ys ++ members_lent rest ≡ all
+taken xs ys e copy left rest all first same more h =
+    ap (λ l. l ++ members_lent rest) (ap lent_all more ∙ lent_push xs copy ∙ ap (λ t. lent_all xs ++ meant t ∷ []) same)
+    ∙ append_assoc (lent_all xs) (lent e.1.now ∷ []) (members_lent rest)
+    ∙ ap (λ l. lent_all xs ++ members_lent l) (sym first) ∙ h
+
+pub all_taken : (xs : List Selection) (left : List (Member Place)) (all : List (MeantSelection Place)) → left ≡ [] → lent_all xs ++ members_lent left ≡ all → lent_all xs ≡ all
+all_taken xs left all none h = sym (append-nil (lent_all xs)) ∙ ap (λ l. lent_all xs ++ members_lent l) (sym none) ∙ h
+
+pub length-lent : (xs : List Selection) → length (lent_all xs) ≡ length xs
+length-lent [] = refl
+length-lent (x ∷ xs) = ap suc (length-lent xs)

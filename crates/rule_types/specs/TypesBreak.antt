@@ -1,0 +1,9 @@
+-- The rules of this crate together.
+use Rattle.std.specs.Prelude.{◌⊎◌}
+use Rattle.fault_data.specs.in_rule_definitions.Faults.{SchemaFault}
+use Rattle.fault_data.specs.in_rule_definitions.Judged.{Judged}
+use Rattle.fault_data.specs.in_rule_definitions.Rules.{ReferencesBreak, EmptyBreaks}
+
+-- a rule on roots, names, the types that are named, or what a type must have fails so
+abbrev pub TypesBreak : Judged → SchemaFault → Type 0
+TypesBreak s fault = ReferencesBreak s fault ⊎ EmptyBreaks s fault

@@ -1,0 +1,142 @@
+//! Rules on argument definitions and input fields (sections 3.6, 3.10 and 3.13).
+ghost use Rattle.std.specs.Prelude.{◌≡◌, ◌++◌, [], ◌∷◌, map, OnOk, flat_map};
+ghost use Rattle.graphql_names.specs.Placed.{node_tree};
+ghost use Rattle.tree_directives.specs.DirectiveTree.{input_value_tree};
+ghost use Rattle.schema_components.specs.Lists.{each_place};
+ghost use Rattle.graphql_schema.specs.SchemaOf.{schema_tree};
+ghost use Rattle.fault_data.specs.FaultView.{faults_of};
+ghost use Rattle.rule_types.specs.FaultLists.{unique_input_value, input_value_faults, argument_faults, arguments_faults};
+ghost use Rattle.rule_types.specs.NamedWords.{named_words};
+ghost use Rattle.rule_types.specs.Seen.{AreSeen};
+
+use crate::look_ups::kind_inside;
+use crate::reserved::{Named, reserved_name};
+use crate::types_used::{input_type, undefined_type};
+use fault_data::{DiagnosticData, Fault, tell};
+use graphql_names::{Name, Node, SourceSpan};
+use graphql_schema::Schema;
+use indexmap::IndexMap;
+use std::alloc::{AllocError, Global};
+use tree_directives::InputValueDefinition;
+
+/// Tells the faults of the argument definitions of a field or directive.
+pub(crate) fn check_arguments(
+    alloc: Global,
+    schema: &Schema,
+    arguments: &[Node<InputValueDefinition>],
+    faults: &mut Vec<Fault>,
+) -> Result<(), AllocError>
+    ensures { OnOk result (faults_of faults.new ≡ faults_of faults.old ++ arguments_faults (schema_tree schema.now) (map (node_tree input_value_tree) arguments.now)) }
+{
+    check_each_argument(schema, arguments, faults)?;
+    check_repeats(alloc, arguments, faults)
+}
+
+/// Tells the faults of each argument definition.
+fn check_each_argument(
+    schema: &Schema,
+    arguments: &[Node<InputValueDefinition>],
+    faults: &mut Vec<Fault>,
+) -> Result<(), AllocError>
+    ensures { OnOk result (faults_of faults.new ≡ faults_of faults.old ++ flat_map (argument_faults (schema_tree schema.now)) (map (node_tree input_value_tree) arguments.now)) }
+{
+    for argument in arguments {
+        check_argument(schema, argument, faults)?;
+    }
+    Ok(())
+}
+
+/// Tells the faults of an argument definition.
+fn check_argument(
+    schema: &Schema,
+    argument: &Node<InputValueDefinition>,
+    faults: &mut Vec<Fault>,
+) -> Result<(), AllocError>
+    ensures { OnOk result (faults_of faults.new ≡ faults_of faults.old ++ argument_faults (schema_tree schema.now) (node_tree input_value_tree argument.now)) }
+{
+    let name = &argument.content().name;
+    check_input_value(schema, name, argument, Named::Argument, faults)
+}
+
+/// Tells the faults of an argument definition or input field of that name.
+pub(crate) fn check_input_value(
+    schema: &Schema,
+    name: &Name,
+    input: &Node<InputValueDefinition>,
+    named: Named,
+    faults: &mut Vec<Fault>,
+) -> Result<(), AllocError>
+    ensures { OnOk result (faults_of faults.new ≡ faults_of faults.old ++ input_value_faults (schema_tree schema.now) name.now.text (named_words named) (node_tree input_value_tree input.now)) }
+{
+    let content = input.content();
+    let ty = content.ty.content();
+    let kind = kind_inside(schema, ty);
+    reserved_name(
+        input.is_built_in(),
+        name,
+        content.name.location(),
+        named.describe(),
+        faults,
+    )?;
+    undefined_type(ty, kind, faults)?;
+    input_type(input, kind, faults)
+}
+
+/// Tells each argument definition of which an earlier one has the name.
+fn check_repeats(
+    alloc: Global,
+    arguments: &[Node<InputValueDefinition>],
+    faults: &mut Vec<Fault>,
+) -> Result<(), AllocError>
+    ensures { OnOk result (faults_of faults.new ≡ faults_of faults.old ++ each_place unique_input_value (map (node_tree input_value_tree) arguments.now)) }
+{
+    let mut seen = IndexMap::new(alloc);
+    for argument in arguments {
+        unique_input_value(&seen, argument, faults)?;
+        see(&mut seen, argument)?;
+    }
+    Ok(())
+}
+
+/// UniqueInputValue: no earlier argument of the same field or directive has the name. `seen` has the first place of each name.
+fn unique_input_value(
+    seen: &IndexMap<Name, Option<SourceSpan>>,
+    argument: &Node<InputValueDefinition>,
+    faults: &mut Vec<Fault>,
+) -> Result<(), AllocError>
+    ensures { (before : _) → AreSeen seen.now before → OnOk result (faults_of faults.new ≡ faults_of faults.old ++ unique_input_value before (node_tree input_value_tree argument.now)) }
+{
+    let name = &argument.content().name;
+    match seen.get(name) {
+        None => Ok(()),
+        Some(first) => {
+            let first = *first;
+            tell(
+                faults,
+                Some(Fault {
+                    location: first,
+                    data: DiagnosticData::UniqueInputValue {
+                        name: name.clone()?,
+                        original_definition: first,
+                        redefined_definition: argument.location(),
+                    },
+                }),
+            )
+        }
+    }
+}
+
+/// Notes the place of an argument, if it is the first of its name.
+fn see(
+    seen: &mut IndexMap<Name, Option<SourceSpan>>,
+    argument: &Node<InputValueDefinition>,
+) -> Result<(), AllocError>
+    ensures { (before : _) → AreSeen seen.old before → OnOk result (AreSeen seen.new (before ++ node_tree input_value_tree argument.now ∷ [])) }
+{
+    let name = &argument.content().name;
+    if seen.get(name).is_some() {
+        return Ok(());
+    }
+    seen.insert(name.clone()?, argument.location())?;
+    Ok(())
+}

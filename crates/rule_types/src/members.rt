@@ -1,0 +1,182 @@
+//! The rules on what a type has: fields, members, values or input fields.
+ghost use Rattle.std.specs.Prelude.{◌≡◌, ◌++◌, map, OnOk};
+ghost use Rattle.graphql_names.specs.Placed.{name_tree, node_tree};
+ghost use Rattle.tree_directives.specs.DirectiveTree.{input_value_tree};
+ghost use Rattle.tree_type_members.specs.TypeSystemTree.{field_definition_tree, enum_value_tree};
+ghost use Rattle.schema_components.specs.Given.{component_name_tree};
+ghost use Rattle.schema_types.specs.TypeView.{extended_type};
+ghost use Rattle.graphql_schema.specs.SchemaOf.{schema_tree};
+ghost use Rattle.fault_data.specs.FaultView.{faults_of};
+ghost use Rattle.rule_types.specs.FaultLists.{field_type_faults, field_faults, each_input_faults, member_faults, value_faults, input_faults, fields_faults, members_faults, values_faults, inputs_faults};
+
+use crate::arguments::{check_arguments, check_input_value};
+use crate::empty::{empty_field_set, empty_input_value_set, empty_member_set, empty_value_set};
+use crate::look_ups::{kind_inside, kind_named};
+use crate::reserved::{Named, reserved_name};
+use crate::types_used::{output_type, undefined_name, undefined_type, union_member_object_type};
+use fault_data::Fault;
+use graphql_names::{Name, Node};
+use graphql_schema::Schema;
+use indexmap::{IndexMap, IndexSet};
+use schema_components::{Component, ComponentName};
+use schema_types::ExtendedType;
+use std::alloc::{AllocError, Global};
+use tree_directives::InputValueDefinition;
+use tree_type_members::{EnumValueDefinition, FieldDefinition};
+
+/// Tells the faults of the fields of an object or interface.
+pub(crate) fn check_fields(
+    alloc: Global,
+    schema: &Schema,
+    name: &Name,
+    ty: &ExtendedType,
+    fields: &IndexMap<Name, Component<FieldDefinition>>,
+    faults: &mut Vec<Fault>,
+) -> Result<(), AllocError>
+    ensures { OnOk result (faults_of faults.new ≡ faults_of faults.old ++ fields_faults (schema_tree schema.now) name.now.text (extended_type ty.now) fields.now.entries) }
+{
+    empty_field_set(alloc, name, ty, fields, faults)?;
+    for (field_name, field) in fields {
+        check_field(alloc, schema, field_name, &field.node, faults)?;
+    }
+    Ok(())
+}
+
+/// Tells the faults of a field.
+fn check_field(
+    alloc: Global,
+    schema: &Schema,
+    name: &Name,
+    field: &Node<FieldDefinition>,
+    faults: &mut Vec<Fault>,
+) -> Result<(), AllocError>
+    ensures { OnOk result (faults_of faults.new ≡ faults_of faults.old ++ field_faults (schema_tree schema.now) name.now.text (node_tree field_definition_tree field.now)) }
+{
+    check_field_type(schema, name, field, faults)?;
+    check_arguments(alloc, schema, &field.content().arguments, faults)
+}
+
+/// Tells the faults of the name and the type of a field.
+fn check_field_type(
+    schema: &Schema,
+    name: &Name,
+    field: &Node<FieldDefinition>,
+    faults: &mut Vec<Fault>,
+) -> Result<(), AllocError>
+    ensures { OnOk result (faults_of faults.new ≡ faults_of faults.old ++ field_type_faults (schema_tree schema.now) name.now.text (node_tree field_definition_tree field.now)) }
+{
+    let content = field.content();
+    let kind = kind_inside(schema, &content.ty);
+    reserved_name(
+        field.is_built_in(),
+        name,
+        content.name.location(),
+        Named::Field.describe(),
+        faults,
+    )?;
+    undefined_type(&content.ty, kind, faults)?;
+    output_type(name, field, kind, faults)
+}
+
+/// Tells the faults of the members of a union.
+pub(crate) fn check_members(
+    alloc: Global,
+    schema: &Schema,
+    name: &Name,
+    ty: &ExtendedType,
+    members: &IndexSet<ComponentName>,
+    faults: &mut Vec<Fault>,
+) -> Result<(), AllocError>
+    ensures { OnOk result (faults_of faults.new ≡ faults_of faults.old ++ members_faults (schema_tree schema.now) name.now.text (extended_type ty.now) (map component_name_tree members.now.keys)) }
+{
+    empty_member_set(alloc, name, ty, members, faults)?;
+    for member in members.as_slice() {
+        check_member(schema, &member.name, faults)?;
+    }
+    Ok(())
+}
+
+/// Tells the faults of a member of a union.
+fn check_member(schema: &Schema, member: &Name, faults: &mut Vec<Fault>) -> Result<(), AllocError>
+    ensures { OnOk result (faults_of faults.new ≡ faults_of faults.old ++ member_faults (schema_tree schema.now) (name_tree member.now)) }
+{
+    let kind = kind_named(schema, member);
+    undefined_name(member, kind, faults)?;
+    union_member_object_type(member, kind, faults)
+}
+
+/// Tells the faults of the values of an enum.
+pub(crate) fn check_values(
+    alloc: Global,
+    name: &Name,
+    ty: &ExtendedType,
+    values: &IndexMap<Name, Component<EnumValueDefinition>>,
+    faults: &mut Vec<Fault>,
+) -> Result<(), AllocError>
+    ensures { OnOk result (faults_of faults.new ≡ faults_of faults.old ++ values_faults name.now.text (extended_type ty.now) values.now.entries) }
+{
+    empty_value_set(alloc, name, ty, values, faults)?;
+    for (value_name, value) in values {
+        check_value(value_name, &value.node, faults)?;
+    }
+    Ok(())
+}
+
+/// Tells the faults of a value of an enum.
+fn check_value(
+    name: &Name,
+    value: &Node<EnumValueDefinition>,
+    faults: &mut Vec<Fault>,
+) -> Result<(), AllocError>
+    ensures { OnOk result (faults_of faults.new ≡ faults_of faults.old ++ value_faults name.now.text (node_tree enum_value_tree value.now)) }
+{
+    let location = value.content().value.location();
+    reserved_name(
+        value.is_built_in(),
+        name,
+        location,
+        Named::EnumValue.describe(),
+        faults,
+    )
+}
+
+/// Tells the faults of the fields of an input object.
+pub(crate) fn check_input_fields(
+    alloc: Global,
+    schema: &Schema,
+    name: &Name,
+    ty: &ExtendedType,
+    fields: &IndexMap<Name, Component<InputValueDefinition>>,
+    faults: &mut Vec<Fault>,
+) -> Result<(), AllocError>
+    ensures { OnOk result (faults_of faults.new ≡ faults_of faults.old ++ inputs_faults (schema_tree schema.now) name.now.text (extended_type ty.now) fields.now.entries) }
+{
+    empty_input_value_set(alloc, name, ty, fields, faults)?;
+    check_each_input_field(schema, fields, faults)
+}
+
+/// Tells the faults of each field of an input object.
+fn check_each_input_field(
+    schema: &Schema,
+    fields: &IndexMap<Name, Component<InputValueDefinition>>,
+    faults: &mut Vec<Fault>,
+) -> Result<(), AllocError>
+    ensures { OnOk result (faults_of faults.new ≡ faults_of faults.old ++ each_input_faults (schema_tree schema.now) fields.now.entries) }
+{
+    for (field_name, field) in fields {
+        check_input_field(schema, field_name, &field.node, faults)?;
+    }
+    Ok(())
+}
+
+/// Tells the faults of a field of an input object.
+fn check_input_field(
+    schema: &Schema,
+    name: &Name,
+    field: &Node<InputValueDefinition>,
+    faults: &mut Vec<Fault>,
+) -> Result<(), AllocError>
+    ensures { OnOk result (faults_of faults.new ≡ faults_of faults.old ++ input_faults (schema_tree schema.now) name.now.text (node_tree input_value_tree field.now)) }
+{
+    check_input_value(schema, name, field, Named::InputField, faults)
+}

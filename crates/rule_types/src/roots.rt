@@ -1,0 +1,168 @@
+//! Rules on the root operations (section 3.3.1).
+ghost use Rattle.std.specs.Prelude.{◌≡◌, ◌++◌, map, IfOk, OnOk, option_to_list};
+ghost use Rattle.std.specs.Option.{option_map};
+ghost use Rattle.graphql_names.specs.Placed.{name_tree};
+ghost use Rattle.tree_directives.specs.declared.operation_type.OperationType.TheVariants as operation;
+ghost use Rattle.schema_components.specs.Given.{component_name_tree};
+ghost use Rattle.schema_types.specs.TypeView.{schema_roots};
+ghost use Rattle.graphql_schema.specs.SchemaOf.{schema_tree};
+ghost use Rattle.fault_data.specs.FaultView.{fault_of, faults_of};
+ghost use Rattle.rule_types.specs.FaultLists.{query_root_operation_type, root_operation_object_type, same_root, subscription_again, root_faults, roots_faults};
+
+use crate::look_ups::kind_named;
+use crate::types_used::undefined_name;
+use fault_data::{DiagnosticData, Fault, tell};
+use graphql_names::{Name, Node};
+use graphql_schema::Schema;
+use schema_components::ComponentName;
+use schema_types::{SchemaDefinition, TypeKind};
+use std::alloc::AllocError;
+use tree_operations::OperationType;
+
+/// Tells the faults of the roots.
+pub(crate) fn check_roots(schema: &Schema, faults: &mut Vec<Fault>) -> Result<(), AllocError>
+    ensures { OnOk result (faults_of faults.new ≡ faults_of faults.old ++ roots_faults (schema_tree schema.now)) }
+{
+    let definition = schema.schema_definition.content();
+    query_root_operation_type(&schema.schema_definition, faults)?;
+    check_root(schema, &definition.query, faults)?;
+    check_root(schema, &definition.mutation, faults)?;
+    check_root(schema, &definition.subscription, faults)?;
+    check_repeats(&schema.schema_definition, faults)
+}
+
+/// Tells the faults of a root, if it is there.
+fn check_root(
+    schema: &Schema,
+    root: &Option<ComponentName>,
+    faults: &mut Vec<Fault>,
+) -> Result<(), AllocError>
+    ensures { OnOk result (faults_of faults.new ≡ faults_of faults.old ++ root_faults (schema_tree schema.now) (option_map component_name_tree root.now)) }
+{
+    match root {
+        None => Ok(()),
+        Some(root) => {
+            let kind = kind_named(schema, &root.name);
+            undefined_name(&root.name, kind, faults)?;
+            root_operation_object_type(&root.name, kind, faults)
+        }
+    }
+}
+
+/// Tells each root of which an earlier one is the same type.
+fn check_repeats(
+    definition: &Node<SchemaDefinition>,
+    faults: &mut Vec<Fault>,
+) -> Result<(), AllocError>
+    ensures { OnOk result (faults_of faults.new ≡ faults_of faults.old ++ (same_root operation.Query (schema_roots definition.now).query operation.Mutation (schema_roots definition.now).mutation ++ subscription_again (schema_roots definition.now))) }
+{
+    let roots = definition.content();
+    tell(
+        faults,
+        duplicate_root_operation_type(
+            OperationType::Query,
+            &roots.query,
+            OperationType::Mutation,
+            &roots.mutation,
+        )?,
+    )?;
+    tell(faults, subscription_again(definition)?)
+}
+
+/// QueryRootOperationType: the root of queries is given.
+fn query_root_operation_type(
+    definition: &Node<SchemaDefinition>,
+    faults: &mut Vec<Fault>,
+) -> Result<(), AllocError>
+    ensures { OnOk result (faults_of faults.new ≡ faults_of faults.old ++ query_root_operation_type (schema_roots definition.now)) }
+{
+    match &definition.content().query {
+        Some(_) => Ok(()),
+        None => tell(
+            faults,
+            Some(Fault {
+                location: definition.location(),
+                data: DiagnosticData::QueryRootOperationType,
+            }),
+        ),
+    }
+}
+
+/// RootOperationObjectType: the type of a root is an object type.
+fn root_operation_object_type(
+    root: &Name,
+    kind: Option<TypeKind>,
+    faults: &mut Vec<Fault>,
+) -> Result<(), AllocError>
+    ensures { OnOk result (faults_of faults.new ≡ faults_of faults.old ++ root_operation_object_type (name_tree root.now) kind) }
+{
+    match kind {
+        None => Ok(()),
+        Some(kind) => {
+            if kind.is(TypeKind::Object) {
+                return Ok(());
+            }
+            tell(
+                faults,
+                Some(Fault {
+                    location: root.location(),
+                    data: DiagnosticData::RootOperationObjectType {
+                        name: root.clone()?,
+                        describe_type: kind.describe(),
+                    },
+                }),
+            )
+        }
+    }
+}
+
+/// DuplicateRootOperationType: the types of the roots differ. Told of the later of two.
+fn duplicate_root_operation_type(
+    original_operation: OperationType,
+    original: &Option<ComponentName>,
+    redefined_operation: OperationType,
+    redefined: &Option<ComponentName>,
+) -> Result<Option<Fault>, AllocError>
+    ensures { IfOk result (λ r. map fault_of (option_to_list r) ≡ same_root original_operation (option_map component_name_tree original.now) redefined_operation (option_map component_name_tree redefined.now)) }
+{
+    match (original, redefined) {
+        (Some(original), Some(redefined)) => {
+            if redefined.name.as_str() == original.name.as_str() {
+                return Ok(Some(Fault {
+                    location: redefined.name.location(),
+                    data: DiagnosticData::DuplicateRootOperationType {
+                        name: redefined.name.clone()?,
+                        original_operation,
+                        original_definition: original.name.location(),
+                        redefined_operation,
+                        redefined_definition: redefined.name.location(),
+                    },
+                }));
+            }
+            Ok(None)
+        }
+        _ => Ok(None),
+    }
+}
+
+/// The root of subscriptions, where that of queries or else that of mutations is the same type.
+fn subscription_again(definition: &Node<SchemaDefinition>) -> Result<Option<Fault>, AllocError>
+    ensures { IfOk result (λ r. map fault_of (option_to_list r) ≡ subscription_again (schema_roots definition.now)) }
+{
+    let roots = definition.content();
+    let of_queries = duplicate_root_operation_type(
+        OperationType::Query,
+        &roots.query,
+        OperationType::Subscription,
+        &roots.subscription,
+    )?;
+    match of_queries {
+        Some(fault) => Ok(Some(fault)),
+        None => duplicate_root_operation_type(
+            OperationType::Mutation,
+            &roots.mutation,
+            OperationType::Subscription,
+            &roots.subscription,
+        ),
+    }
+}

@@ -1,0 +1,154 @@
+//! Rules on the types that are named (sections 3.4.2, 3.6, 3.8 and 3.10). Each is given the kind of that type, if it is there.
+ghost use Rattle.std.specs.Prelude.{◌≡◌, ◌++◌, OnOk};
+ghost use Rattle.graphql_names.specs.Placed.{name_tree, node_tree};
+ghost use Rattle.tree_literals.specs.TypeTree.{type_tree};
+ghost use Rattle.tree_directives.specs.DirectiveTree.{input_value_tree};
+ghost use Rattle.tree_type_members.specs.TypeSystemTree.{field_definition_tree};
+ghost use Rattle.schema_components.specs.Lists.{is_among};
+ghost use Rattle.fault_data.specs.FaultView.{faults_of};
+ghost use Rattle.fault_data.specs.in_rule_definitions.TypesUsed.{scalar_names};
+ghost use Rattle.rule_types.specs.FaultLists.{undefined_name, undefined_type, output_type, input_type, union_member_object_type};
+
+use fault_data::{DiagnosticData, Fault, tell};
+use graphql_names::{Name, Node};
+use schema_types::TypeKind;
+use std::alloc::AllocError;
+use tree_directives::InputValueDefinition;
+use tree_literals::Type;
+use tree_type_members::FieldDefinition;
+
+/// UndefinedDefinition: the type that is named is there.
+pub(crate) fn undefined_name(
+    name: &Name,
+    kind: Option<TypeKind>,
+    faults: &mut Vec<Fault>,
+) -> Result<(), AllocError>
+    ensures { OnOk result (faults_of faults.new ≡ faults_of faults.old ++ undefined_name (name_tree name.now) kind) }
+{
+    match kind {
+        Some(_) => Ok(()),
+        None => tell(
+            faults,
+            Some(Fault {
+                location: name.location(),
+                data: DiagnosticData::UndefinedDefinition {
+                    name: name.clone()?,
+                },
+            }),
+        ),
+    }
+}
+
+/// UndefinedDefinition: the type inside a reference is there, or it has the name of a built-in scalar.
+pub(crate) fn undefined_type(
+    ty: &Type,
+    kind: Option<TypeKind>,
+    faults: &mut Vec<Fault>,
+) -> Result<(), AllocError>
+    ensures { OnOk result (faults_of faults.new ≡ faults_of faults.old ++ undefined_type (type_tree ty.now) kind) }
+{
+    match kind {
+        Some(_) => Ok(()),
+        None => {
+            let name = ty.inner_named_type();
+            if is_scalar_name(name.as_str()) {
+                return Ok(());
+            }
+            undefined_name(name, None, faults)
+        }
+    }
+}
+
+/// Whether it is the name of a built-in scalar (section 3.5).
+fn is_scalar_name(text: &str) -> bool
+    ensures { result ≡ is_among text.now scalar_names }
+{
+    text == "Int" || text == "Float" || text == "String" || text == "Boolean" || text == "ID"
+}
+
+/// OutputType: the type of a field that stands under `name` is an output type.
+pub(crate) fn output_type(
+    name: &Name,
+    field: &Node<FieldDefinition>,
+    kind: Option<TypeKind>,
+    faults: &mut Vec<Fault>,
+) -> Result<(), AllocError>
+    ensures { OnOk result (faults_of faults.new ≡ faults_of faults.old ++ output_type name.now.text (node_tree field_definition_tree field.now) kind) }
+{
+    match kind {
+        None => Ok(()),
+        Some(kind) => {
+            if kind.is_output_type() {
+                return Ok(());
+            }
+            tell(
+                faults,
+                Some(Fault {
+                    location: field.location(),
+                    data: DiagnosticData::OutputType {
+                        name: name.clone()?,
+                        describe_type: kind.describe(),
+                        type_location: field.content().ty.inner_named_type().location(),
+                    },
+                }),
+            )
+        }
+    }
+}
+
+/// InputType: the type of an argument or input field is an input type.
+pub(crate) fn input_type(
+    input: &Node<InputValueDefinition>,
+    kind: Option<TypeKind>,
+    faults: &mut Vec<Fault>,
+) -> Result<(), AllocError>
+    ensures { OnOk result (faults_of faults.new ≡ faults_of faults.old ++ input_type (node_tree input_value_tree input.now) kind) }
+{
+    match kind {
+        None => Ok(()),
+        Some(kind) => {
+            if kind.is_input_type() {
+                return Ok(());
+            }
+            tell(
+                faults,
+                Some(Fault {
+                    location: input.location(),
+                    data: DiagnosticData::InputType {
+                        name: input.content().name.clone()?,
+                        describe_type: kind.describe(),
+                        type_location: input.content().ty.location(),
+                    },
+                }),
+            )
+        }
+    }
+}
+
+/// UnionMemberObjectType: a member of a union is an object type.
+pub(crate) fn union_member_object_type(
+    member: &Name,
+    kind: Option<TypeKind>,
+    faults: &mut Vec<Fault>,
+) -> Result<(), AllocError>
+    ensures { OnOk result (faults_of faults.new ≡ faults_of faults.old ++ union_member_object_type (name_tree member.now) kind) }
+{
+    match kind {
+        None => Ok(()),
+        Some(kind) => {
+            if kind.is(TypeKind::Object) {
+                return Ok(());
+            }
+            tell(
+                faults,
+                Some(Fault {
+                    location: member.location(),
+                    data: DiagnosticData::UnionMemberObjectType {
+                        name: member.clone()?,
+                        describe_type: kind.describe(),
+                    },
+                }),
+            )
+        }
+    }
+}

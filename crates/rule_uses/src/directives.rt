@@ -1,0 +1,273 @@
+//! Directives that are used at one place.
+ghost use Rattle.std.specs.Prelude.{Bool, ◌≡◌, ◌++◌, ◌⊎◌, ◌↔◌, ◌∷◌, [], map, IfOk, IsTrue, OnOk, option_to_list, Some, Contains};
+ghost use Rattle.std.specs.Option.{option_map};
+ghost use Rattle.graphql_names.specs.Node.{content, place};
+ghost use Rattle.graphql_names.specs.Placed.{node_tree};
+ghost use Rattle.tree_directives.specs.DirectiveTree.{directive_tree, directive_definition_tree};
+ghost use Rattle.tree_directives.specs.declared.directive_location.DirectiveLocation.{DirectiveLocation};
+ghost use Rattle.schema_components.specs.Lists.{each_place};
+ghost use Rattle.rule_values.specs.in_schema.in_schema_types.Addresses.{place_at, directive_definition_at};
+ghost use Rattle.rule_values.specs.in_schema.SchemaOf.{schema_tree};
+ghost use Rattle.rule_values.specs.in_fault_data.FaultView.{fault_of, faults_of};
+ghost use Rattle.rule_values.specs.in_rule_definitions.Words.{AtSomeIndex};
+ghost use Rattle.rule_values.specs.in_rule_definitions.Judged.{judged};
+ghost use Rattle.rule_values.specs.in_rule_definitions.Uses.{directive_name, UseBreaks, UsesBreak};
+ghost use Rattle.rule_values.specs.in_fault_data.Adds.{Adds};
+ghost use Rattle.rule_values.specs.Wanting.{variables_of};
+ghost use Rattle.rule_uses.specs.Trees.{directives_of, inputs_of, no_schema, tree_of};
+ghost use Rattle.rule_uses.specs.UseFaults.{undefined_directive, unsupported_location, directive_again, repeated_directive};
+ghost use Rattle.rule_uses.specs.Alone.{DirectiveAloneBreaks, DirectivesAloneBreak};
+ghost use Rattle.rule_uses.specs.Steps.{DefinedUseBreaks};
+
+use crate::given::{check_arguments_alone, check_given, check_variables_given};
+use crate::taken::check_taken;
+use crate::taker::{Taker, TakerName};
+use graphql_names::{Name, Node, SourceSpan};
+use indexmap::IndexMap;
+use rule_values::{DefinedVariables, DiagnosticData, Fault, Schema, note_first, tell};
+use std::alloc::AllocError;
+use tree_directives::{Directive, DirectiveDefinition, DirectiveLocation};
+
+/// The definition of the directive of that name, if there is one.
+fn find_definition<'a>(schema: &'a Schema, name: &Name) -> Option<&'a Node<DirectiveDefinition>>
+    ensures { option_map (λ d. node_tree directive_definition_tree d.now) result ≡ directive_definition_at (schema_tree schema.now) name.now.text }
+{
+    schema.directive_definitions.get(name)
+}
+
+/// UndefinedDirective: a directive that is used is defined (section 5.7.1). This one is not.
+fn undefined_directive(directive: &Node<Directive>) -> Result<Fault, AllocError>
+    ensures { IfOk result (λ r. fault_of r ≡ undefined_directive (node_tree directive_tree directive.now)) }
+{
+    let name = directive.content().name.clone()?;
+    let location = directive.location();
+    let data = DiagnosticData::UndefinedDirective { name };
+    Ok(Fault { location, data })
+}
+
+/// Whether the location is among these.
+fn has_location(locations: &[DirectiveLocation], location: DirectiveLocation) -> bool
+    ensures { IsTrue result ↔ Contains locations.now location }
+{
+    locations.contains(&location)
+}
+
+/// UnsupportedLocation: a directive may stand at such a place (section 5.7.2).
+fn unsupported_location(
+    directive: &Node<Directive>,
+    definition: &Node<DirectiveDefinition>,
+    location: DirectiveLocation,
+) -> Result<Option<Fault>, AllocError>
+    ensures { IfOk result (λ r. (b : Bool) × ((IsTrue b ↔ Contains (content definition.now).locations.items location) × (map fault_of (option_to_list r) ≡ unsupported_location b (node_tree directive_definition_tree definition.now) location (node_tree directive_tree directive.now)))) }
+{
+    let supported = &definition.content().locations;
+    if has_location(supported, location) {
+        return Ok(None);
+    }
+    let valid_locations = supported.clone()?;
+    let data = DiagnosticData::UnsupportedLocation {
+        name: directive.content().name.clone()?,
+        location,
+        valid_locations,
+        definition_location: definition.location(),
+    };
+    Ok(Some(Fault {
+        location: directive.location(),
+        data,
+    }))
+}
+
+/// UniqueDirective: one that is not repeatable is used once at a place (section 5.7.3). `first` is the place of the first of
+/// its name, if one is before it.
+fn unique_directive(
+    schema: &Schema,
+    first: Option<Option<SourceSpan>>,
+    later: &Node<Directive>,
+) -> Result<Option<Fault>, AllocError>
+    ensures { IfOk result (λ r. map fault_of (option_to_list r) ≡ directive_again (directive_definition_at (schema_tree schema.now) (content later.now).name.text) first (node_tree directive_tree later.now)) }
+{
+    let name = &later.content().name;
+    let Some(definition) = find_definition(schema, name) else {
+        return Ok(None);
+    };
+    if definition.content().repeatable {
+        return Ok(None);
+    }
+    let Some(original_application) = first else {
+        return Ok(None);
+    };
+    let data = DiagnosticData::UniqueDirective {
+        name: name.clone()?,
+        original_application,
+    };
+    let location = later.location();
+    Ok(Some(Fault { location, data }))
+}
+
+/// Adds a fault for each directive that is not repeatable and is used before.
+fn tell_repeated_directives(
+    schema: &Schema,
+    directives: &[Node<Directive>],
+    faults: &mut Vec<Fault>,
+) -> Result<(), AllocError>
+    ensures { OnOk result (faults_of faults.new ≡ faults_of faults.old ++ each_place (λ before d. repeated_directive (directive_definition_at (schema_tree schema.now) (directive_name d)) before d) (directives_of directives.now)) }
+{
+    if directives.len() < 2 {
+        return Ok(());
+    }
+    let mut places = IndexMap::new(*faults.allocator());
+    for directive in directives {
+        let name = &directive.content().name;
+        let first = note_first(&mut places, name, directive.location())?;
+        tell(faults, unique_directive(schema, first, directive)?)?;
+    }
+    Ok(())
+}
+
+/// Adds the faults of the use of a directive by its definition.
+fn check_defined_use(
+    schema: &Schema,
+    directive: &Node<Directive>,
+    definition: &Node<DirectiveDefinition>,
+    location: DirectiveLocation,
+    variables: &DefinedVariables<'_>,
+    faults: &mut Vec<Fault>,
+) -> Result<(), AllocError>
+    requires { directive_definition_at (schema_tree schema.now) (content directive.now).name.text ≡ Some (node_tree directive_definition_tree definition.now) }
+    ensures { OnOk result (Adds faults.old faults.new (DefinedUseBreaks (schema_tree schema.now) (variables_of variables.now) location (node_tree directive_tree directive.now) (inputs_of (content definition.now).arguments.items))) }
+{
+    let fault = unsupported_location(directive, definition, location)?;
+    tell(faults, fault)?;
+    let place = directive.location();
+    let used = directive.content();
+    let taker = Taker {
+        location: place,
+        given: used.arguments.as_slice(),
+        definitions: definition.content().arguments.as_slice(),
+        definition_location: place,
+        name: TakerName::OfDirective(&used.name),
+    };
+    check_taken(schema, &taker, variables, faults)
+}
+
+/// Adds the faults of one use of a directive.
+fn check_use(
+    schema: &Schema,
+    directive: &Node<Directive>,
+    location: DirectiveLocation,
+    variables: &DefinedVariables<'_>,
+    faults: &mut Vec<Fault>,
+) -> Result<(), AllocError>
+    ensures { OnOk result (Adds faults.old faults.new (UseBreaks (place_at (schema_tree schema.now)) (judged (schema_tree schema.now)) (variables_of variables.now) location (node_tree directive_tree directive.now))) }
+{
+    let used = directive.content();
+    check_given(&used.arguments, variables, faults)?;
+    match find_definition(schema, &used.name) {
+        None => {
+            let fault = undefined_directive(directive)?;
+            tell(faults, Some(fault))
+        }
+        Some(definition) => check_defined_use(
+            schema, directive, definition, location, variables, faults,
+        ),
+    }
+}
+
+/// Adds the faults of each use.
+fn check_each_use(
+    schema: &Schema,
+    directives: &[Node<Directive>],
+    location: DirectiveLocation,
+    variables: &DefinedVariables<'_>,
+    faults: &mut Vec<Fault>,
+) -> Result<(), AllocError>
+    ensures { OnOk result (Adds faults.old faults.new (λ f. AtSomeIndex (directives_of directives.now) (λ i d. UseBreaks (place_at (schema_tree schema.now)) (judged (schema_tree schema.now)) (variables_of variables.now) location d f))) }
+{
+    for directive in directives {
+        check_use(schema, directive, location, variables, faults)?;
+    }
+    Ok(())
+}
+
+/// Adds the faults of the directives that are used at one place of a document or a schema, with an operation's variables or
+/// none: UniqueDirective, UndefinedDirective, UnsupportedLocation, and the rules on arguments.
+pub fn check_uses(
+    schema: &Schema,
+    directives: &[Node<Directive>],
+    location: DirectiveLocation,
+    variables: &DefinedVariables<'_>,
+    faults: &mut Vec<Fault>,
+) -> Result<(), AllocError>
+    ensures { OnOk result (Adds faults.old faults.new (UsesBreak (place_at (schema_tree schema.now)) (judged (schema_tree schema.now)) (variables_of variables.now) location (directives_of directives.now))) }
+{
+    tell_repeated_directives(schema, directives, faults)?;
+    check_each_use(schema, directives, location, variables, faults)
+}
+
+/// Adds the faults of the use of a directive where none is defined, without variables.
+fn check_directive_alone(
+    directive: &Node<Directive>,
+    faults: &mut Vec<Fault>,
+) -> Result<(), AllocError>
+    ensures { OnOk result (Adds faults.old faults.new (DirectiveAloneBreaks (node_tree directive_tree directive.now))) }
+{
+    check_arguments_alone(&directive.content().arguments, faults)?;
+    let fault = undefined_directive(directive)?;
+    tell(faults, Some(fault))
+}
+
+/// Adds the faults of the rules on the use of directives that hold where nothing is known, neither a schema nor variables:
+/// UndefinedDirective of each, and of its arguments those of `check_arguments_alone`.
+pub fn check_directives_alone(
+    directives: &[Node<Directive>],
+    faults: &mut Vec<Fault>,
+) -> Result<(), AllocError>
+    ensures { OnOk result (Adds faults.old faults.new (DirectivesAloneBreak (directives_of directives.now))) }
+{
+    for directive in directives {
+        check_directive_alone(directive, faults)?;
+    }
+    Ok(())
+}
+
+/// Adds the faults of the use of a directive where there is no schema: none is defined.
+fn check_undefined_use(
+    directive: &Node<Directive>,
+    variables: &DefinedVariables<'_>,
+    faults: &mut Vec<Fault>,
+) -> Result<(), AllocError>
+    ensures { OnOk result ((location : DirectiveLocation) → Adds faults.old faults.new (UseBreaks (place_at no_schema) (judged no_schema) (variables_of variables.now) location (node_tree directive_tree directive.now))) }
+{
+    check_directive_alone(directive, faults)?;
+    check_variables_given(&directive.content().arguments, variables, faults)
+}
+
+/// Adds the faults of each use where there is no schema.
+fn check_undefined_uses(
+    directives: &[Node<Directive>],
+    variables: &DefinedVariables<'_>,
+    faults: &mut Vec<Fault>,
+) -> Result<(), AllocError>
+    ensures { OnOk result ((location : DirectiveLocation) → Adds faults.old faults.new (UsesBreak (place_at no_schema) (judged no_schema) (variables_of variables.now) location (directives_of directives.now))) }
+{
+    for directive in directives {
+        check_undefined_use(directive, variables, faults)?;
+    }
+    Ok(())
+}
+
+/// The same as `check_uses`, where there may be no schema: then each directive that is used is undefined.
+pub fn check_directives(
+    schema: Option<&Schema>,
+    directives: &[Node<Directive>],
+    location: DirectiveLocation,
+    variables: &DefinedVariables<'_>,
+    faults: &mut Vec<Fault>,
+) -> Result<(), AllocError>
+    ensures { OnOk result (Adds faults.old faults.new (UsesBreak (place_at (tree_of schema.entry)) (judged (tree_of schema.entry)) (variables_of variables.now) location (directives_of directives.now))) }
+{
+    match schema {
+        None => check_undefined_uses(directives, variables, faults),
+        Some(schema) => check_uses(schema, directives, location, variables, faults),
+    }
+}

@@ -1,0 +1,144 @@
+//! Arguments that are given, defined or not.
+ghost use Rattle.std.specs.Prelude.{◌≡◌, ◌++◌, ◌⊎◌, map, find, IfOk, OnOk, option_to_list};
+ghost use Rattle.std.specs.Option.{option_map};
+ghost use Rattle.graphql_names.specs.Placed.{Place, node_tree};
+ghost use Rattle.tree_directives.specs.DirectiveTree.{argument_tree};
+ghost use Rattle.tree_directives.specs.DirectiveQueries.{argument_has_name};
+ghost use Rattle.schema_components.specs.Lists.{each_place};
+ghost use Rattle.rule_values.specs.in_schema.in_schema_types.Addresses.{Address};
+ghost use Rattle.rule_values.specs.in_fault_data.FaultView.{fault_of, faults_of};
+ghost use Rattle.rule_values.specs.in_rule_definitions.Uses.{argument_name, GivenBreaks};
+ghost use Rattle.rule_values.specs.in_fault_data.Adds.{Adds};
+ghost use Rattle.rule_values.specs.Firsts.{AreNumbers};
+ghost use Rattle.rule_values.specs.Wanting.{variables_of};
+ghost use Rattle.rule_uses.specs.Trees.{arguments_of};
+ghost use Rattle.rule_uses.specs.UseFaults.{argument_again, repeated_argument};
+ghost use Rattle.rule_uses.specs.Alone.{KeysBreak, ArgumentsBreak};
+ghost use Rattle.rule_uses.specs.Steps.{VariablesGivenBreak};
+ghost use Rattle.rule_values.specs.in_rule_definitions.Judged.{Judged};
+
+use graphql_names::{Name, Node, SourceSpan};
+use indexmap::IndexMap;
+use rule_values::{
+    DefinedVariables, DiagnosticData, Fault, note_first, tell, undefined_variables,
+    unique_input_values,
+};
+use std::alloc::{AllocError, Global};
+use tree_directives::Argument;
+
+/// Of each name the index of the first of these arguments that has it.
+pub(crate) fn argument_numbers(
+    alloc: Global,
+    given: &[Node<Argument>],
+) -> Result<IndexMap<Name, usize>, AllocError>
+    ensures { IfOk result (λ numbers. AreNumbers argument_name numbers (arguments_of given.now)) }
+{
+    let mut numbers = IndexMap::new(alloc);
+    for index in 0..given.len() {
+        note_first(&mut numbers, &given[index].content().name, index)?;
+    }
+    Ok(numbers)
+}
+
+/// The first of these arguments that has that name; `numbers` has where it stands.
+pub(crate) fn find_argument<'a>(
+    given: &'a [Node<Argument>],
+    numbers: &IndexMap<Name, usize>,
+    name: &Name,
+) -> Option<&'a Node<Argument>>
+    requires { AreNumbers argument_name numbers.now (arguments_of given.now) }
+    ensures { option_map (λ a. node_tree argument_tree a.now) result ≡ find (argument_has_name name.now.text) (arguments_of given.now) }
+{
+    match numbers.get(name) {
+        None => None,
+        Some(index) => given.get(*index),
+    }
+}
+
+/// UniqueArgument: no argument is given twice (section 5.4.2). `first` is the place of the first of its name, if one is before
+/// it.
+fn unique_argument(
+    first: Option<Option<SourceSpan>>,
+    later: &Node<Argument>,
+) -> Result<Option<Fault>, AllocError>
+    ensures { IfOk result (λ r. map fault_of (option_to_list r) ≡ argument_again first (node_tree argument_tree later.now)) }
+{
+    let Some(original_definition) = first else {
+        return Ok(None);
+    };
+    let location = later.location();
+    let data = DiagnosticData::UniqueArgument {
+        name: later.content().name.clone()?,
+        original_definition,
+        redefined_definition: location,
+    };
+    Ok(Some(Fault { location, data }))
+}
+
+/// Adds a fault for each argument that is given before.
+fn tell_repeated_arguments(
+    given: &[Node<Argument>],
+    faults: &mut Vec<Fault>,
+) -> Result<(), AllocError>
+    ensures { OnOk result (faults_of faults.new ≡ faults_of faults.old ++ each_place repeated_argument (arguments_of given.now)) }
+{
+    if given.len() < 2 {
+        return Ok(());
+    }
+    let mut places = IndexMap::new(*faults.allocator());
+    for argument in given {
+        let name = &argument.content().name;
+        let first = note_first(&mut places, name, argument.location())?;
+        tell(faults, unique_argument(first, argument)?)?;
+    }
+    Ok(())
+}
+
+/// Adds the faults of the keys in the value of each argument.
+fn check_keys_given(given: &[Node<Argument>], faults: &mut Vec<Fault>) -> Result<(), AllocError>
+    ensures { OnOk result (Adds faults.old faults.new (KeysBreak (arguments_of given.now))) }
+{
+    for argument in given {
+        unique_input_values(&argument.content().value, faults)?;
+    }
+    Ok(())
+}
+
+/// Adds the faults of the rules on arguments that hold of them anywhere, without definitions and without variables:
+/// UniqueArgument, and of the value of each UniqueInputValue.
+pub fn check_arguments_alone(
+    given: &[Node<Argument>],
+    faults: &mut Vec<Fault>,
+) -> Result<(), AllocError>
+    ensures { OnOk result (Adds faults.old faults.new (ArgumentsBreak (arguments_of given.now))) }
+{
+    tell_repeated_arguments(given, faults)?;
+    check_keys_given(given, faults)
+}
+
+/// Adds the faults of the variables in the value of each argument.
+pub(crate) fn check_variables_given(
+    given: &[Node<Argument>],
+    variables: &DefinedVariables<'_>,
+    faults: &mut Vec<Fault>,
+) -> Result<(), AllocError>
+    ensures { OnOk result (Adds faults.old faults.new (VariablesGivenBreak (variables_of variables.now) (arguments_of given.now))) }
+{
+    for argument in given {
+        undefined_variables(&argument.content().value, variables, faults)?;
+    }
+    Ok(())
+}
+
+/// Adds the faults of arguments that are given, defined or not: those of `check_arguments_alone`, and of the value of each
+/// UndefinedVariable.
+pub fn check_given(
+    given: &[Node<Argument>],
+    variables: &DefinedVariables<'_>,
+    faults: &mut Vec<Fault>,
+) -> Result<(), AllocError>
+    ensures { OnOk result ((at : Address → Place) (s : Judged) → Adds faults.old faults.new (GivenBreaks at s (variables_of variables.now) (arguments_of given.now))) }
+{
+    check_arguments_alone(given, faults)?;
+    check_variables_given(given, variables, faults)
+}

@@ -1,0 +1,24 @@
+//! Rules on the use of directives and arguments (sections 5.4, 5.7 and 5.8.5).
+//!
+//! For the layers above: each check adds exactly the faults by which the rules of its name break, which are predicates of
+//! `rule_definitions` (`specs/Uses.antt`) on the trees of what is used. What they tell of a schema's directives where
+//! they stand is what they tell of them by their addresses (`specs/Laws.antt`). What holds without a schema and without
+//! variables is in `specs/Alone.antt`.
+//!
+//! Begin with `directives.rt` and `taken.rt`.
+#![tactic(auto)]
+
+mod directives;
+mod given;
+pub mod laws;
+mod schema_uses;
+mod taken;
+mod taker;
+mod usage;
+
+pub use directives::{check_directives, check_directives_alone, check_uses};
+pub use given::{check_arguments_alone, check_given};
+pub use schema_uses::check_schema_directives;
+pub use taken::check_taken;
+pub use taker::{Taker, TakerName};
+pub use usage::disallowed_variable_usage;

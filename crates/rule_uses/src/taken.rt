@@ -1,0 +1,263 @@
+//! Arguments that are given against those that are defined.
+ghost use Rattle.std.specs.Prelude.{◌≡◌, ◌++◌, ◌⊎◌, ◌↔◌, map, find, is_none, IfOk, IsTrue, OnOk, option_to_list, slice_get, take, ◌<◌, length, Some};
+ghost use Rattle.std.specs.List.{flat_map};
+ghost use Rattle.std.specs.Option.{option_map};
+ghost use Rattle.indexmap.specs.IndexMap.{get};
+ghost use Rattle.graphql_names.specs.Node.{content, place};
+ghost use Rattle.graphql_names.specs.Placed.{Place, node_tree};
+ghost use Rattle.tree_literals.specs.ValueTree.{value_tree};
+ghost use Rattle.tree_directives.specs.DirectiveTree.{argument_tree, input_value_tree};
+ghost use Rattle.tree_directives.specs.DirectiveQueries.{input_value_has_name, given_value};
+ghost use Rattle.schema_components.specs.Names.{same_text};
+ghost use Rattle.rule_values.specs.in_schema.in_schema_types.TypeView.{name_text};
+ghost use Rattle.rule_values.specs.in_schema.in_schema_types.Addresses.{Address};
+ghost use Rattle.rule_values.specs.in_schema.SchemaOf.{schema_tree};
+ghost use Rattle.rule_values.specs.in_fault_data.FaultView.{fault_of, faults_of};
+ghost use Rattle.rule_values.specs.in_fault_data.DiagnosticView.{plain_type};
+ghost use Rattle.rule_values.specs.in_rule_definitions.Diagnostics.{UndefinedArgument, RequiredArgument};
+ghost use Rattle.rule_values.specs.in_rule_definitions.Faults.{wrong};
+ghost use Rattle.rule_values.specs.in_rule_definitions.Words.{AtSomeIndex};
+ghost use Rattle.rule_values.specs.in_rule_definitions.Judged.{judged};
+ghost use Rattle.rule_values.specs.in_rule_definitions.Values.{is_absent_or_null};
+ghost use Rattle.rule_values.specs.in_rule_definitions.Uses.{argument_name, input_name, TakerBreaks};
+ghost use Rattle.rule_values.specs.in_fault_data.Adds.{Adds};
+ghost use Rattle.rule_values.specs.Firsts.{AreNumbers};
+ghost use Rattle.rule_values.specs.Wanting.{variables_of};
+ghost use Rattle.rule_uses.specs.Trees.{arguments_of, inputs_of, taker_of, coordinate_of, argument_coordinate_of, TellsPlaces};
+ghost use Rattle.rule_uses.specs.UseFaults.{undefined_argument, required_argument};
+ghost use Rattle.rule_uses.specs.Steps.{GivenArgumentBreaks, DefinedArgumentBreaks, FirstGivenBreaks};
+
+use crate::given::{argument_numbers, find_argument};
+use crate::taker::Taker;
+use crate::usage::disallowed_variable_usage;
+use graphql_names::{Name, Node};
+use indexmap::IndexMap;
+use rule_values::{DefinedVariables, DiagnosticData, Fault, Schema, note_first, tell, type_breaks};
+use std::alloc::{AllocError, Global};
+use tree_directives::{Argument, InputValueDefinition};
+
+/// Of each name the index of the first of these definitions that has it.
+fn definition_numbers(
+    alloc: Global,
+    definitions: &[Node<InputValueDefinition>],
+) -> Result<IndexMap<Name, usize>, AllocError>
+    ensures { IfOk result (λ numbers. AreNumbers input_name numbers (inputs_of definitions.now)) }
+{
+    let mut numbers = IndexMap::new(alloc);
+    for index in 0..definitions.len() {
+        note_first(&mut numbers, &definitions[index].content().name, index)?;
+    }
+    Ok(numbers)
+}
+
+/// The first of these definitions that has that name; `numbers` has where it stands.
+fn find_definition<'a>(
+    definitions: &'a [Node<InputValueDefinition>],
+    numbers: &IndexMap<Name, usize>,
+    name: &Name,
+) -> Option<&'a Node<InputValueDefinition>>
+    requires { AreNumbers input_name numbers.now (inputs_of definitions.now) }
+    ensures { option_map (λ v. node_tree input_value_tree v.now) result ≡ find (input_value_has_name name.now.text) (inputs_of definitions.now) }
+{
+    match numbers.get(name) {
+        None => None,
+        Some(index) => definitions.get(*index),
+    }
+}
+
+/// UndefinedArgument: each argument that is given is defined (section 5.4.1).
+fn undefined_argument(
+    taker: &Taker<'_>,
+    defined: &IndexMap<Name, usize>,
+    argument: &Node<Argument>,
+) -> Result<Option<Fault>, AllocError>
+    requires { AreNumbers input_name defined.now (inputs_of taker.now.definitions.now) }
+    ensures { IfOk result (λ r. map fault_of (option_to_list r) ≡ undefined_argument (taker_of taker.now) (inputs_of taker.now.definitions.now) (node_tree argument_tree argument.now)) }
+{
+    let name = &argument.content().name;
+    match find_definition(taker.definitions, defined, name) {
+        Some(_) => Ok(None),
+        None => Ok(Some(told_undefined(taker, argument)?)),
+    }
+}
+
+/// What is told of an argument that is not defined.
+fn told_undefined(taker: &Taker<'_>, argument: &Node<Argument>) -> Result<Fault, AllocError>
+    ensures { IfOk result (λ r. fault_of r ≡ wrong (place argument.now) (UndefinedArgument (content argument.now).name.text (coordinate_of taker.now.name) taker.now.definition_location)) }
+{
+    let name = argument.content().name.clone()?;
+    let data = DiagnosticData::UndefinedArgument {
+        name,
+        coordinate: taker.name.coordinate()?,
+        definition_location: taker.definition_location,
+    };
+    let location = argument.location();
+    Ok(Fault { location, data })
+}
+
+/// Adds a fault for each argument that is given and not defined.
+fn tell_undefined_arguments(
+    taker: &Taker<'_>,
+    defined: &IndexMap<Name, usize>,
+    faults: &mut Vec<Fault>,
+) -> Result<(), AllocError>
+    requires { AreNumbers input_name defined.now (inputs_of taker.now.definitions.now) }
+    ensures { OnOk result (faults_of faults.new ≡ faults_of faults.old ++ flat_map (undefined_argument (taker_of taker.now) (inputs_of taker.now.definitions.now)) (arguments_of taker.now.given.now)) }
+{
+    for argument in taker.given {
+        tell(faults, undefined_argument(taker, defined, argument)?)?;
+    }
+    Ok(())
+}
+
+/// Whether no argument of that name is given, or it is null.
+fn is_not_given(given: &[Node<Argument>], numbers: &IndexMap<Name, usize>, name: &Name) -> bool
+    requires { AreNumbers argument_name numbers.now (arguments_of given.now) }
+    ensures { result ≡ is_absent_or_null (given_value name.now.text (arguments_of given.now)) }
+{
+    match find_argument(given, numbers, name) {
+        None => true,
+        Some(argument) => argument.content().value.content().is_null(),
+    }
+}
+
+/// RequiredArgument: each required argument is given, and not as null (section 5.4.2.1).
+fn required_argument(
+    taker: &Taker<'_>,
+    given: &IndexMap<Name, usize>,
+    definition: &Node<InputValueDefinition>,
+) -> Result<Option<Fault>, AllocError>
+    requires { AreNumbers argument_name given.now (arguments_of taker.now.given.now) }
+    ensures { IfOk result (λ r. map fault_of (option_to_list r) ≡ required_argument (taker_of taker.now) (node_tree input_value_tree definition.now)) }
+{
+    let name = &definition.content().name;
+    if !(definition.content().is_required() && is_not_given(taker.given, given, name)) {
+        return Ok(None);
+    }
+    Ok(Some(told_required(taker, definition)?))
+}
+
+/// What is told of a required argument that is not given.
+fn told_required(
+    taker: &Taker<'_>,
+    definition: &Node<InputValueDefinition>,
+) -> Result<Fault, AllocError>
+    ensures { IfOk result (λ r. fault_of r ≡ wrong taker.now.location (RequiredArgument (content definition.now).name.text (argument_coordinate_of taker.now.name (content definition.now).name.text) (plain_type (content (content definition.now).ty)) (place definition.now))) }
+{
+    let defined = definition.content();
+    let expected_type = defined.ty.clone()?;
+    let name = defined.name.clone()?;
+    let data = DiagnosticData::RequiredArgument {
+        name,
+        coordinate: taker.name.argument_coordinate(&defined.name)?,
+        expected_type,
+        definition_location: definition.location(),
+    };
+    let location = taker.location;
+    Ok(Fault { location, data })
+}
+
+/// Adds a fault for each required argument that is not given.
+fn tell_required_arguments(
+    taker: &Taker<'_>,
+    given: &IndexMap<Name, usize>,
+    faults: &mut Vec<Fault>,
+) -> Result<(), AllocError>
+    requires { AreNumbers argument_name given.now (arguments_of taker.now.given.now) }
+    ensures { OnOk result (faults_of faults.new ≡ faults_of faults.old ++ flat_map (required_argument (taker_of taker.now)) (inputs_of taker.now.definitions.now)) }
+{
+    for definition in taker.definitions {
+        tell(faults, required_argument(taker, given, definition)?)?;
+    }
+    Ok(())
+}
+
+/// Adds the faults of what is given for an argument by its definition: DisallowedVariableUsage, and the rules on values.
+fn check_argument(
+    schema: &Schema,
+    argument: &Node<Argument>,
+    definition: &Node<InputValueDefinition>,
+    variables: &DefinedVariables<'_>,
+    faults: &mut Vec<Fault>,
+) -> Result<(), AllocError>
+    ensures { OnOk result (Adds faults.old faults.new (GivenArgumentBreaks (schema_tree schema.now) (variables_of variables.now) (input_value_tree (content definition.now)) (node_tree argument_tree argument.now))) }
+{
+    let defined = definition.content();
+    let fault = disallowed_variable_usage(argument, defined, variables)?;
+    tell(faults, fault)?;
+    let value = &argument.content().value;
+    type_breaks(schema, &defined.ty, value, variables, faults)
+}
+
+/// Adds the same for an argument, if it is defined.
+fn check_if_defined(
+    schema: &Schema,
+    taker: &Taker<'_>,
+    defined: &IndexMap<Name, usize>,
+    argument: &Node<Argument>,
+    variables: &DefinedVariables<'_>,
+    faults: &mut Vec<Fault>,
+) -> Result<(), AllocError>
+    requires { AreNumbers input_name defined.now (inputs_of taker.now.definitions.now) }
+    ensures { OnOk result (Adds faults.old faults.new (DefinedArgumentBreaks (schema_tree schema.now) (variables_of variables.now) (inputs_of taker.now.definitions.now) (node_tree argument_tree argument.now))) }
+{
+    let name = &argument.content().name;
+    match find_definition(taker.definitions, defined, name) {
+        None => Ok(()),
+        Some(definition) => check_argument(schema, argument, definition, variables, faults),
+    }
+}
+
+/// Whether the name has that number.
+fn has_number(numbers: &IndexMap<Name, usize>, name: &Name, number: usize) -> bool
+    ensures { IsTrue result ↔ (get (same_text name_text) numbers.now name.now ≡ Some number) }
+{
+    match numbers.get(name) {
+        None => false,
+        Some(own) => *own == number,
+    }
+}
+
+/// Adds the same for the first argument of each name.
+fn check_arguments(
+    schema: &Schema,
+    taker: &Taker<'_>,
+    defined: &IndexMap<Name, usize>,
+    given: &IndexMap<Name, usize>,
+    variables: &DefinedVariables<'_>,
+    faults: &mut Vec<Fault>,
+) -> Result<(), AllocError>
+    requires defined { AreNumbers input_name defined.now (inputs_of taker.now.definitions.now) }
+    requires given { AreNumbers argument_name given.now (arguments_of taker.now.given.now) }
+    ensures { OnOk result (Adds faults.old faults.new (λ f. AtSomeIndex (arguments_of taker.now.given.now) (λ j a. FirstGivenBreaks (schema_tree schema.now) (variables_of variables.now) (inputs_of taker.now.definitions.now) (take j (arguments_of taker.now.given.now)) a f))) }
+{
+    for index in 0..taker.given.len() {
+        let argument = &taker.given[index];
+        if has_number(given, &argument.content().name, index) {
+            check_if_defined(schema, taker, defined, argument, variables, faults)?;
+        }
+    }
+    Ok(())
+}
+
+/// Adds the faults of what is given by what is defined: UndefinedArgument, RequiredArgument, DisallowedVariableUsage, and the
+/// rules on values of what is given for an argument against its type. What is defined has its place in the schema, or the one
+/// in its definition, as a meta-field's arguments do.
+pub fn check_taken(
+    schema: &Schema,
+    taker: &Taker<'_>,
+    variables: &DefinedVariables<'_>,
+    faults: &mut Vec<Fault>,
+) -> Result<(), AllocError>
+    ensures { OnOk result ((at : Address → Place) → TellsPlaces at (schema_tree schema.now) taker.now → Adds faults.old faults.new (TakerBreaks at (judged (schema_tree schema.now)) (variables_of variables.now) (taker_of taker.now))) }
+{
+    let alloc = *faults.allocator();
+    let given = argument_numbers(alloc, taker.given)?;
+    if taker.given.is_empty() {
+        return tell_required_arguments(taker, &given, faults);
+    }
+    let defined = definition_numbers(alloc, taker.definitions)?;
+    tell_undefined_arguments(taker, &defined, faults)?;
+    tell_required_arguments(taker, &given, faults)?;
+    check_arguments(schema, taker, &defined, &given, variables, faults)
+}

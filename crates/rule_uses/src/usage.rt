@@ -1,0 +1,123 @@
+//! Variables that are given for arguments.
+ghost use Rattle.std.specs.Prelude.{◌≡◌, ◌↔◌, map, IfOk, IsTrue, option_to_list};
+ghost use Rattle.graphql_names.specs.Node.{content, place};
+ghost use Rattle.graphql_names.specs.Placed.{node_tree};
+ghost use Rattle.tree_literals.specs.TypeTree.{type_tree};
+ghost use Rattle.tree_literals.specs.TypeQueries.{nullable_type, AreTypesCompatible};
+ghost use Rattle.tree_directives.specs.DirectiveTree.{argument_tree, input_value_tree, unplaced_input_value};
+ghost use Rattle.tree_operations.specs.OperationTree.{variable_definition_tree};
+ghost use Rattle.rule_values.specs.in_fault_data.FaultView.{fault_of};
+ghost use Rattle.rule_values.specs.in_fault_data.DiagnosticView.{plain_type};
+ghost use Rattle.rule_values.specs.in_rule_definitions.Diagnostics.{DisallowedVariableUsage};
+ghost use Rattle.rule_values.specs.in_rule_definitions.Faults.{wrong};
+ghost use Rattle.rule_values.specs.in_rule_definitions.Uses.{IsVariableUsageAllowed};
+ghost use Rattle.rule_values.specs.Wanting.{variables_of};
+ghost use Rattle.rule_uses.specs.Steps.{Lists, FitsWithDefault, DisallowedUsage};
+
+use graphql_names::{Name, Node};
+use rule_values::{DefinedVariables, DiagnosticData, Fault};
+use std::alloc::AllocError;
+use tree_directives::{Argument, InputValueDefinition};
+use tree_literals::Type;
+use tree_operations::VariableDefinition;
+
+/// Whether a value of the type may stand where `target` without its mark `!` is asked for.
+#[tactic(auto, using(tree_literals::proofs::Trees::type_tree_rules))]
+fn is_assignable_to_nullable(ty: &Type, target: &Type) -> bool
+    ensures { IsTrue result ↔ AreTypesCompatible (type_tree ty.now) (nullable_type (type_tree target.now)) }
+{
+    match target {
+        Type::Named(_) | Type::List(_) => ty.is_assignable_to(target),
+        Type::NonNullNamed(wanted) => match ty {
+            Type::Named(name) | Type::NonNullNamed(name) => *name == *wanted,
+            Type::List(_) | Type::NonNullList(_) => false,
+        },
+        Type::NonNullList(wanted) => match ty {
+            Type::List(item) | Type::NonNullList(item) => item.is_assignable_to(wanted),
+            Type::Named(_) | Type::NonNullNamed(_) => false,
+        },
+    }
+}
+
+/// Whether a default on either side makes a nullable variable fit a non-null place.
+fn fits_with_default(variable: &VariableDefinition, definition: &InputValueDefinition) -> bool
+    ensures { IsTrue result ↔ FitsWithDefault (variable_definition_tree variable.now) (input_value_tree definition.now) }
+{
+    let ty = variable.ty.content();
+    let wanted = definition.ty.content();
+    let has_default = variable.default_value.is_some() || definition.default_value.is_some();
+    if ty.is_non_null() || !wanted.is_non_null() || !has_default {
+        return false;
+    }
+    is_assignable_to_nullable(ty, wanted)
+}
+
+/// Whether a variable may stand where an argument is asked for: a nullable one fits a non-null place only with a default on
+/// either side (section 5.8.5, IsVariableUsageAllowed).
+fn is_variable_usage_allowed(
+    variable: &VariableDefinition,
+    definition: &InputValueDefinition,
+) -> bool
+    ensures { IsTrue result ↔ IsVariableUsageAllowed (variable_definition_tree variable.now) (unplaced_input_value (input_value_tree definition.now)) }
+{
+    let ty = variable.ty.content();
+    if ty.is_assignable_to(definition.ty.content()) {
+        return true;
+    }
+    fits_with_default(variable, definition)
+}
+
+/// Copies of two types.
+fn two_types(first: &Type, second: &Type) -> Result<(Type, Type), AllocError>
+    ensures first { IfOk result (λ r. plain_type r.0 ≡ plain_type first.now) }
+    ensures second { IfOk result (λ r. plain_type r.1 ≡ plain_type second.now) }
+{
+    let first = first.clone()?;
+    Ok((first, second.clone()?))
+}
+
+/// What is told of a variable that may not stand there.
+fn told_usage(
+    argument: &Node<Argument>,
+    name: &Name,
+    variable: &Node<VariableDefinition>,
+    definition: &InputValueDefinition,
+) -> Result<Fault, AllocError>
+    ensures { IfOk result (λ r. fault_of r ≡ wrong (place argument.now) (DisallowedVariableUsage name.now.text (plain_type (content (content variable.now).ty)) (place variable.now) (content argument.now).name.text (plain_type (content definition.now.ty)) (place argument.now))) }
+{
+    let (variable_type, argument_type) = two_types(
+        variable.content().ty.content(),
+        definition.ty.content(),
+    )?;
+    let name = name.clone()?;
+    let location = argument.location();
+    let data = DiagnosticData::DisallowedVariableUsage {
+        variable: name,
+        variable_type,
+        variable_location: variable.location(),
+        argument: argument.content().name.clone()?,
+        argument_type,
+        argument_location: location,
+    };
+    Ok(Fault { location, data })
+}
+
+/// DisallowedVariableUsage: a variable that is given may stand there (section 5.8.5).
+pub fn disallowed_variable_usage(
+    argument: &Node<Argument>,
+    definition: &InputValueDefinition,
+    variables: &DefinedVariables<'_>,
+) -> Result<Option<Fault>, AllocError>
+    ensures { IfOk result (λ r. Lists (map fault_of (option_to_list r)) (DisallowedUsage (variables_of variables.now) (input_value_tree definition.now) (node_tree argument_tree argument.now))) }
+{
+    let Some(name) = argument.content().value.content().as_variable() else {
+        return Ok(None);
+    };
+    let Some(variable) = variables.get(name) else {
+        return Ok(None);
+    };
+    if is_variable_usage_allowed(variable.content(), definition) {
+        return Ok(None);
+    }
+    Ok(Some(told_usage(argument, name, variable, definition)?))
+}

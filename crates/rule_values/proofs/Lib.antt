@@ -1,0 +1,14 @@
+pub mod Tells
+pub mod Noted
+pub mod NotedKeys
+pub mod Looking
+pub mod VariablesTold
+pub mod KeysTold
+pub mod FormsTold
+pub mod TypesTold
+pub mod Adding
+pub mod Looping
+pub mod Examples
+pub use Rattle.fault_data.proofs as in_fault_data
+pub use Rattle.graphql_schema.proofs as in_schema
+pub use Rattle.fault_data.proofs.in_rule_definitions as in_rule_definitions

@@ -1,0 +1,16 @@
+use Rattle.std.proofs.Common.{◌∙◌}
+use Rattle.graphql_names.specs.Placed.{node_tree}
+use Rattle.tree_operations.specs.OperationTree.{variable_definition_tree}
+use Rattle.fault_data.specs.in_rule_definitions.Values.{defined_name}
+use Rattle.rule_values.proofs.Noted.{taken, number_absent, number_there}
+use Rattle.rule_values.proofs.defined.find_numbered.Goals as goal
+
+pub returns-in-None : goal.returns-in-None
+returns-in-None c =
+    number_absent defined_name (node_tree variable_definition_tree) c.args.definitions.now c.args.name.now.text c.get.result c.in-None.is (c.get.ensures.value ∙ c.requires c.args.name.now)
+
+pub returns-in-Some : goal.returns-in-Some
+returns-in-Some c =
+    let xs = c.args.definitions.now in
+    number_there defined_name (node_tree variable_definition_tree) xs c.args.name.now.text c.get.result c.in-Some.index c.in-Some.is (c.get.ensures.value ∙ c.requires c.args.name.now)
+    c.get-in-Some.result (taken defined_name (node_tree variable_definition_tree) xs c.in-Some.index.now c.get-in-Some.result c.get-in-Some.ensures.lookup.0 c.get-in-Some.ensures.lookup.1)

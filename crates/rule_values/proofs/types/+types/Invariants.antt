@@ -1,0 +1,22 @@
+use Rattle.std.proofs.Common.{◌≡◌, ◌++◌, [], map, take, drop}
+use Rattle.tree_literals.specs.TypeTree.{type_tree}
+use Rattle.tree_literals.specs.ValueTree.{value_tree, item_trees, entry_trees}
+use Rattle.graphql_schema.specs.SchemaOf.{schema_tree}
+use Rattle.graphql_schema.specs.in_schema_types.TypeView.{extended_type}
+use Rattle.fault_data.specs.FaultView.{faults_of}
+use Rattle.rule_values.specs.Wanting.{variables_of, keys_of_entries}
+use Rattle.rule_values.specs.Firsts.{AreFirsts}
+use Rattle.rule_values.specs.ValueFaults.{item_faults, entry_faults}
+use Rattle.rule_values.proofs.types.+types.Given as goal
+
+abbrev pub invariant-tell_items-loop-item : goal.invariant-tell_items-loop-item
+invariant-tell_items-loop-item l =
+    faults_of l.fn.faults ++ item_faults (schema_tree l.schema) (variables_of l.variables) (type_tree l.ty) l.type_location (item_trees value_tree l.items)
+    ≡ faults_of l.faults ++ item_faults (schema_tree l.schema) (variables_of l.variables) (type_tree l.ty) l.type_location (item_trees value_tree (drop l.item-index l.items))
+
+abbrev pub invariant-tell_entries-loop-entry : goal.invariant-tell_entries-loop-entry
+invariant-tell_entries-loop-entry l = record {
+  told : faults_of l.fn.faults ++ entry_faults (schema_tree l.schema) (variables_of l.variables) (extended_type l.found) [] (entry_trees value_tree l.entries)
+      ≡ faults_of l.faults ++ entry_faults (schema_tree l.schema) (variables_of l.variables) (extended_type l.found) (map (λ e. e.0.text) (take l.entry-index l.entries)) (entry_trees value_tree (drop l.entry-index l.entries));
+  noted : AreFirsts (λ k. k.it) (λ i k. k.place) l.keys (keys_of_entries (take l.entry-index l.entries));
+}

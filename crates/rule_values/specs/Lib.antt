@@ -1,0 +1,8 @@
+pub mod Wanting
+pub mod ValueFaults
+pub mod VariableFaults
+pub mod KeyFaults
+pub mod Firsts
+pub use Rattle.fault_data.specs as in_fault_data
+pub use Rattle.fault_data.specs.in_rule_definitions as in_rule_definitions
+pub use Rattle.graphql_schema.specs as in_schema

@@ -1,0 +1,27 @@
+//! Rules on values: a value fits the type that it is given for, the variables in it are defined, and the keys of its objects
+//! differ (sections 3.5 to 3.10, 5.6 and 5.8.3).
+//!
+//! For the layers above: each check adds exactly the faults by which the rules of its name break, which are predicates of
+//! `rule_definitions` (`specs/Values.antt`) on the value's tree.
+//!
+//! Begin with `checks.rt`; the rules themselves are in `forms.rt` and `objects.rt`.
+#![tactic(auto)]
+
+mod checks;
+mod defined;
+mod find;
+mod firsts;
+mod forms;
+mod keys;
+mod objects;
+mod types;
+mod variables;
+
+pub use checks::{check_value, type_breaks, undefined_variables, unique_input_values};
+pub use defined::DefinedVariables;
+pub use fault_data::{
+    DiagnosticData, DirectiveArgumentCoordinate, DirectiveCoordinate, Fault,
+    FieldArgumentCoordinate, SchemaCoordinate, TypeAttributeCoordinate, tell,
+};
+pub use firsts::note_first;
+pub use graphql_schema::Schema;

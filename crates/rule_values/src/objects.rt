@@ -1,0 +1,200 @@
+//! Rules on the entries of an object.
+ghost use Rattle.std.specs.Prelude.{◌≡◌, ◌++◌, ◌∷◌, [], IfOk, OnOk};
+ghost use Rattle.graphql_names.specs.Node.{place};
+ghost use Rattle.tree_literals.specs.ValueTree.{value_tree, entry_trees};
+ghost use Rattle.tree_directives.specs.DirectiveTree.{input_value_tree};
+ghost use Rattle.schema_components.specs.Given.{component_tree};
+ghost use Rattle.schema_components.specs.Names.{entries_of};
+ghost use Rattle.graphql_schema.specs.in_schema_types.TypeView.{extended_type, name_text};
+ghost use Rattle.schema_coordinates.specs.Coordinate.{OfAttribute};
+ghost use Rattle.schema_coordinates.specs.CoordinateView.{attribute_coordinate};
+ghost use Rattle.fault_data.specs.in_rule_definitions.Diagnostics.{UndefinedInputValue};
+ghost use Rattle.fault_data.specs.in_rule_definitions.Faults.{wrong};
+ghost use Rattle.fault_data.specs.FaultView.{faults_of};
+ghost use Rattle.rule_values.specs.ValueFaults.{undefined_key, undefined_input_value, required_if, required_field, required_fields, each_first};
+ghost use Rattle.rule_values.specs.Firsts.{AreFirsts};
+ghost use Rattle.rule_values.specs.Wanting.{is_missing, nulls_of, required_among};
+
+use crate::find::find_input;
+use crate::firsts::note_first;
+use fault_data::{DiagnosticData, Fault, TypeAttributeCoordinate, tell};
+use graphql_names::{Name, Node, SourceSpan};
+use indexmap::IndexMap;
+use schema_components::Component;
+use schema_types::ExtendedType;
+use std::alloc::{AllocError, Global};
+use tree_directives::InputValueDefinition;
+use tree_literals::Value;
+
+/// UndefinedInputValue: an input object has a field for each key; the first key without one is told (section 5.6.2).
+pub(crate) fn undefined_input_value(
+    name: &Name,
+    found: &ExtendedType,
+    value: &Value,
+    faults: &mut Vec<Fault>,
+) -> Result<(), AllocError>
+    ensures { OnOk result (faults_of faults.new ≡ faults_of faults.old ++ undefined_input_value name.now.text (extended_type found.now) (value_tree value.now)) }
+{
+    if !found.is_input_object() {
+        return Ok(());
+    }
+    let Some(entries) = value.as_object() else {
+        return Ok(());
+    };
+    undefined_key(name, found, entries, faults)
+}
+
+/// The first key without a field.
+fn undefined_key(
+    name: &Name,
+    found: &ExtendedType,
+    entries: &[(Name, Node<Value>)],
+    faults: &mut Vec<Fault>,
+) -> Result<(), AllocError>
+    ensures { OnOk result (faults_of faults.new ≡ faults_of faults.old ++ undefined_key name.now.text (extended_type found.now) (entry_trees value_tree entries.now)) }
+{
+    for entry in entries {
+        if find_input(found, &entry.0).is_none() {
+            return told_key(name, found, entry, faults);
+        }
+    }
+    Ok(())
+}
+
+/// What is told of a key without a field.
+fn told_key(
+    name: &Name,
+    found: &ExtendedType,
+    entry: &(Name, Node<Value>),
+    faults: &mut Vec<Fault>,
+) -> Result<(), AllocError>
+    ensures { OnOk result (faults_of faults.new ≡ faults_of faults.old ++ wrong (place entry.now.1) (UndefinedInputValue entry.now.0.text name.now.text (extended_type found.now).place) ∷ []) }
+{
+    let key = entry.0.clone()?;
+    let data = DiagnosticData::UndefinedInputValue {
+        value: key,
+        definition: name.clone()?,
+        definition_location: found.location(),
+    };
+    tell(
+        faults,
+        Some(Fault {
+            location: entry.1.location(),
+            data,
+        }),
+    )
+}
+
+/// Of each key whether the value of its first entry is null.
+fn nulls_by_key(
+    alloc: Global,
+    entries: &[(Name, Node<Value>)],
+) -> Result<IndexMap<Name, bool>, AllocError>
+    ensures { IfOk result (λ nulls. AreFirsts (λ e. e.0) (λ i e. e.1) nulls (nulls_of entries.now)) }
+{
+    let mut nulls = IndexMap::new(alloc);
+    for entry in entries {
+        note_first(&mut nulls, &entry.0, entry.1.content().is_null())?;
+    }
+    Ok(nulls)
+}
+
+/// Whether there is no entry of that name, or it is null.
+fn is_missing_entry(nulls: &IndexMap<Name, bool>, name: &Name) -> bool
+    ensures { result ≡ is_missing nulls.now name.now }
+{
+    match nulls.get(name) {
+        None => true,
+        Some(is_null) => *is_null,
+    }
+}
+
+/// RequiredField: a required field of an input object is given, and not as null (section 5.6.4). `field` stands under the
+/// name `field_name` in the type of that name; `nulls` has whether what is given is null.
+fn required_field(
+    name: &Name,
+    location: Option<SourceSpan>,
+    nulls: &IndexMap<Name, bool>,
+    field_name: &Name,
+    field: &Component<InputValueDefinition>,
+    faults: &mut Vec<Fault>,
+) -> Result<(), AllocError>
+    ensures { OnOk result (faults_of faults.new ≡ faults_of faults.old ++ required_if (is_missing nulls.now field_name.now) name.now.text location field_name.now.text (component_tree input_value_tree field.now)) }
+{
+    let definition = field.node.content();
+    if !(definition.is_required() && is_missing_entry(nulls, field_name)) {
+        return Ok(());
+    }
+    let coordinate = attribute_coordinate(name, field_name)?;
+    let expected_type = definition.ty.clone()?;
+    let data = DiagnosticData::RequiredField {
+        name: field_name.clone()?,
+        coordinate,
+        expected_type,
+        definition_location: field.node.location(),
+    };
+    tell(faults, Some(Fault { location, data }))
+}
+
+/// The attribute of that name of the type of that name.
+fn attribute_coordinate(ty: &Name, attribute: &Name) -> Result<TypeAttributeCoordinate, AllocError>
+    ensures { IfOk result (λ c. attribute_coordinate c ≡ OfAttribute ty.now.text attribute.now.text) }
+{
+    let ty = ty.clone()?;
+    Ok(TypeAttributeCoordinate {
+        ty,
+        attribute: attribute.clone()?,
+    })
+}
+
+/// Adds the faults of the required fields that an object does not give.
+pub(crate) fn tell_required_fields(
+    name: &Name,
+    found: &ExtendedType,
+    value: &Value,
+    location: Option<SourceSpan>,
+    faults: &mut Vec<Fault>,
+) -> Result<(), AllocError>
+    ensures { OnOk result (faults_of faults.new ≡ faults_of faults.old ++ required_fields name.now.text (extended_type found.now) location (value_tree value.now)) }
+{
+    let Some(entries) = value.as_object() else {
+        return Ok(());
+    };
+    let ExtendedType::InputObject(object) = found else {
+        return Ok(());
+    };
+    tell_required(name, location, entries, &object.content().fields, faults)
+}
+
+/// Adds the faults of the required ones of these fields that the entries do not give.
+fn tell_required(
+    name: &Name,
+    location: Option<SourceSpan>,
+    entries: &[(Name, Node<Value>)],
+    fields: &IndexMap<Name, Component<InputValueDefinition>>,
+    faults: &mut Vec<Fault>,
+) -> Result<(), AllocError>
+    ensures { OnOk result (faults_of faults.new ≡ faults_of faults.old ++ each_first (required_field name.now.text location (entry_trees value_tree entries.now)) [] (entries_of name_text (component_tree input_value_tree) fields.now)) }
+{
+    if fields.len() == 0 {
+        return Ok(());
+    }
+    let nulls = nulls_by_key(*faults.allocator(), entries)?;
+    tell_each_required(name, location, &nulls, fields, faults)
+}
+
+/// Adds the faults of the required ones of these fields, where `nulls` has whether what is given is null.
+fn tell_each_required(
+    name: &Name,
+    location: Option<SourceSpan>,
+    nulls: &IndexMap<Name, bool>,
+    fields: &IndexMap<Name, Component<InputValueDefinition>>,
+    faults: &mut Vec<Fault>,
+) -> Result<(), AllocError>
+    ensures { OnOk result (faults_of faults.new ≡ faults_of faults.old ++ required_among (is_missing nulls.now) name.now.text location fields.now.entries) }
+{
+    for (field_name, field) in fields {
+        required_field(name, location, nulls, field_name, field, faults)?;
+    }
+    Ok(())
+}

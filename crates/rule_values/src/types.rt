@@ -1,0 +1,231 @@
+//! Whole values against types.
+ghost use Rattle.std.specs.Prelude.{◌≡◌, ◌++◌, [], OnOk};
+ghost use Rattle.graphql_names.specs.Node.{content, place};
+ghost use Rattle.tree_literals.specs.TypeTree.{type_tree};
+ghost use Rattle.tree_literals.specs.ValueTree.{value_tree, item_trees, entry_trees};
+ghost use Rattle.graphql_schema.specs.SchemaOf.{schema_tree};
+ghost use Rattle.graphql_schema.specs.in_schema_types.TypeView.{extended_type};
+ghost use Rattle.fault_data.specs.FaultView.{faults_of};
+ghost use Rattle.rule_values.specs.Wanting.{variables_of};
+ghost use Rattle.rule_values.specs.ValueFaults.{form_faults, inner_faults, item_faults, entry_faults, type_faults, field_faults};
+
+use crate::defined::DefinedVariables;
+use crate::find::find_input;
+use crate::firsts::note_first;
+use crate::forms::{
+    int_coercion_error, is_custom_scalar, undefined_enum_value, unsupported_value_type,
+};
+use crate::objects::{tell_required_fields, undefined_input_value};
+use fault_data::Fault;
+use graphql_names::{Name, Node, SourceSpan};
+use graphql_schema::Schema;
+use indexmap::IndexMap;
+use schema_types::ExtendedType;
+use std::alloc::AllocError;
+use tree_literals::{Type, Value};
+
+/// Adds the faults of a value against a type.
+pub(crate) fn tell_type_faults(
+    schema: &Schema,
+    ty: &Node<Type>,
+    value: &Node<Value>,
+    variables: &DefinedVariables<'_>,
+    faults: &mut Vec<Fault>,
+) -> Result<(), AllocError>
+    ensures { OnOk result (faults_of faults.new ≡ faults_of faults.old ++ type_faults (schema_tree schema.now) (variables_of variables.now) (type_tree (content ty.now)) (place ty.now) (place value.now) (value_tree (content value.now))) }
+{
+    let location = value.location();
+    tell_type(
+        schema,
+        value.content(),
+        location,
+        ty.content(),
+        ty.location(),
+        variables,
+        faults,
+    )
+}
+
+/// Adds the faults of one value against `ty`, inside all brackets of which stands `found`, what is inside a list or an object
+/// aside.
+fn tell_form(
+    ty: &Type,
+    type_location: Option<SourceSpan>,
+    found: &ExtendedType,
+    value: &Value,
+    location: Option<SourceSpan>,
+    variables: &DefinedVariables<'_>,
+    faults: &mut Vec<Fault>,
+) -> Result<(), AllocError>
+    ensures { OnOk result (faults_of faults.new ≡ faults_of faults.old ++ form_faults (variables_of variables.now) (type_tree ty.now) type_location (extended_type found.now) location (value_tree value.now)) }
+{
+    let alloc = *faults.allocator();
+    let name = ty.inner_named_type();
+    unsupported_value_type(
+        alloc,
+        ty,
+        type_location,
+        found,
+        value,
+        location,
+        variables,
+        faults,
+    )?;
+    int_coercion_error(alloc, name, found, value, location, faults)?;
+    undefined_enum_value(name, found, value, location, faults)?;
+    undefined_input_value(name, found, value, faults)?;
+    tell_required_fields(name, found, value, location, faults)
+}
+
+/// Adds the faults of a value against a type; `type_location` is the place of the reference to the type. A type that is not
+/// there takes every value.
+#[cycle(types)]
+fn tell_type(
+    schema: &Schema,
+    value: &Value,
+    location: Option<SourceSpan>,
+    ty: &Type,
+    type_location: Option<SourceSpan>,
+    variables: &DefinedVariables<'_>,
+    faults: &mut Vec<Fault>,
+) -> Result<(), AllocError>
+    ensures { OnOk result (faults_of faults.new ≡ faults_of faults.old ++ type_faults (schema_tree schema.now) (variables_of variables.now) (type_tree ty.now) type_location location (value_tree value.now)) }
+{
+    match schema.type_named(ty.inner_named_type()) {
+        None => Ok(()),
+        Some(found) => {
+            tell_form(ty, type_location, found, value, location, variables, faults)?;
+            tell_inside(schema, value, ty, type_location, found, variables, faults)
+        }
+    }
+}
+
+/// Adds the faults of what is inside a list or an object.
+#[cycle(types)]
+#[tactic(auto, using(tree_literals::proofs::Trees::value_tree_rules))]
+fn tell_inside(
+    schema: &Schema,
+    value: &Value,
+    ty: &Type,
+    type_location: Option<SourceSpan>,
+    found: &ExtendedType,
+    variables: &DefinedVariables<'_>,
+    faults: &mut Vec<Fault>,
+) -> Result<(), AllocError>
+    ensures { OnOk result (faults_of faults.new ≡ faults_of faults.old ++ inner_faults (schema_tree schema.now) (variables_of variables.now) (type_tree ty.now) type_location (extended_type found.now) (value_tree value.now)) }
+{
+    match value {
+        Value::List(items) => {
+            if !(ty.is_list() || is_custom_scalar(found)) {
+                return Ok(());
+            }
+            tell_items(
+                schema,
+                items,
+                ty.item_type(),
+                type_location,
+                variables,
+                faults,
+            )
+        }
+        Value::Object(entries) => {
+            if !found.is_input_object() {
+                return Ok(());
+            }
+            tell_entries(schema, entries, found, variables, faults)
+        }
+        Value::Null
+        | Value::Enum(_)
+        | Value::Variable(_)
+        | Value::String(_)
+        | Value::Float(_)
+        | Value::Int(_)
+        | Value::Boolean(_) => Ok(()),
+    }
+}
+
+/// Adds the faults of the items of a list against the type of items.
+#[cycle(types)]
+fn tell_items(
+    schema: &Schema,
+    items: &[Node<Value>],
+    ty: &Type,
+    type_location: Option<SourceSpan>,
+    variables: &DefinedVariables<'_>,
+    faults: &mut Vec<Fault>,
+) -> Result<(), AllocError>
+    ensures { OnOk result (faults_of faults.new ≡ faults_of faults.old ++ item_faults (schema_tree schema.now) (variables_of variables.now) (type_tree ty.now) type_location (item_trees value_tree items.now)) }
+{
+    for item in items {
+        let location = item.location();
+        tell_type(
+            schema,
+            item.content(),
+            location,
+            ty,
+            type_location,
+            variables,
+            faults,
+        )?;
+    }
+    Ok(())
+}
+
+/// Adds the faults of the entries of an object, each against the type of its field. The first entry of each key counts.
+#[cycle(types)]
+fn tell_entries(
+    schema: &Schema,
+    entries: &[(Name, Node<Value>)],
+    found: &ExtendedType,
+    variables: &DefinedVariables<'_>,
+    faults: &mut Vec<Fault>,
+) -> Result<(), AllocError>
+    ensures { OnOk result (faults_of faults.new ≡ faults_of faults.old ++ entry_faults (schema_tree schema.now) (variables_of variables.now) (extended_type found.now) [] (entry_trees value_tree entries.now)) }
+{
+    let mut keys = IndexMap::new(*faults.allocator());
+    for entry in entries {
+        let first = note_first(&mut keys, &entry.0, entry.0.location())?;
+        if first.is_none() {
+            tell_entry(
+                schema,
+                entry.1.content(),
+                entry.1.location(),
+                found,
+                &entry.0,
+                variables,
+                faults,
+            )?;
+        }
+    }
+    Ok(())
+}
+
+/// Adds the faults of what an object has under a key against the type of the field, if there is one.
+#[cycle(types)]
+fn tell_entry(
+    schema: &Schema,
+    value: &Value,
+    location: Option<SourceSpan>,
+    found: &ExtendedType,
+    key: &Name,
+    variables: &DefinedVariables<'_>,
+    faults: &mut Vec<Fault>,
+) -> Result<(), AllocError>
+    ensures { OnOk result (faults_of faults.new ≡ faults_of faults.old ++ field_faults (schema_tree schema.now) (variables_of variables.now) (extended_type found.now) key.now.text location (value_tree value.now)) }
+{
+    match find_input(found, key) {
+        None => Ok(()),
+        Some(field) => {
+            let ty = &field.node.content().ty;
+            tell_type(
+                schema,
+                value,
+                location,
+                ty.content(),
+                ty.location(),
+                variables,
+                faults,
+            )
+        }
+    }
+}

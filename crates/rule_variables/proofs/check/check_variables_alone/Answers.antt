@@ -1,0 +1,29 @@
+use Rattle.std.proofs.Common.{[], ap, subst, ◌∙◌}
+use Rattle.std.proofs.lemmas.Result.{on_ok_weaker}
+use Rattle.graphql_names.specs.Placed.{Place, node_tree}
+use Rattle.document_typed_operations.specs.TypedDocument.{typed_operation_tree}
+use Rattle.document_typed_operations.specs.declared.operation.Operation.{Operation}
+use Rattle.document_typing.specs.DocumentView.{meant_by_operation}
+use Rattle.rule_definitions.specs.Values.{Variables}
+use Rattle.rule_values.specs.in_fault_data.FaultView.{faults_of}
+use Rattle.rule_values.specs.in_fault_data.Adds.{Adds}
+use Rattle.rule_values.specs.Wanting.{variables_of}
+use Rattle.rule_definitions.proofs.Listing.{gains_same}
+use Rattle.rule_reach.specs.Reach.{reached_members, reached_fragments_of}
+use Rattle.rule_variables.specs.UsedNames.{noted_names, with_used}
+use Rattle.rule_variables.specs.VariableFaults.{AloneBreaks}
+use Rattle.rule_variables.proofs.Gathered.{alone_is}
+use Rattle.rule_variables.proofs.check.check_variables_alone.Goals as goal
+
+pub returns : goal.returns
+returns c =
+    let o = meant_by_operation (node_tree typed_operation_tree c.args.operation.now) in
+    let members = reached_members c.args.reach.now in
+    let fragments = reached_fragments_of c.args.reach.now in
+    let own = ap variables_of c.deref.ensures.value ∙ ap (λ (p : Operation). variables_of p.variables.items) c.content-own.ensures in
+    let names = c.in_ok-used.ensures ∙ ap (λ (p : Operation). with_used [] (typed_operation_tree p).directives members fragments) c.content-own.ensures in
+    on_ok_weaker c.check_alone.result
+    (λ h at d reach. gains_same (faults_of c.args.faults.now) (faults_of c.check_alone.new.faults) (alone_is d o members fragments reach at)
+    (subst (λ ns. Adds c.args.faults.now c.check_alone.new.faults (AloneBreaks o.variables ns)) names
+    (subst (λ (vs : Variables Place). Adds c.args.faults.now c.check_alone.new.faults (AloneBreaks vs (noted_names c.in_ok-used.used))) own h)))
+    c.check_alone.ensures

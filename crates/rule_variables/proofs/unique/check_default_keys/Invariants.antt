@@ -1,0 +1,9 @@
+use Rattle.std.proofs.Common.{take}
+use Rattle.rule_definitions.specs.Words.{AtSomeIndex}
+use Rattle.rule_values.specs.in_fault_data.Adds.{Adds}
+use Rattle.rule_values.specs.Wanting.{variables_of}
+use Rattle.rule_variables.specs.VariableFaults.{DefaultKeyBreaks}
+use Rattle.rule_variables.proofs.unique.check_default_keys.Given as goal
+
+abbrev pub invariant-loop-variable : goal.invariant-loop-variable
+invariant-loop-variable l = Adds l.fn.faults l.faults (λ f. AtSomeIndex (variables_of (take l.variable-index l.variables)) (λ i x. DefaultKeyBreaks x f))

@@ -1,0 +1,125 @@
+//! What a variable says under a schema: its type, its default and its directives.
+ghost use Rattle.std.specs.Prelude.{◌≡◌, map, IfOk, OnOk, option_to_list};
+ghost use Rattle.graphql_names.specs.Placed.{node_tree};
+ghost use Rattle.tree_operations.specs.OperationTree.{variable_definition_tree};
+ghost use Rattle.rule_definitions.specs.Words.{AtSomeIndex};
+ghost use Rattle.rule_values.specs.in_schema.SchemaOf.{schema_tree};
+ghost use Rattle.rule_values.specs.in_fault_data.FaultView.{fault_of};
+ghost use Rattle.rule_values.specs.in_fault_data.Adds.{Adds};
+ghost use Rattle.rule_values.specs.Wanting.{variables_of};
+ghost use Rattle.rule_variables.specs.VariableFaults.{undefined_definition, variable_input_type, told_input_type, DefaultBreaks, VariableBreaks};
+
+use graphql_names::Node;
+use rule_uses::check_uses;
+use rule_values::{DefinedVariables, DiagnosticData, Fault, Schema, check_value, tell};
+use schema_types::TypeKind;
+use std::alloc::AllocError;
+use tree_directives::DirectiveLocation;
+use tree_operations::VariableDefinition;
+
+/// UndefinedDefinition: the type of a variable is there (section 5.8.2).
+fn undefined_definition(
+    schema: &Schema,
+    variable: &Node<VariableDefinition>,
+) -> Result<Option<Fault>, AllocError>
+    ensures { IfOk result (λ r. map fault_of (option_to_list r) ≡ undefined_definition (schema_tree schema.now) (node_tree variable_definition_tree variable.now)) }
+{
+    let name = variable.content().ty.content().inner_named_type();
+    match schema.type_named(name) {
+        Some(_) => Ok(None),
+        None => {
+            let name = name.clone()?;
+            Ok(Some(Fault {
+                location: variable.location(),
+                data: DiagnosticData::UndefinedDefinition { name },
+            }))
+        }
+    }
+}
+
+/// VariableInputType: the type of a variable is an input type (section 5.8.2).
+fn variable_input_type(
+    schema: &Schema,
+    variable: &Node<VariableDefinition>,
+) -> Result<Option<Fault>, AllocError>
+    ensures { IfOk result (λ r. map fault_of (option_to_list r) ≡ variable_input_type (schema_tree schema.now) (node_tree variable_definition_tree variable.now)) }
+{
+    let ty = variable.content().ty.content();
+    let Some(found) = schema.type_named(ty.inner_named_type()) else {
+        return Ok(None);
+    };
+    let kind = found.kind();
+    if kind.is_input_type() {
+        return Ok(None);
+    }
+    Ok(Some(told_input_type(variable, kind)?))
+}
+
+/// What is told of a variable whose type is of that kind.
+fn told_input_type(variable: &Node<VariableDefinition>, kind: TypeKind) -> Result<Fault, AllocError>
+    ensures { IfOk result (λ r. fault_of r ≡ told_input_type (node_tree variable_definition_tree variable.now) kind) }
+{
+    let defined = variable.content();
+    let ty = defined.ty.clone()?;
+    let data = DiagnosticData::VariableInputType {
+        name: defined.name.clone()?,
+        ty,
+        describe_type: kind.describe(),
+    };
+    let location = variable.location();
+    Ok(Fault { location, data })
+}
+
+/// Adds the faults of a variable's default against its type (section 5.6); a default has no variables.
+fn check_default(
+    schema: &Schema,
+    variable: &Node<VariableDefinition>,
+    faults: &mut Vec<Fault>,
+) -> Result<(), AllocError>
+    ensures { OnOk result (Adds faults.old faults.new (DefaultBreaks (schema_tree schema.now) (node_tree variable_definition_tree variable.now))) }
+{
+    let defined = variable.content();
+    match &defined.default_value {
+        None => Ok(()),
+        Some(value) => {
+            let variables = DefinedVariables::listed(&[]);
+            check_value(schema, &defined.ty, value, &variables, faults)
+        }
+    }
+}
+
+/// Adds the faults of one variable: of its type, its default and its directives.
+fn check_variable(
+    schema: &Schema,
+    variable: &Node<VariableDefinition>,
+    faults: &mut Vec<Fault>,
+) -> Result<(), AllocError>
+    ensures { OnOk result (Adds faults.old faults.new (VariableBreaks (schema_tree schema.now) (node_tree variable_definition_tree variable.now))) }
+{
+    tell(faults, undefined_definition(schema, variable)?)?;
+    tell(faults, variable_input_type(schema, variable)?)?;
+    check_default(schema, variable, faults)?;
+    let directives = &variable.content().directives.0;
+    let variables = DefinedVariables::listed(&[]);
+    check_uses(
+        schema,
+        directives,
+        DirectiveLocation::VariableDefinition,
+        &variables,
+        faults,
+    )
+}
+
+/// Adds the same of each variable.
+pub(crate) fn check_each_variable(
+    schema: &Schema,
+    variables: &[Node<VariableDefinition>],
+    faults: &mut Vec<Fault>,
+) -> Result<(), AllocError>
+    ensures { OnOk result (Adds faults.old faults.new (λ f. AtSomeIndex (variables_of variables.now) (λ i x. VariableBreaks (schema_tree schema.now) x f))) }
+{
+    for variable in variables {
+        check_variable(schema, variable, faults)?;
+    }
+    Ok(())
+}

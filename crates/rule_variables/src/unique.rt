@@ -1,0 +1,78 @@
+//! What stands twice: variables, and keys in their defaults.
+ghost use Rattle.std.specs.Prelude.{◌≡◌, ◌++◌, map, IfOk, OnOk, option_to_list};
+ghost use Rattle.graphql_names.specs.Placed.{node_tree};
+ghost use Rattle.tree_operations.specs.OperationTree.{variable_definition_tree};
+ghost use Rattle.schema_components.specs.Lists.{each_place};
+ghost use Rattle.rule_definitions.specs.Words.{AtSomeIndex};
+ghost use Rattle.rule_values.specs.in_fault_data.FaultView.{fault_of, faults_of};
+ghost use Rattle.rule_values.specs.in_fault_data.Adds.{Adds};
+ghost use Rattle.rule_values.specs.Wanting.{variables_of};
+ghost use Rattle.rule_variables.specs.VariableFaults.{variable_again, repeated_variable, DefaultKeyBreaks};
+
+use graphql_names::{Node, SourceSpan};
+use indexmap::IndexMap;
+use rule_values::{DiagnosticData, Fault, note_first, tell, unique_input_values};
+use std::alloc::AllocError;
+use tree_operations::VariableDefinition;
+
+/// UniqueVariable: the variables of an operation differ in name (section 5.8.1). `first` is the place of the first of its
+/// name, if one is before it.
+fn unique_variable(
+    first: Option<Option<SourceSpan>>,
+    later: &Node<VariableDefinition>,
+) -> Result<Option<Fault>, AllocError>
+    ensures { IfOk result (λ r. map fault_of (option_to_list r) ≡ variable_again first (node_tree variable_definition_tree later.now)) }
+{
+    let Some(original_definition) = first else {
+        return Ok(None);
+    };
+    let location = later.location();
+    let data = DiagnosticData::UniqueVariable {
+        name: later.content().name.clone()?,
+        original_definition,
+        redefined_definition: location,
+    };
+    Ok(Some(Fault { location, data }))
+}
+
+/// Adds a fault for each variable that is defined before.
+pub(crate) fn tell_repeated_variables(
+    variables: &[Node<VariableDefinition>],
+    faults: &mut Vec<Fault>,
+) -> Result<(), AllocError>
+    ensures { OnOk result (faults_of faults.new ≡ faults_of faults.old ++ each_place repeated_variable (variables_of variables.now)) }
+{
+    let mut places = IndexMap::new(*faults.allocator());
+    for variable in variables {
+        let name = &variable.content().name;
+        let first = note_first(&mut places, name, variable.location())?;
+        tell(faults, unique_variable(first, variable)?)?;
+    }
+    Ok(())
+}
+
+/// UniqueInputValue: the keys of an object in a default differ (section 5.6.3). Adds a fault for each key that stands before.
+fn unique_default_keys(
+    variable: &Node<VariableDefinition>,
+    faults: &mut Vec<Fault>,
+) -> Result<(), AllocError>
+    ensures { OnOk result (Adds faults.old faults.new (DefaultKeyBreaks (node_tree variable_definition_tree variable.now))) }
+{
+    match &variable.content().default_value {
+        None => Ok(()),
+        Some(value) => unique_input_values(value, faults),
+    }
+}
+
+/// Adds the faults of the keys in each default.
+pub(crate) fn check_default_keys(
+    variables: &[Node<VariableDefinition>],
+    faults: &mut Vec<Fault>,
+) -> Result<(), AllocError>
+    ensures { OnOk result (Adds faults.old faults.new (λ f. AtSomeIndex (variables_of variables.now) (λ i x. DefaultKeyBreaks x f))) }
+{
+    for variable in variables {
+        unique_default_keys(variable, faults)?;
+    }
+    Ok(())
+}

@@ -1,0 +1,54 @@
+-- What a schema builder answers (GraphQL, October 2021, section 3).
+use Rattle.std.specs.Prelude.{◌≡◌, true, false, List, [], ◌++◌, map, if◌then◌else◌}
+use Rattle.graphql_names.specs.Placed.{Place, Text}
+use Rattle.schema_components.specs.Lists.{firsts}
+use Rattle.schema_fold.specs.in_schema_types.SchemaTree.{SchemaTree}
+use Rattle.schema_fold.specs.Listed.{Definitions}
+use Rattle.schema_fold.specs.Adoption.{Settings, settled, orphans, parts_name}
+use Rattle.schema_built_in.specs.Table.{built_in_definitions}
+use Rattle.schema_fold.specs.BuildErrors.{Fault, Fails}
+use Rattle.schema_fold.specs.Fold.{fold}
+use Rattle.schema_building.specs.BuilderValue.{BuilderValue}
+use Rattle.schema_building.specs.Numbers.{HaveNumbers}
+use Rattle.schema_building.specs.declared.refusal.BuilderRefusal.{BuilderRefusal}
+use Rattle.schema_building.specs.declared.refusal.BuilderRefusal.TheVariants.{Memory, Spent, Failed}
+
+-- neither adopts nor passes over
+abbrev pub plain_settings : Settings
+plain_settings = record { adopts = false; ignores = false }
+
+-- the definitions that count, behind what is built in
+abbrev pub counted : BuilderValue → Definitions
+counted b = settled built_in_definitions b.settings b.texts
+
+-- what they fold to
+abbrev pub folded : BuilderValue → SchemaTree Place
+folded b = fold built_in_definitions b.first (counted b)
+
+-- a folding rule is broken so
+abbrev pub FailsIn : BuilderValue → Fault → Type 0
+FailsIn b fault = Fails built_in_definitions b.first (counted b) fault
+
+-- ---- orphans
+
+-- the names that are extended and not defined, in the order of their first extensions
+abbrev pub orphan_names : Definitions → List (Text Place)
+orphan_names texts = map (λ e. e.name) (firsts (parts_name built_in_definitions) (orphans built_in_definitions texts))
+
+-- those that a builder lends: one that has failed lends nothing
+abbrev pub lent_names : BuilderValue → List (Text Place)
+lent_names b = if b.failed then [] else orphan_names b.texts
+
+-- ---- refusals
+
+-- definitions are not added: from then on the builder has failed
+abbrev pub IsAddRefusal : BuilderValue → Definitions → BuilderValue → BuilderRefusal → Type 0
+IsAddRefusal old more new Memory = (old.failed ≡ false) × (new.failed ≡ true)
+IsAddRefusal old more new Spent = (old.failed ≡ false) × (new.failed ≡ true) × (HaveNumbers old.first (old.texts ++ more) → ⊥)
+IsAddRefusal old more new Failed = (old.failed ≡ true) × (new ≡ old)
+
+-- nothing is built
+abbrev pub IsBuildRefusal : BuilderValue → BuilderRefusal → Type 0
+IsBuildRefusal b Memory = b.failed ≡ false
+IsBuildRefusal b Spent = ⊥
+IsBuildRefusal b Failed = b.failed ≡ true

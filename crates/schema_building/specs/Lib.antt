@@ -1,0 +1,17 @@
+pub mod BuilderValue
+pub mod SourcesView
+pub mod KeptView
+pub mod BuildingView
+pub mod Building
+pub mod DefinitionsOf
+pub mod Numbers
+pub mod TextsView
+pub mod TextsList
+pub mod Noted
+pub mod Waiting
+pub mod SettingsView
+pub mod Settling
+pub use Rattle.schema_built_in.specs as in_built_in
+pub use Rattle.schema_fold.specs as in_folding
+pub use Rattle.schema_fold_index.specs as in_type_index
+pub use Rattle.schema_fold.specs.in_schema_types as in_schema_types

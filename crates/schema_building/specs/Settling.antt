@@ -1,0 +1,45 @@
+-- The steps that lead to the list of definitions that counts (private: it leads to `specs/Building.antt`).
+use Rattle.std.specs.Prelude.{Bool, not, ◌&&◌, List, [], ◌∷◌, ◌++◌, map, None, is_some, if◌then◌else◌}
+use Rattle.std.specs.List.{filter, list_any}
+use Rattle.graphql_names.specs.Placed.{Place}
+use Rattle.schema_fold.specs.in_definitions.DefinitionTree.{DefinitionTree}
+use Rattle.schema_fold.specs.in_schema_types.TypeParts.{bare, definition_by}
+use Rattle.schema_fold.specs.Listed.{Definitions, Listed}
+use Rattle.schema_fold.specs.SchemaFold.{schema_extension_here, schema_is_defined}
+use Rattle.schema_fold.specs.Adoption.{Settings, is_redefinition, empty_type, empty_schema, orphans}
+use Rattle.schema_built_in.specs.Table.{built_in_definitions}
+use Rattle.schema_components.specs.Lists.{firsts}
+use Rattle.schema_fold_index.specs.Index.{NamedKind}
+use Rattle.schema_building.specs.Noted.{parts_key}
+use Rattle.schema_building.specs.DefinitionsOf.{definitions_of}
+
+-- a definition that is no extension
+abbrev pub unnumbered : DefinitionTree Place → Listed
+unnumbered d = record { definition = d; extension = None }
+
+-- the empty definition of a type of that name and kind
+abbrev pub empty_of : NamedKind → DefinitionTree Place
+empty_of k = definition_by k.1 None None (bare k.1 k.0 [])
+
+-- a definition that is not passed over
+abbrev pub is_kept : Bool → Listed → Bool
+is_kept ignores l = not (ignores && is_redefinition built_in_definitions l.definition)
+
+-- the empty definitions that orphans get
+abbrev pub adopted_types : Definitions → Definitions
+adopted_types texts = map (empty_type built_in_definitions) (firsts parts_key (orphans built_in_definitions texts))
+
+-- the empty schema definition, where a whole list extends the schema and does not define it
+abbrev pub adopted_schema : Definitions → Definitions
+adopted_schema all = if list_any (λ d. is_some (schema_extension_here d)) all && not (schema_is_defined all) then empty_schema built_in_definitions ∷ [] else []
+
+-- a list that adopts
+abbrev pub adopting : Bool → List NamedKind → List Listed → List Listed
+adopting adopts waiting list = if adopts then adopt_schema (list ++ map (λ k. unnumbered (empty_of k)) waiting) else list
+  where
+    adopt_schema : List Listed → List Listed
+    adopt_schema all = all ++ map unnumbered (adopted_schema (definitions_of all))
+
+-- what the settings make of these texts and types that wait for a definition, behind a list
+abbrev pub settled_from : Settings → List Listed → List NamedKind → List Listed → List Listed
+settled_from s texts waiting list = adopting s.adopts waiting (list ++ filter (is_kept s.ignores) texts)

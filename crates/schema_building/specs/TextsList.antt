@@ -1,0 +1,23 @@
+-- The definitions of texts with their numbers (private: it leads to `specs/Building.antt`).
+use Rattle.std.specs.Prelude.{◌≡◌, ℕ, ◌+◌, ◌++◌}
+use Rattle.schema_fold.specs.Listed.{Definitions, numbered}
+use Rattle.schema_building.specs.Numbers.{extension_count, HaveNumbers}
+use Rattle.schema_building.specs.declared.refusal.BuilderRefusal.{BuilderRefusal}
+use Rattle.schema_building.specs.declared.refusal.BuilderRefusal.TheVariants.{Memory, Spent, Failed}
+use Rattle.schema_building.specs.TextsView.{TextsView}
+
+-- the list is that of these definitions, and the next number is the one behind theirs
+pub record IsListOf (first : ℕ) (ds : Definitions) (t : TextsView) : Type 0 where
+  pub list : t.list ≡ numbered first ds
+  pub next : t.next ≡ first + extension_count ds
+  pub numbers : HaveNumbers first ds
+
+-- definitions stand behind those before them
+abbrev pub Adds : Definitions → TextsView → TextsView → Type 0
+Adds more old new = (first : ℕ) (ds : Definitions) → IsListOf first ds old → IsListOf first (ds ++ more) new
+
+-- they are not added: there are numbers for the extensions no more
+abbrev pub IsListRefusal : Definitions → TextsView → BuilderRefusal → Type 0
+IsListRefusal more old Memory = Unit {0}
+IsListRefusal more old Spent = (first : ℕ) (ds : Definitions) → IsListOf first ds old → HaveNumbers first (ds ++ more) → ⊥
+IsListRefusal more old Failed = ⊥

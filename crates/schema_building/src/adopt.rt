@@ -1,0 +1,53 @@
+//! Adoption: empty definitions for what is extended and not defined.
+ghost use Rattle.std.specs.Prelude.{◌≡◌, ◌++◌, ◌&&◌, [], ◌∷◌, not, map, is_some, if◌then◌else◌, OnOk};
+ghost use Rattle.std.specs.List.{list_any};
+ghost use Rattle.schema_fold.specs.ListedView.{listed_view};
+ghost use Rattle.schema_building.specs.DefinitionsOf.{definitions_of};
+ghost use Rattle.schema_building.specs.Settling.{unnumbered, empty_of, adopted_schema};
+ghost use Rattle.schema_building.specs.Waiting.{orphan_kinds};
+
+use crate::defined::{has_schema_extension, schema_is_defined};
+use crate::empty::{push_empty_type, push_unplaced};
+use crate::waiting::OrphanExtensionTypes;
+use schema_fold::Listed;
+use schema_fold_index::Index;
+use std::alloc::{AllocError, Global};
+use tree_directives::DirectiveList;
+use tree_input_types::SchemaDefinition;
+
+/// Puts an empty definition at the list's end for each type that is extended and not defined, of the kind of its first
+/// extension, in the order of these.
+pub(crate) fn adopt_types(
+    alloc: Global,
+    index: &Index,
+    list: &mut Vec<Listed>,
+) -> Result<(), AllocError>
+    ensures { OnOk result (map listed_view list.new.items ≡ map listed_view list.old.items ++ map (λ k. unnumbered (empty_of k)) (orphan_kinds index.now)) }
+{
+    let mut waiting = OrphanExtensionTypes::of(index);
+    while let Some((name, kind)) = waiting.next_orphan() {
+        push_empty_type(alloc, kind, name.clone()?, list)?;
+    }
+    Ok(())
+}
+
+/// Puts an empty schema definition at the list's end, where the schema is extended and not defined.
+pub(crate) fn adopt_schema(alloc: Global, list: &mut Vec<Listed>) -> Result<(), AllocError>
+    ensures { OnOk result (map listed_view list.new.items ≡ map listed_view list.old.items ++ map unnumbered (adopted_schema (definitions_of (map listed_view list.old.items)))) }
+{
+    if !has_schema_extension(list) {
+        return Ok(());
+    }
+    if schema_is_defined(list) {
+        return Ok(());
+    }
+    push_unplaced(
+        alloc,
+        SchemaDefinition {
+            description: None,
+            directives: DirectiveList::new(alloc),
+            root_operations: Vec::new(alloc),
+        },
+        list,
+    )
+}

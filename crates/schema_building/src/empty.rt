@@ -1,0 +1,106 @@
+//! Definitions with nothing in them.
+ghost use Rattle.std.specs.Prelude.{◌≡◌, ◌++◌, [], ◌∷◌, map, None, OnOk};
+ghost use Rattle.graphql_names.specs.Node.{content, place};
+ghost use Rattle.graphql_names.specs.declared.node.Node.{Node};
+ghost use Rattle.graphql_names.specs.Placed.{name_tree};
+ghost use Rattle.schema_fold.specs.ListedView.{listed_view};
+ghost use Rattle.schema_building.specs.Settling.{unnumbered, empty_of};
+
+use graphql_names::{Name, Node};
+use schema_fold::{Definition, Listed, TypeKind};
+use std::alloc::{AllocError, Global};
+use tree_composite_types::{InterfaceTypeDefinition, ObjectTypeDefinition, UnionTypeDefinition};
+use tree_directives::DirectiveList;
+use tree_input_types::{EnumTypeDefinition, InputObjectTypeDefinition, ScalarTypeDefinition};
+
+/// Puts the definition of a type of that kind and name, with nothing in it and no place, behind the others of a list.
+pub(crate) fn push_empty_type(
+    alloc: Global,
+    kind: TypeKind,
+    name: Name,
+    list: &mut Vec<Listed>,
+) -> Result<(), AllocError>
+    ensures { OnOk result (map listed_view list.new.items ≡ map listed_view list.old.items ++ unnumbered (empty_of (name_tree name, kind)) ∷ []) }
+{
+    match kind {
+        TypeKind::Scalar => push_unplaced(
+            alloc,
+            ScalarTypeDefinition {
+                description: None,
+                name,
+                directives: DirectiveList::new(alloc),
+            },
+            list,
+        ),
+        TypeKind::Object => push_unplaced(
+            alloc,
+            ObjectTypeDefinition {
+                description: None,
+                name,
+                implements_interfaces: Vec::new(alloc),
+                directives: DirectiveList::new(alloc),
+                fields: Vec::new(alloc),
+            },
+            list,
+        ),
+        TypeKind::Interface => push_unplaced(
+            alloc,
+            InterfaceTypeDefinition {
+                description: None,
+                name,
+                implements_interfaces: Vec::new(alloc),
+                directives: DirectiveList::new(alloc),
+                fields: Vec::new(alloc),
+            },
+            list,
+        ),
+        TypeKind::Union => push_unplaced(
+            alloc,
+            UnionTypeDefinition {
+                description: None,
+                name,
+                directives: DirectiveList::new(alloc),
+                members: Vec::new(alloc),
+            },
+            list,
+        ),
+        TypeKind::Enum => push_unplaced(
+            alloc,
+            EnumTypeDefinition {
+                description: None,
+                name,
+                directives: DirectiveList::new(alloc),
+                values: Vec::new(alloc),
+            },
+            list,
+        ),
+        TypeKind::InputObject => push_unplaced(
+            alloc,
+            InputObjectTypeDefinition {
+                description: None,
+                name,
+                directives: DirectiveList::new(alloc),
+                fields: Vec::new(alloc),
+            },
+            list,
+        ),
+    }
+}
+
+/// Puts a definition of this content and no place, which is no extension, behind the others of a list.
+pub(crate) fn push_unplaced<T: Drop>(
+    alloc: Global,
+    value: T,
+    list: &mut Vec<Listed>,
+) -> Result<(), AllocError>
+where
+    Definition: From<Node<T>>,
+    ensures { OnOk result ((n : Node T) × (d : Definition) × ((content n ≡ value) × (place n ≡ None) × ⟦<Definition as From<Node<T>>>⟧.from_gives n d × (list.new.items ≡ list.old.items ++ record { definition = d; extension = None } ∷ []))) }
+{
+    let node = Node::new(alloc, value)?;
+    list.push(Listed {
+        definition: Definition::from(node),
+        extension: None,
+    })?;
+    Ok(())
+}

@@ -1,0 +1,25 @@
+//! The state of a schema builder: the list of all definitions that were added, each extension with its number, and what
+//! the settings make of it.
+//!
+//! For the layer above: contracts see a builder as a record (`specs/BuilderValue.antt`); what it answers is stated in
+//! `specs/Building.antt` over the definitions of the fold (`schema_fold`). It hands out the list of definitions that
+//! counts, which `schema_fold_lists` folds.
+//!
+//! Begin with `state.rt` and `building.rt`.
+#![tactic(auto)]
+
+mod adopt;
+mod building;
+mod built_in_types;
+mod defined;
+mod empty;
+mod refusal;
+mod settle;
+mod sources;
+mod state;
+mod texts;
+mod waiting;
+
+pub use refusal::BuilderRefusal;
+pub use state::{Building, SettledList};
+pub use waiting::OrphanExtensionTypes;

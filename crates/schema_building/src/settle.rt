@@ -1,0 +1,97 @@
+//! The list of definitions that counts: what is built in, and what the settings make of the texts.
+ghost use Rattle.std.specs.Prelude.{◌≡◌, ◌≤◌, ◌++◌, [], ◌∷◌, false, length, map, take, OnOk, IfOk};
+ghost use Rattle.std.specs.List.{filter};
+ghost use Rattle.schema_fold.specs.in_definitions.DefinitionTree.{definition_tree};
+ghost use Rattle.schema_built_in.specs.Table.{built_in_definitions};
+ghost use Rattle.schema_fold.specs.ListedView.{listed_view};
+ghost use Rattle.schema_fold_index.specs.Index.{IsIndexOf};
+ghost use Rattle.schema_building.specs.DefinitionsOf.{definitions_of};
+ghost use Rattle.schema_building.specs.Settling.{unnumbered, is_kept, settled_from};
+ghost use Rattle.schema_building.specs.Waiting.{orphan_kinds};
+ghost use Rattle.schema_building.specs.TextsView.{texts_view};
+ghost use Rattle.schema_building.specs.SettingsView.{settings_view};
+
+use crate::adopt::{adopt_schema, adopt_types};
+use crate::built_in_types::is_redefinition;
+use crate::texts::{Texts, push_shared};
+use schema_built_in::built_in_definitions;
+use schema_fold::{Definition, Listed};
+use schema_fold_index::Index;
+use std::alloc::{AllocError, Global};
+
+/// Which settings of a builder are on.
+#[derive(Clone, Copy)]
+pub(crate) struct Settings {
+    pub(crate) adopts: bool,
+    pub(crate) ignores: bool,
+}
+
+/// Puts the definitions that count into an empty list, what is built in before the texts, and tells how many of the
+/// first are built in.
+pub(crate) fn settle(
+    alloc: Global,
+    settings: Settings,
+    texts: &Texts,
+    list: &mut Vec<Listed>,
+) -> Result<usize, AllocError>
+    requires { list.old.items ≡ [] }
+    ensures settles { OnOk result (map listed_view list.new.items ≡ settled_from (settings_view settings) (texts_view texts.now).list (orphan_kinds texts.now.index) (map unnumbered built_in_definitions)) }
+    ensures built_in { IfOk result (λ n. n ≡ length built_in_definitions) }
+    ensures within { IfOk result (λ n. n ≤ length list.new.items) }
+{
+    list_all(&built_in_definitions(alloc)?, list)?;
+    let built_in = list.len();
+    keep_texts(settings.ignores, &texts.list, list)?;
+    if settings.adopts {
+        adopt_types(alloc, &texts.index, list)?;
+        adopt_schema(alloc, list)?;
+    }
+    Ok(built_in)
+}
+
+/// The index of the texts of a settled list: that of those added, with what is adopted filed behind them. Where
+/// redefinitions were passed over, the list is filed anew.
+pub(crate) fn settled_index(
+    alloc: Global,
+    ignores: bool,
+    texts: Texts,
+    settled: &[Listed],
+) -> Result<Index, AllocError>
+    requires { ignores ≡ false → IsIndexOf (take (length texts.list.items) (definitions_of (map listed_view settled.now))) texts.index }
+    ensures { IfOk result (λ index. IsIndexOf (definitions_of (map listed_view settled.now)) index) }
+{
+    if ignores {
+        return Index::of(alloc, settled);
+    }
+    let Texts {
+        extensions: _,
+        list,
+        mut index,
+    } = texts;
+    index.file_rest(alloc, settled, list.len())?;
+    Ok(index)
+}
+
+/// Puts definitions that are no extensions behind the others of the list.
+fn list_all(definitions: &[Definition], list: &mut Vec<Listed>) -> Result<(), AllocError>
+    ensures { OnOk result (map listed_view list.new.items ≡ map listed_view list.old.items ++ map unnumbered (map definition_tree definitions.now)) }
+{
+    for definition in definitions {
+        push_shared(list, definition, None)?;
+    }
+    Ok(())
+}
+
+/// Puts the definitions of the texts behind the others of the list, shared. Redefinitions are passed over, where
+/// they are ignored.
+fn keep_texts(ignores: bool, texts: &[Listed], list: &mut Vec<Listed>) -> Result<(), AllocError>
+    ensures { OnOk result (map listed_view list.new.items ≡ map listed_view list.old.items ++ filter (is_kept ignores) (map listed_view texts.now)) }
+{
+    for listed in texts {
+        if ignores && is_redefinition(&listed.definition) {
+            continue;
+        }
+        push_shared(list, &listed.definition, listed.extension)?;
+    }
+    Ok(())
+}

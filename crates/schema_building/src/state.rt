@@ -1,0 +1,66 @@
+//! The state of a schema builder, and the list of definitions that it makes of its texts.
+ghost use Rattle.std.specs.Prelude.{◌≡◌};
+ghost use Rattle.schema_building.specs.KeptView.{IsKept};
+
+use crate::settle::Settings;
+use crate::texts::Texts;
+use graphql_names::FileId;
+use indexmap::IndexMap;
+use schema_fold::{Listed, SourceFile};
+use schema_fold_index::Index;
+use std::alloc::Global;
+
+/// The state of a schema builder: the definitions and extensions that were added to it, with their numbers and their
+/// positions, filed by name and kind. Nothing is folded before it is built.
+///
+/// Contracts see it by `builder_view` alone.
+pub struct Building {
+    pub(crate) alloc: Global,
+    pub(crate) settings: Settings,
+    pub(crate) texts: Texts,
+    pub(crate) sources: IndexMap<FileId, SourceFile>,
+    pub(crate) failed: bool,
+    ghost kept: { IsKept texts failed },
+}
+
+/// Lets go what it keeps, here and not wherever a builder goes.
+impl Drop for Building {
+    fn drop(self) {
+        let Building {
+            alloc: _,
+            settings: _,
+            texts: _,
+            sources: _,
+            failed: _,
+        } = self;
+    }
+}
+
+impl Building {
+    /// Gives up the texts and their sources.
+    pub(crate) fn into_parts(self) -> (Texts, IndexMap<FileId, SourceFile>)
+        ensures texts { result.0 ≡ self.texts }
+        ensures sources { result.1 ≡ self.sources }
+    {
+        let Building {
+            alloc: _,
+            settings: _,
+            texts,
+            sources,
+            failed: _,
+        } = self;
+        (texts, sources)
+    }
+}
+
+/// What a builder makes of its texts: the list of definitions that counts, what is built in before the texts, each
+/// extension with its number; and the sources that the texts came from.
+#[derive(Drop)]
+pub struct SettledList {
+    pub sources: IndexMap<FileId, SourceFile>,
+    pub list: Vec<Listed>,
+    /// How many definitions of the list are built in: they are its first.
+    pub built_in: usize,
+    /// The index of the others.
+    pub index: Index,
+}

@@ -1,0 +1,35 @@
+-- A text cut into pieces.
+use Rattle.std.proofs.Common.{◌≡◌, ℕ, zero, suc, List, [], ◌∷◌, ◌++◌, drop, Option, Some, None, refl, sym, subst}
+use Rattle.read_values.specs.in_lexer.Lex.{Piece, piece_at, ArePieces}
+
+abbrev pub cut_by : Option Piece → List ℕ → (List ℕ → List Piece) → List Piece
+cut_by None text more = []
+cut_by (Some p) text more = p ∷ more (drop p.length text)
+
+-- the pieces of a text, so many at most
+abbrev pub cut : ℕ → List ℕ → List Piece
+cut zero text = []
+cut (suc n) text = cut_by (piece_at text) text (λ behind. cut n behind)
+
+abbrev pub left_by : Option Piece → List ℕ → (List ℕ → List ℕ) → List ℕ
+left_by None text more = text
+left_by (Some p) text more = more (drop p.length text)
+
+-- what is behind them
+abbrev pub left : ℕ → List ℕ → List ℕ
+left zero text = text
+left (suc n) text = left_by (piece_at text) text (λ behind. left n behind)
+
+pub cut_are : (n : ℕ) (text : List ℕ) → ArePieces (cut n text) text (left n text)
+cut_are zero text = refl
+cut_are (suc n) text = by (piece_at text) refl (λ t. cut_are n t)
+  where
+    by : (o : Option Piece) → piece_at text ≡ o → ((t : List ℕ) → ArePieces (cut n t) t (left n t))
+        → ArePieces (cut_by o text (λ behind. cut n behind)) text (left_by o text (λ behind. left n behind))
+    by None e more = refl
+    by (Some p) e more = (e, more (drop p.length text))
+
+-- pieces of a text up to a place, and those behind it
+pub join : (ps qs : List Piece) (text middle behind : List ℕ) → ArePieces ps text middle → ArePieces qs middle behind → ArePieces (ps ++ qs) text behind
+join [] qs text middle behind a b = subst (λ (t : List ℕ). ArePieces qs t behind) (sym a) b
+join (p ∷ ps) qs text middle behind a b = (a.0, join ps qs (drop p.length text) middle behind a.1 b)

@@ -1,0 +1,9 @@
+use Rattle.std.proofs.Common.{◌≡◌, drop, map}
+use Rattle.std.specs.List.{list_any}
+use Rattle.graphql_values.specs.DirectiveTree.{directive_tree}
+use Rattle.schema_components.specs.Given.{component_tree}
+use Rattle.schema_components.specs.Applied.{applied_tree, given_has_name}
+use Rattle.schema_components.proofs.directive_list.DirectiveList.has.Given as goal
+
+abbrev pub invariant-loop-directive : goal.invariant-loop-directive
+invariant-loop-directive l = list_any (given_has_name l.name) (applied_tree l.self) ≡ list_any (given_has_name l.name) (map (component_tree directive_tree) (drop l.directive-index l.directive-items))

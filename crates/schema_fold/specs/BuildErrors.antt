@@ -1,0 +1,164 @@
+-- The folding rules, each by what breaks it: a fault with its place and its data (GraphQL, October 2021, section 3).
+use Rattle.std.specs.Prelude.{◌≡◌, ℕ, Bool, true, false, List, ◌++◌, None, Some, is_some, Contains}
+use Rattle.std.specs.Option.{option_map_or}
+use Rattle.graphql_names.specs.Placed.{Placed, Place}
+use Rattle.tree_directives.specs.declared.operation_type.OperationType.{OperationType}
+use Rattle.tree_directives.specs.DirectiveTree.{DirectiveDefinitionTree}
+use Rattle.schema_types.specs.in_definitions.DefinitionTree.{DefinitionTree}
+use Rattle.schema_types.specs.in_definitions.Queries.{is_executable, definition_place}
+use Rattle.schema_types.specs.in_components.Lists.{AtSomePlace, IsRepeated, firsts, has_name}
+use Rattle.schema_types.specs.in_components.Given.{Given, given_name}
+use Rattle.schema_types.specs.SchemaTree.{same_kind}
+use Rattle.schema_types.specs.TypeParts.{TypeParts, TypeDefinition, type_here, type_extension_here}
+use Rattle.schema_types.specs.declared.type_kind.TypeKind.{TypeKind}
+use Rattle.schema_types.specs.declared.type_kind.TypeKind.TheVariants as kind
+use Rattle.schema_fold.specs.Listed.{Definitions, numbered, type_name, types_in, type_named, directive_here, directive_name, directives_in}
+use Rattle.schema_fold.specs.Components.{components, field_key, value_key, input_key}
+use Rattle.schema_fold.specs.SchemaFold.{Root, schema_here, schema_extension_here, schema_definition_in, schema_is_defined, roots_given, root_key}
+
+-- what is wrong
+pub data Breach : Type 0 where
+  ExecutableDefinition : Breach
+  SchemaDefinitionCollision : Breach
+  DirectiveDefinitionCollision : (name : List ℕ) → Breach
+  TypeDefinitionCollision : (name : List ℕ) → Breach
+  BuiltInScalarTypeRedefinition : (name : List ℕ) → Breach
+  OrphanSchemaExtension : Breach
+  OrphanTypeExtension : (name : List ℕ) → Breach
+  TypeExtensionKindMismatch : (name : List ℕ) → Breach
+  DuplicateRootOperation : (operation : OperationType) → Breach
+  DuplicateImplementsInterfaceInObject : (type_name name : List ℕ) → Breach
+  DuplicateImplementsInterfaceInInterface : (type_name name : List ℕ) → Breach
+  ObjectFieldNameCollision : (type_name name : List ℕ) → Breach
+  InterfaceFieldNameCollision : (type_name name : List ℕ) → Breach
+  EnumValueNameCollision : (type_name name : List ℕ) → Breach
+  UnionMemberNameCollision : (type_name name : List ℕ) → Breach
+  InputFieldNameCollision : (type_name name : List ℕ) → Breach
+
+-- what is wrong, and where
+pub record Fault : Type 0 where
+  pub place : Place
+  pub breach : Breach
+
+-- ---- rules on what stands at a position of the texts' list, behind these
+
+abbrev pub RuleAt : Type 1
+RuleAt = Definitions → DefinitionTree Place → Fault → Type 0
+
+-- the fault stands at the definition
+abbrev pub At : DefinitionTree Place → Breach → Fault
+At d breach = record { place = definition_place d; breach = breach }
+
+-- an operation or a fragment
+abbrev pub ExecutableDefinitionAt : RuleAt
+ExecutableDefinitionAt before d fault = (is_executable d ≡ true) × (fault ≡ At d ExecutableDefinition)
+
+-- a schema definition behind another one
+abbrev pub SchemaDefinitionCollisionAt : RuleAt
+SchemaDefinitionCollisionAt before d fault =
+    (is_some (schema_here d) ≡ true) × (is_some (schema_definition_in before) ≡ true) × (fault ≡ At d SchemaDefinitionCollision)
+
+-- a directive definition behind another one of its name: the built-in one does not count
+abbrev pub DirectiveDefinitionCollisionAt : RuleAt
+DirectiveDefinitionCollisionAt before d fault = (own : Placed Place (DirectiveDefinitionTree Place)) × (
+    (directive_here d ≡ Some own) × (has_name directive_name (directive_name own) (directives_in before) ≡ true)
+    × (fault ≡ At d (DirectiveDefinitionCollision (directive_name own))))
+
+module _ (built_in texts : Definitions) where
+  abbrev pub all : Definitions
+  all = built_in ++ texts
+
+  -- a scalar of that name is built in
+  abbrev pub is_built_in_scalar : List ℕ → Bool
+  is_built_in_scalar n = option_map_or (λ t. same_kind t.parts.kind kind.Scalar) (type_named n built_in) false
+
+  -- the definition of a type behind another one of its name, built in or not
+  abbrev pub IsSecondDefinition : Definitions → DefinitionTree Place → TypeDefinition Place → Type 0
+  IsSecondDefinition before d t = (type_here d ≡ Some t) × (has_name type_name (type_name t) (types_in (built_in ++ before)) ≡ true)
+
+  -- ... of a name that is none of the built-in scalars
+  abbrev pub TypeDefinitionCollisionAt : RuleAt
+  TypeDefinitionCollisionAt before d fault = (t : TypeDefinition Place) × (
+      IsSecondDefinition before d t × (is_built_in_scalar (type_name t) ≡ false) × (fault ≡ At d (TypeDefinitionCollision (type_name t))))
+
+  -- ... of the name of a built-in scalar (section 3.5)
+  abbrev pub BuiltInScalarTypeRedefinitionAt : RuleAt
+  BuiltInScalarTypeRedefinitionAt before d fault = (t : TypeDefinition Place) × (
+      IsSecondDefinition before d t × (is_built_in_scalar (type_name t) ≡ true) × (fault ≡ At d (BuiltInScalarTypeRedefinition (type_name t))))
+
+  -- an extension of a schema that is not defined anywhere
+  abbrev pub OrphanSchemaExtensionAt : RuleAt
+  OrphanSchemaExtensionAt before d fault =
+      (is_some (schema_extension_here d) ≡ true) × (schema_is_defined all ≡ false) × (fault ≡ At d OrphanSchemaExtension)
+
+  -- an extension of a type that is not defined anywhere
+  abbrev pub OrphanTypeExtensionAt : RuleAt
+  OrphanTypeExtensionAt before d fault = (e : TypeParts Place) × (
+      (type_extension_here d ≡ Some e) × (type_named e.name.it all ≡ None) × (fault ≡ At d (OrphanTypeExtension e.name.it)))
+
+  -- an extension of another kind than its type's definition
+  abbrev pub TypeExtensionKindMismatchAt : RuleAt
+  TypeExtensionKindMismatchAt before d fault = (e : TypeParts Place) × ((t : TypeDefinition Place) × (
+      (type_extension_here d ≡ Some e) × (type_named e.name.it all ≡ Some t) × (same_kind t.parts.kind e.kind ≡ false)
+      × (fault ≡ At d (TypeExtensionKindMismatch e.name.it))))
+
+  -- a rule is broken so by what stands at some position
+  abbrev pub Somewhere : RuleAt → Fault → Type 0
+  Somewhere rule fault = AtSomePlace (λ before d. rule before d fault) texts
+
+  -- ---- rules on the components of the schema definition and of the types
+
+  -- a root behind another one of its operation
+  abbrev pub DuplicateRootOperationIn : ℕ → Fault → Type 0
+  DuplicateRootOperationIn first fault = (g : Given Place Root) × (
+      IsRepeated root_key (roots_given first all) g × (fault ≡ record { place = g.it.place; breach = DuplicateRootOperation g.it.it.operation_type }))
+
+  -- in a type of that kind a component of some class stands behind another one of its name
+  abbrev pub RepeatedIn : {A : Type 0} → TypeKind → (TypeParts Place → List A) → (Given Place A → List ℕ) → (A → Place) → (List ℕ → List ℕ → Breach) → ℕ → Fault → Type 0
+  RepeatedIn {A} kind of key place breach first fault = (t : TypeDefinition Place) × ((g : Given Place A) × (
+      Contains (firsts type_name (types_in all)) t × (same_kind t.parts.kind kind ≡ true) × IsRepeated key (components of (numbered first all) t) g
+      × (fault ≡ record { place = place g.it; breach = breach (type_name t) (key g) })))
+
+  abbrev pub DuplicateImplementsInterfaceInObjectIn : ℕ → Fault → Type 0
+  DuplicateImplementsInterfaceInObjectIn = RepeatedIn kind.Object (λ p. p.interfaces) given_name (λ x. x.place) DuplicateImplementsInterfaceInObject
+
+  abbrev pub DuplicateImplementsInterfaceInInterfaceIn : ℕ → Fault → Type 0
+  DuplicateImplementsInterfaceInInterfaceIn = RepeatedIn kind.Interface (λ p. p.interfaces) given_name (λ x. x.place) DuplicateImplementsInterfaceInInterface
+
+  abbrev pub ObjectFieldNameCollisionIn : ℕ → Fault → Type 0
+  ObjectFieldNameCollisionIn = RepeatedIn kind.Object (λ p. p.fields) field_key (λ x. x.place) ObjectFieldNameCollision
+
+  abbrev pub InterfaceFieldNameCollisionIn : ℕ → Fault → Type 0
+  InterfaceFieldNameCollisionIn = RepeatedIn kind.Interface (λ p. p.fields) field_key (λ x. x.place) InterfaceFieldNameCollision
+
+  abbrev pub EnumValueNameCollisionIn : ℕ → Fault → Type 0
+  EnumValueNameCollisionIn = RepeatedIn kind.Enum (λ p. p.values) value_key (λ x. x.place) EnumValueNameCollision
+
+  abbrev pub UnionMemberNameCollisionIn : ℕ → Fault → Type 0
+  UnionMemberNameCollisionIn = RepeatedIn kind.Union (λ p. p.members) given_name (λ x. x.place) UnionMemberNameCollision
+
+  abbrev pub InputFieldNameCollisionIn : ℕ → Fault → Type 0
+  InputFieldNameCollisionIn = RepeatedIn kind.InputObject (λ p. p.inputs) input_key (λ x. x.place) InputFieldNameCollision
+
+-- a folding rule is broken so
+pub data Fails (built_in : Definitions) (first : ℕ) (texts : Definitions) (fault : Fault) : Type 0 where
+  executable_definition : Somewhere built_in texts ExecutableDefinitionAt fault → Fails built_in first texts fault
+  schema_definition_collision : Somewhere built_in texts SchemaDefinitionCollisionAt fault → Fails built_in first texts fault
+  directive_definition_collision : Somewhere built_in texts DirectiveDefinitionCollisionAt fault → Fails built_in first texts fault
+  type_definition_collision : Somewhere built_in texts (TypeDefinitionCollisionAt built_in texts) fault → Fails built_in first texts fault
+  built_in_scalar_type_redefinition : Somewhere built_in texts (BuiltInScalarTypeRedefinitionAt built_in texts) fault → Fails built_in first texts fault
+  orphan_schema_extension : Somewhere built_in texts (OrphanSchemaExtensionAt built_in texts) fault → Fails built_in first texts fault
+  orphan_type_extension : Somewhere built_in texts (OrphanTypeExtensionAt built_in texts) fault → Fails built_in first texts fault
+  type_extension_kind_mismatch : Somewhere built_in texts (TypeExtensionKindMismatchAt built_in texts) fault → Fails built_in first texts fault
+  duplicate_root_operation : DuplicateRootOperationIn built_in texts first fault → Fails built_in first texts fault
+  duplicate_implements_interface_in_object : DuplicateImplementsInterfaceInObjectIn built_in texts first fault → Fails built_in first texts fault
+  duplicate_implements_interface_in_interface : DuplicateImplementsInterfaceInInterfaceIn built_in texts first fault → Fails built_in first texts fault
+  object_field_name_collision : ObjectFieldNameCollisionIn built_in texts first fault → Fails built_in first texts fault
+  interface_field_name_collision : InterfaceFieldNameCollisionIn built_in texts first fault → Fails built_in first texts fault
+  enum_value_name_collision : EnumValueNameCollisionIn built_in texts first fault → Fails built_in first texts fault
+  union_member_name_collision : UnionMemberNameCollisionIn built_in texts first fault → Fails built_in first texts fault
+  input_field_name_collision : InputFieldNameCollisionIn built_in texts first fault → Fails built_in first texts fault
+
+-- no folding rule is broken
+abbrev pub FoldingRules : Definitions → ℕ → Definitions → Type 0
+FoldingRules built_in first texts = (fault : Fault) → Fails built_in first texts fault → ⊥

@@ -1,0 +1,34 @@
+//! What the definition of a type and its extensions give.
+ghost use Rattle.std.specs.Prelude.{◌≡◌, ◌&&◌, ◌++◌, [], ◌∷◌, map, None, OnOk};
+ghost use Rattle.std.specs.List.{flat_map};
+ghost use Rattle.schema_fold.specs.Components.{extension_here};
+ghost use Rattle.schema_fold.specs.PartsView.{parts_view};
+ghost use Rattle.schema_fold.specs.ListedView.{listed_view};
+ghost use Rattle.schema_fold.specs.Collected.{collected, collected_from};
+
+use crate::collected::Collected;
+use crate::listed::Listed;
+use crate::parts::{Parts, extension_parts};
+use schema_types::ComponentOrigin;
+use std::alloc::AllocError;
+
+/// Collects all components of a type, where nothing was: those of its definition, and then those of each of these that
+/// extends it and is of its kind, in order.
+pub(crate) fn collect_type(
+    defined: &Parts<'_>,
+    list: &[Listed],
+    all: &mut Collected,
+) -> Result<(), AllocError>
+    requires { collected all.old ≡ collected_from [] }
+    ensures { OnOk result (collected all.new ≡ collected_from (record { extension = None; it = parts_view defined.now } ∷ flat_map (extension_here (parts_view defined.now)) (map listed_view list.now))) }
+{
+    all.add(ComponentOrigin::Definition, defined)?;
+    for listed in list {
+        if let Some(parts) = extension_parts(&listed.definition) {
+            if *defined.name == *parts.name && defined.kind.is(parts.kind) {
+                all.add(listed.origin(), &parts)?;
+            }
+        }
+    }
+    Ok(())
+}

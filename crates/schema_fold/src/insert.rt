@@ -1,0 +1,23 @@
+//! What is new under its name.
+ghost use Rattle.std.specs.Prelude.{◌≡◌, ◌++◌, ◌∷◌, [], None, OnOk};
+ghost use Rattle.indexmap.specs.IndexMap.{get};
+ghost use Rattle.schema_types.specs.in_components.Names.{same_text};
+ghost use Rattle.schema_types.specs.TypeView.{name_text};
+
+use graphql_names::Name;
+use indexmap::IndexMap;
+use std::alloc::AllocError;
+
+/// Inserts a value under a name that nothing stands under.
+pub fn insert_new<T: Drop>(
+    map: &mut IndexMap<Name, T>,
+    name: &Name,
+    value: T,
+) -> Result<(), AllocError>
+    requires { get (same_text name_text) map.old name.now ≡ None }
+    ensures { OnOk result (map.new.entries ≡ map.old.entries ++ (name.now, value) ∷ []) }
+{
+    let name = name.clone()?;
+    map.insert(name, value)?;
+    Ok(())
+}

@@ -1,0 +1,6 @@
+pub mod Under
+pub mod Listing
+pub mod Extending
+pub mod Indexing
+pub mod FiledKinds
+pub use Rattle.schema_fold.proofs as in_folding

@@ -1,0 +1,10 @@
+//! Where the definitions and the extensions of types stand in a list, by the names of their types.
+//!
+//! For the layers above: the state of a schema builder keeps such an index of what was added to it
+//! (`schema_building`), and types are folded from it (`schema_fold_types`). What it has is said by positions in
+//! the whole list (`specs/Index.antt`).
+#![tactic(auto)]
+
+mod index;
+
+pub use index::{Filed, Index};

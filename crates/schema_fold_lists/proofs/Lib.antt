@@ -1,0 +1,3 @@
+pub mod Folding
+pub mod BuiltIn
+pub use Rattle.schema_fold_types.proofs as in_type_folding

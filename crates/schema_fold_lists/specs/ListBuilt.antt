@@ -1,0 +1,20 @@
+-- What a whole list with its numbers builds (private: it leads to `specs/Building.antt`).
+use Rattle.std.specs.Prelude.{◌≡◌, ◌↔◌, ℕ, List, ◌++◌, length, Contains}
+use Rattle.graphql_names.specs.Placed.{Place}
+use Rattle.schema_fold.specs.in_schema_types.SchemaTree.{SchemaTree}
+use Rattle.schema_fold.specs.Listed.{Definitions, Listed, numbered}
+use Rattle.schema_built_in.specs.Table.{built_in_definitions}
+use Rattle.schema_fold.specs.BuildErrors.{Fault, Fails}
+use Rattle.schema_fold.specs.Fold.{fold}
+use Rattle.schema_fold_roots.specs.ListFold.{definitions_of}
+
+-- where the list is that of what is built in and of some texts, this is what they fold to, with their faults
+abbrev pub FoldsParts : List Listed → List Listed → List Listed → SchemaTree Place → List Fault → Type 0
+FoldsParts list built_in texts schema faults = (first : ℕ) (ds : Definitions) → list ≡ numbered first (built_in_definitions ++ ds)
+    → definitions_of built_in ≡ built_in_definitions → definitions_of texts ≡ ds
+    → (schema ≡ fold built_in_definitions first ds) × ((f : Fault) → Contains faults f ↔ Fails built_in_definitions first ds f)
+
+-- the same of a list of which what is built in is the first part, of that length
+abbrev pub Folds : List Listed → ℕ → SchemaTree Place → List Fault → Type 0
+Folds list built_in schema faults = (first : ℕ) (ds : Definitions) → list ≡ numbered first (built_in_definitions ++ ds) → built_in ≡ length built_in_definitions
+    → (schema ≡ fold built_in_definitions first ds) × ((f : Fault) → Contains faults f ↔ Fails built_in_definitions first ds f)

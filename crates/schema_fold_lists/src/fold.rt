@@ -1,0 +1,51 @@
+//! What a whole list folds to, with its faults.
+ghost use Rattle.std.specs.Prelude.{◌≡◌, ◌≤◌, [], drop, length, map, IfOk};
+ghost use Rattle.schema_fold.specs.FaultView.{faults_of};
+ghost use Rattle.schema_fold.specs.ListedView.{listed_view};
+ghost use Rattle.schema_fold_index.specs.DefinitionsOf.{definitions_of};
+ghost use Rattle.schema_fold_index.specs.Index.{IsIndexOf};
+ghost use Rattle.schema_fold_lists.specs.FoldedView.{folded_view};
+ghost use Rattle.schema_fold_lists.specs.ListBuilt.{Folds};
+
+use graphql_names::{Name, Node, SourceSpan};
+use indexmap::IndexMap;
+use schema_fold::{BuildError, ExtendedType, Listed, SchemaDefinition};
+use schema_fold_index::Index;
+use schema_fold_roots::{fold_directives, fold_schema};
+use schema_fold_types::{fold_types, tell_misplaced};
+use std::alloc::{AllocError, Global};
+use tree_directives::DirectiveDefinition;
+
+/// What the definitions of a list fold to.
+#[derive(Drop)]
+pub struct Folded {
+    pub schema_definition: Node<SchemaDefinition>,
+    pub directive_definitions: IndexMap<Name, Node<DirectiveDefinition>>,
+    pub types: IndexMap<Name, ExtendedType>,
+}
+
+/// Folds a list, of which the first `built_in` definitions are what is built in, and tells each rule that is broken. The
+/// index is that of the others.
+pub fn fold_list(
+    alloc: Global,
+    list: &[Listed],
+    built_in: usize,
+    index: &Index,
+    faults: &mut Vec<(Option<SourceSpan>, BuildError)>,
+) -> Result<Folded, AllocError>
+    requires within { built_in ≤ length list.now }
+    requires indexed { IsIndexOf (definitions_of (map listed_view (drop built_in list.now))) index.now }
+    requires faultless { faults.old.items ≡ [] }
+    ensures { IfOk result (λ folded. Folds (map listed_view list.now) built_in (folded_view folded) (faults_of faults.new)) }
+{
+    let (first, texts) = list.split_at(built_in);
+    tell_misplaced(alloc, first, texts, index, faults)?;
+    let schema_definition = fold_schema(alloc, list, faults)?;
+    let directive_definitions = fold_directives(alloc, first, texts, faults)?;
+    let types = fold_types(alloc, first, texts, index, faults)?;
+    Ok(Folded {
+        schema_definition,
+        directive_definitions,
+        types,
+    })
+}

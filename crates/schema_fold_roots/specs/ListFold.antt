@@ -1,0 +1,67 @@
+-- The schema definition of a list whose extensions have their numbers, and the faults of its roots.
+use Rattle.std.specs.Prelude.{◌≡◌, ◌↔◌, ◌⊎◌, ℕ, List, [], ◌∷◌, ◌++◌, map, Option, None, if◌then◌else◌, Contains, is_some, slice_get}
+use Rattle.std.specs.List.{flat_map}
+use Rattle.graphql_names.specs.Placed.{Place, Text}
+use Rattle.tree_directives.specs.declared.operation_type.OperationType.TheVariants as operation
+use Rattle.tree_type_members.specs.TypeSystemTree.{SchemaParts}
+use Rattle.schema_components.specs.Lists.{repeats}
+use Rattle.schema_components.specs.Given.{Given}
+use Rattle.schema_components.specs.Applied.{Applied}
+use Rattle.schema_fold.specs.in_schema_types.SchemaTree.{SchemaRoots}
+use Rattle.schema_fold.specs.Listed.{Definitions, Listed, numbered}
+use Rattle.schema_fold.specs.Components.{all_given}
+use Rattle.schema_fold.specs.SchemaFold.{Root, schema_base, schema_is_defined, implicit_roots, extends_schema, root_key, root_in, folded_schema}
+use Rattle.schema_fold.specs.BuildErrors.{Fault, DuplicateRootOperation, DuplicateRootOperationIn}
+
+-- the definitions of a list
+abbrev pub definitions_of : List Listed → Definitions
+definitions_of list = map (λ l. l.definition) list
+
+abbrev pub Parts : Type 0
+Parts = Given Place (SchemaParts Place)
+
+-- all parts of the schema definition: `schema_parts` of a list with its numbers
+abbrev pub parts_given : List Listed → List Parts
+parts_given list = record { extension = None; it = (schema_base (definitions_of list)).parts } ∷ (if schema_is_defined (definitions_of list) then flat_map extends_schema list else [])
+
+-- the same without a schema definition: the implicit roots and, where there is one, the schema extensions
+abbrev pub implicit_parts : List Listed → List Parts
+implicit_parts list = record { extension = None; it = record { directives = []; roots = implicit_roots (definitions_of list) } } ∷ (if is_some (slice_get (implicit_roots (definitions_of list)) 0) then flat_map extends_schema list else [])
+
+-- the directives and the roots of some parts, repeated roots too
+abbrev pub directives_from : List Parts → Applied Place
+directives_from gs = flat_map (λ g. all_given g.extension g.it.directives) gs
+
+abbrev pub roots_from : List Parts → List (Given Place Root)
+roots_from gs = flat_map (λ g. all_given g.extension g.it.roots) gs
+
+-- a schema definition with these parts
+abbrev pub schema_from : Place → Option (Text Place) → List Parts → SchemaRoots Place
+schema_from place description gs = record {
+  place = place;
+  description = description;
+  directives = directives_from gs;
+  query = root_in operation.Query (roots_from gs);
+  mutation = root_in operation.Mutation (roots_from gs);
+  subscription = root_in operation.Subscription (roots_from gs);
+}
+
+-- the schema definition of a list: `folded_schema` of a list with its numbers
+abbrev pub schema_of : List Listed → SchemaRoots Place
+schema_of list = schema_from (schema_base (definitions_of list)).place (schema_base (definitions_of list)).description (parts_given list)
+
+-- a root behind another one of its operation, and what is told of it
+abbrev pub root_fault : Given Place Root → Fault
+root_fault g = record { place = g.it.place; breach = DuplicateRootOperation g.it.it.operation_type }
+
+abbrev pub root_faults : List (Given Place Root) → List Fault
+root_faults gs = map root_fault (repeats root_key gs)
+
+-- where the list is that of some definitions with their numbers, this is what a schema has of its schema definition
+abbrev pub IsFoldOf : List Listed → SchemaRoots Place → Type 0
+IsFoldOf list s = (first : ℕ) (ds : Definitions) → list ≡ numbered first ds → s ≡ folded_schema first ds
+
+-- the faults that are told more are those of the second roots of the list
+abbrev pub TellsRoots : List Listed → List Fault → List Fault → Type 0
+TellsRoots list old new = (first : ℕ) (built_in texts : Definitions) → list ≡ numbered first (built_in ++ texts)
+    → (f : Fault) → Contains new f ↔ (Contains old f ⊎ DuplicateRootOperationIn built_in texts first f)

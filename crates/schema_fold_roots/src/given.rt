@@ -1,0 +1,73 @@
+//! All that the schema definition is given, repeated roots too.
+ghost use Rattle.std.specs.Prelude.{◌≡◌, ◌++◌, [], map, OnOk};
+ghost use Rattle.std.specs.List.{flat_map};
+ghost use Rattle.graphql_names.specs.Placed.{node_tree};
+ghost use Rattle.tree_directives.specs.DirectiveTree.{directives_tree};
+ghost use Rattle.schema_fold.specs.in_definitions.DefinitionTree.{root_tree};
+ghost use Rattle.schema_components.specs.Given.{origin_tree};
+ghost use Rattle.schema_fold.specs.ListedView.{listed_view};
+ghost use Rattle.schema_fold.specs.SchemaFold.{extends_schema};
+ghost use Rattle.schema_fold_roots.specs.RootFold.{all_from, all_and, CollectsParts};
+ghost use Rattle.schema_fold_roots.specs.RootsView.{all_of_schema};
+
+use crate::defined::schema_extension;
+use graphql_names::Node;
+use schema_components::{Component, ComponentOrigin};
+use schema_fold::{Listed, add_components};
+use std::alloc::{AllocError, Global};
+use tree_directives::{Directive, DirectiveList};
+use tree_literals::NamedType;
+use tree_operations::OperationType;
+
+/// All that the schema definition is given, in order, repeated roots too.
+pub(crate) struct SchemaComponents {
+    pub(crate) directives: Vec<Component<Directive>>,
+    pub(crate) roots: Vec<Component<(OperationType, NamedType)>>,
+}
+
+/// Lets both classes go, here and not wherever what is given goes.
+impl Drop for SchemaComponents {
+    fn drop(self) {
+        let SchemaComponents {
+            directives: _,
+            roots: _,
+        } = self;
+    }
+}
+
+impl SchemaComponents {
+    /// Nothing.
+    pub(crate) fn new(alloc: Global) -> SchemaComponents
+        ensures { all_of_schema result ≡ all_from [] }
+    {
+        SchemaComponents {
+            directives: Vec::new(alloc),
+            roots: Vec::new(alloc),
+        }
+    }
+
+    /// Adds these directives and roots, from that origin.
+    pub(crate) fn add(
+        &mut self,
+        origin: ComponentOrigin,
+        directives: &DirectiveList,
+        roots: &[Node<(OperationType, NamedType)>],
+    ) -> Result<(), AllocError>
+        ensures { OnOk result (all_of_schema self.new ≡ all_and (all_of_schema self.old) (record { extension = origin_tree origin; it = record { directives = directives_tree directives.now; roots = map (node_tree root_tree) roots.now } })) }
+    {
+        add_components(&mut self.directives, origin, &directives.0)?;
+        add_components(&mut self.roots, origin, roots)
+    }
+
+    /// Adds what each schema extension of the list gives, in order.
+    pub(crate) fn add_extensions(&mut self, list: &[Listed]) -> Result<(), AllocError>
+        ensures { OnOk result (CollectsParts (all_of_schema self.old) (flat_map extends_schema (map listed_view list.now)) (all_of_schema self.new)) }
+    {
+        for listed in list {
+            if let Some(parts) = schema_extension(&listed.definition) {
+                self.add(listed.origin(), &parts.directives, &parts.root_operations)?;
+            }
+        }
+        Ok(())
+    }
+}

@@ -1,0 +1,54 @@
+//! The roots of a schema without a schema definition.
+ghost use Rattle.std.specs.Prelude.{◌≡◌, ◌++◌, None, map, OnOk};
+ghost use Rattle.schema_components.specs.in_values.OperationQueries.{default_root_name};
+ghost use Rattle.schema_fold.specs.Components.{all_given};
+ghost use Rattle.schema_fold.specs.SchemaFold.{implicit_root, implicit_roots};
+ghost use Rattle.schema_fold.specs.ListedView.{listed_view};
+ghost use Rattle.schema_fold_roots.specs.ListFold.{definitions_of};
+ghost use Rattle.schema_fold_roots.specs.RootsView.{roots_given_by};
+
+use crate::defined::is_object;
+use graphql_names::{Name, Node};
+use schema_components::{Component, ComponentOrigin};
+use schema_fold::Listed;
+use std::alloc::{AllocError, Global};
+use tree_literals::NamedType;
+use tree_operations::OperationType;
+
+/// Adds the implicit roots: without a schema definition the objects with the default names are the roots (section 3.3.1).
+pub(crate) fn add_implicit_roots(
+    alloc: Global,
+    list: &[Listed],
+    roots: &mut Vec<Component<(OperationType, NamedType)>>,
+) -> Result<(), AllocError>
+    ensures { OnOk result (roots_given_by roots.new.items ≡ roots_given_by roots.old.items ++ all_given None (implicit_roots (definitions_of (map listed_view list.now)))) }
+{
+    add_implicit_root(alloc, list, OperationType::Query, roots)?;
+    add_implicit_root(alloc, list, OperationType::Mutation, roots)?;
+    add_implicit_root(alloc, list, OperationType::Subscription, roots)
+}
+
+/// Adds the object with the operation's default name, if there is one.
+fn add_implicit_root(
+    alloc: Global,
+    list: &[Listed],
+    operation: OperationType,
+    roots: &mut Vec<Component<(OperationType, NamedType)>>,
+) -> Result<(), AllocError>
+    ensures { OnOk result (roots_given_by roots.new.items ≡ roots_given_by roots.old.items ++ all_given None (implicit_root (definitions_of (map listed_view list.now)) operation)) }
+{
+    if !is_object(list, operation.default_type_name()) {
+        return Ok(());
+    }
+    let root = Node::new(alloc, (operation, default_name(operation)))?;
+    roots.push(Component::new(ComponentOrigin::Definition, root))?;
+    Ok(())
+}
+
+/// The default name of the root of an operation.
+fn default_name(operation: OperationType) -> Name
+    ensures text { result.text ≡ default_root_name operation }
+    ensures location { result.location ≡ None }
+{
+    Name::new_static_unchecked(operation.default_type_name())
+}

@@ -1,0 +1,71 @@
+-- The first position that is filed under a name tells whether a definition of the name stands before a position.
+use Rattle.std.proofs.Common.{◌≡◌, ◌≤◌, ℕ, ◌+◌, zero, suc, Bool, true, false, ◌||◌, List, [], ◌∷◌, ◌++◌, map, take, length, Option, None, Some, refl, ap, ◌∙◌, cond, option_to_list, slice_get, arith}
+use Rattle.std.specs.Prelude.{nat_lt}
+use Rattle.std.specs.List.{filter}
+use Rattle.std.specs.Map.{lookup}
+use Rattle.std.specs.Option.{option_map, option_map_or}
+use Rattle.std.specs.Str.{bytes_eq}
+use Rattle.std.proofs.lemmas.Bool.{lt-ltb, le-ltb}
+use Rattle.std.proofs.lemmas.List.{length-append}
+use Rattle.graphql_names.specs.Placed.{Place}
+use Rattle.schema_fold.specs.in_definitions.DefinitionTree.{DefinitionTree}
+use Rattle.schema_fold.specs.in_components.Lists.{has_name}
+use Rattle.schema_fold.specs.in_schema_types.TypeParts.{TypeDefinition, type_here}
+use Rattle.schema_fold.specs.Listed.{Definitions, type_name, types_in}
+use Rattle.schema_fold_index.specs.declared.index.Filed.{Filed}
+use Rattle.schema_fold_index.specs.Index.{Standing, standing_name, parts_here, standing_after, standing, positions_named, positions_of, FiledEntries, AreFiled, is_filed_before}
+
+module _ (n : List ℕ) (i : ℕ) where
+  -- the first of these positions is before i
+  abbrev starts_before : List ℕ → Bool
+  starts_before ps = option_map_or (λ p. nat_lt p i) (slice_get ps 0) false
+
+  abbrev first_before : List Standing → Bool
+  first_before ss = starts_before (positions_named n ss)
+
+  abbrev standing_here : ℕ → Option (TypeDefinition Place) → List Standing
+  standing_here place o = map (λ parts. record { position = place; parts = parts }) (option_to_list (option_map (λ t. t.parts) o))
+
+  filed_starts : (o : Option Filed) → option_map_or (λ f. nat_lt f.first i) o false ≡ starts_before (option_map_or positions_of o [])
+  filed_starts None = refl
+  filed_starts (Some f) = refl
+
+  more : (before : Definitions) (d : DefinitionTree Place) → length (before ++ d ∷ []) ≡ length before + 1
+  more before d = length-append before (d ∷ [])
+
+  -- behind i none stands before it
+  first_behind : (place : ℕ) (o : Option (TypeDefinition Place)) (behind : List Standing) → i ≤ place → first_before behind ≡ false → first_before (standing_here place o ++ behind) ≡ false
+  first_behind place None behind h rest = rest
+  first_behind place (Some t) behind h rest = by (bytes_eq n (type_name t))
+    where
+      by : (b : Bool) → starts_before (map (λ s. s.position) (cond b (record { position = place; parts = t.parts } ∷ filter (λ s. bytes_eq n (standing_name s)) behind) (filter (λ s. bytes_eq n (standing_name s)) behind))) ≡ false
+      by true = le-ltb place i h
+      by false = rest
+
+  none_behind : (before ds : Definitions) → i ≤ length before → first_before (standing_after parts_here before ds) ≡ false
+  none_behind before [] h = refl
+  none_behind before (d ∷ ds) h =
+      let m = more before d in
+      first_behind (length before) (type_here d) (standing_after parts_here (before ++ d ∷ []) ds) h (none_behind (before ++ d ∷ []) ds (omega (arith, m, h)))
+
+  -- one that stands before it, if it is of the name
+  first_here : (place : ℕ) (o : Option (TypeDefinition Place)) (behind : List Standing) (ts : List (TypeDefinition Place)) → place + 1 ≤ i → first_before behind ≡ has_name type_name n ts
+      → first_before (standing_here place o ++ behind) ≡ has_name type_name n (option_to_list o ++ ts)
+  first_here place None behind ts h rest = rest
+  first_here place (Some t) behind ts h rest = by (bytes_eq n (type_name t))
+    where
+      by : (b : Bool) → starts_before (map (λ s. s.position) (cond b (record { position = place; parts = t.parts } ∷ filter (λ s. bytes_eq n (standing_name s)) behind) (filter (λ s. bytes_eq n (standing_name s)) behind)))
+          ≡ (b || has_name type_name n ts)
+      by true = lt-ltb place i (omega (arith, h))
+      by false = rest
+
+  stands_after : (before ds : Definitions) (k : ℕ) → length before + k ≡ i → first_before (standing_after parts_here before ds) ≡ has_name type_name n (types_in (take k ds))
+  stands_after before ds zero e = none_behind before ds (omega (arith, e))
+  stands_after before [] (suc k) e = refl
+  stands_after before (d ∷ ds) (suc k) e =
+      let m = more before d in
+      first_here (length before) (type_here d) (standing_after parts_here (before ++ d ∷ []) ds) (types_in (take k ds)) (omega (arith, e)) (stands_after (before ++ d ∷ []) ds k (omega (arith, m, e)))
+
+  pub stands_before : (ds : Definitions) (es : FiledEntries) → AreFiled (standing parts_here ds) es → is_filed_before i es n ≡ has_name type_name n (types_in (take i ds))
+  stands_before ds es filed =
+      filed_starts (lookup (λ k. bytes_eq n k.text) es) ∙ ap starts_before (filed.1 n) ∙ stands_after [] ds i (omega arith)

@@ -1,0 +1,19 @@
+pub mod Named
+pub mod Telling
+pub mod TypeFaults
+pub mod FirstsOfFirsts
+pub mod Before
+pub mod Filing
+pub mod Folding
+pub mod FoldingAll
+pub mod FoldedTypes
+pub mod OwnNames
+pub mod Lookups
+pub mod FailsIs
+pub mod Seeing
+pub mod Behind
+pub mod Judging
+pub mod TellingMisplaced
+pub mod Turns
+pub mod MisplacedRows
+pub use Rattle.schema_fold.proofs as in_folding

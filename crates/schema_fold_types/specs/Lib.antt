@@ -1,0 +1,10 @@
+pub mod TypeFaults
+pub mod ListTypes
+pub mod Filing
+pub mod OwnNames
+pub mod Misplaced
+pub mod Seen
+pub mod SeenView
+pub mod OwnView
+pub use Rattle.schema_fold.specs as in_folding
+pub use Rattle.schema_fold_index.specs as in_type_index

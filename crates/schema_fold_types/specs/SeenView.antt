@@ -1,0 +1,9 @@
+-- What contracts see of what a list defines (private: it leads to `specs/Seen.antt`).
+use Rattle.schema_fold.specs.in_components.Names.{entries_of}
+use Rattle.schema_fold.specs.in_schema_types.TypeView.{name_text}
+use Rattle.schema_fold.specs.PartsView.{itself}
+use Rattle.schema_fold_types.specs.Seen.{Seen}
+use Rattle.schema_fold_types.specs.declared.seen.Seen.{Seen as Rust}
+
+abbrev pub seen_view : Rust → Seen
+seen_view s = record { kinds = entries_of name_text itself s.kinds; schema = s.schema }

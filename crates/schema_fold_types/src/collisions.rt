@@ -1,0 +1,164 @@
+//! The rules that are judged by what stands before a definition.
+ghost use Rattle.std.specs.Prelude.{◌≡◌, ◌||◌, ◌++◌, [], ◌∷◌, map, is_some, IfOk, OnOk};
+ghost use Rattle.schema_fold.specs.in_definitions.DefinitionTree.{definition_tree};
+ghost use Rattle.schema_fold.specs.BuildErrors.{ExecutableDefinition, SchemaDefinitionCollision, TypeDefinitionCollision, BuiltInScalarTypeRedefinition};
+ghost use Rattle.schema_fold.specs.FaultView.{faults_of};
+ghost use Rattle.schema_fold.specs.ListedView.{listed_view};
+ghost use Rattle.schema_fold.specs.SchemaFold.{schema_definition_in};
+ghost use Rattle.schema_fold_index.specs.DefinitionsOf.{definitions_of};
+ghost use Rattle.schema_fold_index.specs.Index.{AreFiled, standing, parts_here};
+ghost use Rattle.schema_fold_types.specs.Seen.{kind_in, type_faults, faults_behind, collision_faults};
+ghost use Rattle.schema_fold_types.specs.SeenView.{seen_view};
+ghost use Rattle.schema_fold_types.specs.OwnView.{is_defined_before};
+
+use crate::seen::{Seen, is_schema_definition};
+use graphql_names::{Name, SourceSpan};
+use indexmap::IndexMap;
+use schema_fold::{BuildError, Definition, Listed, tell, type_definition};
+use schema_fold_index::Filed;
+use std::alloc::AllocError;
+
+/// What stands before a position of the texts: the types that are filed there, and a schema definition or none.
+#[derive(Clone, Copy)]
+struct Before<'a> {
+    defined: &'a IndexMap<Name, Filed>,
+    schema: bool,
+    position: usize,
+}
+
+impl<'a> Before<'a> {
+    /// Whether a type of that name is defined there.
+    fn defines(&self, name: &Name) -> bool
+        ensures { result ≡ is_defined_before self.now name.now.text }
+    {
+        match self.defined.get(name) {
+            None => false,
+            Some(filed) => filed.first < self.position,
+        }
+    }
+}
+
+/// Tells each definition of the texts that stands behind another one, or is none of a type system. Gives whether the
+/// texts define the schema.
+pub(crate) fn tell_collisions(
+    built_in: &Seen,
+    texts: &[Listed],
+    defined: &IndexMap<Name, Filed>,
+    faults: &mut Vec<(Option<SourceSpan>, BuildError)>,
+) -> Result<bool, AllocError>
+    requires { AreFiled (standing parts_here (definitions_of (map listed_view texts.now))) defined.now.entries }
+    ensures schema { IfOk result (λ schema. schema ≡ is_some (schema_definition_in (definitions_of (map listed_view texts.now)))) }
+    ensures faults { OnOk result (faults_of faults.new ≡ faults_of faults.old ++ collision_faults (seen_view built_in.now) (definitions_of (map listed_view texts.now))) }
+{
+    let mut schema = false;
+    for position in 0..texts.len() {
+        let definition = &texts[position].definition;
+        let before = Before {
+            defined,
+            schema,
+            position,
+        };
+        tell_definition(built_in, &before, definition, faults)?;
+        schema |= is_schema_definition(definition);
+    }
+    Ok(schema)
+}
+
+/// Tells what is wrong with a definition behind those that stand before it.
+fn tell_definition(
+    built_in: &Seen,
+    before: &Before<'_>,
+    d: &Definition,
+    faults: &mut Vec<(Option<SourceSpan>, BuildError)>,
+) -> Result<(), AllocError>
+    ensures { OnOk result (faults_of faults.new ≡ faults_of faults.old ++ faults_behind (seen_view built_in.now) before.now.schema (is_defined_before before.now) (definition_tree d.now)) }
+{
+    if d.is_executable_definition() {
+        return executable_definition(d.location(), faults);
+    }
+    if before.schema && is_schema_definition(d) {
+        return schema_definition_collision(d.location(), faults);
+    }
+    match type_definition(d) {
+        None => Ok(()),
+        Some(t) => tell_type(built_in, before, t.parts.name, d.location(), faults),
+    }
+}
+
+/// Tells what is wrong with a type of that name behind those that stand before it.
+fn tell_type(
+    built_in: &Seen,
+    before: &Before<'_>,
+    name: &Name,
+    location: Option<SourceSpan>,
+    faults: &mut Vec<(Option<SourceSpan>, BuildError)>,
+) -> Result<(), AllocError>
+    ensures { OnOk result (faults_of faults.new ≡ faults_of faults.old ++ type_faults (seen_view built_in.now) (is_defined_before before.now) location name.now.text) }
+{
+    if built_in.has_scalar(name) {
+        return built_in_scalar_type_redefinition(name, location, faults);
+    }
+    if is_defined(built_in, before, name) {
+        return type_definition_collision(name, location, faults);
+    }
+    Ok(())
+}
+
+/// Whether a type of that name is built in, or stands before the position.
+fn is_defined(built_in: &Seen, before: &Before<'_>, name: &Name) -> bool
+    ensures { result ≡ (is_some (kind_in (seen_view built_in.now) name.now.text) || is_defined_before before.now name.now.text) }
+{
+    built_in.kind(name).is_some() || before.defines(name)
+}
+
+/// An operation or a fragment is no definition of a schema (section 3): this one is told.
+fn executable_definition(
+    location: Option<SourceSpan>,
+    faults: &mut Vec<(Option<SourceSpan>, BuildError)>,
+) -> Result<(), AllocError>
+    ensures { OnOk result (faults_of faults.new ≡ faults_of faults.old ++ record { place = location; breach = ExecutableDefinition } ∷ []) }
+{
+    tell(faults, location, BuildError::ExecutableDefinition)
+}
+
+/// There is one schema definition at most (section 3.3): this one is told, which stands behind another.
+fn schema_definition_collision(
+    location: Option<SourceSpan>,
+    faults: &mut Vec<(Option<SourceSpan>, BuildError)>,
+) -> Result<(), AllocError>
+    ensures { OnOk result (faults_of faults.new ≡ faults_of faults.old ++ record { place = location; breach = SchemaDefinitionCollision } ∷ []) }
+{
+    tell(faults, location, BuildError::SchemaDefinitionCollision)
+}
+
+/// Types have names of their own (section 3.4): this one is told, which has that of an earlier one.
+fn type_definition_collision(
+    name: &Name,
+    location: Option<SourceSpan>,
+    faults: &mut Vec<(Option<SourceSpan>, BuildError)>,
+) -> Result<(), AllocError>
+    ensures { OnOk result (faults_of faults.new ≡ faults_of faults.old ++ record { place = location; breach = TypeDefinitionCollision name.now.text } ∷ []) }
+{
+    let name = name.clone()?;
+    tell(
+        faults,
+        location,
+        BuildError::TypeDefinitionCollision { name },
+    )
+}
+
+/// Built-in scalars are not defined again (section 3.5): this definition of one is told.
+fn built_in_scalar_type_redefinition(
+    name: &Name,
+    location: Option<SourceSpan>,
+    faults: &mut Vec<(Option<SourceSpan>, BuildError)>,
+) -> Result<(), AllocError>
+    ensures { OnOk result (faults_of faults.new ≡ faults_of faults.old ++ record { place = location; breach = BuiltInScalarTypeRedefinition name.now.text } ∷ []) }
+{
+    let name = name.clone()?;
+    tell(
+        faults,
+        location,
+        BuildError::BuiltInScalarTypeRedefinition { name },
+    )
+}

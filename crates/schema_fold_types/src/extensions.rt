@@ -1,0 +1,53 @@
+//! The extensions of a type, by the positions that are filed under its name.
+ghost use Rattle.std.specs.Prelude.{◌≡◌, ◌++◌, map, IfOk, OnOk};
+ghost use Rattle.std.specs.List.{flat_map};
+ghost use Rattle.schema_fold.specs.ListedView.{listed_view};
+ghost use Rattle.schema_fold_index.specs.Index.{positions_of, listed_at, extensions_under};
+
+use graphql_names::Name;
+use indexmap::IndexMap;
+use schema_fold::Listed;
+use schema_fold_index::Filed;
+use std::alloc::{AllocError, Global};
+
+/// The extensions that are filed under a name, shared, with their numbers, in the order of the list.
+pub(crate) fn extensions_of(
+    alloc: Global,
+    texts: &[Listed],
+    extended: &IndexMap<Name, Filed>,
+    name: &Name,
+) -> Result<Vec<Listed>, AllocError>
+    ensures { IfOk result (λ v. map listed_view v.items ≡ extensions_under (map listed_view texts.now) extended.now.entries name.now.text) }
+{
+    match extended.get(name) {
+        None => Ok(Vec::new(alloc)),
+        Some(filed) => gather(alloc, texts, filed),
+    }
+}
+
+/// What stands at the positions that are filed, shared.
+fn gather(alloc: Global, texts: &[Listed], filed: &Filed) -> Result<Vec<Listed>, AllocError>
+    ensures { IfOk result (λ v. map listed_view v.items ≡ flat_map (listed_at (map listed_view texts.now)) (positions_of filed.now)) }
+{
+    let mut gathered = Vec::new(alloc);
+    push_at(texts, filed.first, &mut gathered)?;
+    for position in &filed.others {
+        push_at(texts, *position, &mut gathered)?;
+    }
+    Ok(gathered)
+}
+
+/// Puts what stands at a position of the list behind the others, shared, if it is there.
+fn push_at(texts: &[Listed], position: usize, gathered: &mut Vec<Listed>) -> Result<(), AllocError>
+    ensures { OnOk result (map listed_view gathered.new.items ≡ map listed_view gathered.old.items ++ listed_at (map listed_view texts.now) position) }
+{
+    let Some(listed) = texts.get(position) else {
+        return Ok(());
+    };
+    let definition = listed.definition.clone()?;
+    gathered.push(Listed {
+        definition,
+        extension: listed.extension,
+    })?;
+    Ok(())
+}

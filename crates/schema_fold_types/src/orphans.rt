@@ -1,0 +1,116 @@
+//! The rules that are judged by what the whole list defines.
+ghost use Rattle.std.specs.Prelude.{◌≡◌, ◌++◌, [], ◌∷◌, map, is_some, OnOk};
+ghost use Rattle.std.specs.List.{flat_map};
+ghost use Rattle.schema_fold.specs.in_definitions.DefinitionTree.{definition_tree};
+ghost use Rattle.schema_fold.specs.BuildErrors.{OrphanSchemaExtension, OrphanTypeExtension, TypeExtensionKindMismatch};
+ghost use Rattle.schema_fold.specs.FaultView.{faults_of};
+ghost use Rattle.schema_fold.specs.ListedView.{listed_view};
+ghost use Rattle.schema_fold.specs.SchemaFold.{schema_extension_here};
+ghost use Rattle.schema_fold_index.specs.DefinitionsOf.{definitions_of};
+ghost use Rattle.schema_fold_types.specs.Seen.{type_extension_faults, extension_faults};
+ghost use Rattle.schema_fold_types.specs.SeenView.{seen_view};
+ghost use Rattle.schema_fold_types.specs.OwnView.{own_view};
+
+use crate::seen::{Own, Seen, kind_of, schema_is_defined};
+use graphql_names::{Name, SourceSpan};
+use schema_fold::{BuildError, Definition, Listed, Parts, extension_parts, tell};
+use std::alloc::AllocError;
+
+/// Tells each extension of the texts whose schema or type is not defined, or is of another kind.
+pub(crate) fn tell_extensions(
+    built_in: &Seen,
+    own: &Own<'_>,
+    texts: &[Listed],
+    faults: &mut Vec<(Option<SourceSpan>, BuildError)>,
+) -> Result<(), AllocError>
+    ensures { OnOk result (faults_of faults.new ≡ faults_of faults.old ++ flat_map (extension_faults (seen_view built_in.now) (own_view own.now)) (definitions_of (map listed_view texts.now))) }
+{
+    for listed in texts {
+        tell_extension(built_in, own, &listed.definition, faults)?;
+    }
+    Ok(())
+}
+
+/// Tells what is wrong with an extension, where these are all that are defined.
+fn tell_extension(
+    built_in: &Seen,
+    own: &Own<'_>,
+    d: &Definition,
+    faults: &mut Vec<(Option<SourceSpan>, BuildError)>,
+) -> Result<(), AllocError>
+    ensures { OnOk result (faults_of faults.new ≡ faults_of faults.old ++ extension_faults (seen_view built_in.now) (own_view own.now) (definition_tree d.now)) }
+{
+    if is_schema_extension(d) && !schema_is_defined(built_in, own) {
+        return orphan_schema_extension(d.location(), faults);
+    }
+    match extension_parts(d) {
+        None => Ok(()),
+        Some(parts) => tell_type_extension(built_in, own, &parts, d.location(), faults),
+    }
+}
+
+/// Whether it is a schema extension.
+fn is_schema_extension(d: &Definition) -> bool
+    ensures { result ≡ is_some (schema_extension_here (definition_tree d.now)) }
+{
+    matches!(d, Definition::SchemaExtension(_))
+}
+
+/// Tells what is wrong with the extension of a type, where these are all that are defined.
+fn tell_type_extension(
+    built_in: &Seen,
+    own: &Own<'_>,
+    parts: &Parts<'_>,
+    location: Option<SourceSpan>,
+    faults: &mut Vec<(Option<SourceSpan>, BuildError)>,
+) -> Result<(), AllocError>
+    ensures { OnOk result (faults_of faults.new ≡ faults_of faults.old ++ type_extension_faults (seen_view built_in.now) (own_view own.now) location parts.now.name.now.text parts.now.kind) }
+{
+    match kind_of(built_in, own, parts.name) {
+        None => orphan_type_extension(parts.name, location, faults),
+        Some(defined) => {
+            if defined.is(parts.kind) {
+                return Ok(());
+            }
+            type_extension_kind_mismatch(parts.name, location, faults)
+        }
+    }
+}
+
+/// A schema that is extended is defined (section 3.3.2): this extension is told, whose schema is not.
+fn orphan_schema_extension(
+    location: Option<SourceSpan>,
+    faults: &mut Vec<(Option<SourceSpan>, BuildError)>,
+) -> Result<(), AllocError>
+    ensures { OnOk result (faults_of faults.new ≡ faults_of faults.old ++ record { place = location; breach = OrphanSchemaExtension } ∷ []) }
+{
+    tell(faults, location, BuildError::OrphanSchemaExtension)
+}
+
+/// A type that is extended is defined (section 3.4.3): this extension is told, whose type is not.
+fn orphan_type_extension(
+    name: &Name,
+    location: Option<SourceSpan>,
+    faults: &mut Vec<(Option<SourceSpan>, BuildError)>,
+) -> Result<(), AllocError>
+    ensures { OnOk result (faults_of faults.new ≡ faults_of faults.old ++ record { place = location; breach = OrphanTypeExtension name.now.text } ∷ []) }
+{
+    let name = name.clone()?;
+    tell(faults, location, BuildError::OrphanTypeExtension { name })
+}
+
+/// An extension is of the kind of its type (sections 3.5 to 3.10): this one is told, which is of another.
+fn type_extension_kind_mismatch(
+    name: &Name,
+    location: Option<SourceSpan>,
+    faults: &mut Vec<(Option<SourceSpan>, BuildError)>,
+) -> Result<(), AllocError>
+    ensures { OnOk result (faults_of faults.new ≡ faults_of faults.old ++ record { place = location; breach = TypeExtensionKindMismatch name.now.text } ∷ []) }
+{
+    let name = name.clone()?;
+    tell(
+        faults,
+        location,
+        BuildError::TypeExtensionKindMismatch { name },
+    )
+}

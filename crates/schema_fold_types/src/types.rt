@@ -1,0 +1,136 @@
+//! What the definitions of types fold to.
+ghost use Rattle.std.specs.Prelude.{◌≡◌, ◌++◌, ◌∷◌, [], map, IfOk, OnOk, option_to_list};
+ghost use Rattle.std.specs.List.{flat_map};
+ghost use Rattle.schema_fold.specs.in_definitions.DefinitionTree.{definition_tree};
+ghost use Rattle.schema_fold.specs.in_schema_types.SchemaView.{types_view};
+ghost use Rattle.schema_fold.specs.in_schema_types.TypeParts.{type_here};
+ghost use Rattle.schema_fold.specs.FaultView.{faults_of};
+ghost use Rattle.schema_fold.specs.Listed.{types_in};
+ghost use Rattle.schema_fold.specs.ListedView.{listed_view};
+ghost use Rattle.schema_fold.specs.Made.{defined_view, IsDefinition};
+ghost use Rattle.schema_fold_index.specs.DefinitionsOf.{definitions_of};
+ghost use Rattle.schema_fold_index.specs.Index.{IsIndexOf, extensions_under, defined_at};
+ghost use Rattle.schema_fold_types.specs.ListTypes.{types_from, faults_from, FoldsTypes, TellsTypes};
+ghost use Rattle.schema_fold_types.specs.OwnNames.{TypesUnderOwnNames};
+ghost use Rattle.schema_fold_types.specs.Filing.{FoldsOn};
+
+use crate::extensions::extensions_of;
+use graphql_names::{Name, SourceSpan};
+use indexmap::IndexMap;
+use schema_fold::{
+    BuildError, Defined, ExtendedType, Listed, fold_type, insert_new, type_definition,
+};
+use schema_fold_index::{Filed, Index};
+use std::alloc::{AllocError, Global};
+
+/// Folds the types (sections 3.4 to 3.10): the first definition of each name, with each extension of its name and kind.
+/// Tells each component that is not the first of its name.
+pub fn fold_types(
+    alloc: Global,
+    built_in: &[Listed],
+    texts: &[Listed],
+    index: &Index,
+    faults: &mut Vec<(Option<SourceSpan>, BuildError)>,
+) -> Result<IndexMap<Name, ExtendedType>, AllocError>
+    requires { IsIndexOf (definitions_of (map listed_view texts.now)) index.now }
+    ensures types { IfOk result (λ m. types_view m ≡ types_from (map listed_view built_in.now) (map listed_view texts.now)) }
+    ensures faults { OnOk result (faults_of faults.new ≡ faults_of faults.old ++ faults_from (map listed_view built_in.now) (map listed_view texts.now)) }
+    ensures folded { IfOk result (λ m. FoldsTypes (map listed_view built_in.now) (map listed_view texts.now) (types_view m)) }
+    ensures tells { OnOk result (TellsTypes (map listed_view built_in.now) (map listed_view texts.now) (faults_of faults.old) (faults_of faults.new)) }
+    ensures own_names { IfOk result (λ m. TypesUnderOwnNames (types_view m)) }
+{
+    let mut types = IndexMap::new(alloc);
+    fold_built_in(alloc, built_in, texts, &index.extended, &mut types, faults)?;
+    let filed = index.defined.values().as_slice();
+    fold_filed(alloc, texts, filed, &index.extended, &mut types, faults)?;
+    Ok(types)
+}
+
+/// Folds the built-in types, with their extensions.
+fn fold_built_in(
+    alloc: Global,
+    built_in: &[Listed],
+    texts: &[Listed],
+    extended: &IndexMap<Name, Filed>,
+    types: &mut IndexMap<Name, ExtendedType>,
+    faults: &mut Vec<(Option<SourceSpan>, BuildError)>,
+) -> Result<(), AllocError>
+    ensures { OnOk result (FoldsOn (extensions_under (map listed_view texts.now) extended.now.entries) (types_in (definitions_of (map listed_view built_in.now))) (types_view types.old) (faults_of faults.old) (types_view types.new) (faults_of faults.new)) }
+{
+    for listed in built_in {
+        fold_here(alloc, listed, texts, extended, types, faults)?;
+    }
+    Ok(())
+}
+
+/// Folds the first definition of each name that is filed, with its extensions.
+fn fold_filed(
+    alloc: Global,
+    texts: &[Listed],
+    defined: &[Filed],
+    extended: &IndexMap<Name, Filed>,
+    types: &mut IndexMap<Name, ExtendedType>,
+    faults: &mut Vec<(Option<SourceSpan>, BuildError)>,
+) -> Result<(), AllocError>
+    ensures { OnOk result (FoldsOn (extensions_under (map listed_view texts.now) extended.now.entries) (flat_map (λ f. defined_at (definitions_of (map listed_view texts.now)) f.first) defined.now) (types_view types.old) (faults_of faults.old) (types_view types.new) (faults_of faults.new)) }
+{
+    for filed in defined {
+        fold_at(alloc, filed.first, texts, extended, types, faults)?;
+    }
+    Ok(())
+}
+
+/// Folds the type that is defined at a position of the texts, if one is.
+fn fold_at(
+    alloc: Global,
+    position: usize,
+    texts: &[Listed],
+    extended: &IndexMap<Name, Filed>,
+    types: &mut IndexMap<Name, ExtendedType>,
+    faults: &mut Vec<(Option<SourceSpan>, BuildError)>,
+) -> Result<(), AllocError>
+    ensures { OnOk result (FoldsOn (extensions_under (map listed_view texts.now) extended.now.entries) (defined_at (definitions_of (map listed_view texts.now)) position) (types_view types.old) (faults_of faults.old) (types_view types.new) (faults_of faults.new)) }
+{
+    match texts.get(position) {
+        None => Ok(()),
+        Some(listed) => fold_here(alloc, listed, texts, extended, types, faults),
+    }
+}
+
+/// Folds the type that is defined here, if one is.
+fn fold_here(
+    alloc: Global,
+    listed: &Listed,
+    texts: &[Listed],
+    extended: &IndexMap<Name, Filed>,
+    types: &mut IndexMap<Name, ExtendedType>,
+    faults: &mut Vec<(Option<SourceSpan>, BuildError)>,
+) -> Result<(), AllocError>
+    ensures { OnOk result (FoldsOn (extensions_under (map listed_view texts.now) extended.now.entries) (option_to_list (type_here (definition_tree listed.now.definition))) (types_view types.old) (faults_of faults.old) (types_view types.new) (faults_of faults.new)) }
+{
+    match type_definition(&listed.definition) {
+        None => Ok(()),
+        Some(defined) => fold_first(alloc, &defined, texts, extended, types, faults),
+    }
+}
+
+/// Folds a type, if no earlier one has its name.
+fn fold_first(
+    alloc: Global,
+    defined: &Defined<'_>,
+    texts: &[Listed],
+    extended: &IndexMap<Name, Filed>,
+    types: &mut IndexMap<Name, ExtendedType>,
+    faults: &mut Vec<(Option<SourceSpan>, BuildError)>,
+) -> Result<(), AllocError>
+    requires { IsDefinition (defined_view defined.now) }
+    ensures { OnOk result (FoldsOn (extensions_under (map listed_view texts.now) extended.now.entries) (defined_view defined.now ∷ []) (types_view types.old) (faults_of faults.old) (types_view types.new) (faults_of faults.new)) }
+{
+    let name = defined.parts.name;
+    if types.contains_key(name) {
+        return Ok(());
+    }
+    let extensions = extensions_of(alloc, texts, extended, name)?;
+    let folded = fold_type(alloc, defined, &extensions, faults)?;
+    insert_new(types, name, folded)
+}

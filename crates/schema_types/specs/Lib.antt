@@ -1,0 +1,16 @@
+pub mod SchemaTree
+pub mod TypeView
+pub mod SchemaView
+pub mod Origins
+pub mod OriginsLeft
+pub mod Plain
+pub mod TypeParts
+pub mod Out
+pub mod Looks
+pub mod Addresses
+pub mod Distinct
+pub mod BuiltIn
+pub use Rattle.schema_components.specs as in_components
+pub use Rattle.tree_definitions.specs as in_definitions
+pub use Rattle.tree_definitions.specs.in_type_members as in_type_members
+pub use Rattle.schema_components.specs.in_values as in_values

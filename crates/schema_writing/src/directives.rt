@@ -1,0 +1,26 @@
+//! The definitions of directives.
+ghost use Rattle.std.specs.Prelude.{◌≡◌, ◌++◌, map, OnOk};
+ghost use Rattle.std.specs.List.{flat_map};
+ghost use Rattle.schema_types.specs.in_definitions.DefinitionTree.{definition_tree};
+ghost use Rattle.schema_writing.specs.SchemaParts.{written_node};
+
+use graphql_names::Node;
+use schema_types::Definition;
+use std::alloc::AllocError;
+use tree_directives::DirectiveDefinition;
+
+/// Writes each definition of a directive that is not built in.
+pub(crate) fn write_directives(
+    directives: &[Node<DirectiveDefinition>],
+    out: &mut Vec<Definition>,
+) -> Result<(), AllocError>
+    ensures { OnOk result (map definition_tree out.new.items ≡ map definition_tree out.old.items ++ flat_map written_node directives.now) }
+{
+    for directive in directives {
+        if directive.is_built_in() {
+            continue;
+        }
+        out.push(Definition::DirectiveDefinition(directive.clone()?))?;
+    }
+    Ok(())
+}

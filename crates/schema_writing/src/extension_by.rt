@@ -1,0 +1,134 @@
+//! An extension of a type of each kind.
+ghost use Rattle.std.specs.Prelude.{◌≡◌, ◌++◌, [], ◌∷◌, map, OnOk};
+ghost use Rattle.graphql_names.specs.Placed.{name_tree};
+ghost use Rattle.schema_types.specs.in_definitions.DefinitionTree.{definition_tree, scalar_extension_parts, object_extension_parts, interface_extension_parts, union_extension_parts, enum_extension_parts, input_object_extension_parts};
+ghost use Rattle.schema_types.specs.TypeParts.{extension_by, fields_parts};
+ghost use Rattle.schema_types.specs.declared.type_kind.TypeKind.TheVariants as kind;
+ghost use Rattle.schema_writing.specs.Contents.{named_parts};
+ghost use Rattle.schema_writing.specs.ContentsView.{parts_view};
+
+use crate::definition_by::write_placed;
+use crate::parts::Parts;
+use graphql_names::{Name, SourceSpan};
+use schema_types::{Definition, TypeKind};
+use std::alloc::{AllocError, Global};
+use std::mem;
+use tree_composite_types::{InterfaceTypeExtension, ObjectTypeExtension, UnionTypeExtension};
+use tree_directives::DirectiveList;
+use tree_input_types::{EnumTypeExtension, InputObjectTypeExtension, ScalarTypeExtension};
+
+/// Writes an extension of a type of that kind. The parts are taken.
+pub(crate) fn write_extension_by(
+    alloc: Global,
+    kind: TypeKind,
+    location: Option<SourceSpan>,
+    name: Name,
+    parts: &mut Parts,
+    out: &mut Vec<Definition>,
+) -> Result<(), AllocError>
+    ensures { OnOk result (map definition_tree out.new.items ≡ map definition_tree out.old.items ++ extension_by kind location (named_parts kind (name_tree name) (parts_view parts.old)) ∷ []) }
+{
+    match kind {
+        TypeKind::Scalar => write_placed(
+            alloc,
+            location,
+            scalar_extension(alloc, name, parts),
+            out,
+        ),
+        TypeKind::Object => write_placed(
+            alloc,
+            location,
+            object_extension(alloc, name, parts),
+            out,
+        ),
+        TypeKind::Interface => write_placed(
+            alloc,
+            location,
+            interface_extension(alloc, name, parts),
+            out,
+        ),
+        TypeKind::Union => write_placed(alloc, location, union_extension(alloc, name, parts), out),
+        TypeKind::Enum => write_placed(alloc, location, enum_extension(alloc, name, parts), out),
+        TypeKind::InputObject => write_placed(
+            alloc,
+            location,
+            input_object_extension(alloc, name, parts),
+            out,
+        ),
+    }
+}
+
+/// What an extension of a scalar type says (section 3.5.7).
+pub(crate) fn scalar_extension(alloc: Global, name: Name, parts: &mut Parts) -> ScalarTypeExtension
+    ensures { scalar_extension_parts result ≡ record { name = name_tree name; directives = (parts_view parts.old).directives } }
+{
+    ScalarTypeExtension {
+        name,
+        directives: mem::replace(&mut parts.directives, DirectiveList(Vec::new(alloc))),
+    }
+}
+
+/// What an extension of an object type says (section 3.6.3).
+pub(crate) fn object_extension(alloc: Global, name: Name, parts: &mut Parts) -> ObjectTypeExtension
+    ensures { object_extension_parts result ≡ fields_parts (named_parts kind.Object (name_tree name) (parts_view parts.old)) }
+{
+    ObjectTypeExtension {
+        name,
+        implements_interfaces: mem::replace(&mut parts.interfaces, Vec::new(alloc)),
+        directives: mem::replace(&mut parts.directives, DirectiveList(Vec::new(alloc))),
+        fields: mem::replace(&mut parts.fields, Vec::new(alloc)),
+    }
+}
+
+/// What an extension of an interface type says (section 3.7.1).
+pub(crate) fn interface_extension(
+    alloc: Global,
+    name: Name,
+    parts: &mut Parts,
+) -> InterfaceTypeExtension
+    ensures { interface_extension_parts result ≡ fields_parts (named_parts kind.Interface (name_tree name) (parts_view parts.old)) }
+{
+    InterfaceTypeExtension {
+        name,
+        implements_interfaces: mem::replace(&mut parts.interfaces, Vec::new(alloc)),
+        directives: mem::replace(&mut parts.directives, DirectiveList(Vec::new(alloc))),
+        fields: mem::replace(&mut parts.fields, Vec::new(alloc)),
+    }
+}
+
+/// What an extension of a union type says (section 3.8.1).
+pub(crate) fn union_extension(alloc: Global, name: Name, parts: &mut Parts) -> UnionTypeExtension
+    ensures { union_extension_parts result ≡ record { name = name_tree name; directives = (parts_view parts.old).directives; members = (parts_view parts.old).members } }
+{
+    UnionTypeExtension {
+        name,
+        directives: mem::replace(&mut parts.directives, DirectiveList(Vec::new(alloc))),
+        members: mem::replace(&mut parts.members, Vec::new(alloc)),
+    }
+}
+
+/// What an extension of an enum type says (section 3.9.1).
+pub(crate) fn enum_extension(alloc: Global, name: Name, parts: &mut Parts) -> EnumTypeExtension
+    ensures { enum_extension_parts result ≡ record { name = name_tree name; directives = (parts_view parts.old).directives; values = (parts_view parts.old).values } }
+{
+    EnumTypeExtension {
+        name,
+        directives: mem::replace(&mut parts.directives, DirectiveList(Vec::new(alloc))),
+        values: mem::replace(&mut parts.values, Vec::new(alloc)),
+    }
+}
+
+/// What an extension of an input object type says (section 3.10.1).
+pub(crate) fn input_object_extension(
+    alloc: Global,
+    name: Name,
+    parts: &mut Parts,
+) -> InputObjectTypeExtension
+    ensures { input_object_extension_parts result ≡ record { name = name_tree name; directives = (parts_view parts.old).directives; fields = (parts_view parts.old).inputs } }
+{
+    InputObjectTypeExtension {
+        name,
+        directives: mem::replace(&mut parts.directives, DirectiveList(Vec::new(alloc))),
+        fields: mem::replace(&mut parts.inputs, Vec::new(alloc)),
+    }
+}

@@ -1,0 +1,133 @@
+//! The schema definition and its extensions.
+ghost use Rattle.std.specs.Prelude.{◌≡◌, ◌++◌, [], ◌∷◌, map, None, Some, IfOk, OnOk};
+ghost use Rattle.graphql_names.specs.Placed.{node_tree};
+ghost use Rattle.tree_directives.specs.DirectiveTree.{directive_tree};
+ghost use Rattle.schema_types.specs.in_definitions.DefinitionTree.{definition_tree, schema_extension_parts};
+ghost use Rattle.schema_components.specs.Given.{extension_tree, origin_tree};
+ghost use Rattle.schema_types.specs.TypeView.{schema_roots};
+ghost use Rattle.schema_types.specs.Out.{written_schema, schema_parts_given_by};
+ghost use Rattle.schema_writing.specs.Filed.{filed_under};
+ghost use Rattle.schema_writing.specs.SchemaParts.{schema_and_types, schema_from, schema_extended_from, whole_schema};
+
+use crate::definition_by::write_placed;
+use crate::filing::{file_components, take};
+use crate::implicit::is_left_out;
+use crate::roots::add_roots;
+use graphql_names::{Name, Node};
+use indexmap::IndexMap;
+use schema_components::{ComponentOrigin, ExtensionId};
+use schema_types::{Definition, ExtendedType, SchemaDefinition, shared_description};
+use std::alloc::{AllocError, Global};
+use tree_directives::{Directive, DirectiveList};
+use tree_input_types::SchemaExtension;
+
+/// Writes the schema definition and its extensions, unless they are left out.
+pub(crate) fn write_schema(
+    alloc: Global,
+    definition: &Node<SchemaDefinition>,
+    types: &IndexMap<Name, ExtendedType>,
+    out: &mut Vec<Definition>,
+) -> Result<(), AllocError>
+    ensures { OnOk result (map definition_tree out.new.items ≡ map definition_tree out.old.items ++ written_schema (schema_and_types definition.now types.now)) }
+{
+    let extensions = definition.content().extensions(alloc)?;
+    if is_left_out(definition, extensions.as_slice(), types) {
+        return Ok(());
+    }
+    let mut directives = IndexMap::new(alloc);
+    write_whole_schema(
+        alloc,
+        definition,
+        extensions.as_slice(),
+        &mut directives,
+        out,
+    )
+}
+
+/// Files the applied directives, and writes the schema definition and these extensions of it.
+fn write_whole_schema(
+    alloc: Global,
+    definition: &Node<SchemaDefinition>,
+    extensions: &[ExtensionId],
+    directives: &mut IndexMap<ComponentOrigin, Vec<Node<Directive>>>,
+    out: &mut Vec<Definition>,
+) -> Result<(), AllocError>
+    requires { directives.old.entries ≡ [] }
+    ensures { OnOk result (map definition_tree out.new.items ≡ map definition_tree out.old.items ++ whole_schema (schema_roots definition.now) (map extension_tree extensions.now)) }
+{
+    file_components(alloc, &definition.content().directives.0, directives)?;
+    write_definition(alloc, definition, directives, out)?;
+    write_schema_extensions(alloc, definition, directives, extensions, out)
+}
+
+/// Writes the schema definition: what the definition gave.
+fn write_definition(
+    alloc: Global,
+    definition: &Node<SchemaDefinition>,
+    directives: &IndexMap<ComponentOrigin, Vec<Node<Directive>>>,
+    out: &mut Vec<Definition>,
+) -> Result<(), AllocError>
+    ensures { OnOk result (map definition_tree out.new.items ≡ map definition_tree out.old.items ++ schema_from (schema_roots definition.now) (map (node_tree directive_tree) (filed_under None directives.now.entries)) ∷ []) }
+{
+    let description = shared_description(definition.content().description.as_ref())?;
+    let said = schema_parts(alloc, definition, directives, ComponentOrigin::Definition)?;
+    write_placed(
+        alloc,
+        definition.location(),
+        said.into_definition(description),
+        out,
+    )
+}
+
+/// Writes these extensions of the schema, in order.
+fn write_schema_extensions(
+    alloc: Global,
+    definition: &Node<SchemaDefinition>,
+    directives: &IndexMap<ComponentOrigin, Vec<Node<Directive>>>,
+    extensions: &[ExtensionId],
+    out: &mut Vec<Definition>,
+) -> Result<(), AllocError>
+    ensures { OnOk result (map definition_tree out.new.items ≡ map definition_tree out.old.items ++ map (λ id. schema_extended_from (schema_roots definition.now) (extension_tree id) (map (node_tree directive_tree) (filed_under (Some (extension_tree id)) directives.now.entries))) extensions.now) }
+{
+    for id in extensions {
+        write_extension(alloc, definition, directives, *id, out)?;
+    }
+    Ok(())
+}
+
+/// Writes an extension of the schema: what it gave, at its place.
+fn write_extension(
+    alloc: Global,
+    definition: &Node<SchemaDefinition>,
+    directives: &IndexMap<ComponentOrigin, Vec<Node<Directive>>>,
+    id: ExtensionId,
+    out: &mut Vec<Definition>,
+) -> Result<(), AllocError>
+    ensures { OnOk result (map definition_tree out.new.items ≡ map definition_tree out.old.items ++ schema_extended_from (schema_roots definition.now) (extension_tree id) (map (node_tree directive_tree) (filed_under (Some (extension_tree id)) directives.now.entries)) ∷ []) }
+{
+    let said = schema_parts(
+        alloc,
+        definition,
+        directives,
+        ComponentOrigin::Extension(id),
+    )?;
+    write_placed(alloc, id.location(), said, out)
+}
+
+/// What this giver gave to the schema, as an extension says it (section 3.3.2).
+fn schema_parts(
+    alloc: Global,
+    definition: &Node<SchemaDefinition>,
+    directives: &IndexMap<ComponentOrigin, Vec<Node<Directive>>>,
+    giver: ComponentOrigin,
+) -> Result<SchemaExtension, AllocError>
+    ensures { IfOk result (λ s. schema_extension_parts s ≡ record { directives = map (node_tree directive_tree) (filed_under (origin_tree giver) directives.now.entries); roots = (schema_parts_given_by None (origin_tree giver) (schema_roots definition.now)).roots }) }
+{
+    let mut said = SchemaExtension {
+        directives: DirectiveList(Vec::new(alloc)),
+        root_operations: Vec::new(alloc),
+    };
+    take(directives, giver, &mut said.directives.0)?;
+    add_roots(alloc, definition, giver, &mut said.root_operations)?;
+    Ok(said)
+}

@@ -1,0 +1,2 @@
+pub mod CompositeTree
+pub use Rattle.tree_type_members.specs as in_type_members

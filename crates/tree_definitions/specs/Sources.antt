@@ -1,0 +1,23 @@
+-- What the sources of a document are.
+use Rattle.std.specs.Prelude.{ℕ, List, map}
+use Rattle.std.specs.String.{string_bytes}
+use Rattle.graphql_names.specs.declared.span.FileId.{FileId}
+use Rattle.tree_definitions.specs.declared.document.SourceFile.{SourceFile}
+use Rattle.tree_definitions.specs.declared.document.Document.{Document}
+
+-- a path and a text, in bytes
+pub record Source : Type 0 where
+  pub path : List ℕ
+  pub text : List ℕ
+
+-- what a source is
+abbrev pub source_of : SourceFile → Source
+source_of f = record { path = string_bytes f.path; text = string_bytes f.text }
+
+-- a source with the number of its file
+abbrev pub numbered_source : FileId × SourceFile → ℕ × Source
+numbered_source e = (e.0.0, source_of e.1)
+
+-- the sources of a document in the order in which they came
+abbrev pub sources_of : Document → List (ℕ × Source)
+sources_of d = map numbered_source d.sources.entries

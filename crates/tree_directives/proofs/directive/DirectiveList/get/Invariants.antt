@@ -1,0 +1,9 @@
+use Rattle.std.proofs.Common.{◌≡◌, drop, map}
+use Rattle.std.specs.Prelude.{find}
+use Rattle.graphql_names.specs.Placed.{node_tree}
+use Rattle.tree_directives.specs.DirectiveTree.{directive_tree, directives_tree}
+use Rattle.tree_directives.specs.DirectiveQueries.{directive_has_name}
+use Rattle.tree_directives.proofs.directive.DirectiveList.get.Given as goal
+
+abbrev pub invariant-loop-directive : goal.invariant-loop-directive
+invariant-loop-directive l = find (directive_has_name l.name) (directives_tree l.self) ≡ find (directive_has_name l.name) (map (node_tree directive_tree) (drop l.directive-index l.directive-items))

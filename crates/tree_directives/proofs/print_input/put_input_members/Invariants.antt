@@ -1,0 +1,14 @@
+use Rattle.std.proofs.Common.{map, take}
+use Rattle.std.specs.Option.{option_copied}
+use Rattle.graphql_names.specs.Placed.{node_tree}
+use Rattle.tree_directives.specs.DirectiveTree.{input_value_tree}
+use Rattle.tree_printing.specs.Levels.{level_depth}
+use Rattle.tree_printing.specs.LineLayout.{members_text}
+use Rattle.tree_printing.specs.LineLayout.{texts_of}
+use Rattle.tree_directives.specs.InputLayout.{input_value_text}
+use Rattle.tree_directives.proofs.print_input.put_input_members.Given as goal
+
+abbrev pub invariant-loop-input : goal.invariant-loop-input
+invariant-loop-input g l =
+    let prefix = option_copied l.prefix in
+    g.S.Sink.puts l.fn.sink (members_text prefix (level_depth l.level) (texts_of (input_value_text prefix) (map (node_tree input_value_tree) (take l.input-index l.inputs)))) l.sink

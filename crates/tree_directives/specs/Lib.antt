@@ -1,0 +1,20 @@
+pub mod DirectiveTree
+pub mod DirectiveQueries
+pub mod DirectiveNodes
+pub mod DirectivePlaces
+pub mod NamedNodes
+pub mod OperationQueries
+pub mod DirectiveLayout
+pub mod InputLayout
+pub mod DirectiveWritable
+pub use Rattle.graphql_names.specs.Placed
+pub use Rattle.tree_printing.specs.Joined
+pub use Rattle.tree_printing.specs.Levels
+pub use Rattle.tree_printing.specs.LineLayout
+pub use Rattle.tree_printing.specs.StringLayout
+pub use Rattle.tree_literals.specs.TypeTree
+pub use Rattle.tree_literals.specs.ValueTree
+pub use Rattle.tree_literals.specs.TypeQueries
+pub use Rattle.tree_literals.specs.ValueLayout
+pub use Rattle.tree_literals.specs.ValueWritable
+pub use Rattle.tree_literals.specs as in_literals

@@ -1,0 +1,24 @@
+-- Kinds of operations, in words, and where their directives stand (GraphQL, October 2021, sections 2.3, 3.3.1 and 3.13).
+use Rattle.std.specs.Prelude.{ℕ, List, codes}
+use Rattle.tree_directives.specs.declared.operation_type.OperationType.{OperationType}
+use Rattle.tree_directives.specs.declared.operation_type.OperationType.TheVariants as operation
+use Rattle.tree_directives.specs.declared.directive_location.DirectiveLocation.{DirectiveLocation}
+use Rattle.tree_directives.specs.declared.directive_location.DirectiveLocation.TheVariants as location
+
+-- the keyword of an operation
+abbrev pub operation_keyword : OperationType → List ℕ
+operation_keyword operation.Query = codes "query"
+operation_keyword operation.Mutation = codes "mutation"
+operation_keyword operation.Subscription = codes "subscription"
+
+-- the name that the root type has if the schema does not say another (section 3.3.1)
+abbrev pub default_root_name : OperationType → List ℕ
+default_root_name operation.Query = codes "Query"
+default_root_name operation.Mutation = codes "Mutation"
+default_root_name operation.Subscription = codes "Subscription"
+
+-- where the directives of an operation stand
+abbrev pub location_of_operation : OperationType → DirectiveLocation
+location_of_operation operation.Query = location.Query
+location_of_operation operation.Mutation = location.Mutation
+location_of_operation operation.Subscription = location.Subscription

@@ -1,0 +1,12 @@
+use Rattle.tree_type_members.specs.in_directives.DirectiveTree.{input_value_tree}
+use Rattle.graphql_names.proofs.Copies.{nodes-copies}
+use Rattle.tree_input_types.proofs.input_object_type.InputObjectTypeExtensionClone.clone.Goals as goal
+
+pub returns : goal.returns
+returns c = record {
+  cases = λ i. record {
+    name = c.in_ok-name.ensures.0 i;
+    directives = c.in_ok-name.ensures.1 i;
+    fields = nodes-copies input_value_tree _ _ c.in_ok-clone.ensures.cases.0 i;
+  };
+}

@@ -1,0 +1,13 @@
+pub mod NumberSyntax
+pub mod NumberValue
+pub mod TypeTree
+pub mod ValueTree
+pub mod TypeQueries
+pub mod ValueQueries
+pub mod ValueLayout
+pub mod ValueWritable
+pub use Rattle.tree_printing.specs.Joined
+pub use Rattle.tree_printing.specs.Levels
+pub use Rattle.tree_printing.specs.LineLayout
+pub use Rattle.tree_printing.specs.StringLayout
+pub use Rattle.graphql_names.specs.Placed

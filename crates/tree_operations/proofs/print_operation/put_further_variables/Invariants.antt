@@ -1,0 +1,11 @@
+use Rattle.std.proofs.Common.{map, take, codes}
+use Rattle.graphql_names.specs.Placed.{node_tree}
+use Rattle.tree_operations.specs.OperationTree.{variable_definition_tree}
+use Rattle.tree_printing.specs.Joined.{further_text}
+use Rattle.tree_printing.specs.LineLayout.{texts_of}
+use Rattle.tree_operations.specs.OperationLayout.{variable_text}
+use Rattle.tree_operations.proofs.print_operation.put_further_variables.Given as goal
+
+abbrev pub invariant-loop-variable : goal.invariant-loop-variable
+invariant-loop-variable g l =
+    g.S.Sink.puts l.fn.sink (further_text (codes ", ") (texts_of variable_text (map (node_tree variable_definition_tree) (take l.variable-index l.variables)))) l.sink

@@ -1,0 +1,5 @@
+pub mod TypeSystemTree
+pub mod ArgumentQueries
+pub mod TypeSystemLayout
+pub mod PartsWritable
+pub use Rattle.tree_directives.specs as in_directives

@@ -1,0 +1,42 @@
+//! Laws of the checker over what its calls answer, each the contract of a function that does nothing.
+//!
+//! Neither the verdict nor the written schema hangs on how schema texts are cut, or in which order unrelated definitions come
+//! (`specs/Alike.antt`). What is written of an accepted pair is a canonical text: checked again it is accepted, equal, and
+//! written as it was, in every layout (`specs/Again.antt`).
+//!
+//! The laws speak of all that `check_texts`, `Checker::finish` and `CheckedSchema::check` may answer by their contracts, which
+//! `specs/Answers.antt` puts together, call by call.
+#![tactic(auto)]
+
+mod calls;
+
+ghost use Rattle.verdict_call_laws.specs.Alike.{VerdictsOfRearranged, SchemasOfRearranged, VerdictsOfCut, SchemasOfCut, DocumentsOverEqual};
+ghost use Rattle.verdict_call_laws.specs.Again.{SchemaAgain, DocumentAgain, PairAgain};
+
+pub use calls::{check, check_texts, finish};
+
+/// Schema texts that are rearranged get the same verdict with every document, and equal schemas; and the same definitions are
+/// written of these, in some order.
+pub fn rearranged_texts_are_checked_alike()
+    ensures verdicts { VerdictsOfRearranged }
+    ensures schemas { SchemasOfRearranged }
+{}
+
+/// So do schema texts that are one list of definitions, cut in two ways; and the same is written of their schemas.
+pub fn cut_texts_are_checked_alike()
+    ensures verdicts { VerdictsOfCut }
+    ensures schemas { SchemasOfCut }
+{}
+
+/// Over checked schemas that are equal, with the same built in, each document is accepted by both or by neither.
+pub fn equal_schemas_check_alike()
+    ensures { DocumentsOverEqual }
+{}
+
+/// What is written of a checked schema, of a checked document, and of a pair that is accepted, is accepted again, and equal, and
+/// written as it was.
+pub fn what_is_written_is_checked_alike()
+    ensures schema { SchemaAgain }
+    ensures document { DocumentAgain }
+    ensures pair { PairAgain }
+{}

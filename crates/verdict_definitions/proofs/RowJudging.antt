@@ -1,0 +1,86 @@
+-- What refuses a pair of one schema text and a document: a fault that is due of a text, a number that is not left, or a rule that is broken.
+use Rattle.std.proofs.Common.{◌≡◌, ◌≢◌, List, [], ◌∷◌, subst, inl, inr}
+use Rattle.graphql_names.specs.Placed.{Place}
+use Rattle.graphql_read.specs.in_grammar.Faults as read
+use Rattle.graphql_read.specs.Reads.{IsDue}
+use Rattle.graphql_read.proofs.Bounds.{memory_alone}
+use Rattle.schema_fold.specs.BuildErrors as folding
+use Rattle.schema_building.specs.Numbers.{HaveNumbers}
+use Rattle.rule_definitions.specs.Faults.{SchemaFault}
+use Rattle.rule_definitions.specs.Judged.{judged}
+use Rattle.rule_definitions.specs.Rules.{Breaks, SchemaRules}
+use Rattle.document_typing.specs.TypingFaults as typing
+use Rattle.document_typing.specs.TypingFaults.{TypingRules}
+use Rattle.rule_document_definitions.specs.Told.{PlacedDocumentFault, DocumentFails, DocumentMergingFails, IsValidDocument}
+use Rattle.rule_document_definitions.specs.Named.{AreNamed}
+use Rattle.rule_document_definitions.proofs.Verdicts.{valid_where_nothing_is_told}
+use Rattle.verdict_definitions.specs.Texts.{Text, Tree, Terms, DerivesIn, ReadsText, ReadsAll, PassesNumbers, document_number}
+use Rattle.verdict_definitions.specs.Judge.{definitions_of, Folds, schema_of, schema_at_hand, meanings_over, document_over, IsAccepted}
+use Rattle.verdict_definitions.specs.Says.{FoldingFails, TypingFailsOver}
+use Rattle.verdict_definitions.proofs.RowReading.{one_tree, one_list}
+
+-- ---- bounds, and texts that are not read
+
+-- a fault is due of the document
+pub unread_refused : (terms : Terms) (schemas : List Text) (document : Text) (fault : read.Fault) → fault ≢ read.Memory
+    → IsDue (DerivesIn (document_number terms schemas)) terms.nesting document fault → IsAccepted terms schemas document → ⊥
+unread_refused terms schemas document fault some due accepted =
+    some (memory_alone (DerivesIn (document_number terms schemas)) terms.nesting document fault due accepted.over.judged.tree accepted.over.judged.read accepted.over.within.nests)
+
+-- a fault is due of the first schema text
+pub unread_schema_refused : (terms : Terms) (schema : Text) (schemas : List Text) (document : Text) (fault : read.Fault) → fault ≢ read.Memory
+    → IsDue (DerivesIn terms.first_text) terms.nesting schema fault → IsAccepted terms (schema ∷ schemas) document → ⊥
+unread_schema_refused terms schema schemas document fault some due accepted = by accepted.schema.judged.trees accepted.schema.judged.read
+  where
+    by : (trees : List Tree) → ReadsAll terms.first_text (schema ∷ schemas) trees → ⊥
+    by [] reads = reads
+    by (tree ∷ trees) reads = some (memory_alone (DerivesIn terms.first_text) terms.nesting schema fault due tree reads.0 accepted.schema.within.0.nests)
+
+-- no number is left for the document
+pub number_refused : (terms : Terms) (schemas : List Text) (document : Text) → PassesNumbers (document_number terms schemas) → IsAccepted terms schemas document → ⊥
+number_refused terms schemas document passed accepted = accepted.over.within.numbered passed
+
+-- ---- rules
+
+module _ (terms : Terms) (schema document : Text) (tree : Tree) (read_schema : ReadsText terms.first_text schema tree) where
+  trees_are : (accepted : IsAccepted terms (schema ∷ []) document) → accepted.schema.judged.trees ≡ tree ∷ []
+  trees_are accepted = one_list terms.first_text schema tree accepted.schema.judged.trees read_schema accepted.schema.judged.read
+
+  -- no number is left for an extension
+  pub extension_refused : (HaveNumbers terms.first_extension (definitions_of (tree ∷ [])) → ⊥) → IsAccepted terms (schema ∷ []) document → ⊥
+  extension_refused none accepted = none (subst (λ (ts : List Tree). HaveNumbers terms.first_extension (definitions_of ts)) (trees_are accepted) accepted.schema.numbered)
+
+  -- a folding rule is broken
+  pub folding_refused : (fault : folding.Fault) → FoldingFails terms (tree ∷ []) fault → IsAccepted terms (schema ∷ []) document → ⊥
+  folding_refused fault fails accepted = subst (λ (ts : List Tree). Folds terms ts) (trees_are accepted) accepted.schema.judged.folds fault fails
+
+  -- a rule on schemas is broken
+  pub schema_refused : (broken : SchemaFault) → Breaks (judged (schema_of terms (tree ∷ []))) broken → IsAccepted terms (schema ∷ []) document → ⊥
+  schema_refused broken breaks accepted = subst (λ (ts : List Tree). SchemaRules (judged (schema_of terms ts))) (trees_are accepted) accepted.schema.judged.holds broken breaks
+
+  module _ (document_tree : Tree) (read_document : ReadsText (document_number terms (schema ∷ [])) document document_tree) where
+    tree_is : (accepted : IsAccepted terms (schema ∷ []) document) → accepted.over.judged.tree ≡ document_tree
+    tree_is accepted = one_tree (document_number terms (schema ∷ [])) document document_tree accepted.over.judged.tree read_document accepted.over.judged.read
+
+    -- a rule of typing is broken
+    pub typing_refused : (fault : typing.Fault Place) → TypingFailsOver (schema_at_hand terms (tree ∷ [])) document_tree fault → IsAccepted terms (schema ∷ []) document → ⊥
+    typing_refused fault fails accepted =
+        subst (λ (t : Tree). TypingRules (meanings_over (schema_at_hand terms (tree ∷ []))) t) (tree_is accepted)
+        (subst (λ (ts : List Tree). TypingRules (meanings_over (schema_at_hand terms ts)) accepted.over.judged.tree) (trees_are accepted) accepted.over.judged.typed)
+        fault fails
+
+    valid : (accepted : IsAccepted terms (schema ∷ []) document) → IsValidDocument (schema_at_hand terms (tree ∷ [])) (document_over (schema_at_hand terms (tree ∷ [])) document_tree)
+    valid accepted =
+        subst (λ (t : Tree). IsValidDocument (schema_at_hand terms (tree ∷ [])) (document_over (schema_at_hand terms (tree ∷ [])) t)) (tree_is accepted)
+        (subst (λ (ts : List Tree). IsValidDocument (schema_at_hand terms ts) (document_over (schema_at_hand terms ts) accepted.over.judged.tree)) (trees_are accepted) accepted.over.judged.holds)
+
+    module _ (are_named : AreNamed (document_over (schema_at_hand terms (tree ∷ [])) document_tree)) (fault : PlacedDocumentFault) where
+      -- a rule on documents is broken
+      pub document_refused : DocumentFails (schema_at_hand terms (tree ∷ [])) (document_over (schema_at_hand terms (tree ∷ [])) document_tree) fault → IsAccepted terms (schema ∷ []) document → ⊥
+      document_refused fails accepted =
+          (valid_where_nothing_is_told (schema_at_hand terms (tree ∷ [])) (document_over (schema_at_hand terms (tree ∷ [])) document_tree) are_named).0 (valid accepted) fault (inl fails)
+
+      -- the fields do not merge
+      pub merging_refused : DocumentMergingFails (schema_at_hand terms (tree ∷ [])) (document_over (schema_at_hand terms (tree ∷ [])) document_tree) fault → IsAccepted terms (schema ∷ []) document → ⊥
+      merging_refused fails accepted =
+          (valid_where_nothing_is_told (schema_at_hand terms (tree ∷ [])) (document_over (schema_at_hand terms (tree ∷ [])) document_tree) are_named).0 (valid accepted) fault (inr fails)

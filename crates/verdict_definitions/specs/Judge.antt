@@ -1,0 +1,108 @@
+-- The verdict: when schema texts, and a document over them, are accepted (GraphQL, October 2021, sections 2, 3 and 5).
+use Rattle.std.specs.Prelude.{ℕ, List}
+use Rattle.std.specs.List.{flat_map}
+use Rattle.graphql_names.specs.Placed.{Place}
+use Rattle.schema_types.specs.SchemaTree.{SchemaTree}
+use Rattle.schema_types.specs.Plain.{plain}
+use Rattle.schema_built_in.specs.Table.{built_in_definitions}
+use Rattle.schema_fold.specs.BuildErrors.{FoldingRules}
+use Rattle.schema_fold.specs.Fold.{fold}
+use Rattle.schema_building.specs.Numbers.{HaveNumbers}
+use Rattle.rule_definitions.specs.Judged.{judged}
+use Rattle.rule_definitions.specs.Faults.{SchemaFault}
+use Rattle.rule_definitions.specs.Kept.{validated}
+use Rattle.rule_definitions.specs.Cycles.{PassesReferenceBound}
+use Rattle.rule_definitions.specs.Rules.{SchemaRules}
+use Rattle.document_meaning.specs.MeantTree.{MeantDocument}
+use Rattle.document_meaning.specs.Unplaced.{unplaced_document}
+use Rattle.document_typing.specs.Meanings.{Meanings, meanings}
+use Rattle.document_typing.specs.KeptDocument.{kept_document}
+use Rattle.document_typing.specs.TypingFaults.{TypingRules}
+use Rattle.rule_document_definitions.specs.Told.{IsValidDocument}
+use Rattle.rule_document_definitions.specs.Verdict.{WithinBounds}
+use Rattle.verdict_definitions.specs.Texts.{Text, Tree, Terms, ReadsText, ReadsAll, document_number, IsWithin, AreWithin}
+
+-- ---- the schema, and the document over it
+
+-- the definitions of the texts, in order
+abbrev pub definitions_of : List Tree → Tree
+definitions_of trees = flat_map (λ t. t) trees
+
+module _ (terms : Terms) (trees : List Tree) where
+  -- no folding rule is broken
+  abbrev pub Folds : Type 0
+  Folds = FoldingRules built_in_definitions terms.first_extension (definitions_of trees)
+
+  -- the schema that they fold to, behind what is built in
+  abbrev pub schema_of : SchemaTree Place
+  schema_of = fold built_in_definitions terms.first_extension (definitions_of trees)
+
+  -- the schema over which documents are judged: without built-in scalars to which nothing refers
+  abbrev pub schema_at_hand : SchemaTree Place
+  schema_at_hand = validated schema_of
+
+-- what typing reads of a schema, and what it keeps of a document over it
+abbrev pub meanings_over : SchemaTree Place → Meanings
+meanings_over schema = meanings (plain schema)
+
+abbrev pub document_over : SchemaTree Place → Tree → MeantDocument Place
+document_over schema tree = kept_document (meanings_over schema) tree
+
+-- ---- the verdict
+
+-- The schema texts are read, and every rule holds of the schema that they fold to.
+pub record JudgeSchemas (terms : Terms) (schemas : List Text) : Type 0 where
+  pub trees : List Tree
+  pub read : ReadsAll terms.first_text schemas trees
+  pub folds : Folds terms trees
+  pub holds : SchemaRules (judged (schema_of terms trees))
+
+-- The document, which has this number, is read, and every rule holds of it over the schema: those of typing, and then those
+-- on documents and on merging.
+pub record JudgeDocument (schema : SchemaTree Place) (number : ℕ) (document : Text) : Type 0 where
+  pub tree : Tree
+  pub read : ReadsText number document tree
+  pub typed : TypingRules (meanings_over schema) tree
+  pub holds : IsValidDocument schema (document_over schema tree)
+
+-- The texts are read, and every rule holds of the schema and of the document over it.
+pub record Judge (terms : Terms) (schemas : List Text) (document : Text) : Type 0 where
+  pub schema : JudgeSchemas terms schemas
+  pub over : JudgeDocument (schema_at_hand terms schema.trees) (document_number terms schemas) document
+
+-- ---- what is accepted: what is judged well, and nests and counts within the bounds
+
+pub record AreSchemasAccepted (terms : Terms) (schemas : List Text) : Type 0 where
+  pub judged : JudgeSchemas terms schemas
+  pub within : AreWithin terms.nesting terms.first_text schemas
+  pub numbered : HaveNumbers terms.first_extension (definitions_of judged.trees)
+
+pub record IsDocumentAccepted (schema : SchemaTree Place) (nesting number : ℕ) (document : Text) : Type 0 where
+  pub judged : JudgeDocument schema number document
+  pub within : IsWithin nesting number document
+
+pub record IsAccepted (terms : Terms) (schemas : List Text) (document : Text) : Type 0 where
+  pub schema : AreSchemasAccepted terms schemas
+  pub over : IsDocumentAccepted (schema_at_hand terms schema.judged.trees) terms.nesting (document_number terms schemas) document
+
+-- ---- the bounds within which what is right is accepted for sure
+
+-- ReferenceBound: no way along the references of directives or of input objects is too long
+abbrev pub PassesNoReferenceBound : SchemaTree Place → Type 0
+PassesNoReferenceBound schema = (fault : SchemaFault) → PassesReferenceBound (judged schema) fault → ⊥
+
+-- SpreadBound, PathBound and ChainBound: no way of spreads, of selections or of fields is too long
+abbrev pub PassesNoDocumentBound : SchemaTree Place → Tree → Type 0
+PassesNoDocumentBound schema tree = WithinBounds (unplaced_document (document_over schema tree))
+
+-- the accepted schema texts, the accepted document, the accepted pair, pass none of these
+abbrev pub AreSchemasCertain : Terms → List Text → Type 0
+AreSchemasCertain terms schemas = (accepted : AreSchemasAccepted terms schemas) × PassesNoReferenceBound (schema_of terms accepted.judged.trees)
+
+abbrev pub IsDocumentCertain : SchemaTree Place → ℕ → ℕ → Text → Type 0
+IsDocumentCertain schema nesting number document = (accepted : IsDocumentAccepted schema nesting number document) × PassesNoDocumentBound schema accepted.judged.tree
+
+pub record IsCertain (terms : Terms) (schemas : List Text) (document : Text) : Type 0 where
+  pub accepted : IsAccepted terms schemas document
+  pub references : PassesNoReferenceBound (schema_of terms accepted.schema.judged.trees)
+  pub nests : PassesNoDocumentBound (schema_at_hand terms accepted.schema.judged.trees) accepted.over.judged.tree

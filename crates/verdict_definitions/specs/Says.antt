@@ -1,0 +1,125 @@
+-- What a fault says of the texts, and where it stands.
+use Rattle.std.specs.Prelude.{◌≡◌, ℕ, ◌+◌, ◌⊎◌, List, [], ◌∷◌, None, Some}
+use Rattle.graphql_names.specs.declared.span.SourceSpan.{SourceSpan}
+use Rattle.graphql_names.specs.Placed.{Place}
+use Rattle.graphql_read.specs.in_grammar.Faults as read
+use Rattle.graphql_read.specs.Reads.{IsDue}
+use Rattle.graphql_read.specs.declared.fault.SyntaxFaultKind.TheVariants.{NoToken, Unexpected, End}
+use Rattle.schema_types.specs.SchemaTree.{SchemaTree}
+use Rattle.schema_built_in.specs.Table.{built_in_definitions}
+use Rattle.schema_fold.specs.BuildErrors as folding
+use Rattle.schema_fold.specs.BuildErrors.{Fails}
+use Rattle.schema_building.specs.Numbers.{HaveNumbers}
+use Rattle.rule_definitions.specs.Rules as rules
+use Rattle.rule_definitions.specs.Told.{PlacedFault}
+use Rattle.document_typing.specs.TypingFaults as typing
+use Rattle.document_typing.specs.TypingFaults.{TypingFails}
+use Rattle.rule_document_definitions.specs.DocumentFaults.{OfData, OfDocument, OfLimit}
+use Rattle.rule_document_definitions.specs.Told.{PlacedDocumentFault, DocumentFails, DocumentMergingFails, DocumentBoundFails}
+use Rattle.graphql_faults.specs.DetailsTree.{DetailsAt, Syntax, Nesting, Spent, SchemaBuild, DocumentBuild, RecursionLimitError, of_rule}
+use Rattle.verdict_definitions.specs.Texts.{Text, Tree, Terms, DerivesIn, ReadsText, ReadsAll, PassesNumbers}
+use Rattle.verdict_definitions.specs.Judge.{definitions_of, schema_of, meanings_over, document_over}
+
+-- what is wrong, and where
+abbrev pub Fault : Type 0
+Fault = DetailsAt Place (List Place)
+
+-- what breaks a rule of folding, of typing or of documents, among all that can be wrong
+abbrev pub of_folding : folding.Fault → Fault
+of_folding f = record { place = f.place; details = SchemaBuild f.breach }
+
+abbrev pub of_typing : typing.Fault Place → Fault
+of_typing f = record { place = f.place; details = DocumentBuild f.breach }
+
+abbrev pub of_document : PlacedDocumentFault → Fault
+of_document (OfData fault) = of_rule fault
+of_document (OfDocument broken) = record { place = broken.place; details = DocumentBuild broken.it }
+of_document (OfLimit place) = record { place = place; details = RecursionLimitError }
+
+-- ---- a text that is not read
+
+-- the place is in this text, begins at the offset, and is so many bytes long
+pub record IsPlaceIn (number offset length : ℕ) (place : Place) : Type 0 where
+  pub span : SourceSpan
+  pub is : place ≡ Some span
+  pub of_file : span.file_id.0 ≡ number
+  pub at : span.offset ≡ offset
+  pub long : span.length ≡ length
+
+-- the fault tells of this one of the reader: that the syntax is wrong at an offset, or one bracket too many at it
+abbrev pub Tells : ℕ → read.Fault → Fault → Type 0
+Tells number read.Memory fault = ⊥
+Tells number (read.NoToken offset) fault = (fault.details ≡ Syntax NoToken) × IsPlaceIn number offset 0 fault.place
+Tells number (read.Unexpected offset) fault = (fault.details ≡ Syntax Unexpected) × IsPlaceIn number offset 0 fault.place
+Tells number (read.End offset) fault = (fault.details ≡ Syntax End) × IsPlaceIn number offset 0 fault.place
+Tells number (read.Nesting offset) fault = (fault.details ≡ Nesting) × IsPlaceIn number offset 1 fault.place
+
+-- The fault tells of one that is due of the text with this number.
+pub record IsFaultOfText (nesting number : ℕ) (text : Text) (fault : Fault) : Type 0 where
+  pub read : read.Fault
+  pub due : IsDue (DerivesIn number) nesting text read
+  pub tells : Tells number read fault
+
+-- that numbers are spent
+abbrev pub spent : Fault
+spent = record { place = None; details = Spent }
+
+-- the text with this number is not read, and this fault says why: what is wrong with it, or that no number is left for it
+abbrev pub UnreadFault : ℕ → ℕ → Text → Fault → Type 0
+UnreadFault nesting number text fault = IsFaultOfText nesting number text fault ⊎ ((fault ≡ spent) × PassesNumbers number)
+
+-- one of the texts is not read, and this fault says why, where the first has this number
+abbrev pub UnreadFaultFrom : ℕ → ℕ → List Text → Fault → Type 0
+UnreadFaultFrom nesting first [] fault = ⊥
+UnreadFaultFrom nesting first (text ∷ texts) fault = UnreadFault nesting first text fault ⊎ UnreadFaultFrom nesting (first + 1) texts fault
+
+-- ---- a schema of which a rule is broken
+
+module _ (terms : Terms) (trees : List Tree) where
+  -- a folding rule is broken so
+  abbrev pub FoldingFails : folding.Fault → Type 0
+  FoldingFails fault = Fails built_in_definitions terms.first_extension (definitions_of trees) fault
+
+  -- a rule on schemas is broken so, or the bound on references is passed
+  abbrev pub SchemaRuleFails : PlacedFault → Type 0
+  SchemaRuleFails fault = rules.RulesFail (schema_of terms trees) fault ⊎ rules.BoundFails (schema_of terms trees) fault
+
+  -- a fault of the schema: no number is left for an extension, or a rule is broken so
+  abbrev pub SchemaFails : Fault → Type 0
+  SchemaFails fault =
+      ((fault ≡ spent) × (HaveNumbers terms.first_extension (definitions_of trees) → ⊥))
+      ⊎ (((f : folding.Fault) × ((fault ≡ of_folding f) × FoldingFails f))
+      ⊎ ((f : PlacedFault) × ((fault ≡ of_rule f) × SchemaRuleFails f)))
+
+-- ---- a document of which a rule is broken
+
+module _ (schema : SchemaTree Place) (tree : Tree) where
+  -- a rule of typing is broken so
+  abbrev pub TypingFailsOver : typing.Fault Place → Type 0
+  TypingFailsOver fault = TypingFails (meanings_over schema) tree fault
+
+  -- a rule on documents or on merging is broken so, or a bound is passed
+  abbrev pub DocumentRuleFails : PlacedDocumentFault → Type 0
+  DocumentRuleFails fault =
+      DocumentFails schema (document_over schema tree) fault
+      ⊎ (DocumentMergingFails schema (document_over schema tree) fault ⊎ DocumentBoundFails (document_over schema tree) fault)
+
+  -- a fault of the document
+  abbrev pub DocumentFailsOver : Fault → Type 0
+  DocumentFailsOver fault =
+      ((f : typing.Fault Place) × ((fault ≡ of_typing f) × TypingFailsOver f))
+      ⊎ ((f : PlacedDocumentFault) × ((fault ≡ of_document f) × DocumentRuleFails f))
+
+-- ---- what a fault says
+
+-- Some fault of the schema texts is so: of a text that is not read, or of the schema.
+abbrev pub SaysSchema : Terms → List Text → Fault → Type 0
+SaysSchema terms schemas fault =
+    UnreadFaultFrom terms.nesting terms.first_text schemas fault
+    ⊎ ((trees : List Tree) × (ReadsAll terms.first_text schemas trees × SchemaFails terms trees fault))
+
+-- Some fault of the document, which has this number, is so: that it is not read, or what is wrong with it over the schema.
+abbrev pub SaysDocument : SchemaTree Place → ℕ → ℕ → Text → Fault → Type 0
+SaysDocument schema nesting number document fault =
+    UnreadFault nesting number document fault
+    ⊎ ((tree : Tree) × (ReadsText number document tree × DocumentFailsOver schema tree fault))

@@ -1,0 +1,67 @@
+-- Texts and their trees: which have one, and within which bounds (GraphQL, October 2021, section 2 and appendix B).
+use Rattle.std.specs.Prelude.{◌≡◌, ℕ, ◌+◌, ◌≤◌, ◌^◌, List, [], ◌∷◌, length}
+use Rattle.graphql_names.specs.Placed.{Place}
+use Rattle.tree_definitions.specs.DefinitionTree.{DefinitionTree}
+use Rattle.graphql_read.specs.in_lexer.Input.{Token}
+use Rattle.graphql_read.specs.in_grammar.Grammar.{Derives}
+use Rattle.graphql_read.specs.in_parse_values.Meanings.{in_file}
+use Rattle.graphql_read.specs.Reads.{Reads, NestingBound}
+
+-- a text, in bytes, and the definitions that one has
+abbrev pub Text : Type 0
+Text = List ℕ
+
+abbrev pub Tree : Type 0
+Tree = List (DefinitionTree Place)
+
+-- On which terms texts are judged: how many brackets may be open at once, and from which numbers on texts and extensions
+-- are counted.
+pub record Terms : Type 0 where
+  pub nesting : ℕ
+  pub first_text : ℕ
+  pub first_extension : ℕ
+
+-- these tokens, of the text with this number, are a document with this tree
+abbrev pub DerivesIn : ℕ → List Token → Tree → Type 0
+DerivesIn number = Derives (in_file (record { 0 = number }))
+
+-- the text with this number has this tree
+abbrev pub ReadsText : ℕ → Text → Tree → Type 0
+ReadsText number = Reads (DerivesIn number)
+
+-- each text has its tree, where the first has this number and each next one the next
+abbrev pub ReadsAll : ℕ → List Text → List Tree → Type 0
+ReadsAll first [] [] = Unit {0}
+ReadsAll first (text ∷ texts) (tree ∷ trees) = ReadsText first text tree × ReadsAll (first + 1) texts trees
+ReadsAll first _ _ = ⊥
+
+-- the number of the document behind these schema texts
+abbrev pub document_number : Terms → List Text → ℕ
+document_number terms schemas = length schemas + terms.first_text
+
+-- ---- bounds
+
+-- a text would have this number, and the greatest of 64 bits is given to none
+abbrev pub PassesNumbers : ℕ → Type 0
+PassesNumbers number = 2 ^ 64 ≤ number + 1
+
+-- a text with this number passes no bound
+pub record IsWithin (nesting number : ℕ) (text : Text) : Type 0 where
+  pub nests : NestingBound nesting text → ⊥
+  pub numbered : PassesNumbers number → ⊥
+
+-- each text passes no bound, where the first has this number
+abbrev pub AreWithin : ℕ → ℕ → List Text → Type 0
+AreWithin nesting first [] = Unit {0}
+AreWithin nesting first (text ∷ texts) = IsWithin nesting first text × AreWithin nesting (first + 1) texts
+
+-- The text with this number is read.
+pub record IsRead (nesting number : ℕ) (text : Text) : Type 0 where
+  pub tree : Tree
+  pub reads : ReadsText number text tree
+  pub within : IsWithin nesting number text
+
+-- each text is read, where the first has this number
+abbrev pub AreRead : ℕ → ℕ → List Text → Type 0
+AreRead nesting first [] = Unit {0}
+AreRead nesting first (text ∷ texts) = IsRead nesting first text × AreRead nesting (first + 1) texts

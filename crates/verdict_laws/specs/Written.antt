@@ -1,0 +1,19 @@
+-- What an accepted pair is written from can be written (GraphQL, October 2021, appendix B).
+use Rattle.std.specs.Prelude.{◌≡◌, ◌≢◌, ℕ, true, List}
+use Rattle.graphql_names.specs.Placed.{Place}
+use Rattle.tree_definitions.specs.Writable.{document_writable}
+use Rattle.schema_types.specs.SchemaTree.{SchemaTree}
+use Rattle.document_typing.specs.TypingFaults.{TypingRules}
+use Rattle.verdict_definitions.specs.Texts.{Text, Tree, Terms, ReadsText}
+use Rattle.verdict_definitions.specs.Judge.{AreSchemasAccepted, meanings_over}
+use Rattle.verdict_definitions.specs.Out.{Out, OutDoc}
+
+-- of schema texts that are accepted, where none has the number of what is built in
+abbrev pub AcceptedSchemasCanBeWritten : Type 0
+AcceptedSchemasCanBeWritten = (terms : Terms) (schemas : List Text) → terms.first_text ≢ 0 → (accepted : AreSchemasAccepted terms schemas)
+    → document_writable (Out terms accepted.judged.trees) ≡ true
+
+-- of a document that is read and breaks no rule of typing
+abbrev pub TypedDocumentsCanBeWritten : Type 0
+TypedDocumentsCanBeWritten = (schema : SchemaTree Place) (number : ℕ) (document : Text) (tree : Tree) → ReadsText number document tree
+    → TypingRules (meanings_over schema) tree → document_writable (OutDoc tree) ≡ true

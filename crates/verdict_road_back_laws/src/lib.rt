@@ -1,0 +1,25 @@
+//! The road back: laws, each the contract of a function that does nothing.
+//!
+//! What is written of an accepted pair of texts is read back equal, accepted on the same terms, and written as it was
+//! (`specs/RoadBack.antt`).
+#![tactic(auto)]
+
+ghost use Rattle.verdict_road_back_laws.specs.RoadBack.{SchemaRoadBack, DocumentRoadBack, PairRoadBack, AnswerRoadBack};
+
+/// What is written of accepted schema texts is read back, accepted, equal, and written as it was.
+pub fn schemas_lead_back()
+    ensures { SchemaRoadBack }
+{}
+
+/// What is written of a document that is accepted over a schema is, over each equal one, read back, accepted, equal, and written as
+/// it was.
+pub fn documents_lead_back()
+    ensures { DocumentRoadBack }
+{}
+
+/// What is written of an accepted pair is accepted on the same terms, for sure where the pair was, and the same bytes are put out
+/// for it; and so they are where what is put out is put in again.
+pub fn pairs_lead_back()
+    ensures pairs { PairRoadBack }
+    ensures answers { AnswerRoadBack }
+{}
