@@ -1,6 +1,7 @@
 pub mod Cut
 pub mod Device
 pub mod NameSyntax
+pub mod TextPart
 pub mod NameText
 pub mod NameValue
 pub mod NameErrors

@@ -5,7 +5,7 @@ use std::alloc::AllocError;
 
 /// Copies of two things, or the allocator's error.
 pub fn copies_of_two<A: Clone, B: Clone>(a: &A, b: &B) -> Result<(A, B), AllocError>
-    ensures { IfOk result (λ copies. A.is_clone a.now copies.0 × B.is_clone b.now copies.1) }
+    ensures { IfOk result (λ r. A.is_clone a.now r.0 × B.is_clone b.now r.1) }
 {
     Ok((a.clone()?, b.clone()?))
 }
@@ -16,7 +16,7 @@ pub fn copies_of_three<A: Clone, B: Clone, C: Clone>(
     b: &B,
     c: &C,
 ) -> Result<(A, B, C), AllocError>
-    ensures { IfOk result (λ copies. A.is_clone a.now copies.0 × B.is_clone b.now copies.1 × C.is_clone c.now copies.2) }
+    ensures { IfOk result (λ r. A.is_clone a.now r.0 × B.is_clone b.now r.1 × C.is_clone c.now r.2) }
 {
     let front = copies_of_two(a, b)?;
     let last = c.clone()?;
@@ -30,7 +30,7 @@ pub fn copies_of_four<A: Clone, B: Clone, C: Clone, D: Clone>(
     c: &C,
     d: &D,
 ) -> Result<(A, B, C, D), AllocError>
-    ensures { IfOk result (λ copies. A.is_clone a.now copies.0 × B.is_clone b.now copies.1 × C.is_clone c.now copies.2 × D.is_clone d.now copies.3) }
+    ensures { IfOk result (λ r. A.is_clone a.now r.0 × B.is_clone b.now r.1 × C.is_clone c.now r.2 × D.is_clone d.now r.3) }
 {
     let front = copies_of_two(a, b)?;
     let back = copies_of_two(c, d)?;
@@ -45,7 +45,7 @@ pub fn copies_of_five<A: Clone, B: Clone, C: Clone, D: Clone, E: Clone>(
     d: &D,
     e: &E,
 ) -> Result<(A, B, C, D, E), AllocError>
-    ensures { IfOk result (λ copies. A.is_clone a.now copies.0 × B.is_clone b.now copies.1 × C.is_clone c.now copies.2 × D.is_clone d.now copies.3 × E.is_clone e.now copies.4) }
+    ensures { IfOk result (λ r. A.is_clone a.now r.0 × B.is_clone b.now r.1 × C.is_clone c.now r.2 × D.is_clone d.now r.3 × E.is_clone e.now r.4) }
 {
     let front = copies_of_two(a, b)?;
     let back = copies_of_three(c, d, e)?;

@@ -23,6 +23,8 @@ mod node_laws;
 mod node_str;
 mod places;
 mod span;
+mod text_part;
+mod text_part_calls;
 
 pub use clones::{copies_of_five, copies_of_four, copies_of_three, copies_of_two};
 pub use cut::{Cut, Ending};
@@ -33,3 +35,4 @@ pub use node::Node;
 pub use node_str::NodeStr;
 pub use places::recompose;
 pub use span::{FileId, SourceSpan};
+pub use text_part::TextPart;

@@ -4,11 +4,13 @@ ghost use Rattle.std.specs.List.{list_all};
 ghost use Rattle.std.specs.Rc.{rc_str_bytes};
 ghost use Rattle.graphql_names.specs.NameSyntax.{is_name, is_name_start, is_name_continue, IsName};
 ghost use Rattle.graphql_names.specs.NameText.{text_bytes, text_is_static, static_answer, shared_answer};
+ghost use Rattle.graphql_names.specs.TextPart.{part_bytes};
 ghost use Rattle.graphql_names.specs.NameValue.{IsPlaceOf};
 ghost use Rattle.graphql_names.specs.NameErrors.{NameErrorIsDue};
 
 use crate::name_text::NameText;
 use crate::span::SourceSpan;
+use crate::text_part::TextPart;
 use std::alloc::{AllocError, Global};
 use std::marker::Model;
 use std::rc::RcStr;
@@ -150,6 +152,19 @@ impl Name {
         }
     }
 
+    /// A name of a part of a shared text, which is a Name token, without a place. It takes no memory.
+    pub fn from_part_unchecked(part: TextPart) -> Name
+        requires { IsName (part_bytes part) }
+        ensures text { result.text ≡ part_bytes part }
+        ensures shared { result.is_static ≡ false }
+        ensures location { result.location ≡ None }
+    {
+        Name {
+            text: NameText::Part(part),
+            location: None,
+        }
+    }
+
     /// The same name, read from `place`, which is as long as the text.
     pub fn with_location(self, place: SourceSpan) -> Name
         requires { place.length ≡ length self.text }
@@ -195,19 +210,20 @@ impl Name {
         ensures { static_answer self.now.is_static self.now.text result }
     {
         match &self.text {
-            NameText::Shared(_) => None,
+            NameText::Shared(_) | NameText::Part(_) => None,
             NameText::Static(text) => Some(*text),
         }
     }
 
-    /// The shared text, where it is not one of the program. No text is copied: memory is refused only
-    /// where the text is shared as often as can be counted.
-    pub fn to_cloned_arc(&self) -> Result<Option<RcStr>, AllocError>
+    /// The text as a shared one, where it is not one of the program. It is copied only where it is a part
+    /// of a longer text; else memory is refused only where the text is shared as often as can be counted.
+    pub fn to_cloned_arc(&self, alloc: Global) -> Result<Option<RcStr>, AllocError>
         ensures value { IfOk result (shared_answer self.now.is_static self.now.text) }
         ensures stat { IsTrue self.now.is_static → IsOk result }
     {
         match &self.text {
             NameText::Shared(text) => Ok(Some(text.clone()?)),
+            NameText::Part(part) => Ok(Some(RcStr::from_str(alloc, part.as_str())?)),
             NameText::Static(_) => Ok(None),
         }
     }

@@ -2,13 +2,15 @@
 ghost use Rattle.std.specs.Prelude.{◌≡◌, IfOk, IsOk, IsTrue};
 ghost use Rattle.graphql_names.specs.NameText.{text_bytes, text_is_static};
 
+use crate::text_part::TextPart;
 use std::alloc::AllocError;
 use std::rc::RcStr;
 
-/// A text that several names may share, or a text of the program.
+/// A text that several names may share, a part of a text that many names share, or a text of the program.
 #[derive(Drop)]
 pub(crate) enum NameText {
     Shared(RcStr),
+    Part(TextPart),
     Static(&'static str),
 }
 
@@ -19,6 +21,7 @@ impl NameText {
     {
         match self {
             NameText::Shared(text) => text.as_str(),
+            NameText::Part(part) => part.as_str(),
             NameText::Static(text) => *text,
         }
     }
@@ -34,6 +37,7 @@ impl Clone for NameText {
     {
         match self {
             NameText::Shared(text) => Ok(NameText::Shared(text.clone()?)),
+            NameText::Part(part) => Ok(NameText::Part(part.clone()?)),
             NameText::Static(text) => Ok(NameText::Static(*text)),
         }
     }

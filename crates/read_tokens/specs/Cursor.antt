@@ -1,5 +1,6 @@
 -- What a `Source` shows: the tokens of its text that are left.
 use Rattle.std.specs.Prelude.{◌≡◌, ◌≤◌, ℕ, zero, suc, ◌+◌, ◌-◌, Bool, true, false, List, [], ◌∷◌, length, take, drop, Option, Some, None}
+use Rattle.std.specs.Rc.{rc_str_bytes}
 use Rattle.read_tokens.specs.Input.{Token, Ending, Ended, NoTokenAt, Input, past}
 use Rattle.read_tokens.specs.Tokens.{ignored_at, token_at}
 use Rattle.read_tokens.specs.Terminals.{terminal_of}
@@ -42,8 +43,9 @@ symbol_at text = with_terminal (token_at text) text
 abbrev pub source_of : Inside → Input
 source_of t = input_from t.last t.at t.text.now
 
--- The next token begins at the place, and is known.
+-- The next token begins at the place, and is known; and the text is the shared one.
 pub record IsReady (t : Inside) : Type 0 where
+  pub shared : rc_str_bytes t.shared.now ≡ t.text.now
   pub within : t.at ≤ length t.text.now
   pub token : t.next ≡ symbol_at (drop t.at t.text.now)
   pub begins : ignored_at (drop t.at t.text.now) ≡ None

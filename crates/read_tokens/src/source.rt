@@ -1,17 +1,24 @@
 //! A cursor over the tokens of a text.
-ghost use Rattle.std.specs.Prelude.{◌≡◌, ◌≤◌, length, drop};
+ghost use Rattle.std.specs.Prelude.{◌≡◌, ◌≤◌, length, drop, IfOk};
+ghost use Rattle.std.specs.Rc.{rc_str_bytes};
+ghost use Rattle.graphql_names.specs.TextPart.{part_bytes};
 ghost use Rattle.read_tokens.specs.Input as input;
 ghost use Rattle.read_tokens.specs.Cursor as spec;
 ghost use Rattle.read_tokens.specs.Forms.{FormOf};
 
-use crate::next::{past_ignored, token_from, token_text};
+use crate::next::{end_part, past_ignored, token_from, token_part, token_text};
 use crate::terminal::Terminal;
 use crate::terminals::terminal_of;
+use graphql_names::TextPart;
+use std::alloc::AllocError;
 use std::marker::Model;
+use std::rc::RcStr;
 
 /// The tokens of a text, one after the other. Each is cut when it comes, and none is kept.
 #[derive(Drop)]
 pub struct Source<'a> {
+    /// The text as others share it, and its bytes.
+    shared: &'a RcStr,
     text: &'a str,
     /// Where the next token begins, or the tokens end, in bytes.
     at: usize,
@@ -46,14 +53,16 @@ fn symbol_at(text: &str, at: usize) -> Option<(Terminal, usize)>
 }
 
 impl<'a> Source<'a> {
-    /// The tokens of a text.
+    /// The tokens of a text, of which names are then parts.
     #[tactic(auto, using(crate::proofs::Rests::from_past, crate::proofs::Rests::nothing_ignored, crate::proofs::Lexed::ends_as))]
-    pub fn new(text: &'a str) -> Source<'a>
-        ensures shows { result ≡ spec.input_from 0 0 text.now }
-        ensures lexed { spec.EndsAs text.now result.ahead result.ending }
+    pub fn new(shared: &'a RcStr) -> Source<'a>
+        ensures shows { result ≡ spec.input_from 0 0 (rc_str_bytes shared.now) }
+        ensures lexed { spec.EndsAs (rc_str_bytes shared.now) result.ahead result.ending }
     {
+        let text = shared.as_str();
         let at = past_ignored(text, 0);
         Source {
+            shared,
             text,
             at,
             next: symbol_at(text, at),
@@ -69,6 +78,18 @@ impl<'a> Source<'a> {
         match self.next {
             None => None,
             Some((terminal, _)) => Some(terminal),
+        }
+    }
+
+    /// The text of the next token as a part of the shared text, which is not copied. It is empty where no
+    /// token is left. Memory is refused only where the text is shared as often as can be counted.
+    #[tactic(auto, using(crate::proofs::Rests::skip_text, crate::proofs::Rests::skip_none, crate::proofs::Rests::symbol_token))]
+    pub fn next_part(&self) -> Result<TextPart, AllocError>
+        ensures { IfOk result (λ part. part_bytes part ≡ spec.text_of self.now.ahead) }
+    {
+        match self.next {
+            None => end_part(self.shared),
+            Some((_, length)) => token_part(self.shared, self.at, length),
         }
     }
 

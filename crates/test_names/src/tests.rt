@@ -3,7 +3,7 @@ ghost use Rattle.std.specs.Prelude.{◌≡◌, ◌+◌, ◌<◌, ◌^◌};
 
 use graphql_names::{
     Cut, Device, Ending, FileId, Files, InvalidNameError, Name, NameError, Node, NodeStr,
-    SourceSpan, Spent, name, recompose,
+    SourceSpan, Spent, TextPart, name, recompose,
 };
 use std::alloc::{AllocError, Global};
 use std::cmp::Ordering;
@@ -12,6 +12,7 @@ use std::hash::{DefaultHasher, Hash, Hasher};
 use std::io;
 use std::io::ErrorKind;
 use std::process::Abort;
+use std::rc::RcStr;
 
 /// The condition holds.
 fn hold(rt: &impl Abort, condition: bool, what: &str) {
@@ -148,17 +149,17 @@ fn placed_name(alloc: Global) -> Result<Name, AllocError> {
 }
 
 /// A name of the text that the name shares, where that is owned.
-fn shared_name(name: &Name) -> Option<Name> {
-    match name.to_cloned_arc() {
+fn shared_name(alloc: Global, name: &Name) -> Option<Name> {
+    match name.to_cloned_arc(alloc) {
         Ok(Some(text)) => Some(Name::from_arc_unchecked(text)),
         _ => None,
     }
 }
 
 /// The literal's text is lent as it stands, and an owned one is not.
-fn lends_literal(rt: &impl Abort, literal: &Name, placed: &Name) {
+fn lends_literal(rt: &impl Abort, alloc: Global, literal: &Name, placed: &Name) {
     let is_lent = literal.as_static_str() == Some("query");
-    let shared = got(rt, literal.to_cloned_arc());
+    let shared = got(rt, literal.to_cloned_arc(alloc));
     let is_owned = placed.as_static_str().is_none() & shared.is_none();
     hold(rt, is_lent & is_owned, "a literal, and an owned text");
 }
@@ -172,7 +173,7 @@ fn compares_names_by_text(rt: HostRuntime) {
     same_place(&rt, copy.location(), Some(span(1, 2, 5)));
     is_query(&rt, &copy, &placed);
     let literal = name!("query");
-    lends_literal(&rt, &literal, &placed);
+    lends_literal(&rt, alloc, &literal, &placed);
     is_query(&rt, &literal, &placed);
     is_query(&rt, &name!(query), &placed);
     prints(&rt, alloc, &placed, "query");
@@ -180,10 +181,27 @@ fn compares_names_by_text(rt: HostRuntime) {
 
 #[test]
 fn shares_the_text_of_a_name(rt: HostRuntime) {
-    let placed = got(&rt, placed_name(rt.alloc()));
-    let shared = shared_name(&placed).expect(&rt, "a shared text");
+    let alloc = rt.alloc();
+    let placed = got(&rt, placed_name(alloc));
+    let shared = shared_name(alloc, &placed).expect(&rt, "a shared text");
     same_place(&rt, shared.location(), None);
     is_query(&rt, &shared, &placed);
+}
+
+/// A name of what stands between the braces of a text.
+fn name_in_braces(alloc: Global) -> Result<Name, AllocError> {
+    let whole = RcStr::from_str(alloc, "{query}")?;
+    Ok(Name::from_part_unchecked(TextPart::new(&whole, 1, 6)?))
+}
+
+#[test]
+fn names_a_part_of_a_text(rt: HostRuntime) {
+    let alloc = rt.alloc();
+    let part = got(&rt, name_in_braces(alloc));
+    is_query(&rt, &part, &name!("query"));
+    is_query(&rt, &got(&rt, part.clone()), &part);
+    let shared = shared_name(alloc, &part).expect(&rt, "a copy of the part");
+    is_query(&rt, &shared, &part);
 }
 
 #[test]
