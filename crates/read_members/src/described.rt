@@ -31,6 +31,6 @@ pub fn described_name(
     ensures { Reads (λ x. (option_map text_tree x.0, name_tree x.1)) (steps.described_name (in_file file) tokens.old) result tokens.new }
 {
     let description = optional_description(alloc, tokens, file)?;
-    let name = name(alloc, tokens, file)?;
+    let name = name(tokens, file)?;
     Ok((description, name))
 }

@@ -83,7 +83,7 @@ pub fn directive_definition(
     ensures { Reads directive_definition_tree (reading.directive_definition (in_file file) depth tokens.old) result tokens.new }
 {
     directive_marks(tokens)?;
-    let name = name(alloc, tokens, file)?;
+    let name = name(tokens, file)?;
     let (arguments, repeatable, locations) = directive_rest(alloc, tokens, file, depth)?;
     Ok(DirectiveDefinition {
         description: None,

@@ -32,7 +32,7 @@ fn enum_value_definition(
     ensures { Reads enum_value_tree (reading.enum_value_definition (in_file file) depth tokens.old) result tokens.new }
 {
     let description = optional_description(alloc, tokens, file)?;
-    let value = enum_value(alloc, tokens, file)?;
+    let value = enum_value(tokens, file)?;
     let directives = optional_directives(alloc, tokens, file, true, depth)?;
     Ok(EnumValueDefinition {
         description,

@@ -17,36 +17,25 @@ use read_values::{expect, name, next_is};
 use std::alloc::Global;
 
 /// One more name behind a mark.
-fn next_name(
-    alloc: Global,
-    tokens: &mut Source<'_>,
-    file: FileId,
-    mark: Terminal,
-) -> Result<Name, Stop>
+fn next_name(tokens: &mut Source<'_>, file: FileId, mark: Terminal) -> Result<Name, Stop>
     ensures { Reads name_tree (read.behind (kinds.is mark) (values.name (in_file file)) tokens.old) result tokens.new }
 {
     expect(tokens, mark)?;
-    name(alloc, tokens, file)
+    name(tokens, file)
 }
 
 /// The first name, before which a mark may stand too.
-fn first_name(
-    alloc: Global,
-    tokens: &mut Source<'_>,
-    file: FileId,
-    mark: Terminal,
-) -> Result<Name, Stop>
+fn first_name(tokens: &mut Source<'_>, file: FileId, mark: Terminal) -> Result<Name, Stop>
     ensures { Reads name_tree (steps.first (kinds.is mark) (values.name (in_file file)) tokens.old) result tokens.new }
 {
     if next_is(tokens, mark) {
-        return next_name(alloc, tokens, file, mark);
+        return next_name(tokens, file, mark);
     }
-    name(alloc, tokens, file)
+    name(tokens, file)
 }
 
 /// The names behind those that are found, each behind a mark.
 fn other_names(
-    alloc: Global,
     tokens: &mut Source<'_>,
     file: FileId,
     mark: Terminal,
@@ -55,7 +44,7 @@ fn other_names(
     ensures { Reads (λ v. map name_tree v.items) (steps.others (kinds.is mark) (values.name (in_file file)) (map name_tree found.items) tokens.old) result tokens.new }
 {
     'turns: while next_is(tokens, mark) {
-        found.push(next_name(alloc, tokens, file, mark)?)?;
+        found.push(next_name(tokens, file, mark)?)?;
     }
     Ok(found)
 }
@@ -69,10 +58,10 @@ fn names(
 ) -> Result<Vec<Name>, Stop>
     ensures { Reads (λ v. map name_tree v.items) (read.separated (kinds.is mark) (values.name (in_file file)) tokens.old) result tokens.new }
 {
-    let first = first_name(alloc, tokens, file, mark)?;
+    let first = first_name(tokens, file, mark)?;
     let mut found = Vec::new(alloc);
     found.push(first)?;
-    other_names(alloc, tokens, file, mark, found)
+    other_names(tokens, file, mark, found)
 }
 
 /// ImplementsInterfaces: `"implements" "&"? Name ("&" Name)*`.

@@ -51,16 +51,12 @@ fn operation_type(tokens: &mut Source<'_>) -> Result<OperationType, Stop>
 
 /// RootOperationTypeDefinition: `OperationType ":" NamedType`.
 #[tactic(auto, unfolding(read_grammar::specs::TypeSystemReading::root_operation_type_definition))]
-fn root_operation(
-    alloc: Global,
-    tokens: &mut Source<'_>,
-    file: FileId,
-) -> Result<(OperationType, NamedType), Stop>
+fn root_operation(tokens: &mut Source<'_>, file: FileId) -> Result<(OperationType, NamedType), Stop>
     ensures { Reads root_tree (reading.root_operation_type_definition (in_file file) tokens.old) result tokens.new }
 {
     let operation_type = operation_type(tokens)?;
     expect(tokens, Terminal::Colon)?;
-    let name = name(alloc, tokens, file)?;
+    let name = name(tokens, file)?;
     Ok((operation_type, name))
 }
 
@@ -73,7 +69,7 @@ fn placed_root(
     ensures { Reads (node_tree root_tree) (read.placed (in_file file) (reading.root_operation_type_definition (in_file file)) tokens.old) result tokens.new }
 {
     let begin = begin(tokens);
-    let found = root_operation(alloc, tokens, file)?;
+    let found = root_operation(tokens, file)?;
     let place = since(tokens, file, begin);
     Ok(Node::new_parsed(alloc, found, place)?)
 }

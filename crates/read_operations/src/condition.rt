@@ -11,7 +11,6 @@ use graphql_names::{FileId, Name};
 use read_grammar::Stop;
 use read_tokens::{Source, Terminal};
 use read_values::{expect, name, next_is, next_is_name};
-use std::alloc::Global;
 use tree_operations::OperationType;
 
 /// OperationType: `query`, `mutation` or `subscription`.
@@ -42,20 +41,20 @@ pub fn next_is_fragment_name(tokens: &Source<'_>) -> bool
 }
 
 /// FragmentName: `Name` but not `on`.
-pub fn fragment_name(alloc: Global, tokens: &mut Source<'_>, file: FileId) -> Result<Name, Stop>
+pub fn fragment_name(tokens: &mut Source<'_>, file: FileId) -> Result<Name, Stop>
     ensures { Reads name_tree (reading.fragment_name (in_file file) tokens.old) result tokens.new }
 {
     if !next_is_fragment_name(tokens) {
         return Err(Stop::Unexpected);
     }
-    name(alloc, tokens, file)
+    name(tokens, file)
 }
 
 /// TypeCondition: `"on" Name`, its name.
 #[tactic(auto, unfolding(read_grammar::specs::OperationReading::type_condition))]
-pub fn type_condition(alloc: Global, tokens: &mut Source<'_>, file: FileId) -> Result<Name, Stop>
+pub fn type_condition(tokens: &mut Source<'_>, file: FileId) -> Result<Name, Stop>
     ensures { Reads name_tree (reading.type_condition (in_file file) tokens.old) result tokens.new }
 {
     expect(tokens, Terminal::On)?;
-    name(alloc, tokens, file)
+    name(tokens, file)
 }

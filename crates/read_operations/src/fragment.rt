@@ -29,7 +29,7 @@ fn condition_and_set(
 ) -> Result<(Name, (Option<DirectiveList>, Vec<Selection>)), Stop>
     ensures { Reads (λ x. (name_tree x.0, (option_map directives_tree x.1.0, selection_trees selection_tree x.1.1.items))) (steps.condition_and_set (in_file file) depth tokens.old) result tokens.new }
 {
-    let condition = type_condition(alloc, tokens, file)?;
+    let condition = type_condition(tokens, file)?;
     let behind = directives_and_set(alloc, tokens, file, depth)?;
     Ok((condition, behind))
 }
@@ -45,7 +45,7 @@ pub fn fragment_definition(
     ensures { Reads fragment_tree (reading.fragment_definition (in_file file) depth tokens.old) result tokens.new }
 {
     expect(tokens, Terminal::Fragment)?;
-    let name = fragment_name(alloc, tokens, file)?;
+    let name = fragment_name(tokens, file)?;
     let (type_condition, (directives, selection_set)) = condition_and_set(
         alloc, tokens, file, depth,
     )?;

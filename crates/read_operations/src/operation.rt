@@ -25,13 +25,13 @@ use tree_directives::DirectiveList;
 use tree_operations::{OperationDefinition, OperationType, Selection, VariableDefinition};
 
 /// Name, or nothing.
-fn optional_name(alloc: Global, tokens: &mut Source<'_>, file: FileId) -> Result<Option<Name>, Stop>
+fn optional_name(tokens: &mut Source<'_>, file: FileId) -> Result<Option<Name>, Stop>
     ensures { Reads (option_map name_tree) (read.try kinds.is_name (values.name (in_file file)) tokens.old) result tokens.new }
 {
     if !next_is_name(tokens) {
         return Ok(None);
     }
-    Ok(Some(name(alloc, tokens, file)?))
+    Ok(Some(name(tokens, file)?))
 }
 
 /// VariableDefinitions, or nothing.
@@ -111,7 +111,7 @@ fn full_operation(
     ensures { Reads operation_tree (steps.full_operation (in_file file) depth tokens.old) result tokens.new }
 {
     let operation_type = operation_type(tokens)?;
-    let name = optional_name(alloc, tokens, file)?;
+    let name = optional_name(tokens, file)?;
     let (variables, (directives, selection_set)) = variables_and_set(alloc, tokens, file, depth)?;
     Ok(OperationDefinition {
         operation_type,

@@ -84,7 +84,7 @@ fn behind_name(
 fn field(alloc: Global, tokens: &mut Source<'_>, file: FileId, depth: usize) -> Result<Field, Stop>
     ensures { Reads steps.field_view (steps.field_parts (in_file file) depth (reading.selection_set (in_file file) depth) tokens.old) result tokens.new }
 {
-    let (alias, name) = alias_and_name(alloc, tokens, file)?;
+    let (alias, name) = alias_and_name(tokens, file)?;
     let (arguments, (directives, selections)) = behind_name(alloc, tokens, file, depth)?;
     Ok(Field {
         alias,
@@ -136,7 +136,7 @@ fn inline(
 ) -> Result<InlineFragment, Stop>
     ensures { Reads steps.inline_view (steps.inline_parts (in_file file) depth (reading.selection_set (in_file file) depth) tokens.old) result tokens.new }
 {
-    let type_condition = optional_condition(alloc, tokens, file)?;
+    let type_condition = optional_condition(tokens, file)?;
     let (directives, selection_set) = directives_and_set(alloc, tokens, file, depth)?;
     Ok(InlineFragment {
         type_condition,

@@ -31,34 +31,26 @@ pub fn begins_selection(tokens: &Source<'_>) -> bool
 
 /// `(Name ":")? Name`: an alias, where a colon follows the first name, and a name.
 #[tactic(auto, unfolding(read_grammar::specs::OperationReading::alias_and_name))]
-pub fn alias_and_name(
-    alloc: Global,
-    tokens: &mut Source<'_>,
-    file: FileId,
-) -> Result<(Option<Name>, Name), Stop>
+pub fn alias_and_name(tokens: &mut Source<'_>, file: FileId) -> Result<(Option<Name>, Name), Stop>
     ensures { Reads steps.alias_view (reading.alias_and_name (in_file file) tokens.old) result tokens.new }
 {
-    let first = name(alloc, tokens, file)?;
+    let first = name(tokens, file)?;
     if !next_is(tokens, Terminal::Colon) {
         return Ok((None, first));
     }
     expect(tokens, Terminal::Colon)?;
-    let second = name(alloc, tokens, file)?;
+    let second = name(tokens, file)?;
     Ok((Some(first), second))
 }
 
 /// TypeCondition, or nothing.
-pub fn optional_condition(
-    alloc: Global,
-    tokens: &mut Source<'_>,
-    file: FileId,
-) -> Result<Option<Name>, Stop>
+pub fn optional_condition(tokens: &mut Source<'_>, file: FileId) -> Result<Option<Name>, Stop>
     ensures { Reads (option_map name_tree) (read.try kinds.is_on (reading.type_condition (in_file file)) tokens.old) result tokens.new }
 {
     if !next_is(tokens, Terminal::On) {
         return Ok(None);
     }
-    Ok(Some(type_condition(alloc, tokens, file)?))
+    Ok(Some(type_condition(tokens, file)?))
 }
 
 /// `FragmentName Directives?`
@@ -70,7 +62,7 @@ fn spread(
 ) -> Result<FragmentSpread, Stop>
     ensures { Reads steps.spread_view (steps.spread_parts (in_file file) depth tokens.old) result tokens.new }
 {
-    let fragment_name = fragment_name(alloc, tokens, file)?;
+    let fragment_name = fragment_name(tokens, file)?;
     let directives = optional_directives(alloc, tokens, file, false, depth)?;
     Ok(FragmentSpread {
         fragment_name,

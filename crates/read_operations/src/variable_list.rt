@@ -50,7 +50,7 @@ fn variable_definition(
 ) -> Result<VariableDefinition, Stop>
     ensures { Reads variable_definition_tree (reading.variable_definition (in_file file) depth tokens.old) result tokens.new }
 {
-    let name = variable(alloc, tokens, file)?;
+    let name = variable(tokens, file)?;
     expect(tokens, Terminal::Colon)?;
     let (ty, (default_value, directives)) = type_and_default(alloc, tokens, file, depth)?;
     Ok(VariableDefinition {

@@ -6,7 +6,7 @@ use Rattle.std.specs.Int.{is_in_range}
 use Rattle.std.proofs.lemmas.Bool.{and_parts, or_cases, or_left}
 use Rattle.std.proofs.lemmas.List.{get_or-drop, length-drop}
 use Rattle.std.proofs.lemmas.List.Sums.{prefix_len_passes, prefix_len-le-length}
-use Rattle.std.proofs.lemmas.Str.{IsCharBoundary-before_ascii, IsCharBoundary-after_ascii}
+use Rattle.std.proofs.lemmas.Str.{IsCharBoundary-before_ascii, IsCharBoundary-after_ascii, IsCharBoundary-end}
 use Rattle.graphql_names.specs.NameSyntax.{is_name_start, is_name_continue}
 use Rattle.read_tokens.specs.Bytes.{begins_by, begins_with, run_len}
 use Rattle.read_tokens.specs.Numbers.{is_zero, is_point, is_exponent_mark, is_sign, sign_len, whole_len, digits_behind, fraction_len, exponent_len, goes_on, number_kind, number_at}
@@ -277,6 +277,9 @@ cut_behind text at t h utf8 =
     let n : ℕ = at + t.1 in
     let back : (n - 1) + 1 ≡ n = omega arith in
     subst (IsCharBoundary text) back (IsCharBoundary-after_ascii text (n - 1) utf8 (omega arith) e.last)
+
+pub cut_at_end : (text : List ℕ) → IsCharBoundary text (length text)
+cut_at_end text = IsCharBoundary-end text
 
 pub token_fits : (text : List ℕ) (at : ℕ) (t : TokenKind × ℕ) → token_at (drop at text) ≡ Some t → at + t.1 ≤ length text
 token_fits text at t h =

@@ -51,7 +51,7 @@ pub(crate) fn token_part(shared: &RcStr, at: usize, length: usize) -> Result<Tex
 }
 
 /// The empty part at the end of a shared text.
-#[tactic(auto, using(Rattle::std::proofs::lemmas::Str::IsCharBoundary_end))]
+#[tactic(auto, using(crate::proofs::Ends::cut_at_end))]
 pub(crate) fn end_part(shared: &RcStr) -> Result<TextPart, AllocError>
     ensures { IfOk result (λ part. part_bytes part ≡ []) }
 {

@@ -57,7 +57,7 @@ pub fn object_type(
     ensures { Reads kind_tree (steps.object_kind (in_file file) depth tokens.old) result tokens.new }
 {
     expect(tokens, Terminal::Type)?;
-    let name = name(alloc, tokens, file)?;
+    let name = name(tokens, file)?;
     let (interfaces, directives, fields) = fields_rest(alloc, tokens, file, depth)?;
     Ok(Kind::Object(ObjectTypeExtension {
         name,
@@ -78,7 +78,7 @@ pub fn interface_type(
     ensures { Reads kind_tree (steps.interface_kind (in_file file) depth tokens.old) result tokens.new }
 {
     expect(tokens, Terminal::Interface)?;
-    let name = name(alloc, tokens, file)?;
+    let name = name(tokens, file)?;
     let (interfaces, directives, fields) = fields_rest(alloc, tokens, file, depth)?;
     Ok(Kind::Interface(InterfaceTypeExtension {
         name,
@@ -113,7 +113,7 @@ pub fn union_type(
     ensures { Reads kind_tree (steps.union_kind (in_file file) depth tokens.old) result tokens.new }
 {
     expect(tokens, Terminal::Union)?;
-    let name = name(alloc, tokens, file)?;
+    let name = name(tokens, file)?;
     let (directives, members) = union_rest(alloc, tokens, file, depth)?;
     Ok(Kind::Union(UnionTypeExtension {
         name,

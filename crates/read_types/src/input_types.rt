@@ -34,7 +34,7 @@ pub fn scalar_type(
     ensures { Reads kind_tree (steps.scalar_kind (in_file file) depth tokens.old) result tokens.new }
 {
     expect(tokens, Terminal::Scalar)?;
-    let name = name(alloc, tokens, file)?;
+    let name = name(tokens, file)?;
     let directives = optional_directives(alloc, tokens, file, true, depth)?;
     Ok(Kind::Scalar(ScalarTypeExtension {
         name,
@@ -73,7 +73,7 @@ pub fn enum_type(
     ensures { Reads kind_tree (steps.enum_kind (in_file file) depth tokens.old) result tokens.new }
 {
     expect(tokens, Terminal::Enum)?;
-    let name = name(alloc, tokens, file)?;
+    let name = name(tokens, file)?;
     let (directives, values) = enum_rest(alloc, tokens, file, depth)?;
     Ok(Kind::Enum(EnumTypeExtension {
         name,
@@ -113,7 +113,7 @@ pub fn input_object_type(
     ensures { Reads kind_tree (steps.input_object_kind (in_file file) depth tokens.old) result tokens.new }
 {
     expect(tokens, Terminal::Input)?;
-    let name = name(alloc, tokens, file)?;
+    let name = name(tokens, file)?;
     let (directives, fields) = input_object_rest(alloc, tokens, file, depth)?;
     Ok(Kind::InputObject(InputObjectTypeExtension {
         name,

@@ -28,7 +28,7 @@ fn argument(
 ) -> Result<Argument, Stop>
     ensures { Reads argument_tree (reading.argument (in_file file) constant depth tokens.old) result tokens.new }
 {
-    let name = name(alloc, tokens, file)?;
+    let name = name(tokens, file)?;
     expect(tokens, Terminal::Colon)?;
     let value = placed_value(alloc, tokens, file, constant, depth)?;
     Ok(Argument { name, value })

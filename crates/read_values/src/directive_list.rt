@@ -28,7 +28,7 @@ fn directive(
     ensures { Reads directive_tree (reading.directive (in_file file) constant depth tokens.old) result tokens.new }
 {
     expect(tokens, Terminal::At)?;
-    let name = name(alloc, tokens, file)?;
+    let name = name(tokens, file)?;
     if !next_is(tokens, Terminal::OpenParen) {
         return Ok(Directive {
             name,

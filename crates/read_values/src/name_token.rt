@@ -9,18 +9,18 @@ use crate::steps::{begin, next_is_name, since};
 use graphql_names::{FileId, Name};
 use read_grammar::Stop;
 use read_tokens::Source;
-use std::alloc::Global;
 
-/// Takes a name.
+/// Takes a name, which is a part of the text.
 #[tactic(auto, using(crate::proofs::Names::first_is_name, crate::proofs::Names::skipped_length, read_grammar::proofs::Moves::taken_no), unfolding(read_grammar::specs::ValueReading::name))]
-pub fn name(alloc: Global, tokens: &mut Source<'_>, file: FileId) -> Result<Name, Stop>
+pub fn name(tokens: &mut Source<'_>, file: FileId) -> Result<Name, Stop>
     ensures { Reads name_tree (reading.name (in_file file) tokens.old) result tokens.new }
 {
     if !next_is_name(tokens) {
         return Err(Stop::Unexpected);
     }
     let begin = begin(tokens);
-    let text = tokens.skip();
+    let text = tokens.next_part()?;
+    tokens.skip();
     let place = since(tokens, file, begin);
-    Ok(Name::new_unchecked(alloc, text)?.with_location(place))
+    Ok(Name::from_part_unchecked(text).with_location(place))
 }

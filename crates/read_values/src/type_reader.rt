@@ -44,7 +44,7 @@ fn unmarked(
     ensures { Reads type_tree (unmarked_type (in_file file) depth tokens.old) result tokens.new }
 {
     if next_is_name(tokens) {
-        return Ok(Type::Named(name(alloc, tokens, file)?));
+        return Ok(Type::Named(name(tokens, file)?));
     }
     let item = bracketed(alloc, tokens, file, depth)?;
     Ok(item.list(alloc)?)

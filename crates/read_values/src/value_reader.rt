@@ -103,7 +103,7 @@ fn object_field(
 ) -> Result<(Name, Node<Value>), Stop>
     ensures { Reads entry_view (reading.object_field (in_file file) (reading.value (in_file file) constant depth) tokens.old) result tokens.new }
 {
-    let name = name(alloc, tokens, file)?;
+    let name = name(tokens, file)?;
     expect(tokens, Terminal::Colon)?;
     let value = placed_value(alloc, tokens, file, constant, depth)?;
     Ok((name, value))

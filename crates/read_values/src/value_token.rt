@@ -21,26 +21,21 @@ use tree_literals::Value;
 
 /// Variable: `"$" Name`, its name.
 #[tactic(auto, unfolding(read_grammar::specs::ValueReading::variable))]
-pub fn variable(alloc: Global, tokens: &mut Source<'_>, file: FileId) -> Result<Name, Stop>
+pub fn variable(tokens: &mut Source<'_>, file: FileId) -> Result<Name, Stop>
     ensures { Reads name_tree (reading.variable (in_file file) tokens.old) result tokens.new }
 {
     expect(tokens, Terminal::Dollar)?;
-    name(alloc, tokens, file)
+    name(tokens, file)
 }
 
 /// A variable as a value, which is refused where `constant`.
-fn variable_value(
-    alloc: Global,
-    tokens: &mut Source<'_>,
-    file: FileId,
-    constant: bool,
-) -> Result<Value, Stop>
+fn variable_value(tokens: &mut Source<'_>, file: FileId, constant: bool) -> Result<Value, Stop>
     ensures { Reads value_tree (variable_meant (in_file file) constant tokens.old) result tokens.new }
 {
     if constant {
         return Err(Stop::Unexpected);
     }
-    Ok(Value::Variable(variable(alloc, tokens, file)?))
+    Ok(Value::Variable(variable(tokens, file)?))
 }
 
 /// Whether the next token is a Name but `true`, `false` or `null`.
@@ -54,20 +49,20 @@ fn next_is_enum_value(tokens: &Source<'_>) -> bool
 }
 
 /// EnumValue: `Name` but not `true`, `false`, `null`.
-pub fn enum_value(alloc: Global, tokens: &mut Source<'_>, file: FileId) -> Result<Name, Stop>
+pub fn enum_value(tokens: &mut Source<'_>, file: FileId) -> Result<Name, Stop>
     ensures { Reads name_tree (reading.enum_value (in_file file) tokens.old) result tokens.new }
 {
     if !next_is_enum_value(tokens) {
         return Err(Stop::Unexpected);
     }
-    name(alloc, tokens, file)
+    name(tokens, file)
 }
 
 /// An EnumValue as a value.
-fn named_value(alloc: Global, tokens: &mut Source<'_>, file: FileId) -> Result<Value, Stop>
+fn named_value(tokens: &mut Source<'_>, file: FileId) -> Result<Value, Stop>
     ensures { Reads value_tree (named_meant (in_file file) tokens.old) result tokens.new }
 {
-    Ok(Value::Enum(enum_value(alloc, tokens, file)?))
+    Ok(Value::Enum(enum_value(tokens, file)?))
 }
 
 /// Whether the next token is `true` or `false`.
@@ -109,7 +104,7 @@ pub fn plain_value(
     ensures { Reads value_tree (reading.any_value (in_file file) constant read.refuse read.refuse tokens.old) result tokens.new }
 {
     if next_is(tokens, Terminal::Dollar) {
-        return variable_value(alloc, tokens, file, constant);
+        return variable_value(tokens, file, constant);
     }
     if next_is(tokens, Terminal::Int) {
         return int_value(alloc, tokens, file);
@@ -127,7 +122,7 @@ pub fn plain_value(
         return null_value(tokens, file);
     }
     if next_is_enum_value(tokens) {
-        return named_value(alloc, tokens, file);
+        return named_value(tokens, file);
     }
     Err(Stop::Unexpected)
 }
