@@ -1,11 +1,10 @@
 //! A tree's text under a layout, written to a device or displayed.
 ghost use Rattle.std.specs.Prelude.{◌≡◌, ◌≤◌, ◌<◌, ◌^◌, OnOk, IfErr, Some, None, List, ℕ, codes, true, false, take, length};
-ghost use Rattle.std.specs.Io.KnownBytes.{Appends};
 ghost use Rattle.std.specs.Option.{option_copied};
-ghost use Rattle.graphql_names.specs.Device.{device_inner, device_failed};
+ghost use Rattle.graphql_names.specs.Device.{device_failed};
 ghost use Rattle.tree_printing.specs.LineLayout.{Prefix, default_prefix};
 ghost use Rattle.tree_printing.specs.Levels.{level_depth};
-ghost use Rattle.tree_printing.specs.Serialized.{serialized};
+ghost use Rattle.tree_printing.specs.Serialized.{serialized, GainsText};
 
 use crate::level::Level;
 use crate::shown::Shown;
@@ -95,8 +94,8 @@ impl<T: Tree> Serialize<'_, T> {
     /// After an error exactly the first `out` bytes of the text are out.
     pub fn write_to<W: Write>(&self, device: &mut Device<W>) -> Result<(), WriteFault>
         requires { device_failed device.old ≡ false }
-        ensures ok { OnOk result (Appends (W.contents (device_inner device.old)) (W.contents (device_inner device.new)) (serialized T.text self.now)) }
-        ensures out { IfErr result (λ fault. Appends (W.contents (device_inner device.old)) (W.contents (device_inner device.new)) (take fault.out (serialized T.text self.now))) }
+        ensures ok { OnOk result (GainsText W.contents device.old device.new (serialized T.text self.now)) }
+        ensures out { IfErr result (λ fault. GainsText W.contents device.old device.new (take fault.out (serialized T.text self.now))) }
         ensures within { IfErr result (λ fault. fault.out ≤ length (serialized T.text self.now)) }
         ensures writer { IfErr result (λ fault. fault.cause ≡ Cause.Writer → (fault.out < length (serialized T.text self.now)) × (device_failed device.new ≡ true)) }
         ensures level { IfErr result (λ fault. fault.cause ≡ Cause.Level → 2 ^ 64 ≤ length (serialized T.text self.now)) }
