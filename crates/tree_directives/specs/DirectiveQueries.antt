@@ -5,9 +5,10 @@ use Rattle.std.specs.Option.{option_map, option_copied}
 use Rattle.graphql_names.specs.declared.node.Node.{Node}
 use Rattle.graphql_names.specs.Placed.{Placed, Place, node_tree}
 use Rattle.tree_literals.specs.ValueTree.{ValueTree, value_tree}
-use Rattle.tree_directives.specs.DirectiveTree.{ArgumentTree, Arguments, DirectiveTree, InputValueTree, InputValues}
+use Rattle.tree_directives.specs.DirectiveTree.{ArgumentTree, Arguments, DirectiveTree, InputValueTree, InputValues, directive_definition_tree}
 use Rattle.tree_literals.specs.TypeQueries.{has_mark}
 use Rattle.tree_literals.specs.declared.value.Value.{Value}
+use Rattle.tree_directives.specs.declared.directive.DirectiveDefinition.{DirectiveDefinition}
 use Rattle.tree_directives.specs.declared.argument_error.ArgumentByNameError.{ArgumentByNameError}
 use Rattle.tree_directives.specs.declared.argument_error.ArgumentByNameError.TheVariants.{UndefinedDirective, NoSuchArgument, RequiredArgumentNotSpecified}
 
@@ -50,6 +51,14 @@ module _ {P : Type 0} where
   abbrev pub argument_value : Option (Placed P (ValueTree P)) → List ℕ → Option (InputValues P) → Result (Option (Placed P (ValueTree P))) ArgumentByNameError
   argument_value (Some value) name definitions = Ok (Some value)
   argument_value None name definitions = value_by_definitions name definitions
+
+  -- the value of the argument of a name, by the arguments given and the definitions of all, if they are known
+  abbrev pub named_argument_value : List ℕ → Arguments P → Option (InputValues P) → Result (Option (Placed P (ValueTree P))) ArgumentByNameError
+  named_argument_value name given definitions = argument_value (given_value name given) name definitions
+
+-- the definitions of a directive's arguments, if its definition is known
+abbrev pub defined_arguments : Option DirectiveDefinition → Option (InputValues Place)
+defined_arguments definition = option_map (λ d. (directive_definition_tree d).arguments) definition
 
 -- the tree of a value that a call lends
 abbrev pub lent_value : Result (Option (Bor (Node Value))) ArgumentByNameError → Result (Option (Placed Place (ValueTree Place))) ArgumentByNameError

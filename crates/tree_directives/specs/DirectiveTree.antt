@@ -1,6 +1,7 @@
 -- Arguments, directives and definitions of input values and directives (GraphQL, October 2021, sections 2.6, 2.12, 3.6.1, 3.10, 3.13).
 use Rattle.std.specs.Prelude.{Bool, List, map, Option}
 use Rattle.std.specs.Option.{option_map}
+use Rattle.graphql_names.specs.declared.node.Node.{Node}
 use Rattle.graphql_names.specs.Placed.{Placed, Place, Text, name_tree, text_tree, node_tree, unplaced_text, unplaced_node}
 use Rattle.tree_literals.specs.TypeTree.{TypeTree, type_tree, unplaced_type}
 use Rattle.tree_literals.specs.ValueTree.{ValueTree, value_tree, unplaced_value}
@@ -63,6 +64,10 @@ input_value_tree v = record {
   default_value = option_map (node_tree value_tree) v.default_value;
   directives = directives_tree v.directives;
 }
+
+-- the trees of nodes of input values, in order
+abbrev pub input_value_trees : List (Node InputValueDefinition) → InputValues Place
+input_value_trees nodes = map (node_tree input_value_tree) nodes
 
 abbrev pub directive_definition_tree : DirectiveDefinition → DirectiveDefinitionTree Place
 directive_definition_tree d = record {

@@ -17,6 +17,10 @@ abbrev pub input_value_text : {P : Type 0} → Prefix → InputValueTree P → L
 input_value_text prefix v level =
     joined (description_text prefix level v.description ∷ v.name.it ∷ codes ": " ∷ type_text v.ty.it ∷ default_text v.default_value ∷ directives_text v.directives ∷ [])
 
+-- input values, each on a line of its own
+abbrev pub input_members_text : {P : Type 0} → Prefix → ℕ → InputValues P → List ℕ
+input_members_text prefix level vs = members_text prefix level (texts_of (input_value_text prefix) vs)
+
 abbrev pub is_described : {P : Type 0} → Placed P (InputValueTree P) → Bool
 is_described v = is_some v.it.description
 
@@ -31,7 +35,7 @@ arguments_in_line prefix vs level = parenthesized_text (texts_of (λ v. input_va
 -- ( arguments ) one a line, one level deeper, without commas
 abbrev pub arguments_on_lines : {P : Type 0} → List ℕ → InputValues P → ℕ → List ℕ
 arguments_on_lines prefix vs level =
-    joined (codes "(" ∷ members_text (Some prefix) (level + 1) (texts_of (input_value_text (Some prefix)) vs) ∷ break_text (Some prefix) level ∷ codes ")" ∷ [])
+    joined (codes "(" ∷ input_members_text (Some prefix) (level + 1) vs ∷ break_text (Some prefix) level ∷ codes ")" ∷ [])
 
 abbrev pub argument_definitions_text : {P : Type 0} → Prefix → InputValues P → ℕ → List ℕ
 argument_definitions_text None vs level = arguments_in_line None vs level

@@ -1,6 +1,7 @@
 pub mod DirectiveTree
 pub mod DirectiveQueries
 pub mod DirectiveNodes
+pub mod Iterators
 pub mod DirectivePlaces
 pub mod NamedNodes
 pub mod OperationQueries

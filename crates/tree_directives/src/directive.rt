@@ -4,7 +4,7 @@ ghost use Rattle.std.specs.Option.{option_map, option_copied};
 ghost use Rattle.graphql_names.specs.Placed.{name_tree, node_tree};
 ghost use Rattle.tree_literals.specs.ValueTree.{value_tree};
 ghost use Rattle.tree_directives.specs.DirectiveTree.{argument_tree, directive_tree, directives_tree, input_value_tree, directive_definition_tree};
-ghost use Rattle.tree_directives.specs.DirectiveQueries.{input_value_has_name, given_value, argument_value, lent_value};
+ghost use Rattle.tree_directives.specs.DirectiveQueries.{input_value_has_name, given_value, named_argument_value, defined_arguments, lent_value};
 
 use crate::argument_error::ArgumentByNameError;
 use crate::directive_location::DirectiveLocation;
@@ -105,7 +105,7 @@ impl Directive {
         name: &str,
         definition: Option<&'a DirectiveDefinition>,
     ) -> Result<Option<&'a Node<Value>>, ArgumentByNameError>
-        ensures { lent_value result ≡ argument_value (given_value name.now (directive_tree self.now).arguments) name.now (option_map (λ d. (directive_definition_tree d).arguments) (option_copied definition.entry)) }
+        ensures { lent_value result ≡ named_argument_value name.now (directive_tree self.now).arguments (defined_arguments (option_copied definition.entry)) }
     {
         if let Some(value) = self.specified_argument_by_name(name) {
             return Ok(Some(value));

@@ -1,13 +1,14 @@
 //! Lists of directives by name.
 ghost use Rattle.std.specs.Prelude.{◌≡◌, ◌++◌, [], ◌∷◌, map, filter, find, ⊤, IfOk, IfErr, is_ok, if◌then◌else◌};
 ghost use Rattle.std.specs.List.{list_any};
-ghost use Rattle.std.specs.Iterator.{YieldsFirstRef, item_count, IsFinite, HoldsAlong, DrainsIf};
+ghost use Rattle.std.specs.Iterator.{YieldsFirstRef, item_count, DrainsIf};
 ghost use Rattle.std.specs.Option.{option_map, option_copied};
 ghost use Rattle.std.specs.Slice.Iter.{iter_rest};
 ghost use Rattle.graphql_names.specs.Placed.{node_tree};
 ghost use Rattle.tree_directives.specs.DirectiveTree.{directive_tree, directives_tree};
 ghost use Rattle.tree_directives.specs.DirectiveQueries.{directive_has_name};
 ghost use Rattle.tree_directives.specs.DirectiveNodes.{node_has_name, left_named};
+ghost use Rattle.tree_directives.specs.Iterators.{CanBeDrained};
 
 use crate::directive::{Directive, DirectiveList};
 use graphql_names::Node;
@@ -28,7 +29,7 @@ impl DirectiveList {
         alloc: Global,
         iter: I,
     ) -> Result<DirectiveList, AllocError>
-        requires { (it : I.IntoIter) → I.into_iter_gives iter it → I.IntoIter.can_next it × IsFinite (I.IntoIter.remaining it) × HoldsAlong I.IntoIter.next_gives it (λ _. ⊤) }
+        requires { CanBeDrained I.into_iter_gives I.IntoIter.can_next I.IntoIter.remaining I.IntoIter.next_gives iter }
         ensures { IfOk result (λ ds. (it : I.IntoIter) × I.into_iter_gives iter it × DrainsIf I.IntoIter.next_gives ⊤ it ds.0.items) }
     {
         DirectiveList::from_iter(alloc, iter)

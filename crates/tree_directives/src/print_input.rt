@@ -1,13 +1,13 @@
 //! Definitions of arguments, input fields and directives.
 ghost use Rattle.std.specs.Prelude.{◌≡◌, ◌∷◌, ◌+◌, ℕ, List, [], map, codes, Bool, Some, None, true, false};
 ghost use Rattle.std.specs.Option.{option_copied, option_map};
-ghost use Rattle.graphql_names.specs.Placed.{node_tree, Place};
-ghost use Rattle.tree_directives.specs.DirectiveTree.{input_value_tree, directive_definition_tree};
+ghost use Rattle.graphql_names.specs.Placed.{Place};
+ghost use Rattle.tree_directives.specs.DirectiveTree.{input_value_tree, input_value_trees, directive_definition_tree};
 ghost use Rattle.tree_printing.specs.Joined.{joined, after, further_text};
 ghost use Rattle.tree_printing.specs.Levels.{level_depth};
-ghost use Rattle.tree_printing.specs.LineLayout.{member_text, members_text};
+ghost use Rattle.tree_printing.specs.LineLayout.{member_text};
 ghost use Rattle.tree_printing.specs.LineLayout.{texts_of};
-ghost use Rattle.tree_directives.specs.InputLayout.{input_value_text, stand_on_lines, arguments_in_line, arguments_on_lines, argument_definitions_text, repeatable_text, locations_text, undescribed_directive_text, directive_definition_text};
+ghost use Rattle.tree_directives.specs.InputLayout.{input_value_text, input_members_text, stand_on_lines, arguments_in_line, arguments_on_lines, argument_definitions_text, repeatable_text, locations_text, undescribed_directive_text, directive_definition_text};
 ghost use Rattle.tree_directives.specs.DirectivePlaces.{location_keyword};
 
 use crate::directive::DirectiveDefinition;
@@ -35,7 +35,7 @@ pub fn put_input_value<S: Sink>(
 }
 
 fn stand_on_lines(arguments: &[Node<InputValueDefinition>]) -> bool
-    ensures { result ≡ stand_on_lines (map (node_tree input_value_tree) arguments.now) }
+    ensures { result ≡ stand_on_lines (input_value_trees arguments.now) }
 {
     for argument in arguments {
         if argument.content().description.is_some() {
@@ -63,7 +63,7 @@ fn put_further_inputs<S: Sink>(
     level: &Level,
     inputs: &[Node<InputValueDefinition>],
 )
-    ensures { S.puts sink.old (further_text (codes ", ") (texts_of (λ v. input_value_text (option_copied prefix.entry) v (level_depth level.now)) (map (node_tree input_value_tree) inputs.now))) sink.new }
+    ensures { S.puts sink.old (further_text (codes ", ") (texts_of (λ v. input_value_text (option_copied prefix.entry) v (level_depth level.now)) (input_value_trees inputs.now))) sink.new }
 {
     for input in inputs {
         put_next_input(sink, prefix, level, input.content());
@@ -76,7 +76,7 @@ fn put_arguments_in_line<S: Sink>(
     level: &Level,
     arguments: &[Node<InputValueDefinition>],
 )
-    ensures { S.puts sink.old (arguments_in_line (option_copied prefix.entry) (map (node_tree input_value_tree) arguments.now) (level_depth level.now)) sink.new }
+    ensures { S.puts sink.old (arguments_in_line (option_copied prefix.entry) (input_value_trees arguments.now) (level_depth level.now)) sink.new }
 {
     match arguments {
         [] => {}
@@ -108,7 +108,7 @@ pub fn put_input_members<S: Sink>(
     level: &Level,
     inputs: &[Node<InputValueDefinition>],
 )
-    ensures { S.puts sink.old (members_text (option_copied prefix.entry) (level_depth level.now) (texts_of (input_value_text (option_copied prefix.entry)) (map (node_tree input_value_tree) inputs.now))) sink.new }
+    ensures { S.puts sink.old (input_members_text (option_copied prefix.entry) (level_depth level.now) (input_value_trees inputs.now)) sink.new }
 {
     for input in inputs {
         put_input_member(sink, prefix, level, input.content());
@@ -121,7 +121,7 @@ fn put_arguments_on_lines<S: Sink>(
     level: &Level,
     arguments: &[Node<InputValueDefinition>],
 )
-    ensures { S.puts sink.old (arguments_on_lines prefix.now (map (node_tree input_value_tree) arguments.now) (level_depth level.now)) sink.new }
+    ensures { S.puts sink.old (arguments_on_lines prefix.now (input_value_trees arguments.now) (level_depth level.now)) sink.new }
 {
     sink.put("(");
     put_input_members(sink, Some(prefix), &Level::In(&*level), arguments);
@@ -136,7 +136,7 @@ pub fn put_argument_definitions<S: Sink>(
     level: &Level,
     arguments: &[Node<InputValueDefinition>],
 )
-    ensures { S.puts sink.old (argument_definitions_text (option_copied prefix.entry) (map (node_tree input_value_tree) arguments.now) (level_depth level.now)) sink.new }
+    ensures { S.puts sink.old (argument_definitions_text (option_copied prefix.entry) (input_value_trees arguments.now) (level_depth level.now)) sink.new }
 {
     match prefix {
         None => put_arguments_in_line(sink, None, level, arguments),
