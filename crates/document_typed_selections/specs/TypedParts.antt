@@ -1,13 +1,15 @@
 -- Fields, fragment spreads and inline fragments by themselves, with parts added, and questions about them (GraphQL,
 -- October 2021, sections 2.4, 2.5, 2.7 and 2.8).
-use Rattle.std.specs.Prelude.{List, ◌++◌, map, Option, None, Some, unwrap_or}
+use Rattle.std.specs.Prelude.{List, [], ◌++◌, map, Bool, if◌then◌else◌, Option, None, Some, unwrap_or}
 use Rattle.std.specs.Option.{option_map}
 use Rattle.graphql_names.specs.Node.{content, place}
 use Rattle.graphql_names.specs.declared.node.Node.{Node}
-use Rattle.graphql_names.specs.Placed.{Place, Text, name_tree, node_tree}
-use Rattle.tree_directives.specs.DirectiveTree.{Arguments, Directives, argument_tree, directives_tree}
+use Rattle.graphql_names.specs.Placed.{Placed, Place, Text, name_tree, node_tree}
+use Rattle.tree_literals.specs.TypeQueries.{inner_name}
+use Rattle.tree_literals.specs.ValueTree.{ValueTree}
+use Rattle.tree_directives.specs.DirectiveTree.{ArgumentTree, Arguments, Directives, argument_tree, directives_tree}
 use Rattle.tree_definitions.specs.in_operations.SelectionTree.{FieldHead}
-use Rattle.tree_type_members.specs.TypeSystemTree.{field_definition_tree}
+use Rattle.tree_type_members.specs.TypeSystemTree.{FieldDefinitionTree, field_definition_tree}
 use Rattle.document_typed_selections.specs.TypedTree.{TypedSelection, TypedField, TypedSpread, TypedInline, TypedSet, typed_set, TypedSelections, no_typed, typed_then, typed_set_tree}
 use Rattle.document_typed_selections.specs.declared.selection.Field.{Field}
 use Rattle.document_typed_selections.specs.declared.selection.FragmentSpread.{FragmentSpread}
@@ -21,6 +23,10 @@ typed_head f = record {
   arguments = map (node_tree argument_tree) f.arguments.items;
   directives = directives_tree f.directives;
 }
+
+-- the definition of a field
+abbrev pub own_definition : Field → Placed Place (FieldDefinitionTree Place)
+own_definition f = node_tree field_definition_tree f.definition
 
 -- a field, a fragment spread, an inline fragment that stands at a place
 abbrev pub typed_field : Place → Field → TypedSelection Place
@@ -41,6 +47,18 @@ typed_spread_node n = typed_spread (place n) (content n)
 
 abbrev pub typed_inline_node : Node InlineFragment → TypedSelection Place
 typed_inline_node n = typed_inline (place n) (content n)
+
+-- name, a field of this definition, its set empty on the type inside that of the definition
+abbrev pub bare_field : Text Place → Placed Place (FieldDefinitionTree Place) → TypedSelection Place
+bare_field n d = TypedField None d (record { alias = None; name = n; arguments = []; directives = [] }) (typed_set (inner_name d.it.ty) no_typed)
+
+-- ... on condition { }, its set empty on the type of the condition, or without one on this type
+abbrev pub bare_inline : Option (Text Place) → Text Place → TypedSelection Place
+bare_inline condition ty = TypedInline None condition [] (typed_set (unwrap_or condition ty) no_typed)
+
+-- name: value, at no place
+abbrev pub new_argument : Text Place → Placed Place (ValueTree Place) → Placed Place (ArgumentTree Place)
+new_argument n v = record { it = record { name = n; value = v }; place = None }
 
 module _ {P : Type 0} where
   -- where a selection stands
@@ -77,6 +95,10 @@ module _ {P : Type 0} where
 
   abbrev pub set_and : TypedSelections P → TypedSet P → TypedSet P
   set_and more (typed_set ty ss) = typed_set ty (and_then ss more)
+
+  -- a set with further selections, if they were added
+  abbrev pub set_and_if : Bool → TypedSelections P → TypedSet P → TypedSet P
+  set_and_if added more s = if added then set_and more s else s
 
   -- a field under this alias, or under none
   abbrev pub aliased : Option (Text P) → TypedSelection P → TypedSelection P

@@ -3,14 +3,13 @@ ghost use Rattle.std.specs.Prelude.{◌≡◌, [], ◌∷◌, map, IfOk, None, S
 ghost use Rattle.std.specs.Option.{option_map, option_copied};
 ghost use Rattle.graphql_names.specs.Placed.{name_tree, node_tree};
 ghost use Rattle.tree_literals.specs.TypeTree.{type_tree};
-ghost use Rattle.tree_literals.specs.TypeQueries.{inner_name};
 ghost use Rattle.tree_literals.specs.ValueTree.{value_tree};
 ghost use Rattle.tree_directives.specs.DirectiveTree.{argument_tree, directive_tree};
-ghost use Rattle.tree_directives.specs.DirectiveQueries.{given_value, argument_value, lent_value};
+ghost use Rattle.tree_directives.specs.DirectiveQueries.{given_value, named_argument_value, lent_value};
 ghost use Rattle.tree_definitions.specs.in_operations.SelectionParts.{response_name_of};
 ghost use Rattle.tree_type_members.specs.TypeSystemTree.{field_definition_tree};
-ghost use Rattle.document_typed_selections.specs.TypedTree.{TypedField, typed_set, no_typed, typed_then, typed_selection_tree, typed_selections};
-ghost use Rattle.document_typed_selections.specs.TypedParts.{typed_head, typed_field, aliased, and_arguments, and_directives, and_selections};
+ghost use Rattle.document_typed_selections.specs.TypedTree.{no_typed, typed_then, typed_selection_tree, typed_selections};
+ghost use Rattle.document_typed_selections.specs.TypedParts.{typed_head, own_definition, typed_field, bare_field, new_argument, aliased, and_arguments, and_directives, and_selections};
 
 use crate::selection::{Field, Selection, SelectionSet};
 use graphql_names::{Name, Node};
@@ -27,7 +26,7 @@ impl Field {
         name: Name,
         definition: Node<FieldDefinition>,
     ) -> Result<Field, AllocError>
-        ensures { IfOk result (λ f. typed_field None f ≡ TypedField None (node_tree field_definition_tree definition) (record { alias = None; name = name_tree name; arguments = []; directives = [] }) (typed_set (inner_name (node_tree field_definition_tree definition).it.ty) no_typed)) }
+        ensures { IfOk result (λ f. typed_field None f ≡ bare_field (name_tree name) (node_tree field_definition_tree definition)) }
     {
         let ty = definition.content().ty.inner_named_type().clone()?;
         Ok(Field {
@@ -58,7 +57,7 @@ impl Field {
 
     /// The same with a further argument.
     pub fn with_argument(self, name: Name, value: Node<Value>) -> Result<Field, AllocError>
-        ensures { IfOk result (λ f. typed_field None f ≡ and_arguments (record { it = record { name = name_tree name; value = node_tree value_tree value }; place = None } ∷ []) (typed_field None self)) }
+        ensures { IfOk result (λ f. typed_field None f ≡ and_arguments (new_argument (name_tree name) (node_tree value_tree value) ∷ []) (typed_field None self)) }
     {
         let argument = Node::new(*self.arguments.allocator(), Argument { name, value })?;
         self.and_argument(argument)
@@ -131,7 +130,7 @@ impl Field {
 
     /// The type by the definition.
     pub fn ty(&self) -> &Type
-        ensures { type_tree result.now ≡ (node_tree field_definition_tree self.now.definition).it.ty }
+        ensures { type_tree result.now ≡ (own_definition self.now).it.ty }
     {
         &self.definition.content().ty
     }
@@ -153,7 +152,7 @@ impl Field {
     /// definition has no such argument, `RequiredArgumentNotSpecified` where that is non-null (section 5.4.2.1).
     #[tactic(auto, using(crate::proofs::TypedTrees::argument_named_find))]
     pub fn argument_by_name(&self, name: &str) -> Result<Option<&Node<Value>>, ArgumentByNameError>
-        ensures { lent_value result ≡ argument_value (given_value name.now (typed_head self.now).arguments) name.now (Some (node_tree field_definition_tree self.now.definition).it.arguments) }
+        ensures { lent_value result ≡ named_argument_value name.now (typed_head self.now).arguments (Some (own_definition self.now).it.arguments) }
     {
         if let Some(value) = self.specified_argument_by_name(name) {
             return Ok(Some(value));

@@ -1,9 +1,9 @@
 //! Making and filling selection sets.
-ghost use Rattle.std.specs.Prelude.{◌≡◌, [], map, IfOk, IfErr, is_ok, if◌then◌else◌, None, Some, unwrap_or};
+ghost use Rattle.std.specs.Prelude.{◌≡◌, [], map, IfOk, IfErr, is_ok, None, Some};
 ghost use Rattle.std.specs.Option.{option_map};
 ghost use Rattle.graphql_names.specs.Placed.{name_tree};
-ghost use Rattle.document_typed_selections.specs.TypedTree.{typed_set, no_typed, typed_then, TypedSpread, TypedInline, typed_selection_tree, typed_selections, typed_set_tree, set_type, set_selections, holds_none};
-ghost use Rattle.document_typed_selections.specs.TypedParts.{typed_inline, typed_spread, typed_field_node, set_and};
+ghost use Rattle.document_typed_selections.specs.TypedTree.{typed_set, no_typed, typed_then, TypedSpread, typed_selection_tree, typed_selections, typed_set_tree, set_type, set_selections, holds_none};
+ghost use Rattle.document_typed_selections.specs.TypedParts.{typed_inline, typed_spread, typed_field_node, bare_inline, set_and_if};
 ghost use Rattle.document_typed_selections.specs.OwnFields.{fields_in, field_nodes, left_fields};
 
 use crate::fields::Fields;
@@ -34,7 +34,7 @@ impl SelectionSet {
 
     /// Puts a selection last. Where memory is refused the set stays as it was, and the selection comes back.
     pub fn push(&mut self, selection: Selection) -> Result<(), AllocFailed<Selection>>
-        ensures set { typed_set_tree self.new ≡ (if is_ok result then set_and (typed_then (typed_selection_tree selection) no_typed) (typed_set_tree self.old) else typed_set_tree self.old) }
+        ensures set { typed_set_tree self.new ≡ set_and_if (is_ok result) (typed_then (typed_selection_tree selection) no_typed) (typed_set_tree self.old) }
         ensures value_returned { IfErr result (λ e. e.value ≡ selection) }
     {
         self.selections.push(selection)
@@ -42,7 +42,7 @@ impl SelectionSet {
 
     /// Puts selections last, in order. Where memory is refused the set stays as it was.
     pub fn extend(&mut self, selections: Vec<Selection>) -> Result<(), AllocError>
-        ensures { typed_set_tree self.new ≡ (if is_ok result then set_and (typed_selections typed_selection_tree selections.items) (typed_set_tree self.old) else typed_set_tree self.old) }
+        ensures { typed_set_tree self.new ≡ set_and_if (is_ok result) (typed_selections typed_selection_tree selections.items) (typed_set_tree self.old) }
     {
         let mut further = selections;
         self.selections.append(&mut further)
@@ -64,7 +64,7 @@ impl SelectionSet {
         alloc: Global,
         type_condition: Option<NamedType>,
     ) -> Result<InlineFragment, AllocError>
-        ensures { IfOk result (λ f. typed_inline None f ≡ TypedInline None (option_map name_tree type_condition) [] (typed_set (unwrap_or (option_map name_tree type_condition) (set_type (typed_set_tree self.now))) no_typed)) }
+        ensures { IfOk result (λ f. typed_inline None f ≡ bare_inline (option_map name_tree type_condition) (set_type (typed_set_tree self.now))) }
     {
         match type_condition {
             Some(condition) => InlineFragment::with_type_condition(alloc, condition),
