@@ -1,7 +1,8 @@
 -- The operations of a document in order and by name (GraphQL, October 2021, sections 2.3 and 6.1).
 use Rattle.std.specs.Prelude.{ℕ, List, [], ◌∷◌, map, Option, None, Some, if◌then◌else◌}
+use Rattle.std.specs.Borrow.{Bor}
 use Rattle.std.specs.List.{cons_option}
-use Rattle.std.specs.Option.{option_copied}
+use Rattle.std.specs.Option.{option_copied, option_map}
 use Rattle.std.specs.Str.{bytes_eq}
 use Rattle.graphql_names.specs.Placed.{Placed, Text}
 use Rattle.graphql_names.specs.declared.node.Node.{Node}
@@ -25,6 +26,10 @@ first_under a (e ∷ es) = (e.0, a) ∷ es
 abbrev pub only : {A : Type 0} → List A → Option A
 only (x ∷ []) = Some x
 only _ = None
+
+-- the text of the name that is asked for, if one is
+abbrev pub asked_name : {K : Type 0} → (K → List ℕ) → Option (Bor K) → Option (List ℕ)
+asked_name text name = option_map text (option_copied name)
 
 module _ {P : Type 0} where
   -- the operations, the one without a name first

@@ -49,6 +49,10 @@ typed_operation_tree o = record {
   set = typed_set_tree o.selection_set;
 }
 
+-- the same of nodes of operations
+abbrev pub typed_operation_node : Node Operation → Placed Place (TypedOperation Place)
+typed_operation_node = node_tree typed_operation_tree
+
 abbrev pub typed_fragment_tree : Fragment → TypedFragment Place
 typed_fragment_tree f = record {
   name = name_tree f.name;

@@ -3,11 +3,10 @@ ghost use Rattle.std.specs.Prelude.{◌≡◌, ◌↔◌, IsTrue, IfOk, OnErr, O
 ghost use Rattle.std.specs.Option.{option_map, option_copied};
 ghost use Rattle.std.specs.Iterator.{YieldsFirstRef, item_count};
 ghost use Rattle.std.specs.Borrow.{sem};
-ghost use Rattle.graphql_names.specs.Placed.{node_tree};
 ghost use Rattle.schema_types.specs.TypeView.{name_text};
-ghost use Rattle.document_typed_operations.specs.TypedDocument.{typed_operation_tree, operations_by, typed_operations_tree};
+ghost use Rattle.document_typed_operations.specs.TypedDocument.{typed_operation_node, operations_by, typed_operations_tree};
 ghost use Rattle.document_typed_operations.specs.Lent.{LendsCalled, LendsFirst, LendsAnonymous, LendsFirstNamed};
-ghost use Rattle.document_typed_operations.specs.OperationsByName.{operations_list, operation_called, standing_for, with_operation, left_operations};
+ghost use Rattle.document_typed_operations.specs.OperationsByName.{operations_list, asked_name, operation_called, standing_for, with_operation, left_operations};
 
 use crate::operation::Operation;
 use graphql_names::{Name, Node};
@@ -82,7 +81,7 @@ impl OperationMap {
 
     /// This operation alone.
     pub fn from_one(alloc: Global, operation: Node<Operation>) -> Result<OperationMap, AllocError>
-        ensures { IfOk result (λ m. typed_operations_tree m ≡ with_operation (node_tree typed_operation_tree operation) (record { anonymous = None; named = [] })) }
+        ensures { IfOk result (λ m. typed_operations_tree m ≡ with_operation (typed_operation_node operation) (record { anonymous = None; named = [] })) }
     {
         let mut operations = OperationMap::new(alloc);
         operations.insert(operation)?;
@@ -98,7 +97,7 @@ impl OperationMap {
 
     /// The operations in order, the one without a name first.
     pub fn iter(&self) -> Operations<'_>
-        ensures { map (node_tree typed_operation_tree) (left_operations result) ≡ operations_list (typed_operations_tree self.now) }
+        ensures { map typed_operation_node (left_operations result) ≡ operations_list (typed_operations_tree self.now) }
     {
         Operations {
             anonymous: self.anonymous.as_ref(),
@@ -108,7 +107,7 @@ impl OperationMap {
 
     /// The operation of that name; without a name the only operation, if there is just one (section 6.1, GetOperation).
     pub fn get(&self, name: Option<&Name>) -> Option<&Node<Operation>>
-        ensures { option_map (node_tree typed_operation_tree) (option_copied result) ≡ operation_called (option_map name_text (option_copied name.entry)) (typed_operations_tree self.now) }
+        ensures { option_map typed_operation_node (option_copied result) ≡ operation_called (asked_name name_text name.entry) (typed_operations_tree self.now) }
     {
         match name {
             Some(name) => self.named.get(name),
@@ -118,7 +117,7 @@ impl OperationMap {
 
     /// The only operation, if there is just one.
     fn only(&self) -> Option<&Node<Operation>>
-        ensures { option_map (node_tree typed_operation_tree) (option_copied result) ≡ operation_called None (typed_operations_tree self.now) }
+        ensures { option_map typed_operation_node (option_copied result) ≡ operation_called None (typed_operations_tree self.now) }
     {
         let mut operations = self.iter();
         let first = operations.next()?;
@@ -134,8 +133,8 @@ impl OperationMap {
         &mut self,
         operation: Node<Operation>,
     ) -> Result<Option<Node<Operation>>, AllocError>
-        ensures stands { OnOk result (typed_operations_tree self.new ≡ with_operation (node_tree typed_operation_tree operation) (typed_operations_tree self.old)) }
-        ensures given_back { IfOk result (λ o. option_map (node_tree typed_operation_tree) o ≡ standing_for (node_tree typed_operation_tree operation) (typed_operations_tree self.old)) }
+        ensures stands { OnOk result (typed_operations_tree self.new ≡ with_operation (typed_operation_node operation) (typed_operations_tree self.old)) }
+        ensures given_back { IfOk result (λ o. option_map typed_operation_node o ≡ standing_for (typed_operation_node operation) (typed_operations_tree self.old)) }
         ensures refused { OnErr result (typed_operations_tree self.new ≡ typed_operations_tree self.old) }
     {
         match &operation.content().name {
@@ -161,8 +160,8 @@ impl<K: OperationKey, O: OperationEntry> OperationMap<K, O> {
 
     /// The node of the operation that `get` gives, to be written to. What is written stays where it is, whatever its name.
     pub fn get_mut(&mut self, name: Option<&K>) -> Option<&mut O>
-        ensures* writes_back { sem 𝓛 (LendsCalled K.row O.row K.Hash K.text_of O.tree_of self.entry (option_map K.text_of (option_copied name.entry)) result) }
-        ensures value { option_map (λ o. O.tree_of o.now) result ≡ operation_called (option_map K.text_of (option_copied name.entry)) (operations_by K.text_of O.tree_of self.old) }
+        ensures* writes_back { sem 𝓛 (LendsCalled K.row O.row K.Hash K.text_of O.tree_of self.entry (asked_name K.text_of name.entry) result) }
+        ensures value { option_map (λ o. O.tree_of o.now) result ≡ operation_called (asked_name K.text_of name.entry) (operations_by K.text_of O.tree_of self.old) }
     {
         match name {
             Some(name) => self.named_mut(name),
