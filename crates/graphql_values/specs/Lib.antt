@@ -1,6 +1,7 @@
 pub mod ValueLayout
 pub mod Writable
 pub mod OperationQueries
+pub mod TreeLaws
 pub use Rattle.graphql_names.specs.Placed
 pub use Rattle.tree_operations.specs.in_printing.Joined
 pub use Rattle.tree_operations.specs.in_printing.Puts

@@ -1,8 +1,7 @@
 //! Laws of the trees, each on the contract of a call: assignable types are ordered, what is written through a borrow stands in
 //! the list, and `==` is the sameness of two trees whatever their places.
-ghost use Rattle.std.specs.Prelude.{◌≡◌, ◌↔◌, IsTrue, IfOk, None, Some, if◌then◌else◌, filter, is_some, slice_get, slice_set};
+ghost use Rattle.std.specs.Prelude.{◌≡◌, ◌↔◌, IsTrue, IfOk, None, Some, if◌then◌else◌, filter, is_some, slice_get};
 ghost use Rattle.tree_operations.specs.in_directives.DirectiveNodes.{node_has_name};
-ghost use Rattle.tree_operations.specs.in_directives.NamedNodes.{nth_place};
 ghost use Rattle.tree_literals.specs.TypeTree.{type_tree, unplaced_type};
 ghost use Rattle.tree_literals.specs.TypeQueries.{AreTypesCompatible};
 ghost use Rattle.tree_literals.specs.ValueTree.{value_tree, unplaced_value};
@@ -10,6 +9,7 @@ ghost use Rattle.tree_operations.specs.in_directives.DirectiveTree.{argument_tre
 ghost use Rattle.tree_operations.specs.SelectionTree.{selection_tree, unplaced_selection};
 ghost use Rattle.tree_operations.specs.SelectionParts.{field_tree, spread_tree, inline_tree};
 ghost use Rattle.tree_operations.specs.OperationTree.{variable_definition_tree, operation_tree, fragment_tree, unplaced_variable_definition, unplaced_operation, unplaced_fragment};
+ghost use Rattle.graphql_values.specs.TreeLaws.{AreCompatibleThrough, AreSameBothWays, with_nth_named};
 
 use graphql_names::Node;
 use std::alloc::{AllocError, Global};
@@ -23,8 +23,8 @@ use tree_operations::{
 /// `is_assignable_to` is reflexive, transitive, and antisymmetric but for places.
 pub fn assignable_types_are_ordered(a: &Type, b: &Type, c: &Type)
     ensures reflexive { AreTypesCompatible (type_tree a.now) (type_tree a.now) }
-    ensures transitive { AreTypesCompatible (type_tree a.now) (type_tree b.now) → AreTypesCompatible (type_tree b.now) (type_tree c.now) → AreTypesCompatible (type_tree a.now) (type_tree c.now) }
-    ensures antisymmetric { AreTypesCompatible (type_tree a.now) (type_tree b.now) → AreTypesCompatible (type_tree b.now) (type_tree a.now) → unplaced_type (type_tree a.now) ≡ unplaced_type (type_tree b.now) }
+    ensures transitive { AreCompatibleThrough (type_tree a.now) (type_tree b.now) (type_tree c.now) }
+    ensures antisymmetric { AreSameBothWays (type_tree a.now) (type_tree b.now) }
 {}
 
 /// `try_to_i32` gives back what `from_i32` took.
@@ -141,7 +141,7 @@ pub fn named_directives_are_written(
     directive: Node<Directive>,
 ) -> bool
     ensures found { result ≡ is_some (slice_get (filter (node_has_name name.now) directives.old.0.items) position) }
-    ensures written { directives.new.0.items ≡ (if result then slice_set directives.old.0.items (nth_place (node_has_name name.now) position directives.old.0.items) directive else directives.old.0.items) }
+    ensures written { directives.new.0.items ≡ (if result then with_nth_named name.now position directive directives.old.0.items else directives.old.0.items) }
 {
     match get_named_mut(&mut directives.0, name, position) {
         None => false,
