@@ -1,3 +1,4 @@
+pub mod Described
 pub use Rattle.tree_definitions.specs.Descriptions
 pub use Rattle.tree_definitions.specs.in_type_members.TypeSystemTree
 pub use Rattle.tree_definitions.specs.in_type_members.TypeSystemLayout

@@ -1,9 +1,9 @@
 //! What equality of each tree means: exactly that the trees are the same, places and sources aside.
 ghost use Rattle.std.specs.Prelude.{◌≡◌, ◌↔◌, IsTrue};
-ghost use Rattle.tree_definitions.specs.Descriptions.{AreSameDescriptions};
 ghost use Rattle.tree_definitions.specs.in_type_members.TypeSystemTree.{enum_value_tree, field_definition_tree, unplaced_enum, unplaced_enum_value, unplaced_field_definition, unplaced_fields, unplaced_input_object, unplaced_scalar, unplaced_schema, unplaced_union};
 ghost use Rattle.tree_definitions.specs.in_composite_types.CompositeTree.{object_parts, object_extension_parts, interface_parts, interface_extension_parts, union_parts, union_extension_parts};
 ghost use Rattle.tree_definitions.specs.in_input_types.InputTypeTree.{schema_parts, schema_extension_parts, scalar_parts, scalar_extension_parts, enum_parts, enum_extension_parts, input_object_parts, input_object_extension_parts};
+ghost use Rattle.graphql_ast.specs.Described.{AreSameDescribed};
 
 pub use tree_definitions::laws::{equal_definitions, equal_documents};
 use tree_definitions::{
@@ -33,7 +33,7 @@ pub fn equal_enum_value_definitions(a: &EnumValueDefinition, b: &EnumValueDefini
 /// Whether two schema definitions are equal.
 #[tactic(auto, using(tree_definitions::proofs::TreeEquality::equality))]
 pub fn equal_schema_definitions(a: &SchemaDefinition, b: &SchemaDefinition) -> bool
-    ensures { IsTrue result ↔ (AreSameDescriptions a.now.description b.now.description × (unplaced_schema (schema_parts a.now) ≡ unplaced_schema (schema_parts b.now))) }
+    ensures { IsTrue result ↔ AreSameDescribed unplaced_schema a.now.description (schema_parts a.now) b.now.description (schema_parts b.now) }
 {
     *a == *b
 }
@@ -49,7 +49,7 @@ pub fn equal_schema_extensions(a: &SchemaExtension, b: &SchemaExtension) -> bool
 /// Whether two scalar type definitions are equal.
 #[tactic(auto, using(tree_definitions::proofs::TreeEquality::equality))]
 pub fn equal_scalar_type_definitions(a: &ScalarTypeDefinition, b: &ScalarTypeDefinition) -> bool
-    ensures { IsTrue result ↔ (AreSameDescriptions a.now.description b.now.description × (unplaced_scalar (scalar_parts a.now) ≡ unplaced_scalar (scalar_parts b.now))) }
+    ensures { IsTrue result ↔ AreSameDescribed unplaced_scalar a.now.description (scalar_parts a.now) b.now.description (scalar_parts b.now) }
 {
     *a == *b
 }
@@ -65,7 +65,7 @@ pub fn equal_scalar_type_extensions(a: &ScalarTypeExtension, b: &ScalarTypeExten
 /// Whether two object type definitions are equal.
 #[tactic(auto, using(tree_definitions::proofs::TreeEquality::equality))]
 pub fn equal_object_type_definitions(a: &ObjectTypeDefinition, b: &ObjectTypeDefinition) -> bool
-    ensures { IsTrue result ↔ (AreSameDescriptions a.now.description b.now.description × (unplaced_fields (object_parts a.now) ≡ unplaced_fields (object_parts b.now))) }
+    ensures { IsTrue result ↔ AreSameDescribed unplaced_fields a.now.description (object_parts a.now) b.now.description (object_parts b.now) }
 {
     *a == *b
 }
@@ -84,7 +84,7 @@ pub fn equal_interface_type_definitions(
     a: &InterfaceTypeDefinition,
     b: &InterfaceTypeDefinition,
 ) -> bool
-    ensures { IsTrue result ↔ (AreSameDescriptions a.now.description b.now.description × (unplaced_fields (interface_parts a.now) ≡ unplaced_fields (interface_parts b.now))) }
+    ensures { IsTrue result ↔ AreSameDescribed unplaced_fields a.now.description (interface_parts a.now) b.now.description (interface_parts b.now) }
 {
     *a == *b
 }
@@ -103,7 +103,7 @@ pub fn equal_interface_type_extensions(
 /// Whether two union type definitions are equal.
 #[tactic(auto, using(tree_definitions::proofs::TreeEquality::equality))]
 pub fn equal_union_type_definitions(a: &UnionTypeDefinition, b: &UnionTypeDefinition) -> bool
-    ensures { IsTrue result ↔ (AreSameDescriptions a.now.description b.now.description × (unplaced_union (union_parts a.now) ≡ unplaced_union (union_parts b.now))) }
+    ensures { IsTrue result ↔ AreSameDescribed unplaced_union a.now.description (union_parts a.now) b.now.description (union_parts b.now) }
 {
     *a == *b
 }
@@ -119,7 +119,7 @@ pub fn equal_union_type_extensions(a: &UnionTypeExtension, b: &UnionTypeExtensio
 /// Whether two enum type definitions are equal.
 #[tactic(auto, using(tree_definitions::proofs::TreeEquality::equality))]
 pub fn equal_enum_type_definitions(a: &EnumTypeDefinition, b: &EnumTypeDefinition) -> bool
-    ensures { IsTrue result ↔ (AreSameDescriptions a.now.description b.now.description × (unplaced_enum (enum_parts a.now) ≡ unplaced_enum (enum_parts b.now))) }
+    ensures { IsTrue result ↔ AreSameDescribed unplaced_enum a.now.description (enum_parts a.now) b.now.description (enum_parts b.now) }
 {
     *a == *b
 }
@@ -138,7 +138,7 @@ pub fn equal_input_object_type_definitions(
     a: &InputObjectTypeDefinition,
     b: &InputObjectTypeDefinition,
 ) -> bool
-    ensures { IsTrue result ↔ (AreSameDescriptions a.now.description b.now.description × (unplaced_input_object (input_object_parts a.now) ≡ unplaced_input_object (input_object_parts b.now))) }
+    ensures { IsTrue result ↔ AreSameDescribed unplaced_input_object a.now.description (input_object_parts a.now) b.now.description (input_object_parts b.now) }
 {
     *a == *b
 }
