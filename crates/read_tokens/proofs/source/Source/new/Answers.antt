@@ -1,4 +1,5 @@
-use Rattle.std.proofs.Common.{◌≡◌, ℕ, drop, sym, ap, ◌∙◌, subst, None}
+use Rattle.std.proofs.Common.{◌≡◌, ℕ, List, drop, sym, ap, ◌∙◌, subst, None}
+use Rattle.std.specs.Rc.{rc_str_bytes}
 use Rattle.read_tokens.specs.Input.{Input}
 use Rattle.read_tokens.specs.Tokens.{ignored_at}
 use Rattle.read_tokens.specs.Cursor.{input_from, EndsAs}
@@ -8,15 +9,22 @@ use Rattle.read_tokens.proofs.source.Source.new.Goals as goal
 
 pub invariant_of-result : goal.invariant_of-result
 invariant_of-result c = record {
+  shared = sym c.as_str-text.ensures.value;
   within = c.past_ignored-at.ensures.within;
   token = c.symbol_at.ensures;
-  begins = subst (λ (n : ℕ). ignored_at (drop n c.args.text.now) ≡ None) (sym c.past_ignored-at.ensures.place) (nothing_ignored c.args.text.now 0);
+  begins = subst (λ (n : ℕ). ignored_at (drop n c.as_str-text.result.now) ≡ None) (sym c.past_ignored-at.ensures.place) (nothing_ignored c.as_str-text.result.now 0);
 }
 
 pub returns-clause-shows : goal.returns-clause-shows
-returns-clause-shows c = ap (λ (n : ℕ). input_from 0 n c.args.text.now) c.past_ignored-at.ensures.place ∙ from_past c.args.text.now 0 0
+returns-clause-shows c =
+    ap (λ (n : ℕ). input_from 0 n c.as_str-text.result.now) c.past_ignored-at.ensures.place
+    ∙ from_past c.as_str-text.result.now 0 0
+    ∙ ap (λ (text : List ℕ). input_from 0 0 text) c.as_str-text.ensures.value
 
 pub returns-clause-lexed : goal.returns-clause-lexed
 returns-clause-lexed c =
-    let same : input_from 0 c.past_ignored-at.result c.args.text.now ≡ input_from 0 0 c.args.text.now = ap (λ (n : ℕ). input_from 0 n c.args.text.now) c.past_ignored-at.ensures.place ∙ from_past c.args.text.now 0 0 in
-    subst (λ (i : Input). EndsAs c.args.text.now i.ahead i.ending) (sym same) (ends_as c.args.text.now)
+    let same : input_from 0 c.past_ignored-at.result c.as_str-text.result.now ≡ input_from 0 0 (rc_str_bytes c.args.shared.now) =
+    ap (λ (n : ℕ). input_from 0 n c.as_str-text.result.now) c.past_ignored-at.ensures.place
+    ∙ from_past c.as_str-text.result.now 0 0
+    ∙ ap (λ (text : List ℕ). input_from 0 0 text) c.as_str-text.ensures.value in
+    subst (λ (i : Input). EndsAs (rc_str_bytes c.args.shared.now) i.ahead i.ending) (sym same) (ends_as (rc_str_bytes c.args.shared.now))
