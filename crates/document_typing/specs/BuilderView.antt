@@ -1,10 +1,14 @@
 -- What contracts see of a builder of documents, and when it refuses.
-use Rattle.std.specs.Prelude.{◌≡◌, Bool, true, false, List, map, Option}
+use Rattle.std.specs.Prelude.{◌≡◌, Bool, true, false, List, [], ◌++◌, map, Option}
+use Rattle.std.specs.Borrow.{Bor}
 use Rattle.graphql_names.specs.Placed.{Place}
 use Rattle.tree_definitions.specs.DefinitionTree.{DefinitionTree, definition_tree}
 use Rattle.schema_types.specs.SchemaTree.{SchemaTree}
-use Rattle.graphql_schema.specs.SourcesView.{Sources, sources_view}
+use Rattle.graphql_schema.specs.SourcesView.{Sources, sources_view, with_sources}
+use Rattle.graphql_schema.specs.declared.schema.Schema.{Schema}
+use Rattle.document_typing.specs.MeantTree.{MeantDocument}
 use Rattle.document_typing.specs.Meanings.{Meanings}
+use Rattle.document_typing.specs.KeptDocument.{kept_document}
 use Rattle.document_typing.specs.MeaningView.{schema_under, meanings_under}
 use Rattle.document_typing.specs.declared.refusal.BuilderRefusal.{BuilderRefusal}
 use Rattle.document_typing.specs.declared.refusal.BuilderRefusal.TheVariants.{Memory, Failed}
@@ -26,6 +30,24 @@ builder_value b = record {
   sources = sources_view b.sources;
   failed = b.failed;
 }
+
+-- a builder of no definitions, under the schema that is lent, if one is
+abbrev pub empty_builder : Option (Bor Schema) → DocumentBuilder
+empty_builder schema = record {
+  schema = schema_under schema;
+  meanings = meanings_under schema;
+  definitions = [];
+  sources = [];
+  failed = false;
+}
+
+-- with the definitions and the sources of a document behind the others
+abbrev pub and_document : DocumentBuilder → List (DefinitionTree Place) → Sources → DocumentBuilder
+and_document b ds more = record b { definitions = b.definitions ++ ds; sources = with_sources b.sources more }
+
+-- the document that is built: what is kept of all definitions that were added
+abbrev pub built_document : DocumentBuilder → MeantDocument Place
+built_document b = kept_document b.meanings b.definitions
 
 -- definitions are not added: from then on the builder has failed
 abbrev pub IsAddRefusal : DocumentBuilder → DocumentBuilder → BuilderRefusal → Type 0

@@ -1,9 +1,10 @@
 -- Which selections have a meaning, and what is kept of a selection set (GraphQL, October 2021, sections 5.3.1, 5.3.3 and 5.5.1.2).
-use Rattle.std.specs.Prelude.{ℕ, Bool, not, ◌&&◌, ◌||◌, List, [], ◌∷◌, ◌++◌, None, Some, if◌then◌else◌}
+use Rattle.std.specs.Prelude.{◌≡◌, ℕ, Bool, not, ◌&&◌, ◌||◌, List, [], ◌∷◌, ◌++◌, None, Some, if◌then◌else◌}
 use Rattle.std.specs.Option.{option_map_or}
 use Rattle.tree_operations.specs.SelectionTree.{SelectionTree, FieldTree, SpreadTree, InlineTree, SelectionTrees, no_selections, selection_then}
 use Rattle.tree_operations.specs.OperationWritable.{has_selection}
-use Rattle.document_typing.specs.MeantTree.{MeantSelection, MeantField, MeantSpread, MeantInline, set_on}
+use Rattle.document_typed_selections.specs.TypedTree.{TypedSet}
+use Rattle.document_typing.specs.MeantTree.{MeantSelection, MeantField, MeantSpread, MeantInline, set_on, meant_of_set}
 use Rattle.document_typing.specs.Meanings.{Meanings, inner_type}
 
 -- values of the type of that name have no fields: it is a scalar or an enum
@@ -28,3 +29,7 @@ abbrev mutual
   pub kept_all : {P : Type 0} → Meanings → SelectionTrees P → List ℕ → List (MeantSelection P)
   kept_all m no_selections t = []
   kept_all m (selection_then s ss) t = kept m s t ++ kept_all m ss t
+
+-- a typed set, on the type t, of what is kept of these selections
+abbrev pub IsKeptSet : {P : Type 0} → Meanings → List ℕ → SelectionTrees P → TypedSet P → Type 0
+IsKeptSet m t ts set = meant_of_set set ≡ set_on t (kept_all m ts t)

@@ -9,6 +9,7 @@ pub mod TypedByPlace
 pub mod DefinedByPlace
 pub mod FaultView
 pub mod MeaningView
+pub mod SetView
 pub mod SetFaults
 pub mod DefinedField
 pub mod Steps

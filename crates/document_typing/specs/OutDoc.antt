@@ -1,10 +1,11 @@
 -- What is written of a document: its operations, one without a name first, and then its fragments, each in the order read (GraphQL, October 2021, sections 2.2, 2.3 and 2.8).
-use Rattle.std.specs.Prelude.{Bool, true, false, not, List, ◌++◌, map, option_to_list}
+use Rattle.std.specs.Prelude.{◌≡◌, Bool, true, false, not, List, [], ◌++◌, map, option_to_list}
 use Rattle.std.specs.List.{filter}
 use Rattle.tree_operations.specs.OperationLayout.{is_none}
 use Rattle.tree_operations.specs.SelectionTree.{SelectionTree, FieldTree, SpreadTree, InlineTree, SelectionTrees, no_selections, selection_then}
 use Rattle.tree_definitions.specs.DefinitionTree.{DefinitionTree, Operation, Fragment}
 use Rattle.document_typing.specs.MeantTree.{MeantSelection, MeantField, MeantSpread, MeantInline, MeantSet, meant_set, MeantSelections, no_meant, meant_then, MeantOperation, MeantFragment, MeantDocument}
+use Rattle.document_typing.specs.TypingFaults.{Fault}
 
 module _ {P : Type 0} where
   abbrev pub is_anonymous : DefinitionTree P → Bool
@@ -58,3 +59,7 @@ module _ {P : Type 0} where
 
   abbrev pub written_document : MeantDocument P → List (DefinitionTree P)
   written_document d = map written_operation (option_to_list d.anonymous) ++ map (λ e. written_operation e.1) d.named ++ map (λ e. written_fragment e.1) d.fragments
+
+  -- where these faults are none, the document has all that was read: the same is written of both
+  abbrev pub IsWholeWithoutFaults : List (DefinitionTree P) → MeantDocument P → List (Fault P) → Type 0
+  IsWholeWithoutFaults ds d faults = faults ≡ [] → written_document d ≡ out_doc ds

@@ -1,5 +1,5 @@
 -- The rules of typing, each by what breaks it in the document as read: a fault with its place and its data (GraphQL, October 2021, sections 5.1.1, 5.2.1.1, 5.2.2.1, 5.3.1, 5.3.3, 5.5.1.1 and 5.5.1.2).
-use Rattle.std.specs.Prelude.{◌≡◌, ℕ, ◌<◌, Bool, true, false, List, length, None, Some, Contains}
+use Rattle.std.specs.Prelude.{◌≡◌, ◌↔◌, ℕ, ◌<◌, Bool, true, false, List, length, None, Some, Contains}
 use Rattle.std.specs.List.{filter}
 use Rattle.tree_operations.specs.SelectionTree.{SelectionTree, FieldTree, InlineTree, SelectionTrees, selection_then, FieldHead}
 use Rattle.tree_operations.specs.OperationWritable.{has_selection}
@@ -72,6 +72,10 @@ pub data StandsIn {P : Type 0} (m : Meanings) (u : List ℕ) (s : SelectionTree 
 abbrev pub SetFails : {P : Type 0} → Meanings → List ℕ → SelectionTrees P → Fault P → Type 0
 SetFails {P} m t ts fault = (u : List ℕ) × ((s : SelectionTree P) × (StandsIn m u s t ts × SelectionBreaks m u s fault))
 
+-- these are the faults of such a set: each way in which a selection breaks a rule, and nothing else
+abbrev pub AreSetFaults : {P : Type 0} → Meanings → List ℕ → SelectionTrees P → List (Fault P) → Type 0
+AreSetFaults {P} m t ts faults = (f : Fault P) → Contains faults f ↔ SetFails m t ts f
+
 -- ---- rules on a definition of the document, behind these
 
 abbrev pub is_operation : {P : Type 0} → DefinitionTree P → Bool
@@ -126,6 +130,10 @@ pub data TypingFails {P : Type 0} (m : Meanings) (ds : List (DefinitionTree P)) 
   in_definition : AtSomePlace (λ before d. DefinitionBreaks m ds before d fault) ds → TypingFails m ds fault
   in_operation : (o : _) → Contains (kept_operations m ds) o → SetFails m o.base o.it.selections fault → TypingFails m ds fault
   in_named_fragment : (f : _) → Contains (kept_fragments m ds) f → SetFails m f.base f.it.selections fault → TypingFails m ds fault
+
+-- these are the faults of typing: each way in which a rule is broken, and nothing else
+abbrev pub AreTypingFaults : {P : Type 0} → Meanings → List (DefinitionTree P) → List (Fault P) → Type 0
+AreTypingFaults {P} m ds faults = (f : Fault P) → Contains faults f ↔ TypingFails m ds f
 
 -- no rule of typing is broken
 abbrev pub TypingRules : {P : Type 0} → Meanings → List (DefinitionTree P) → Type 0

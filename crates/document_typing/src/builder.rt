@@ -1,19 +1,17 @@
 //! The builder of documents.
-ghost use Rattle.std.specs.Prelude.{◌≡◌, ◌↔◌, ◌++◌, [], ◌∷◌, map, true, false, IfOk, IfErr, OnOk, Contains};
+ghost use Rattle.std.specs.Prelude.{◌≡◌, ◌++◌, map, false, IfOk, IfErr, OnOk};
 ghost use Rattle.tree_definitions.specs.DefinitionTree.{definition_tree, document_tree};
 ghost use Rattle.tree_definitions.specs.Sources.{sources_of};
 ghost use Rattle.graphql_schema.specs.SourcesView.{sources_view, with_sources};
 ghost use Rattle.document_typed_operations.specs.TypedDocument.{typed_document_tree};
-ghost use Rattle.document_typing.specs.KeptDocument.{kept_document};
-ghost use Rattle.document_typing.specs.TypingFaults.{TypingFails};
+ghost use Rattle.document_typing.specs.TypingFaults.{AreTypingFaults};
 ghost use Rattle.document_typing.specs.FullList.{TellsAll};
-ghost use Rattle.document_typing.specs.OutDoc.{out_doc, written_document};
+ghost use Rattle.document_typing.specs.OutDoc.{IsWholeWithoutFaults};
 ghost use Rattle.document_typing.specs.TypedByPlace.{IsTypedDocument};
 ghost use Rattle.document_typing.specs.DefinedByPlace.{IsDefinedDocument};
 ghost use Rattle.document_typing.specs.FaultView.{faults_of};
 ghost use Rattle.document_typing.specs.DocumentView.{meant_document};
-ghost use Rattle.document_typing.specs.MeaningView.{schema_under, meanings_under};
-ghost use Rattle.document_typing.specs.BuilderView.{builder_value, IsAddRefusal, IsBuildRefusal};
+ghost use Rattle.document_typing.specs.BuilderView.{builder_value, empty_builder, and_document, built_document, IsAddRefusal, IsBuildRefusal};
 
 use crate::document::type_document;
 use crate::refusal::BuilderRefusal;
@@ -42,7 +40,7 @@ pub struct ExecutableDocumentBuilder<'schema> {
 impl<'schema> ExecutableDocumentBuilder<'schema> {
     /// A builder of no definitions, under this schema or without one. It takes no memory.
     pub fn new(alloc: Global, schema: Option<&'schema Schema>) -> ExecutableDocumentBuilder<'schema>
-        ensures { builder_value result ≡ record { schema = schema_under schema.entry; meanings = meanings_under schema.entry; definitions = []; sources = []; failed = false } }
+        ensures { builder_value result ≡ empty_builder schema.entry }
     {
         ExecutableDocumentBuilder {
             alloc,
@@ -58,7 +56,7 @@ impl<'schema> ExecutableDocumentBuilder<'schema> {
     /// Where memory runs out it answers so, and from then on [`BuilderRefusal::Failed`].
     pub fn add_ast_document(&mut self, document: &Document) -> Result<(), BuilderRefusal>
         ensures running { OnOk result ((builder_value self.old).failed ≡ false) }
-        ensures added { OnOk result (builder_value self.new ≡ record (builder_value self.old) { definitions = (builder_value self.old).definitions ++ document_tree document.now; sources = with_sources (builder_value self.old).sources (sources_of document.now) }) }
+        ensures added { OnOk result (builder_value self.new ≡ and_document (builder_value self.old) (document_tree document.now) (sources_of document.now)) }
         ensures refused { IfErr result (IsAddRefusal (builder_value self.old) (builder_value self.new)) }
     {
         if self.failed {
@@ -79,12 +77,12 @@ impl<'schema> ExecutableDocumentBuilder<'schema> {
         self,
     ) -> Result<(ExecutableDocument, Vec<(Option<SourceSpan>, BuildError)>), BuilderRefusal>
         ensures running { OnOk result ((builder_value self.entry).failed ≡ false) }
-        ensures document { IfOk result (λ r. meant_document (typed_document_tree r.0) ≡ kept_document (builder_value self.entry).meanings (builder_value self.entry).definitions) }
+        ensures document { IfOk result (λ r. meant_document (typed_document_tree r.0) ≡ built_document (builder_value self.entry)) }
         ensures typed { IfOk result (λ r. IsTypedDocument (builder_value self.entry).meanings (meant_document (typed_document_tree r.0))) }
         ensures defined { IfOk result (λ r. IsDefinedDocument (builder_value self.entry).schema (typed_document_tree r.0)) }
-        ensures whole { IfOk result (λ r. faults_of r.1 ≡ [] → written_document (meant_document (typed_document_tree r.0)) ≡ out_doc (builder_value self.entry).definitions) }
+        ensures whole { IfOk result (λ r. IsWholeWithoutFaults (builder_value self.entry).definitions (meant_document (typed_document_tree r.0)) (faults_of r.1)) }
         ensures sources { IfOk result (λ r. sources_view r.0.sources ≡ (builder_value self.entry).sources) }
-        ensures faults { IfOk result (λ r. (f : _) → Contains (faults_of r.1) f ↔ TypingFails (builder_value self.entry).meanings (builder_value self.entry).definitions f) }
+        ensures faults { IfOk result (λ r. AreTypingFaults (builder_value self.entry).meanings (builder_value self.entry).definitions (faults_of r.1)) }
         ensures full { IfOk result (λ r. TellsAll (builder_value self.entry).meanings (builder_value self.entry).definitions (faults_of r.1)) }
         ensures refused { IfErr result (IsBuildRefusal (builder_value self.entry)) }
     {
