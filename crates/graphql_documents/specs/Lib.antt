@@ -1,2 +1,3 @@
 pub mod Introspection
+pub mod FieldTypes
 pub mod NewFields

@@ -1,7 +1,6 @@
 //! Making documents.
-ghost use Rattle.std.specs.Prelude.{◌≡◌, [], false};
-ghost use Rattle.document_typing.specs.MeaningView.{schema_under, meanings_under};
-ghost use Rattle.document_typing.specs.BuilderView.{builder_value};
+ghost use Rattle.std.specs.Prelude.{◌≡◌};
+ghost use Rattle.document_typing.specs.BuilderView.{builder_value, empty_builder};
 
 use document_typed_operations::ExecutableDocument;
 use document_typing::{ExecutableDocumentBuilder, Schema};
@@ -21,7 +20,7 @@ impl ExecutableDocumentExt for ExecutableDocument {
         alloc: Global,
         schema: Option<&'schema Schema>,
     ) -> ExecutableDocumentBuilder<'schema>
-        ensures { builder_value result ≡ record { schema = schema_under schema.entry; meanings = meanings_under schema.entry; definitions = []; sources = []; failed = false } }
+        ensures { builder_value result ≡ empty_builder schema.entry }
     {
         ExecutableDocumentBuilder::new(alloc, schema)
     }

@@ -2,11 +2,10 @@
 ghost use Rattle.std.specs.Prelude.{◌≡◌};
 ghost use Rattle.std.specs.Option.{option_map};
 ghost use Rattle.graphql_names.specs.Placed.{node_tree};
-ghost use Rattle.document_typing.specs.in_literals.TypeQueries.{inner_name};
 ghost use Rattle.schema_types.specs.in_type_members.TypeSystemTree.{field_definition_tree};
 ghost use Rattle.schema_types.specs.TypeView.{extended_type};
-ghost use Rattle.schema_types.specs.Addresses.{type_at};
 ghost use Rattle.document_typing.specs.in_schema.SchemaOf.{schema_tree};
+ghost use Rattle.graphql_documents.specs.FieldTypes.{inner_type_def};
 
 use document_typed_selections::Field;
 use document_typing::Schema;
@@ -20,7 +19,7 @@ pub trait FieldExt {
 
 impl FieldExt for Field {
     fn inner_type_def<'schema>(&self, schema: &'schema Schema) -> Option<&'schema ExtendedType>
-        ensures { option_map (λ t. extended_type t.now) result ≡ type_at (schema_tree schema.now) (inner_name (node_tree field_definition_tree self.now.definition).it.ty).it }
+        ensures { option_map (λ t. extended_type t.now) result ≡ inner_type_def (schema_tree schema.now) (node_tree field_definition_tree self.now.definition) }
     {
         schema.type_named(self.ty().inner_named_type())
     }

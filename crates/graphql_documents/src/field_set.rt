@@ -1,17 +1,15 @@
 //! Making selection sets by themselves.
-ghost use Rattle.std.specs.Prelude.{◌≡◌, ◌↔◌, [], Some, IfOk, Contains};
-ghost use Rattle.tree_operations.specs.SelectionTree.{selection_tree, selection_trees};
-ghost use Rattle.schema_types.specs.Plain.{plain};
+ghost use Rattle.std.specs.Prelude.{◌≡◌, [], Some, IfOk};
 ghost use Rattle.document_typing.specs.in_schema.SchemaOf.{schema_tree};
 ghost use Rattle.document_typed_selections.specs.TypedTree.{typed_set_tree};
-ghost use Rattle.document_typing.specs.MeantTree.{meant_of_set, set_on};
-ghost use Rattle.document_typing.specs.Meanings.{meanings};
-ghost use Rattle.document_typing.specs.KeptSelections.{kept_all};
+ghost use Rattle.document_typing.specs.MeantTree.{meant_of_set};
+ghost use Rattle.document_typing.specs.KeptSelections.{IsKeptSet};
 ghost use Rattle.document_typing.specs.TypedByPlace.{IsSetOn};
 ghost use Rattle.document_typing.specs.DefinedByPlace.{IsDefinedSet};
-ghost use Rattle.document_typing.specs.TypingFaults.{SetFails};
+ghost use Rattle.document_typing.specs.TypingFaults.{AreSetFaults};
 ghost use Rattle.document_typing.specs.FullList.{TellsSet};
 ghost use Rattle.document_typing.specs.FaultView.{faults_of};
+ghost use Rattle.document_typing.specs.SetView.{schema_meanings, given_set};
 
 use document_typed_operations::FieldSet;
 use document_typing::{BuildError, Schema, field_set_from_ast};
@@ -38,12 +36,12 @@ impl FieldSetExt for FieldSet {
         type_name: &Name,
         selections: &[Selection],
     ) -> Result<(FieldSet, Vec<(Option<SourceSpan>, BuildError)>), AllocError>
-        ensures set { IfOk result (λ r. meant_of_set (typed_set_tree r.0.selection_set) ≡ set_on type_name.now.text (kept_all (meanings (plain (schema_tree schema.now))) (selection_trees selection_tree selections.now) type_name.now.text)) }
-        ensures typed { IfOk result (λ r. IsSetOn (meanings (plain (schema_tree schema.now))) type_name.now.text (meant_of_set (typed_set_tree r.0.selection_set))) }
+        ensures set { IfOk result (λ r. IsKeptSet (schema_meanings schema.now) type_name.now.text (given_set selections.now) (typed_set_tree r.0.selection_set)) }
+        ensures typed { IfOk result (λ r. IsSetOn (schema_meanings schema.now) type_name.now.text (meant_of_set (typed_set_tree r.0.selection_set))) }
         ensures defined { IfOk result (λ r. IsDefinedSet (Some (schema_tree schema.now)) (typed_set_tree r.0.selection_set)) }
         ensures sources { IfOk result (λ r. r.0.sources.entries ≡ []) }
-        ensures faults { IfOk result (λ r. (f : _) → Contains (faults_of r.1) f ↔ SetFails (meanings (plain (schema_tree schema.now))) type_name.now.text (selection_trees selection_tree selections.now) f) }
-        ensures full { IfOk result (λ r. TellsSet (meanings (plain (schema_tree schema.now))) type_name.now.text (selection_trees selection_tree selections.now) (faults_of r.1)) }
+        ensures faults { IfOk result (λ r. AreSetFaults (schema_meanings schema.now) type_name.now.text (given_set selections.now) (faults_of r.1)) }
+        ensures full { IfOk result (λ r. TellsSet (schema_meanings schema.now) type_name.now.text (given_set selections.now) (faults_of r.1)) }
     {
         field_set_from_ast(alloc, schema, type_name, selections)
     }

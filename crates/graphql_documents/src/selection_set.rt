@@ -1,6 +1,5 @@
 //! Calls of selection sets that need a schema or a document.
 ghost use Rattle.std.specs.Prelude.{◌≡◌, true, false, None, Some, IfOk, IfErr};
-ghost use Rattle.std.specs.Option.{option_map};
 ghost use Rattle.graphql_names.specs.Placed.{name_tree};
 ghost use Rattle.document_typing.specs.in_schema.SchemaOf.{schema_tree};
 ghost use Rattle.document_typing.specs.in_schema.LookUps.{field_named};
@@ -9,7 +8,7 @@ ghost use Rattle.document_typed_selections.specs.TypedParts.{typed_field};
 ghost use Rattle.document_typed_operations.specs.TypedDocument.{typed_document_tree};
 ghost use Rattle.document_walks.specs.Reached.{IsWalk, document_fragments};
 ghost use Rattle.document_walks.specs.Lending.{all_fields_is_over, all_fields_left, root_fields_is_over, root_fields_left};
-ghost use Rattle.graphql_documents.specs.NewFields.{bare_field, IsNewFieldError};
+ghost use Rattle.graphql_documents.specs.NewFields.{bare_field_of, IsNewFieldError};
 
 use crate::new_field_error::NewFieldError;
 use document_typed_operations::ExecutableDocument;
@@ -51,7 +50,7 @@ impl SelectionSetExt for SelectionSet {
         schema: &'schema Schema,
         name: Name,
     ) -> Result<Field, NewFieldError<'schema>>
-        ensures made { IfOk result (λ f. option_map (λ d. bare_field (name_tree name) d.it) (field_named (schema_tree schema.now) self.now.ty.text name.text) ≡ Some (typed_field None f)) }
+        ensures made { IfOk result (λ f. bare_field_of (name_tree name) (field_named (schema_tree schema.now) self.now.ty.text name.text) ≡ Some (typed_field None f)) }
         ensures refused { IfErr result (IsNewFieldError (schema_tree schema.now) self.now.ty.text name.text) }
     {
         match schema.type_field(&self.ty, &name) {
