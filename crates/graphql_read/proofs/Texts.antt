@@ -4,6 +4,7 @@ use Rattle.std.proofs.lemmas.List.{append-nil}
 use Rattle.read_tokens.specs.declared.terminal.Terminal.{Terminal}
 use Rattle.read_tokens.specs.Input.{Token, Input, Ending, Ended, NoTokenAt, next}
 use Rattle.read_tokens.specs.Cursor.{EndsAs, is_stuck_at, input_from}
+use Rattle.read_tokens.proofs.Lexed.{ends_as}
 use Rattle.read_grammar.specs.declared.stop.Stop.{Stop}
 use Rattle.read_grammar.specs.declared.stop.Stop.TheVariants.{Memory, Unexpected, Nesting}
 use Rattle.read_grammar.specs.Rules.{Rule}
@@ -26,6 +27,10 @@ use Rattle.graphql_read.proofs.Endings.{AtEnd, ends_whole, not_stuck, lexed_whol
 -- nothing is read yet
 pub begins : (text : List ℕ) (i : Input) → i ≡ input_from 0 0 text → i.last ≡ 0
 begins text i shows = ap (λ (k : Input). k.last) shows
+
+-- the tokens of a copy of a text are those of the text
+pub lexed_as : (text copy : List ℕ) (i : Input) → copy ≡ text → EndsAs copy i.ahead i.ending → EndsAs text i.ahead i.ending
+lexed_as text copy i same lexed = subst (λ (bytes : List ℕ). EndsAs bytes i.ahead i.ending) same lexed
 
 ended_keeps : {A : Type 0} (x : A) → Keeps (ended x)
 ended_keeps {A} x = record { ending = λ i. go i (next i) }
@@ -109,6 +114,6 @@ module _ {A : Type 0} {r : ℕ → Rule A} {p : ℕ → Parser A} {b e : Test} (
       due Unexpected z at = record { tokens = i.ahead; ending = i.ending; lexed = lexed; says = says Unexpected z (at (λ e. cc)) }
       due Nesting z at = record { tokens = i.ahead; ending = i.ending; lexed = lexed; says = says Nesting z (at (λ e. cc)) }
 
--- of want of memory nothing is said of a text that has a tree
-pub memory_due : {A : Type 0} (symbol : Symbol A) (n : ℕ) (text : List ℕ) (tree : A) → ReadsWithin symbol n text tree → IsDue symbol n text faults.Memory
-memory_due symbol n text tree d = record { tokens = d.reads.tokens; ending = Ended (length text); lexed = (refl, d.reads.lexed); says = tt }
+-- memory may be wanting at any text
+pub memory_due : {A : Type 0} (symbol : Symbol A) (n : ℕ) (text : List ℕ) → IsDue symbol n text faults.Memory
+memory_due symbol n text = let i = input_from 0 0 text in record { tokens = i.ahead; ending = i.ending; lexed = ends_as text; says = tt }

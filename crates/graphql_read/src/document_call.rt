@@ -20,6 +20,7 @@ use indexmap::IndexMap;
 use read_grammar::Stop;
 use read_tokens::Source;
 use std::alloc::{AllocError, Global};
+use std::rc::RcStr;
 use tree_definitions::{Definition, Document, SourceFile};
 
 /// Document, and nothing behind it.
@@ -50,7 +51,8 @@ fn parse_definitions(
     ensures within { IfErr result (λ e. StandsIn text.now (fault_view e)) }
     ensures bound { KeepsToBound nesting text.now result }
 {
-    let mut tokens = Source::new(text);
+    let shared = RcStr::from_str(alloc, text)?;
+    let mut tokens = Source::new(&shared);
     match whole_document(alloc, &mut tokens, file, nesting) {
         Ok(found) => Ok(found),
         Err(stop) => Err(fault(&tokens, stop)),

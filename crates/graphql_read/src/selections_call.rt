@@ -18,6 +18,7 @@ use read_grammar::Stop;
 use read_operations::selections;
 use read_tokens::Source;
 use std::alloc::Global;
+use std::rc::RcStr;
 use tree_operations::Selection;
 
 /// `Selection+`, and nothing behind it.
@@ -48,7 +49,8 @@ pub fn parse_selections(
     ensures within { IfErr result (λ e. StandsIn text.now (fault_view e)) }
     ensures bound { KeepsToBound nesting text.now result }
 {
-    let mut tokens = Source::new(text);
+    let shared = RcStr::from_str(alloc, text)?;
+    let mut tokens = Source::new(&shared);
     match whole_selections(alloc, &mut tokens, file, nesting) {
         Ok(found) => Ok(found),
         Err(stop) => Err(fault(&tokens, stop)),

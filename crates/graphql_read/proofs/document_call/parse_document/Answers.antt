@@ -14,7 +14,7 @@ returns-in_err-definitions-clause-only c = λ tree d.
 pub returns-in_err-sources-clause-fault : goal.returns-in_err-sources-clause-fault
 returns-in_err-sources-clause-fault c =
     let p = err_from_is_err_and c.from_residual-in_err-sources.result c.from_residual-in_err-sources.ensures.1 in
-    rw (p.1, p.2) (memory_due (Derives (in_file c.args.file)) c.args.nesting c.args.text.now (definitions_tree c.in_ok-definitions.definitions) c.in_ok-definitions.ensures.found)
+    rw (p.1, p.2) (memory_due (Derives (in_file c.args.file)) c.args.nesting c.args.text.now)
 
 pub returns-clause-only : goal.returns-clause-only
 returns-clause-only c = λ tree d. c.in_ok-definitions.ensures.only tree d

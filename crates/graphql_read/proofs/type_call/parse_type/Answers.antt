@@ -1,3 +1,4 @@
+use Rattle.std.proofs.lemmas.Result.{err_from_is_err_and}
 use Rattle.std.proofs.Common.{refl, sym, subst, ◌∙◌}
 use Rattle.tree_literals.specs.TypeTree.{type_tree}
 use Rattle.read_grammar.specs.Grammar.{DerivesType}
@@ -6,24 +7,24 @@ use Rattle.read_grammar.proofs.ViableValues.{type_viable}
 use Rattle.read_operations.specs.in_parse_values.Meanings.{in_file}
 use Rattle.graphql_read.specs.Reads.{IsDue}
 use Rattle.graphql_read.specs.ReadFaults.{fault_view}
-use Rattle.graphql_read.proofs.Texts.{begins, found, only, memory, due}
+use Rattle.graphql_read.proofs.Texts.{begins, lexed_as, found, only, memory, due, memory_due}
 use Rattle.graphql_read.proofs.Bounds.{not_passed, stands_in, passes_bound}
 use Rattle.graphql_read.proofs.Soundness.{type_sound}
 use Rattle.graphql_read.proofs.type_call.parse_type.Goals as goal
 
 pub returns-in-Ok-clause-found : goal.returns-in-Ok-clause-found
-returns-in-Ok-clause-found c = found (any_type_parses (in_file c.args.file)) refl c.args.nesting c.args.text.now c.new-tokens.result (begins c.args.text.now c.new-tokens.result c.new-tokens.ensures.shows) c.new-tokens.ensures.lexed (type_tree c.in-Ok.found) c.whole_type.new.tokens c.in-Ok.ensures
+returns-in-Ok-clause-found c = found (any_type_parses (in_file c.args.file)) refl c.args.nesting c.args.text.now c.new-tokens.result (begins _ c.new-tokens.result c.new-tokens.ensures.shows) (lexed_as c.args.text.now _ c.new-tokens.result c.in_ok-shared.ensures.ok c.new-tokens.ensures.lexed) (type_tree c.in-Ok.found) c.whole_type.new.tokens c.in-Ok.ensures
 
 pub returns-in-Ok-clause-only : goal.returns-in-Ok-clause-only
-returns-in-Ok-clause-only c = λ tree d. only (any_type_parses (in_file c.args.file)) refl c.args.nesting c.args.text.now c.new-tokens.result (begins c.args.text.now c.new-tokens.result c.new-tokens.ensures.shows) c.new-tokens.ensures.lexed (type_tree c.in-Ok.found) tree c.whole_type.new.tokens c.in-Ok.ensures d
+returns-in-Ok-clause-only c = λ tree d. only (any_type_parses (in_file c.args.file)) refl c.args.nesting c.args.text.now c.new-tokens.result (begins _ c.new-tokens.result c.new-tokens.ensures.shows) (lexed_as c.args.text.now _ c.new-tokens.result c.in_ok-shared.ensures.ok c.new-tokens.ensures.lexed) (type_tree c.in-Ok.found) tree c.whole_type.new.tokens c.in-Ok.ensures d
 
 pub returns-in-Err-clause-only : goal.returns-in-Err-clause-only
-returns-in-Err-clause-only c = λ tree d. c.fault.ensures ∙ memory (any_type_parses (in_file c.args.file)) refl c.args.nesting c.args.text.now c.new-tokens.result (begins c.args.text.now c.new-tokens.result c.new-tokens.ensures.shows) c.new-tokens.ensures.lexed c.in-Err.stop c.whole_type.new.tokens tree c.in-Err.ensures d
+returns-in-Err-clause-only c = λ tree d. c.fault.ensures ∙ memory (any_type_parses (in_file c.args.file)) refl c.args.nesting c.args.text.now c.new-tokens.result (begins _ c.new-tokens.result c.new-tokens.ensures.shows) (lexed_as c.args.text.now _ c.new-tokens.result c.in_ok-shared.ensures.ok c.new-tokens.ensures.lexed) c.in-Err.stop c.whole_type.new.tokens tree c.in-Err.ensures d
 
 pub returns-in-Err-clause-fault : goal.returns-in-Err-clause-fault
 returns-in-Err-clause-fault c =
     subst (IsDue (DerivesType (in_file c.args.file)) c.args.nesting c.args.text.now) (sym c.fault.ensures)
-    (due (any_type_parses (in_file c.args.file)) refl c.args.nesting c.args.text.now c.new-tokens.result (begins c.args.text.now c.new-tokens.result c.new-tokens.ensures.shows) c.new-tokens.ensures.lexed (type_viable (in_file c.args.file)) refl c.in-Err.stop c.whole_type.new.tokens c.in-Err.ensures)
+    (due (any_type_parses (in_file c.args.file)) refl c.args.nesting c.args.text.now c.new-tokens.result (begins _ c.new-tokens.result c.new-tokens.ensures.shows) (lexed_as c.args.text.now _ c.new-tokens.result c.in_ok-shared.ensures.ok c.new-tokens.ensures.lexed) (type_viable (in_file c.args.file)) refl c.in-Err.stop c.whole_type.new.tokens c.in-Err.ensures)
 
 pub returns-in-Ok-clause-sound : goal.returns-in-Ok-clause-sound
 returns-in-Ok-clause-sound c = type_sound c.args.file c.args.text.now (type_tree c.in-Ok.found) (returns-in-Ok-clause-found c).reads
@@ -36,3 +37,8 @@ returns-in-Ok-clause-bound c = not_passed (DerivesType (in_file c.args.file)) c.
 
 pub returns-in-Err-clause-bound : goal.returns-in-Err-clause-bound
 returns-in-Err-clause-bound c = passes_bound (DerivesType (in_file c.args.file)) c.args.nesting c.args.text.now c.fault.result (returns-in-Err-clause-fault c)
+
+pub returns-in_err-shared-clause-fault : goal.returns-in_err-shared-clause-fault
+returns-in_err-shared-clause-fault c =
+    let p = err_from_is_err_and c.from_residual.result c.from_residual.ensures.1 in
+    rw (p.1, p.2) (memory_due (DerivesType (in_file c.args.file)) c.args.nesting c.args.text.now)
