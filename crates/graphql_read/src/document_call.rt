@@ -65,7 +65,7 @@ fn source_file(alloc: Global, text: &str) -> Result<SourceFile, AllocError>
 {
     Ok(SourceFile {
         path: String::new(alloc),
-        text: String::from_str(alloc, text)?,
+        text: RcStr::from_str(alloc, text)?,
     })
 }
 

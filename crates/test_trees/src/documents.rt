@@ -5,6 +5,7 @@ use graphql_ast::*;
 use graphql_read::parse_document;
 use std::alloc::{AllocError, Global};
 use std::process::Abort;
+use std::rc::RcStr;
 
 /// `scalar T`, without a place.
 fn scalar(alloc: Global) -> Result<Node<ScalarTypeDefinition>, AllocError> {
@@ -19,7 +20,7 @@ fn scalar(alloc: Global) -> Result<Node<ScalarTypeDefinition>, AllocError> {
 /// The file.
 fn source(alloc: Global) -> Result<SourceFile, AllocError> {
     let path = String::from_str(alloc, "a.graphql")?;
-    let text = String::from_str(alloc, "scalar T")?;
+    let text = RcStr::from_str(alloc, "scalar T")?;
     Ok(SourceFile { path, text })
 }
 

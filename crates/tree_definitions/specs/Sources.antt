@@ -1,5 +1,6 @@
 -- What the sources of a document are.
 use Rattle.std.specs.Prelude.{ℕ, List, map}
+use Rattle.std.specs.Rc.{rc_str_bytes}
 use Rattle.std.specs.String.{string_bytes}
 use Rattle.graphql_names.specs.declared.span.FileId.{FileId}
 use Rattle.tree_definitions.specs.declared.document.SourceFile.{SourceFile}
@@ -12,7 +13,7 @@ pub record Source : Type 0 where
 
 -- what a source is
 abbrev pub source_of : SourceFile → Source
-source_of f = record { path = string_bytes f.path; text = string_bytes f.text }
+source_of f = record { path = string_bytes f.path; text = rc_str_bytes f.text }
 
 -- a source with the number of its file
 abbrev pub numbered_source : FileId × SourceFile → ℕ × Source

@@ -7,12 +7,13 @@ use crate::definition::Definition;
 use graphql_values::FileId;
 use indexmap::IndexMap;
 use std::alloc::{AllocError, Global};
+use std::rc::RcStr;
 
-/// A text that was read, and the path of its file.
+/// A text that was read, and the path of its file. What is read from the text shares it.
 #[derive(PartialEq, Eq, Hash)]
 pub struct SourceFile {
     pub path: String,
-    pub text: String,
+    pub text: RcStr,
 }
 
 impl Drop for SourceFile {
@@ -44,6 +45,7 @@ impl Document {
     }
 }
 
+/// The same text, which is not copied, and a copy of its path.
 impl Clone for SourceFile {
     ghost is_clone = { λ f copy. source_of copy ≡ source_of f };
 
