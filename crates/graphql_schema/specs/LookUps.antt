@@ -51,6 +51,10 @@ module _ (s : SchemaTree Place) where
   abbrev pub field_named : List ℕ → List ℕ → Option (Given Place (Placed Place (FieldDefinitionTree Place)))
   field_named n m = option_or (explicit_field n m) (meta_field n m)
 
+  -- this is the field of that name of the type of that name
+  abbrev pub IsFieldNamed : List ℕ → List ℕ → Given Place (Placed Place (FieldDefinitionTree Place)) → Type 0
+  IsFieldNamed n m f = field_named n m ≡ Some f
+
   -- why there is no such field: the type is missing, or it is there, under its name, and has no such field
   abbrev pub FieldIsMissing : List ℕ → List ℕ → FieldLookupError → Type 0
   FieldIsMissing n m NoSuchType = type_at s n ≡ None

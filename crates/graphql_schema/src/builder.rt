@@ -1,5 +1,5 @@
 //! The builder of schemas.
-ghost use Rattle.std.specs.Prelude.{◌≡◌, ◌≤◌, ◌↔◌, ◌++◌, [], true, false, drop, length, map, IfOk, IfErr, OnOk, Contains};
+ghost use Rattle.std.specs.Prelude.{◌≡◌, ◌≤◌, ◌↔◌, [], true, false, drop, length, map, IfOk, IfErr, OnOk, Contains};
 ghost use Rattle.schema_writing.specs.in_definitions.DefinitionTree.{document_tree};
 ghost use Rattle.schema_writing.specs.in_definitions.Sources.{sources_of};
 ghost use Rattle.schema_building.specs.in_built_in.Table.{built_in_definitions};
@@ -11,11 +11,11 @@ ghost use Rattle.schema_building.specs.in_type_index.Index.{IsIndexOf};
 ghost use Rattle.schema_building.specs.DefinitionsOf.{definitions_of};
 ghost use Rattle.schema_building.specs.Building.{plain_settings, counted, folded, FailsIn, lent_names, IsAddRefusal, IsBuildRefusal};
 ghost use Rattle.schema_building.specs.Numbers.{HaveNumbers};
-ghost use Rattle.schema_building.specs.SourcesView.{sources_view, with_sources};
+ghost use Rattle.schema_building.specs.SourcesView.{sources_view};
 ghost use Rattle.schema_building.specs.Waiting.{left_names};
 ghost use Rattle.schema_fold_lists.specs.ListBuilt.{Folds};
 ghost use Rattle.schema_fold_lists.specs.in_type_folding.OwnNames.{UnderOwnNames};
-ghost use Rattle.graphql_schema.specs.BuilderOf.{builder_value};
+ghost use Rattle.graphql_schema.specs.BuilderOf.{builder_value, with_document};
 ghost use Rattle.graphql_schema.specs.SchemaOf.{schema_tree};
 
 use crate::meta_fields::MetaFields;
@@ -83,7 +83,7 @@ impl SchemaBuilder {
     /// Where memory or numbers run out it answers so, and from then on [`BuilderRefusal::Failed`].
     pub fn add_ast(&mut self, document: &Document) -> Result<(), BuilderRefusal>
         ensures running { OnOk result ((builder_value self.old).failed ≡ false) }
-        ensures added { OnOk result (builder_value self.new ≡ record (builder_value self.old) { texts = (builder_value self.old).texts ++ document_tree document.now; sources = with_sources (builder_value self.old).sources (sources_of document.now) }) }
+        ensures added { OnOk result (builder_value self.new ≡ with_document (document_tree document.now) (sources_of document.now) (builder_value self.old)) }
         ensures numbers { OnOk result (HaveNumbers (builder_value self.new).first (builder_value self.new).texts) }
         ensures refused { IfErr result (IsAddRefusal (builder_value self.old) (document_tree document.now) (builder_value self.new)) }
     {

@@ -1,12 +1,12 @@
 //! Fields of types by name.
-ghost use Rattle.std.specs.Prelude.{◌≡◌, Some, IfOk, IfErr};
+ghost use Rattle.std.specs.Prelude.{◌≡◌, IfOk, IfErr};
 ghost use Rattle.std.specs.Option.{option_map};
 ghost use Rattle.tree_type_members.specs.TypeSystemTree.{field_definition_tree};
 ghost use Rattle.schema_components.specs.Given.{component_tree};
 ghost use Rattle.schema_building.specs.in_schema_types.Addresses.{under};
 ghost use Rattle.schema_building.specs.in_schema_types.TypeView.{extended_type};
 ghost use Rattle.graphql_schema.specs.SchemaOf.{schema_tree};
-ghost use Rattle.graphql_schema.specs.LookUps.{is_query_root, field_on, field_named, FieldIsMissing};
+ghost use Rattle.graphql_schema.specs.LookUps.{is_query_root, field_on, IsFieldNamed, FieldIsMissing};
 
 use crate::schema::Schema;
 use graphql_names::Name;
@@ -32,7 +32,7 @@ impl Schema {
         type_name: &Name,
         field_name: &Name,
     ) -> Result<&Component<FieldDefinition>, FieldLookupError<'_>>
-        ensures found { IfOk result (λ f. field_named (schema_tree self.now) type_name.now.text field_name.now.text ≡ Some (component_tree field_definition_tree f.now)) }
+        ensures found { IfOk result (λ f. IsFieldNamed (schema_tree self.now) type_name.now.text field_name.now.text (component_tree field_definition_tree f.now)) }
         ensures missing { IfErr result (FieldIsMissing (schema_tree self.now) type_name.now.text field_name.now.text) }
     {
         let Some((name, ty)) = self.types.get_key_value(type_name) else {
