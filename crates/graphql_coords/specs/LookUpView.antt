@@ -1,7 +1,10 @@
 -- What contracts see of the answers to look-ups.
 use Rattle.std.specs.Prelude.{Result, Ok, Err}
-use Rattle.graphql_names.specs.Placed.{Place, node_tree}
-use Rattle.tree_directives.specs.DirectiveTree.{input_value_tree, directive_definition_tree}
+use Rattle.std.specs.Borrow.{Bor}
+use Rattle.graphql_names.specs.declared.node.Node.{Node}
+use Rattle.graphql_names.specs.Placed.{Placed, Place, node_tree}
+use Rattle.tree_directives.specs.DirectiveTree.{InputValueTree, input_value_tree, directive_definition_tree}
+use Rattle.tree_directives.specs.declared.input_value.InputValueDefinition.{InputValueDefinition}
 use Rattle.tree_type_members.specs.TypeSystemTree.{field_definition_tree, enum_value_tree}
 use Rattle.schema_components.specs.Given.{component_tree}
 use Rattle.graphql_schema.specs.in_schema_types.SchemaTree.{SchemaTree}
@@ -39,6 +42,10 @@ named_of (any.Argument a) = NamedArgument (node_tree input_value_tree a.now)
 abbrev pub answer : {A B : Type 0} → (A → B) → Result A SchemaLookupError → Result B Fault
 answer f (Ok x) = Ok (f x)
 answer f (Err e) = Err (fault_of e)
+
+-- the same, of the definition of an argument
+abbrev pub argument_answer : Result (Bor (Node InputValueDefinition)) SchemaLookupError → Result (Placed Place (InputValueTree Place)) Fault
+argument_answer r = answer (λ a. node_tree input_value_tree a.now) r
 
 -- what a coordinate of any form names
 abbrev pub lookup_of : SchemaTree Place → Coordinate → Result Named Fault

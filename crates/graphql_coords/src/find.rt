@@ -7,7 +7,7 @@ ghost use Rattle.schema_components.specs.Given.{component_tree};
 ghost use Rattle.graphql_schema.specs.in_schema_types.TypeView.{extended_type};
 ghost use Rattle.graphql_schema.specs.SchemaOf.{schema_tree};
 ghost use Rattle.graphql_coords.specs.LookUps.{field_in, input_field_in, enum_value_in, attribute_in, argument_in, type_lookup, attribute_lookup, directive_lookup};
-ghost use Rattle.graphql_coords.specs.LookUpView.{answer, attribute_of};
+ghost use Rattle.graphql_coords.specs.LookUpView.{answer, argument_answer, attribute_of};
 
 use crate::lookup_answers::{SchemaLookupError, TypeAttributeLookup};
 use graphql_names::{Name, Node};
@@ -134,7 +134,7 @@ pub(crate) fn argument_in<'coord, 'schema>(
     argument: &'coord Name,
     attribute: TypeAttributeLookup<'schema>,
 ) -> Result<&'schema Node<InputValueDefinition>, SchemaLookupError<'coord, 'schema>>
-    ensures { answer (λ a. node_tree input_value_tree a.now) result ≡ argument_in field.now.text argument.now.text (attribute_of attribute.entry) }
+    ensures { argument_answer result ≡ argument_in field.now.text argument.now.text (attribute_of attribute.entry) }
 {
     match attribute {
         TypeAttributeLookup::Field(own) => {

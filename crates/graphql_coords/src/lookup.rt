@@ -8,7 +8,7 @@ ghost use Rattle.graphql_schema.specs.in_schema_types.TypeView.{extended_type};
 ghost use Rattle.graphql_schema.specs.SchemaOf.{schema_tree};
 ghost use Rattle.schema_coordinates.specs.CoordinateView.{type_coordinate, attribute_coordinate, argument_coordinate, directive_coordinate, directive_argument_coordinate, schema_coordinate};
 ghost use Rattle.graphql_coords.specs.LookUps.{type_lookup, attribute_lookup, field_lookup, input_field_lookup, enum_value_lookup, argument_lookup, directive_lookup, directive_argument_lookup};
-ghost use Rattle.graphql_coords.specs.LookUpView.{answer, attribute_of, named_of, lookup_of};
+ghost use Rattle.graphql_coords.specs.LookUpView.{answer, argument_answer, attribute_of, named_of, lookup_of};
 
 use crate::find::{
     argument_in, enum_value_in, field_in, find_attribute, find_directive, find_type, input_field_in,
@@ -131,7 +131,7 @@ impl FieldArgumentCoordinateExt for FieldArgumentCoordinate {
         &'coord self,
         schema: &'schema Schema,
     ) -> Result<&'schema Node<InputValueDefinition>, SchemaLookupError<'coord, 'schema>>
-        ensures { answer (λ a. node_tree input_value_tree a.now) result ≡ argument_lookup (schema_tree schema.now) self.now.ty.text self.now.field.text self.now.argument.text }
+        ensures { argument_answer result ≡ argument_lookup (schema_tree schema.now) self.now.ty.text self.now.field.text self.now.argument.text }
     {
         match find_attribute(&self.ty, &self.field, schema) {
             Err(error) => Err(error),
@@ -174,7 +174,7 @@ impl DirectiveArgumentCoordinateExt for DirectiveArgumentCoordinate {
         &'coord self,
         schema: &'schema Schema,
     ) -> Result<&'schema Node<InputValueDefinition>, SchemaLookupError<'coord, 'schema>>
-        ensures { answer (λ a. node_tree input_value_tree a.now) result ≡ directive_argument_lookup (schema_tree schema.now) self.now.directive.text self.now.argument.text }
+        ensures { argument_answer result ≡ directive_argument_lookup (schema_tree schema.now) self.now.directive.text self.now.argument.text }
     {
         match find_directive(&self.directive, schema) {
             Err(error) => Err(error),
