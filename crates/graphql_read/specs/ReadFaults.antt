@@ -8,8 +8,8 @@ use Rattle.tree_definitions.specs.DefinitionTree.{DefinitionTree, definition_tre
 use Rattle.tree_definitions.specs.Sources.{Source}
 use Rattle.tree_definitions.specs.declared.definition.Definition.{Definition}
 use Rattle.read_grammar.specs.Faults as faults
-use Rattle.read_grammar.specs.Faults.{Fault}
-use Rattle.graphql_read.specs.Reads.{NestingBound}
+use Rattle.read_grammar.specs.Faults.{Symbol, Fault}
+use Rattle.graphql_read.specs.Reads.{NestingBound, ReadsWithin}
 use Rattle.graphql_read.specs.declared.fault.SyntaxFaultKind.{SyntaxFaultKind}
 use Rattle.graphql_read.specs.declared.fault.SyntaxFaultKind.TheVariants.{NoToken, Unexpected, End}
 use Rattle.graphql_read.specs.declared.fault.ReadFault.{ReadFault}
@@ -41,6 +41,10 @@ unnamed_source text = record { path = []; text = text }
 abbrev pub IsTreeUnlessMemory : {X A : Type 0} → (X → A) → A → Result X ReadFault → Type 0
 IsTreeUnlessMemory view tree (Ok x) = tree ≡ view x
 IsTreeUnlessMemory view tree (Err e) = fault_view e ≡ faults.Memory
+
+-- each tree that the text has within the bound is the answer, unless memory ran out
+abbrev pub IsEachTreeUnlessMemory : {X A : Type 0} → (X → A) → Symbol A → ℕ → List ℕ → Result X ReadFault → Type 0
+IsEachTreeUnlessMemory {X} {A} view symbol nesting text answer = (tree : A) → ReadsWithin symbol nesting text tree → IsTreeUnlessMemory view tree answer
 
 -- The fault stands in the text: `End` where it ends, each other before that. Want of memory stands nowhere.
 abbrev pub StandsIn : List ℕ → Fault → Type 0

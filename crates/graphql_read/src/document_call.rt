@@ -1,14 +1,13 @@
 //! Documents, from texts (section 2.2).
-ghost use Rattle.std.specs.Prelude.{◌≡◌, IfOk, IfErr, List, [], ◌∷◌, map};
-ghost use Rattle.graphql_names.specs.Placed.{Place};
-ghost use Rattle.tree_definitions.specs.DefinitionTree.{DefinitionTree, document_tree};
+ghost use Rattle.std.specs.Prelude.{◌≡◌, IfOk, IfErr, [], ◌∷◌, map};
+ghost use Rattle.tree_definitions.specs.DefinitionTree.{document_tree};
 ghost use Rattle.tree_definitions.specs.Sources.{source_of, numbered_source, sources_of};
 ghost use Rattle.read_grammar.specs.DocumentReading as reading;
 ghost use Rattle.read_grammar.specs.Grammar.{Derives};
 ghost use Rattle.read_grammar.specs.Reading as read;
 ghost use Rattle.read_operations.specs.in_parse_values.Meanings.{in_file};
 ghost use Rattle.graphql_read.specs.Calls.{all_of};
-ghost use Rattle.graphql_read.specs.ReadFaults.{fault_view, definitions_tree, unnamed_source, IsTreeUnlessMemory, StandsIn, KeepsToBound};
+ghost use Rattle.graphql_read.specs.ReadFaults.{fault_view, definitions_tree, unnamed_source, IsEachTreeUnlessMemory, StandsIn, KeepsToBound};
 ghost use Rattle.graphql_read.specs.Reads.{ReadsWithin, IsDue};
 ghost use Rattle.graphql_read.specs.Sound.{IsSound};
 
@@ -46,7 +45,7 @@ fn parse_definitions(
     nesting: usize,
 ) -> Result<Vec<Definition>, ReadFault>
     ensures found { IfOk result (λ x. ReadsWithin (Derives (in_file file)) nesting text.now (definitions_tree x)) }
-    ensures only { (tree : List (DefinitionTree Place)) → ReadsWithin (Derives (in_file file)) nesting text.now tree → IsTreeUnlessMemory definitions_tree tree result }
+    ensures only { IsEachTreeUnlessMemory definitions_tree (Derives (in_file file)) nesting text.now result }
     ensures fault { IfErr result (λ e. IsDue (Derives (in_file file)) nesting text.now (fault_view e)) }
     ensures within { IfErr result (λ e. StandsIn text.now (fault_view e)) }
     ensures bound { KeepsToBound nesting text.now result }
@@ -92,7 +91,7 @@ pub fn parse_document(
     ensures found { IfOk result (λ d. ReadsWithin (Derives (in_file file)) nesting text.now (document_tree d)) }
     ensures sound { IfOk result (λ d. IsSound file.0 (document_tree d)) }
     ensures sources { IfOk result (λ d. sources_of d ≡ (file.0, unnamed_source text.now) ∷ []) }
-    ensures only { (tree : List (DefinitionTree Place)) → ReadsWithin (Derives (in_file file)) nesting text.now tree → IsTreeUnlessMemory document_tree tree result }
+    ensures only { IsEachTreeUnlessMemory document_tree (Derives (in_file file)) nesting text.now result }
     ensures fault { IfErr result (λ e. IsDue (Derives (in_file file)) nesting text.now (fault_view e)) }
     ensures within { IfErr result (λ e. StandsIn text.now (fault_view e)) }
     ensures bound { KeepsToBound nesting text.now result }

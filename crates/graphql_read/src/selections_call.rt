@@ -1,13 +1,11 @@
 //! Selections, from texts (section 2.4).
 ghost use Rattle.std.specs.Prelude.{IfOk, IfErr};
-ghost use Rattle.graphql_names.specs.Placed.{Place};
-ghost use Rattle.tree_operations.specs.SelectionTree.{SelectionTrees};
 ghost use Rattle.read_grammar.specs.OperationReading as operations;
 ghost use Rattle.read_grammar.specs.Reading as read;
 ghost use Rattle.read_grammar.specs.Grammar.{DerivesSelections};
 ghost use Rattle.read_operations.specs.in_parse_values.Meanings.{in_file};
 ghost use Rattle.graphql_read.specs.Calls.{all_of};
-ghost use Rattle.graphql_read.specs.ReadFaults.{fault_view, selections_tree, IsTreeUnlessMemory, StandsIn, KeepsToBound};
+ghost use Rattle.graphql_read.specs.ReadFaults.{fault_view, selections_tree, IsEachTreeUnlessMemory, StandsIn, KeepsToBound};
 ghost use Rattle.graphql_read.specs.Reads.{ReadsWithin, IsDue};
 ghost use Rattle.graphql_read.specs.Sound.{AreSound};
 
@@ -44,7 +42,7 @@ pub fn parse_selections(
 ) -> Result<Vec<Selection>, ReadFault>
     ensures found { IfOk result (λ x. ReadsWithin (DerivesSelections (in_file file)) nesting text.now (selections_tree x)) }
     ensures sound { IfOk result (λ x. AreSound file.0 (selections_tree x)) }
-    ensures only { (tree : SelectionTrees Place) → ReadsWithin (DerivesSelections (in_file file)) nesting text.now tree → IsTreeUnlessMemory selections_tree tree result }
+    ensures only { IsEachTreeUnlessMemory selections_tree (DerivesSelections (in_file file)) nesting text.now result }
     ensures fault { IfErr result (λ e. IsDue (DerivesSelections (in_file file)) nesting text.now (fault_view e)) }
     ensures within { IfErr result (λ e. StandsIn text.now (fault_view e)) }
     ensures bound { KeepsToBound nesting text.now result }

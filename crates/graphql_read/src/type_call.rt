@@ -1,13 +1,12 @@
 //! References to types, from texts (section 2.11).
 ghost use Rattle.std.specs.Prelude.{IfOk, IfErr};
-ghost use Rattle.graphql_names.specs.Placed.{Place};
-ghost use Rattle.tree_literals.specs.TypeTree.{TypeTree, type_tree};
+ghost use Rattle.tree_literals.specs.TypeTree.{type_tree};
 ghost use Rattle.read_grammar.specs.ValueReading as values;
 ghost use Rattle.read_grammar.specs.Reading as read;
 ghost use Rattle.read_grammar.specs.Grammar.{DerivesType};
 ghost use Rattle.read_operations.specs.in_parse_values.Meanings.{in_file};
 ghost use Rattle.graphql_read.specs.Calls.{all_of};
-ghost use Rattle.graphql_read.specs.ReadFaults.{fault_view, IsTreeUnlessMemory, StandsIn, KeepsToBound};
+ghost use Rattle.graphql_read.specs.ReadFaults.{fault_view, IsEachTreeUnlessMemory, StandsIn, KeepsToBound};
 ghost use Rattle.graphql_read.specs.Reads.{ReadsWithin, IsDue};
 ghost use Rattle.graphql_read.specs.Sound.{IsSoundType};
 
@@ -44,7 +43,7 @@ pub fn parse_type(
 ) -> Result<Type, ReadFault>
     ensures found { IfOk result (λ x. ReadsWithin (DerivesType (in_file file)) nesting text.now (type_tree x)) }
     ensures sound { IfOk result (λ x. IsSoundType file.0 (type_tree x)) }
-    ensures only { (tree : TypeTree Place) → ReadsWithin (DerivesType (in_file file)) nesting text.now tree → IsTreeUnlessMemory type_tree tree result }
+    ensures only { IsEachTreeUnlessMemory type_tree (DerivesType (in_file file)) nesting text.now result }
     ensures fault { IfErr result (λ e. IsDue (DerivesType (in_file file)) nesting text.now (fault_view e)) }
     ensures within { IfErr result (λ e. StandsIn text.now (fault_view e)) }
     ensures bound { KeepsToBound nesting text.now result }
