@@ -2,11 +2,11 @@
 use Rattle.std.proofs.Common.{inl, inr, ◌≡◌, ◌≢◌, ℕ, ◌+◌, List, [], ◌∷◌, Contains, refl, ap, ◌∙◌, subst, Some}
 use Rattle.graphql_names.specs.declared.span.SourceSpan.{SourceSpan}
 use Rattle.schema_components.proofs.Places.{not_in_nil, Contains-cons, Contains-first}
-use Rattle.graphql_read.specs.in_lexer.Input.{Token}
-use Rattle.graphql_read.proofs.in_lexer.Lexed.{lex_unique}
+use Rattle.graphql_read.specs.in_tokens.Input.{Token}
+use Rattle.graphql_read.proofs.in_tokens.Lexed.{lex_unique}
 use Rattle.graphql_read.specs.in_grammar.Faults as read
 use Rattle.graphql_read.proofs.in_grammar.Laws.{one_document}
-use Rattle.graphql_read.specs.in_parse_values.Meanings.{in_file}
+use Rattle.graphql_read.specs.in_read_values.Meanings.{in_file}
 use Rattle.graphql_read.specs.Reads.{IsDue, NestingBound}
 use Rattle.graphql_read.specs.ReadFaults.{fault_at}
 use Rattle.graphql_read.specs.declared.fault.SyntaxFaultKind.{SyntaxFaultKind}

@@ -15,5 +15,5 @@ pub mod Texts
 pub mod Bounds
 pub mod Symbols
 pub use Rattle.read_grammar.proofs as in_grammar
-pub use Rattle.read_tokens.proofs as in_lexer
+pub use Rattle.read_tokens.proofs as in_tokens
 pub use Rattle.tree_operations.proofs as in_operations

@@ -5,7 +5,7 @@ ghost use Rattle.tree_definitions.specs.Sources.{source_of, numbered_source, sou
 ghost use Rattle.read_grammar.specs.DocumentReading as reading;
 ghost use Rattle.read_grammar.specs.Grammar.{Derives};
 ghost use Rattle.read_grammar.specs.Reading as read;
-ghost use Rattle.read_operations.specs.in_parse_values.Meanings.{in_file};
+ghost use Rattle.read_operations.specs.in_read_values.Meanings.{in_file};
 ghost use Rattle.graphql_read.specs.Calls.{all_of};
 ghost use Rattle.graphql_read.specs.ReadFaults.{fault_view, definitions_tree, unnamed_source, IsEachTreeUnlessMemory, StandsIn, KeepsToBound};
 ghost use Rattle.graphql_read.specs.Reads.{ReadsWithin, IsDue};

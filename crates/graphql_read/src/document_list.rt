@@ -6,7 +6,7 @@ ghost use Rattle.read_grammar.specs.Begins as begins;
 ghost use Rattle.read_grammar.specs.Kinds as kinds;
 ghost use Rattle.read_grammar.specs.DocumentReading as reading;
 ghost use Rattle.read_grammar.specs.Reading as read;
-ghost use Rattle.read_operations.specs.in_parse_values.Meanings.{in_file};
+ghost use Rattle.read_operations.specs.in_read_values.Meanings.{in_file};
 
 use graphql_names::FileId;
 use read_grammar::Stop;

@@ -3,7 +3,7 @@ ghost use Rattle.std.specs.Prelude.{IfOk, IfErr};
 ghost use Rattle.read_grammar.specs.OperationReading as operations;
 ghost use Rattle.read_grammar.specs.Reading as read;
 ghost use Rattle.read_grammar.specs.Grammar.{DerivesSelections};
-ghost use Rattle.read_operations.specs.in_parse_values.Meanings.{in_file};
+ghost use Rattle.read_operations.specs.in_read_values.Meanings.{in_file};
 ghost use Rattle.graphql_read.specs.Calls.{all_of};
 ghost use Rattle.graphql_read.specs.ReadFaults.{fault_view, selections_tree, IsEachTreeUnlessMemory, StandsIn, KeepsToBound};
 ghost use Rattle.graphql_read.specs.Reads.{ReadsWithin, IsDue};

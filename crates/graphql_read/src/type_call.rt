@@ -4,7 +4,7 @@ ghost use Rattle.tree_literals.specs.TypeTree.{type_tree};
 ghost use Rattle.read_grammar.specs.ValueReading as values;
 ghost use Rattle.read_grammar.specs.Reading as read;
 ghost use Rattle.read_grammar.specs.Grammar.{DerivesType};
-ghost use Rattle.read_operations.specs.in_parse_values.Meanings.{in_file};
+ghost use Rattle.read_operations.specs.in_read_values.Meanings.{in_file};
 ghost use Rattle.graphql_read.specs.Calls.{all_of};
 ghost use Rattle.graphql_read.specs.ReadFaults.{fault_view, IsEachTreeUnlessMemory, StandsIn, KeepsToBound};
 ghost use Rattle.graphql_read.specs.Reads.{ReadsWithin, IsDue};

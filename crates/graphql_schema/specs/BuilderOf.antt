@@ -1,6 +1,6 @@
 -- What contracts see of a schema builder, and what a document adds to it.
 use Rattle.std.specs.Prelude.{◌++◌}
-use Rattle.schema_building.specs.in_folding.Listed.{Definitions}
+use Rattle.schema_building.specs.in_fold.Listed.{Definitions}
 use Rattle.schema_building.specs.BuilderValue.{BuilderValue}
 use Rattle.schema_building.specs.BuildingView.{builder_view}
 use Rattle.schema_building.specs.SourcesView.{Sources, with_sources}

@@ -3,10 +3,10 @@ ghost use Rattle.std.specs.Prelude.{◌≡◌, ◌≤◌, ◌↔◌, [], true, f
 ghost use Rattle.schema_writing.specs.in_definitions.DefinitionTree.{document_tree};
 ghost use Rattle.schema_writing.specs.in_definitions.Sources.{sources_of};
 ghost use Rattle.schema_building.specs.in_built_in.Table.{built_in_definitions};
-ghost use Rattle.schema_building.specs.in_folding.BuildErrors.{FoldingRules};
-ghost use Rattle.schema_building.specs.in_folding.FaultView.{faults_of};
-ghost use Rattle.schema_building.specs.in_folding.Fold.{fold};
-ghost use Rattle.schema_building.specs.in_folding.ListedView.{listed_view};
+ghost use Rattle.schema_building.specs.in_fold.BuildErrors.{FoldingRules};
+ghost use Rattle.schema_building.specs.in_fold.FaultView.{faults_of};
+ghost use Rattle.schema_building.specs.in_fold.Fold.{fold};
+ghost use Rattle.schema_building.specs.in_fold.ListedView.{listed_view};
 ghost use Rattle.schema_building.specs.in_type_index.Index.{IsIndexOf};
 ghost use Rattle.schema_building.specs.DefinitionsOf.{definitions_of};
 ghost use Rattle.schema_building.specs.Building.{plain_settings, counted, folded, FailsIn, lent_names, IsAddRefusal, IsBuildRefusal};

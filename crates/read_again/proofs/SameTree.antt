@@ -9,7 +9,7 @@ use Rattle.tree_printing.specs.LineLayout.{Prefix, standing}
 use Rattle.tree_literals.specs.ValueLayout.{type_text}
 use Rattle.tree_literals.specs.TypeTree.{type_tree, unplaced_type}
 use Rattle.tree_literals.specs.declared.ty.«Type».{«Type»}
-use Rattle.graphql_read.specs.in_lexer.Input.{Token, Ended, NoTokenAt}
+use Rattle.graphql_read.specs.in_tokens.Input.{Token, Ended, NoTokenAt}
 use Rattle.tree_definitions.specs.DefinitionTree.{definition_tree, unplaced_document}
 use Rattle.tree_definitions.specs.DocumentLayout.{document_text}
 use Rattle.tree_definitions.specs.Writable.{has_some, definition_writable, document_writable}
@@ -18,7 +18,7 @@ use Rattle.graphql_read.specs.in_grammar.Depth.{depth}
 use Rattle.graphql_read.specs.in_grammar.Faults as faults
 use Rattle.graphql_read.specs.in_grammar.Faults.{Symbol, IsTooDeep}
 use Rattle.graphql_read.specs.in_grammar.Grammar.{Derives, DerivesType}
-use Rattle.graphql_read.specs.in_parse_values.Meanings.{in_file}
+use Rattle.graphql_read.specs.in_read_values.Meanings.{in_file}
 use Rattle.graphql_read.specs.declared.fault.SyntaxFaultKind.{SyntaxFaultKind}
 use Rattle.graphql_read.specs.declared.fault.SyntaxFaultKind.TheVariants.{NoToken, Unexpected, End}
 use Rattle.graphql_read.specs.declared.fault.ReadFault.{ReadFault}

@@ -3,8 +3,8 @@ use Rattle.std.specs.Prelude.{◌≡◌, ℕ, true, List, Result, Ok, Err}
 use Rattle.std.specs.Option.{option_copied}
 use Rattle.tree_printing.specs.Serialized.{serialized}
 use Rattle.tree_printing.specs.declared.serialize.Serialize.{Serialize}
-use Rattle.graphql_read.specs.in_lexer.Input.{Token}
-use Rattle.graphql_read.specs.in_lexer.Lex.{Lex}
+use Rattle.graphql_read.specs.in_tokens.Input.{Token}
+use Rattle.graphql_read.specs.in_tokens.Lex.{Lex}
 use Rattle.tree_definitions.specs.DefinitionTree.{document_tree}
 use Rattle.tree_definitions.specs.DocumentLayout.{document_text}
 use Rattle.tree_definitions.specs.Writable.{document_writable}

@@ -5,7 +5,7 @@ use Rattle.read_values.specs.in_literals.TypeTree.{TypeTree}
 use Rattle.read_values.specs.in_directives.DirectiveTree.{DirectiveDefinitionTree}
 use Rattle.read_values.specs.in_operations.SelectionTree.{SelectionTrees}
 use Rattle.read_values.specs.in_definitions.DefinitionTree.{DefinitionTree, Operation, Fragment}
-use Rattle.read_values.specs.in_lexer.Input.{Token}
+use Rattle.read_values.specs.in_tokens.Input.{Token}
 use Rattle.read_values.specs.in_grammar.Meaning.{Meaning, start}
 use Rattle.read_values.specs.in_grammar.Depth.{depth}
 use Rattle.read_values.specs.in_grammar.Kinds.{is_extend}

@@ -1,7 +1,7 @@
 -- The depth of the tokens ahead of a rule is the greater of what the rule's tree has and of the depth of the tokens behind it.
 use Rattle.std.proofs.Common.{◌≡◌, ℕ, suc, ◌+◌, ◌-◌, max, Bool, true, false, cond, List, [], ◌∷◌, Option, Some, None, unwrap_or, ◌⊎◌, inl, inr, refl, sym, ap, ◌∙◌, arith}
-use Rattle.read_values.specs.in_lexer.declared.terminal.Terminal.{Terminal}
-use Rattle.read_values.specs.in_lexer.Input.{Token, Input}
+use Rattle.read_values.specs.in_tokens.declared.terminal.Terminal.{Terminal}
+use Rattle.read_values.specs.in_tokens.Input.{Token, Input}
 use Rattle.read_values.specs.in_grammar.Meaning.{Meaning}
 use Rattle.read_values.specs.in_grammar.Kinds.{next_is}
 use Rattle.read_values.specs.in_grammar.Depth.{is_opening, is_closing, depth}

@@ -1,7 +1,7 @@
 -- How deep selections, operations and fragments nest, by the grammar.
 use Rattle.std.proofs.Common.{◌≡◌, ℕ, zero, suc, max, List, [], ◌∷◌, refl, sym, ap, ◌∙◌, arith}
 use Rattle.read_values.specs.in_operations.SelectionTree.{SelectionTree, SelectionTrees, no_selections}
-use Rattle.read_values.specs.in_lexer.Input.{Input}
+use Rattle.read_values.specs.in_tokens.Input.{Input}
 use Rattle.read_values.specs.in_grammar.Meaning.{Meaning, name_of}
 use Rattle.read_values.specs.in_grammar.Kinds.{is_fragment_name, is_colon, is_spread, is_on, is_fragment, is_query, is_mutation, is_subscription, is_open_brace, is_close_brace, is_open_paren, is_close_paren}
 use Rattle.read_values.specs.in_grammar.Rules.{Rule, some}

@@ -1,7 +1,7 @@
 -- Tokens nest as deep as their tree, and texts of trees that are equal, places aside, nest alike.
 use Rattle.std.specs.Prelude.{◌≡◌, ℕ, List}
-use Rattle.read_values.specs.in_lexer.Input.{Token}
-use Rattle.read_values.specs.in_lexer.Lex.{Lex}
+use Rattle.read_values.specs.in_tokens.Input.{Token}
+use Rattle.read_values.specs.in_tokens.Lex.{Lex}
 use Rattle.read_values.specs.in_grammar.Depth.{depth}
 use Rattle.read_values.specs.in_grammar.Faults.{Symbol}
 

@@ -1,2 +1,2 @@
 pub mod MemberSteps
-pub use Rattle.read_values.specs as in_parse_values
+pub use Rattle.read_values.specs as in_read_values

@@ -1,3 +1,3 @@
 pub mod OperationSteps
 pub mod SelectionSteps
-pub use Rattle.read_values.specs as in_parse_values
+pub use Rattle.read_values.specs as in_read_values

@@ -16,7 +16,7 @@ use Rattle.read_values.specs.in_type_members.TypeSystemTree.{SchemaParts, Scalar
 use Rattle.read_values.specs.in_definitions.DefinitionTree.{DefinitionTree, Operation, Fragment, DirectiveDefinition, Schema, ScalarType, ObjectType, InterfaceType, UnionType, EnumType, InputObjectType, ExtendSchema, ExtendScalar, ExtendObject, ExtendInterface, ExtendUnion, ExtendEnum, ExtendInputObject, unplaced_definition}
 use Rattle.read_values.specs.in_definitions.DocumentLayout.{definition_text}
 use Rattle.read_values.specs.in_definitions.Writable.{definition_writable}
-use Rattle.read_values.specs.in_lexer.Terminals.{words}
+use Rattle.read_values.specs.in_tokens.Terminals.{words}
 use Rattle.read_values.specs.in_grammar.Meaning.{Meaning}
 use Rattle.read_values.specs.in_grammar.Kinds.{is_extend}
 use Rattle.read_values.specs.in_grammar.Rules as rule

@@ -10,9 +10,9 @@ use Rattle.read_values.specs.in_values.Writable.{input_values_writable}
 use Rattle.read_values.specs.in_directives.DirectiveTree.{InputValues, DirectiveDefinitionTree, unplaced_input_value, unplaced_directive_definition}
 use Rattle.read_values.specs.in_directives.declared.directive_location.DirectiveLocation.{DirectiveLocation}
 use Rattle.read_values.specs.in_directives.declared.directive_location.DirectiveLocation.TheVariants as location
-use Rattle.read_values.specs.in_lexer.declared.token.TokenKind.TheVariants as t
-use Rattle.read_values.specs.in_lexer.Input.{Token}
-use Rattle.read_values.specs.in_lexer.Terminals.{words, terminal_of}
+use Rattle.read_values.specs.in_tokens.declared.token.TokenKind.TheVariants as t
+use Rattle.read_values.specs.in_tokens.Input.{Token}
+use Rattle.read_values.specs.in_tokens.Terminals.{words, terminal_of}
 use Rattle.read_values.specs.in_grammar.Meaning.{Meaning}
 use Rattle.read_values.specs.in_grammar.Kinds.{is_location, is_pipe, is_directive, is_repeatable, is_on}
 use Rattle.read_values.specs.in_grammar.Locations.{location_of}

@@ -13,7 +13,7 @@ use Rattle.graphql_names.specs.Placed.{Text}
 use Rattle.read_values.specs.in_definitions.DefinitionTree.{DefinitionTree, Operation, Fragment, DirectiveDefinition, Schema, ScalarType, ObjectType, InterfaceType, UnionType, EnumType, InputObjectType, ExtendSchema, ExtendScalar, ExtendObject, ExtendInterface, ExtendUnion, ExtendEnum, ExtendInputObject, unplaced_definition, unplaced_document}
 use Rattle.read_values.specs.in_definitions.DocumentLayout.{definition_text, between_text, next_definition_text, end_text, document_text}
 use Rattle.read_values.specs.in_definitions.Writable.{definition_writable}
-use Rattle.read_values.specs.in_lexer.Tokens.{is_ignored_byte}
+use Rattle.read_values.specs.in_tokens.Tokens.{is_ignored_byte}
 use Rattle.read_values.specs.in_grammar.Meaning.{Meaning}
 use Rattle.read_values.specs.in_grammar.Rules.{many}
 use Rattle.read_values.specs.in_grammar.Grammar.{definition, document}

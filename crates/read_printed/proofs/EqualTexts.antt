@@ -5,7 +5,7 @@ use Rattle.std.specs.List.{list_all}
 use Rattle.read_printed_strings.specs.in_printing.LineLayout.{Prefix}
 use Rattle.read_values.specs.in_literals.ValueLayout.{type_text, value_text}
 use Rattle.read_values.specs.in_operations.OperationLayout.{operation_text, fragment_text}
-use Rattle.read_values.specs.in_lexer.Lex.{Lex}
+use Rattle.read_values.specs.in_tokens.Lex.{Lex}
 use Rattle.graphql_names.specs.Placed.{Place}
 use Rattle.read_values.specs.in_values.Writable.{value_writable, has_selection, selections_writable, operation_writable, fragment_writable}
 use Rattle.read_values.specs.in_literals.TypeTree.{TypeTree, unplaced_type}

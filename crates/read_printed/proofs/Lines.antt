@@ -5,8 +5,8 @@ use Rattle.std.proofs.lemmas.Bool.{and_parts}
 use Rattle.read_printed_strings.specs.in_printing.Joined.{joined}
 use Rattle.read_printed_strings.specs.in_printing.StringLayout.{is_tab_or_space}
 use Rattle.read_printed_strings.specs.in_printing.LineLayout.{Prefix, Leveled, line_start, start_text, break_text, members_text, braced_text, set_text}
-use Rattle.read_values.specs.in_lexer.Tokens.{is_ignored_byte}
-use Rattle.read_values.specs.in_lexer.Input.{Token, Ending}
+use Rattle.read_values.specs.in_tokens.Tokens.{is_ignored_byte}
+use Rattle.read_values.specs.in_tokens.Input.{Token, Ending}
 use Rattle.read_values.specs.in_grammar.Kinds.{is_open_brace, is_close_brace}
 use Rattle.read_values.specs.in_grammar.Rules.{Rule, many, some, between}
 use Rattle.read_printed.specs.Printed.{Follow, any, ends_word, before, ReadsUpTo, Printed}

@@ -10,9 +10,9 @@ use Rattle.read_values.specs.in_literals.ValueLayout.{boolean_text}
 use Rattle.graphql_names.specs.Placed.{Text}
 use Rattle.read_values.specs.in_values.Writable.{is_text, can_be_enum}
 use Rattle.read_values.specs.in_literals.ValueTree.{ValueTree, NullTree, EnumTree, VariableTree, StringTree, FloatTree, IntTree, BooleanTree, unplaced_value}
-use Rattle.read_values.specs.in_lexer.declared.token.TokenKind.TheVariants as t
-use Rattle.read_values.specs.in_lexer.Input.{Token}
-use Rattle.read_values.specs.in_lexer.Terminals.{words, terminal_of}
+use Rattle.read_values.specs.in_tokens.declared.token.TokenKind.TheVariants as t
+use Rattle.read_values.specs.in_tokens.Input.{Token}
+use Rattle.read_values.specs.in_tokens.Terminals.{words, terminal_of}
 use Rattle.read_values.specs.in_grammar.Meaning.{Meaning}
 use Rattle.read_values.specs.in_grammar.Kinds.{is_enum_value, is_string, is_int, is_float, is_true, is_false, is_null}
 use Rattle.read_values.specs.in_grammar.Rules.{Rule, mark, ◌<$>◌, ◌∣◌, unless}

@@ -6,8 +6,8 @@ use Rattle.graphql_names.specs.NameSyntax as names
 use Rattle.read_printed_strings.specs.in_printing.Joined.{joined, further_text}
 use Rattle.read_values.specs.in_type_members.TypeSystemLayout.{name_text, names_text}
 use Rattle.graphql_names.specs.Placed.{Text, unplaced_text}
-use Rattle.read_values.specs.in_lexer.declared.terminal.Terminal.{Terminal}
-use Rattle.read_values.specs.in_lexer.Terminals.{words}
+use Rattle.read_values.specs.in_tokens.declared.terminal.Terminal.{Terminal}
+use Rattle.read_values.specs.in_tokens.Terminals.{words}
 use Rattle.read_values.specs.in_grammar.Meaning.{Meaning}
 use Rattle.read_values.specs.in_grammar.Kinds.{is_implements, is_ampersand, is_pipe}
 use Rattle.read_values.specs.in_grammar.Rules.{mark, ◌·◌, ◌<$>◌, optional, many, separated}

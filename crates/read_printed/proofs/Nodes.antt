@@ -5,7 +5,7 @@ use Rattle.std.proofs.lemmas.Bool.{and_parts}
 use Rattle.read_printed_strings.specs.in_printing.Joined.{joined, further_text}
 use Rattle.read_printed_strings.specs.in_printing.LineLayout.{parenthesized_text, texts_of}
 use Rattle.graphql_names.specs.Placed.{Placed, unplaced_node}
-use Rattle.read_values.specs.in_lexer.Tokens.{is_ignored_byte}
+use Rattle.read_values.specs.in_tokens.Tokens.{is_ignored_byte}
 use Rattle.read_values.specs.in_grammar.Meaning.{Meaning}
 use Rattle.read_values.specs.in_grammar.Kinds.{is_open_paren, is_close_paren}
 use Rattle.read_values.specs.in_grammar.Rules as rule

@@ -17,7 +17,7 @@ use Rattle.read_values.specs.in_literals.ValueTree.{ValueTree}
 use Rattle.read_values.specs.in_directives.DirectiveTree.{Directives, unplaced_directives}
 use Rattle.read_values.specs.in_operations.SelectionTree.{SelectionTrees}
 use Rattle.read_values.specs.in_operations.OperationTree.{VariableDefinitionTree, OperationTree, FragmentTree, unplaced_variable_definition, unplaced_operation, unplaced_fragment}
-use Rattle.read_values.specs.in_lexer.Terminals.{words}
+use Rattle.read_values.specs.in_tokens.Terminals.{words}
 use Rattle.read_values.specs.in_grammar.Meaning.{Meaning}
 use Rattle.read_values.specs.in_grammar.Kinds as kind
 use Rattle.read_values.specs.in_grammar.Rules.{mark, ◌·◌, ◌<$>◌, ◌∣◌, optional}

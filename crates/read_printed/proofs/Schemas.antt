@@ -11,7 +11,7 @@ use Rattle.graphql_names.specs.Placed.{Placed, unplaced_node}
 use Rattle.read_values.specs.in_values.Writable.{directives_writable}
 use Rattle.read_values.specs.in_directives.DirectiveTree.{Directives}
 use Rattle.read_values.specs.in_type_members.TypeSystemTree.{RootOperationTree, SchemaParts, unplaced_root, unplaced_schema}
-use Rattle.read_values.specs.in_lexer.Terminals.{words}
+use Rattle.read_values.specs.in_tokens.Terminals.{words}
 use Rattle.read_values.specs.in_grammar.Meaning.{Meaning}
 use Rattle.read_values.specs.in_grammar.Kinds.{is_schema, is_open_brace}
 use Rattle.read_values.specs.in_grammar.Rules.{optional_unless}

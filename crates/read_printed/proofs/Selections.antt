@@ -10,8 +10,8 @@ use Rattle.graphql_names.specs.Placed.{Text, unplaced_text}
 use Rattle.read_values.specs.in_values.Writable.{directives_writable, can_be_fragment, head_writable, has_selection, selection_writable, selections_writable}
 use Rattle.read_values.specs.in_directives.DirectiveTree.{Arguments, Directives}
 use Rattle.read_values.specs.in_operations.SelectionTree.{FieldHead, SelectionTree, FieldTree, SpreadTree, InlineTree, SelectionTrees, no_selections, selection_then, unplaced_selection, unplaced_selections}
-use Rattle.read_values.specs.in_lexer.declared.token.TokenKind.TheVariants as t
-use Rattle.read_values.specs.in_lexer.Terminals.{words, terminal_of}
+use Rattle.read_values.specs.in_tokens.declared.token.TokenKind.TheVariants as t
+use Rattle.read_values.specs.in_tokens.Terminals.{words, terminal_of}
 use Rattle.read_values.specs.in_grammar.Meaning.{Meaning}
 use Rattle.read_values.specs.in_grammar.Kinds.{is_fragment_name, is_on}
 use Rattle.read_values.specs.in_grammar.Rules.{Rule, ◌·◌, ◌∣◌, optional, many}

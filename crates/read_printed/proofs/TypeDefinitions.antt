@@ -12,8 +12,8 @@ use Rattle.graphql_names.specs.Placed.{Placed, Text, unplaced_node}
 use Rattle.read_values.specs.in_values.Writable.{directives_writable, input_values_writable}
 use Rattle.read_values.specs.in_directives.DirectiveTree.{Directives, InputValues, unplaced_input_value}
 use Rattle.read_values.specs.in_type_members.TypeSystemTree.{FieldDefinitionTree, EnumValueTree, ScalarParts, FieldsParts, UnionParts, EnumParts, InputObjectParts, unplaced_input_object, unplaced_field_definition, unplaced_enum_value, unplaced_scalar, unplaced_fields, unplaced_union, unplaced_enum}
-use Rattle.read_values.specs.in_lexer.declared.terminal.Terminal.{Terminal}
-use Rattle.read_values.specs.in_lexer.Terminals.{words}
+use Rattle.read_values.specs.in_tokens.declared.terminal.Terminal.{Terminal}
+use Rattle.read_values.specs.in_tokens.Terminals.{words}
 use Rattle.read_values.specs.in_grammar.Meaning.{Meaning}
 use Rattle.read_values.specs.in_grammar.Kinds.{is_scalar, is_input, is_union, is_enum, is_type, is_interface, is_open_brace}
 use Rattle.read_values.specs.in_grammar.Rules.{Rule, mark, ◌·◌, ◌<$>◌, optional, optional_unless}

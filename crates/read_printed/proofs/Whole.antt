@@ -1,8 +1,8 @@
 -- A printed text with nothing behind it is a text of its symbol, and of one tree alone.
 use Rattle.std.proofs.Common.{◌≡◌, ℕ, true, List, [], refl, subst, append-nil}
-use Rattle.read_values.specs.in_lexer.Input.{Token, Ended}
-use Rattle.read_values.specs.in_lexer.Lex.{Lex}
-use Rattle.read_values.proofs.in_lexer.Lexed.{lex_unique}
+use Rattle.read_values.specs.in_tokens.Input.{Token, Ended}
+use Rattle.read_values.specs.in_tokens.Lex.{Lex}
+use Rattle.read_values.proofs.in_tokens.Lexed.{lex_unique}
 use Rattle.read_values.specs.in_grammar.Faults.{Symbol}
 use Rattle.read_values.specs.in_grammar.Rules.{Rule}
 use Rattle.read_values.specs.in_grammar.Grammar.{DerivesAs}

@@ -3,13 +3,13 @@ use Rattle.std.specs.Prelude.{◌≡◌, ℕ, true, List, ◌++◌, length, Some
 use Rattle.read_printed_strings.specs.in_printing.StringLayout.{quoted_text, description_string}
 use Rattle.read_printed_strings.specs.in_printing.LineLayout.{Prefix}
 use Rattle.read_values.specs.in_literals.NumberSyntax.{is_int_value, is_float_value}
-use Rattle.read_values.specs.in_lexer.declared.terminal.Terminal.TheVariants as k
-use Rattle.read_values.specs.in_lexer.declared.token.TokenKind.TheVariants as t
-use Rattle.read_values.specs.in_lexer.declared.token.TokenKind.{TokenKind}
-use Rattle.read_values.specs.in_lexer.Input.{Token}
-use Rattle.read_values.specs.in_lexer.Terminals.{terminal_of}
+use Rattle.read_values.specs.in_tokens.declared.terminal.Terminal.TheVariants as k
+use Rattle.read_values.specs.in_tokens.declared.token.TokenKind.TheVariants as t
+use Rattle.read_values.specs.in_tokens.declared.token.TokenKind.{TokenKind}
+use Rattle.read_values.specs.in_tokens.Input.{Token}
+use Rattle.read_values.specs.in_tokens.Terminals.{terminal_of}
 use Rattle.read_values.specs.in_grammar.Kinds.{is_string}
-use Rattle.read_values.specs.in_lexer.Tokens.{token_at}
+use Rattle.read_values.specs.in_tokens.Tokens.{token_at}
 use Rattle.read_printed.specs.Printed.{ends_word}
 use Rattle.read_printed.specs.WellFormed.{is_white_prefix}
 

@@ -1,7 +1,7 @@
 -- What is printed reads as it was.
 use Rattle.std.specs.Prelude.{◌≡◌, ℕ, List}
-use Rattle.read_values.specs.in_lexer.Input.{Token}
-use Rattle.read_values.specs.in_lexer.Lex.{Lex}
+use Rattle.read_values.specs.in_tokens.Input.{Token}
+use Rattle.read_values.specs.in_tokens.Lex.{Lex}
 use Rattle.read_values.specs.in_grammar.Faults.{Symbol}
 
 -- The text's tokens are a text of the symbol, of a tree that is this one, places aside, and of no other tree.

@@ -7,7 +7,7 @@ ghost use Rattle.tree_type_members.specs.TypeSystemTree.{field_definition_tree};
 ghost use Rattle.read_grammar.specs.Reading.{Reads};
 ghost use Rattle.read_types.specs.KindSteps as steps;
 ghost use Rattle.read_types.specs.KindTrees.{kind_tree};
-ghost use Rattle.read_members.specs.in_parse_values.Meanings.{in_file};
+ghost use Rattle.read_members.specs.in_read_values.Meanings.{in_file};
 
 use crate::kind::Kind;
 use graphql_names::{FileId, Node};

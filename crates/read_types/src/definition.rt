@@ -10,7 +10,7 @@ ghost use Rattle.read_grammar.specs.Grammar as grammar;
 ghost use Rattle.read_grammar.specs.Reading.{Reads};
 ghost use Rattle.read_types.specs.KindSteps as steps;
 ghost use Rattle.read_types.specs.KindTrees.{kind_tree};
-ghost use Rattle.read_members.specs.in_parse_values.Meanings.{in_file};
+ghost use Rattle.read_members.specs.in_read_values.Meanings.{in_file};
 
 use crate::kind::Kind;
 use crate::schema::schema_definition;

@@ -3,7 +3,7 @@ ghost use Rattle.std.specs.Prelude.{◌≡◌};
 ghost use Rattle.read_grammar.specs.Reading.{Reads};
 ghost use Rattle.read_grammar.specs.TypeSystemReading as reading;
 ghost use Rattle.read_types.specs.KindTrees.{kind_tree};
-ghost use Rattle.read_members.specs.in_parse_values.Meanings.{in_file};
+ghost use Rattle.read_members.specs.in_read_values.Meanings.{in_file};
 
 use crate::composite_types::{interface_type, object_type, union_type};
 use crate::input_types::{enum_type, input_object_type, scalar_type};

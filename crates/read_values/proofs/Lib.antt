@@ -5,4 +5,4 @@ pub mod Numbers
 pub mod Tokens
 pub mod Types
 pub use Rattle.read_grammar.proofs as in_grammar
-pub use Rattle.read_tokens.proofs as in_lexer
+pub use Rattle.read_tokens.proofs as in_tokens

@@ -8,12 +8,12 @@ use Rattle.tree_literals.specs.ValueTree.{ValueTree, unplaced_value}
 use Rattle.tree_literals.specs.ValueQueries.{is_null_value}
 use Rattle.tree_literals.specs.ValueLayout.{value_text}
 use Rattle.tree_literals.specs.ValueWritable.{value_writable}
-use Rattle.graphql_read.specs.in_lexer.Input.{Ended}
-use Rattle.graphql_read.specs.in_lexer.Lex.{Lex}
+use Rattle.graphql_read.specs.in_tokens.Input.{Ended}
+use Rattle.graphql_read.specs.in_tokens.Lex.{Lex}
 use Rattle.graphql_read.specs.in_grammar.Rules.{Rule}
 use Rattle.graphql_read.specs.in_grammar.Grammar.{DerivesAs}
 use Rattle.graphql_read.specs.in_grammar.ValueGrammar.{value, constant}
-use Rattle.graphql_read.specs.in_parse_values.Meanings.{in_file}
+use Rattle.graphql_read.specs.in_read_values.Meanings.{in_file}
 use Rattle.graphql_read.specs.Reads.{Reads}
 use Rattle.read_printed.specs.Printed.{Follow, ends_word, before, Printed}
 use Rattle.read_printed.specs.WellFormed.{value_depth}

@@ -1,7 +1,7 @@
 -- The text reads as what is built in.
 use Rattle.std.proofs.Common.{◌≡◌, true, Ok, Err, refl}
 use Rattle.graphql_names.specs.declared.span.FileId.{FileId}
-use Rattle.read_values.specs.in_lexer.Lex.{Lex}
+use Rattle.read_values.specs.in_tokens.Lex.{Lex}
 use Rattle.read_values.specs.in_grammar.Meaning.{start}
 use Rattle.read_values.specs.Meanings.{in_file}
 use Rattle.read_values.proofs.in_grammar.Laws.{document_found, document_within}

@@ -3,4 +3,4 @@ pub mod Listing
 pub mod Extending
 pub mod Indexing
 pub mod FiledKinds
-pub use Rattle.schema_fold.proofs as in_folding
+pub use Rattle.schema_fold.proofs as in_fold

@@ -1,3 +1,3 @@
 pub mod DefinitionsOf
 pub mod Index
-pub use Rattle.schema_fold.specs as in_folding
+pub use Rattle.schema_fold.specs as in_fold

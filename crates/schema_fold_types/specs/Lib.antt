@@ -6,5 +6,5 @@ pub mod Misplaced
 pub mod Seen
 pub mod SeenView
 pub mod OwnView
-pub use Rattle.schema_fold.specs as in_folding
+pub use Rattle.schema_fold.specs as in_fold
 pub use Rattle.schema_fold_index.specs as in_type_index

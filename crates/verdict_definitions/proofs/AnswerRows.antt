@@ -4,7 +4,7 @@ use Rattle.std.specs.Fmt.{digits}
 use Rattle.graphql_names.specs.Placed.{Place}
 use Rattle.graphql_read.specs.declared.fault.SyntaxFaultKind.TheVariants.{NoToken, Unexpected, End}
 use Rattle.graphql_read.specs.in_grammar.Places.{place_in}
-use Rattle.schema_built_in.specs.in_folding.BuiltIn.{built_in}
+use Rattle.schema_built_in.specs.in_fold.BuiltIn.{built_in}
 use Rattle.schema_fold.specs.BuildErrors as folding
 use Rattle.rule_document_definitions.specs.DocumentFaults.{OfData, OfDocument, OfLimit, broken}
 use Rattle.document_typing.specs.TypingFaults as typing

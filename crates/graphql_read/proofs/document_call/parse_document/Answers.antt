@@ -1,6 +1,6 @@
 use Rattle.std.proofs.lemmas.Result.{err_from_is_err_and}
 use Rattle.read_grammar.specs.Grammar.{Derives}
-use Rattle.read_operations.specs.in_parse_values.Meanings.{in_file}
+use Rattle.read_operations.specs.in_read_values.Meanings.{in_file}
 use Rattle.graphql_read.specs.ReadFaults.{definitions_tree}
 use Rattle.graphql_read.proofs.Texts.{memory_due}
 use Rattle.graphql_read.proofs.Soundness.{document_sound}

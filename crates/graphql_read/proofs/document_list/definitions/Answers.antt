@@ -10,7 +10,7 @@ use Rattle.read_grammar.specs.DocumentReading as reading
 use Rattle.read_grammar.proofs.Documents.{definition_parses}
 use Rattle.read_grammar.proofs.Steady.{Steady}
 use Rattle.read_grammar.proofs.Steps.{viewed_turn, turn_stops_with, turns_end, turn_takes, some_starts, some_not}
-use Rattle.read_operations.specs.in_parse_values.Meanings.{in_file}
+use Rattle.read_operations.specs.in_read_values.Meanings.{in_file}
 use Rattle.graphql_read.proofs.document_list.definitions.Goals as goal
 
 item : (file : FileId) (depth : ℕ) → Steady 1 (reading.definition (in_file file) depth) (reading.definition (in_file file) depth)

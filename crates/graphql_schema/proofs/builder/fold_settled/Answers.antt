@@ -1,6 +1,6 @@
 use Rattle.std.proofs.Common.{map, subst}
-use Rattle.schema_building.specs.in_folding.FaultView.{faults_of}
-use Rattle.schema_building.specs.in_folding.ListedView.{listed_view}
+use Rattle.schema_building.specs.in_fold.FaultView.{faults_of}
+use Rattle.schema_building.specs.in_fold.ListedView.{listed_view}
 use Rattle.schema_fold_lists.specs.FoldedView.{folded_view}
 use Rattle.schema_fold_lists.specs.ListBuilt.{Folds}
 use Rattle.graphql_schema.proofs.builder.fold_settled.Goals as goal

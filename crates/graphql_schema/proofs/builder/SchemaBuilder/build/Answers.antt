@@ -1,6 +1,6 @@
 use Rattle.std.proofs.Common.{sym, subst, ◌∙◌}
 use Rattle.schema_building.specs.in_built_in.Table.{built_in_definitions}
-use Rattle.schema_building.specs.in_folding.FaultView.{faults_of}
+use Rattle.schema_building.specs.in_fold.FaultView.{faults_of}
 use Rattle.schema_building.specs.Building.{counted}
 use Rattle.schema_building.specs.BuildingView.{builder_view}
 use Rattle.schema_fold_lists.specs.in_type_folding.OwnNames.{UnderOwnNames}
