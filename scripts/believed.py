@@ -227,7 +227,9 @@ def reach(library, clauses):
 def areas():
     """The crates of each area of docs/MAP.md, in its order."""
     text = sources.read("docs/MAP.md").split("\n## The areas, in one picture\n")[1].split("\n## ")[0]
-    return [(line.split("|")[1].strip(), re.findall(r"`(graphql_\w+)`", line)) for line in text.split("\n") if line.startswith("| ")]
+    known = sources.crates()
+    rows = [line.strip("|").split("|", 1) for line in text.split("\n") if line.startswith("| ")]
+    return [(area.strip(), [name for name in re.findall(r"`(\w+)`", rest) if name in known]) for area, rest in rows]
 
 
 def crates_in_order():

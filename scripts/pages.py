@@ -2,10 +2,14 @@
 """Whether the pages say what is there: scripts/pages.py [--check] [--clauses]
 
 --check prints what is wrong, a line each, and its status is then 1: README.md has more than 150 lines; a relative link in
-README.md or docs/*.md leads to no file; a name that reads as a crate of the repository (`graphql_..`) is not in crates.txt; one in
-backticks that reads as a file (`name.rt`, `Name.antt`, `name.rows`, `name.edit`, `name.py`) is the name of no file; a name in the
-first column of docs/DEFINITIONS.md is none of `specs/`; docs/PROMISES.md or docs/MAP.md says nothing of a crate of crates.txt; a
-line of a clause that README.md or docs/HEADLINE.md quotes does not stand in the source.
+README.md or docs/*.md leads to no file; a name that reads as a crate of the repository is not in crates.txt; one in backticks that
+reads as a file (`name.rt`, `Name.antt`, `name.rows`, `name.edit`, `name.py`) is the name of no file; a name in the first column of
+docs/DEFINITIONS.md is none of `specs/`; docs/PROMISES.md or docs/MAP.md says nothing of a crate of crates.txt; a line of a clause
+that README.md or docs/HEADLINE.md quotes does not stand in the source.
+
+What reads as a crate: a word that begins with `graphql_`; one that begins as the crates of an area do (`tree_`, `read_`, ..), if the
+sources have nothing else of that name, neither an item, a definition nor a file; and, whatever it begins with, a name in backticks
+in a heading of docs/PROMISES.md, or in a column of a table whose head has the word crate or crates.
 
 How many public clauses are longer than 160 characters is told, and is no fault. --clauses prints them, the longest first.
 """
@@ -19,9 +23,6 @@ from sources import TOP
 
 LINES = 150
 CHARACTERS = 160
-
-# Names that begin as crates do and are none.
-NO_CRATES = {"graphql_"}
 
 
 def pages():
@@ -39,12 +40,46 @@ def broken_links(path, text):
             yield f"{path}: the link {target} leads to no file"
 
 
-def unknown_names(path, text, crates, files):
-    """The names of crates and files that are not there."""
+def other_names(library):
+    """The names of the sources that are no crates: of items, of definitions, and of files."""
+    paths = [path for part in ("src", "data", "planted", "must-fail") for path in sources.paths(f"crates/*/{part}/*")]
+    known = {os.path.basename(path).split(".")[0] for path in paths}
+    for file in library.files.values():
+        known |= set(file.definitions) | set(file.owners)
+    for source in sources.paths("crates/*/src/*.rt"):
+        known |= set(re.findall(r"\b(?:fn|struct|enum|trait|type|const|mod) (\w+)", sources.masked(sources.read(source))))
+    return known
+
+
+def crates_alone(path, text):
+    """The names in backticks of a page where nothing but crates stands, each with its line."""
+    heads = []
     for number, line in enumerate(text.split("\n"), 1):
-        for word in sorted(set(re.findall(r"\bgraphql_\w*", line))):
-            if word not in crates and word not in NO_CRATES and not word.endswith("_"):
-                yield f"{path}:{number}: `{word}` is no crate of crates.txt"
+        cells = line.strip("|").split("|") if line.startswith("|") else []
+        heads = heads if heads and cells else cells
+        shown = "".join(cell for cell, head in zip(cells, heads) if re.search(r"\b[Cc]rates?\b", head))
+        if path == "docs/PROMISES.md" and line.startswith("### "):
+            shown = line
+        for word in re.findall(r"`(\w+)`", shown):
+            yield number, word
+
+
+def unknown_crates(path, text, crates, others):
+    """The names that read as crates and are none of crates.txt."""
+    areas = sorted({crate.split("_")[0] for crate in crates})
+    found = set(crates_alone(path, text))
+    for number, line in enumerate(text.split("\n"), 1):
+        for word in re.findall(rf"\b(?:{'|'.join(areas)})_\w+", line):
+            if not word.endswith("_") and (word.startswith("graphql_") or word not in others):
+                found.add((number, word))
+    for number, word in sorted(found):
+        if word not in crates:
+            yield f"{path}:{number}: `{word}` is no crate of crates.txt"
+
+
+def unknown_files(path, text, files):
+    """The names of files that are not there."""
+    for number, line in enumerate(text.split("\n"), 1):
         for word in sorted(set(re.findall(r"`(?:[\w./-]*/)?([\w-]+\.(?:rt|antt|rows|edit|py))`", line))):
             if word not in files:
                 yield f"{path}:{number}: `{word}` is the name of no file"
@@ -82,7 +117,7 @@ def misquoted():
 def left_out(crates):
     """The crates that a page leaves out."""
     for path in ("docs/PROMISES.md", "docs/MAP.md"):
-        named = set(re.findall(r"\bgraphql_\w+", sources.read(path)))
+        named = set(re.findall(r"\w+", sources.read(path)))
         for crate in crates:
             if crate not in named:
                 yield f"{path}: says nothing of `{crate}`"
@@ -103,6 +138,8 @@ def long_clauses(library):
 def main(words):
     crates = sources.crates()
     files = {name for _, _, names in os.walk(TOP) for name in names}
+    library = sources.Library()
+    others = other_names(library)
     wrong = []
     lines = sources.read("README.md").count("\n")
     if lines > LINES:
@@ -110,8 +147,8 @@ def main(words):
     for path in pages():
         text = sources.read(path)
         wrong += broken_links(path, text)
-        wrong += unknown_names(path, text, crates, files)
-    library = sources.Library()
+        wrong += unknown_crates(path, text, crates, others)
+        wrong += unknown_files(path, text, files)
     wrong += unknown_definitions("docs/DEFINITIONS.md", library)
     wrong += left_out(crates)
     wrong += misquoted()
