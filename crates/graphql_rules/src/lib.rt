@@ -5,8 +5,8 @@
 //! Of a schema `validate_schema` tells all of them (`specs/SchemaTold.antt`), and leaves the types that are kept. Where it
 //! tells nothing, implementing is a strict order on interfaces, and each input type has a literal (`rule_schema_laws`).
 //!
-//! The rules stand in inner crates side by side: `rule_types`, `rule_interfaces`, `rule_cycles`,
-//! `rule_uses`, `rule_values`. Begin with `schema.rt`.
+//! The rules stand in inner crates side by side: `rule_types`, `rule_interfaces`, `rule_cycles`, `rule_uses`, `rule_values`.
+//! Begin with `schema.rt`.
 #![tactic(auto)]
 
 mod given;

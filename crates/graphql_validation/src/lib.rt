@@ -4,10 +4,9 @@
 //! else (`specs/Told.antt`, `specs/TellsDocument.antt`); it adds nothing exactly where all rules hold, memory and the bounds
 //! aside. What breaks a rule is a predicate named after its variant, in `rule_document_definitions`.
 //!
-//! The rules stand in inner crates side by side: `rule_variables`, `rule_selections`,
-//! `rule_fragments`, `rule_fragment_cycles`, `rule_subscriptions`; what an operation reaches is found once,
-//! by `rule_reach`. Fields are merged by `rule_merging`, operation by operation (`merging.rt`). Begin with `document.rt`,
-//! `field_set.rt` and `standalone.rt`.
+//! The rules stand in inner crates side by side: `rule_variables`, `rule_selections`, `rule_fragments`,
+//! `rule_fragment_cycles`, `rule_subscriptions`; what an operation reaches is found once, by `rule_reach`. Fields are merged
+//! by `rule_merging`, operation by operation (`merging.rt`). Begin with `document.rt`, `field_set.rt` and `standalone.rt`.
 #![tactic(auto)]
 
 mod alone;
