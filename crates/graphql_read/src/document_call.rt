@@ -1,5 +1,6 @@
 //! Documents, from texts (section 2.2).
 ghost use Rattle.std.specs.Prelude.{◌≡◌, IfOk, IfErr, [], ◌∷◌, map};
+ghost use Rattle.std.specs.Rc.{rc_str_bytes};
 ghost use Rattle.tree_definitions.specs.DefinitionTree.{document_tree};
 ghost use Rattle.tree_definitions.specs.Sources.{source_of, numbered_source, sources_of};
 ghost use Rattle.read_grammar.specs.DocumentReading as reading;
@@ -40,18 +41,17 @@ fn whole_document(
 /// The definitions that a text is.
 fn parse_definitions(
     alloc: Global,
-    text: &str,
+    text: &RcStr,
     file: FileId,
     nesting: usize,
 ) -> Result<Vec<Definition>, ReadFault>
-    ensures found { IfOk result (λ x. ReadsWithin (Derives (in_file file)) nesting text.now (definitions_tree x)) }
-    ensures only { IsEachTreeUnlessMemory definitions_tree (Derives (in_file file)) nesting text.now result }
-    ensures fault { IfErr result (λ e. IsDue (Derives (in_file file)) nesting text.now (fault_view e)) }
-    ensures within { IfErr result (λ e. StandsIn text.now (fault_view e)) }
-    ensures bound { KeepsToBound nesting text.now result }
+    ensures found { IfOk result (λ x. ReadsWithin (Derives (in_file file)) nesting (rc_str_bytes text.now) (definitions_tree x)) }
+    ensures only { IsEachTreeUnlessMemory definitions_tree (Derives (in_file file)) nesting (rc_str_bytes text.now) result }
+    ensures fault { IfErr result (λ e. IsDue (Derives (in_file file)) nesting (rc_str_bytes text.now) (fault_view e)) }
+    ensures within { IfErr result (λ e. StandsIn (rc_str_bytes text.now) (fault_view e)) }
+    ensures bound { KeepsToBound nesting (rc_str_bytes text.now) result }
 {
-    let shared = RcStr::from_str(alloc, text)?;
-    let mut tokens = Source::new(&shared);
+    let mut tokens = Source::new(text);
     match whole_document(alloc, &mut tokens, file, nesting) {
         Ok(found) => Ok(found),
         Err(stop) => Err(fault(&tokens, stop)),
@@ -59,29 +59,30 @@ fn parse_definitions(
 }
 
 /// A file without a path, with this text.
-fn source_file(alloc: Global, text: &str) -> Result<SourceFile, AllocError>
-    ensures { IfOk result (λ f. source_of f ≡ unnamed_source text.now) }
+fn source_file(alloc: Global, text: RcStr) -> SourceFile
+    ensures { source_of result ≡ unnamed_source (rc_str_bytes text) }
 {
-    Ok(SourceFile {
+    SourceFile {
         path: String::new(alloc),
-        text: RcStr::from_str(alloc, text)?,
-    })
+        text,
+    }
 }
 
 /// The text under the number of its file.
 fn sources(
     alloc: Global,
-    text: &str,
+    text: RcStr,
     file: FileId,
 ) -> Result<IndexMap<FileId, SourceFile>, AllocError>
-    ensures { IfOk result (λ m. map numbered_source m.entries ≡ (file.0, unnamed_source text.now) ∷ []) }
+    ensures { IfOk result (λ m. map numbered_source m.entries ≡ (file.0, unnamed_source (rc_str_bytes text)) ∷ []) }
 {
     let mut sources = IndexMap::new(alloc);
-    sources.insert(file, source_file(alloc, text)?)?;
+    sources.insert(file, source_file(alloc, text))?;
     Ok(sources)
 }
 
-/// The document that a text is, with at most `nesting` brackets open at once. Its sources hold the text, without a path.
+/// The document that a text is, with at most `nesting` brackets open at once. Its sources hold a copy of the text, without a
+/// path, and its names are parts of that copy.
 pub fn parse_document(
     alloc: Global,
     text: &str,
@@ -96,8 +97,9 @@ pub fn parse_document(
     ensures within { IfErr result (λ e. StandsIn text.now (fault_view e)) }
     ensures bound { KeepsToBound nesting text.now result }
 {
-    let definitions = parse_definitions(alloc, text, file, nesting)?;
-    let sources = sources(alloc, text, file)?;
+    let shared = RcStr::from_str(alloc, text)?;
+    let definitions = parse_definitions(alloc, &shared, file, nesting)?;
+    let sources = sources(alloc, shared, file)?;
     Ok(Document {
         sources,
         definitions,

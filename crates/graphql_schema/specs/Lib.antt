@@ -28,7 +28,7 @@ pub use Rattle.schema_building.specs.in_fold.Messages
 pub use Rattle.schema_building.specs.in_fold.Adoption
 pub use Rattle.schema_building.specs.in_built_in.Table
 pub use Rattle.schema_building.specs.in_built_in.MetaFields
-pub use Rattle.schema_fold_lists.specs.in_type_folding.OwnNames
+pub use Rattle.schema_fold_lists.specs.in_fold_types.OwnNames
 pub use Rattle.schema_building.specs.BuilderValue
 pub use Rattle.schema_building.specs.Building
 pub use Rattle.schema_building.specs.Numbers

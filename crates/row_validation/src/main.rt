@@ -4,14 +4,14 @@
 mod documents;
 mod field_sets;
 mod input;
+mod judged_schemas;
 mod merging;
-mod row_schemas;
 mod told;
 
 use crate::documents::push_document;
 use crate::field_sets::push_field_set;
 use crate::input::Input;
-use crate::row_schemas::judge_schema;
+use crate::judged_schemas::judge_schema;
 use graphql_schema::Schema;
 use row_files::{Answer, Calls, Case, Problem, Tally, Way, compare, judge, judge_files, text_of};
 use row_schemas::build;

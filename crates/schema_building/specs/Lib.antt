@@ -13,5 +13,5 @@ pub mod SettingsView
 pub mod Settling
 pub use Rattle.schema_built_in.specs as in_built_in
 pub use Rattle.schema_fold.specs as in_fold
-pub use Rattle.schema_fold_index.specs as in_type_index
+pub use Rattle.schema_fold_index.specs as in_fold_index
 pub use Rattle.schema_fold.specs.in_schema_types as in_schema_types

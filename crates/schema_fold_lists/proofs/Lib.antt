@@ -1,3 +1,3 @@
 pub mod Folding
 pub mod BuiltIn
-pub use Rattle.schema_fold_types.proofs as in_type_folding
+pub use Rattle.schema_fold_types.proofs as in_fold_types

@@ -7,4 +7,4 @@ pub mod Seen
 pub mod SeenView
 pub mod OwnView
 pub use Rattle.schema_fold.specs as in_fold
-pub use Rattle.schema_fold_index.specs as in_type_index
+pub use Rattle.schema_fold_index.specs as in_fold_index

@@ -21,7 +21,7 @@ use Rattle.rule_document_definitions.specs.Variables.{IsUsedIn, StandsInSelectio
 use Rattle.rule_document_definitions.specs.Merging.{SameName, telling}
 use Rattle.rule_document_definitions.specs.Told.{PlacedDocumentFault, DocumentFails, DocumentMergingFails}
 use Rattle.rule_document_definitions.proofs.RowWords.{of_present, not_at_index, none_reached, no_fragment}
-use Rattle.graphql_faults.specs.in_document_faults.DocumentBreaches.{ConflictingFieldName}
+use Rattle.graphql_faults.specs.in_document_data.DocumentBreaches.{ConflictingFieldName}
 use Rattle.verdict_definitions.specs.Texts.{Text, Tree, ReadsText}
 use Rattle.verdict_definitions.specs.Judge.{schema_at_hand, document_over, IsAccepted}
 use Rattle.verdict_definitions.specs.Says.{of_document, SaysDocument}

@@ -3,8 +3,8 @@ use Rattle.schema_building.specs.in_built_in.Table.{built_in_definitions}
 use Rattle.schema_building.specs.in_fold.FaultView.{faults_of}
 use Rattle.schema_building.specs.Building.{counted}
 use Rattle.schema_building.specs.BuildingView.{builder_view}
-use Rattle.schema_fold_lists.specs.in_type_folding.OwnNames.{UnderOwnNames}
-use Rattle.schema_fold_lists.proofs.in_type_folding.OwnNames.{under_own_names}
+use Rattle.schema_fold_lists.specs.in_fold_types.OwnNames.{UnderOwnNames}
+use Rattle.schema_fold_lists.proofs.in_fold_types.OwnNames.{under_own_names}
 use Rattle.schema_fold_lists.proofs.Folding.{faultless}
 use Rattle.graphql_schema.proofs.builder.SchemaBuilder.build.Goals as goal
 
