@@ -1,12 +1,13 @@
 -- What is told of a schema (GraphQL, October 2021, sections 3 and 5).
-use Rattle.std.specs.Prelude.{ℕ, List, Contains, ◌⊎◌}
+use Rattle.std.specs.Prelude.{◌≡◌, ℕ, List, Contains, ◌⊎◌}
 use Rattle.graphql_names.specs.Placed.{Place}
 use Rattle.rule_definitions.specs.in_schema_types.SchemaTree.{SchemaTree}
 use Rattle.rule_definitions.specs.Faults.{SchemaFault}
 use Rattle.rule_definitions.specs.Judged.{Judged, judged}
 use Rattle.rule_definitions.specs.Cycles.{PassesReferenceBound}
-use Rattle.rule_definitions.specs.Rules.{ReferencesBreak, EmptyBreaks, InterfacesBreak, SchemaUsesBreak, Breaks}
+use Rattle.rule_definitions.specs.Rules.{ReferencesBreak, EmptyBreaks, InterfacesBreak, SchemaUsesBreak, Breaks, SchemaRules}
 use Rattle.rule_definitions.specs.Told.{PlacedFault, Told}
+use Rattle.rule_schema_laws.specs.Literals.{HasTheFiveAlone, HasNoKeywordValue, InputTypesHaveLiterals}
 use Rattle.rule_cycles.specs.Told.{IsInputCycle, IsDirectiveCycle, AnswersInput, AnswersDirective}
 use Rattle.graphql_rules.specs.Appends.{Telling, AppendsThese}
 
@@ -32,3 +33,12 @@ pub record TellsSchema (s : SchemaTree Place) (told : List PlacedFault) : Type 0
 -- behind what was told stands what is told of the schema
 abbrev pub SchemaTold : SchemaTree Place → Telling → Telling → Type 0
 SchemaTold s old new = (added : List PlacedFault) × (AppendsThese old new added × TellsSchema s added)
+
+-- of a schema of which every rule holds, and that passes the bound on references nowhere, nothing is told
+abbrev pub ValidSchemaMeansSilence : SchemaTree Place → Telling → Telling → Type 0
+ValidSchemaMeansSilence s old new = SchemaRules (judged s) → IsWithinReferenceBound (judged s) → new ≡ old
+
+-- where nothing is told of a schema, each input type of what is left of it has a literal; this where its built-in scalars are among
+-- the five, and no enum value is `true`, `false` or `null`
+abbrev pub SilenceGivesLiterals : SchemaTree Place → SchemaTree Place → Telling → Telling → Type 0
+SilenceGivesLiterals s left old new = new ≡ old → HasTheFiveAlone (judged s) → HasNoKeywordValue (judged s) → InputTypesHaveLiterals (judged left)

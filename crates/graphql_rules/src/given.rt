@@ -1,18 +1,12 @@
 //! Rules on directives, and on arguments and variables by themselves.
 ghost use Rattle.std.specs.Prelude.{◌≡◌, ◌↔◌, ⊤, List, IfOk, OnOk, OnErr, IsTrue};
 ghost use Rattle.std.specs.Iterator.{IsFinite, HoldsAlong, DrainsIf};
-ghost use Rattle.graphql_names.specs.Node.{content};
-ghost use Rattle.graphql_names.specs.Placed.{Place, node_tree};
-ghost use Rattle.tree_directives.specs.DirectiveTree.{Directives, argument_tree, input_value_tree, unplaced_input_value};
-ghost use Rattle.rule_definitions.specs.in_schema_types.Addresses.{place_at};
-ghost use Rattle.rule_definitions.specs.Judged.{judged};
-ghost use Rattle.rule_definitions.specs.Uses.{UsesBreak};
-ghost use Rattle.rule_values.specs.Wanting.{variables_of};
+ghost use Rattle.tree_directives.specs.Iterators.{CanBeDrained};
 ghost use Rattle.rule_uses.specs.Alone.{ArgumentsBreak};
-ghost use Rattle.rule_uses.specs.Trees.{arguments_of, directives_of, tree_of};
+ghost use Rattle.rule_uses.specs.Trees.{arguments_of, directives_of};
 ghost use Rattle.graphql_faults.specs.DetailsView.{diagnostics_of, BeginsAs};
 ghost use Rattle.graphql_rules.specs.Appends.{Appends};
-ghost use Rattle.graphql_rules.specs.Given.{Each, LeadsTo, UsageBreaks};
+ghost use Rattle.graphql_rules.specs.Given.{Each, LeadsTo, UsesTold, UsageTold};
 
 use graphql_faults::DiagnosticList;
 use graphql_names::Node;
@@ -51,8 +45,8 @@ pub fn validate_directives<D: Deref<Target = Node<Directive>> + Drop, I: IntoIte
     location: DirectiveLocation,
     variables: &[Node<VariableDefinition>],
 ) -> Result<(), AllocError>
-    requires { (it : I.IntoIter) → I.into_iter_gives directives it → I.IntoIter.can_next it × IsFinite (I.IntoIter.remaining it) × HoldsAlong I.IntoIter.next_gives it (λ _. ⊤) }
-    ensures told { OnOk result ((it : I.IntoIter) × (I.into_iter_gives directives it × ((all : List D) × (DrainsIf I.IntoIter.next_gives ⊤ it all × ((ds : Directives Place) × (Each (LeadsTo D.deref_gives) all ds × Appends (diagnostics_of list.old) (diagnostics_of list.new) (UsesBreak (place_at (tree_of schema.entry)) (judged (tree_of schema.entry)) (variables_of variables.now) location ds))))))) }
+    requires { CanBeDrained I.into_iter_gives I.IntoIter.can_next I.IntoIter.remaining I.IntoIter.next_gives directives }
+    ensures told { OnOk result (UsesTold I.into_iter_gives I.IntoIter.next_gives D.deref_gives directives schema.entry variables.now location list.old list.new) }
     ensures begins { OnErr result (BeginsAs (diagnostics_of list.old) (diagnostics_of list.new)) }
 {
     let nodes = nodes_of(alloc, directives)?;
@@ -85,7 +79,7 @@ pub fn validate_variable_usage(
     variables: &[Node<VariableDefinition>],
     argument: &Node<Argument>,
 ) -> Result<bool, AllocError>
-    ensures told { OnOk result (Appends (diagnostics_of list.old) (diagnostics_of list.new) (UsageBreaks (variables_of variables.now) (unplaced_input_value (input_value_tree (content definition.now))) (node_tree argument_tree argument.now))) }
+    ensures told { OnOk result (UsageTold variables.now definition.now argument.now (diagnostics_of list.old) (diagnostics_of list.new)) }
     ensures silent { IfOk result (λ b. IsTrue b ↔ (diagnostics_of list.new ≡ diagnostics_of list.old)) }
     ensures kept { OnErr result (diagnostics_of list.new ≡ diagnostics_of list.old) }
 {

@@ -8,8 +8,7 @@ ghost use Rattle.rule_definitions.specs.Kept.{validated};
 ghost use Rattle.rule_definitions.specs.Rules.{SchemaRules};
 ghost use Rattle.graphql_faults.specs.DetailsView.{diagnostics_of, BeginsAs};
 ghost use Rattle.rule_schema_laws.specs.Implementing.{ImplementsInOrder};
-ghost use Rattle.rule_schema_laws.specs.Literals.{HasTheFiveAlone, HasNoKeywordValue, InputTypesHaveLiterals};
-ghost use Rattle.graphql_rules.specs.SchemaTold.{IsWithinReferenceBound, TellsSchema, SchemaTold};
+ghost use Rattle.graphql_rules.specs.SchemaTold.{TellsSchema, SchemaTold, ValidSchemaMeansSilence, SilenceGivesLiterals};
 
 use crate::kept::kept_types;
 use fault_data::Fault;
@@ -38,11 +37,11 @@ pub fn validate_schema(
 ) -> Result<(), AllocError>
     ensures told { OnOk result (SchemaTold (schema_tree schema.old) (diagnostics_of list.old) (diagnostics_of list.new)) }
     ensures silent { OnOk result (diagnostics_of list.new ≡ diagnostics_of list.old → SchemaRules (judged (schema_tree schema.old))) }
-    ensures accepts { OnOk result (SchemaRules (judged (schema_tree schema.old)) → IsWithinReferenceBound (judged (schema_tree schema.old)) → diagnostics_of list.new ≡ diagnostics_of list.old) }
+    ensures accepts { OnOk result (ValidSchemaMeansSilence (schema_tree schema.old) (diagnostics_of list.old) (diagnostics_of list.new)) }
     ensures kept { OnOk result (schema_tree schema.new ≡ validated (schema_tree schema.old)) }
     ensures was_ordered { OnOk result (diagnostics_of list.new ≡ diagnostics_of list.old → ImplementsInOrder (judged (schema_tree schema.old))) }
     ensures ordered { OnOk result (diagnostics_of list.new ≡ diagnostics_of list.old → ImplementsInOrder (judged (schema_tree schema.new))) }
-    ensures literals { OnOk result (diagnostics_of list.new ≡ diagnostics_of list.old → HasTheFiveAlone (judged (schema_tree schema.old)) → HasNoKeywordValue (judged (schema_tree schema.old)) → InputTypesHaveLiterals (judged (schema_tree schema.new))) }
+    ensures literals { OnOk result (SilenceGivesLiterals (schema_tree schema.old) (schema_tree schema.new) (diagnostics_of list.old) (diagnostics_of list.new)) }
     ensures rest { OnOk result (schema.new ≡ record schema.old { types = schema.new.types }) }
     ensures unchanged { OnErr result (schema.new ≡ schema.old) }
     ensures begins { OnErr result (BeginsAs (diagnostics_of list.old) (diagnostics_of list.new)) }

@@ -1,15 +1,8 @@
 //! Rules on values.
 ghost use Rattle.std.specs.Prelude.{◌≡◌, ◌↔◌, OnOk, OnErr};
-ghost use Rattle.graphql_names.specs.Node.{content, place};
-ghost use Rattle.tree_literals.specs.ValueTree.{value_tree};
-ghost use Rattle.rule_definitions.specs.in_schema_types.Addresses.{place_at};
 ghost use Rattle.graphql_schema.specs.SchemaOf.{schema_tree};
-ghost use Rattle.rule_definitions.specs.Judged.{judged};
-ghost use Rattle.rule_definitions.specs.Accepts.{Accepts};
-ghost use Rattle.rule_definitions.specs.Values.{ValueBreaks};
-ghost use Rattle.rule_values.specs.Wanting.{wanted_type, variables_of};
 ghost use Rattle.graphql_faults.specs.DetailsView.{diagnostics_of, BeginsAs};
-ghost use Rattle.graphql_rules.specs.Appends.{Appends};
+ghost use Rattle.graphql_rules.specs.ValueTold.{ValueTold, TypeAccepts};
 
 use graphql_faults::DiagnosticList;
 use graphql_names::Node;
@@ -30,8 +23,8 @@ pub fn value_of_correct_type(
     value: &Node<Value>,
     variables: &[Node<VariableDefinition>],
 ) -> Result<(), AllocError>
-    ensures told { OnOk result (Appends (diagnostics_of list.old) (diagnostics_of list.new) (ValueBreaks (place_at (schema_tree schema.now)) (judged (schema_tree schema.now)) (variables_of variables.now) (wanted_type ty.now) (place value.now) (value_tree (content value.now)))) }
-    ensures silent { OnOk result ((diagnostics_of list.new ≡ diagnostics_of list.old) ↔ Accepts (judged (schema_tree schema.now)) (variables_of variables.now) (wanted_type ty.now).it (value_tree (content value.now))) }
+    ensures told { OnOk result (ValueTold (schema_tree schema.now) variables.now ty.now value.now (diagnostics_of list.old) (diagnostics_of list.new)) }
+    ensures silent { OnOk result ((diagnostics_of list.new ≡ diagnostics_of list.old) ↔ TypeAccepts (schema_tree schema.now) variables.now ty.now value.now) }
     ensures begins { OnErr result (BeginsAs (diagnostics_of list.old) (diagnostics_of list.new)) }
 {
     let mut faults = Vec::new(alloc);

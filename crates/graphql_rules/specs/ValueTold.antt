@@ -1,0 +1,26 @@
+-- What is told of a value that is given for a type (GraphQL, October 2021, sections 5.6 and 5.8.3).
+use Rattle.std.specs.Prelude.{List}
+use Rattle.graphql_names.specs.Placed.{Place}
+use Rattle.graphql_names.specs.Node.{content, place}
+use Rattle.graphql_names.specs.declared.node.Node.{Node}
+use Rattle.tree_literals.specs.ValueTree.{value_tree}
+use Rattle.tree_literals.specs.declared.value.Value.{Value}
+use Rattle.tree_literals.specs.declared.ty.«Type».{«Type»}
+use Rattle.tree_operations.specs.declared.operation.VariableDefinition.{VariableDefinition}
+use Rattle.rule_definitions.specs.in_schema_types.SchemaTree.{SchemaTree}
+use Rattle.rule_definitions.specs.in_schema_types.Addresses.{place_at}
+use Rattle.rule_definitions.specs.Judged.{judged}
+use Rattle.rule_definitions.specs.Accepts.{Accepts}
+use Rattle.rule_definitions.specs.Values.{ValueBreaks}
+use Rattle.rule_values.specs.Wanting.{wanted_type, variables_of}
+use Rattle.graphql_rules.specs.Appends.{Telling, Appends}
+
+module _ (s : SchemaTree Place) (variables : List (Node VariableDefinition)) (ty : Node «Type») (value : Node Value) where
+  -- behind what was told stand the faults of the value, which is given for the type among these variables
+  abbrev pub ValueTold : Telling → Telling → Type 0
+  ValueTold old new =
+      Appends old new (ValueBreaks (place_at s) (judged s) (variables_of variables) (wanted_type ty) (place value) (value_tree (content value)))
+
+  -- the type accepts the value, among these variables
+  abbrev pub TypeAccepts : Type 0
+  TypeAccepts = Accepts (judged s) (variables_of variables) (wanted_type ty).it (value_tree (content value))
