@@ -1,12 +1,16 @@
 -- What contracts see of a `FieldsInSetCanMerge`.
-use Rattle.std.specs.Prelude.{ℕ, Bool, List}
+use Rattle.std.specs.Prelude.{◌≡◌, ◌↔◌, ℕ, Bool, List, Contains, IsTrue}
 use Rattle.graphql_names.specs.Placed.{Place}
 use Rattle.graphql_schema.specs.SchemaOf.{schema_tree}
-use Rattle.document_meaning.specs.MeantTree.{MeantDocument}
+use Rattle.document_meaning.specs.MeantTree.{MeantOperation, MeantDocument}
 use Rattle.rule_definitions.specs.Judged.{Judged, judged}
+use Rattle.rule_document_definitions.specs.Merging.{FieldsMerge}
+use Rattle.rule_document_definitions.specs.Selected.{operations}
 use Rattle.rule_merging_laws.specs.Contents.{PlainField}
 use Rattle.rule_merging.specs.Counted.{IsCountedBy}
 use Rattle.rule_merging.specs.Verdict.{document_meant, lists_examined, comparisons_of}
+use Rattle.graphql_validation.specs.Told.{Telling}
+use Rattle.graphql_validation.specs.Merged.{MergingTold}
 use Rattle.graphql_validation.specs.declared.merging.FieldsInSetCanMerge.{FieldsInSetCanMerge}
 
 pub record Merger : Type 0 where
@@ -31,3 +35,19 @@ merger_of m = record {
 -- all members are last fields of chains of the document
 abbrev pub IsCountedMerger : Merger → Type 0
 IsCountedMerger m = IsCountedBy m.document m.lists m.comparisons
+
+-- behind what was told stands only what merging tells of the operation, under the schema and in the document of the value
+abbrev pub MergerTold : Merger → MeantOperation Place → Telling → Telling → Type 0
+MergerTold m o old new = MergingTold m.schema m.document o old new
+
+-- where a clean value tells nothing of the operation, its fields merge
+abbrev pub SilenceMeansMerging : Merger → MeantOperation Place → Telling → Telling → Type 0
+SilenceMeansMerging m o old new = IsTrue m.is_clean → new ≡ old → FieldsMerge m.schema m.document o
+
+-- the value is clean after the call exactly where it was before and nothing is told
+abbrev pub StaysCleanInSilence : Merger → Merger → Telling → Telling → Type 0
+StaysCleanInSilence before after old new = IsTrue after.is_clean ↔ (IsTrue before.is_clean × (new ≡ old))
+
+-- it is counted so after a call on an operation of the document, if it was before
+abbrev pub StaysCounted : Merger → Merger → MeantOperation Place → Type 0
+StaysCounted before after o = Contains (operations before.document) o → IsCountedMerger before → IsCountedMerger after

@@ -4,6 +4,7 @@ use Rattle.graphql_names.specs.Placed.{Place}
 use Rattle.schema_types.specs.SchemaTree.{SchemaTree}
 use Rattle.schema_types.specs.Plain.{plain}
 use Rattle.document_meaning.specs.MeantTree.{MeantOperation, MeantFragment, MeantDocument}
+use Rattle.document_meaning.specs.Unplaced.{unplaced_document}
 use Rattle.document_typing.specs.Meanings.{meanings}
 use Rattle.document_typing.specs.TypedByPlace.{IsTypedDocument}
 use Rattle.rule_document_definitions.specs.DocumentFaults.{Broken, OfData, OfDocument, OfLimit}
@@ -12,7 +13,8 @@ use Rattle.rule_document_definitions.specs.Fragments.{ReachesItself, UnusedFragm
 use Rattle.rule_document_definitions.specs.Reached.{AtOperation}
 use Rattle.rule_document_definitions.specs.Selected.{operations}
 use Rattle.rule_document_definitions.specs.Subscriptions.{SubscriptionBreaks}
-use Rattle.rule_document_definitions.specs.Told.{PlacedDocumentFault, DocumentFails, DocumentMergingFails, DocumentBoundFails}
+use Rattle.rule_document_definitions.specs.Told.{PlacedDocumentFault, DocumentFails, DocumentMergingFails, DocumentBoundFails, IsValidDocument}
+use Rattle.rule_document_definitions.specs.Verdict.{WithinBounds}
 use Rattle.rule_fragment_cycles.specs.Used.{IsUsed}
 use Rattle.rule_subscriptions.specs.Nested.{NestsTooDeep}
 use Rattle.rule_subscriptions.specs.Told.{AreAlike}
@@ -48,3 +50,15 @@ module _ (s : SchemaTree Place) (d : MeantDocument Place) where
   -- behind what was told stands what is told of the document
   abbrev pub DocumentTold : Telling → Telling → Type 0
   DocumentTold old new = (added : List PlacedDocumentFault) × ((new ≡ old ++ map of_document added) × TellsDocument added)
+
+  -- the same of a document that is typed
+  abbrev pub TypedDocumentTold : Telling → Telling → Type 0
+  TypedDocumentTold old new = IsTypedUnder → DocumentTold old new
+
+  -- where nothing is told of a typed document, all rules hold, and the fields of each operation merge
+  abbrev pub SilenceMeansValid : Telling → Telling → Type 0
+  SilenceMeansValid old new = IsTypedUnder → new ≡ old → IsValidDocument s d
+
+  -- where these hold of a typed document, and no bound is passed, nothing is told
+  abbrev pub ValidMeansSilence : Telling → Telling → Type 0
+  ValidMeansSilence old new = IsTypedUnder → IsValidDocument s d → WithinBounds (unplaced_document d) → new ≡ old

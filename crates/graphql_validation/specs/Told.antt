@@ -6,6 +6,7 @@ use Rattle.schema_types.specs.Plain.{plain}
 use Rattle.document_typed_selections.specs.TypedTree.{typed_set_tree}
 use Rattle.document_typed_operations.specs.declared.document.FieldSet.{FieldSet}
 use Rattle.document_meaning.specs.MeantTree.{MeantSet, MeantFragment, MeantDocument, meant_of_set}
+use Rattle.document_meaning.specs.Unplaced.{unplaced_document, unplaced_set}
 use Rattle.document_typing.specs.Meanings.{meanings}
 use Rattle.document_typing.specs.TypedByPlace.{IsSetOn}
 use Rattle.rule_definitions.specs.Told.{PlacedFault}
@@ -13,9 +14,10 @@ use Rattle.rule_document_definitions.specs.DocumentFaults.{OfData, OfDocument, O
 use Rattle.rule_document_definitions.specs.Reached.{AtOperation}
 use Rattle.rule_document_definitions.specs.Fragments.{ReachesItself, UnusedFragmentAt}
 use Rattle.rule_document_definitions.specs.DocumentRules.{DeferredBreaks}
-use Rattle.rule_document_definitions.specs.Told.{PlacedDocumentFault, SetRulesFail, SetBoundFails, DocumentBoundFails, DocumentFailsAlone}
+use Rattle.rule_document_definitions.specs.Told.{PlacedDocumentFault, SetRulesFail, SetBoundFails, DocumentBoundFails, DocumentFailsAlone, IsValidFieldSet, IsValidAlone}
+use Rattle.rule_document_definitions.specs.Verdict.{WithinBounds, FieldSetWithinBounds}
 use Rattle.graphql_faults.specs.DetailsTree.{DetailsAt, DocumentBuild, RecursionLimitError, of_rule}
-use Rattle.rule_fragment_cycles.specs.Used.{IsUsed}
+use Rattle.rule_fragment_cycles.specs.Used.{IsUsed, AreUnderOwnNames}
 use Rattle.rule_fragment_cycles.specs.Told.{Answers}
 use Rattle.graphql_validation.specs.Operations.{OperationFailsAlone}
 
@@ -49,6 +51,20 @@ pub record TellsAlone (d : MeantDocument Place) (told : List PlacedDocumentFault
 abbrev pub AloneTold : MeantDocument Place → Telling → Telling → Type 0
 AloneTold d old new = (added : List PlacedDocumentFault) × ((new ≡ old ++ map of_document added) × TellsAlone d added)
 
+-- of a document whose fragments stand under their own names, as in each that is built
+module _ (d : MeantDocument Place) where
+  -- behind what was told stands what is told of it without a schema
+  abbrev pub NamedAloneTold : Telling → Telling → Type 0
+  NamedAloneTold old new = AreUnderOwnNames d → AloneTold d old new
+
+  -- where nothing is told, the rules without a schema hold
+  abbrev pub SilenceMeansValidAlone : Telling → Telling → Type 0
+  SilenceMeansValidAlone old new = AreUnderOwnNames d → new ≡ old → IsValidAlone d
+
+  -- where they hold and no bound is passed, nothing is told
+  abbrev pub ValidAloneMeansSilence : Telling → Telling → Type 0
+  ValidAloneMeansSilence old new = AreUnderOwnNames d → IsValidAlone d → WithinBounds (unplaced_document d) → new ≡ old
+
 -- what a field set means; it is typed on some type of the schema, as each that is made from selections
 abbrev pub set_meant : FieldSet → MeantSet Place
 set_meant set = meant_of_set (typed_set_tree set.selection_set)
@@ -67,3 +83,17 @@ pub record TellsFieldSet (s : SchemaTree Place) (set : MeantSet Place) (told : L
 
 abbrev pub FieldSetTold : SchemaTree Place → MeantSet Place → Telling → Telling → Type 0
 FieldSetTold s set old new = (added : List PlacedDocumentFault) × ((new ≡ old ++ map of_document added) × TellsFieldSet s set added)
+
+-- of a field set that is typed
+module _ (s : SchemaTree Place) (set : MeantSet Place) where
+  -- behind what was told stands what is told of it
+  abbrev pub TypedFieldSetTold : Telling → Telling → Type 0
+  TypedFieldSetTold old new = IsTypedSet s set → FieldSetTold s set old new
+
+  -- where nothing is told, the rules on field sets hold
+  abbrev pub SilenceMeansValidSet : Telling → Telling → Type 0
+  SilenceMeansValidSet old new = IsTypedSet s set → new ≡ old → IsValidFieldSet s set
+
+  -- where they hold and the bound is not passed, nothing is told
+  abbrev pub ValidSetMeansSilence : Telling → Telling → Type 0
+  ValidSetMeansSilence old new = IsTypedSet s set → IsValidFieldSet s set → FieldSetWithinBounds (unplaced_set set) → new ≡ old

@@ -3,18 +3,15 @@ ghost use Rattle.std.specs.Prelude.{◌≡◌, ◌↔◌, [], false, Contains, I
 ghost use Rattle.graphql_names.specs.Placed.{Place};
 ghost use Rattle.graphql_schema.specs.SchemaOf.{schema_tree};
 ghost use Rattle.document_meaning.specs.MeantTree.{MeantOperation};
-ghost use Rattle.document_meaning.specs.Unplaced.{unplaced_document};
 ghost use Rattle.rule_definitions.specs.Judged.{judged};
 ghost use Rattle.rule_document_definitions.specs.Merging.{FieldsMerge};
 ghost use Rattle.rule_document_definitions.specs.Selected.{operations};
-ghost use Rattle.rule_document_definitions.specs.Told.{IsValidDocument};
-ghost use Rattle.rule_document_definitions.specs.Verdict.{WithinBounds};
 ghost use Rattle.fault_data.specs.FaultView.{faults_of};
 ghost use Rattle.graphql_faults.specs.DetailsView.{diagnostics_of, BeginsAs};
 ghost use Rattle.rule_reach.specs.Broken.{brokens_of};
 ghost use Rattle.rule_subscriptions.specs.Told.{document_meant};
 ghost use Rattle.graphql_validation.specs.Merged.{DocumentMergingTold};
-ghost use Rattle.graphql_validation.specs.TellsDocument.{IsTypedUnder, DocumentTold};
+ghost use Rattle.graphql_validation.specs.TellsDocument.{TypedDocumentTold, SilenceMeansValid, ValidMeansSilence};
 
 use crate::found::fragments_differ;
 use crate::merging::FieldsInSetCanMerge;
@@ -62,9 +59,9 @@ pub fn validate_executable_document(
     schema: &Schema,
     document: &ExecutableDocument,
 ) -> Result<(), AllocError>
-    ensures told { OnOk result (IsTypedUnder (schema_tree schema.now) (document_meant document.now) → DocumentTold (schema_tree schema.now) (document_meant document.now) (diagnostics_of list.old) (diagnostics_of list.new)) }
-    ensures silent { OnOk result (IsTypedUnder (schema_tree schema.now) (document_meant document.now) → diagnostics_of list.new ≡ diagnostics_of list.old → IsValidDocument (schema_tree schema.now) (document_meant document.now)) }
-    ensures accepts { OnOk result (IsTypedUnder (schema_tree schema.now) (document_meant document.now) → IsValidDocument (schema_tree schema.now) (document_meant document.now) → WithinBounds (unplaced_document (document_meant document.now)) → diagnostics_of list.new ≡ diagnostics_of list.old) }
+    ensures told { OnOk result (TypedDocumentTold (schema_tree schema.now) (document_meant document.now) (diagnostics_of list.old) (diagnostics_of list.new)) }
+    ensures silent { OnOk result (SilenceMeansValid (schema_tree schema.now) (document_meant document.now) (diagnostics_of list.old) (diagnostics_of list.new)) }
+    ensures accepts { OnOk result (ValidMeansSilence (schema_tree schema.now) (document_meant document.now) (diagnostics_of list.old) (diagnostics_of list.new)) }
     ensures begins { OnErr result (BeginsAs (diagnostics_of list.old) (diagnostics_of list.new)) }
 {
     fragments_differ(document);

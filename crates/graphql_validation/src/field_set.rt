@@ -3,15 +3,12 @@ ghost use Rattle.std.specs.Prelude.{◌≡◌, None, IfOk, OnErr, OnOk};
 ghost use Rattle.graphql_names.specs.Placed.{Place};
 ghost use Rattle.graphql_schema.specs.SchemaOf.{schema_tree};
 ghost use Rattle.rule_document_definitions.specs.FieldSets.{document_of_set};
-ghost use Rattle.rule_document_definitions.specs.Verdict.{FieldSetWithinBounds};
-ghost use Rattle.rule_document_definitions.specs.Told.{IsValidFieldSet};
 ghost use Rattle.graphql_faults.specs.DetailsView.{diagnostics_of, BeginsAs};
-ghost use Rattle.document_meaning.specs.Unplaced.{unplaced_set};
 ghost use Rattle.rule_subscriptions.specs.Told.{document_meant};
 ghost use Rattle.document_typed_operations.specs.TypedDocument.{typed_operation_tree};
 ghost use Rattle.document_typed_selections.specs.TypedTree.{typed_set_tree};
 ghost use Rattle.graphql_validation.specs.Operations.{query_on};
-ghost use Rattle.graphql_validation.specs.Told.{set_meant, IsTypedSet, FieldSetTold};
+ghost use Rattle.graphql_validation.specs.Told.{set_meant, TypedFieldSetTold, SilenceMeansValidSet, ValidSetMeansSilence};
 
 use crate::told::append_all;
 use crate::under_schema::faults_under;
@@ -60,9 +57,9 @@ pub fn validate_field_set(
     schema: &Schema,
     field_set: &FieldSet,
 ) -> Result<(), AllocError>
-    ensures told { OnOk result (IsTypedSet (schema_tree schema.now) (set_meant field_set.now) → FieldSetTold (schema_tree schema.now) (set_meant field_set.now) (diagnostics_of list.old) (diagnostics_of list.new)) }
-    ensures silent { OnOk result (IsTypedSet (schema_tree schema.now) (set_meant field_set.now) → diagnostics_of list.new ≡ diagnostics_of list.old → IsValidFieldSet (schema_tree schema.now) (set_meant field_set.now)) }
-    ensures accepts { OnOk result (IsTypedSet (schema_tree schema.now) (set_meant field_set.now) → IsValidFieldSet (schema_tree schema.now) (set_meant field_set.now) → FieldSetWithinBounds (unplaced_set (set_meant field_set.now)) → diagnostics_of list.new ≡ diagnostics_of list.old) }
+    ensures told { OnOk result (TypedFieldSetTold (schema_tree schema.now) (set_meant field_set.now) (diagnostics_of list.old) (diagnostics_of list.new)) }
+    ensures silent { OnOk result (SilenceMeansValidSet (schema_tree schema.now) (set_meant field_set.now) (diagnostics_of list.old) (diagnostics_of list.new)) }
+    ensures accepts { OnOk result (ValidSetMeansSilence (schema_tree schema.now) (set_meant field_set.now) (diagnostics_of list.old) (diagnostics_of list.new)) }
     ensures begins { OnErr result (BeginsAs (diagnostics_of list.old) (diagnostics_of list.new)) }
 {
     let document = document_of_set(alloc, field_set)?;

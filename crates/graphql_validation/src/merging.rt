@@ -1,13 +1,11 @@
 //! Whether the fields of operations merge.
-ghost use Rattle.std.specs.Prelude.{◌≡◌, ◌↔◌, ◌++◌, [], false, map, Contains, IsTrue, OnOk, OnErr};
-ghost use Rattle.rule_document_definitions.specs.Merging.{FieldsMerge};
-ghost use Rattle.rule_document_definitions.specs.Selected.{operations};
+ghost use Rattle.std.specs.Prelude.{◌≡◌, ◌↔◌, ◌++◌, [], false, map, IsTrue, OnOk, OnErr};
 ghost use Rattle.graphql_faults.specs.DetailsView.{diagnostics_of, BeginsAs};
 ghost use Rattle.rule_reach.specs.Broken.{brokens_of};
 ghost use Rattle.rule_definitions.specs.Judged.{judged};
 ghost use Rattle.graphql_schema.specs.SchemaOf.{schema_tree};
 ghost use Rattle.rule_subscriptions.specs.Told.{document_meant, operation_meant};
-ghost use Rattle.graphql_validation.specs.Merged.{MergingTold, AreSettledIf, limit_told, conflicts_told};
+ghost use Rattle.graphql_validation.specs.Merged.{AreSettledIf, limit_told, conflicts_told};
 ghost use Rattle.graphql_validation.specs.Told.{of_document};
 
 use crate::told::{Breach, append_breaches};
@@ -44,7 +42,7 @@ impl Drop for FieldsInSetCanMerge<'_> {
 }
 
 impl<'doc> FieldsInSetCanMerge<'doc> {
-    ghost use Rattle.graphql_validation.specs.Merger.{merger_of, IsCountedMerger};
+    ghost use Rattle.graphql_validation.specs.Merger.{merger_of, IsCountedMerger, MergerTold, SilenceMeansMerging, StaysCleanInSilence, StaysCounted};
 
     /// A clean value, for the operations of the document.
     pub fn new(
@@ -89,14 +87,14 @@ impl<'doc> FieldsInSetCanMerge<'doc> {
         operation: &'doc Node<Operation>,
         list: &mut DiagnosticList,
     ) -> Result<(), AllocError>
-        ensures told { OnOk result (MergingTold (merger_of self.old).schema (merger_of self.old).document (operation_meant operation.now) (diagnostics_of list.old) (diagnostics_of list.new)) }
-        ensures merged { OnOk result (IsTrue (merger_of self.old).is_clean → diagnostics_of list.new ≡ diagnostics_of list.old → FieldsMerge (merger_of self.old).schema (merger_of self.old).document (operation_meant operation.now)) }
-        ensures clean { OnOk result (IsTrue (merger_of self.new).is_clean ↔ (IsTrue (merger_of self.old).is_clean × (diagnostics_of list.new ≡ diagnostics_of list.old))) }
+        ensures told { OnOk result (MergerTold (merger_of self.old) (operation_meant operation.now) (diagnostics_of list.old) (diagnostics_of list.new)) }
+        ensures merged { OnOk result (SilenceMeansMerging (merger_of self.old) (operation_meant operation.now) (diagnostics_of list.old) (diagnostics_of list.new)) }
+        ensures clean { OnOk result (StaysCleanInSilence (merger_of self.old) (merger_of self.new) (diagnostics_of list.old) (diagnostics_of list.new)) }
         ensures refused { OnErr result ((merger_of self.new).is_clean ≡ false) }
         ensures begins { OnErr result (BeginsAs (diagnostics_of list.old) (diagnostics_of list.new)) }
         ensures schema { (merger_of self.new).schema ≡ (merger_of self.old).schema }
         ensures document { (merger_of self.new).document ≡ (merger_of self.old).document }
-        ensures counted { Contains (operations (merger_of self.old).document) (operation_meant operation.now) → IsCountedMerger (merger_of self.old) → IsCountedMerger (merger_of self.new) }
+        ensures counted { StaysCounted (merger_of self.old) (merger_of self.new) (operation_meant operation.now) }
     {
         let was_clean = self.is_clean;
         self.is_clean = false;

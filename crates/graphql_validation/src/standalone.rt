@@ -1,12 +1,8 @@
 //! Every rule on a document without a schema.
-ghost use Rattle.std.specs.Prelude.{◌≡◌, OnErr, OnOk};
-ghost use Rattle.document_meaning.specs.Unplaced.{unplaced_document};
-ghost use Rattle.rule_document_definitions.specs.Verdict.{WithinBounds};
-ghost use Rattle.rule_document_definitions.specs.Told.{IsValidAlone};
+ghost use Rattle.std.specs.Prelude.{OnErr, OnOk};
 ghost use Rattle.graphql_faults.specs.DetailsView.{diagnostics_of, BeginsAs};
-ghost use Rattle.rule_fragment_cycles.specs.Used.{AreUnderOwnNames};
 ghost use Rattle.rule_subscriptions.specs.Told.{document_meant};
-ghost use Rattle.graphql_validation.specs.Told.{AloneTold};
+ghost use Rattle.graphql_validation.specs.Told.{NamedAloneTold, SilenceMeansValidAlone, ValidAloneMeansSilence};
 
 use crate::alone::{deferred_breaches, faults_alone};
 use crate::found::fragments_differ;
@@ -26,9 +22,9 @@ pub fn validate_standalone_executable(
     list: &mut DiagnosticList,
     document: &ExecutableDocument,
 ) -> Result<(), AllocError>
-    ensures told { OnOk result (AreUnderOwnNames (document_meant document.now) → AloneTold (document_meant document.now) (diagnostics_of list.old) (diagnostics_of list.new)) }
-    ensures silent { OnOk result (AreUnderOwnNames (document_meant document.now) → diagnostics_of list.new ≡ diagnostics_of list.old → IsValidAlone (document_meant document.now)) }
-    ensures accepts { OnOk result (AreUnderOwnNames (document_meant document.now) → IsValidAlone (document_meant document.now) → WithinBounds (unplaced_document (document_meant document.now)) → diagnostics_of list.new ≡ diagnostics_of list.old) }
+    ensures told { OnOk result (NamedAloneTold (document_meant document.now) (diagnostics_of list.old) (diagnostics_of list.new)) }
+    ensures silent { OnOk result (SilenceMeansValidAlone (document_meant document.now) (diagnostics_of list.old) (diagnostics_of list.new)) }
+    ensures accepts { OnOk result (ValidAloneMeansSilence (document_meant document.now) (diagnostics_of list.old) (diagnostics_of list.new)) }
     ensures begins { OnErr result (BeginsAs (diagnostics_of list.old) (diagnostics_of list.new)) }
 {
     fragments_differ(document);
