@@ -6,7 +6,8 @@ use Rattle.document_typing.specs.OutDoc.{written_document}
 use Rattle.document_meaning.specs.MeantTree.{MeantDocument}
 use Rattle.verdict_definitions.specs.Texts.{Text, Tree, Terms, ReadsText, document_number}
 use Rattle.verdict_definitions.specs.Judge.{schema_of, schema_at_hand, document_over, AreSchemasAccepted, IsDocumentAccepted}
-use Rattle.verdict_definitions.specs.Out.{Out, OutDoc}
+use Rattle.verdict_definitions.specs.Out.{Out, OutDoc, Layout}
+use Rattle.verdict_definitions.specs.Answer.{WritesDocument}
 
 -- a checker: its terms, the schema texts that it was given in order, and whether memory ran out
 pub record CheckerValue : Type 0 where
@@ -41,6 +42,10 @@ pub record IsCheckedDocumentOf (schema : CheckedSchemaValue) (text : Text) (docu
   pub accepted : IsDocumentAccepted schema.schema schema.nesting schema.number text
   pub is : document ≡ document_over schema.schema accepted.judged.tree
   pub written : written_document document ≡ OutDoc accepted.judged.tree
+
+-- This is the text of the checked document under the layout.
+abbrev pub WritesCheckedDocument : Layout → CheckedDocumentValue → List ℕ → Type 0
+WritesCheckedDocument layout document written = WritesDocument layout document.schema.number document.text written
 
 -- The schema is that of some accepted texts.
 pub record IsOfAcceptedTexts (schema : CheckedSchemaValue) : Type 0 where

@@ -4,6 +4,7 @@ pub mod Refusals
 pub mod CheckerAnswers
 pub mod Verdicts
 pub mod Run
+pub mod Called
 pub mod Unread
 pub mod Added
 pub mod TextsView

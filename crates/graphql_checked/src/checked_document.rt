@@ -4,9 +4,8 @@ ghost use Rattle.std.specs.Prelude.{◌≡◌, IfOk, string_bytes};
 ghost use Rattle.document_typed_operations.specs.TypedDocument.{typed_document_tree};
 ghost use Rattle.document_typing.specs.DocumentView.{meant_document};
 ghost use Rattle.checker_layouts.specs.Layouts.{prefix_of};
-ghost use Rattle.verdict_definitions.specs.Answer.{WritesDocument};
 ghost use Rattle.graphql_checked.specs.CheckedView.{schema_value, document_value};
-ghost use Rattle.graphql_checked.specs.CheckerValue.{IsCheckedDocumentOf};
+ghost use Rattle.graphql_checked.specs.CheckerValue.{IsCheckedDocumentOf, WritesCheckedDocument};
 
 use crate::checked_schema::CheckedSchema;
 use checker_layouts::{Layout, written};
@@ -61,7 +60,7 @@ impl<'s> CheckedDocument<'s> {
     /// The text of the document under the layout: its operations, one without a name first, and then its fragments, each in
     /// the order read.
     pub fn written(&self, layout: Layout<'_>) -> Result<String, AllocError>
-        ensures { IfOk result (λ text. WritesDocument (prefix_of layout.entry) (document_value self.now).schema.number (document_value self.now).text (string_bytes text)) }
+        ensures { IfOk result (λ text. WritesCheckedDocument (prefix_of layout.entry) (document_value self.now) (string_bytes text)) }
     {
         let schema = self.schema;
         let document = self.document.to_ast(schema.alloc)?;

@@ -8,7 +8,8 @@ ghost use Rattle.checker_layouts.specs.Layouts.{prefix_of};
 ghost use Rattle.verdict_definitions.specs.Judge.{IsCertain};
 ghost use Rattle.graphql_checked.specs.CheckedView.{schema_value, document_value};
 ghost use Rattle.graphql_checked.specs.CheckerValue.{IsCheckedSchemaOf};
-ghost use Rattle.graphql_checked.specs.Run.{TellCertain, IsAnswerToCertain, WritesAnswer, RunFaultIsDue, IsAnswerTo, AcceptsOrFails, IsWrittenAnswer, IsAnswerOfRefusal};
+ghost use Rattle.graphql_checked.specs.Run.{TellCertain, IsAnswerToCertain, IsAnswerTo, AcceptsOrFails, IsWrittenAnswer, IsAnswerOfRefusal};
+ghost use Rattle.graphql_checked.specs.Called.{IsAnswered, Arises};
 ghost use Rattle.graphql_checked.specs.Verdicts.{first_terms};
 
 use crate::checked_document::CheckedDocument;
@@ -38,10 +39,8 @@ pub fn run<R: Read, D: Read, W: Write>(
     requires schemas_run { HaveNotFailed schemas.old }
     requires document_runs { device_failed document.old ≡ false }
     requires out_runs { device_failed out.old ≡ false }
-    ensures answers { IfOk result (WritesAnswer R.remaining D.remaining W.contents (prefix_of layout.entry) (first_terms limits.nesting)
-        schemas.old document.old out.old out.new) }
-    ensures fault { IfErr result (RunFaultIsDue R.remaining D.remaining W.contents (prefix_of layout.entry) (first_terms limits.nesting)
-        schemas.old schemas.new document.old document.new out.old out.new) }
+    ensures answers { IfOk result (IsAnswered R.remaining D.remaining W.contents layout.entry limits schemas.old document.old out.old out.new) }
+    ensures fault { IfErr result (Arises R.remaining D.remaining W.contents layout.entry limits schemas.old schemas.new document.old document.new out.old out.new) }
     ensures complete { TellCertain R.remaining D.remaining (first_terms limits.nesting) schemas.old document.old → IsAnswerToCertain result }
     ensures schemas_running { OnOk result (HaveNotFailed schemas.new) }
     ensures document_running { OnOk result (device_failed document.new ≡ false) }
