@@ -4,6 +4,7 @@ pub mod Laws
 pub mod Trees
 pub mod Alone
 pub mod UseFaults
+pub mod AddedFaults
 pub mod Steps
 -- The crates beneath, for those above.
 pub use Rattle.rule_values.specs.in_rule_definitions as in_rule_definitions

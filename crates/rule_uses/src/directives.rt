@@ -11,9 +11,10 @@ ghost use Rattle.rule_values.specs.in_schema.SchemaOf.{schema_tree};
 ghost use Rattle.rule_values.specs.in_fault_data.FaultView.{fault_of, faults_of};
 ghost use Rattle.rule_values.specs.in_rule_definitions.Words.{AtSomeIndex};
 ghost use Rattle.rule_values.specs.in_rule_definitions.Judged.{judged};
-ghost use Rattle.rule_values.specs.in_rule_definitions.Uses.{directive_name, UseBreaks, UsesBreak};
+ghost use Rattle.rule_values.specs.in_rule_definitions.Uses.{directive_name, UseBreaks};
 ghost use Rattle.rule_values.specs.in_fault_data.Adds.{Adds};
 ghost use Rattle.rule_values.specs.Wanting.{variables_of};
+ghost use Rattle.rule_uses.specs.AddedFaults.{AddsUsesFaults};
 ghost use Rattle.rule_uses.specs.Trees.{directives_of, inputs_of, no_schema, tree_of};
 ghost use Rattle.rule_uses.specs.UseFaults.{undefined_directive, unsupported_location, directive_again, repeated_directive};
 ghost use Rattle.rule_uses.specs.Alone.{DirectiveAloneBreaks, DirectivesAloneBreak};
@@ -198,7 +199,7 @@ pub fn check_uses(
     variables: &DefinedVariables<'_>,
     faults: &mut Vec<Fault>,
 ) -> Result<(), AllocError>
-    ensures { OnOk result (Adds faults.old faults.new (UsesBreak (place_at (schema_tree schema.now)) (judged (schema_tree schema.now)) (variables_of variables.now) location (directives_of directives.now))) }
+    ensures { OnOk result (AddsUsesFaults (schema_tree schema.now) (variables_of variables.now) location (directives_of directives.now) faults.old faults.new) }
 {
     tell_repeated_directives(schema, directives, faults)?;
     check_each_use(schema, directives, location, variables, faults)
@@ -248,7 +249,7 @@ fn check_undefined_uses(
     variables: &DefinedVariables<'_>,
     faults: &mut Vec<Fault>,
 ) -> Result<(), AllocError>
-    ensures { OnOk result ((location : DirectiveLocation) → Adds faults.old faults.new (UsesBreak (place_at no_schema) (judged no_schema) (variables_of variables.now) location (directives_of directives.now))) }
+    ensures { OnOk result ((location : DirectiveLocation) → AddsUsesFaults no_schema (variables_of variables.now) location (directives_of directives.now) faults.old faults.new) }
 {
     for directive in directives {
         check_undefined_use(directive, variables, faults)?;
@@ -264,7 +265,7 @@ pub fn check_directives(
     variables: &DefinedVariables<'_>,
     faults: &mut Vec<Fault>,
 ) -> Result<(), AllocError>
-    ensures { OnOk result (Adds faults.old faults.new (UsesBreak (place_at (tree_of schema.entry)) (judged (tree_of schema.entry)) (variables_of variables.now) location (directives_of directives.now))) }
+    ensures { OnOk result (AddsUsesFaults (tree_of schema.entry) (variables_of variables.now) location (directives_of directives.now) faults.old faults.new) }
 {
     match schema {
         None => check_undefined_uses(directives, variables, faults),

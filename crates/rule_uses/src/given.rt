@@ -1,21 +1,20 @@
 //! Arguments that are given, defined or not.
 ghost use Rattle.std.specs.Prelude.{◌≡◌, ◌++◌, ◌⊎◌, map, find, IfOk, OnOk, option_to_list};
 ghost use Rattle.std.specs.Option.{option_map};
-ghost use Rattle.graphql_names.specs.Placed.{Place, node_tree};
+ghost use Rattle.graphql_names.specs.Placed.{node_tree};
 ghost use Rattle.tree_directives.specs.DirectiveTree.{argument_tree};
 ghost use Rattle.tree_directives.specs.DirectiveQueries.{argument_has_name};
 ghost use Rattle.schema_components.specs.Lists.{each_place};
-ghost use Rattle.rule_values.specs.in_schema.in_schema_types.Addresses.{Address};
 ghost use Rattle.rule_values.specs.in_fault_data.FaultView.{fault_of, faults_of};
-ghost use Rattle.rule_values.specs.in_rule_definitions.Uses.{argument_name, GivenBreaks};
+ghost use Rattle.rule_values.specs.in_rule_definitions.Uses.{argument_name};
 ghost use Rattle.rule_values.specs.in_fault_data.Adds.{Adds};
 ghost use Rattle.rule_values.specs.Firsts.{AreNumbers};
 ghost use Rattle.rule_values.specs.Wanting.{variables_of};
+ghost use Rattle.rule_uses.specs.AddedFaults.{AddsGivenFaults};
 ghost use Rattle.rule_uses.specs.Trees.{arguments_of};
 ghost use Rattle.rule_uses.specs.UseFaults.{argument_again, repeated_argument};
 ghost use Rattle.rule_uses.specs.Alone.{KeysBreak, ArgumentsBreak};
 ghost use Rattle.rule_uses.specs.Steps.{VariablesGivenBreak};
-ghost use Rattle.rule_values.specs.in_rule_definitions.Judged.{Judged};
 
 use graphql_names::{Name, Node, SourceSpan};
 use indexmap::IndexMap;
@@ -137,7 +136,7 @@ pub fn check_given(
     variables: &DefinedVariables<'_>,
     faults: &mut Vec<Fault>,
 ) -> Result<(), AllocError>
-    ensures { OnOk result ((at : Address → Place) (s : Judged) → Adds faults.old faults.new (GivenBreaks at s (variables_of variables.now) (arguments_of given.now))) }
+    ensures { OnOk result (AddsGivenFaults (variables_of variables.now) (arguments_of given.now) faults.old faults.new) }
 {
     check_arguments_alone(given, faults)?;
     check_variables_given(given, variables, faults)

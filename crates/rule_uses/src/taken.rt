@@ -4,26 +4,25 @@ ghost use Rattle.std.specs.List.{flat_map};
 ghost use Rattle.std.specs.Option.{option_map};
 ghost use Rattle.indexmap.specs.IndexMap.{get};
 ghost use Rattle.graphql_names.specs.Node.{content, place};
-ghost use Rattle.graphql_names.specs.Placed.{Place, node_tree};
+ghost use Rattle.graphql_names.specs.Placed.{node_tree};
 ghost use Rattle.tree_literals.specs.ValueTree.{value_tree};
 ghost use Rattle.tree_directives.specs.DirectiveTree.{argument_tree, input_value_tree};
 ghost use Rattle.tree_directives.specs.DirectiveQueries.{input_value_has_name, given_value};
 ghost use Rattle.schema_components.specs.Names.{same_text};
 ghost use Rattle.rule_values.specs.in_schema.in_schema_types.TypeView.{name_text};
-ghost use Rattle.rule_values.specs.in_schema.in_schema_types.Addresses.{Address};
 ghost use Rattle.rule_values.specs.in_schema.SchemaOf.{schema_tree};
 ghost use Rattle.rule_values.specs.in_fault_data.FaultView.{fault_of, faults_of};
 ghost use Rattle.rule_values.specs.in_fault_data.DiagnosticView.{plain_type};
 ghost use Rattle.rule_values.specs.in_rule_definitions.Diagnostics.{UndefinedArgument, RequiredArgument};
 ghost use Rattle.rule_values.specs.in_rule_definitions.Faults.{wrong};
 ghost use Rattle.rule_values.specs.in_rule_definitions.Words.{AtSomeIndex};
-ghost use Rattle.rule_values.specs.in_rule_definitions.Judged.{judged};
 ghost use Rattle.rule_values.specs.in_rule_definitions.Values.{is_absent_or_null};
-ghost use Rattle.rule_values.specs.in_rule_definitions.Uses.{argument_name, input_name, TakerBreaks};
+ghost use Rattle.rule_values.specs.in_rule_definitions.Uses.{argument_name, input_name};
 ghost use Rattle.rule_values.specs.in_fault_data.Adds.{Adds};
 ghost use Rattle.rule_values.specs.Firsts.{AreNumbers};
 ghost use Rattle.rule_values.specs.Wanting.{variables_of};
-ghost use Rattle.rule_uses.specs.Trees.{arguments_of, inputs_of, taker_of, coordinate_of, argument_coordinate_of, TellsPlaces};
+ghost use Rattle.rule_uses.specs.AddedFaults.{AddsTakerFaults};
+ghost use Rattle.rule_uses.specs.Trees.{arguments_of, inputs_of, taker_of, coordinate_of, argument_coordinate_of};
 ghost use Rattle.rule_uses.specs.UseFaults.{undefined_argument, required_argument};
 ghost use Rattle.rule_uses.specs.Steps.{GivenArgumentBreaks, DefinedArgumentBreaks, FirstGivenBreaks};
 
@@ -249,7 +248,7 @@ pub fn check_taken(
     variables: &DefinedVariables<'_>,
     faults: &mut Vec<Fault>,
 ) -> Result<(), AllocError>
-    ensures { OnOk result ((at : Address → Place) → TellsPlaces at (schema_tree schema.now) taker.now → Adds faults.old faults.new (TakerBreaks at (judged (schema_tree schema.now)) (variables_of variables.now) (taker_of taker.now))) }
+    ensures { OnOk result (AddsTakerFaults (schema_tree schema.now) (variables_of variables.now) taker.now faults.old faults.new) }
 {
     let alloc = *faults.allocator();
     let given = argument_numbers(alloc, taker.given)?;
