@@ -1,21 +1,17 @@
 -- Fields that a selection set makes: of a name, with the definition on the type of the set (GraphQL, October 2021, sections 2.5 and 5.3.1).
-use Rattle.std.specs.Prelude.{ℕ, List, [], Option, None}
+use Rattle.std.specs.Prelude.{ℕ, List, Option}
 use Rattle.std.specs.Option.{option_map}
 use Rattle.graphql_names.specs.Placed.{Placed, Place, Text}
-use Rattle.document_typing.specs.in_literals.TypeQueries.{inner_name}
 use Rattle.schema_types.specs.in_type_members.TypeSystemTree.{FieldDefinitionTree}
 use Rattle.schema_components.specs.Given.{Given}
 use Rattle.schema_types.specs.SchemaTree.{SchemaTree}
 use Rattle.document_typing.specs.in_schema.LookUps.{FieldIsMissing}
-use Rattle.document_typed_selections.specs.TypedTree.{TypedSelection, TypedField, typed_set, no_typed}
+use Rattle.document_typed_selections.specs.TypedTree.{TypedSelection}
+use Rattle.document_typed_selections.specs.TypedParts.{bare_field}
 use Rattle.graphql_documents.specs.declared.new_field_error.NewFieldError.{NewFieldError}
 use Rattle.graphql_documents.specs.declared.new_field_error.NewFieldError.TheVariants.{Lookup, Memory}
 
--- name, a field of this definition, its set empty on the type inside that of the definition
-abbrev pub bare_field : Text Place → Placed Place (FieldDefinitionTree Place) → TypedSelection Place
-bare_field n d = TypedField None d (record { alias = None; name = n; arguments = []; directives = [] }) (typed_set (inner_name d.it.ty) no_typed)
-
--- the same of the field that a type has, if it has one
+-- name, a field of the definition that a type has, if it has one
 abbrev pub bare_field_of : Text Place → Option (Given Place (Placed Place (FieldDefinitionTree Place))) → Option (TypedSelection Place)
 bare_field_of n found = option_map (λ d. bare_field n d.it) found
 
