@@ -5,13 +5,13 @@
 README.md or docs/*.md leads to no file; a name that reads as a crate of the repository is not in crates.txt; one in backticks that
 reads as a file (`name.rt`, `Name.antt`, `name.rows`, `name.edit`, `name.py`) is the name of no file; a name in the first column of
 docs/DEFINITIONS.md is none of `specs/`; docs/PROMISES.md or docs/MAP.md says nothing of a crate of crates.txt; a line of a clause
-that README.md or docs/HEADLINE.md quotes does not stand in the source.
+that README.md or docs/HEADLINE.md quotes does not stand in the source; a public clause is longer than 160 characters.
 
 What reads as a crate: a word that begins with `graphql_`; one that begins as the crates of an area do (`tree_`, `read_`, ..), if the
 sources have nothing else of that name, neither an item, a definition nor a file; and, whatever it begins with, a name in backticks
 in a heading of docs/PROMISES.md, or in a column of a table whose head has the word crate or crates.
 
-How many public clauses are longer than 160 characters is told, and is no fault. --clauses prints them, the longest first.
+--clauses prints the clauses that are too long, the longest first.
 """
 import os
 import re
@@ -156,7 +156,8 @@ def main(words):
     if "--clauses" in words:
         print("\n".join(f"{length} characters: {where}" for length, where in clauses))
         return 0
-    print("\n".join(wrong + [f"warning: {len(clauses)} public clauses over {CHARACTERS} characters (--clauses lists them)"]))
+    wrong += [f"{where}: {length} characters, more than {CHARACTERS}" for length, where in clauses]
+    print("".join(f"{line}\n" for line in wrong), end="")
     print(f"pages: {len(pages())} pages, README of {lines} lines, {len(wrong)} wrong")
     return 1 if wrong and "--check" in words else 0
 
