@@ -16,8 +16,8 @@ use Rattle.rule_document_definitions.proofs.Stable.{merge_if_nothing_breaks}
 use Rattle.rule_merging.specs.Examined.{Breaches}
 use Rattle.rule_merging.specs.Verdict.{ExaminesOperation}
 use Rattle.rule_merging.specs.declared.operation.Examined.{Examined}
-use Rattle.rule_reach.specs.Broken.{brokens_of}
-use Rattle.rule_reach.proofs.Bridge.{from_map}
+use Rattle.rule_document_ground.specs.Broken.{brokens_of}
+use Rattle.rule_document_ground.proofs.Bridge.{from_map}
 use Rattle.graphql_validation.specs.Merged.{MergingFailsAt, AreSettledIf, limit_told, conflicts_told}
 use Rattle.graphql_validation.specs.Told.{Telling, of_document}
 use Rattle.graphql_validation.proofs.Telling.{breaches_told, nothing_told, told_nothing}

@@ -10,8 +10,8 @@ use Rattle.rule_document_definitions.specs.Fragments.{ReachesItself, UnusedFragm
 use Rattle.rule_document_definitions.specs.Limits.{SpreadBoundFails}
 use Rattle.rule_document_definitions.specs.Reached.{AtOperation}
 use Rattle.rule_document_definitions.specs.Told.{places_alone}
-use Rattle.rule_fragment_cycles.specs.Used.{IsUsed, AreUsed}
-use Rattle.rule_fragment_cycles.specs.Told.{Answers}
+use Rattle.rule_fragments.specs.Used.{IsUsed, AreUsed}
+use Rattle.rule_fragments.specs.Told.{Answers}
 use Rattle.graphql_validation.specs.Operations.{ReachesNamed, NotesNames, FragmentsTold, TellsData}
 
 module _ (d : MeantDocument Place) where

@@ -14,7 +14,7 @@ use Rattle.rule_document_definitions.specs.Reached.{ReachesFragment}
 use Rattle.rule_document_definitions.specs.Verdict.{FieldSetWithinBounds}
 use Rattle.rule_document_definitions.specs.Told.{PlacedDocumentFault, SetRulesFail, IsValidFieldSet}
 use Rattle.rule_document_definitions.proofs.Verdicts.{set_valid_where_nothing_is_told, set_within_bounds_where_nothing_is_told}
-use Rattle.rule_fragment_cycles.specs.Used.{AreUnderOwnNames}
+use Rattle.rule_fragments.specs.Used.{AreUnderOwnNames}
 use Rattle.rule_selections.proofs.Typing.{field_set_reaches_typed}
 use Rattle.document_typing.specs.Meanings.{meanings}
 use Rattle.schema_types.specs.Plain.{plain}

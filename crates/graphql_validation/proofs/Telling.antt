@@ -11,7 +11,7 @@ use Rattle.graphql_faults.specs.DetailsTree.{of_rule}
 use Rattle.rule_document_definitions.specs.DocumentFaults.{Broken, OfData, OfDocument, OfLimit}
 use Rattle.rule_document_definitions.specs.Told.{PlacedDocumentFault}
 use Rattle.rule_definitions.proofs.Lists.{not_in_nil, only}
-use Rattle.rule_reach.proofs.Bridge.{from_map, to_map}
+use Rattle.rule_document_ground.proofs.Bridge.{from_map, to_map}
 use Rattle.graphql_validation.specs.Operations.{bound_told, all_told}
 use Rattle.graphql_validation.specs.Told.{Telling, of_document}
 

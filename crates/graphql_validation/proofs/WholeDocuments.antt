@@ -22,7 +22,7 @@ use Rattle.rule_document_definitions.specs.Told.{PlacedDocumentFault, DocumentFa
 use Rattle.rule_document_definitions.specs.Verdict.{WithinBounds}
 use Rattle.rule_document_definitions.proofs.MergingFacts.{merging_breaks_nothing}
 use Rattle.rule_document_definitions.proofs.Verdicts.{valid_where_nothing_is_told, within_bounds_where_nothing_is_told}
-use Rattle.rule_fragment_cycles.specs.Used.{AreUnderOwnNames, IsUsed}
+use Rattle.rule_fragments.specs.Used.{AreUnderOwnNames, IsUsed}
 use Rattle.rule_selections.proofs.Typing.{document_reaches_typed}
 use Rattle.rule_subscriptions.specs.Nested.{NestsTooDeep}
 use Rattle.rule_subscriptions.specs.Told.{AreAlike}

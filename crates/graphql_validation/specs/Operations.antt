@@ -25,11 +25,11 @@ use Rattle.rule_document_definitions.specs.Variables.{VariablesBreak, UniqueVari
 use Rattle.rule_document_definitions.specs.Fragments.{ReachesItself, UndefinedFragmentAt, UnusedFragmentAt, InvalidFragmentTargetAt, InvalidFragmentSpreadAt, FragmentsBreak}
 use Rattle.rule_document_definitions.specs.Standalone.{GivenInBreaks, OperationBreaksAlone}
 use Rattle.rule_document_definitions.specs.Told.{PlacedDocumentFault, places_in, places_alone}
-use Rattle.rule_reach.specs.Broken.{brokens_of}
+use Rattle.rule_document_ground.specs.Broken.{brokens_of}
 use Rattle.rule_selections.specs.Typed.{ReachesTyped}
 use Rattle.rule_subscriptions.specs.Told.{AreAlike}
-use Rattle.rule_fragment_cycles.specs.Told.{Answers, TellsCycles}
-use Rattle.rule_fragment_cycles.specs.Used.{IsUsed}
+use Rattle.rule_fragments.specs.Told.{Answers, TellsCycles}
+use Rattle.rule_fragments.specs.Used.{IsUsed}
 
 module _ (d : MeantDocument Place) (o : MeantOperation Place) where
   -- a rule without a schema fails so in an operation, that on fragments that reach themselves aside

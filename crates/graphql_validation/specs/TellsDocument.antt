@@ -15,7 +15,7 @@ use Rattle.rule_document_definitions.specs.Selected.{operations}
 use Rattle.rule_document_definitions.specs.Subscriptions.{SubscriptionBreaks}
 use Rattle.rule_document_definitions.specs.Told.{PlacedDocumentFault, DocumentFails, DocumentMergingFails, DocumentBoundFails, IsValidDocument}
 use Rattle.rule_document_definitions.specs.Verdict.{WithinBounds}
-use Rattle.rule_fragment_cycles.specs.Used.{IsUsed}
+use Rattle.rule_fragments.specs.Used.{IsUsed}
 use Rattle.rule_subscriptions.specs.Nested.{NestsTooDeep}
 use Rattle.rule_subscriptions.specs.Told.{AreAlike}
 use Rattle.graphql_validation.specs.Operations.{OperationFails}

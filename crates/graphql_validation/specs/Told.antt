@@ -17,8 +17,8 @@ use Rattle.rule_document_definitions.specs.DocumentRules.{DeferredBreaks}
 use Rattle.rule_document_definitions.specs.Told.{PlacedDocumentFault, SetRulesFail, SetBoundFails, DocumentBoundFails, DocumentFailsAlone, IsValidFieldSet, IsValidAlone}
 use Rattle.rule_document_definitions.specs.Verdict.{WithinBounds, FieldSetWithinBounds}
 use Rattle.graphql_faults.specs.DetailsTree.{DetailsAt, DocumentBuild, RecursionLimitError, of_rule}
-use Rattle.rule_fragment_cycles.specs.Used.{IsUsed, AreUnderOwnNames}
-use Rattle.rule_fragment_cycles.specs.Told.{Answers}
+use Rattle.rule_fragments.specs.Used.{IsUsed, AreUnderOwnNames}
+use Rattle.rule_fragments.specs.Told.{Answers}
 use Rattle.graphql_validation.specs.Operations.{OperationFailsAlone}
 
 -- what a list tells, in order

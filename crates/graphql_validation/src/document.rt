@@ -8,7 +8,7 @@ ghost use Rattle.rule_document_definitions.specs.Merging.{FieldsMerge};
 ghost use Rattle.rule_document_definitions.specs.Selected.{operations};
 ghost use Rattle.fault_data.specs.FaultView.{faults_of};
 ghost use Rattle.graphql_faults.specs.DetailsView.{diagnostics_of, BeginsAs};
-ghost use Rattle.rule_reach.specs.Broken.{brokens_of};
+ghost use Rattle.rule_document_ground.specs.Broken.{brokens_of};
 ghost use Rattle.rule_subscriptions.specs.Told.{document_meant};
 ghost use Rattle.graphql_validation.specs.Merged.{DocumentMergingTold};
 ghost use Rattle.graphql_validation.specs.TellsDocument.{TypedDocumentTold, SilenceMeansValid, ValidMeansSilence};

@@ -4,9 +4,9 @@ ghost use Rattle.std.specs.List.{IsDistinct};
 ghost use Rattle.std.specs.Map.{keys_of};
 ghost use Rattle.std.specs.Str.{bytes_eq};
 ghost use Rattle.indexmap.specs.IndexSet.{insert_key};
-ghost use Rattle.rule_reach.specs.Reach.{reached_fragments_of};
+ghost use Rattle.rule_document_ground.specs.Reach.{reached_fragments_of};
 ghost use Rattle.fault_data.specs.FaultView.{faults_of};
-ghost use Rattle.rule_fragment_cycles.specs.Used.{AreUnderOwnNames, AreUsed, names_of};
+ghost use Rattle.rule_fragments.specs.Used.{AreUnderOwnNames, AreUsed, names_of};
 ghost use Rattle.rule_subscriptions.specs.Told.{document_meant};
 ghost use Rattle.graphql_validation.specs.Operations.{with_fragments, FragmentsTold};
 
@@ -14,8 +14,8 @@ use document_typed_operations::ExecutableDocument;
 use fault_data::Fault;
 use graphql_names::Name;
 use indexmap::IndexSet;
-use rule_fragment_cycles::{check_cycles, check_unused};
-use rule_reach::Reach;
+use rule_document_ground::Reach;
+use rule_fragments::{check_cycles, check_unused};
 use std::alloc::{AllocError, Global};
 
 /// The faults that were found so far, and the names of the fragments that the operations so far reach.

@@ -5,7 +5,7 @@
 //! aside. What breaks a rule is a predicate named after its variant, in `rule_document_definitions`.
 //!
 //! The rules stand in inner crates side by side: `rule_variables`, `rule_selections`, `rule_fragments`,
-//! `rule_fragment_cycles`, `rule_subscriptions`; what an operation reaches is found once, by `rule_reach`. Fields are merged
+//! `rule_fragments`, `rule_subscriptions`; what an operation reaches is found once, by `rule_document_ground`. Fields are merged
 //! by `rule_merging`, operation by operation (`merging.rt`). Begin with `document.rt`, `field_set.rt` and `standalone.rt`.
 #![tactic(auto)]
 

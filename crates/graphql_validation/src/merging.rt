@@ -1,7 +1,7 @@
 //! Whether the fields of operations merge.
 ghost use Rattle.std.specs.Prelude.{◌≡◌, ◌↔◌, ◌++◌, [], false, map, IsTrue, OnOk, OnErr};
 ghost use Rattle.graphql_faults.specs.DetailsView.{diagnostics_of, BeginsAs};
-ghost use Rattle.rule_reach.specs.Broken.{brokens_of};
+ghost use Rattle.rule_document_ground.specs.Broken.{brokens_of};
 ghost use Rattle.rule_definitions.specs.Judged.{judged};
 ghost use Rattle.graphql_schema.specs.SchemaOf.{schema_tree};
 ghost use Rattle.rule_subscriptions.specs.Told.{document_meant, operation_meant};

@@ -5,4 +5,4 @@ pub mod Shaped
 pub mod ShapesTold
 pub mod Lists
 -- For the layer above.
-pub use Rattle.rule_field_selections.proofs as in_field_selections
+pub use Rattle.rule_document_ground.proofs as in_ground

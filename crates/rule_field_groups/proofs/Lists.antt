@@ -17,9 +17,9 @@ use Rattle.document_meaning.specs.MeantTree.{MeantSet, MeantFragment, MeantOpera
 use Rattle.rule_document_definitions.specs.Selected.{StandingField, InOperation}
 use Rattle.rule_document_definitions.specs.Contents.{ContentBelow}
 use Rattle.rule_document_definitions.proofs.Unplaced.{contains_map, contains_unmap}
-use Rattle.rule_field_selections.specs.Fields.{field_of, fields_of, content_of, AddsFieldsOf}
-use Rattle.rule_field_selections.specs.declared.field_selection.FieldSelection.{FieldSelection}
-use Rattle.rule_field_selections.proofs.ContentEquality.{selection_eq, selection_eq-Decides}
+use Rattle.rule_document_ground.specs.Fields.{field_of, fields_of, content_of, AddsFieldsOf}
+use Rattle.rule_document_ground.specs.declared.field_selection.FieldSelection.{FieldSelection}
+use Rattle.rule_document_ground.proofs.ContentEquality.{selection_eq, selection_eq-Decides}
 use Rattle.rule_merging_laws.specs.Contents.{PlainField, unplaced_content}
 use Rattle.rule_field_groups.specs.Below.{contents_of, AreStarting, AreStartingWith, AreBelow, IsDistinctOf, IsMerged}
 

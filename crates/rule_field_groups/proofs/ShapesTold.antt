@@ -7,8 +7,8 @@ use Rattle.tree_literals.specs.declared.ty.«Type».{«Type»}
 use Rattle.document_typed_selections.specs.declared.selection.Field.{Field}
 use Rattle.rule_definitions.specs.Judged.{Judged}
 use Rattle.rule_document_definitions.specs.Merging.{SameShape}
-use Rattle.rule_field_selections.specs.Fields.{field_of}
-use Rattle.rule_field_selections.specs.declared.field_selection.FieldSelection.{FieldSelection}
+use Rattle.rule_document_ground.specs.Fields.{field_of}
+use Rattle.rule_document_ground.specs.declared.field_selection.FieldSelection.{FieldSelection}
 use Rattle.rule_field_groups.specs.Shapes.{same_type}
 use Rattle.rule_field_groups.proofs.Shaped.{same_type-Decides}
 

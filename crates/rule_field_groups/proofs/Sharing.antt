@@ -13,8 +13,8 @@ use Rattle.rule_definitions.specs.Judged.{Judged}
 use Rattle.rule_document_definitions.specs.Selected.{StandingField, response_key}
 use Rattle.rule_document_definitions.specs.Merging.{IsAbstract}
 use Rattle.rule_document_definitions.proofs.Unplaced.{contains_map, contains_unmap}
-use Rattle.rule_field_selections.specs.Fields.{field_of, fields_of}
-use Rattle.rule_field_selections.specs.declared.field_selection.FieldSelection.{FieldSelection}
+use Rattle.rule_document_ground.specs.Fields.{field_of, fields_of}
+use Rattle.rule_document_ground.specs.declared.field_selection.FieldSelection.{FieldSelection}
 use Rattle.rule_merging_laws.specs.Sharing.{AreKeyGroups, AreShareGroups, IsOn}
 use Rattle.rule_field_groups.specs.Compared.{compared}
 use Rattle.rule_field_groups.specs.Kinds.{is_abstract}

@@ -12,10 +12,10 @@ use Rattle.rule_document_definitions.specs.DocumentFaults.{Broken}
 use Rattle.rule_document_definitions.specs.Selected.{StandingField}
 use Rattle.rule_document_definitions.specs.Groups.{AgreeWithHead}
 use Rattle.rule_document_definitions.proofs.Unplaced.{contains_map}
-use Rattle.rule_same_values.proofs.Equivalences.{arguments_refl}
-use Rattle.rule_reach.specs.Broken.{broken_of, brokens_of}
-use Rattle.rule_field_selections.specs.Fields.{field_of, fields_of}
-use Rattle.rule_field_selections.specs.declared.field_selection.FieldSelection.{FieldSelection}
+use Rattle.rule_document_ground.proofs.Equivalences.{arguments_refl}
+use Rattle.rule_document_ground.specs.Broken.{broken_of, brokens_of}
+use Rattle.rule_document_ground.specs.Fields.{field_of, fields_of}
+use Rattle.rule_document_ground.specs.declared.field_selection.FieldSelection.{FieldSelection}
 use Rattle.rule_field_groups.specs.declared.pass.Pass.{Pass}
 use Rattle.rule_field_groups.specs.declared.pass.Pass.TheVariants.{Shapes, Selections}
 use Rattle.rule_field_groups.specs.Passes.{Agree, Conflict, Compares, TellsGroup, AddsGroup}

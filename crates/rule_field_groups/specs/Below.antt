@@ -5,10 +5,10 @@ use Rattle.schema_components.specs.Names.{Entries}
 use Rattle.document_meaning.specs.MeantTree.{MeantSet, MeantOperation, MeantFragment, MeantDocument}
 use Rattle.rule_document_definitions.specs.Selected.{StandingField}
 use Rattle.rule_document_definitions.specs.Contents.{ContentBelow, ContentStarts}
-use Rattle.rule_field_selections.specs.Fields.{fields_of, content_of}
+use Rattle.rule_document_ground.specs.Fields.{fields_of, content_of}
 use Rattle.rule_merging_laws.specs.Contents.{PlainField, unplaced_content}
 use Rattle.rule_cycle_search.specs.Paths.{HasNoRepeat}
-use Rattle.rule_field_selections.specs.declared.field_selection.FieldSelection.{FieldSelection}
+use Rattle.rule_document_ground.specs.declared.field_selection.FieldSelection.{FieldSelection}
 
 -- what the fields of a list say
 abbrev pub contents_of : List FieldSelection → List PlainField

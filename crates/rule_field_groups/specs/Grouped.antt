@@ -11,8 +11,8 @@ use Rattle.graphql_names.specs.NameValue.{NameValue}
 use Rattle.rule_definitions.specs.Judged.{Judged}
 use Rattle.rule_document_definitions.specs.Selected.{response_key}
 use Rattle.rule_document_definitions.specs.Merging.{IsAbstract}
-use Rattle.rule_field_selections.specs.Fields.{field_of}
-use Rattle.rule_field_selections.specs.declared.field_selection.FieldSelection.{FieldSelection}
+use Rattle.rule_document_ground.specs.Fields.{field_of}
+use Rattle.rule_document_ground.specs.declared.field_selection.FieldSelection.{FieldSelection}
 use Rattle.rule_field_groups.specs.Kinds.{is_abstract}
 
 -- what stands under a name, none if there is no entry

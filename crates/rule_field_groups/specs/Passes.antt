@@ -11,7 +11,7 @@ use Rattle.rule_document_definitions.specs.DocumentFaults.{Broken, broken}
 use Rattle.rule_document_definitions.specs.Selected.{StandingField, field_name, response_key}
 use Rattle.rule_document_definitions.specs.Groups.{AgreeWithHead}
 use Rattle.rule_document_definitions.specs.Merging.{SameKey, MayShare, SameShape, SameName, SameArgument, SameNameAndArguments, telling, telling_argument}
-use Rattle.rule_reach.specs.Broken.{broken_of, brokens_of}
+use Rattle.rule_document_ground.specs.Broken.{broken_of, brokens_of}
 use Rattle.rule_field_groups.specs.declared.pass.Pass.{Pass}
 use Rattle.rule_field_groups.specs.declared.pass.Pass.TheVariants.{Shapes, Selections}
 

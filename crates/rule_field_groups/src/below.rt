@@ -2,13 +2,13 @@
 ghost use Rattle.std.specs.Prelude.{IfOk};
 ghost use Rattle.document_typed_selections.specs.TypedTree.{typed_set_tree};
 ghost use Rattle.document_meaning.specs.MeantTree.{meant_of_set};
-ghost use Rattle.rule_field_selections.specs.Fields.{fields_of, meant_fragments};
+ghost use Rattle.rule_document_ground.specs.Fields.{fields_of, meant_fragments};
 ghost use Rattle.rule_field_groups.specs.Below.{AreStartingWith, AreBelow, IsDistinctOf, IsMerged};
 
 use document_typed_operations::FragmentMap;
 use document_typed_selections::SelectionSet;
 use indexmap::IndexSet;
-use rule_field_selections::{FieldSelection, push_fields};
+use rule_document_ground::{FieldSelection, push_fields};
 use std::alloc::{AllocError, Global};
 
 /// What the fields of a group select, through fragments, all of it.

@@ -6,8 +6,8 @@ ghost use Rattle.graphql_schema.specs.SchemaOf.{schema_tree};
 ghost use Rattle.rule_definitions.specs.Judged.{judged};
 ghost use Rattle.rule_document_definitions.specs.Merging.{SameShape, SameName, SameNameAndArguments};
 ghost use Rattle.rule_document_definitions.specs.SameValues.{SameArguments, plain_given};
-ghost use Rattle.rule_reach.specs.Broken.{broken_of};
-ghost use Rattle.rule_field_selections.specs.Fields.{field_of, fields_of};
+ghost use Rattle.rule_document_ground.specs.Broken.{broken_of};
+ghost use Rattle.rule_document_ground.specs.Fields.{field_of, fields_of};
 ghost use Rattle.rule_field_groups.specs.Passes.{TypesConflict, NamesConflict, ArgumentsConflict, SelectionsConflict, Compares, AddsGroup, coordinate_of, coordinate_of_argument, type_conflict, name_conflict, argument_conflict};
 ghost use Rattle.rule_field_groups.specs.Compared.{compared, compared_once};
 
@@ -18,9 +18,7 @@ use fault_document_data::{
 };
 use graphql_names::{Name, SourceSpan, copies_of_three};
 use graphql_schema::Schema;
-use rule_field_selections::FieldSelection;
-use rule_reach::tell_breach;
-use rule_same_values::differing_argument;
+use rule_document_ground::{FieldSelection, differing_argument, tell_breach};
 use schema_coordinates::{FieldArgumentCoordinate, TypeAttributeCoordinate};
 use std::alloc::{AllocError, Global};
 use tree_literals::Value;

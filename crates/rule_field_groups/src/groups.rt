@@ -8,7 +8,7 @@ ghost use Rattle.schema_types.specs.TypeView.{name_text};
 ghost use Rattle.graphql_schema.specs.SchemaOf.{schema_tree};
 ghost use Rattle.rule_definitions.specs.Judged.{judged};
 ghost use Rattle.rule_document_definitions.specs.Groups.{AreGroups};
-ghost use Rattle.rule_field_selections.specs.Fields.{fields_of};
+ghost use Rattle.rule_document_ground.specs.Fields.{fields_of};
 ghost use Rattle.rule_merging_laws.specs.Sharing.{AreShareGroups};
 ghost use Rattle.rule_field_groups.specs.Compared.{compared};
 ghost use Rattle.rule_field_groups.specs.Passes.{Together};
@@ -19,7 +19,7 @@ use crate::pass::Pass;
 use graphql_names::Name;
 use graphql_schema::Schema;
 use indexmap::{IndexMap, IndexSet};
-use rule_field_selections::FieldSelection;
+use rule_document_ground::FieldSelection;
 use std::alloc::{AllocError, Global};
 
 /// Adds a field behind those under the name.

@@ -22,4 +22,4 @@ pub use below::{list_below, starting_list};
 pub use conflicts::{Breach, check_group};
 pub use groups::groups_of;
 pub use pass::Pass;
-pub use rule_field_selections::FieldSelection;
+pub use rule_document_ground::FieldSelection;

@@ -7,3 +7,9 @@ pub mod Objects
 pub mod Sharing
 pub mod Applying
 pub mod Spread
+pub mod Named
+pub mod UnusedTold
+pub mod ReferenceFacts
+pub mod Sets
+pub mod SpreadBridge
+pub mod CyclesTold

@@ -17,8 +17,8 @@ use Rattle.rule_document_definitions.specs.Fragments.{MayApply, InvalidFragmentT
 use Rattle.rule_document_definitions.specs.Told.{places_in, place_or_built_in}
 use Rattle.rule_definitions.proofs.Listing.{present_known}
 use Rattle.rule_definitions.proofs.Listing.{Lists, lists_same, lists_nothing, lists_unless, lists_index, Gains, gains_list, gains_both}
-use Rattle.rule_reach.specs.Reach.{Member, IsReach}
-use Rattle.rule_reach.proofs.AtReaches.{at_reached}
+use Rattle.rule_document_ground.specs.Reach.{Member, IsReach}
+use Rattle.rule_document_ground.proofs.AtReaches.{at_reached}
 use Rattle.rule_fragments.specs.Possible.{ArePossible, may_apply}
 use Rattle.rule_fragments.specs.Applied.{ApplicationTree, spread_told, application_fault, invalid_fragment_spread}
 use Rattle.rule_fragments.specs.declared.possible_types.PossibleTypes.{PossibleTypes}

@@ -22,8 +22,8 @@ use Rattle.rule_definitions.specs.Words.{Present}
 use Rattle.rule_document_definitions.specs.Selected.{selection_place, inline_condition, own}
 use Rattle.rule_document_definitions.specs.Fragments.{IsNoCompositeType, IsNotComposite, InvalidFragmentTargetAt}
 use Rattle.rule_definitions.proofs.Listing.{Lists, lists_same, lists_present, lists_when, lists_index, Gains, gains_list, gains_both}
-use Rattle.rule_reach.specs.Reach.{Member, IsReach}
-use Rattle.rule_reach.proofs.AtReaches.{at_reached, at_reached_fragment}
+use Rattle.rule_document_ground.specs.Reach.{Member, IsReach}
+use Rattle.rule_document_ground.proofs.AtReaches.{at_reached, at_reached_fragment}
 use Rattle.rule_fragments.specs.Listed.{is_no_composite, invalid_fragment_target, fragment_target, inline_target}
 use Rattle.rule_fragments.proofs.Members.{no_inline, the_inline}
 

@@ -18,8 +18,8 @@ use Rattle.rule_definitions.specs.Words.{Present}
 use Rattle.rule_document_definitions.specs.Selected.{selection_place, spread_name, fragment_named, own}
 use Rattle.rule_document_definitions.specs.Fragments.{UndefinedFragmentAt}
 use Rattle.rule_definitions.proofs.Listing.{Lists, lists_same, lists_present, lists_absent, lists_index}
-use Rattle.rule_reach.specs.Reach.{Member, IsReach}
-use Rattle.rule_reach.proofs.AtReaches.{at_reached}
+use Rattle.rule_document_ground.specs.Reach.{Member, IsReach}
+use Rattle.rule_document_ground.proofs.AtReaches.{at_reached}
 use Rattle.rule_fragments.specs.Listed.{undefined_fragment}
 use Rattle.rule_fragments.proofs.Members.{no_spread, the_spread}
 

@@ -9,7 +9,7 @@ use Rattle.document_meaning.specs.MeantTree.{MeantSelection, MeantField, MeantSp
 use Rattle.rule_definitions.specs.Diagnostics.{InvalidFragmentSpread}
 use Rattle.rule_definitions.specs.Faults.{wrong}
 use Rattle.rule_definitions.specs.Told.{PlacedFault}
-use Rattle.rule_reach.specs.Reach.{Member}
+use Rattle.rule_document_ground.specs.Reach.{Member}
 use Rattle.rule_fragments.specs.Possible.{may_apply}
 use Rattle.rule_fragments.specs.declared.applications.Application.{Application}
 use Rattle.rule_fragments.specs.declared.possible_types.PossibleTypes.{PossibleTypes}

@@ -2,3 +2,11 @@ pub mod Listed
 pub mod Possible
 pub mod Noting
 pub mod Applied
+pub mod Used
+pub mod Unused
+pub mod References
+pub mod SpreadNumbers
+pub mod SpreadViews
+pub mod SpreadGraph
+pub mod CycleFaults
+pub mod Told

@@ -12,7 +12,7 @@ ghost use Rattle.fault_data.specs.Adds.{Adds};
 ghost use Rattle.rule_definitions.specs.Judged.{judged};
 ghost use Rattle.rule_document_definitions.specs.Fragments.{InvalidFragmentTargetAt, InvalidFragmentSpreadAt};
 ghost use Rattle.rule_document_definitions.specs.Told.{places_in};
-ghost use Rattle.rule_reach.specs.Reach.{Reaches, meant_fragments, reached_members};
+ghost use Rattle.rule_document_ground.specs.Reach.{Reaches, meant_fragments, reached_members};
 ghost use Rattle.rule_fragments.specs.Possible.{ArePossible};
 ghost use Rattle.rule_fragments.specs.Applied.{application_tree, application_in, invalid_fragment_spread, spread_told};
 
@@ -24,7 +24,7 @@ use document_typed_selections::{FragmentSpread, InlineFragment, Selection};
 use fault_data::{DiagnosticData, Fault, tell};
 use graphql_names::{Name, Node, SourceSpan};
 use graphql_schema::Schema;
-use rule_reach::Reach;
+use rule_document_ground::Reach;
 use std::alloc::AllocError;
 
 /// A fragment where it stands: by its name, or inline with a condition.

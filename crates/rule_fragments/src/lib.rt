@@ -1,19 +1,31 @@
-//! Rules on the fragments that an operation reaches (section 5.5): each that is spread is there, each is on a composite type,
-//! and each can apply where it stands.
+//! The rules on fragments, and the bound on ways of spreads (section 5.5).
 //!
-//! For the layers above: each check adds exactly the faults by which the rules of its name break, over what the operation
-//! reaches in a document (`Fragments.antt` of `rule_document_definitions`). `PossibleTypes` is made once for a schema:
-//! `ArePossible` (`Possible.antt`) says that it has, under each type's name, the objects that values of the type can be.
+//! Of the fragments that an operation reaches: each that is spread is there, each is on a composite type, and each can apply
+//! where it stands. Of the fragments of a document: each is reached by an operation, and none spreads itself.
 //!
-//! Begin with `spreads.rt`, then `targets.rt`, `possible_types.rt` and `applications.rt`.
+//! For the layers above: each check adds exactly the faults by which the rules of its name break (`Fragments.antt` and
+//! `Limits.antt` of `rule_document_definitions`). `PossibleTypes` is made once for a schema: `ArePossible` (`Possible.antt`)
+//! says that it has, under each type's name, the objects that values of the type can be. `check_unused` tells each fragment
+//! that no operation reaches; `check_cycles` each fragment that an operation reaches and that spreads itself, or that the
+//! bound is passed (`specs/Told.antt`). Both take the names of the fragments that the operations reach. There fragments are
+//! numbers, and `rule_cycle_search` finds the ways of spreads from each back to it.
+//!
+//! Begin with `spreads.rt`, then `targets.rt`, `possible_types.rt` and `applications.rt`; and with `unused.rt` and `cycles.rt`.
 #![tactic(auto)]
 
 mod applications;
+mod cycle_faults;
+mod cycles;
 mod names;
 mod possible_types;
+mod references;
+mod spread_graph;
 mod spreads;
 mod targets;
+mod unused;
 
 pub use applications::check_applications;
+pub use cycles::check_cycles;
 pub use possible_types::PossibleTypes;
 pub use spreads::check_spreads;
+pub use unused::check_unused;

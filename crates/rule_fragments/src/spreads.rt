@@ -6,13 +6,13 @@ ghost use Rattle.document_meaning.specs.MeantTree.{MeantOperation, MeantDocument
 ghost use Rattle.fault_data.specs.FaultView.{fault_of};
 ghost use Rattle.fault_data.specs.Adds.{Adds};
 ghost use Rattle.rule_document_definitions.specs.Fragments.{UndefinedFragmentAt};
-ghost use Rattle.rule_reach.specs.Reach.{Reaches, meant_fragments};
+ghost use Rattle.rule_document_ground.specs.Reach.{Reaches, meant_fragments};
 ghost use Rattle.rule_fragments.specs.Listed.{undefined_fragment};
 
 use document_typed_operations::FragmentMap;
 use document_typed_selections::Selection;
 use fault_data::{DiagnosticData, Fault, tell};
-use rule_reach::Reach;
+use rule_document_ground::Reach;
 use std::alloc::AllocError;
 
 /// UndefinedFragment: a fragment that is spread is there (section 5.5.2.1).

@@ -11,7 +11,7 @@ ghost use Rattle.fault_data.specs.FaultView.{fault_of, faults_of};
 ghost use Rattle.fault_data.specs.Adds.{Adds};
 ghost use Rattle.rule_definitions.specs.Judged.{judged};
 ghost use Rattle.rule_document_definitions.specs.Fragments.{InvalidFragmentTargetAt};
-ghost use Rattle.rule_reach.specs.Reach.{Reaches, reached_members, reached_fragments_of};
+ghost use Rattle.rule_document_ground.specs.Reach.{Reaches, reached_members, reached_fragments_of};
 ghost use Rattle.rule_fragments.specs.Listed.{is_no_composite, invalid_fragment_target, fragment_target, inline_target};
 
 use crate::names::copied_name;
@@ -20,7 +20,7 @@ use document_typed_selections::Selection;
 use fault_data::{DiagnosticData, Fault, tell};
 use graphql_names::{Name, Node, SourceSpan};
 use graphql_schema::Schema;
-use rule_reach::Reach;
+use rule_document_ground::Reach;
 use std::alloc::AllocError;
 
 /// Whether the type of that name is there and is no object, interface or union.

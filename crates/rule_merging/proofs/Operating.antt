@@ -10,8 +10,8 @@ use Rattle.document_typed_operations.specs.declared.document.ExecutableDocument.
 use Rattle.document_meaning.specs.MeantTree.{MeantOperation, MeantDocument, meant_of_set}
 use Rattle.rule_definitions.specs.Judged.{Judged}
 use Rattle.rule_document_definitions.specs.DocumentFaults.{Broken}
-use Rattle.rule_field_groups.specs.in_field_selections.Fields.{meant_fragments}
-use Rattle.rule_field_groups.specs.in_field_selections.declared.field_selection.FieldSelection.{FieldSelection}
+use Rattle.rule_field_groups.specs.in_ground.Fields.{meant_fragments}
+use Rattle.rule_field_groups.specs.in_ground.declared.field_selection.FieldSelection.{FieldSelection}
 use Rattle.rule_merging_laws.proofs.Merges.{fields_merge}
 use Rattle.rule_field_groups.specs.declared.pass.Pass.TheVariants.{Shapes, Selections}
 use Rattle.rule_merging.specs.declared.operation.Examined.{Examined}

@@ -6,9 +6,9 @@ use Rattle.std.specs.declared.alloc.Global.{Global}
 use Rattle.std.proofs.lemmas.List.{map-append}
 use Rattle.indexmap.specs.IndexSet.{insert_key}
 use Rattle.rule_document_definitions.proofs.Unplaced.{contains_map, contains_unmap}
-use Rattle.rule_field_groups.specs.in_field_selections.Fields.{content_of}
-use Rattle.rule_field_groups.specs.in_field_selections.declared.field_selection.FieldSelection.{FieldSelection}
-use Rattle.rule_field_groups.proofs.in_field_selections.ContentEquality.{selection_eq, selection_eq-Decides}
+use Rattle.rule_field_groups.specs.in_ground.Fields.{content_of}
+use Rattle.rule_field_groups.specs.in_ground.declared.field_selection.FieldSelection.{FieldSelection}
+use Rattle.rule_field_groups.proofs.in_ground.ContentEquality.{selection_eq, selection_eq-Decides}
 use Rattle.rule_merging_laws.specs.Contents.{PlainField}
 use Rattle.rule_field_groups.specs.Below.{contents_of}
 use Rattle.rule_field_groups.proofs.Lists.{any_among, none_among}

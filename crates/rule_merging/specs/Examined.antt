@@ -15,9 +15,9 @@ use Rattle.rule_document_definitions.specs.Groups.{AgreeWithHead, AreGroups}
 use Rattle.rule_document_definitions.specs.Contents.{ContentBelow}
 use Rattle.rule_document_definitions.specs.Merging.{MergingBreaks}
 use Rattle.rule_document_definitions.specs.Limits.{PassesChainBound}
-use Rattle.rule_field_groups.specs.in_reach.Broken.{brokens_of}
-use Rattle.rule_field_groups.specs.in_field_selections.Fields.{fields_of}
-use Rattle.rule_field_groups.specs.in_field_selections.declared.field_selection.FieldSelection.{FieldSelection}
+use Rattle.rule_field_groups.specs.in_ground.Broken.{brokens_of}
+use Rattle.rule_field_groups.specs.in_ground.Fields.{fields_of}
+use Rattle.rule_field_groups.specs.in_ground.declared.field_selection.FieldSelection.{FieldSelection}
 use Rattle.rule_merging_laws.specs.Contents.{PlainField, PlainBelow, PlainStarts, unplaced_content}
 use Rattle.rule_merging_laws.specs.Settled.{HasStart, IsSettled, IsUnderWay}
 use Rattle.rule_field_groups.specs.Passes.{Together, Agree, Conflict, TellsGroup}

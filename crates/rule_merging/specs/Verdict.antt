@@ -11,7 +11,7 @@ use Rattle.rule_definitions.specs.Judged.{Judged}
 use Rattle.rule_document_definitions.specs.DocumentFaults.{Broken}
 use Rattle.rule_document_definitions.specs.Merging.{FieldsMerge, MergingBreaks}
 use Rattle.rule_document_definitions.specs.Limits.{PassesChainBound}
-use Rattle.rule_field_groups.specs.in_reach.Broken.{brokens_of}
+use Rattle.rule_field_groups.specs.in_ground.Broken.{brokens_of}
 use Rattle.rule_merging_laws.specs.Contents.{PlainField}
 use Rattle.rule_merging.specs.Counted.{IsCountedBy}
 use Rattle.rule_merging.specs.Remembered.{remembered}

@@ -1,6 +1,6 @@
 //! The examination of lists, level by level.
 ghost use Rattle.std.specs.Prelude.{◌≡◌, ◌≤◌, ◌+◌, ◌++◌, ◌∷◌, [], map, IfOk, OnOk};
-ghost use Rattle.rule_field_groups.specs.in_field_selections.Fields.{fields_of};
+ghost use Rattle.rule_field_groups.specs.in_ground.Fields.{fields_of};
 ghost use Rattle.rule_field_groups.specs.Grouped.{lists_of};
 ghost use Rattle.rule_field_groups.specs.Compared.{compared};
 ghost use Rattle.rule_merging.specs.Counted.{IsListed, AreListed, Grows};

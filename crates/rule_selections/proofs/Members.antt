@@ -18,8 +18,8 @@ use Rattle.document_typing.specs.TypedByPlace.{IsTyped}
 use Rattle.rule_definitions.specs.Words.{Present}
 use Rattle.rule_document_definitions.specs.Selected.{StandingField, selection_directives, selection_location}
 use Rattle.rule_definitions.proofs.Listing.{present_known}
-use Rattle.rule_reach.specs.Reach.{field_of}
-use Rattle.rule_reach.proofs.Bridge.{to_map}
+use Rattle.rule_document_ground.specs.Reach.{field_of}
+use Rattle.rule_document_ground.proofs.Bridge.{to_map}
 use Rattle.rule_selections.specs.Steps.{standing_field, IsDefined}
 
 -- ---- where its directives stand

@@ -19,8 +19,8 @@ use Rattle.rule_document_definitions.specs.Selections.{SelectionsBreak}
 use Rattle.rule_document_definitions.specs.Standalone.{UsesBreakAlone, GivenInBreaks}
 use Rattle.rule_document_definitions.specs.Told.{place_or_built_in, places_in, places_alone}
 use Rattle.rule_uses.specs.Alone.{ArgumentsBreak, DirectivesAloneBreak}
-use Rattle.rule_reach.specs.Reach.{Member, IsReach, field_of}
-use Rattle.rule_reach.proofs.AtReaches.{at_reached, at_reached_field, at_reached_fragment}
+use Rattle.rule_document_ground.specs.Reach.{Member, IsReach, field_of}
+use Rattle.rule_document_ground.proofs.AtReaches.{at_reached, at_reached_field, at_reached_fragment}
 use Rattle.rule_selections.specs.Steps.{MissesSubselection, ArgumentsOfBreak, SelectionBreaks, SelectionAloneBreaks}
 use Rattle.rule_selections.proofs.SameUses.{same_uses}
 

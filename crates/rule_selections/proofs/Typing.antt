@@ -5,8 +5,8 @@ use Rattle.document_typing.specs.Meanings.{Meanings}
 use Rattle.document_typing.specs.TypedByPlace.{IsTyped, IsSetOn, IsTypedDocument}
 use Rattle.rule_document_definitions.specs.Selected.{operations, own}
 use Rattle.rule_document_definitions.specs.FieldSets.{document_of_set}
-use Rattle.rule_reach.specs.Reach.{Member, IsReach}
-use Rattle.rule_reach.proofs.TypedReached.{typed_reached, typed_in_field_set}
+use Rattle.rule_document_ground.specs.Reach.{Member, IsReach}
+use Rattle.rule_document_ground.proofs.TypedReached.{typed_reached, typed_in_field_set}
 use Rattle.rule_selections.specs.Typed.{ReachesTyped}
 
 module _ {P : Type 0} (m : Meanings) where

@@ -29,7 +29,7 @@ use Rattle.rule_document_definitions.specs.Fragments.{IsCompositeType}
 use Rattle.rule_document_definitions.specs.Selections.{HasNone, field_taker}
 use Rattle.rule_document_definitions.specs.Told.{place_or_built_in, places_in}
 use Rattle.rule_uses.specs.Alone.{ArgumentsBreak, DirectivesAloneBreak}
-use Rattle.rule_reach.specs.Reach.{Member, field_of}
+use Rattle.rule_document_ground.specs.Reach.{Member, field_of}
 
 -- the field of a node, with nothing told of where it stands
 abbrev pub standing_field : NameValue → Node Field → StandingField Place

@@ -12,14 +12,14 @@ ghost use Rattle.document_typed_operations.specs.TypedDocument.{typed_fragment_t
 ghost use Rattle.document_typing.specs.DocumentView.{meant_by_operation};
 ghost use Rattle.rule_document_definitions.specs.Standalone.{GivenInBreaks};
 ghost use Rattle.rule_document_definitions.specs.Told.{places_alone};
-ghost use Rattle.rule_reach.specs.Reach.{reached_members, reached_fragments_of, Reaches};
+ghost use Rattle.rule_document_ground.specs.Reach.{reached_members, reached_fragments_of, Reaches};
 ghost use Rattle.rule_uses.specs.Alone.{DirectivesAloneBreak};
 ghost use Rattle.rule_selections.specs.Steps.{SelectionAloneBreaks};
 
 use document_typed_operations::{Fragment, Operation};
 use document_typed_selections::Selection;
 use graphql_names::Node;
-use rule_reach::Reach;
+use rule_document_ground::Reach;
 use rule_uses::{check_arguments_alone, check_directives_alone};
 use rule_values::Fault;
 use std::alloc::AllocError;

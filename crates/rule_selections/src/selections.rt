@@ -20,7 +20,7 @@ ghost use Rattle.document_typing.specs.TypedByPlace.{IsTyped};
 ghost use Rattle.rule_document_definitions.specs.Selected.{selection_location};
 ghost use Rattle.rule_document_definitions.specs.Selections.{SelectionsBreak};
 ghost use Rattle.rule_document_definitions.specs.Told.{places_in};
-ghost use Rattle.rule_reach.specs.Reach.{Member, reached_members, reached_fragments_of, Reaches};
+ghost use Rattle.rule_document_ground.specs.Reach.{Member, reached_members, reached_fragments_of, Reaches};
 ghost use Rattle.rule_selections.specs.Steps.{SelectionBreaks};
 ghost use Rattle.rule_selections.specs.Typed.{ReachesTyped};
 
@@ -28,7 +28,7 @@ use crate::fields::check_field;
 use document_typed_operations::{Fragment, Operation};
 use document_typed_selections::Selection;
 use graphql_names::Node;
-use rule_reach::Reach;
+use rule_document_ground::Reach;
 use rule_uses::check_uses;
 use rule_values::{DefinedVariables, Fault, Schema};
 use std::alloc::AllocError;

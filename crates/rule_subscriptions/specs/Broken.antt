@@ -1,9 +1,9 @@
--- What a rule tells; lists of breaches, and what a check adds to one, are those of `rule_reach`.
+-- What a rule tells; lists of breaches, and what a check adds to one, are those of `rule_document_ground`.
 use Rattle.std.specs.Prelude.{List, map, Option, option_to_list}
 use Rattle.graphql_names.specs.Placed.{Place}
 use Rattle.fault_document_data.specs.declared.build_error.BuildError.{BuildError}
 use Rattle.rule_document_definitions.specs.DocumentFaults.{Broken}
-pub use Rattle.rule_reach.specs.Broken.{broken_of, brokens_of, AddsBroken}
+pub use Rattle.rule_document_ground.specs.Broken.{broken_of, brokens_of, AddsBroken}
 
 -- what a rule tells, if it tells something
 abbrev pub told_by : Option (Place × BuildError) → List (Broken Place)

@@ -9,8 +9,8 @@ use Rattle.schema_types.specs.Addresses.{Address}
 use Rattle.rule_document_definitions.specs.Selected.{own}
 use Rattle.rule_document_definitions.specs.Reached.{AtReached, AtReachedFragment}
 use Rattle.rule_document_definitions.specs.Variables.{StandsInDirectives, StandsInSelection, IsUsedIn, UnusedVariableAt}
-use Rattle.rule_reach.specs.Reach.{Member, IsReach}
-use Rattle.rule_reach.proofs.AtReaches.{at_reached, at_reached_fragment}
+use Rattle.rule_document_ground.specs.Reach.{Member, IsReach}
+use Rattle.rule_document_ground.proofs.AtReaches.{at_reached, at_reached_fragment}
 use Rattle.rule_variables.specs.Parts.{places_with, VariablesBreakAlone}
 use Rattle.rule_variables.specs.UsedNames.{with_selection, with_directives, with_members, with_fragments, with_used}
 use Rattle.rule_variables.specs.VariableFaults.{UnusedAmong, AloneBreaks}

@@ -6,9 +6,9 @@ use Rattle.rule_definitions.specs.Words.{AtSomeIndex}
 use Rattle.rule_document_definitions.specs.Selected.{operations}
 use Rattle.rule_document_definitions.specs.Reached.{AtOperation}
 use Rattle.rule_document_definitions.specs.Defer.{DeferBreaks}
-use Rattle.rule_reach.specs.Broken.{AddsBroken}
-use Rattle.rule_reach.proofs.AddingBroken.{broken_none, broken_more, broken_same}
-use Rattle.rule_reach.proofs.AtReaches.{some_index}
+use Rattle.rule_document_ground.specs.Broken.{AddsBroken}
+use Rattle.rule_document_ground.proofs.AddingBroken.{broken_none, broken_more, broken_same}
+use Rattle.rule_document_ground.proofs.AtReaches.{some_index}
 use Rattle.rule_subscriptions.specs.Told.{document_meant, operation_meant}
 use Rattle.graphql_validation.proofs.Operations.{lent_operation, lent_operations, all_operations, one_behind, lent_more, lent_all}
 use Rattle.graphql_validation.proofs.alone.check_defers.Goals as goal

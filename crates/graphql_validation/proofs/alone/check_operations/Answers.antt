@@ -6,9 +6,9 @@ use Rattle.document_typed_operations.specs.OperationsByName.{left_operations}
 use Rattle.document_meaning.specs.MeantTree.{MeantOperation}
 use Rattle.rule_definitions.specs.Words.{AtSomeIndex}
 use Rattle.rule_document_definitions.specs.Selected.{operations}
-use Rattle.rule_fragment_cycles.specs.Used.{names_of}
+use Rattle.rule_fragments.specs.Used.{names_of}
 use Rattle.rule_definitions.proofs.Listing.{gains_none, gains_more, gains_same}
-use Rattle.rule_reach.proofs.AtReaches.{some_index}
+use Rattle.rule_document_ground.proofs.AtReaches.{some_index}
 use Rattle.rule_subscriptions.specs.Told.{document_meant, operation_meant}
 use Rattle.graphql_validation.specs.Operations.{OperationFailsAlone, ReachesNamed, NotesNames}
 use Rattle.graphql_validation.proofs.Noting.{notes_none, notes_more, notes_same}

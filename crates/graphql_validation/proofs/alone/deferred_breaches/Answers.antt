@@ -2,8 +2,8 @@ use Rattle.std.proofs.Common.{◌↔◌, ◌∙◌, ◌++◌, map, sym, ap, subs
 use Rattle.rule_document_definitions.specs.Defer.{DeferBreaks, LabelsBreak}
 use Rattle.rule_document_definitions.specs.DocumentRules.{DeferredBreaks}
 use Rattle.rule_document_definitions.specs.Reached.{AtOperation}
-use Rattle.rule_reach.specs.Broken.{broken_of}
-use Rattle.rule_reach.proofs.AddingBroken.{broken_both}
+use Rattle.rule_document_ground.specs.Broken.{broken_of}
+use Rattle.rule_document_ground.proofs.AddingBroken.{broken_both}
 use Rattle.rule_subscriptions.specs.Told.{document_meant}
 use Rattle.graphql_validation.proofs.alone.deferred_breaches.Goals as goal
 

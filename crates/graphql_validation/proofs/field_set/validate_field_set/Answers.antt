@@ -2,7 +2,7 @@ use Rattle.std.proofs.Common.{map, ap, subst}
 use Rattle.std.proofs.lemmas.Result.{on_ok_weaker}
 use Rattle.fault_data.specs.FaultView.{faults_of}
 use Rattle.graphql_faults.specs.DetailsView.{diagnostics_of}
-use Rattle.rule_reach.specs.Broken.{broken_of, brokens_of}
+use Rattle.rule_document_ground.specs.Broken.{broken_of, brokens_of}
 use Rattle.graphql_schema.specs.SchemaOf.{schema_tree}
 use Rattle.rule_subscriptions.specs.Told.{document_meant}
 use Rattle.graphql_validation.specs.Operations.{all_told}

@@ -2,7 +2,7 @@ use Rattle.std.proofs.Common.{map, ap, ◌∙◌}
 use Rattle.std.specs.Str.{bytes_eq}
 use Rattle.indexmap.specs.IndexSet.{insert_key}
 use Rattle.graphql_names.specs.NameValue.{NameValue}
-use Rattle.rule_fragment_cycles.specs.Used.{names_of}
+use Rattle.rule_fragments.specs.Used.{names_of}
 use Rattle.rule_variables.proofs.Names.{inserted}
 use Rattle.graphql_validation.proofs.found.note.Goals as goal
 

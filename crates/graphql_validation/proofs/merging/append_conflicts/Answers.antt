@@ -2,7 +2,7 @@ use Rattle.std.proofs.Common.{map}
 use Rattle.std.proofs.lemmas.Result.{on_ok_weaker}
 use Rattle.rule_document_definitions.specs.DocumentFaults.{OfDocument}
 use Rattle.graphql_faults.specs.DetailsView.{diagnostics_of}
-use Rattle.rule_reach.specs.Broken.{brokens_of}
+use Rattle.rule_document_ground.specs.Broken.{brokens_of}
 use Rattle.rule_subscriptions.specs.Told.{operation_meant}
 use Rattle.graphql_validation.specs.Told.{of_document}
 use Rattle.graphql_validation.proofs.Conflicts.{conflicts_in_turn}

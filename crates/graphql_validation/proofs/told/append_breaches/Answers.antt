@@ -4,7 +4,7 @@ use Rattle.graphql_names.specs.Placed.{Place}
 use Rattle.fault_document_data.specs.declared.build_error.BuildError.{BuildError}
 use Rattle.rule_document_definitions.specs.DocumentFaults.{OfDocument}
 use Rattle.graphql_faults.proofs.Growing.{grown_more, grown_all, grown_kept}
-use Rattle.rule_reach.specs.Broken.{broken_of}
+use Rattle.rule_document_ground.specs.Broken.{broken_of}
 use Rattle.graphql_validation.specs.Told.{of_document}
 use Rattle.graphql_validation.proofs.told.append_breaches.Goals as goal
 

@@ -2,7 +2,7 @@ use Rattle.std.proofs.Common.{◌≡◌, ◌++◌, length, map}
 use Rattle.std.specs.Vec.Iter.{into_iter_items, into_iter_len}
 use Rattle.rule_document_definitions.specs.DocumentFaults.{OfDocument}
 use Rattle.graphql_faults.specs.DetailsView.{diagnostics_of}
-use Rattle.rule_reach.specs.Broken.{broken_of}
+use Rattle.rule_document_ground.specs.Broken.{broken_of}
 use Rattle.graphql_validation.specs.Told.{of_document}
 use Rattle.graphql_validation.proofs.told.append_breaches.Given as goal
 

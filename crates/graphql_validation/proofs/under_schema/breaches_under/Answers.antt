@@ -1,4 +1,4 @@
-use Rattle.rule_reach.specs.Broken.{brokens_of}
+use Rattle.rule_document_ground.specs.Broken.{brokens_of}
 use Rattle.rule_subscriptions.specs.Told.{document_meant}
 use Rattle.graphql_validation.proofs.Subscribed.{tells_breaches}
 use Rattle.graphql_validation.proofs.under_schema.breaches_under.Goals as goal

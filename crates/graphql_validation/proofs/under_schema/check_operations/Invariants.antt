@@ -7,7 +7,7 @@ use Rattle.rule_definitions.specs.Judged.{judged}
 use Rattle.rule_document_definitions.specs.Selected.{operations}
 use Rattle.rule_fragments.specs.Possible.{ArePossible}
 use Rattle.rule_subscriptions.specs.Told.{document_meant, operation_meant}
-use Rattle.rule_fragment_cycles.specs.Used.{names_of}
+use Rattle.rule_fragments.specs.Used.{names_of}
 use Rattle.graphql_validation.specs.Operations.{OperationFails, AreReachesTyped, ReachesNamed, NotesNames}
 use Rattle.graphql_validation.proofs.Operations.{lent_operations}
 use Rattle.graphql_validation.proofs.under_schema.check_operations.Given as goal

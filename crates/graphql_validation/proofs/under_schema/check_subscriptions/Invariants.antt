@@ -1,7 +1,7 @@
 use Rattle.std.proofs.Common.{◌≡◌, ◌++◌, map}
 use Rattle.document_typed_operations.specs.OperationsByName.{left_operations}
 use Rattle.rule_document_definitions.specs.Selected.{operations}
-use Rattle.rule_fragment_cycles.specs.Used.{AreUnderOwnNames}
+use Rattle.rule_fragments.specs.Used.{AreUnderOwnNames}
 use Rattle.rule_subscriptions.specs.Told.{document_meant, operation_meant}
 use Rattle.graphql_validation.specs.Operations.{AddsSubscriptions}
 use Rattle.graphql_validation.proofs.Operations.{lent_operations}

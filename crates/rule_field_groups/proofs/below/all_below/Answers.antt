@@ -3,7 +3,7 @@ use Rattle.std.proofs.lemmas.List.{take_all}
 use Rattle.document_typed_selections.specs.TypedTree.{typed_set_tree}
 use Rattle.document_typed_selections.specs.declared.selection.Field.{Field}
 use Rattle.document_meaning.specs.MeantTree.{meant_of_set}
-use Rattle.rule_field_selections.specs.Fields.{fields_of, meant_fragments}
+use Rattle.rule_document_ground.specs.Fields.{fields_of, meant_fragments}
 use Rattle.rule_field_groups.specs.Below.{AreBelow}
 use Rattle.rule_field_groups.proofs.Lists.{below_step}
 use Rattle.rule_field_groups.proofs.below.all_below.Goals as goal

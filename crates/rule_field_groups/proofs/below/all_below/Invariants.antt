@@ -1,5 +1,5 @@
 use Rattle.std.proofs.Common.{take}
-use Rattle.rule_field_selections.specs.Fields.{fields_of, meant_fragments}
+use Rattle.rule_document_ground.specs.Fields.{fields_of, meant_fragments}
 use Rattle.rule_field_groups.specs.Below.{AreBelow}
 use Rattle.rule_field_groups.proofs.below.all_below.Given as goal
 

@@ -1,8 +1,8 @@
 use Rattle.std.proofs.Common.{Vec, subst}
 use Rattle.std.specs.declared.alloc.Global.{Global}
 use Rattle.std.proofs.lemmas.Result.{IfOk-weaker}
-use Rattle.rule_field_selections.specs.Fields.{fields_of, meant_fragments}
-use Rattle.rule_field_selections.specs.declared.field_selection.FieldSelection.{FieldSelection}
+use Rattle.rule_document_ground.specs.Fields.{fields_of, meant_fragments}
+use Rattle.rule_document_ground.specs.declared.field_selection.FieldSelection.{FieldSelection}
 use Rattle.rule_field_groups.specs.Below.{IsDistinctOf}
 use Rattle.rule_field_groups.proofs.Lists.{merged}
 use Rattle.rule_field_groups.proofs.below.list_below.Goals as goal

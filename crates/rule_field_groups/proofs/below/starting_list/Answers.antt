@@ -3,8 +3,8 @@ use Rattle.std.specs.declared.alloc.Global.{Global}
 use Rattle.std.proofs.lemmas.Result.{IfOk-weaker}
 use Rattle.document_typed_selections.specs.TypedTree.{typed_set_tree}
 use Rattle.document_meaning.specs.MeantTree.{meant_of_set}
-use Rattle.rule_field_selections.specs.Fields.{meant_fragments, AddsFieldsOf}
-use Rattle.rule_field_selections.specs.declared.field_selection.FieldSelection.{FieldSelection}
+use Rattle.rule_document_ground.specs.Fields.{meant_fragments, AddsFieldsOf}
+use Rattle.rule_document_ground.specs.declared.field_selection.FieldSelection.{FieldSelection}
 use Rattle.rule_field_groups.specs.Below.{IsDistinctOf}
 use Rattle.rule_field_groups.proofs.Lists.{starting}
 use Rattle.rule_field_groups.proofs.below.starting_list.Goals as goal

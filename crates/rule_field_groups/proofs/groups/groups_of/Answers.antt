@@ -4,7 +4,7 @@ use Rattle.std.proofs.lemmas.Result.{IfOk-weaker}
 use Rattle.graphql_schema.specs.SchemaOf.{schema_tree}
 use Rattle.rule_definitions.specs.Judged.{judged}
 use Rattle.rule_document_definitions.specs.Groups.{AreGroups}
-use Rattle.rule_field_selections.specs.Fields.{fields_of}
+use Rattle.rule_document_ground.specs.Fields.{fields_of}
 use Rattle.rule_merging_laws.proofs.SharingFacts.{key_groups, share_groups}
 use Rattle.rule_field_groups.specs.Compared.{compared}
 use Rattle.rule_field_groups.specs.Passes.{Together}

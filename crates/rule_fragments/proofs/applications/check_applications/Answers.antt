@@ -1,7 +1,7 @@
 use Rattle.std.proofs.lemmas.Result.{on_ok_weaker}
 use Rattle.graphql_schema.specs.SchemaOf.{schema_tree}
 use Rattle.fault_data.specs.FaultView.{faults_of}
-use Rattle.rule_reach.specs.Reach.{meant_fragments, reached_members, reached_fragments_of}
+use Rattle.rule_document_ground.specs.Reach.{meant_fragments, reached_members, reached_fragments_of}
 use Rattle.rule_fragments.proofs.Spread.{gains_applications}
 use Rattle.rule_fragments.proofs.applications.check_applications.Goals as goal
 

@@ -2,7 +2,7 @@ use Rattle.std.proofs.Common.{◌<◌, ◌++◌, map, length, ap, ◌∙◌, ari
 use Rattle.std.specs.List.{flat_map}
 use Rattle.graphql_schema.specs.SchemaOf.{schema_tree}
 use Rattle.fault_data.specs.FaultView.{faults_of}
-use Rattle.rule_reach.specs.Reach.{member_of, meant_fragments}
+use Rattle.rule_document_ground.specs.Reach.{member_of, meant_fragments}
 use Rattle.rule_fragments.specs.Applied.{invalid_fragment_spread}
 use Rattle.rule_fragments.proofs.Telling.{told_more, told_all}
 use Rattle.rule_fragments.proofs.applications.check_fragment_spreads.Goals as goal

@@ -5,7 +5,7 @@ use Rattle.document_typed_selections.specs.TypedTree.{typed_selection_tree}
 use Rattle.document_typed_selections.specs.declared.selection.FragmentSpread.{FragmentSpread}
 use Rattle.rule_definitions.specs.Diagnostics.{UndefinedFragment}
 use Rattle.rule_definitions.specs.Faults.{wrong}
-use Rattle.rule_reach.specs.Reach.{meant_fragments}
+use Rattle.rule_document_ground.specs.Reach.{meant_fragments}
 use Rattle.rule_fragments.proofs.Members.{known_under}
 use Rattle.rule_fragments.proofs.Undefined.{untold, known_untold, unknown_told}
 use Rattle.rule_fragments.proofs.spreads.undefined_fragment.Goals as goal

@@ -3,7 +3,7 @@ use Rattle.std.specs.List.{flat_map}
 use Rattle.graphql_names.specs.Placed.{Place}
 use Rattle.graphql_schema.specs.SchemaOf.{schema_tree}
 use Rattle.fault_data.specs.FaultView.{faults_of}
-use Rattle.rule_reach.specs.Reach.{Member, member_of}
+use Rattle.rule_document_ground.specs.Reach.{Member, member_of}
 use Rattle.rule_fragments.specs.Listed.{inline_target}
 use Rattle.rule_fragments.proofs.Telling.{told_more, told_all}
 use Rattle.rule_fragments.proofs.targets.check_inline_targets.Goals as goal

@@ -1,7 +1,7 @@
 use Rattle.std.proofs.Common.{◌||◌, sym, ap, subst, ◌∙◌}
 use Rattle.document_typing.specs.in_schema.SchemaOf.{schema_tree}
 use Rattle.rule_definitions.specs.Judged.{judged}
-use Rattle.rule_field_groups.specs.in_reach.Broken.{brokens_of}
+use Rattle.rule_field_groups.specs.in_ground.Broken.{brokens_of}
 use Rattle.rule_merging.specs.Counted.{IsListed}
 use Rattle.rule_field_groups.specs.Below.{contents_of, AreStarting}
 use Rattle.rule_merging.specs.Remembered.{remembered}

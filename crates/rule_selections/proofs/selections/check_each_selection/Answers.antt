@@ -6,7 +6,7 @@ use Rattle.fault_data.specs.FaultView.{faults_of}
 use Rattle.fault_data.specs.Adds.{Adds}
 use Rattle.rule_definitions.specs.Words.{AtSomeIndex}
 use Rattle.rule_values.specs.Wanting.{variables_of}
-use Rattle.rule_reach.specs.Reach.{Member, member_of}
+use Rattle.rule_document_ground.specs.Reach.{Member, member_of}
 use Rattle.rule_definitions.proofs.Listing.{gains_none, gains_more, mapped_more}
 use Rattle.rule_selections.specs.Steps.{SelectionBreaks}
 use Rattle.rule_selections.proofs.Members.{comes_to}

@@ -7,7 +7,7 @@ use Rattle.rule_definitions.specs.Words.{AtSomeIndex}
 use Rattle.rule_values.specs.Wanting.{variables_of}
 use Rattle.document_typing.specs.Meanings.{meanings}
 use Rattle.document_typing.specs.TypedByPlace.{IsTyped}
-use Rattle.rule_reach.specs.Reach.{Member, member_of, reached_members}
+use Rattle.rule_document_ground.specs.Reach.{Member, member_of, reached_members}
 use Rattle.rule_selections.specs.Steps.{SelectionBreaks}
 use Rattle.rule_selections.proofs.selections.check_each_selection.Given as goal
 

@@ -12,7 +12,7 @@ use Rattle.rule_definitions.specs.Judged.{judged}
 use Rattle.rule_definitions.specs.Uses.{UsesBreak}
 use Rattle.rule_values.specs.Wanting.{variables_of}
 use Rattle.rule_definitions.proofs.Listing.{gains_none, gains_more, mapped_more}
-use Rattle.rule_reach.specs.Reach.{fragment_of}
+use Rattle.rule_document_ground.specs.Reach.{fragment_of}
 use Rattle.rule_selections.proofs.selections.check_fragments.Goals as goal
 
 pub loop-index-init : goal.loop-index-init

@@ -7,7 +7,7 @@ use Rattle.rule_definitions.specs.Words.{AtSomeIndex}
 use Rattle.rule_definitions.specs.Judged.{judged}
 use Rattle.rule_definitions.specs.Uses.{UsesBreak}
 use Rattle.rule_values.specs.Wanting.{variables_of}
-use Rattle.rule_reach.specs.Reach.{fragment_of}
+use Rattle.rule_document_ground.specs.Reach.{fragment_of}
 use Rattle.rule_selections.proofs.selections.check_fragments.Given as goal
 
 abbrev pub invariant-loop-index : goal.invariant-loop-index

@@ -19,7 +19,7 @@ use Rattle.rule_definitions.specs.Uses.{UsesBreak}
 use Rattle.rule_values.specs.Wanting.{variables_of}
 use Rattle.rule_uses.specs.Trees.{directives_of}
 use Rattle.rule_definitions.proofs.Listing.{gains_both, gains_same}
-use Rattle.rule_reach.specs.Reach.{reached_members, reached_fragments_of}
+use Rattle.rule_document_ground.specs.Reach.{reached_members, reached_fragments_of}
 use Rattle.rule_selections.proofs.Typing.{member_typed}
 use Rattle.rule_selections.specs.Steps.{SelectionBreaks}
 use Rattle.rule_selections.proofs.Selecting.{selections_break}

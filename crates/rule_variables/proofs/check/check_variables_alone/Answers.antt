@@ -9,7 +9,7 @@ use Rattle.rule_values.specs.in_fault_data.FaultView.{faults_of}
 use Rattle.rule_values.specs.in_fault_data.Adds.{Adds}
 use Rattle.rule_values.specs.Wanting.{variables_of}
 use Rattle.rule_definitions.proofs.Listing.{gains_same}
-use Rattle.rule_reach.specs.Reach.{reached_members, reached_fragments_of}
+use Rattle.rule_document_ground.specs.Reach.{reached_members, reached_fragments_of}
 use Rattle.rule_variables.specs.UsedNames.{noted_names, with_used}
 use Rattle.rule_variables.specs.VariableFaults.{AloneBreaks}
 use Rattle.rule_variables.proofs.Gathered.{alone_is}

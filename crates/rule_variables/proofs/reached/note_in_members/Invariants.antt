@@ -1,5 +1,5 @@
 use Rattle.std.proofs.Common.{◌≡◌, drop, map}
-use Rattle.rule_reach.specs.Reach.{member_of}
+use Rattle.rule_document_ground.specs.Reach.{member_of}
 use Rattle.rule_variables.specs.UsedNames.{noted_names, with_members}
 use Rattle.rule_variables.proofs.reached.note_in_members.Given as goal
 

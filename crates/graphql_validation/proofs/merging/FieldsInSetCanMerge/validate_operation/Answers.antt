@@ -1,6 +1,6 @@
 use Rattle.std.proofs.Common.{map, ap, sym, true≢false}
 use Rattle.graphql_faults.specs.DetailsView.{diagnostics_of}
-use Rattle.rule_reach.specs.Broken.{broken_of, brokens_of}
+use Rattle.rule_document_ground.specs.Broken.{broken_of, brokens_of}
 use Rattle.rule_definitions.specs.Judged.{judged}
 use Rattle.graphql_schema.specs.SchemaOf.{schema_tree}
 use Rattle.rule_subscriptions.specs.Told.{document_meant, operation_meant}

@@ -1,7 +1,7 @@
 use Rattle.std.proofs.Common.{◌≡◌, ◌≤◌, ◌∙◌, Bool, true, false, not, true≢false, [], ◌∷◌, ◌++◌, map, sym, ap, subst, refl, append-nil, arith}
 use Rattle.rule_document_definitions.specs.Limits.{chain_bound}
 use Rattle.rule_document_definitions.proofs.Unplaced.{contains_map}
-use Rattle.rule_field_groups.specs.in_reach.Broken.{brokens_of}
+use Rattle.rule_field_groups.specs.in_ground.Broken.{brokens_of}
 use Rattle.rule_field_groups.specs.Grouped.{lists_of}
 use Rattle.rule_merging.specs.Remembered.{remembered}
 use Rattle.rule_merging.specs.Counted.{AreListed}

@@ -2,7 +2,7 @@ use Rattle.std.proofs.Common.{◌≡◌, ◌≤◌, ◌++◌, ◌-◌, List}
 use Rattle.graphql_names.specs.Placed.{Place}
 use Rattle.rule_document_definitions.specs.DocumentFaults.{Broken}
 use Rattle.document_meaning.specs.MeantTree.{MeantOperation}
-use Rattle.rule_field_groups.specs.in_reach.Broken.{brokens_of}
+use Rattle.rule_field_groups.specs.in_ground.Broken.{brokens_of}
 use Rattle.rule_merging.specs.Counted.{IsListed, AreListed, Grows}
 use Rattle.rule_field_groups.specs.Grouped.{lists_of}
 use Rattle.rule_field_groups.specs.Below.{contents_of, AreStarting}

@@ -1,7 +1,7 @@
 use Rattle.std.proofs.Common.{◌<◌, [], ◌∷◌, map, take, length, sym, ap, subst, refl, append-nil, arith}
 use Rattle.std.proofs.lemmas.List.{take_all}
 use Rattle.rule_document_definitions.proofs.Unplaced.{contains_map}
-use Rattle.rule_field_groups.specs.in_reach.Broken.{brokens_of}
+use Rattle.rule_field_groups.specs.in_ground.Broken.{brokens_of}
 use Rattle.rule_merging.specs.Counted.{IsListed}
 use Rattle.rule_field_groups.specs.Grouped.{lists_of}
 use Rattle.rule_field_groups.specs.Below.{contents_of}

@@ -3,8 +3,8 @@ use Rattle.std.specs.List.{sum}
 use Rattle.std.proofs.lemmas.List.{take_all, map-append}
 use Rattle.graphql_names.specs.Placed.{Place}
 use Rattle.rule_document_definitions.specs.Selected.{StandingField}
-use Rattle.rule_field_groups.specs.in_reach.Broken.{brokens_of}
-use Rattle.rule_field_groups.specs.in_field_selections.Fields.{fields_of}
+use Rattle.rule_field_groups.specs.in_ground.Broken.{brokens_of}
+use Rattle.rule_field_groups.specs.in_ground.Fields.{fields_of}
 use Rattle.rule_field_groups.specs.Compared.{compared}
 use Rattle.rule_field_groups.specs.Grouped.{lists_of}
 use Rattle.rule_merging.specs.Examined.{GroupsExamined, ExaminesGroup, schema_of, document_of}

@@ -2,9 +2,9 @@ use Rattle.std.proofs.Common.{◌≡◌, ◌≤◌, ◌+◌, ◌++◌, List, map
 use Rattle.std.specs.List.{sum}
 use Rattle.graphql_names.specs.Placed.{Place}
 use Rattle.rule_document_definitions.specs.DocumentFaults.{Broken}
-use Rattle.rule_field_groups.specs.in_reach.Broken.{brokens_of}
-use Rattle.rule_field_groups.specs.in_field_selections.Fields.{fields_of}
-use Rattle.rule_field_groups.specs.in_field_selections.declared.field_selection.FieldSelection.{FieldSelection}
+use Rattle.rule_field_groups.specs.in_ground.Broken.{brokens_of}
+use Rattle.rule_field_groups.specs.in_ground.Fields.{fields_of}
+use Rattle.rule_field_groups.specs.in_ground.declared.field_selection.FieldSelection.{FieldSelection}
 use Rattle.rule_field_groups.specs.Compared.{compared}
 use Rattle.rule_field_groups.specs.Grouped.{lists_of}
 use Rattle.rule_merging.specs.Examined.{GroupsExamined, schema_of, document_of}

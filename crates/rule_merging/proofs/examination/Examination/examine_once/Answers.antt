@@ -1,6 +1,6 @@
 use Rattle.std.proofs.Common.{[], true, false, sym, subst, append-nil}
 use Rattle.std.proofs.lemmas.Result.{on_ok_weaker}
-use Rattle.rule_field_groups.specs.in_reach.Broken.{brokens_of}
+use Rattle.rule_field_groups.specs.in_ground.Broken.{brokens_of}
 use Rattle.rule_field_groups.specs.Grouped.{lists_of}
 use Rattle.rule_field_groups.specs.Below.{contents_of}
 use Rattle.rule_merging.specs.Remembered.{remembered, Remembers}

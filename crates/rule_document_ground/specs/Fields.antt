@@ -1,0 +1,64 @@
+-- What contracts see of a field where it is selected, and the fields of a selection set (GraphQL, October 2021, section 5.3.2).
+use Rattle.std.specs.Prelude.{◌≡◌, ◌↔◌, ◌++◌, List, map, Contains, None}
+use Rattle.graphql_names.specs.Node.{content as content_of_node, place}
+use Rattle.graphql_names.specs.Placed.{Place, node_tree}
+use Rattle.tree_operations.specs.SelectionTree.{unplaced_head}
+use Rattle.tree_type_members.specs.TypeSystemTree.{field_definition_tree, unplaced_field_definition}
+use Rattle.graphql_names.specs.NameValue.{NameValue}
+use Rattle.graphql_names.specs.declared.node.Node.{Node}
+use Rattle.schema_components.specs.Names.{Entries, entries_of}
+use Rattle.schema_types.specs.TypeView.{name_text}
+use Rattle.document_typed_selections.specs.TypedTree.{typed_set_tree}
+use Rattle.document_typed_selections.specs.TypedParts.{typed_head}
+use Rattle.document_typed_operations.specs.TypedDocument.{typed_fragment_tree}
+use Rattle.document_typed_operations.specs.declared.operation.Fragment.{Fragment}
+use Rattle.document_meaning.specs.MeantTree.{MeantSet, MeantFragment, MeantDocument, meant_of_set}
+use Rattle.document_meaning.specs.Unplaced.{unplaced_set}
+use Rattle.document_typing.specs.DocumentView.{meant_by_fragment}
+use Rattle.rule_document_definitions.specs.Selected.{Position, InOperation, StandingField}
+use Rattle.rule_document_definitions.specs.Reached.{IsFieldOf}
+use Rattle.rule_document_definitions.specs.Contents.{content}
+use Rattle.indexmap.specs.IndexMap.{IndexMap}
+use Rattle.rule_document_ground.specs.declared.field_selection.FieldSelection.{FieldSelection}
+
+-- the field, with nothing told of where in the document it stands
+abbrev pub field_of : FieldSelection → StandingField Place
+field_of x = record {
+  position = InOperation None;
+  parent = x.parent_type.now.text;
+  place = place x.field.now;
+  definition = unplaced_field_definition (field_definition_tree (content_of_node (content_of_node x.field.now).definition));
+  head = typed_head (content_of_node x.field.now);
+  set = meant_of_set (typed_set_tree (content_of_node x.field.now).selection_set);
+}
+
+abbrev pub fields_of : List FieldSelection → List (StandingField Place)
+fields_of xs = map field_of xs
+
+-- a field without its place and without the places in it
+abbrev pub unplaced_content : {P : Type 0} → StandingField P → StandingField (Unit {0})
+unplaced_content f = record {
+  position = InOperation None;
+  parent = f.parent;
+  place = tt;
+  definition = f.definition;
+  head = unplaced_head f.head;
+  set = unplaced_set f.set;
+}
+
+-- what it says: what equality and hash read
+abbrev pub content_of : FieldSelection → StandingField (Unit {0})
+content_of x = unplaced_content (field_of x)
+
+-- the fragments of a document, each under its name
+abbrev pub meant_fragments : {S : Type 0} → IndexMap NameValue (Node Fragment) S → Entries (MeantFragment Place)
+meant_fragments m = map (λ e. (e.0, meant_by_fragment e.1)) (entries_of name_text (node_tree typed_fragment_tree) m)
+
+-- these are the fields of a set, in every document with these fragments and wherever the set stands in it
+abbrev pub AreFieldsOf : {P : Type 0} → Entries (MeantFragment P) → MeantSet P → List (StandingField P) → Type 0
+AreFieldsOf {P} fragments set fields = (d : MeantDocument P) (at : Position) → d.fragments ≡ fragments
+    → (x : StandingField P) → Contains fields x ↔ ((f : StandingField P) × (IsFieldOf d at set f × (content f ≡ x)))
+
+-- the fields that were there, as they stood, and behind them those of the set
+abbrev pub AddsFieldsOf : Entries (MeantFragment Place) → MeantSet Place → List FieldSelection → List FieldSelection → Type 0
+AddsFieldsOf fragments set old new = (added : List (StandingField Place)) × ((fields_of new ≡ fields_of old ++ added) × AreFieldsOf fragments set added)

@@ -1,0 +1,26 @@
+-- What the two lists are made of (private: it leads to `specs/Reach.antt`).
+use Rattle.std.specs.Prelude.{ℕ, List, map, option_to_list, Vec}
+use Rattle.std.specs.Borrow.{Bor}
+use Rattle.std.specs.List.{flat_map}
+use Rattle.std.specs.declared.alloc.Global.{Global}
+use Rattle.graphql_names.specs.NameValue.{NameValue}
+use Rattle.graphql_names.specs.Placed.{Place}
+use Rattle.graphql_names.specs.declared.node.Node.{Node}
+use Rattle.schema_components.specs.Names.{Entries}
+use Rattle.schema_types.specs.Addresses.{under}
+use Rattle.document_typed_selections.specs.declared.selection.Selection.{Selection}
+use Rattle.document_typed_operations.specs.declared.operation.Fragment.{Fragment}
+use Rattle.document_meaning.specs.MeantTree.{MeantFragment}
+use Rattle.document_walks.specs.Reached.{Member as TypedMember}
+use Rattle.document_walks.specs.WalkView.{lent_member}
+use Rattle.rule_document_ground.specs.Reach.{fragment_of}
+
+abbrev pub lent_members : Vec (Bor NameValue × Bor Selection) Global → List (TypedMember Place)
+lent_members v = map lent_member v.items
+
+abbrev pub lent_fragments : Vec (Bor (Node Fragment)) Global → List (MeantFragment Place)
+lent_fragments v = map fragment_of v.items
+
+-- what stands first under each of these names
+abbrev pub fragments_under : {P : Type 0} → Entries (MeantFragment P) → List (List ℕ) → List (MeantFragment P)
+fragments_under fragments names = flat_map (λ n. option_to_list (under n fragments)) names

@@ -1,0 +1,6 @@
+pub mod Reach
+pub mod Broken
+pub mod Gathered
+pub mod Fields
+pub mod Lent
+pub mod Tests

@@ -1,0 +1,178 @@
+//! Values.
+ghost use Rattle.std.specs.Prelude.{◌≡◌, ◌↔◌, [], not, IsTrue, IfOk, OnOk, bytes_eq, if◌then◌else◌, Some, None};
+ghost use Rattle.std.specs.List.{list_any};
+ghost use Rattle.std.specs.Option.{option_map, option_or};
+ghost use Rattle.indexmap.specs.IndexSet.{insert_key};
+ghost use Rattle.graphql_names.specs.Node.{content};
+ghost use Rattle.tree_literals.specs.ValueTree.{value_tree, unplaced_value};
+ghost use Rattle.rule_document_definitions.specs.SameValues.{SameValue};
+ghost use Rattle.rule_document_ground.specs.Tests.{plain, plain_items, plain_entries, noted_names, value_under, AreFirsts, unseen_key, same_leaf, same, same_items, differing_key};
+
+use graphql_names::{Name, Node};
+use indexmap::{IndexMap, IndexSet};
+use std::alloc::{AllocError, Global};
+use tree_literals::Value;
+
+/// Whether the two values are the same by their text, wherever they are written: numbers by their digits, strings by their
+/// value, lists item by item, objects by the first of each key (section 5.3.2).
+pub fn same_value(alloc: Global, a: &Value, b: &Value) -> Result<bool, AllocError>
+    ensures { IfOk result (λ r. IsTrue r ↔ SameValue (unplaced_value (value_tree a.now)) (unplaced_value (value_tree b.now))) }
+{
+    is_same(alloc, a, b)
+}
+
+/// Whether two values are the same.
+#[cycle(same)]
+#[tactic(auto, using(tree_literals::proofs::Trees::value_tree_rules))]
+fn is_same(alloc: Global, a: &Value, b: &Value) -> Result<bool, AllocError>
+    ensures { IfOk result (λ r. r ≡ same (plain a.now) (plain b.now)) }
+{
+    match a {
+        Value::List(items) => match b {
+            Value::List(others) => same_items(alloc, items, others),
+            _ => Ok(false),
+        },
+        Value::Object(entries) => match b {
+            Value::Object(others) => Ok(differing_key(alloc, entries, others)?.is_none()),
+            _ => Ok(false),
+        },
+        Value::Null
+        | Value::Enum(_)
+        | Value::Variable(_)
+        | Value::String(_)
+        | Value::Float(_)
+        | Value::Int(_)
+        | Value::Boolean(_) => Ok(same_leaf(a, b)),
+    }
+}
+
+/// Whether two lists have the same values, item by item.
+#[cycle(same)]
+fn same_items(alloc: Global, a: &[Node<Value>], b: &[Node<Value>]) -> Result<bool, AllocError>
+    ensures { IfOk result (λ r. r ≡ same_items (plain_items a.now) (plain_items b.now)) }
+{
+    let mut others = b;
+    for item in a {
+        let Some((other, rest)) = others.split_first() else {
+            return Ok(false);
+        };
+        if !is_same(alloc, item.content(), other.content())? {
+            return Ok(false);
+        }
+        others = rest;
+    }
+    Ok(others.is_empty())
+}
+
+/// A key under which two objects have not the same first value, if there is one.
+#[cycle(same)]
+pub(crate) fn differing_key(
+    alloc: Global,
+    a: &[(Name, Node<Value>)],
+    b: &[(Name, Node<Value>)],
+) -> Result<Option<Name>, AllocError>
+    ensures { IfOk result (λ r. option_map (λ n. n.text) r ≡ differing_key [] (plain_entries a.now) (plain_entries b.now)) }
+{
+    let firsts = first_values(alloc, b)?;
+    let mut seen = IndexSet::new(alloc);
+    for entry in a {
+        if note(&mut seen, &entry.0)? {
+            let same = match firsts.get(&entry.0) {
+                Some(first) => is_same(alloc, entry.1.content(), first.content())?,
+                None => false,
+            };
+            if !same {
+                return Ok(Some(entry.0.clone()?));
+            }
+        }
+    }
+    unseen_key(&seen, b)
+}
+
+/// Notes a name. Whether it was not there is given.
+fn note(names: &mut IndexSet<Name>, name: &Name) -> Result<bool, AllocError>
+    ensures new { IfOk result (λ r. r ≡ not (list_any (bytes_eq name.now.text) (noted_names names.old))) }
+    ensures noted { OnOk result (noted_names names.new ≡ insert_key bytes_eq (noted_names names.old) name.now.text) }
+{
+    let name = name.clone()?;
+    Ok(names.insert(name)?)
+}
+
+/// The first key that is not among the names.
+fn unseen_key(
+    names: &IndexSet<Name>,
+    entries: &[(Name, Node<Value>)],
+) -> Result<Option<Name>, AllocError>
+    ensures { IfOk result (λ r. option_map (λ n. n.text) r ≡ unseen_key (noted_names names.now) (plain_entries entries.now)) }
+{
+    for entry in entries {
+        if !names.contains(&entry.0) {
+            return Ok(Some(entry.0.clone()?));
+        }
+    }
+    Ok(None)
+}
+
+/// The value of the first entry under each key.
+fn first_values(
+    alloc: Global,
+    entries: &[(Name, Node<Value>)],
+) -> Result<IndexMap<Name, Node<Value>>, AllocError>
+    ensures { IfOk result (λ firsts. AreFirsts firsts (plain_entries entries.now)) }
+{
+    let mut firsts = IndexMap::new(alloc);
+    for entry in entries {
+        note_value(&mut firsts, entry)?;
+    }
+    Ok(firsts)
+}
+
+/// Notes the value of an entry under its key, unless there is one.
+fn note_value(
+    firsts: &mut IndexMap<Name, Node<Value>>,
+    entry: &(Name, Node<Value>),
+) -> Result<(), AllocError>
+    ensures { OnOk result ((n : _) → value_under n firsts.new ≡ option_or (value_under n firsts.old) (if bytes_eq entry.now.0.text n.text then Some (plain (content entry.now.1)) else None)) }
+{
+    if firsts.contains_key(&entry.0) {
+        return Ok(());
+    }
+    let value = entry.1.clone()?;
+    firsts.insert(entry.0.clone()?, value)?;
+    Ok(())
+}
+
+/// Whether two values are the same, of which the first has no values inside.
+#[tactic(auto, using(tree_literals::proofs::Trees::value_tree_rules))]
+fn same_leaf(a: &Value, b: &Value) -> bool
+    ensures { result ≡ same_leaf (plain a.now) (plain b.now) }
+{
+    match a {
+        Value::Null => b.is_null(),
+        Value::Enum(name) => match b {
+            Value::Enum(other) => name.as_str() == other.as_str(),
+            _ => false,
+        },
+        Value::Variable(name) => match b {
+            Value::Variable(other) => name.as_str() == other.as_str(),
+            _ => false,
+        },
+        Value::String(text) => match b {
+            Value::String(other) => text.as_str() == other.as_str(),
+            _ => false,
+        },
+        Value::Float(number) => match b {
+            Value::Float(other) => number.as_str() == other.as_str(),
+            _ => false,
+        },
+        Value::Int(number) => match b {
+            Value::Int(other) => number.as_str() == other.as_str(),
+            _ => false,
+        },
+        Value::Boolean(truth) => match b {
+            Value::Boolean(other) => *truth == *other,
+            _ => false,
+        },
+        Value::List(_) | Value::Object(_) => false,
+    }
+}

@@ -1,4 +1,0 @@
-pub mod ContentEquality
-pub mod MeantStandings
-pub mod FieldBridge
-pub mod Pushed

@@ -1,0 +1,46 @@
+-- The faults of one fragment that is used: its head is not one place alone, so they are said by a relation (section 5.5.2.2).
+use Rattle.std.specs.Prelude.{◌≡◌, ℕ, List, [], ◌∷◌, reverse, codes, slice_get, bytes_eq, Option, None, Some, option_and_then, if◌then◌else◌}
+use Rattle.std.specs.List.{list_any}
+use Rattle.graphql_names.specs.Placed.{Place}
+use Rattle.graphql_names.specs.Places.{Recomposes}
+use Rattle.graphql_names.specs.declared.node.Node.{Node}
+use Rattle.schema_components.specs.Names.{Entries}
+use Rattle.document_typed_selections.specs.declared.selection.FragmentSpread.{FragmentSpread}
+use Rattle.document_meaning.specs.MeantTree.{MeantFragment}
+use Rattle.rule_definitions.specs.Diagnostics.{RecursiveFragmentDefinition, DeeplyNestedType}
+use Rattle.rule_definitions.specs.Faults.{wrong}
+use Rattle.rule_definitions.specs.Told.{PlacedFault}
+use Rattle.rule_cycles.specs.Labels.{along}
+use Rattle.rule_fragments.specs.SpreadNumbers.{Spread}
+use Rattle.rule_fragments.specs.SpreadViews.{spread_between}
+use Rattle.rule_fragments.specs.declared.references.References.{References}
+
+-- the spreads along a path from the root, from the last to the first
+abbrev pub spread_trace : References (Node FragmentSpread) → ℕ → List ℕ → List Spread
+spread_trace r root path = reverse (along (spread_between r) root path)
+
+-- x tells that these spreads lead from the fragment back to it
+abbrev pub IsRecursiveFault : List Spread → MeantFragment Place → PlacedFault → Type 0
+IsRecursiveFault trace f x = (head : Place) × (Recomposes f.place f.name.place head × (x ≡ wrong f.place (RecursiveFragmentDefinition head f.name.it trace)))
+
+-- x tells that the ways from the fragment are too long
+abbrev pub IsDeepFault : MeantFragment Place → PlacedFault → Type 0
+IsDeepFault f x = (head : Place) × (Recomposes f.place f.name.place head × (x ≡ wrong head (DeeplyNestedType f.name.it (codes "fragment"))))
+
+-- l has one fault that says so of the fragment, nothing where there is none
+abbrev pub Tells : (MeantFragment Place → PlacedFault → Type 0) → Option (MeantFragment Place) → List PlacedFault → Type 0
+Tells Says None l = l ≡ []
+Tells Says (Some f) l = (x : PlacedFault) × (Says f x × (l ≡ x ∷ []))
+
+-- the fragment of a number, if its name is among those that are used
+abbrev pub used_at : Entries (MeantFragment Place) → List (List ℕ) → ℕ → Option (MeantFragment Place)
+used_at es names i = option_and_then (λ e. if list_any (bytes_eq e.0) names then Some e.1 else None) (slice_get es i)
+
+module _ (r : References (Node FragmentSpread)) (o : ℕ → Option (MeantFragment Place)) where
+  -- where o has the fragments that are used: l tells that spreads lead from the root back to it along this path, or that its
+  -- ways are too long
+  abbrev pub TellsRecursive : ℕ → List ℕ → List PlacedFault → Type 0
+  TellsRecursive root path l = Tells (IsRecursiveFault (spread_trace r root path)) (o root) l
+
+  abbrev pub TellsDeep : ℕ → List PlacedFault → Type 0
+  TellsDeep root l = Tells IsDeepFault (o root) l

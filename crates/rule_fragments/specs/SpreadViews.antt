@@ -1,0 +1,41 @@
+-- What contracts see of fragments, and of references by spreads.
+use Rattle.std.specs.Prelude.{ℕ, Option}
+use Rattle.std.specs.Borrow.{Bor}
+use Rattle.std.specs.Option.{option_map}
+use Rattle.graphql_names.specs.NameValue.{NameValue}
+use Rattle.graphql_names.specs.Placed.{Place, node_tree}
+use Rattle.graphql_names.specs.declared.node.Node.{Node}
+use Rattle.schema_components.specs.Names.{Entries, entries_of}
+use Rattle.schema_types.specs.TypeView.{name_text}
+use Rattle.document_typed_selections.specs.declared.selection.FragmentSpread.{FragmentSpread}
+use Rattle.document_typed_operations.specs.TypedDocument.{typed_fragment_tree}
+use Rattle.document_typed_operations.specs.declared.operation.Fragment.{Fragment}
+use Rattle.document_meaning.specs.MeantTree.{MeantFragment}
+use Rattle.document_typing.specs.DocumentView.{meant_by_fragment}
+use Rattle.fault_data.specs.DiagnosticView.{plain_spread}
+use Rattle.indexmap.specs.IndexMap.{IndexMap}
+use Rattle.rule_fragments.specs.References.{between}
+use Rattle.rule_fragments.specs.SpreadNumbers.{Spread}
+use Rattle.rule_fragments.specs.declared.references.Reference.{Reference}
+use Rattle.rule_fragments.specs.declared.references.References.{References}
+
+-- what a fragment means; what those of a document mean, each under its name
+abbrev pub fragment_meant : Node Fragment → MeantFragment Place
+fragment_meant n = meant_by_fragment (node_tree typed_fragment_tree n)
+
+abbrev pub fragment_entries : {S : Type 0} → IndexMap NameValue (Node Fragment) S → Entries (MeantFragment Place)
+fragment_entries m = entries_of name_text fragment_meant m
+
+-- what one that is lent means, if there is one, whatever its number
+abbrev pub lent_at : Option (Bor (Node Fragment)) → ℕ → Option (MeantFragment Place)
+lent_at f number = option_map (λ b. fragment_meant b.now) f
+
+abbrev pub spread_tree : Node FragmentSpread → Spread
+spread_tree n = node_tree plain_spread n
+
+abbrev pub spread_view : Reference (Node FragmentSpread) → ℕ × Spread
+spread_view r = (r.to, spread_tree r.by)
+
+-- the spread by which a fragment first refers to another
+abbrev pub spread_between : References (Node FragmentSpread) → ℕ → ℕ → Option Spread
+spread_between r from to = option_map spread_tree (between r from to)

@@ -1,0 +1,94 @@
+//! The faults of fragments that spread themselves (section 5.5.2.2).
+ghost use Rattle.std.specs.Prelude.{◌≡◌, ◌++◌, map, reverse, IfOk, OnOk, option_to_list};
+ghost use Rattle.graphql_names.specs.Places.{Recomposes};
+ghost use Rattle.fault_data.specs.FaultView.{fault_of};
+ghost use Rattle.rule_fragments.specs.SpreadViews.{fragment_meant, spread_tree, spread_between};
+ghost use Rattle.rule_fragments.specs.CycleFaults.{spread_trace, IsRecursiveFault, IsDeepFault};
+
+use crate::spread_graph::SpreadReferences;
+use document_typed_operations::Fragment;
+use document_typed_selections::FragmentSpread;
+use fault_data::{DiagnosticData, Fault};
+use graphql_names::{Node, SourceSpan, recompose};
+use std::alloc::{AllocError, Global};
+
+/// From the first token of a fragment's definition to its name.
+fn head(fragment: &Node<Fragment>) -> Option<SourceSpan>
+    ensures { Recomposes (fragment_meant fragment.now).place (fragment_meant fragment.now).name.place result }
+{
+    recompose(fragment.location(), fragment.content().name.location())
+}
+
+/// Adds the spread by which a fragment first refers to another, if it does.
+fn add_spread_between(
+    references: &SpreadReferences,
+    from: usize,
+    to: usize,
+    trace: &mut Vec<Node<FragmentSpread>>,
+) -> Result<(), AllocError>
+    ensures { OnOk result (map spread_tree trace.new.items ≡ map spread_tree trace.old.items ++ option_to_list (spread_between references.now from to)) }
+{
+    match references.first(from, to) {
+        None => Ok(()),
+        Some(spread) => {
+            trace.push(spread.clone()?)?;
+            Ok(())
+        }
+    }
+}
+
+/// The spreads along a path from the root, from the last to the first.
+fn spread_trace(
+    alloc: Global,
+    references: &SpreadReferences,
+    root: usize,
+    path: &[usize],
+) -> Result<Vec<Node<FragmentSpread>>, AllocError>
+    ensures { IfOk result (λ r. map spread_tree r.items ≡ spread_trace references.now root path.now) }
+{
+    let mut trace = Vec::new(alloc);
+    let mut from = root;
+    for to in path {
+        add_spread_between(references, from, *to, &mut trace)?;
+        from = *to;
+    }
+    trace.reverse();
+    Ok(trace)
+}
+
+/// RecursiveFragmentDefinition: no spreads lead from a fragment back to it (section 5.5.2.2). These do, from the fragment of
+/// the number `root` along the path.
+pub(crate) fn recursive_fragment_definition(
+    alloc: Global,
+    fragment: &Node<Fragment>,
+    references: &SpreadReferences,
+    root: usize,
+    path: &[usize],
+) -> Result<Fault, AllocError>
+    ensures { IfOk result (λ r. IsRecursiveFault (spread_trace references.now root path.now) (fragment_meant fragment.now) (fault_of r)) }
+{
+    let trace = spread_trace(alloc, references, root, path)?;
+    let name = fragment.content().name.clone()?;
+    Ok(Fault {
+        location: fragment.location(),
+        data: DiagnosticData::RecursiveFragmentDefinition {
+            head_location: head(fragment),
+            name,
+            trace,
+        },
+    })
+}
+
+/// A way of spreads without repetition from the fragment holds more than 100 fragments (DeeplyNestedType).
+pub(crate) fn deeply_nested_fragment(fragment: &Node<Fragment>) -> Result<Fault, AllocError>
+    ensures { IfOk result (λ r. IsDeepFault (fragment_meant fragment.now) (fault_of r)) }
+{
+    let name = fragment.content().name.clone()?;
+    Ok(Fault {
+        location: head(fragment),
+        data: DiagnosticData::DeeplyNestedType {
+            name,
+            describe_type: "fragment",
+        },
+    })
+}

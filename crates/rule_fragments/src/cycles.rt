@@ -1,0 +1,81 @@
+//! Tells which fragments spread themselves.
+ghost use Rattle.std.specs.Prelude.{◌≡◌, map, IfOk, OnOk, option_to_list};
+ghost use Rattle.graphql_names.specs.Placed.{Place};
+ghost use Rattle.document_meaning.specs.MeantTree.{MeantDocument};
+ghost use Rattle.fault_data.specs.FaultView.{fault_of, faults_of};
+ghost use Rattle.rule_cycles.specs.Telling.{TellsFound};
+ghost use Rattle.rule_document_ground.specs.Reach.{meant_fragments};
+ghost use Rattle.rule_fragments.specs.Used.{names_of, AreUnderOwnNames, AreUsed};
+ghost use Rattle.rule_fragments.specs.SpreadViews.{fragment_entries, lent_at};
+ghost use Rattle.rule_fragments.specs.CycleFaults.{used_at, TellsRecursive, TellsDeep};
+ghost use Rattle.rule_fragments.specs.Told.{TellsCycles};
+
+use crate::cycle_faults::{deeply_nested_fragment, recursive_fragment_definition};
+use crate::spread_graph::{SpreadReferences, references_of_fragments};
+use crate::unused::has_name;
+use document_typed_operations::{Fragment, FragmentMap};
+use fault_data::{Fault, tell};
+use graphql_names::{Name, Node};
+use indexmap::IndexSet;
+use rule_cycle_search::{Found, ways_back};
+use std::alloc::{AllocError, Global};
+
+/// The fragment of that number, if its name is among those that are used.
+fn used_fragment<'doc>(
+    fragments: &'doc FragmentMap,
+    used: &IndexSet<Name>,
+    number: usize,
+) -> Option<&'doc Node<Fragment>>
+    ensures { lent_at result number ≡ used_at (fragment_entries fragments.now) (names_of used.now) number }
+{
+    let (name, fragment) = fragments.get_index(number)?;
+    if has_name(used, name) {
+        Some(fragment)
+    } else {
+        None
+    }
+}
+
+/// The fault of a fragment, the one of the number `root`, of which this was found. None is told of no fragment.
+fn fragment_fault(
+    alloc: Global,
+    fragment: Option<&Node<Fragment>>,
+    references: &SpreadReferences,
+    root: usize,
+    found: &Found,
+) -> Result<Option<Fault>, AllocError>
+    ensures { IfOk result (λ r. TellsFound (TellsRecursive references.now (lent_at fragment.entry)) (TellsDeep references.now (lent_at fragment.entry)) root found.now (map fault_of (option_to_list r))) }
+{
+    let Some(fragment) = fragment else {
+        return Ok(None);
+    };
+    match found {
+        Found::Nothing => Ok(None),
+        Found::WayBack(path) => {
+            let fault = recursive_fragment_definition(alloc, fragment, references, root, path)?;
+            Ok(Some(fault))
+        }
+        Found::Deep => Ok(Some(deeply_nested_fragment(fragment)?)),
+    }
+}
+
+/// Adds RecursiveFragmentDefinition for each fragment that an operation reaches and that reaches itself by spreads, with the
+/// spreads that lead back to it (section 5.5.2.2), or that ways of spreads from there hold more than 100 fragments. `used` has
+/// the names of the fragments that an operation reaches. Where memory is refused some may be told.
+pub fn check_cycles(
+    alloc: Global,
+    fragments: &FragmentMap,
+    used: &IndexSet<Name>,
+    faults: &mut Vec<Fault>,
+) -> Result<(), AllocError>
+    ensures { OnOk result ((d : MeantDocument Place) → d.fragments ≡ meant_fragments fragments.now → AreUnderOwnNames d → AreUsed d (names_of used.now) → TellsCycles d (faults_of faults.old) (faults_of faults.new)) }
+{
+    let references = references_of_fragments(alloc, fragments)?;
+    let all = ways_back(alloc, &references.graph)?;
+    for (root, found) in all.iter().enumerate() {
+        let fragment = used_fragment(fragments, used, root);
+        let fault = fragment_fault(alloc, fragment, &references, root, found)?;
+        tell(faults, fault)?;
+    }
+    Ok(())
+}

@@ -1,0 +1,109 @@
+//! What nodes refer to, and by what they refer to another first.
+ghost use Rattle.std.specs.Prelude.{◌≡◌, ◌++◌, [], ◌∷◌, map, IfOk, OnOk};
+ghost use Rattle.std.specs.Option.{option_copied};
+ghost use Rattle.rule_document_definitions.specs.Limits.{spread_bound};
+ghost use Rattle.rule_cycles.specs.Labels.{targets};
+ghost use Rattle.rule_fragments.specs.References.{reference_view, AreFirsts, Adds, between};
+
+use indexmap::IndexMap;
+use rule_cycle_search::Graph;
+use std::alloc::{AllocError, Global};
+
+/// The most fragments on a way of spreads.
+const BOUND: u32 = 100;
+
+/// A reference to a node by its number, and by what it is one.
+#[derive(Drop)]
+pub(crate) struct Reference<L> {
+    pub(crate) to: usize,
+    pub(crate) by: L,
+}
+
+/// What nodes refer to, and for each node by what it first refers to another.
+#[derive(Drop)]
+pub(crate) struct References<L> {
+    pub(crate) graph: Graph,
+    firsts: Vec<IndexMap<usize, L>>,
+}
+
+/// To what these refer.
+fn targets_of<L>(alloc: Global, references: &[Reference<L>]) -> Result<Vec<usize>, AllocError>
+    ensures { IfOk result (λ r. r.items ≡ targets (map reference_view references.now)) }
+{
+    let mut targets = Vec::new(alloc);
+    for reference in references {
+        targets.push(reference.to)?;
+    }
+    Ok(targets)
+}
+
+/// Notes a reference, if it is the first to its node.
+fn note_first<L: Drop>(
+    firsts: &mut IndexMap<usize, L>,
+    reference: Reference<L>,
+) -> Result<(), AllocError>
+    ensures { (before : _) → AreFirsts firsts.old before → OnOk result (AreFirsts firsts.new (before ++ reference_view reference ∷ [])) }
+{
+    if firsts.contains_key(&reference.to) {
+        return Ok(());
+    }
+    firsts.insert(reference.to, reference.by)?;
+    Ok(())
+}
+
+/// By what these refer to each node first.
+fn firsts_of<L: Drop>(
+    alloc: Global,
+    references: Vec<Reference<L>>,
+) -> Result<IndexMap<usize, L>, AllocError>
+    ensures { IfOk result (λ m. AreFirsts m (map reference_view references.items)) }
+{
+    let mut firsts = IndexMap::new(alloc);
+    for reference in references {
+        note_first(&mut firsts, reference)?;
+    }
+    Ok(firsts)
+}
+
+impl<L: Drop> References<L> {
+    /// No node yet, in a graph of one kind with so many roots.
+    pub(crate) fn new(alloc: Global, roots: usize) -> Self
+        ensures references { result.graph.references.items ≡ [] }
+        ensures firsts { result.firsts.items ≡ [] }
+        ensures first_kind { result.graph.first_kind ≡ 0 }
+        ensures roots { result.graph.roots ≡ roots }
+        ensures bound { result.graph.bound ≡ spread_bound }
+    {
+        References {
+            graph: Graph {
+                references: Vec::new(alloc),
+                first_kind: 0,
+                roots,
+                bound: BOUND,
+            },
+            firsts: Vec::new(alloc),
+        }
+    }
+
+    /// Adds the next node, which has these references.
+    pub(crate) fn push(
+        &mut self,
+        alloc: Global,
+        references: Vec<Reference<L>>,
+    ) -> Result<(), AllocError>
+        ensures { OnOk result (Adds self.old self.new (map reference_view references.items)) }
+    {
+        let targets = targets_of(alloc, &references)?;
+        let firsts = firsts_of(alloc, references)?;
+        self.graph.references.push(targets)?;
+        self.firsts.push(firsts)?;
+        Ok(())
+    }
+
+    /// By what a node first refers to another, if it does.
+    pub(crate) fn first(&self, from: usize, to: usize) -> Option<&L>
+        ensures { option_copied result ≡ between self.now from to }
+    {
+        self.firsts.get(from)?.get(&to)
+    }
+}

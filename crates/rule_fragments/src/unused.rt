@@ -1,0 +1,72 @@
+//! Fragments that no operation reaches.
+ghost use Rattle.std.specs.Prelude.{◌≡◌, ◌++◌, map, bytes_eq, IfOk, OnOk, option_to_list};
+ghost use Rattle.std.specs.List.{list_any};
+ghost use Rattle.graphql_names.specs.Placed.{Place};
+ghost use Rattle.document_meaning.specs.MeantTree.{MeantDocument};
+ghost use Rattle.fault_data.specs.FaultView.{fault_of, faults_of};
+ghost use Rattle.fault_data.specs.Adds.{Adds};
+ghost use Rattle.rule_document_definitions.specs.Fragments.{UnusedFragmentAt};
+ghost use Rattle.rule_document_ground.specs.Reach.{meant_fragments};
+ghost use Rattle.rule_cycles.specs.Numbers.{each_value};
+ghost use Rattle.rule_fragments.specs.Used.{names_of, AreUnderOwnNames, AreUsed};
+ghost use Rattle.rule_fragments.specs.Unused.{unused_fragment};
+ghost use Rattle.rule_fragments.specs.SpreadViews.{fragment_meant};
+
+use document_typed_operations::{Fragment, FragmentMap};
+use fault_data::{DiagnosticData, Fault, tell};
+use graphql_names::{Name, Node};
+use indexmap::IndexSet;
+use std::alloc::AllocError;
+
+/// Whether the name is among these.
+pub(crate) fn has_name(names: &IndexSet<Name>, name: &Name) -> bool
+    ensures { result ≡ list_any (bytes_eq name.now.text) (names_of names.now) }
+{
+    names.contains(name)
+}
+
+/// UnusedFragment: each fragment is used in an operation (section 5.5.1.4). `used` has the names of those that are.
+fn unused_fragment(
+    used: &IndexSet<Name>,
+    fragment: &Node<Fragment>,
+) -> Result<Option<Fault>, AllocError>
+    ensures { IfOk result (λ r. map fault_of (option_to_list r) ≡ unused_fragment (names_of used.now) (fragment_meant fragment.now)) }
+{
+    let name = &fragment.content().name;
+    if has_name(used, name) {
+        return Ok(None);
+    }
+    let name = name.clone()?;
+    Ok(Some(Fault {
+        location: fragment.location(),
+        data: DiagnosticData::UnusedFragment { name },
+    }))
+}
+
+/// Adds a fault for each fragment, in order, whose name is not among those that are used.
+fn tell_unused(
+    fragments: &FragmentMap,
+    used: &IndexSet<Name>,
+    faults: &mut Vec<Fault>,
+) -> Result<(), AllocError>
+    ensures { OnOk result (faults_of faults.new ≡ faults_of faults.old ++ each_value (λ n. unused_fragment (names_of used.now) (fragment_meant n)) fragments.now.entries) }
+{
+    for (_, fragment) in fragments {
+        tell(faults, unused_fragment(used, fragment)?)?;
+    }
+    Ok(())
+}
+
+/// Adds UnusedFragment for each fragment that no operation reaches. `used` has the names of those that one reaches. Where
+/// memory is refused some may be told.
+pub fn check_unused(
+    fragments: &FragmentMap,
+    used: &IndexSet<Name>,
+    faults: &mut Vec<Fault>,
+) -> Result<(), AllocError>
+    ensures { OnOk result ((d : MeantDocument Place) → d.fragments ≡ meant_fragments fragments.now → AreUnderOwnNames d → AreUsed d (names_of used.now) → Adds faults.old faults.new (λ f. UnusedFragmentAt d f)) }
+{
+    // A map that is asked for its length says that its names differ, which the rule takes for granted.
+    let _distinct = fragments.len();
+    tell_unused(fragments, used, faults)
+}

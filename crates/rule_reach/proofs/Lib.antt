@@ -1,9 +1,0 @@
-pub mod MeantStandings
-pub mod Bridge
-pub mod Found
-pub mod AtReaches
-pub mod TypedReached
-pub mod OfDocuments
-pub mod AddingBroken
--- Lists of what rules tell, for the layers above.
-pub use Rattle.rule_definitions.proofs.Listing

@@ -1,3 +1,0 @@
-pub mod Reach
-pub mod Broken
-pub mod Gathered

@@ -1,5 +1,0 @@
-pub mod Noting
-pub mod Turns
-pub mod Deciding
-pub mod ArgumentsTold
-pub mod Equivalences
