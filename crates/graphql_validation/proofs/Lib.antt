@@ -8,6 +8,5 @@ pub mod WholeAlone
 pub mod OneSet
 pub mod FieldSets
 pub mod Telling
-pub mod Conflicts
 pub mod MergedOperations
 pub mod WholeDocuments

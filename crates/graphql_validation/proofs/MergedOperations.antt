@@ -11,9 +11,9 @@ use Rattle.rule_document_definitions.specs.Merging.{FieldsMerge}
 use Rattle.rule_document_definitions.specs.Selected.{operations}
 use Rattle.rule_document_definitions.specs.Told.{PlacedDocumentFault}
 use Rattle.graphql_faults.specs.DetailsView.{BeginsAs}
-use Rattle.graphql_validation.specs.Merged.{MergingTold, DocumentMergingTold}
+use Rattle.rule_merging.specs.Merged.{MergingTold, DocumentMergingTold}
 use Rattle.graphql_validation.specs.Told.{Telling, of_document}
-use Rattle.graphql_validation.proofs.Telling.{nothing_told, told_nothing, begins_behind}
+use Rattle.rule_merging.proofs.Behind.{nothing_told, told_nothing, begins_behind}
 
 told_behind : (old mid new : Telling) (a b : List PlacedDocumentFault) → mid ≡ old ++ map of_document a → new ≡ mid ++ map of_document b → new ≡ old ++ map of_document (a ++ b)
 told_behind old mid new a b e i =

@@ -1,9 +1,7 @@
 -- What is told, in order, as one list.
-use Rattle.std.proofs.Common.{◌≡◌, ◌⊎◌, inl, inr, ◌++◌, Contains, Bool, true, false, List, [], ◌∷◌, length, arith, append-nil, map, None, Result, Ok, Err, refl, ap, sym, ◌∙◌, append_assoc}
-use Rattle.std.proofs.lemmas.List.{map-append, length-append, length-map, nil_from_length}
+use Rattle.std.proofs.Common.{◌≡◌, ◌⊎◌, inl, inr, ◌++◌, Contains, Bool, true, false, List, [], ◌∷◌, map, None, refl, ap, sym, ◌∙◌, append_assoc}
+use Rattle.std.proofs.lemmas.List.{map-append}
 use Rattle.std.specs.Prelude.{IsTrue}
-use Rattle.std.specs.Result.{OnErr}
-use Rattle.graphql_faults.specs.DetailsView.{BeginsAs}
 use Rattle.std.proofs.lemmas.List.Elements.{Contains-append_left, Contains-append_right, Contains-append_cases}
 use Rattle.graphql_names.specs.Placed.{Place}
 use Rattle.rule_definitions.specs.Told.{PlacedFault}
@@ -12,16 +10,13 @@ use Rattle.rule_document_definitions.specs.DocumentFaults.{Broken, OfData, OfDoc
 use Rattle.rule_document_definitions.specs.Told.{PlacedDocumentFault}
 use Rattle.rule_definitions.proofs.Lists.{not_in_nil, only}
 use Rattle.rule_document_ground.proofs.Bridge.{from_map, to_map}
+use Rattle.rule_merging.proofs.Behind.{breaches_told}
 use Rattle.graphql_validation.specs.Operations.{bound_told, all_told}
 use Rattle.graphql_validation.specs.Told.{Telling, of_document}
 
 data_told : (faults : List PlacedFault) → map of_document (map OfData faults) ≡ map of_rule faults
 data_told [] = refl
 data_told (f ∷ fs) = ap (λ l. of_rule f ∷ l) (data_told fs)
-
-pub breaches_told : (breaches : List (Broken Place)) → map of_document (map OfDocument breaches) ≡ map (λ b. of_document (OfDocument b)) breaches
-breaches_told [] = refl
-breaches_told (b ∷ bs) = ap (λ l. of_document (OfDocument b) ∷ l) (breaches_told bs)
 
 -- one part behind another
 pub told_in_turn : (old one two new : Telling) (faults : List PlacedFault) (breaches : List (Broken Place)) (is_passed : Bool)
@@ -68,32 +63,3 @@ module _ (faults : List PlacedFault) (breaches : List (Broken Place)) (is_passed
 pub bound_is : (is_passed : Bool) (f : PlacedDocumentFault) → Contains (bound_told is_passed) f → IsTrue is_passed × (f ≡ OfLimit None)
 bound_is false f c = absurd (not_in_nil f c)
 bound_is true f c = (refl, only (OfLimit None) f c)
-
--- ---- behind what was told
-
--- where nothing is added, nothing is told; and back
-pub nothing_told : (old new : Telling) (told : List PlacedDocumentFault) → new ≡ old ++ map of_document told → new ≡ old → told ≡ []
-nothing_told old new told is same =
-    let whole = ap length (sym is ∙ same) in
-    let parts = length-append old (map of_document told) in
-    let long = length-map told of_document in
-    nil_from_length told (omega (arith, whole, parts, long))
-
-pub told_nothing : (old new : Telling) (told : List PlacedDocumentFault) → new ≡ old ++ map of_document told → told ≡ [] → new ≡ old
-told_nothing old new told is none = is ∙ ap (λ l. old ++ map of_document l) none ∙ append-nil old
-
--- ---- after a refusal
-
-pub begins_same : {A : Type 0} (old : List A) → BeginsAs old old
-begins_same old = ([], sym (append-nil old))
-
-pub begins_behind : {A : Type 0} (old one new more : List A) → one ≡ old ++ more → BeginsAs one new → BeginsAs old new
-begins_behind old one new more is (rest, e) = (more ++ rest, e ∙ ap (λ l. l ++ rest) is ∙ append_assoc old more rest)
-
-pub begins_kept : {A T E : Type 0} (r : Result T E) (old one new : List A) → BeginsAs old one → OnErr r (new ≡ one) → OnErr r (BeginsAs old new)
-begins_kept (Ok v) old one new begun kept = tt
-begins_kept (Err e) old one new (rest, is) kept = (rest, kept ∙ is)
-
-pub refused_so : {T E : Type 0} {X : Type 0} (r : Result T E) → X → OnErr r X
-refused_so (Ok v) x = tt
-refused_so (Err e) x = x

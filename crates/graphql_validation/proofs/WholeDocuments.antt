@@ -27,7 +27,7 @@ use Rattle.rule_selections.proofs.Typing.{document_reaches_typed}
 use Rattle.rule_subscriptions.specs.Nested.{NestsTooDeep}
 use Rattle.rule_subscriptions.specs.Told.{AreAlike}
 use Rattle.document_typing.specs.Meanings.{meanings}
-use Rattle.graphql_validation.specs.Merged.{MergingFailsAt}
+use Rattle.rule_merging.specs.Merged.{MergingFailsAt}
 use Rattle.graphql_validation.specs.Operations.{AreReachesTyped, TellsData, AllUnder, OperationFails, TellsBreaches, bound_told, all_told}
 use Rattle.graphql_validation.specs.Told.{AnswersFragment}
 use Rattle.graphql_validation.specs.TellsDocument.{IsTypedUnder, FailsBesides, SomeFails, TellsDocument}

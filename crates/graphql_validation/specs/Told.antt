@@ -16,20 +16,10 @@ use Rattle.rule_document_definitions.specs.Fragments.{ReachesItself, UnusedFragm
 use Rattle.rule_document_definitions.specs.DocumentRules.{DeferredBreaks}
 use Rattle.rule_document_definitions.specs.Told.{PlacedDocumentFault, SetRulesFail, SetBoundFails, DocumentBoundFails, DocumentFailsAlone, IsValidFieldSet, IsValidAlone}
 use Rattle.rule_document_definitions.specs.Verdict.{WithinBounds, FieldSetWithinBounds}
-use Rattle.graphql_faults.specs.DetailsTree.{DetailsAt, DocumentBuild, RecursionLimitError, of_rule}
+pub use Rattle.rule_merging.specs.Telling.{Telling, of_document}
 use Rattle.rule_fragments.specs.Used.{IsUsed, AreUnderOwnNames}
 use Rattle.rule_fragments.specs.Told.{Answers}
 use Rattle.graphql_validation.specs.Operations.{OperationFailsAlone}
-
--- what a list tells, in order
-abbrev pub Telling : Type 0
-Telling = List (DetailsAt Place (List Place))
-
--- what is told of a document, among all that can be wrong
-abbrev pub of_document : PlacedDocumentFault → DetailsAt Place (List Place)
-of_document (OfData fault) = of_rule fault
-of_document (OfDocument broken) = record { place = broken.place; details = DocumentBuild broken.it }
-of_document (OfLimit place) = record { place = place; details = RecursionLimitError }
 
 -- a fault that says that the fragment reaches itself, or that ways of spreads from there are too long
 abbrev pub AnswersFragment : MeantFragment Place → PlacedDocumentFault → Type 0

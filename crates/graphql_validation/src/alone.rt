@@ -13,12 +13,12 @@ ghost use Rattle.rule_subscriptions.specs.Told.{document_meant, operation_meant}
 ghost use Rattle.graphql_validation.specs.Operations.{OperationFailsAlone, ReachesNamed, NotesNames, TellsData, AllAlone};
 
 use crate::found::{Found, check_fragments, note_fragments};
-use crate::told::Breach;
 use document_typed_operations::{ExecutableDocument, Operation};
 use fault_data::Fault;
 use graphql_names::Node;
 use rule_document_ground::reach;
 use rule_fragments::check_spreads;
+use rule_merging::Breach;
 use rule_selections::check_selections_alone;
 use rule_subscriptions::{check_defer, check_labels};
 use rule_variables::check_variables_alone;

@@ -10,17 +10,17 @@ ghost use Rattle.fault_data.specs.FaultView.{faults_of};
 ghost use Rattle.graphql_faults.specs.DetailsView.{diagnostics_of, BeginsAs};
 ghost use Rattle.rule_document_ground.specs.Broken.{brokens_of};
 ghost use Rattle.rule_subscriptions.specs.Told.{document_meant};
-ghost use Rattle.graphql_validation.specs.Merged.{DocumentMergingTold};
+ghost use Rattle.rule_merging.specs.Merged.{DocumentMergingTold};
 ghost use Rattle.graphql_validation.specs.TellsDocument.{TypedDocumentTold, SilenceMeansValid, ValidMeansSilence};
 
 use crate::found::fragments_differ;
-use crate::merging::FieldsInSetCanMerge;
-use crate::told::{Breach, append_all};
+use crate::told::append_all;
 use crate::under_schema::{breaches_under, faults_under};
 use document_typed_operations::ExecutableDocument;
 use fault_data::Fault;
 use graphql_faults::DiagnosticList;
 use graphql_schema::Schema;
+use rule_merging::{Breach, FieldsInSetCanMerge};
 use rule_subscriptions::passes_path_bound;
 use std::alloc::{AllocError, Global};
 

@@ -4,21 +4,20 @@
 //! else (`specs/Told.antt`, `specs/TellsDocument.antt`); it adds nothing exactly where all rules hold, memory and the bounds
 //! aside. What breaks a rule is a predicate named after its variant, in `rule_document_definitions`.
 //!
-//! The rules stand in inner crates side by side: `rule_variables`, `rule_selections`, `rule_fragments`,
-//! `rule_fragments`, `rule_subscriptions`; what an operation reaches is found once, by `rule_document_ground`. Fields are merged
-//! by `rule_merging`, operation by operation (`merging.rt`). Begin with `document.rt`, `field_set.rt` and `standalone.rt`.
+//! The rules stand in inner crates side by side: `rule_variables`, `rule_selections`, `rule_fragments` and
+//! `rule_subscriptions`; what an operation reaches is found once, by `rule_document_ground`. Fields are merged
+//! by `rule_merging`, operation by operation. Begin with `document.rt`, `field_set.rt` and `standalone.rt`.
 #![tactic(auto)]
 
 mod alone;
 mod document;
 mod field_set;
 mod found;
-mod merging;
 mod standalone;
 mod told;
 mod under_schema;
 
 pub use document::validate_executable_document;
 pub use field_set::validate_field_set;
-pub use merging::FieldsInSetCanMerge;
+pub use rule_merging::FieldsInSetCanMerge;
 pub use standalone::validate_standalone_executable;

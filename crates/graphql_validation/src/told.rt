@@ -1,6 +1,5 @@
 //! Adding what is told to a list.
 ghost use Rattle.std.specs.Prelude.{◌≡◌, ◌++◌, map, OnErr, OnOk};
-ghost use Rattle.rule_document_definitions.specs.DocumentFaults.{OfDocument};
 ghost use Rattle.fault_data.specs.FaultView.{faults_of};
 ghost use Rattle.graphql_faults.specs.DetailsView.{diagnostics_of, BeginsAs};
 ghost use Rattle.rule_document_ground.specs.Broken.{brokens_of};
@@ -8,27 +7,9 @@ ghost use Rattle.graphql_validation.specs.Operations.{bound_told, all_told};
 ghost use Rattle.graphql_validation.specs.Told.{of_document};
 
 use fault_data::Fault;
-use fault_document_data::BuildError;
 use graphql_faults::{Details, DiagnosticList};
-use graphql_names::SourceSpan;
+use rule_merging::{Breach, append_breaches};
 use std::alloc::AllocError;
-
-/// What breaks a rule of documents that has no data of its own, and where.
-pub(crate) type Breach = (Option<SourceSpan>, BuildError);
-
-/// Adds the breaches at the end, in order. After a refusal the list begins as before.
-pub(crate) fn append_breaches(
-    list: &mut DiagnosticList,
-    breaches: Vec<Breach>,
-) -> Result<(), AllocError>
-    ensures added { OnOk result (diagnostics_of list.new ≡ diagnostics_of list.old ++ map (λ b. of_document (OfDocument b)) (brokens_of breaches)) }
-    ensures begins { OnErr result (BeginsAs (diagnostics_of list.old) (diagnostics_of list.new)) }
-{
-    for (place, breach) in breaches {
-        list.push(place, Details::DocumentBuild(breach))?;
-    }
-    Ok(())
-}
 
 /// Adds that selections are nested too deeply, if they are.
 fn append_bound(list: &mut DiagnosticList, is_passed: bool) -> Result<(), AllocError>

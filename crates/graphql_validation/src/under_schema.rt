@@ -17,13 +17,13 @@ ghost use Rattle.graphql_validation.specs.Operations.{OperationFails, ReachesNam
 
 use crate::alone::deferred_breaches;
 use crate::found::{Found, check_fragments, note_fragments};
-use crate::told::Breach;
 use document_typed_operations::{ExecutableDocument, Operation};
 use fault_data::Fault;
 use graphql_names::Node;
 use graphql_schema::Schema;
 use rule_document_ground::reach;
 use rule_fragments::{PossibleTypes, check_applications, check_spreads};
+use rule_merging::Breach;
 use rule_selections::check_selections;
 use rule_subscriptions::check_subscription;
 use rule_variables::{check_variables, check_variables_alone};

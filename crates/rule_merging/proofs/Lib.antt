@@ -2,3 +2,5 @@ pub mod Examining
 pub mod Remembering
 pub mod Counting
 pub mod Operating
+pub mod Behind
+pub mod Conflicts

@@ -4,15 +4,22 @@
 //! is grouped, and what is told of a group, is of `rule_field_groups`. A list whose contents were examined before is not
 //! examined again.
 //!
-//! For the layers above: `examine_operation` adds what does not merge in an operation, and keeps in an `Examined` what was
-//! examined (`ExaminesOperation` of `specs/Verdict.antt`) and how often shapes were compared (`IsCounted` of
-//! `specs/Counted.antt`).
+//! For the layers above: a `FieldsInSetCanMerge` tells a list of faults what does not merge in an operation (`MergerTold` of
+//! `specs/Merger.antt`, over `specs/Merged.antt`), and is clean where the fields of all operations merge so far. It stands on
+//! `examine_operation`, which adds what does not merge in an operation, and keeps in an `Examined` what was examined
+//! (`ExaminesOperation` of `specs/Verdict.antt`) and how often shapes were compared (`IsCounted` of `specs/Counted.antt`).
+//! `append_breaches` adds breaches to a list of faults (`specs/Telling.antt`).
 //!
-//! Begin with `operation.rt`, then `examination.rt` and `remembered.rt`.
+//! Begin with `merging.rt`, then `operation.rt`, `examination.rt` and `remembered.rt`.
 #![tactic(auto)]
 
 mod examination;
+mod merging;
 mod operation;
 mod remembered;
+mod told;
 
+pub use merging::FieldsInSetCanMerge;
 pub use operation::{Examined, examine_operation};
+pub use rule_field_groups::Breach;
+pub use told::append_breaches;

@@ -9,11 +9,11 @@ use Rattle.rule_definitions.specs.Judged.{Judged, judged}
 use Rattle.graphql_schema.specs.SchemaOf.{schema_tree}
 use Rattle.rule_subscriptions.specs.Told.{document_meant, operation_meant}
 use Rattle.document_typed_operations.specs.OperationsByName.{left_operations}
-use Rattle.graphql_validation.specs.Merged.{MergingTold}
-use Rattle.graphql_validation.specs.Merger.{merger_of}
+use Rattle.rule_merging.specs.Merged.{MergingTold}
+use Rattle.rule_merging.specs.Merger.{merger_of}
 use Rattle.graphql_validation.proofs.MergedOperations.{merging_none, merging_more, merging_begins, so_far_none, so_far_more}
 use Rattle.graphql_validation.proofs.Operations.{lent_operation, lent_operations, all_operations, one_behind, lent_more, lent_all, lent_among}
-use Rattle.graphql_validation.proofs.Telling.{refused_so}
+use Rattle.rule_merging.proofs.Behind.{refused_so}
 use Rattle.graphql_validation.proofs.document.merge_operations.Goals as goal
 
 pub loop-operation-init : goal.loop-operation-init

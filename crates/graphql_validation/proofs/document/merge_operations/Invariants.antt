@@ -5,8 +5,8 @@ use Rattle.rule_definitions.specs.Judged.{judged}
 use Rattle.graphql_schema.specs.SchemaOf.{schema_tree}
 use Rattle.rule_subscriptions.specs.Told.{document_meant, operation_meant}
 use Rattle.document_typed_operations.specs.OperationsByName.{left_operations}
-use Rattle.graphql_validation.specs.Merged.{DocumentMergingTold}
-use Rattle.graphql_validation.specs.Merger.{merger_of}
+use Rattle.rule_merging.specs.Merged.{DocumentMergingTold}
+use Rattle.rule_merging.specs.Merger.{merger_of}
 use Rattle.graphql_validation.proofs.MergedOperations.{MergeSoFar}
 use Rattle.graphql_validation.proofs.Operations.{lent_operations}
 use Rattle.graphql_validation.proofs.document.merge_operations.Given as goal

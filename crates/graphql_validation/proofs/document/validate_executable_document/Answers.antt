@@ -8,7 +8,7 @@ use Rattle.graphql_schema.specs.SchemaOf.{schema_tree}
 use Rattle.rule_subscriptions.specs.Told.{document_meant}
 use Rattle.graphql_validation.specs.Operations.{all_told}
 use Rattle.graphql_validation.specs.TellsDocument.{IsTypedUnder, TellsDocument}
-use Rattle.graphql_validation.proofs.Telling.{nothing_told, told_nothing, begins_same, refused_so}
+use Rattle.rule_merging.proofs.Behind.{nothing_told, told_nothing, begins_same, refused_so}
 use Rattle.graphql_validation.proofs.WholeDocuments.{own_names, reaches_typed, tells_document, tells_merging, silent_is_valid, valid_is_silent, all_none, only_none}
 use Rattle.graphql_validation.proofs.document.validate_executable_document.Goals as goal
 

@@ -8,7 +8,7 @@ use Rattle.rule_subscriptions.specs.Told.{document_meant}
 use Rattle.graphql_validation.specs.Operations.{all_told}
 use Rattle.graphql_validation.specs.Told.{set_meant, TellsFieldSet}
 use Rattle.graphql_validation.proofs.FieldSets.{told_of_set, silent_set, valid_set}
-use Rattle.graphql_validation.proofs.Telling.{nothing_told, told_nothing, begins_same, refused_so}
+use Rattle.rule_merging.proofs.Behind.{nothing_told, told_nothing, begins_same, refused_so}
 use Rattle.graphql_validation.proofs.field_set.validate_field_set.Goals as goal
 
 pub returns-in_err-document-clause-begins : goal.returns-in_err-document-clause-begins

@@ -7,7 +7,7 @@ use Rattle.rule_document_ground.specs.Broken.{brokens_of}
 use Rattle.rule_subscriptions.specs.Told.{document_meant}
 use Rattle.graphql_validation.specs.Operations.{all_told}
 use Rattle.graphql_validation.specs.Told.{TellsAlone}
-use Rattle.graphql_validation.proofs.Telling.{nothing_told, told_nothing, begins_same, refused_so}
+use Rattle.rule_merging.proofs.Behind.{nothing_told, told_nothing, begins_same, refused_so}
 use Rattle.graphql_validation.proofs.WholeAlone.{tells_alone, silent_is_valid, valid_is_silent}
 use Rattle.graphql_validation.proofs.standalone.validate_standalone_executable.Goals as goal
 

@@ -6,7 +6,8 @@ use Rattle.graphql_faults.specs.DetailsView.{diagnostics_of}
 use Rattle.rule_document_definitions.specs.DocumentFaults.{OfDocument}
 use Rattle.rule_document_ground.specs.Broken.{brokens_of}
 use Rattle.graphql_validation.specs.Told.{of_document}
-use Rattle.graphql_validation.proofs.Telling.{told_in_turn, begins_behind, begins_kept, refused_so}
+use Rattle.rule_merging.proofs.Behind.{begins_behind, begins_kept, refused_so}
+use Rattle.graphql_validation.proofs.Telling.{told_in_turn}
 use Rattle.graphql_validation.proofs.told.append_all.Goals as goal
 
 pub returns-clause-added : goal.returns-clause-added

@@ -1,19 +1,20 @@
 //! Whether the fields of operations merge.
 ghost use Rattle.std.specs.Prelude.{◌≡◌, ◌↔◌, ◌++◌, [], false, map, IsTrue, OnOk, OnErr};
 ghost use Rattle.graphql_faults.specs.DetailsView.{diagnostics_of, BeginsAs};
-ghost use Rattle.rule_document_ground.specs.Broken.{brokens_of};
+ghost use Rattle.rule_field_groups.specs.in_ground.Broken.{brokens_of};
 ghost use Rattle.rule_definitions.specs.Judged.{judged};
-ghost use Rattle.graphql_schema.specs.SchemaOf.{schema_tree};
-ghost use Rattle.rule_subscriptions.specs.Told.{document_meant, operation_meant};
-ghost use Rattle.graphql_validation.specs.Merged.{AreSettledIf, limit_told, conflicts_told};
-ghost use Rattle.graphql_validation.specs.Told.{of_document};
+ghost use Rattle.document_typing.specs.in_schema.SchemaOf.{schema_tree};
+ghost use Rattle.rule_merging.specs.Verdict.{document_meant, operation_meant};
+ghost use Rattle.rule_merging.specs.Merged.{AreSettledIf, limit_told, conflicts_told};
+ghost use Rattle.rule_merging.specs.Telling.{of_document};
 
-use crate::told::{Breach, append_breaches};
+use crate::operation::{Examined, examine_operation};
+use crate::told::append_breaches;
 use document_typed_operations::{ExecutableDocument, Operation};
+use document_typing::Schema;
 use graphql_faults::{Details, DiagnosticList};
 use graphql_names::Node;
-use graphql_schema::Schema;
-use rule_merging::{Examined, examine_operation};
+use rule_field_groups::Breach;
 use std::alloc::{AllocError, Global};
 
 /// Whether the fields of operations merge (section 5.3.2, "FieldsInSetCanMerge"). What was examined is kept over all
@@ -42,7 +43,7 @@ impl Drop for FieldsInSetCanMerge<'_> {
 }
 
 impl<'doc> FieldsInSetCanMerge<'doc> {
-    ghost use Rattle.graphql_validation.specs.Merger.{merger_of, IsCountedMerger, MergerTold, SilenceMeansMerging, StaysCleanInSilence, StaysCounted};
+    ghost use Rattle.rule_merging.specs.Merger.{merger_of, IsCountedMerger, MergerTold, SilenceMeansMerging, StaysCleanInSilence, StaysCounted};
 
     /// A clean value, for the operations of the document.
     pub fn new(

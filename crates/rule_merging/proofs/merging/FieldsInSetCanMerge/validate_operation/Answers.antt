@@ -1,13 +1,13 @@
 use Rattle.std.proofs.Common.{map, ap, sym, true≢false}
 use Rattle.graphql_faults.specs.DetailsView.{diagnostics_of}
-use Rattle.rule_document_ground.specs.Broken.{broken_of, brokens_of}
+use Rattle.rule_field_groups.specs.in_ground.Broken.{broken_of, brokens_of}
 use Rattle.rule_definitions.specs.Judged.{judged}
-use Rattle.graphql_schema.specs.SchemaOf.{schema_tree}
-use Rattle.rule_subscriptions.specs.Told.{document_meant, operation_meant}
-use Rattle.graphql_validation.specs.Merged.{conflicts_told}
-use Rattle.graphql_validation.proofs.Conflicts.{conflicts_right, only_no_conflicts, stays_exactly, still_settled, settled_merges}
-use Rattle.graphql_validation.proofs.Telling.{nothing_told, begins_same, refused_so}
-use Rattle.graphql_validation.proofs.merging.FieldsInSetCanMerge.validate_operation.Goals as goal
+use Rattle.document_typing.specs.in_schema.SchemaOf.{schema_tree}
+use Rattle.rule_merging.specs.Verdict.{document_meant, operation_meant}
+use Rattle.rule_merging.specs.Merged.{conflicts_told}
+use Rattle.rule_merging.proofs.Conflicts.{conflicts_right, only_no_conflicts, stays_exactly, still_settled, settled_merges}
+use Rattle.rule_merging.proofs.Behind.{nothing_told, begins_same, refused_so}
+use Rattle.rule_merging.proofs.merging.FieldsInSetCanMerge.validate_operation.Goals as goal
 
 pub returns-in_err-left-clause-begins : goal.returns-in_err-left-clause-begins
 returns-in_err-left-clause-begins c = refused_so _ (begins_same (diagnostics_of c.args.list.now))

@@ -1,7 +1,7 @@
 -- What contracts see of a `FieldsInSetCanMerge`.
 use Rattle.std.specs.Prelude.{◌≡◌, ◌↔◌, ℕ, Bool, List, Contains, IsTrue}
 use Rattle.graphql_names.specs.Placed.{Place}
-use Rattle.graphql_schema.specs.SchemaOf.{schema_tree}
+use Rattle.document_typing.specs.in_schema.SchemaOf.{schema_tree}
 use Rattle.document_meaning.specs.MeantTree.{MeantOperation, MeantDocument}
 use Rattle.rule_definitions.specs.Judged.{Judged, judged}
 use Rattle.rule_document_definitions.specs.Merging.{FieldsMerge}
@@ -9,9 +9,9 @@ use Rattle.rule_document_definitions.specs.Selected.{operations}
 use Rattle.rule_merging_laws.specs.Contents.{PlainField}
 use Rattle.rule_merging.specs.Counted.{IsCountedBy}
 use Rattle.rule_merging.specs.Verdict.{document_meant, lists_examined, comparisons_of}
-use Rattle.graphql_validation.specs.Told.{Telling}
-use Rattle.graphql_validation.specs.Merged.{MergingTold}
-use Rattle.graphql_validation.specs.declared.merging.FieldsInSetCanMerge.{FieldsInSetCanMerge}
+use Rattle.rule_merging.specs.Telling.{Telling}
+use Rattle.rule_merging.specs.Merged.{MergingTold}
+use Rattle.rule_merging.specs.declared.merging.FieldsInSetCanMerge.{FieldsInSetCanMerge}
 
 pub record Merger : Type 0 where
   pub schema : Judged

@@ -10,7 +10,7 @@ use Rattle.rule_document_definitions.specs.Reached.{AtOperation}
 use Rattle.rule_document_definitions.specs.Told.{PlacedDocumentFault}
 use Rattle.rule_merging.specs.Verdict.{AreBothSettled}
 use Rattle.rule_merging.specs.declared.operation.Examined.{Examined}
-use Rattle.graphql_validation.specs.Told.{Telling, of_document}
+use Rattle.rule_merging.specs.Telling.{Telling, of_document}
 
 module _ (s : Judged) (d : MeantDocument Place) where
   -- a rule on merging fails so in the operation, or the bound on its chains of fields is passed

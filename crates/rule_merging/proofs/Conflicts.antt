@@ -13,14 +13,14 @@ use Rattle.rule_document_definitions.specs.Merging.{FieldsMerge}
 use Rattle.rule_document_definitions.specs.Told.{PlacedDocumentFault}
 use Rattle.rule_document_definitions.proofs.MergingFacts.{merging_breaks_nothing}
 use Rattle.rule_document_definitions.proofs.Stable.{merge_if_nothing_breaks}
+use Rattle.rule_document_definitions.proofs.Unplaced.{contains_unmap}
 use Rattle.rule_merging.specs.Examined.{Breaches}
 use Rattle.rule_merging.specs.Verdict.{ExaminesOperation}
 use Rattle.rule_merging.specs.declared.operation.Examined.{Examined}
-use Rattle.rule_document_ground.specs.Broken.{brokens_of}
-use Rattle.rule_document_ground.proofs.Bridge.{from_map}
-use Rattle.graphql_validation.specs.Merged.{MergingFailsAt, AreSettledIf, limit_told, conflicts_told}
-use Rattle.graphql_validation.specs.Told.{Telling, of_document}
-use Rattle.graphql_validation.proofs.Telling.{breaches_told, nothing_told, told_nothing}
+use Rattle.rule_field_groups.specs.in_ground.Broken.{brokens_of}
+use Rattle.rule_merging.specs.Merged.{MergingFailsAt, AreSettledIf, limit_told, conflicts_told}
+use Rattle.rule_merging.specs.Telling.{Telling, of_document}
+use Rattle.rule_merging.proofs.Behind.{breaches_told, nothing_told, told_nothing}
 
 -- ---- what is told, as one list
 
@@ -65,7 +65,7 @@ module _ (s : Judged) (d : MeantDocument Place) (o : MeantOperation Place) (old 
   -- all that is told fails
   pub conflicts_right : (f : PlacedDocumentFault) → Contains (conflicts_told (brokens_of told) o.place left) f → MergingFailsAt s d o f
   conflicts_right f c = elim (Contains-append_cases (map OfDocument (brokens_of told)) (limit_told o.place left) f c) [
-    | inl h ↦ let b = from_map OfDocument (brokens_of told) f h in
+    | inl h ↦ let b = contains_unmap OfDocument (brokens_of told) f h in
         subst (MergingFailsAt s d o) b.1.1 (examined.1.1.right b.0 (subst (λ l. Contains l b.0) is_added b.1.0))
     | inr h ↦ limit left refl h
   ]

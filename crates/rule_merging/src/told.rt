@@ -1,0 +1,21 @@
+//! Adding breaches to a list of faults.
+ghost use Rattle.std.specs.Prelude.{◌≡◌, ◌++◌, map, OnErr, OnOk};
+ghost use Rattle.rule_document_definitions.specs.DocumentFaults.{OfDocument};
+ghost use Rattle.graphql_faults.specs.DetailsView.{diagnostics_of, BeginsAs};
+ghost use Rattle.rule_field_groups.specs.in_ground.Broken.{brokens_of};
+ghost use Rattle.rule_merging.specs.Telling.{of_document};
+
+use graphql_faults::{Details, DiagnosticList};
+use rule_field_groups::Breach;
+use std::alloc::AllocError;
+
+/// Adds the breaches at the end, in order. After a refusal the list begins as before.
+pub fn append_breaches(list: &mut DiagnosticList, breaches: Vec<Breach>) -> Result<(), AllocError>
+    ensures added { OnOk result (diagnostics_of list.new ≡ diagnostics_of list.old ++ map (λ b. of_document (OfDocument b)) (brokens_of breaches)) }
+    ensures begins { OnErr result (BeginsAs (diagnostics_of list.old) (diagnostics_of list.new)) }
+{
+    for (place, breach) in breaches {
+        list.push(place, Details::DocumentBuild(breach))?;
+    }
+    Ok(())
+}
