@@ -7,7 +7,7 @@ ghost use Rattle.graphql_faults.specs.DetailsView.{diagnostics_of};
 ghost use Rattle.verdict_definitions.specs.Says.{of_folding, of_typing};
 
 use fault_document_data::BuildError as DocumentError;
-use graphql_faults::{Details, DiagnosticList};
+use graphql_faults::DiagnosticList;
 use graphql_names::SourceSpan;
 use schema_fold::BuildError as SchemaError;
 use std::alloc::{AllocError, Global};
@@ -20,9 +20,7 @@ pub(crate) fn schema_errors(
     ensures { IfOk result (λ list. diagnostics_of list ≡ map of_folding (faults_of errors)) }
 {
     let mut list = DiagnosticList::new(alloc);
-    for (place, error) in errors {
-        list.push(place, Details::SchemaBuild(error))?;
-    }
+    list.append_schema_errors(errors)?;
     Ok(list)
 }
 
@@ -34,8 +32,6 @@ pub(crate) fn document_errors(
     ensures { IfOk result (λ list. diagnostics_of list ≡ map of_typing (typing.faults_of errors)) }
 {
     let mut list = DiagnosticList::new(alloc);
-    for (place, error) in errors {
-        list.push(place, Details::DocumentBuild(error))?;
-    }
+    list.append_document_errors(errors)?;
     Ok(list)
 }

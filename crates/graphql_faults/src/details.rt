@@ -2,7 +2,9 @@
 ghost use Rattle.std.specs.Prelude.{◌≡◌, Some};
 ghost use Rattle.graphql_faults.specs.DetailsView.{details_of};
 ghost use Rattle.graphql_faults.specs.DetailsMessages.{details_message, syntax_message};
+ghost use Rattle.graphql_faults.specs.DetailsNames.{details_name};
 
+use crate::rule_names::{document_rule_name, folding_rule_name, rule_name};
 use fault_data::DiagnosticData;
 use fault_document_data::BuildError as DocumentError;
 use graphql_read::SyntaxFaultKind;
@@ -37,6 +39,23 @@ impl Drop for Details {
             | Details::DocumentBuild(_)
             | Details::Data(_)
             | Details::RecursionLimitError => {}
+        }
+    }
+}
+
+impl Details {
+    /// The name of what is wrong: that of the rule that is broken, as `UnusedFragment`, which is the name of its variant.
+    pub fn name(&self) -> &'static str
+        ensures { result.now ≡ details_name (details_of self.now) }
+    {
+        match self {
+            Details::Syntax(_) => "Syntax",
+            Details::Nesting => "Nesting",
+            Details::Spent => "Spent",
+            Details::SchemaBuild(error) => folding_rule_name(error),
+            Details::DocumentBuild(error) => document_rule_name(error),
+            Details::Data(diagnostic) => rule_name(diagnostic),
+            Details::RecursionLimitError => "RecursionLimitError",
         }
     }
 }

@@ -3,11 +3,13 @@ ghost use Rattle.std.specs.Prelude.{◌≡◌, [], ◌∷◌, ◌++◌, length, 
 ghost use Rattle.std.specs.Slice.Iter.{iter_rest};
 ghost use Rattle.fault_data.specs.FaultView.{fault_of, faults_of};
 ghost use Rattle.graphql_faults.specs.DetailsTree.{of_rule};
-ghost use Rattle.graphql_faults.specs.DetailsView.{details_at, diagnostics_of, BeginsAs};
+ghost use Rattle.graphql_faults.specs.DetailsView.{details_at, schema_error_at, document_error_at, diagnostics_of, BeginsAs};
 
 use crate::details::Details;
 use fault_data::Fault;
+use fault_document_data::BuildError as DocumentError;
 use graphql_names::SourceSpan;
+use schema_fold::BuildError as SchemaError;
 use std::alloc::{AllocError, Global};
 use std::slice;
 
@@ -67,6 +69,35 @@ impl DiagnosticList {
     {
         for fault in faults {
             self.push_fault(fault)?;
+        }
+        Ok(())
+    }
+
+    /// Moves what breaks rules of folding to the end, in order, as the builder of a schema gives it. After a refusal the list
+    /// begins as before.
+    pub fn append_schema_errors(
+        &mut self,
+        errors: Vec<(Option<SourceSpan>, SchemaError)>,
+    ) -> Result<(), AllocError>
+        ensures added { OnOk result (diagnostics_of self.new ≡ diagnostics_of self.old ++ map schema_error_at errors.items) }
+        ensures begins { OnErr result (BeginsAs (diagnostics_of self.old) (diagnostics_of self.new)) }
+    {
+        for (place, error) in errors {
+            self.push(place, Details::SchemaBuild(error))?;
+        }
+        Ok(())
+    }
+
+    /// The same of what breaks rules of typing, as the builder of a document gives it.
+    pub fn append_document_errors(
+        &mut self,
+        errors: Vec<(Option<SourceSpan>, DocumentError)>,
+    ) -> Result<(), AllocError>
+        ensures added { OnOk result (diagnostics_of self.new ≡ diagnostics_of self.old ++ map document_error_at errors.items) }
+        ensures begins { OnErr result (BeginsAs (diagnostics_of self.old) (diagnostics_of self.new)) }
+    {
+        for (place, error) in errors {
+            self.push(place, Details::DocumentBuild(error))?;
         }
         Ok(())
     }

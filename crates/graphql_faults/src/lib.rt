@@ -1,7 +1,8 @@
 //! What is wrong with texts, schemas and documents: lists of it, and how it is told.
 //!
 //! For the layers above: contracts see a list as places and plain data (`specs/DetailsTree.antt`); a list grows at its end; a
-//! message is its template, filled (`specs/DetailsMessages.antt`, and those of the crates beneath).
+//! message is its template, filled (`specs/DetailsMessages.antt`, and those of the crates beneath); a name is that of the rule
+//! (`specs/DetailsNames.antt`).
 //!
 //! What breaks rules stands in `fault_data`, and for typing documents, merging, subscriptions and `@defer` in
 //! `fault_document_data`. Begin with `details.rt` and `diagnostic_list.rt`.
@@ -11,6 +12,7 @@ mod comma_separated;
 mod details;
 mod diagnostic_list;
 mod name_or_anon;
+mod rule_names;
 
 pub use comma_separated::CommaSeparated;
 pub use details::Details;

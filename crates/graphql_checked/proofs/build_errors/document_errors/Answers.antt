@@ -1,26 +1,9 @@
-use Rattle.std.proofs.Common.{◌≡◌, ◌∷◌, [], ◌++◌, length, sym, ap, ◌∙◌, append_assoc, arith}
-use Rattle.std.specs.Vec.Iter.{into_iter_items}
-use Rattle.graphql_names.specs.Placed.{Place}
-use Rattle.fault_document_data.specs.declared.build_error.BuildError.{BuildError}
+use Rattle.std.proofs.Common.{◌++◌, map, sym, ap, ◌∙◌}
+use Rattle.std.proofs.lemmas.Simd.{map-map}
 use Rattle.document_typing.specs.FaultView.{fault_of}
-use Rattle.graphql_faults.proofs.Growing.{grown_more, grown_all}
+use Rattle.graphql_faults.specs.DetailsView.{document_error_at}
 use Rattle.verdict_definitions.specs.Says.{of_typing}
 use Rattle.graphql_checked.proofs.build_errors.document_errors.Goals as goal
 
-pub loop-place-preserved : goal.loop-place-preserved
-loop-place-preserved c =
-    let at = c.loop-place in
-    let x : Place × BuildError = (c.in-Some.place, c.in-Some.error) in
-    let steps : into_iter_items at.place-iterator ≡ x ∷ into_iter_items c.next.new.self = c.in-Some.ensures.steps.0 in (
-      grown_more fault_of of_typing [] _ _ at.yielded x at.invariant.0 c.in_ok-push.ensures.added,
-      at.invariant.1 ∙ ap (λ r. at.yielded ++ r) steps ∙ sym (append_assoc at.yielded (x ∷ []) (into_iter_items c.next.new.self)),
-      let was = at.invariant.2 in
-          let gone = c.in-Some.ensures.steps.1 in
-          let short = ap length steps in
-          omega arith,
-    )
-
 pub returns : goal.returns
-returns c =
-    let at = c.loop-place in
-    grown_all fault_of of_typing [] _ c.args.errors.items at.yielded _ at.invariant.0 at.invariant.1 (sym at.invariant.2 ∙ c.in-None.ensures.steps.0)
+returns c = c.in_ok-append_document_errors.ensures.added ∙ ap (λ l. l ++ map document_error_at c.args.errors.items) c.new-list.ensures ∙ sym (map-map of_typing fault_of c.args.errors.items)

@@ -1,12 +1,10 @@
 use Rattle.std.proofs.Common.{◌≡◌, ◌++◌, length, map}
 use Rattle.std.specs.Vec.Iter.{into_iter_items, into_iter_len}
-use Rattle.schema_fold.specs.FaultView.{fault_of}
-use Rattle.graphql_faults.specs.DetailsView.{diagnostics_of}
-use Rattle.verdict_definitions.specs.Says.{of_folding}
-use Rattle.graphql_checked.proofs.build_errors.schema_errors.Given as goal
+use Rattle.graphql_faults.specs.DetailsView.{diagnostics_of, document_error_at}
+use Rattle.graphql_faults.proofs.diagnostic_list.DiagnosticList.append_document_errors.Given as goal
 
 abbrev pub invariant-loop-place : goal.invariant-loop-place
 invariant-loop-place l =
-    (diagnostics_of l.list ≡ map of_folding (map fault_of l.yielded))
+    (diagnostics_of l.self ≡ diagnostics_of l.initial.self ++ map document_error_at l.yielded)
     × (l.fn.errors.items ≡ l.yielded ++ into_iter_items l.place-iterator)
     × (into_iter_len l.place-iterator ≡ length (into_iter_items l.place-iterator))
