@@ -13,30 +13,26 @@ use std::alloc::{AllocError, Global};
 
 /// Adds details of each kind.
 pub(crate) fn show_kinds(lines: &mut Lines) {
-    show_details(lines, "Syntax", Details::Syntax(SyntaxFaultKind::NoToken));
-    show_details(
-        lines,
-        "Syntax",
-        Details::Syntax(SyntaxFaultKind::Unexpected),
-    );
-    show_details(lines, "Syntax", Details::Syntax(SyntaxFaultKind::End));
-    show_details(lines, "Nesting", Details::Nesting);
-    show_details(lines, "Spent", Details::Spent);
-    show_details(lines, "RecursionLimitError", Details::RecursionLimitError);
+    show_details(lines, &Details::Syntax(SyntaxFaultKind::NoToken));
+    show_details(lines, &Details::Syntax(SyntaxFaultKind::Unexpected));
+    show_details(lines, &Details::Syntax(SyntaxFaultKind::End));
+    show_details(lines, &Details::Nesting);
+    show_details(lines, &Details::Spent);
+    show_details(lines, &Details::RecursionLimitError);
     show_built(lines);
     let unused = DiagnosticData::UnusedVariable { name: type_name() };
-    show_details(lines, "Data", Details::Data(unused));
+    show_details(lines, &Details::Data(unused));
 }
 
 /// Adds details of an error of folding, and of one of typing.
 fn show_built(lines: &mut Lines) {
     let collision = SchemaError::TypeDefinitionCollision { name: type_name() };
-    show_details(lines, "SchemaBuild", Details::SchemaBuild(collision));
+    show_details(lines, &Details::SchemaBuild(collision));
     let collision = DocumentError::FragmentNameCollision { name: type_name() };
-    show_details(lines, "DocumentBuild", Details::DocumentBuild(collision));
+    show_details(lines, &Details::DocumentBuild(collision));
 }
 
-/// Adds a list of two, of which one is a copy, behind its length.
+/// Adds a list of four, of which one is a copy and two are of builders, behind its length.
 pub(crate) fn show_list(alloc: Global, lines: &mut Lines) -> Result<(), AllocError> {
     let mut list = DiagnosticList::new(alloc);
     list.push(None, Details::Nesting)?;
@@ -45,6 +41,12 @@ pub(crate) fn show_list(alloc: Global, lines: &mut Lines) -> Result<(), AllocErr
         data: DiagnosticData::UnusedFragment { name: type_name() },
     };
     list.push_fault(unused.clone()?)?;
+    let mut folding = Vec::new(alloc);
+    folding.push((None, SchemaError::OrphanSchemaExtension))?;
+    list.append_schema_errors(folding)?;
+    let mut typing = Vec::new(alloc);
+    typing.push((None, DocumentError::AmbiguousAnonymousOperation))?;
+    list.append_document_errors(typing)?;
     lines.show_between("DiagnosticList: ", &list.len(), "\n");
     for diagnostic in list.iter() {
         lines.show_between("- ", &diagnostic.1, "\n");

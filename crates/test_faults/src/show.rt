@@ -20,8 +20,8 @@ fn show_copy(lines: &mut Lines, copy: &DiagnosticData, is_equal: bool) {
     lines.show_between(" copy: ", copy, "\n");
 }
 
-/// Adds what the details tell, behind the name of their variant.
-pub(crate) fn show_details(lines: &mut Lines, variant: &str, details: Details) {
-    lines.show_between(variant, &": ", "");
-    lines.show_between("", &details, "\n");
+/// Adds what the details tell, behind their name.
+pub(crate) fn show_details(lines: &mut Lines, details: &Details) {
+    lines.show_between(details.name(), &": ", "");
+    lines.show_between("", details, "\n");
 }
