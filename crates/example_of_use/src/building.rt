@@ -1,0 +1,73 @@
+//! Trees, schemas and documents, with what is wrong told to a list. Where the builders refuse, memory has run out.
+
+use graphql_ast::Document;
+use graphql_documents::{ExecutableDocument, ExecutableDocumentExt};
+use graphql_faults::{Details, DiagnosticList};
+use graphql_names::{FileId, SourceSpan};
+use graphql_read::{ReadFault, parse_document};
+use graphql_schema::Schema;
+use std::alloc::{AllocError, Global};
+
+/// How many brackets may be open at once.
+const NESTING: usize = 500;
+
+/// The tree of a text; none where it is not read, and then the list is told why.
+pub(crate) fn read(
+    alloc: Global,
+    text: &str,
+    file_id: FileId,
+    faults: &mut DiagnosticList,
+) -> Result<Option<Document>, AllocError> {
+    let (offset, details) = match parse_document(alloc, text, file_id, NESTING) {
+        Ok(tree) => return Ok(Some(tree)),
+        Err(ReadFault::Syntax(fault)) => (fault.offset, Details::Syntax(fault.kind)),
+        Err(ReadFault::Nesting { offset }) => (offset, Details::Nesting),
+        Err(ReadFault::Memory) => return Err(AllocError),
+    };
+    let place = SourceSpan {
+        file_id,
+        offset,
+        length: 0,
+    };
+    faults.push(Some(place), details)?;
+    Ok(None)
+}
+
+/// The schema that the definitions fold to. The list is told what breaks a rule of folding.
+pub(crate) fn fold(
+    alloc: Global,
+    tree: &Document,
+    faults: &mut DiagnosticList,
+) -> Result<Schema, AllocError> {
+    let mut builder = Schema::builder(alloc);
+    if builder.add_ast(tree).is_err() {
+        return Err(AllocError);
+    }
+    let Ok((schema, errors)) = builder.build() else {
+        return Err(AllocError);
+    };
+    for (place, error) in errors {
+        faults.push(place, Details::SchemaBuild(error))?;
+    }
+    Ok(schema)
+}
+
+/// The document, in which each field has its definition from the schema. The list is told what breaks a rule of typing.
+pub(crate) fn typed(
+    alloc: Global,
+    schema: &Schema,
+    tree: &Document,
+    faults: &mut DiagnosticList,
+) -> Result<ExecutableDocument, AllocError> {
+    let mut builder = ExecutableDocument::builder(alloc, Some(schema));
+    if builder.add_ast_document(tree).is_err() {
+        return Err(AllocError);
+    }
+    let Ok((document, errors)) = builder.build() else {
+        return Err(AllocError);
+    };
+    for (place, error) in errors {
+        faults.push(place, Details::DocumentBuild(error))?;
+    }
+    Ok(document)
+}
