@@ -1,4 +1,5 @@
-//! Trees, schemas and documents, with what is wrong told to a list. Where the builders refuse, memory has run out.
+//! Trees, schemas and documents, with what is wrong told to a list. A builder refuses where memory runs out, or
+//! numbers of extensions, which are as many as 64 bits count.
 
 use graphql_ast::Document;
 use graphql_documents::{ExecutableDocument, ExecutableDocumentExt};
@@ -18,19 +19,32 @@ pub(crate) fn read(
     file_id: FileId,
     faults: &mut DiagnosticList,
 ) -> Result<Option<Document>, AllocError> {
-    let (offset, details) = match parse_document(alloc, text, file_id, NESTING) {
-        Ok(tree) => return Ok(Some(tree)),
-        Err(ReadFault::Syntax(fault)) => (fault.offset, Details::Syntax(fault.kind)),
-        Err(ReadFault::Nesting { offset }) => (offset, Details::Nesting),
-        Err(ReadFault::Memory) => return Err(AllocError),
+    match parse_document(alloc, text, file_id, NESTING) {
+        Ok(tree) => Ok(Some(tree)),
+        Err(fault) => {
+            tell_unread(file_id, fault, faults)?;
+            Ok(None)
+        }
+    }
+}
+
+/// Tells the list why the text of this file is not read.
+fn tell_unread(
+    file_id: FileId,
+    fault: ReadFault,
+    faults: &mut DiagnosticList,
+) -> Result<(), AllocError> {
+    let (offset, details) = match fault {
+        ReadFault::Syntax(fault) => (fault.offset, Details::Syntax(fault.kind)),
+        ReadFault::Nesting { offset } => (offset, Details::Nesting),
+        ReadFault::Memory => return Err(AllocError),
     };
     let place = SourceSpan {
         file_id,
         offset,
         length: 0,
     };
-    faults.push(Some(place), details)?;
-    Ok(None)
+    faults.push(Some(place), details)
 }
 
 /// The schema that the definitions fold to. The list is told what breaks a rule of folding.

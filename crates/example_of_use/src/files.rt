@@ -24,7 +24,7 @@ pub(crate) struct Pair<'a> {
 
 impl<'a> Pair<'a> {
     /// The file with this number, if it is one of the two.
-    pub(crate) fn file(self, number: FileId) -> Option<File<'a>> {
+    pub(crate) fn by_number(self, number: FileId) -> Option<File<'a>> {
         if number == SCHEMA {
             return Some(self.schema);
         }

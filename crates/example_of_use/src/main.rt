@@ -50,7 +50,7 @@ fn judge(
 }
 
 /// Prints a line for each fault of the two texts, or the schema.
-fn check(rt: &HostRuntime, files: Pair<'_>) -> io::Result<()> {
+fn tell(rt: &HostRuntime, files: Pair<'_>) -> io::Result<()> {
     let mut faults = DiagnosticList::new(rt.alloc());
     let written = judge(rt.alloc(), files, &mut faults)?;
     let lines = lines_of(rt.alloc(), files, &faults)?;
@@ -63,8 +63,8 @@ fn check(rt: &HostRuntime, files: Pair<'_>) -> io::Result<()> {
     }
 }
 
-/// Reads the two files, and checks what they hold.
-fn check_files(rt: &HostRuntime, schema: &str, document: &str) -> io::Result<()> {
+/// Reads the two files, and tells of what they hold.
+fn judge_files(rt: &HostRuntime, schema: &str, document: &str) -> io::Result<()> {
     let schema_text = fs::read_to_string(rt, schema)?;
     let document_text = fs::read_to_string(rt, document)?;
     let schema = File {
@@ -75,7 +75,7 @@ fn check_files(rt: &HostRuntime, schema: &str, document: &str) -> io::Result<()>
         name: document,
         text: document_text.as_str(),
     };
-    check(rt, Pair { schema, document })
+    tell(rt, Pair { schema, document })
 }
 
 fn main(rt: HostRuntime) -> io::Result<()> {
@@ -84,7 +84,7 @@ fn main(rt: HostRuntime) -> io::Result<()> {
         return println!(rt; "the words are SCHEMA DOCUMENT...");
     };
     for document in words.iter().skip(2) {
-        check_files(&rt, schema, document)?;
+        judge_files(&rt, schema, document)?;
     }
     Ok(())
 }

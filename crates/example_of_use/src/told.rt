@@ -32,7 +32,7 @@ fn line_of(
 ) -> Result<Told, AllocError> {
     let rule = rule_of(details);
     if let Some(span) = place {
-        if let Some(file) = files.file(span.file_id) {
+        if let Some(file) = files.by_number(span.file_id) {
             let name = file.name;
             let (line, column) = line_and_column(file.text, span.offset);
             let text = format!(in alloc; "{name}:{line}:{column}: {rule}: {details}")?;
