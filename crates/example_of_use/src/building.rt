@@ -60,9 +60,7 @@ pub(crate) fn fold(
     let Ok((schema, errors)) = builder.build() else {
         return Err(AllocError);
     };
-    for (place, error) in errors {
-        faults.push(place, Details::SchemaBuild(error))?;
-    }
+    faults.append_schema_errors(errors)?;
     Ok(schema)
 }
 
@@ -80,8 +78,6 @@ pub(crate) fn typed(
     let Ok((document, errors)) = builder.build() else {
         return Err(AllocError);
     };
-    for (place, error) in errors {
-        faults.push(place, Details::DocumentBuild(error))?;
-    }
+    faults.append_document_errors(errors)?;
     Ok(document)
 }

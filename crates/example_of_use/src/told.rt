@@ -1,8 +1,7 @@
 //! Faults in words.
 
 use crate::files::{Pair, line_and_column};
-use graphql_documents::BuildError;
-use graphql_faults::{Details, DiagnosticData, DiagnosticList};
+use graphql_faults::{Details, DiagnosticList};
 use graphql_names::SourceSpan;
 use std::alloc::{AllocError, Global};
 
@@ -30,7 +29,7 @@ fn line_of(
     place: Option<SourceSpan>,
     details: &Details,
 ) -> Result<Told, AllocError> {
-    let rule = rule_of(details);
+    let rule = details.name();
     if let Some(span) = place {
         if let Some(file) = files.by_number(span.file_id) {
             let name = file.name;
@@ -40,16 +39,4 @@ fn line_of(
         }
     }
     Ok((0, 0, format!(in alloc; "{rule}: {details}")?))
-}
-
-/// The name of the rule, which is that of its variant, for those that this program knows.
-fn rule_of(details: &Details) -> &'static str {
-    match details {
-        Details::Syntax(_) => "Syntax",
-        Details::DocumentBuild(BuildError::UndefinedField { .. }) => "UndefinedField",
-        Details::Data(DiagnosticData::UndefinedArgument { .. }) => "UndefinedArgument",
-        Details::Data(DiagnosticData::UnusedVariable { .. }) => "UnusedVariable",
-        Details::Data(DiagnosticData::UnusedFragment { .. }) => "UnusedFragment",
-        _ => "another rule",
-    }
 }
