@@ -10,7 +10,7 @@ use Rattle.read_grammar.specs.Depth.{depth}
 use Rattle.read_grammar.specs.Faults as faults
 use Rattle.read_grammar.specs.Faults.{Symbol, StandsAt}
 use Rattle.read_grammar.proofs.Nests.{depth_front}
-use Rattle.graphql_read.specs.Reads.{Reads, NestingBound, ReadsWithin, IsDue}
+use Rattle.graphql_read.specs.Reads.{HasTree, NestingBound, ReadsWithin, IsDue}
 use Rattle.graphql_read.specs.ReadFaults.{fault_view, StandsIn, PassesBound}
 use Rattle.graphql_read.specs.declared.fault.ReadFault.{ReadFault}
 use Rattle.graphql_read.specs.declared.fault.ReadFault.TheVariants.{Syntax, Nesting, Memory}
@@ -134,7 +134,7 @@ module _ {A : Type 0} (symbol : Symbol A) (nesting : ℕ) (text : List ℕ) wher
   passes_bound Memory due = tt
 
   -- of a text that has a tree and does not pass the bound, no fault but want of memory is due
-  pub memory_alone : (fault : faults.Fault) → IsDue symbol nesting text fault → (tree : A) → Reads symbol text tree → (NestingBound nesting text → ⊥) → fault ≡ faults.Memory
+  pub memory_alone : (fault : faults.Fault) → IsDue symbol nesting text fault → (tree : A) → HasTree symbol text tree → (NestingBound nesting text → ⊥) → fault ≡ faults.Memory
   memory_alone faults.Memory due tree r not = refl
   memory_alone (faults.NoToken offset) due tree r not =
       let whole = ends_whole text due.tokens due.ending r.tokens due.lexed r.lexed in

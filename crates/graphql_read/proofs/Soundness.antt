@@ -7,7 +7,7 @@ use Rattle.tree_operations.specs.SelectionTree.{SelectionTrees}
 use Rattle.tree_definitions.specs.DefinitionTree.{DefinitionTree}
 use Rattle.read_grammar.specs.Grammar.{Derives, DerivesType, DerivesSelections}
 use Rattle.read_operations.specs.in_read_values.Meanings.{in_file, string_of}
-use Rattle.graphql_read.specs.Reads.{Reads}
+use Rattle.graphql_read.specs.Reads.{HasTree}
 use Rattle.graphql_read.specs.Sound.{IsSound, IsSoundType, AreSound}
 use Rattle.graphql_read.proofs.Makes.{are_terminals}
 use Rattle.graphql_read.proofs.MakesValues.{type_is_writable}
@@ -15,7 +15,7 @@ use Rattle.graphql_read.proofs.MakesDocuments.{document_is_writable, writable_na
 use Rattle.graphql_read.proofs.StandsDocuments.{document_is_own, type_is_own, selections_are_own}
 
 module _ (file : FileId) (text : List ℕ) where
-  pub document_sound : (tree : List (DefinitionTree Place)) → Reads (Derives (in_file file)) text tree → IsSound file.0 tree
+  pub document_sound : (tree : List (DefinitionTree Place)) → HasTree (Derives (in_file file)) text tree → IsSound file.0 tree
   document_sound tree r =
       let known = are_terminals text r.tokens [] r.lexed in
       let writable = document_is_writable (in_file file) r.tokens tree known r.derived in
@@ -25,13 +25,13 @@ module _ (file : FileId) (text : List ℕ) where
         own = λ ne. document_is_own string_of file.0 ne r.tokens known tree r.derived;
       }
 
-  pub type_sound : (tree : TypeTree Place) → Reads (DerivesType (in_file file)) text tree → IsSoundType file.0 tree
+  pub type_sound : (tree : TypeTree Place) → HasTree (DerivesType (in_file file)) text tree → IsSoundType file.0 tree
   type_sound tree r = record {
     writable = type_is_writable tree;
     own = λ ne. type_is_own string_of file.0 ne r.tokens (are_terminals text r.tokens [] r.lexed) tree r.derived;
   }
 
-  pub selections_sound : (trees : SelectionTrees Place) → Reads (DerivesSelections (in_file file)) text trees → AreSound file.0 trees
+  pub selections_sound : (trees : SelectionTrees Place) → HasTree (DerivesSelections (in_file file)) text trees → AreSound file.0 trees
   selections_sound trees r =
       let known = are_terminals text r.tokens [] r.lexed in
       let w = selections_are_writable (in_file file) r.tokens trees known r.derived in

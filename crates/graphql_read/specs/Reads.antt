@@ -7,7 +7,7 @@ use Rattle.read_grammar.specs.Depth.{depth}
 use Rattle.read_grammar.specs.Faults.{Symbol, Fault, Says}
 
 -- The text is these tokens, and they are a text of the symbol with this tree.
-pub record Reads {A : Type 0} (symbol : Symbol A) (text : List ℕ) (tree : A) : Type 0 where
+pub record HasTree {A : Type 0} (symbol : Symbol A) (text : List ℕ) (tree : A) : Type 0 where
   pub tokens : List Token
   pub lexed : Lex text tokens
   pub derived : symbol tokens tree
@@ -21,7 +21,7 @@ pub record NestingBound (nesting : ℕ) (text : List ℕ) : Type 0 where
 
 -- The text has this tree, and the brackets of its tokens nest within the limit.
 pub record ReadsWithin {A : Type 0} (symbol : Symbol A) (nesting : ℕ) (text : List ℕ) (tree : A) : Type 0 where
-  pub reads : Reads symbol text tree
+  pub reads : HasTree symbol text tree
   pub within : depth reads.tokens ≤ nesting
 
 -- The text is these tokens up to its ending, and the fault is due of them.

@@ -14,7 +14,7 @@ use Rattle.graphql_read.specs.in_grammar.Rules.{Rule}
 use Rattle.graphql_read.specs.in_grammar.Grammar.{DerivesAs}
 use Rattle.graphql_read.specs.in_grammar.ValueGrammar.{value, constant}
 use Rattle.graphql_read.specs.in_read_values.Meanings.{in_file}
-use Rattle.graphql_read.specs.Reads.{Reads}
+use Rattle.graphql_read.specs.Reads.{HasTree}
 use Rattle.read_printed.specs.Printed.{Follow, ends_word, before, Printed}
 use Rattle.read_printed.specs.WellFormed.{value_depth}
 use Rattle.read_printed.proofs.Alone.{literals_read}
@@ -31,7 +31,7 @@ use Rattle.rule_schema_laws.proofs.Given.{Good, Grounds, good}
 -- a printed text is read as a tree of which this is said
 record IsRead {A : Type 0} (symbol : ℕ → Rule A) (says : A → Type 0) (text : List ℕ) : Type 0 where
   tree : A
-  reads : Reads (DerivesAs symbol) text tree
+  reads : HasTree (DerivesAs symbol) text tree
   said : says tree
 
 read_alone : {A : Type 0} (symbol : ℕ → Rule A) (says : A → Type 0) (text : List ℕ) (n : ℕ) (f : Follow) → f [] ≡ true → Printed (symbol n) says f text → IsRead symbol says text
@@ -57,7 +57,7 @@ module _ (s : Judged) (ty : TypeTree (Unit {0})) (file : FileId) where
       let writable : value_writable true (unplaced_value r.tree) ≡ true = ap (value_writable true) same ∙ good.writable in (
         r.tree,
         record {
-          read = subst (λ text. Reads (DerivesAs (value (in_file file) constant)) text r.tree) (ap value_text (sym same) ∙ sym (value_same r.tree)) r.reads;
+          read = subst (λ text. HasTree (DerivesAs (value (in_file file) constant)) text r.tree) (ap value_text (sym same) ∙ sym (value_same r.tree)) r.reads;
           accepted = λ variables. ((λ t there. is_taken variables s ty t r.tree writable (subst (Takes s none ty t) (sym same) (good.taken t there))), is_defined variables r.tree writable);
           keys = λ fault. no_equal fault r.tree (sym (differ_same r.tree) ∙ ap keys_differ same ∙ good.keys);
           not_null = sym (null_same r.tree) ∙ ap is_null_value same ∙ good.not_null;

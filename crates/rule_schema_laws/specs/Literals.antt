@@ -10,7 +10,7 @@ use Rattle.tree_literals.specs.ValueWritable.{can_be_enum}
 use Rattle.graphql_read.specs.in_grammar.Grammar.{DerivesAs}
 use Rattle.graphql_read.specs.in_grammar.ValueGrammar.{value, constant}
 use Rattle.graphql_read.specs.in_read_values.Meanings.{in_file}
-use Rattle.graphql_read.specs.Reads.{Reads}
+use Rattle.graphql_read.specs.Reads.{HasTree}
 use Rattle.rule_definitions.specs.in_schema_types.SchemaTree.{is_input_kind}
 use Rattle.rule_definitions.specs.in_schema_types.declared.type_kind.TypeKind.TheVariants as kind
 use Rattle.rule_definitions.specs.Words.{Present}
@@ -29,7 +29,7 @@ module _ (s : Judged) where
   -- variables, and this is the value that is read of it in the file (section 2.9). The type accepts it, whatever variables
   -- there are (section 5.6.1); no object in it has two equal keys (section 5.6.3); and it is not null.
   pub record IsLiteral (ty : TypeTree (Unit {0})) (file : FileId) (v : ValueTree Place) : Type 0 where
-    pub read : Reads (DerivesAs (value (in_file file) constant)) (value_text v) v
+    pub read : HasTree (DerivesAs (value (in_file file) constant)) (value_text v) v
     pub accepted : (variables : Variables Place) → Accepts s variables ty v
     pub keys : (fault : FaultAt Place (List Place)) → UniqueInputValueIn v fault → ⊥
     pub not_null : is_null_value v ≡ false

@@ -5,7 +5,7 @@ use Rattle.tree_definitions.specs.DefinitionTree.{DefinitionTree}
 use Rattle.graphql_read.specs.in_tokens.Input.{Token}
 use Rattle.graphql_read.specs.in_grammar.Grammar.{Derives}
 use Rattle.graphql_read.specs.in_read_values.Meanings.{in_file}
-use Rattle.graphql_read.specs.Reads.{Reads, NestingBound}
+use Rattle.graphql_read.specs.Reads.{HasTree, NestingBound}
 
 -- a text, in bytes, and the definitions that one has
 abbrev pub Text : Type 0
@@ -27,7 +27,7 @@ DerivesIn number = Derives (in_file (record { 0 = number }))
 
 -- the text with this number has this tree
 abbrev pub ReadsText : ℕ → Text → Tree → Type 0
-ReadsText number = Reads (DerivesIn number)
+ReadsText number = HasTree (DerivesIn number)
 
 -- each text has its tree, where the first has this number and each next one the next
 abbrev pub ReadsAll : ℕ → List Text → List Tree → Type 0

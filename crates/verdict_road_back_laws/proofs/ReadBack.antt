@@ -10,7 +10,7 @@ use Rattle.tree_definitions.specs.Writable.{has_some, definition_writable, docum
 use Rattle.read_grammar.specs.Depth.{depth}
 use Rattle.read_grammar.specs.Grammar.{Derives}
 use Rattle.read_values.specs.Meanings.{in_file}
-use Rattle.graphql_read.specs.Reads.{Reads, NestingBound}
+use Rattle.graphql_read.specs.Reads.{HasTree, NestingBound}
 use Rattle.graphql_read.proofs.Bounds.{not_passed}
 use Rattle.graphql_read.proofs.Soundness.{document_sound}
 use Rattle.read_printed.specs.Definitions.{definition_well_formed}
@@ -40,7 +40,7 @@ pub record ReadsBack (number : ℕ) (text : Text) (ds : Tree) : Type 0 where
 -- a text that is read as these definitions alone
 of_alone : (number : ℕ) (text : Text) (ds : Tree) → ReadsAlone (Derives (in_file (record { 0 = number }))) unplaced_document text (unplaced_document ds) → ReadsBack number text ds
 of_alone number text ds r =
-    let read : Reads (DerivesIn number) text r.tree = record { tokens = r.tokens; lexed = r.lexed; derived = r.derived } in
+    let read : HasTree (DerivesIn number) text r.tree = record { tokens = r.tokens; lexed = r.lexed; derived = r.derived } in
     record {
       tree = r.tree;
       read = read;
