@@ -11,7 +11,7 @@ use Rattle.read_grammar.specs.Faults as faults
 use Rattle.read_grammar.specs.Faults.{Symbol, StandsAt}
 use Rattle.read_grammar.proofs.Nests.{depth_front}
 use Rattle.graphql_read.specs.Reads.{HasTree, NestingBound, ReadsWithin, IsDue}
-use Rattle.graphql_read.specs.ReadFaults.{fault_view, StandsIn, PassesBound}
+use Rattle.graphql_read.specs.ReadFaults.{fault_view, LiesIn, PassesBound}
 use Rattle.graphql_read.specs.declared.fault.ReadFault.{ReadFault}
 use Rattle.graphql_read.specs.declared.fault.ReadFault.TheVariants.{Syntax, Nesting, Memory}
 use Rattle.graphql_read.proofs.Endings.{no_piece_of_none, same_piece, ends_whole}
@@ -103,7 +103,7 @@ module _ {A : Type 0} (symbol : Symbol A) (nesting : ℕ) (text : List ℕ) wher
   not_passed tree d = within_all nesting text d.reads.tokens d.reads.lexed d.within
 
   -- a fault that is due stands in the text
-  pub stands_in : (fault : faults.Fault) → IsDue symbol nesting text fault → StandsIn text fault
+  pub stands_in : (fault : faults.Fault) → IsDue symbol nesting text fault → LiesIn text fault
   stands_in faults.Memory due = tt
   stands_in (faults.NoToken offset) due =
       let ends : EndsAs text due.tokens (NoTokenAt offset) = subst (EndsAs text due.tokens) due.says.0 due.lexed in

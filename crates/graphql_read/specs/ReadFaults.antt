@@ -47,12 +47,12 @@ abbrev pub IsEachTreeUnlessMemory : {X A : Type 0} → (X → A) → Symbol A �
 IsEachTreeUnlessMemory {X} {A} view symbol nesting text answer = (tree : A) → ReadsWithin symbol nesting text tree → IsTreeUnlessMemory view tree answer
 
 -- The fault stands in the text: `End` where it ends, each other before that. Want of memory stands nowhere.
-abbrev pub StandsIn : List ℕ → Fault → Type 0
-StandsIn text faults.Memory = ⊤
-StandsIn text (faults.NoToken offset) = offset < length text
-StandsIn text (faults.Unexpected offset) = offset < length text
-StandsIn text (faults.End offset) = offset ≡ length text
-StandsIn text (faults.Nesting offset) = offset < length text
+abbrev pub LiesIn : List ℕ → Fault → Type 0
+LiesIn text faults.Memory = ⊤
+LiesIn text (faults.NoToken offset) = offset < length text
+LiesIn text (faults.Unexpected offset) = offset < length text
+LiesIn text (faults.End offset) = offset ≡ length text
+LiesIn text (faults.Nesting offset) = offset < length text
 
 -- where the fault is of nesting, the bound is passed
 abbrev pub PassesBound : ℕ → List ℕ → ReadFault → Type 0

@@ -8,7 +8,7 @@ ghost use Rattle.read_grammar.specs.Grammar.{Derives};
 ghost use Rattle.read_grammar.specs.Reading as read;
 ghost use Rattle.read_operations.specs.in_read_values.Meanings.{in_file};
 ghost use Rattle.graphql_read.specs.Calls.{all_of};
-ghost use Rattle.graphql_read.specs.ReadFaults.{fault_view, definitions_tree, unnamed_source, IsEachTreeUnlessMemory, StandsIn, KeepsToBound};
+ghost use Rattle.graphql_read.specs.ReadFaults.{fault_view, definitions_tree, unnamed_source, IsEachTreeUnlessMemory, LiesIn, KeepsToBound};
 ghost use Rattle.graphql_read.specs.Reads.{ReadsWithin, IsDue};
 ghost use Rattle.graphql_read.specs.Sound.{IsSound};
 
@@ -48,7 +48,7 @@ fn parse_definitions(
     ensures found { IfOk result (λ x. ReadsWithin (Derives (in_file file)) nesting (rc_str_bytes text.now) (definitions_tree x)) }
     ensures only { IsEachTreeUnlessMemory definitions_tree (Derives (in_file file)) nesting (rc_str_bytes text.now) result }
     ensures fault { IfErr result (λ e. IsDue (Derives (in_file file)) nesting (rc_str_bytes text.now) (fault_view e)) }
-    ensures within { IfErr result (λ e. StandsIn (rc_str_bytes text.now) (fault_view e)) }
+    ensures within { IfErr result (λ e. LiesIn (rc_str_bytes text.now) (fault_view e)) }
     ensures bound { KeepsToBound nesting (rc_str_bytes text.now) result }
 {
     let mut tokens = Source::new(text);
@@ -94,7 +94,7 @@ pub fn parse_document(
     ensures sources { IfOk result (λ d. sources_of d ≡ (file.0, unnamed_source text.now) ∷ []) }
     ensures only { IsEachTreeUnlessMemory document_tree (Derives (in_file file)) nesting text.now result }
     ensures fault { IfErr result (λ e. IsDue (Derives (in_file file)) nesting text.now (fault_view e)) }
-    ensures within { IfErr result (λ e. StandsIn text.now (fault_view e)) }
+    ensures within { IfErr result (λ e. LiesIn text.now (fault_view e)) }
     ensures bound { KeepsToBound nesting text.now result }
 {
     let shared = RcStr::from_str(alloc, text)?;

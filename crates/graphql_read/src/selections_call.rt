@@ -5,7 +5,7 @@ ghost use Rattle.read_grammar.specs.Reading as read;
 ghost use Rattle.read_grammar.specs.Grammar.{DerivesSelections};
 ghost use Rattle.read_operations.specs.in_read_values.Meanings.{in_file};
 ghost use Rattle.graphql_read.specs.Calls.{all_of};
-ghost use Rattle.graphql_read.specs.ReadFaults.{fault_view, selections_tree, IsEachTreeUnlessMemory, StandsIn, KeepsToBound};
+ghost use Rattle.graphql_read.specs.ReadFaults.{fault_view, selections_tree, IsEachTreeUnlessMemory, LiesIn, KeepsToBound};
 ghost use Rattle.graphql_read.specs.Reads.{ReadsWithin, IsDue};
 ghost use Rattle.graphql_read.specs.Sound.{AreSound};
 
@@ -44,7 +44,7 @@ pub fn parse_selections(
     ensures sound { IfOk result (λ x. AreSound file.0 (selections_tree x)) }
     ensures only { IsEachTreeUnlessMemory selections_tree (DerivesSelections (in_file file)) nesting text.now result }
     ensures fault { IfErr result (λ e. IsDue (DerivesSelections (in_file file)) nesting text.now (fault_view e)) }
-    ensures within { IfErr result (λ e. StandsIn text.now (fault_view e)) }
+    ensures within { IfErr result (λ e. LiesIn text.now (fault_view e)) }
     ensures bound { KeepsToBound nesting text.now result }
 {
     let shared = RcStr::from_str(alloc, text)?;

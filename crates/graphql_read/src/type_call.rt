@@ -6,7 +6,7 @@ ghost use Rattle.read_grammar.specs.Reading as read;
 ghost use Rattle.read_grammar.specs.Grammar.{DerivesType};
 ghost use Rattle.read_operations.specs.in_read_values.Meanings.{in_file};
 ghost use Rattle.graphql_read.specs.Calls.{all_of};
-ghost use Rattle.graphql_read.specs.ReadFaults.{fault_view, IsEachTreeUnlessMemory, StandsIn, KeepsToBound};
+ghost use Rattle.graphql_read.specs.ReadFaults.{fault_view, IsEachTreeUnlessMemory, LiesIn, KeepsToBound};
 ghost use Rattle.graphql_read.specs.Reads.{ReadsWithin, IsDue};
 ghost use Rattle.graphql_read.specs.Sound.{IsSoundType};
 
@@ -45,7 +45,7 @@ pub fn parse_type(
     ensures sound { IfOk result (λ x. IsSoundType file.0 (type_tree x)) }
     ensures only { IsEachTreeUnlessMemory type_tree (DerivesType (in_file file)) nesting text.now result }
     ensures fault { IfErr result (λ e. IsDue (DerivesType (in_file file)) nesting text.now (fault_view e)) }
-    ensures within { IfErr result (λ e. StandsIn text.now (fault_view e)) }
+    ensures within { IfErr result (λ e. LiesIn text.now (fault_view e)) }
     ensures bound { KeepsToBound nesting text.now result }
 {
     let shared = RcStr::from_str(alloc, text)?;
