@@ -15,7 +15,7 @@ use Rattle.document_typed_operations.specs.declared.operation_map.OperationMap.{
 use Rattle.document_typing.specs.MeantTree.{MeantOperation, MeantFragment, MeantDocument}
 use Rattle.document_typing.specs.Meanings.{Meanings}
 use Rattle.document_typing.specs.KeptDocument.{meant_operation}
-use Rattle.document_typing.specs.TypingFaults.{Fault, At, UndefinedRootOperation}
+use Rattle.document_typing.specs.TypingFaults.{TypingFault, At, UndefinedRootOperation}
 use Rattle.document_typing.specs.SetFaults.{set_faults}
 use Rattle.document_typing.specs.Steps.{Typed, told, based, is_under, is_known, name_faults, with_anonymous, with_named, on_root, and_operation}
 use Rattle.document_typing.specs.StepsView.{operation_meaning, named_meanings}
@@ -52,7 +52,7 @@ document_of fragments t = record {
   fragments = fragments;
 }
 
-put-kept : (fragments : Entries (MeantFragment Place)) (faults : List (Fault Place)) (n : Option (Text Place)) (o : Placed Place (TypedOperation Place)) (t : TypedOperations Place)
+put-kept : (fragments : Entries (MeantFragment Place)) (faults : List (TypingFault Place)) (n : Option (Text Place)) (o : Placed Place (TypedOperation Place)) (t : TypedOperations Place)
     → is_known n (record { document = document_of fragments t; faults = faults }) ≡ false
     → document_of fragments (put_at n o t) ≡ and_kept n (meant_by_operation o) (document_of fragments t)
 put-kept fragments faults None o t absent = refl
@@ -70,7 +70,7 @@ meant-with fragments m = λ i. record {
 }
 
 -- an operation whose name is not known, put among the others
-pub operation-put : (fragments : Entries (MeantFragment Place)) (faults : List (Fault Place)) (n : Option (Text Place)) (old new : OperationMap NameValue (Node Operation)) (o : Node Operation) (x : MeantOperation Place)
+pub operation-put : (fragments : Entries (MeantFragment Place)) (faults : List (TypingFault Place)) (n : Option (Text Place)) (old new : OperationMap NameValue (Node Operation)) (o : Node Operation) (x : MeantOperation Place)
     → operation_meaning o ≡ x → x.name ≡ n
     → typed_operations_tree new ≡ with_operation (node_tree typed_operation_tree o) (typed_operations_tree old)
     → is_known n (record { document = meant_with fragments old; faults = faults }) ≡ false
@@ -90,7 +90,7 @@ module _ {P : Type 0} (m : Meanings) (beside : Bool) (p : P) (o : OperationTree 
   rooted f st root is = ap (λ r. option_map_or (λ t. f t st) r (told (At p (UndefinedRootOperation o.operation_type) ∷ []) st)) is
 
   -- what is told changes no name
-  pub told-known : (fs : List (Fault P)) (n : Option (Text P)) (st : Typed P) → is_known n (told fs st) ≡ is_known n st
+  pub told-known : (fs : List (TypingFault P)) (n : Option (Text P)) (st : Typed P) → is_known n (told fs st) ≡ is_known n st
   told-known fs None st = refl
   told-known fs (Some n) st = refl
 

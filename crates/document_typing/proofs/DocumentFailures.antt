@@ -15,7 +15,7 @@ use Rattle.schema_types.proofs.in_components.Places.{not_in_nil, only, is_only, 
 use Rattle.document_typing.specs.Meanings.{Meanings}
 use Rattle.document_typing.specs.KeptDocument.{Based, based_operation, anonymous_here, named_here, fragment_here, text_of, operation_name, fragment_name, kept_anonymous, kept_named, kept_operations, kept_fragments}
 use Rattle.document_typing.specs.TypingFaults as rule
-use Rattle.document_typing.specs.TypingFaults.{Fault, At, is_operation, TypeSystemDefinition, AmbiguousAnonymousOperation, OperationNameCollision, FragmentNameCollision, UndefinedRootOperation, UndefinedTypeInNamedFragmentTypeCondition, SetFails, DefinitionBreaks, TypingFails}
+use Rattle.document_typing.specs.TypingFaults.{TypingFault, At, is_operation, TypeSystemDefinition, AmbiguousAnonymousOperation, OperationNameCollision, FragmentNameCollision, UndefinedRootOperation, UndefinedTypeInNamedFragmentTypeCondition, SetFails, DefinitionBreaks, TypingFails}
 use Rattle.document_typing.specs.SetFaults.{set_faults}
 use Rattle.document_typing.specs.Steps.{Typed, faults_if, based, typed_in}
 use Rattle.document_typing.proofs.KeptFirsts.{is-each_place, kept-none, kept-seen, kept-new, first-none, first-seen, first-new}
@@ -138,7 +138,7 @@ module _ {P : Type 0} (m : Meanings) where
   one-fragment (Fragment p f) = if-one (m.has_type f.type_condition.it) (record { place = p; base = f.type_condition.it; it = f } ∷ []) [] (single (record { place = p; base = f.type_condition.it; it = f })) none
   one-fragment d = none
 
-module _ {P : Type 0} (m : Meanings) (ds : List (DefinitionTree P)) (f : Fault P) where
+module _ {P : Type 0} (m : Meanings) (ds : List (DefinitionTree P)) (f : TypingFault P) where
   abbrev beside : Bool
   beside = nat_lt 1 (length (filter is_operation ds))
 

@@ -11,7 +11,7 @@ use Rattle.document_typing.specs.MeantTree.{Definition}
 use Rattle.document_typing.specs.Meanings.{Meanings, inner_type}
 use Rattle.document_typing.specs.KeptSelections.{is_leaf, may_select}
 use Rattle.document_typing.specs.TypingFaults as rule
-use Rattle.document_typing.specs.TypingFaults.{Fault, At, UndefinedField, SubselectionOnScalarType, SubselectionOnEnumType, UndefinedTypeInInlineFragmentTypeCondition, SelectionBreaks, StandsIn, SetFails}
+use Rattle.document_typing.specs.TypingFaults.{TypingFault, At, UndefinedField, SubselectionOnScalarType, SubselectionOnEnumType, UndefinedTypeInInlineFragmentTypeCondition, SelectionBreaks, StandsIn, SetFails}
 use Rattle.document_typing.specs.SetFaults.{leaf_faults, selection_faults, set_faults}
 
 -- what a test that fails says
@@ -42,7 +42,7 @@ module _ {X : Type 0} where
 module _ {P : Type 0} (m : Meanings) where
   -- ---- what is told breaks a rule
 
-  leaf-broken : (t : List ℕ) (p : P) (h : FieldHead P) (ts : SelectionTrees P) (d : Definition) (f : Fault P) → m.field t h.name.it ≡ Some d → may_select m (inner_type d) ts ≡ false
+  leaf-broken : (t : List ℕ) (p : P) (h : FieldHead P) (ts : SelectionTrees P) (d : Definition) (f : TypingFault P) → m.field t h.name.it ≡ Some d → may_select m (inner_type d) ts ≡ false
       → Contains (leaf_faults m p (inner_type d)) f → SelectionBreaks m t (FieldTree p h ts) f
   leaf-broken t p h ts d f e not_so c =
       let has : has_selection ts ≡ true = (both-so (has_selection ts) (is_leaf m (inner_type d)) not_so).0 in
@@ -51,7 +51,7 @@ module _ {P : Type 0} (m : Meanings) where
         | inr b ↦ let x = if-told (m.is_enum (inner_type d)) (At p (SubselectionOnEnumType (inner_type d))) f b in rule.subselection_on_enum_type (d, (e, x.0, has, x.1))
       ]
 
-  field-broken : (t : List ℕ) (p : P) (h : FieldHead P) (ts ss : SelectionTrees P) (f : Fault P)
+  field-broken : (t : List ℕ) (p : P) (h : FieldHead P) (ts ss : SelectionTrees P) (f : TypingFault P)
       → ((u : List ℕ) → Contains (set_faults m ts u) f → SetFails m u ts f)
       → Contains (selection_faults m (FieldTree p h ts) t) f → SetFails m t (selection_then (FieldTree p h ts) ss) f
   field-broken t p h ts ss f deeper c = by (m.field t h.name.it) refl c
@@ -67,7 +67,7 @@ module _ {P : Type 0} (m : Meanings) where
       by None e c = (t, (FieldTree p h ts, (rule.first ss, rule.undefined_field (e, only (At p (UndefinedField t h.name.it)) f c))))
       by (Some d) e c = by_set d e (may_select m (inner_type d) ts) refl c
 
-  condition-broken : (t : List ℕ) (p : P) (n : Text P) (ds : Directives P) (ts ss : SelectionTrees P) (f : Fault P)
+  condition-broken : (t : List ℕ) (p : P) (n : Text P) (ds : Directives P) (ts ss : SelectionTrees P) (f : TypingFault P)
       → (Contains (set_faults m ts n.it) f → SetFails m n.it ts f)
       → (b : Bool) → m.has_type n.it ≡ b → Contains (if b then set_faults m ts n.it else At p (UndefinedTypeInInlineFragmentTypeCondition n.it) ∷ []) f
       → SetFails m t (selection_then (InlineTree p (Some n) ds ts) ss) f
@@ -75,17 +75,17 @@ module _ {P : Type 0} (m : Meanings) where
   condition-broken t p n ds ts ss f deeper false e c =
       (t, (InlineTree p (Some n) ds ts, (rule.first ss, rule.undefined_type_in_inline_fragment_type_condition (e, only (At p (UndefinedTypeInInlineFragmentTypeCondition n.it)) f c))))
 
-  behind : (t : List ℕ) (x : SelectionTree P) (ss : SelectionTrees P) (f : Fault P) → SetFails m t ss f → SetFails m t (selection_then x ss) f
+  behind : (t : List ℕ) (x : SelectionTree P) (ss : SelectionTrees P) (f : TypingFault P) → SetFails m t ss f → SetFails m t (selection_then x ss) f
   behind t x ss f (u, (s, (at, breaks))) = (u, (s, (rule.later t x ss at, breaks)))
 
   mutual
-    selection-broken : (s : SelectionTree P) (ss : SelectionTrees P) (t : List ℕ) (f : Fault P) → Contains (selection_faults m s t) f → SetFails m t (selection_then s ss) f
+    selection-broken : (s : SelectionTree P) (ss : SelectionTrees P) (t : List ℕ) (f : TypingFault P) → Contains (selection_faults m s t) f → SetFails m t (selection_then s ss) f
     selection-broken (FieldTree p h ts) ss t f c = field-broken t p h ts ss f (λ u. set-broken ts u f) c
     selection-broken (SpreadTree p n ds) ss t f c = absurd (not_in_nil f c)
     selection-broken (InlineTree p None ds ts) ss t f c = let x = set-broken ts t f c in (x.0, (x.1.0, (rule.in_fragment t p ds ts ss x.1.1.0, x.1.1.1)))
     selection-broken (InlineTree p (Some n) ds ts) ss t f c = condition-broken t p n ds ts ss f (set-broken ts n.it f) (m.has_type n.it) refl c
 
-    set-broken : (ts : SelectionTrees P) (t : List ℕ) (f : Fault P) → Contains (set_faults m ts t) f → SetFails m t ts f
+    set-broken : (ts : SelectionTrees P) (t : List ℕ) (f : TypingFault P) → Contains (set_faults m ts t) f → SetFails m t ts f
     set-broken no_selections t f c = absurd (not_in_nil f c)
     set-broken (selection_then s ss) t f c = elim (Contains-append_cases (selection_faults m s t) (set_faults m ss t) f c) [
       | inl a ↦ selection-broken s ss t f a
@@ -94,13 +94,13 @@ module _ {P : Type 0} (m : Meanings) where
 
   -- ---- what breaks a rule is told
 
-  leaf_told : (p : P) (h : FieldHead P) (ts : SelectionTrees P) (t : List ℕ) (d : Definition) (f : Fault P) → m.field t h.name.it ≡ Some d → has_selection ts ≡ true → is_leaf m (inner_type d) ≡ true
+  leaf_told : (p : P) (h : FieldHead P) (ts : SelectionTrees P) (t : List ℕ) (d : Definition) (f : TypingFault P) → m.field t h.name.it ≡ Some d → has_selection ts ≡ true → is_leaf m (inner_type d) ≡ true
       → Contains (leaf_faults m p (inner_type d)) f → Contains (selection_faults m (FieldTree p h ts) t) f
   leaf_told p h ts t d f e has leaf c =
       subst (λ o. Contains (option_map_or (λ d. if may_select m (inner_type d) ts then set_faults m ts (inner_type d) else leaf_faults m p (inner_type d)) o (At p (UndefinedField t h.name.it) ∷ [])) f) (sym e)
       (subst (λ b. Contains (if b then set_faults m ts (inner_type d) else leaf_faults m p (inner_type d)) f) (sym (not-both (has_selection ts) (is_leaf m (inner_type d)) has leaf)) c)
 
-  here-told : (s : SelectionTree P) (t : List ℕ) (f : Fault P) → SelectionBreaks m t s f → Contains (selection_faults m s t) f
+  here-told : (s : SelectionTree P) (t : List ℕ) (f : TypingFault P) → SelectionBreaks m t s f → Contains (selection_faults m s t) f
   here-told (FieldTree p h ts) t f (rule.undefined_field (e, x)) =
       subst (λ o. Contains (option_map_or (λ d. if may_select m (inner_type d) ts then set_faults m ts (inner_type d) else leaf_faults m p (inner_type d)) o (At p (UndefinedField t h.name.it) ∷ [])) f) (sym e) (is_only (At p (UndefinedField t h.name.it)) f x)
   here-told (FieldTree p h ts) t f (rule.subselection_on_scalar_type (d, (e, so, has, x))) =
@@ -121,7 +121,7 @@ module _ {P : Type 0} (m : Meanings) where
   here-told (InlineTree p (Some c) ds ts) t f (rule.undefined_type_in_inline_fragment_type_condition (e, x)) =
       subst (λ b. Contains (if b then set_faults m ts c.it else At p (UndefinedTypeInInlineFragmentTypeCondition c.it) ∷ []) f) (sym e) (is_only (At p (UndefinedTypeInInlineFragmentTypeCondition c.it)) f x)
 
-  module _ (u : List ℕ) (s : SelectionTree P) (f : Fault P) (breaks : SelectionBreaks m u s f) where
+  module _ (u : List ℕ) (s : SelectionTree P) (f : TypingFault P) (breaks : SelectionBreaks m u s f) where
     stands-told : (t : List ℕ) (ts : SelectionTrees P) → StandsIn m u s t ts → Contains (set_faults m ts t) f
     stands-told t ts (rule.first ss) = Contains-append_left (selection_faults m s u) (set_faults m ss u) f (here-told s u f breaks)
     stands-told t ts (rule.later _ x ss at) = Contains-append_right (selection_faults m x t) (set_faults m ss t) f (stands-told t ss at)
@@ -135,5 +135,5 @@ module _ {P : Type 0} (m : Meanings) where
         (subst (λ b. Contains (if b then set_faults m ns c.it else At p (UndefinedTypeInInlineFragmentTypeCondition c.it) ∷ []) f) (sym e) (stands-told c.it ns at))
 
   -- the faults of a set are those in its list
-  pub set-fails : (ts : SelectionTrees P) (t : List ℕ) (f : Fault P) → Contains (set_faults m ts t) f ↔ SetFails m t ts f
+  pub set-fails : (ts : SelectionTrees P) (t : List ℕ) (f : TypingFault P) → Contains (set_faults m ts t) f ↔ SetFails m t ts f
   set-fails ts t f = (set-broken ts t f, λ x. stands-told x.0 x.1.0 f x.1.1.1 t ts x.1.1.0)

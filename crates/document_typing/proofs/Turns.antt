@@ -13,7 +13,7 @@ use Rattle.schema_types.specs.in_components.Lists.{each_place, has_name}
 use Rattle.schema_types.proofs.in_components.Places.{each_place-push}
 use Rattle.document_typing.specs.Meanings.{Meanings}
 use Rattle.document_typing.specs.KeptDocument.{Based, based_operation, anonymous_here, named_here, fragment_here, text_of, operation_name, fragment_name, kept_anonymous, kept_named, kept_fragments, meant_operation, meant_fragment, named_entry, fragment_entry, kept_document}
-use Rattle.document_typing.specs.TypingFaults.{Fault, At, is_operation, TypeSystemDefinition, AmbiguousAnonymousOperation, OperationNameCollision, FragmentNameCollision, UndefinedRootOperation, UndefinedTypeInNamedFragmentTypeCondition}
+use Rattle.document_typing.specs.TypingFaults.{TypingFault, At, is_operation, TypeSystemDefinition, AmbiguousAnonymousOperation, OperationNameCollision, FragmentNameCollision, UndefinedRootOperation, UndefinedTypeInNamedFragmentTypeCondition}
 use Rattle.document_typing.specs.SetFaults.{set_faults}
 use Rattle.document_typing.specs.Steps.{Typed, told, faults_if, based, is_under, with_anonymous, with_named, with_fragment, and_operation, and_fragment, and_definition, typed_in}
 use Rattle.document_typing.proofs.KeptFirsts.{kept-none, kept-seen, kept-new, first-none, first-seen, first-new, under-made, is_some-made}
@@ -21,25 +21,25 @@ use Rattle.document_typing.proofs.KeptFirsts.{kept-none, kept-seen, kept-new, fi
 module _ {P : Type 0} (m : Meanings) (beside : Bool) where
   -- ---- what is told of a definition, which stands behind these
 
-  abbrev pub root_faults : P → OperationTree P → Bool → Option (List ℕ) → List (Fault P)
+  abbrev pub root_faults : P → OperationTree P → Bool → Option (List ℕ) → List (TypingFault P)
   root_faults p o known root = option_map_or (λ t. if known then [] else set_faults m o.selections t) root (At p (UndefinedRootOperation o.operation_type) ∷ [])
 
-  abbrev pub operation_faults : List (DefinitionTree P) → P → OperationTree P → Option (Text P) → List (Fault P)
+  abbrev pub operation_faults : List (DefinitionTree P) → P → OperationTree P → Option (Text P) → List (TypingFault P)
   operation_faults before p o None = faults_if beside (At p AmbiguousAnonymousOperation) ++ root_faults p o (is_some (kept_anonymous m before)) (m.root o.operation_type)
   operation_faults before p o (Some n) =
       faults_if (has_name operation_name n.it (kept_named m before)) (At p (OperationNameCollision n.it))
       ++ root_faults p o (has_name operation_name n.it (kept_named m before)) (m.root o.operation_type)
 
-  abbrev pub condition_faults : P → FragmentTree P → Bool → Bool → List (Fault P)
+  abbrev pub condition_faults : P → FragmentTree P → Bool → Bool → List (TypingFault P)
   condition_faults p f known there =
       if there then (if known then [] else set_faults m f.selections f.type_condition.it) else At p (UndefinedTypeInNamedFragmentTypeCondition f.type_condition.it) ∷ []
 
-  abbrev pub fragment_faults : List (DefinitionTree P) → P → FragmentTree P → List (Fault P)
+  abbrev pub fragment_faults : List (DefinitionTree P) → P → FragmentTree P → List (TypingFault P)
   fragment_faults before p f =
       faults_if (has_name fragment_name f.name.it (kept_fragments m before)) (At p (FragmentNameCollision f.name.it))
       ++ condition_faults p f (has_name fragment_name f.name.it (kept_fragments m before)) (m.has_type f.type_condition.it)
 
-  abbrev pub faults_at : List (DefinitionTree P) → DefinitionTree P → List (Fault P)
+  abbrev pub faults_at : List (DefinitionTree P) → DefinitionTree P → List (TypingFault P)
   faults_at before (Operation p o) = operation_faults before p o o.name
   faults_at before (Fragment p f) = fragment_faults before p f
   faults_at before d = At (definition_place d) TypeSystemDefinition ∷ []
@@ -125,7 +125,7 @@ module _ {P : Type 0} (m : Meanings) (beside : Bool) where
     abbrev known : Bool
     known = has_name operation_name n.it (kept_named m before)
 
-    abbrev collision : List (Fault P)
+    abbrev collision : List (TypingFault P)
     collision = faults_if known (At p (OperationNameCollision n.it))
 
     pub called-here : (r : Option (List ℕ)) → m.root o.operation_type ≡ r → named_here m (Operation p o) ≡ option_to_list (option_map (λ t. based p t o) r)
@@ -195,7 +195,7 @@ module _ {P : Type 0} (m : Meanings) (beside : Bool) where
     abbrev known_fragment : Bool
     known_fragment = has_name fragment_name f.name.it (kept_fragments m before)
 
-    abbrev fragment_collision : List (Fault P)
+    abbrev fragment_collision : List (TypingFault P)
     fragment_collision = faults_if known_fragment (At p (FragmentNameCollision f.name.it))
 
     abbrev conditioned : Based P (FragmentTree P)

@@ -11,7 +11,7 @@ use Rattle.tree_type_members.specs.declared.field_definition.FieldDefinition.{Fi
 use Rattle.document_typing.specs.MeantTree.{Definition, MeantSelection, MeantField, set_on}
 use Rattle.document_typing.specs.Meanings.{Meanings, inner_type}
 use Rattle.document_typing.specs.KeptSelections.{may_select, kept_all}
-use Rattle.document_typing.specs.TypingFaults.{Fault}
+use Rattle.document_typing.specs.TypingFaults.{TypingFault}
 use Rattle.document_typing.specs.SetFaults.{leaf_faults, set_faults}
 
 -- what the schema says of a field, without places
@@ -25,5 +25,5 @@ selected n = selection_trees selection_tree (content n).selection_set.items
 abbrev pub kept_defined : Meanings → Definition → Node Field → List (MeantSelection Place)
 kept_defined m d n = if may_select m (inner_type d) (selected n) then MeantField (place n) d (field_head (content n)) (set_on (inner_type d) (kept_all m (selected n) (inner_type d))) ∷ [] else []
 
-abbrev pub defined_faults : Meanings → Definition → Node Field → List (Fault Place)
+abbrev pub defined_faults : Meanings → Definition → Node Field → List (TypingFault Place)
 defined_faults m d n = if may_select m (inner_type d) (selected n) then set_faults m (selected n) (inner_type d) else leaf_faults m (place n) (inner_type d)

@@ -9,7 +9,7 @@ use Rattle.schema_types.specs.in_components.Lists.{StandsAfter, has_name}
 use Rattle.document_typing.specs.Meanings.{Meanings}
 use Rattle.document_typing.specs.KeptSelections.{kept}
 use Rattle.document_typing.specs.KeptDocument.{text_of, operation_name, fragment_name, kept_anonymous, kept_named, kept_operations, kept_fragments}
-use Rattle.document_typing.specs.TypingFaults.{Fault, At, StandsIn, SelectionBreaks, DefinitionBreaks, is_operation, AmbiguousAnonymousOperation}
+use Rattle.document_typing.specs.TypingFaults.{TypingFault, At, StandsIn, SelectionBreaks, DefinitionBreaks, is_operation, AmbiguousAnonymousOperation}
 
 module _ {P : Type 0} where
   -- the definition, which stands behind these, is kept: its root or type condition is there, and no kept one before it has its name
@@ -20,16 +20,16 @@ module _ {P : Type 0} where
   is_kept m before _ = false
 
   -- one of these faults is so
-  abbrev pub Told : List (Fault P) → (Fault P → Type 0) → Type 0
-  Told faults Q = (fault : Fault P) × (Contains faults fault × Q fault)
+  abbrev pub Told : List (TypingFault P) → (TypingFault P → Type 0) → Type 0
+  Told faults Q = (fault : TypingFault P) × (Contains faults fault × Q fault)
 
   -- of a set with these selections on the type t: a fault for each selection that is left out of a set that is kept of it
-  abbrev pub TellsSet : Meanings → List ℕ → SelectionTrees P → List (Fault P) → Type 0
+  abbrev pub TellsSet : Meanings → List ℕ → SelectionTrees P → List (TypingFault P) → Type 0
   TellsSet m t ts faults = (u : List ℕ) (s : SelectionTree P) → StandsIn m u s t ts → kept m s u ≡ [] → Told faults (SelectionBreaks m u s)
 
   -- of a document: a fault for each definition that is not kept, each operation without a name beside another one, and
   -- each selection that is left out of a set that is kept
-  pub record TellsAll (m : Meanings) (ds : List (DefinitionTree P)) (faults : List (Fault P)) : Type 0 where
+  pub record TellsAll (m : Meanings) (ds : List (DefinitionTree P)) (faults : List (TypingFault P)) : Type 0 where
     pub definitions : (before : List (DefinitionTree P)) (d : DefinitionTree P) → StandsAfter ds before d → is_kept m before d ≡ false
         → Told faults (DefinitionBreaks m ds before d)
     pub anonymous : (before : List (DefinitionTree P)) (p : P) (o : OperationTree P) → StandsAfter ds before (Operation p o)

@@ -5,7 +5,7 @@ use Rattle.tree_operations.specs.OperationLayout.{is_none}
 use Rattle.tree_operations.specs.SelectionTree.{SelectionTree, FieldTree, SpreadTree, InlineTree, SelectionTrees, no_selections, selection_then}
 use Rattle.tree_definitions.specs.DefinitionTree.{DefinitionTree, Operation, Fragment}
 use Rattle.document_typing.specs.MeantTree.{MeantSelection, MeantField, MeantSpread, MeantInline, MeantSet, meant_set, MeantSelections, no_meant, meant_then, MeantOperation, MeantFragment, MeantDocument}
-use Rattle.document_typing.specs.TypingFaults.{Fault}
+use Rattle.document_typing.specs.TypingFaults.{TypingFault}
 
 module _ {P : Type 0} where
   abbrev pub is_anonymous : DefinitionTree P → Bool
@@ -61,5 +61,5 @@ module _ {P : Type 0} where
   written_document d = map written_operation (option_to_list d.anonymous) ++ map (λ e. written_operation e.1) d.named ++ map (λ e. written_fragment e.1) d.fragments
 
   -- where these faults are none, the document has all that was read: the same is written of both
-  abbrev pub IsWholeWithoutFaults : List (DefinitionTree P) → MeantDocument P → List (Fault P) → Type 0
+  abbrev pub IsWholeWithoutFaults : List (DefinitionTree P) → MeantDocument P → List (TypingFault P) → Type 0
   IsWholeWithoutFaults ds d faults = faults ≡ [] → written_document d ≡ out_doc ds

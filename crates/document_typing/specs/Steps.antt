@@ -11,22 +11,22 @@ use Rattle.schema_types.specs.in_components.Names.{Entries}
 use Rattle.document_typing.specs.MeantTree.{MeantDocument}
 use Rattle.document_typing.specs.Meanings.{Meanings}
 use Rattle.document_typing.specs.KeptDocument.{Based, meant_operation, meant_fragment}
-use Rattle.document_typing.specs.TypingFaults.{Fault, At, is_operation, TypeSystemDefinition, AmbiguousAnonymousOperation, OperationNameCollision, FragmentNameCollision, UndefinedRootOperation, UndefinedTypeInNamedFragmentTypeCondition}
+use Rattle.document_typing.specs.TypingFaults.{TypingFault, At, is_operation, TypeSystemDefinition, AmbiguousAnonymousOperation, OperationNameCollision, FragmentNameCollision, UndefinedRootOperation, UndefinedTypeInNamedFragmentTypeCondition}
 use Rattle.document_typing.specs.SetFaults.{set_faults}
 
 -- what is kept, and what is told
 pub record Typed (P : Type 0) : Type 0 where
   pub document : MeantDocument P
-  pub faults : List (Fault P)
+  pub faults : List (TypingFault P)
 
 abbrev pub is_under : {A : Type 0} → List ℕ → Entries A → Bool
 is_under n es = has_name (λ e. e.0) n es
 
 module _ {P : Type 0} where
-  abbrev pub told : List (Fault P) → Typed P → Typed P
+  abbrev pub told : List (TypingFault P) → Typed P → Typed P
   told fs st = record st { faults = st.faults ++ fs }
 
-  abbrev pub faults_if : Bool → Fault P → List (Fault P)
+  abbrev pub faults_if : Bool → TypingFault P → List (TypingFault P)
   faults_if b f = if b then f ∷ [] else []
 
   abbrev pub based : P → List ℕ → OperationTree P → Based P (OperationTree P)
@@ -51,7 +51,7 @@ module _ {P : Type 0} where
   is_known (Some n) st = is_under n.it st.document.named
 
   -- what is told of the name of an operation, which stands beside others or not
-  abbrev pub name_faults : Bool → P → Option (Text P) → Typed P → List (Fault P)
+  abbrev pub name_faults : Bool → P → Option (Text P) → Typed P → List (TypingFault P)
   name_faults beside p None st = faults_if beside (At p AmbiguousAnonymousOperation)
   name_faults beside p (Some n) st = faults_if (is_under n.it st.document.named) (At p (OperationNameCollision n.it))
 

@@ -15,41 +15,41 @@ use Rattle.document_typing.specs.KeptSelections.{may_select}
 use Rattle.document_typing.specs.KeptDocument.{operation_name, fragment_name, kept_named, kept_operations, kept_fragments}
 
 -- what is wrong, and where
-pub record Fault (P : Type 0) : Type 0 where
+pub record TypingFault (P : Type 0) : Type 0 where
   pub place : P
   pub breach : DocumentBreach P
 
-abbrev pub At : {P : Type 0} → P → DocumentBreach P → Fault P
+abbrev pub At : {P : Type 0} → P → DocumentBreach P → TypingFault P
 At p breach = record { place = p; breach = breach }
 
 -- ---- rules on a selection that stands under the type t
 
 -- a field that is not defined on the type (section 5.3.1)
-abbrev pub UndefinedFieldAt : {P : Type 0} → Meanings → List ℕ → SelectionTree P → Fault P → Type 0
+abbrev pub UndefinedFieldAt : {P : Type 0} → Meanings → List ℕ → SelectionTree P → TypingFault P → Type 0
 UndefinedFieldAt m t (FieldTree p h ts) fault = (m.field t h.name.it ≡ None) × (fault ≡ At p (UndefinedField t h.name.it))
 UndefinedFieldAt m t _ fault = ⊥
 
 -- a field that selects from values of a scalar, of an enum (section 5.3.3)
-abbrev pub SubselectionOnScalarTypeAt : {P : Type 0} → Meanings → List ℕ → SelectionTree P → Fault P → Type 0
+abbrev pub SubselectionOnScalarTypeAt : {P : Type 0} → Meanings → List ℕ → SelectionTree P → TypingFault P → Type 0
 SubselectionOnScalarTypeAt m t (FieldTree p h ts) fault = (d : Definition) × (
     (m.field t h.name.it ≡ Some d) × (m.is_scalar (inner_type d) ≡ true) × (has_selection ts ≡ true)
     × (fault ≡ At p (SubselectionOnScalarType (inner_type d))))
 SubselectionOnScalarTypeAt m t _ fault = ⊥
 
-abbrev pub SubselectionOnEnumTypeAt : {P : Type 0} → Meanings → List ℕ → SelectionTree P → Fault P → Type 0
+abbrev pub SubselectionOnEnumTypeAt : {P : Type 0} → Meanings → List ℕ → SelectionTree P → TypingFault P → Type 0
 SubselectionOnEnumTypeAt m t (FieldTree p h ts) fault = (d : Definition) × (
     (m.field t h.name.it ≡ Some d) × (m.is_enum (inner_type d) ≡ true) × (has_selection ts ≡ true)
     × (fault ≡ At p (SubselectionOnEnumType (inner_type d))))
 SubselectionOnEnumTypeAt m t _ fault = ⊥
 
 -- an inline fragment on a type that is not there (section 5.5.1.2)
-abbrev pub UndefinedTypeInInlineFragmentTypeConditionAt : {P : Type 0} → Meanings → List ℕ → SelectionTree P → Fault P → Type 0
+abbrev pub UndefinedTypeInInlineFragmentTypeConditionAt : {P : Type 0} → Meanings → List ℕ → SelectionTree P → TypingFault P → Type 0
 UndefinedTypeInInlineFragmentTypeConditionAt m t (InlineTree p (Some c) ds ts) fault =
     (m.has_type c.it ≡ false) × (fault ≡ At p (UndefinedTypeInInlineFragmentTypeCondition c.it))
 UndefinedTypeInInlineFragmentTypeConditionAt m t _ fault = ⊥
 
 -- one of these rules is broken so by the selection
-pub data SelectionBreaks {P : Type 0} (m : Meanings) (t : List ℕ) (s : SelectionTree P) (fault : Fault P) : Type 0 where
+pub data SelectionBreaks {P : Type 0} (m : Meanings) (t : List ℕ) (s : SelectionTree P) (fault : TypingFault P) : Type 0 where
   undefined_field : UndefinedFieldAt m t s fault → SelectionBreaks m t s fault
   subselection_on_scalar_type : SubselectionOnScalarTypeAt m t s fault → SelectionBreaks m t s fault
   subselection_on_enum_type : SubselectionOnEnumTypeAt m t s fault → SelectionBreaks m t s fault
@@ -69,12 +69,12 @@ pub data StandsIn {P : Type 0} (m : Meanings) (u : List ℕ) (s : SelectionTree 
       → StandsIn m u s t (selection_then (InlineTree p (Some c) ds ts) ss)
 
 -- in a set that is kept of these selections on the type t a selection breaks a rule so
-abbrev pub SetFails : {P : Type 0} → Meanings → List ℕ → SelectionTrees P → Fault P → Type 0
+abbrev pub SetFails : {P : Type 0} → Meanings → List ℕ → SelectionTrees P → TypingFault P → Type 0
 SetFails {P} m t ts fault = (u : List ℕ) × ((s : SelectionTree P) × (StandsIn m u s t ts × SelectionBreaks m u s fault))
 
 -- these are the faults of such a set: each way in which a selection breaks a rule, and nothing else
-abbrev pub AreSetFaults : {P : Type 0} → Meanings → List ℕ → SelectionTrees P → List (Fault P) → Type 0
-AreSetFaults {P} m t ts faults = (f : Fault P) → Contains faults f ↔ SetFails m t ts f
+abbrev pub AreSetFaults : {P : Type 0} → Meanings → List ℕ → SelectionTrees P → List (TypingFault P) → Type 0
+AreSetFaults {P} m t ts faults = (f : TypingFault P) → Contains faults f ↔ SetFails m t ts f
 
 -- ---- rules on a definition of the document, behind these
 
@@ -83,41 +83,41 @@ is_operation (Operation p o) = true
 is_operation _ = false
 
 -- a document of operations and fragments alone (section 5.1.1)
-abbrev pub TypeSystemDefinitionAt : {P : Type 0} → DefinitionTree P → Fault P → Type 0
+abbrev pub TypeSystemDefinitionAt : {P : Type 0} → DefinitionTree P → TypingFault P → Type 0
 TypeSystemDefinitionAt d fault = (is_executable d ≡ false) × (fault ≡ At (definition_place d) TypeSystemDefinition)
 
 -- an operation without a name beside any other operation of the document (section 5.2.2.1)
-abbrev pub AmbiguousAnonymousOperationAt : {P : Type 0} → List (DefinitionTree P) → DefinitionTree P → Fault P → Type 0
+abbrev pub AmbiguousAnonymousOperationAt : {P : Type 0} → List (DefinitionTree P) → DefinitionTree P → TypingFault P → Type 0
 AmbiguousAnonymousOperationAt ds (Operation p o) fault =
     (o.name ≡ None) × (1 < length (filter is_operation ds)) × (fault ≡ At p AmbiguousAnonymousOperation)
 AmbiguousAnonymousOperationAt ds _ fault = ⊥
 
 -- an operation whose name a kept one before it has (section 5.2.1.1)
-abbrev pub OperationNameCollisionAt : {P : Type 0} → Meanings → List (DefinitionTree P) → DefinitionTree P → Fault P → Type 0
+abbrev pub OperationNameCollisionAt : {P : Type 0} → Meanings → List (DefinitionTree P) → DefinitionTree P → TypingFault P → Type 0
 OperationNameCollisionAt {P} m before (Operation p o) fault = (n : Text P) × (
     (o.name ≡ Some n) × (has_name operation_name n.it (kept_named m before) ≡ true) × (fault ≡ At p (OperationNameCollision n.it)))
 OperationNameCollisionAt m before _ fault = ⊥
 
 -- a fragment whose name a kept one before it has (section 5.5.1.1)
-abbrev pub FragmentNameCollisionAt : {P : Type 0} → Meanings → List (DefinitionTree P) → DefinitionTree P → Fault P → Type 0
+abbrev pub FragmentNameCollisionAt : {P : Type 0} → Meanings → List (DefinitionTree P) → DefinitionTree P → TypingFault P → Type 0
 FragmentNameCollisionAt m before (Fragment p f) fault =
     (has_name fragment_name f.name.it (kept_fragments m before) ≡ true) × (fault ≡ At p (FragmentNameCollision f.name.it))
 FragmentNameCollisionAt m before _ fault = ⊥
 
 -- an operation whose root the schema does not have (section 3.3.1)
-abbrev pub UndefinedRootOperationAt : {P : Type 0} → Meanings → DefinitionTree P → Fault P → Type 0
+abbrev pub UndefinedRootOperationAt : {P : Type 0} → Meanings → DefinitionTree P → TypingFault P → Type 0
 UndefinedRootOperationAt m (Operation p o) fault =
     (m.root o.operation_type ≡ None) × (fault ≡ At p (UndefinedRootOperation o.operation_type))
 UndefinedRootOperationAt m _ fault = ⊥
 
 -- a fragment on a type that is not there (section 5.5.1.2)
-abbrev pub UndefinedTypeInNamedFragmentTypeConditionAt : {P : Type 0} → Meanings → DefinitionTree P → Fault P → Type 0
+abbrev pub UndefinedTypeInNamedFragmentTypeConditionAt : {P : Type 0} → Meanings → DefinitionTree P → TypingFault P → Type 0
 UndefinedTypeInNamedFragmentTypeConditionAt m (Fragment p f) fault =
     (m.has_type f.type_condition.it ≡ false) × (fault ≡ At p (UndefinedTypeInNamedFragmentTypeCondition f.type_condition.it))
 UndefinedTypeInNamedFragmentTypeConditionAt m _ fault = ⊥
 
 -- one of these rules is broken so by the definition d, which stands in the document ds behind these
-pub data DefinitionBreaks {P : Type 0} (m : Meanings) (ds before : List (DefinitionTree P)) (d : DefinitionTree P) (fault : Fault P) : Type 0 where
+pub data DefinitionBreaks {P : Type 0} (m : Meanings) (ds before : List (DefinitionTree P)) (d : DefinitionTree P) (fault : TypingFault P) : Type 0 where
   type_system_definition : TypeSystemDefinitionAt d fault → DefinitionBreaks m ds before d fault
   ambiguous_anonymous_operation : AmbiguousAnonymousOperationAt ds d fault → DefinitionBreaks m ds before d fault
   operation_name_collision : OperationNameCollisionAt m before d fault → DefinitionBreaks m ds before d fault
@@ -126,15 +126,15 @@ pub data DefinitionBreaks {P : Type 0} (m : Meanings) (ds before : List (Definit
   undefined_type_in_named_fragment_type_condition : UndefinedTypeInNamedFragmentTypeConditionAt m d fault → DefinitionBreaks m ds before d fault
 
 -- ---- a rule of typing is broken so: by a definition, or by a selection in a set that is kept
-pub data TypingFails {P : Type 0} (m : Meanings) (ds : List (DefinitionTree P)) (fault : Fault P) : Type 0 where
+pub data TypingFails {P : Type 0} (m : Meanings) (ds : List (DefinitionTree P)) (fault : TypingFault P) : Type 0 where
   in_definition : AtSomePlace (λ before d. DefinitionBreaks m ds before d fault) ds → TypingFails m ds fault
   in_operation : (o : _) → Contains (kept_operations m ds) o → SetFails m o.base o.it.selections fault → TypingFails m ds fault
   in_named_fragment : (f : _) → Contains (kept_fragments m ds) f → SetFails m f.base f.it.selections fault → TypingFails m ds fault
 
 -- these are the faults of typing: each way in which a rule is broken, and nothing else
-abbrev pub AreTypingFaults : {P : Type 0} → Meanings → List (DefinitionTree P) → List (Fault P) → Type 0
-AreTypingFaults {P} m ds faults = (f : Fault P) → Contains faults f ↔ TypingFails m ds f
+abbrev pub AreTypingFaults : {P : Type 0} → Meanings → List (DefinitionTree P) → List (TypingFault P) → Type 0
+AreTypingFaults {P} m ds faults = (f : TypingFault P) → Contains faults f ↔ TypingFails m ds f
 
 -- no rule of typing is broken
 abbrev pub TypingRules : {P : Type 0} → Meanings → List (DefinitionTree P) → Type 0
-TypingRules {P} m ds = (fault : Fault P) → TypingFails m ds fault → ⊥
+TypingRules {P} m ds = (fault : TypingFault P) → TypingFails m ds fault → ⊥

@@ -78,7 +78,7 @@ module _ (schema : CheckedSchemaValue) (text : Text) where
     typing_refusal Failed h = h
 
     pub typing_certain : (refusal : Refusal) → RefusalOfTyping schema.schema tree refusal → IsDocumentCertain schema.schema schema.nesting schema.number text → refusal ≡ Memory
-    typing_certain (Faults list) h certain = absurd (none_told (λ fault. (f : typing.Fault Place) × ((fault ≡ of_typing f) × TypingFailsOver schema.schema tree f)) (diagnostics_of list) h.some h.right (λ fault (f, (is, fails)).
+    typing_certain (Faults list) h certain = absurd (none_told (λ fault. (f : typing.TypingFault Place) × ((fault ≡ of_typing f) × TypingFailsOver schema.schema tree f)) (diagnostics_of list) h.some h.right (λ fault (f, (is, fails)).
         certain.0.judged.typed f (subst (λ t. TypingFailsOver schema.schema t f) (sym (same certain.0.judged.tree (certain.0.judged.read, certain.0.within))) fails)))
     typing_certain Memory h certain = refl
     typing_certain Failed h certain = absurd h

@@ -31,28 +31,28 @@ nil_of_map f (x ∷ xs) e = absurd cc
 
 -- ---- typing
 
-module _ (schema : SchemaTree Place) (tree : Tree) (found : List (typing.Fault Place)) (faults : List Fault) where
+module _ (schema : SchemaTree Place) (tree : Tree) (found : List (typing.TypingFault Place)) (faults : List Fault) where
   -- what is told of them is all that breaks rules of typing
-  right_told : faults ≡ map of_typing found → ((f : typing.Fault Place) → Contains found f ↔ TypingFailsOver schema tree f)
-      → (fault : Fault) → Contains faults fault → (f : typing.Fault Place) × ((fault ≡ of_typing f) × TypingFailsOver schema tree f)
+  right_told : faults ≡ map of_typing found → ((f : typing.TypingFault Place) → Contains found f ↔ TypingFailsOver schema tree f)
+      → (fault : Fault) → Contains faults fault → (f : typing.TypingFault Place) × ((fault ≡ of_typing f) × TypingFailsOver schema tree f)
   right_told are exact fault c =
       let p = contains_unmap of_typing found fault (subst (λ l. Contains l fault) are c) in
       (p.0, (sym p.1.1, (exact p.0).0 p.1.0))
 
-  full_told : faults ≡ map of_typing found → ((f : typing.Fault Place) → Contains found f ↔ TypingFailsOver schema tree f)
-      → (f : typing.Fault Place) → TypingFailsOver schema tree f → Contains faults (of_typing f)
+  full_told : faults ≡ map of_typing found → ((f : typing.TypingFault Place) → Contains found f ↔ TypingFailsOver schema tree f)
+      → (f : typing.TypingFault Place) → TypingFailsOver schema tree f → Contains faults (of_typing f)
   full_told are exact f fails = subst (λ l. Contains l (of_typing f)) (sym are) (contains_map of_typing found f ((exact f).1 fails))
 
 -- what a builder of a document over the schema gives
-pub types_document : (schema : SchemaTree Place) (tree : Tree) (builder : DocumentBuilder) (document : MeantDocument Place) (found : List (typing.Fault Place)) (faults : List Fault)
+pub types_document : (schema : SchemaTree Place) (tree : Tree) (builder : DocumentBuilder) (document : MeantDocument Place) (found : List (typing.TypingFault Place)) (faults : List Fault)
     → builder.meanings ≡ meanings (plain schema) → builder.definitions ≡ tree → document ≡ kept_document builder.meanings builder.definitions
     → IsTypedDocument builder.meanings document → (found ≡ [] → written_document document ≡ out_doc builder.definitions)
-    → ((f : typing.Fault Place) → Contains found f ↔ TypingFails builder.meanings builder.definitions f) → faults ≡ map of_typing found
+    → ((f : typing.TypingFault Place) → Contains found f ↔ TypingFails builder.meanings builder.definitions f) → faults ≡ map of_typing found
     → TypesDocument schema tree document faults
 types_document schema tree builder document found faults over of is typed whole exact are =
-    let exact' : (f : typing.Fault Place) → Contains found f ↔ TypingFailsOver schema tree f =
-    subst (λ ds. (f : typing.Fault Place) → Contains found f ↔ TypingFails (meanings (plain schema)) ds f) of
-    (subst (λ m. (f : typing.Fault Place) → Contains found f ↔ TypingFails m builder.definitions f) over exact) in
+    let exact' : (f : typing.TypingFault Place) → Contains found f ↔ TypingFailsOver schema tree f =
+    subst (λ ds. (f : typing.TypingFault Place) → Contains found f ↔ TypingFails (meanings (plain schema)) ds f) of
+    (subst (λ m. (f : typing.TypingFault Place) → Contains found f ↔ TypingFails m builder.definitions f) over exact) in
     record {
       is = is ∙ (λ i. kept_document (over i) (of i));
       typed = subst (λ m. IsTypedDocument m document) over typed;

@@ -43,14 +43,14 @@ pub record TypesDocument (schema : SchemaTree Place) (tree : Tree) (document : M
   pub is : document ≡ document_over schema tree
   pub typed : IsTypedUnder schema document
   pub whole : faults ≡ [] → written_document document ≡ out_doc tree
-  pub right : (fault : Fault) → Contains faults fault → (f : typing.Fault Place) × ((fault ≡ of_typing f) × TypingFailsOver schema tree f)
-  pub full : (f : typing.Fault Place) → TypingFailsOver schema tree f → Contains faults (of_typing f)
+  pub right : (fault : Fault) → Contains faults fault → (f : typing.TypingFault Place) × ((fault ≡ of_typing f) × TypingFailsOver schema tree f)
+  pub full : (f : typing.TypingFault Place) → TypingFailsOver schema tree f → Contains faults (of_typing f)
 
 -- rules of typing are broken, and all that breaks them is told
 pub record RefusesTyping (schema : SchemaTree Place) (tree : Tree) (faults : List Fault) : Type 0 where
   pub some : faults ≢ []
-  pub right : (fault : Fault) → Contains faults fault → (f : typing.Fault Place) × ((fault ≡ of_typing f) × TypingFailsOver schema tree f)
-  pub full : (f : typing.Fault Place) → TypingFailsOver schema tree f → Contains faults (of_typing f)
+  pub right : (fault : Fault) → Contains faults fault → (f : typing.TypingFault Place) × ((fault ≡ of_typing f) × TypingFailsOver schema tree f)
+  pub full : (f : typing.TypingFault Place) → TypingFailsOver schema tree f → Contains faults (of_typing f)
 
 abbrev pub RefusalOfTyping : SchemaTree Place → Tree → Refusal → Type 0
 RefusalOfTyping schema tree (Faults list) = RefusesTyping schema tree (diagnostics_of list)

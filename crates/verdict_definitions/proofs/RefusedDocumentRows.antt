@@ -23,7 +23,7 @@ use Rattle.verdict_definitions.proofs.PairRows.{schema_accepted}
 
 module _ (schema : SchemaTree Place) (document : Text) (tree : Tree) (reads : ReadsText 2 document tree) (within : IsWithin 500 2 document) (fault : Fault) (said : SaysDocument schema 500 2 document fault) where
   -- one fault, where it is the only one of typing, or there is none
-  one_refuses : ((f : typing.Fault Place) → TypingFails (meanings_found schema) tree f → of_typing f ≡ fault) → RefusesDocument schema 500 2 document (fault ∷ [])
+  one_refuses : ((f : typing.TypingFault Place) → TypingFails (meanings_found schema) tree f → of_typing f ≡ fault) → RefusesDocument schema 500 2 document (fault ∷ [])
   one_refuses all = record {
     some = not_empty fault [];
     says = of_one (SaysDocument schema 500 2 document) fault said;

@@ -157,7 +157,7 @@ type_reads : ReadsText 2 no_query type_tree
 unfolding reader
 type_reads = reads 500 2 no_query type_tree refl
 
-abbrev type_fault : typing.Fault Place
+abbrev type_fault : typing.TypingFault Place
 type_fault = typing.At (place_in 2 0 17) typing.TypeSystemDefinition
 
 type_fails : TypingFailsOver (schema_at_hand terms (query_field_tree ∷ [])) type_tree type_fault

@@ -63,7 +63,7 @@ module _ (terms : Terms) (schema document : Text) (tree : Tree) (read_schema : R
     tree_is accepted = one_tree (document_number terms (schema ∷ [])) document document_tree accepted.over.judged.tree read_document accepted.over.judged.read
 
     -- a rule of typing is broken
-    pub typing_refused : (fault : typing.Fault Place) → TypingFailsOver (schema_at_hand terms (tree ∷ [])) document_tree fault → IsAccepted terms (schema ∷ []) document → ⊥
+    pub typing_refused : (fault : typing.TypingFault Place) → TypingFailsOver (schema_at_hand terms (tree ∷ [])) document_tree fault → IsAccepted terms (schema ∷ []) document → ⊥
     typing_refused fault fails accepted =
         subst (λ (t : Tree). TypingRules (meanings_over (schema_at_hand terms (tree ∷ []))) t) (tree_is accepted)
         (subst (λ (ts : List Tree). TypingRules (meanings_over (schema_at_hand terms ts)) accepted.over.judged.tree) (trees_are accepted) accepted.over.judged.typed)

@@ -47,7 +47,7 @@ orphan_said = inr ((orphan_query ∷ orphan_extension ∷ []) ∷ [], ((orphan_r
 abbrev pub query_field_schema : SchemaTree Place
 query_field_schema = schema_at_hand terms (query_field_tree ∷ [])
 
-abbrev pub missing_fault : typing.Fault Place
+abbrev pub missing_fault : typing.TypingFault Place
 missing_fault = typing.At (place_in 2 2 9) (typing.UndefinedField (codes "Query") (codes "missing"))
 
 pub missing_fails : TypingFailsOver query_field_schema missing_tree missing_fault

@@ -47,7 +47,7 @@ pub record RefusesDocument (schema : SchemaTree Place) (nesting number : ℕ) (d
   pub says : AllSay (SaysDocument schema nesting number document) faults
   pub alone : UnreadAlone nesting number document faults ⊎ IsRead nesting number document
   pub full : IsWithin nesting number document → (tree : Tree) → ReadsText number document tree
-      → (fault : typing.Fault Place) → TypingFailsOver schema tree fault → Contains faults (of_typing fault)
+      → (fault : typing.TypingFault Place) → TypingFailsOver schema tree fault → Contains faults (of_typing fault)
 
 -- The pair is refused with these faults: the schema texts are, or they are accepted and the document is.
 abbrev pub Refuses : Terms → List Text → Text → List Fault → Type 0

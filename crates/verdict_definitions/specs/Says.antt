@@ -28,7 +28,7 @@ Fault = DetailsAt Place (List Place)
 abbrev pub of_folding : folding.Fault → Fault
 of_folding f = record { place = f.place; details = SchemaBuild f.breach }
 
-abbrev pub of_typing : typing.Fault Place → Fault
+abbrev pub of_typing : typing.TypingFault Place → Fault
 of_typing f = record { place = f.place; details = DocumentBuild f.breach }
 
 abbrev pub of_document : PlacedDocumentFault → Fault
@@ -95,7 +95,7 @@ module _ (terms : Terms) (trees : List Tree) where
 
 module _ (schema : SchemaTree Place) (tree : Tree) where
   -- a rule of typing is broken so
-  abbrev pub TypingFailsOver : typing.Fault Place → Type 0
+  abbrev pub TypingFailsOver : typing.TypingFault Place → Type 0
   TypingFailsOver fault = TypingFails (meanings_over schema) tree fault
 
   -- a rule on documents or on merging is broken so, or a bound is passed
@@ -107,7 +107,7 @@ module _ (schema : SchemaTree Place) (tree : Tree) where
   -- a fault of the document
   abbrev pub DocumentFailsOver : Fault → Type 0
   DocumentFailsOver fault =
-      ((f : typing.Fault Place) × ((fault ≡ of_typing f) × TypingFailsOver f))
+      ((f : typing.TypingFault Place) × ((fault ≡ of_typing f) × TypingFailsOver f))
       ⊎ ((f : PlacedDocumentFault) × ((fault ≡ of_document f) × DocumentRuleFails f))
 
 -- ---- what a fault says

@@ -20,14 +20,14 @@ use Rattle.document_typing.specs.Meanings.{Meanings, inner_type}
 use Rattle.document_typing.specs.KeptSelections.{may_select, is_leaf, kept, kept_all}
 use Rattle.document_typing.specs.KeptDocument.{meant_operation, meant_fragment, kept_document}
 use Rattle.document_typing.specs.TypingFaults as typing
-use Rattle.document_typing.specs.TypingFaults.{Fault, At, TypingRules, is_operation}
+use Rattle.document_typing.specs.TypingFaults.{TypingFault, At, TypingRules, is_operation}
 use Rattle.document_typing.specs.SetFaults.{leaf_faults, selection_faults, set_faults}
 use Rattle.document_typing.specs.Steps.{Typed, told, faults_if, based, is_under, on_root, with_anonymous, with_named, with_fragment, and_operation, and_fragment, and_definition, nothing, typed_in}
 use Rattle.document_typing.proofs.KeptFirsts.{under-made, is_some-made}
 use Rattle.document_typing.proofs.Turns.{typed-is}
 use Rattle.document_typing.proofs.DocumentFailures.{document-fails}
 
-abbrev unplaced_fault : {P : Type 0} → Fault P → Fault (Unit {0})
+abbrev unplaced_fault : {P : Type 0} → TypingFault P → TypingFault (Unit {0})
 unplaced_fault f = At tt (unplaced_breach f.breach)
 
 -- ---- selections
@@ -56,10 +56,10 @@ module _ (m : Meanings) where
   abbrev field_by : {Q : Type 0} → Q → FieldHead Q → SelectionTrees Q → Option Definition → List (MeantSelection Q)
   field_by p h ts o = option_map_or (λ d. field_if p h ts d (may_select m (inner_type d) ts)) o []
 
-  abbrev told_if : {Q : Type 0} → Q → SelectionTrees Q → Definition → Bool → List (Fault Q)
+  abbrev told_if : {Q : Type 0} → Q → SelectionTrees Q → Definition → Bool → List (TypingFault Q)
   told_if p ts d b = if b then set_faults m ts (inner_type d) else leaf_faults m p (inner_type d)
 
-  abbrev told_by : {Q : Type 0} → Q → FieldHead Q → SelectionTrees Q → List ℕ → Option Definition → List (Fault Q)
+  abbrev told_by : {Q : Type 0} → Q → FieldHead Q → SelectionTrees Q → List ℕ → Option Definition → List (TypingFault Q)
   told_by p h ts t o = option_map_or (λ d. told_if p ts d (may_select m (inner_type d) ts)) o (At p (typing.UndefinedField t h.name.it) ∷ [])
 
 module _ {P : Type 0} (m : Meanings) where
@@ -103,7 +103,7 @@ module _ {P : Type 0} (m : Meanings) where
 
   -- ---- what is told of them
 
-  if_same : (b : Bool) (f : Fault P) → map unplaced_fault (if b then f ∷ [] else []) ≡ (if b then unplaced_fault f ∷ [] else [])
+  if_same : (b : Bool) (f : TypingFault P) → map unplaced_fault (if b then f ∷ [] else []) ≡ (if b then unplaced_fault f ∷ [] else [])
   if_same true f = refl
   if_same false f = refl
 
@@ -162,10 +162,10 @@ module _ {P : Type 0} (m : Meanings) where
   abbrev bare : Typed P → Typed (Unit {0})
   bare st = record { document = unplaced_document st.document; faults = map unplaced_fault st.faults }
 
-  told_same : (fs : List (Fault P)) (st : Typed P) → bare (told fs st) ≡ told (map unplaced_fault fs) (bare st)
+  told_same : (fs : List (TypingFault P)) (st : Typed P) → bare (told fs st) ≡ told (map unplaced_fault fs) (bare st)
   told_same fs st = λ i. record { document = unplaced_document st.document; faults = map-append unplaced_fault st.faults fs i }
 
-  told_if_same : (b : Bool) (f : Fault P) (st : Typed P) → bare (told (faults_if b f) st) ≡ told (faults_if b (unplaced_fault f)) (bare st)
+  told_if_same : (b : Bool) (f : TypingFault P) (st : Typed P) → bare (told (faults_if b f) st) ≡ told (faults_if b (unplaced_fault f)) (bare st)
   told_if_same b f st = told_same (faults_if b f) st ∙ ap (λ fs. told fs (bare st)) (if_same b f)
 
   either : (b : Bool) (st : Typed P) (other : Typed P) → bare (if b then st else other) ≡ (if b then bare st else bare other)

@@ -12,7 +12,7 @@ use Rattle.document_typing.specs.OutDoc.{is_anonymous, is_named_operation, is_fr
 use Rattle.document_typing.specs.Meanings.{Meanings}
 use Rattle.document_typing.specs.KeptDocument.{based_operation, anonymous_here, named_here, fragment_here, operation_name, fragment_name, kept_named, kept_operations, kept_fragments, meant_operation, named_entry, fragment_entry, kept_document}
 use Rattle.document_typing.specs.TypingFaults as typing
-use Rattle.document_typing.specs.TypingFaults.{Fault, is_operation, AmbiguousAnonymousOperationAt, OperationNameCollisionAt, FragmentNameCollisionAt, DefinitionBreaks, TypingFails, TypingRules}
+use Rattle.document_typing.specs.TypingFaults.{TypingFault, is_operation, AmbiguousAnonymousOperationAt, OperationNameCollisionAt, FragmentNameCollisionAt, DefinitionBreaks, TypingFails, TypingRules}
 use Rattle.verdict_written_laws.proofs.Order.{not_true}
 use Rattle.verdict_road_back_laws.proofs.Passing.{all_pass, none_passes, three_passing, three_giving, given_by_passing, none_given, StandsInEither, stands_in_either, stands_passing}
 
@@ -232,20 +232,20 @@ module _ {P : Type 0} (m : Meanings) (ds : List (DefinitionTree P)) where
   -- ---- what breaks a rule there breaks it here
 
   module _ (before front : List (DefinitionTree P)) where
-    ambiguous_too : (d : DefinitionTree P) (fault : Fault P) → AmbiguousAnonymousOperationAt (out_doc ds) d fault → AmbiguousAnonymousOperationAt ds d fault
+    ambiguous_too : (d : DefinitionTree P) (fault : TypingFault P) → AmbiguousAnonymousOperationAt (out_doc ds) d fault → AmbiguousAnonymousOperationAt ds d fault
     ambiguous_too (tree.Operation p o) fault (nameless, more, is) = (nameless, subst (λ n. 1 < n) (operations_again ds) more, is)
     ambiguous_too _ fault h = absurd h
 
-    name_too : (d : DefinitionTree P) (fault : Fault P) → (is_named_operation d ≡ true → kept_named m before ≡ kept_named m front) → OperationNameCollisionAt m before d fault → OperationNameCollisionAt m front d fault
+    name_too : (d : DefinitionTree P) (fault : TypingFault P) → (is_named_operation d ≡ true → kept_named m before ≡ kept_named m front) → OperationNameCollisionAt m before d fault → OperationNameCollisionAt m front d fault
     name_too (tree.Operation p o) fault same (n, (called, has, is)) =
         (n, (called, subst (λ os. has_name operation_name n.it os ≡ true) (same (ap (λ x. not (is_none x)) called)) has, is))
     name_too _ fault same h = absurd h
 
-    fragment_name_too : (d : DefinitionTree P) (fault : Fault P) → (is_fragment d ≡ true → kept_fragments m before ≡ kept_fragments m front) → FragmentNameCollisionAt m before d fault → FragmentNameCollisionAt m front d fault
+    fragment_name_too : (d : DefinitionTree P) (fault : TypingFault P) → (is_fragment d ≡ true → kept_fragments m before ≡ kept_fragments m front) → FragmentNameCollisionAt m before d fault → FragmentNameCollisionAt m front d fault
     fragment_name_too (tree.Fragment p f) fault same (has, is) = (subst (λ fs. has_name fragment_name f.name.it fs ≡ true) (same refl) has, is)
     fragment_name_too _ fault same h = absurd h
 
-    breaks_too : (d : DefinitionTree P) (fault : Fault P) → (is_named_operation d ≡ true → kept_named m before ≡ kept_named m front) → (is_fragment d ≡ true → kept_fragments m before ≡ kept_fragments m front)
+    breaks_too : (d : DefinitionTree P) (fault : TypingFault P) → (is_named_operation d ≡ true → kept_named m before ≡ kept_named m front) → (is_fragment d ≡ true → kept_fragments m before ≡ kept_fragments m front)
         → DefinitionBreaks m (out_doc ds) before d fault → DefinitionBreaks m ds front d fault
     breaks_too d fault same same' (typing.type_system_definition h) = typing.type_system_definition h
     breaks_too d fault same same' (typing.ambiguous_anonymous_operation h) = typing.ambiguous_anonymous_operation (ambiguous_too d fault h)
@@ -254,7 +254,7 @@ module _ {P : Type 0} (m : Meanings) (ds : List (DefinitionTree P)) where
     breaks_too d fault same same' (typing.undefined_root_operation h) = typing.undefined_root_operation h
     breaks_too d fault same same' (typing.undefined_type_in_named_fragment_type_condition h) = typing.undefined_type_in_named_fragment_type_condition h
 
-  fails_too : (fault : Fault P) → TypingFails m (out_doc ds) fault → TypingFails m ds fault
+  fails_too : (fault : TypingFault P) → TypingFails m (out_doc ds) fault → TypingFails m ds fault
   fails_too fault (typing.in_definition (before, (d, (at, breaks)))) =
       let s = stood before d at in
       typing.in_definition (s.front, (d, (s.stands, breaks_too before s.front d fault s.names s.fragment_names breaks)))
