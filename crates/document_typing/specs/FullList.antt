@@ -20,18 +20,18 @@ module _ {P : Type 0} where
   is_kept m before _ = false
 
   -- one of these faults is so
-  abbrev pub Told : List (TypingFault P) → (TypingFault P → Type 0) → Type 0
-  Told faults Q = (fault : TypingFault P) × (Contains faults fault × Q fault)
+  abbrev pub HasFault : List (TypingFault P) → (TypingFault P → Type 0) → Type 0
+  HasFault faults Q = (fault : TypingFault P) × (Contains faults fault × Q fault)
 
   -- of a set with these selections on the type t: a fault for each selection that is left out of a set that is kept of it
   abbrev pub TellsSet : Meanings → List ℕ → SelectionTrees P → List (TypingFault P) → Type 0
-  TellsSet m t ts faults = (u : List ℕ) (s : SelectionTree P) → StandsIn m u s t ts → kept m s u ≡ [] → Told faults (SelectionBreaks m u s)
+  TellsSet m t ts faults = (u : List ℕ) (s : SelectionTree P) → StandsIn m u s t ts → kept m s u ≡ [] → HasFault faults (SelectionBreaks m u s)
 
   -- of a document: a fault for each definition that is not kept, each operation without a name beside another one, and
   -- each selection that is left out of a set that is kept
   pub record TellsAll (m : Meanings) (ds : List (DefinitionTree P)) (faults : List (TypingFault P)) : Type 0 where
     pub definitions : (before : List (DefinitionTree P)) (d : DefinitionTree P) → StandsAfter ds before d → is_kept m before d ≡ false
-        → Told faults (DefinitionBreaks m ds before d)
+        → HasFault faults (DefinitionBreaks m ds before d)
     pub anonymous : (before : List (DefinitionTree P)) (p : P) (o : OperationTree P) → StandsAfter ds before (Operation p o)
         → o.name ≡ None → 1 < length (filter is_operation ds) → Contains faults (At p AmbiguousAnonymousOperation)
     pub operations : (o : _) → Contains (kept_operations m ds) o → TellsSet m o.base o.it.selections faults
