@@ -10,7 +10,7 @@ use Rattle.schema_components.specs.Given.{component_tree}
 use Rattle.graphql_schema.specs.in_schema_types.SchemaTree.{SchemaTree}
 use Rattle.graphql_schema.specs.in_schema_types.TypeView.{extended_type}
 use Rattle.schema_coordinates.specs.Coordinate.{Coordinate, OfType, OfAttribute, OfArgument, OfDirective, OfDirectiveArgument}
-use Rattle.graphql_coords.specs.LookUps.{Fault, MissingType, MissingAttribute, InvalidArgumentAttribute, MissingArgument, InvalidType, Attribute, OfField, OfInputField, OfEnumValue, Named, NamedType, NamedDirective, NamedAttribute, NamedArgument, found_as, type_lookup, attribute_lookup, argument_lookup, directive_lookup, directive_argument_lookup}
+use Rattle.graphql_coords.specs.LookUps.{LookupFault, MissingType, MissingAttribute, InvalidArgumentAttribute, MissingArgument, InvalidType, Attribute, OfField, OfInputField, OfEnumValue, Named, NamedType, NamedDirective, NamedAttribute, NamedArgument, found_as, type_lookup, attribute_lookup, argument_lookup, directive_lookup, directive_argument_lookup}
 use Rattle.graphql_coords.specs.declared.lookup_answers.SchemaLookupError.{SchemaLookupError}
 use Rattle.graphql_coords.specs.declared.lookup_answers.SchemaLookupError.TheVariants as error
 use Rattle.graphql_coords.specs.declared.lookup_answers.TypeAttributeLookup.{TypeAttributeLookup}
@@ -18,7 +18,7 @@ use Rattle.graphql_coords.specs.declared.lookup_answers.TypeAttributeLookup.TheV
 use Rattle.graphql_coords.specs.declared.lookup_answers.SchemaCoordinateLookup.{SchemaCoordinateLookup}
 use Rattle.graphql_coords.specs.declared.lookup_answers.SchemaCoordinateLookup.TheVariants as any
 
-abbrev pub fault_of : SchemaLookupError → Fault
+abbrev pub fault_of : SchemaLookupError → LookupFault
 fault_of (error.MissingType n) = MissingType n.now.text
 fault_of (error.MissingAttribute n) = MissingAttribute n.now.text
 fault_of (error.InvalidArgumentAttribute n) = InvalidArgumentAttribute n.now.text
@@ -39,16 +39,16 @@ named_of (any.EnumValue v) = NamedAttribute (OfEnumValue (component_tree enum_va
 named_of (any.Argument a) = NamedArgument (node_tree input_value_tree a.now)
 
 -- the answer, with what contracts see of what it lends
-abbrev pub answer : {A B : Type 0} → (A → B) → Result A SchemaLookupError → Result B Fault
+abbrev pub answer : {A B : Type 0} → (A → B) → Result A SchemaLookupError → Result B LookupFault
 answer f (Ok x) = Ok (f x)
 answer f (Err e) = Err (fault_of e)
 
 -- the same, of the definition of an argument
-abbrev pub argument_answer : Result (Bor (Node InputValueDefinition)) SchemaLookupError → Result (Placed Place (InputValueTree Place)) Fault
+abbrev pub argument_answer : Result (Bor (Node InputValueDefinition)) SchemaLookupError → Result (Placed Place (InputValueTree Place)) LookupFault
 argument_answer r = answer (λ a. node_tree input_value_tree a.now) r
 
 -- what a coordinate of any form names
-abbrev pub lookup_of : SchemaTree Place → Coordinate → Result Named Fault
+abbrev pub lookup_of : SchemaTree Place → Coordinate → Result Named LookupFault
 lookup_of s (OfType n) = found_as NamedType (type_lookup s n)
 lookup_of s (OfAttribute n a) = found_as NamedAttribute (attribute_lookup s n a)
 lookup_of s (OfArgument n f a) = found_as NamedArgument (argument_lookup s n f a)

@@ -11,12 +11,12 @@ use Rattle.graphql_schema.specs.in_schema_types.Addresses.{under, type_at}
 use Rattle.graphql_schema.specs.in_schema_types.declared.type_kind.TypeKind.TheVariants.{Object, Interface, Enum, InputObject}
 
 -- why nothing is found: the name that is missing or does not fit, or the type that has no attributes of that sort
-pub data Fault : Type 0 where
-  MissingType : (name : List ℕ) → Fault
-  MissingAttribute : (name : List ℕ) → Fault
-  InvalidArgumentAttribute : (name : List ℕ) → Fault
-  MissingArgument : (name : List ℕ) → Fault
-  InvalidType : (type : SchemaType Place) → Fault
+pub data LookupFault : Type 0 where
+  MissingType : (name : List ℕ) → LookupFault
+  MissingAttribute : (name : List ℕ) → LookupFault
+  InvalidArgumentAttribute : (name : List ℕ) → LookupFault
+  MissingArgument : (name : List ℕ) → LookupFault
+  InvalidType : (type : SchemaType Place) → LookupFault
 
 abbrev FieldOf : Type 0
 FieldOf = Given Place (Placed Place (FieldDefinitionTree Place))
@@ -42,62 +42,62 @@ pub data Named : Type 0 where
   NamedArgument : ArgumentOf → Named
 
 -- what is found, as something else; the same faults
-abbrev pub found_as : {A B : Type 0} → (A → B) → Result A Fault → Result B Fault
+abbrev pub found_as : {A B : Type 0} → (A → B) → Result A LookupFault → Result B LookupFault
 found_as f (Ok x) = Ok (f x)
 found_as f (Err e) = Err e
 
 -- go on with what is found
-abbrev pub found_then : {A B : Type 0} → (A → Result B Fault) → Result A Fault → Result B Fault
+abbrev pub found_then : {A B : Type 0} → (A → Result B LookupFault) → Result A LookupFault → Result B LookupFault
 found_then f (Ok x) = f x
 found_then f (Err e) = Err e
 
 -- the fields, input fields and values of a type: only objects and interfaces, input objects and enums have any
-abbrev pub field_in : List ℕ → SchemaType Place → Result FieldOf Fault
+abbrev pub field_in : List ℕ → SchemaType Place → Result FieldOf LookupFault
 field_in a t = if same_kind t.kind Object || same_kind t.kind Interface then ok_or (under a t.fields) (MissingAttribute a) else Err (InvalidType t)
 
-abbrev pub input_field_in : List ℕ → SchemaType Place → Result InputOf Fault
+abbrev pub input_field_in : List ℕ → SchemaType Place → Result InputOf LookupFault
 input_field_in a t = if same_kind t.kind InputObject then ok_or (under a t.inputs) (MissingAttribute a) else Err (InvalidType t)
 
-abbrev pub enum_value_in : List ℕ → SchemaType Place → Result ValueOf Fault
+abbrev pub enum_value_in : List ℕ → SchemaType Place → Result ValueOf LookupFault
 enum_value_in a t = if same_kind t.kind Enum then ok_or (under a t.values) (MissingAttribute a) else Err (InvalidType t)
 
-abbrev pub attribute_in : List ℕ → SchemaType Place → Result Attribute Fault
+abbrev pub attribute_in : List ℕ → SchemaType Place → Result Attribute LookupFault
 attribute_in a t =
     if same_kind t.kind InputObject then found_as OfInputField (input_field_in a t) else
     if same_kind t.kind Enum then found_as OfEnumValue (enum_value_in a t) else
     found_as OfField (field_in a t)
 
 -- the argument of an attribute, which has to be a field
-abbrev pub argument_in : List ℕ → List ℕ → Attribute → Result ArgumentOf Fault
+abbrev pub argument_in : List ℕ → List ℕ → Attribute → Result ArgumentOf LookupFault
 argument_in f a (OfField g) = ok_or (argument_named a g.it.it.arguments) (MissingArgument a)
 argument_in f a (OfInputField g) = Err (InvalidArgumentAttribute f)
 argument_in f a (OfEnumValue g) = Err (InvalidArgumentAttribute f)
 
 -- the argument of a directive
-abbrev pub argument_of : List ℕ → DirectiveDefinitionTree Place → Result ArgumentOf Fault
+abbrev pub argument_of : List ℕ → DirectiveDefinitionTree Place → Result ArgumentOf LookupFault
 argument_of a d = ok_or (find (input_value_has_name a) d.arguments) (MissingArgument a)
 
 module _ (s : SchemaTree Place) where
-  abbrev pub type_lookup : List ℕ → Result (SchemaType Place) Fault
+  abbrev pub type_lookup : List ℕ → Result (SchemaType Place) LookupFault
   type_lookup n = ok_or (type_at s n) (MissingType n)
 
-  abbrev pub attribute_lookup : List ℕ → List ℕ → Result Attribute Fault
+  abbrev pub attribute_lookup : List ℕ → List ℕ → Result Attribute LookupFault
   attribute_lookup n a = found_then (attribute_in a) (type_lookup n)
 
-  abbrev pub field_lookup : List ℕ → List ℕ → Result FieldOf Fault
+  abbrev pub field_lookup : List ℕ → List ℕ → Result FieldOf LookupFault
   field_lookup n a = found_then (field_in a) (type_lookup n)
 
-  abbrev pub input_field_lookup : List ℕ → List ℕ → Result InputOf Fault
+  abbrev pub input_field_lookup : List ℕ → List ℕ → Result InputOf LookupFault
   input_field_lookup n a = found_then (input_field_in a) (type_lookup n)
 
-  abbrev pub enum_value_lookup : List ℕ → List ℕ → Result ValueOf Fault
+  abbrev pub enum_value_lookup : List ℕ → List ℕ → Result ValueOf LookupFault
   enum_value_lookup n a = found_then (enum_value_in a) (type_lookup n)
 
-  abbrev pub argument_lookup : List ℕ → List ℕ → List ℕ → Result ArgumentOf Fault
+  abbrev pub argument_lookup : List ℕ → List ℕ → List ℕ → Result ArgumentOf LookupFault
   argument_lookup n f a = found_then (argument_in f a) (attribute_lookup n f)
 
-  abbrev pub directive_lookup : List ℕ → Result (Placed Place (DirectiveDefinitionTree Place)) Fault
+  abbrev pub directive_lookup : List ℕ → Result (Placed Place (DirectiveDefinitionTree Place)) LookupFault
   directive_lookup d = ok_or (under d s.directives) (MissingType d)
 
-  abbrev pub directive_argument_lookup : List ℕ → List ℕ → Result ArgumentOf Fault
+  abbrev pub directive_argument_lookup : List ℕ → List ℕ → Result ArgumentOf LookupFault
   directive_argument_lookup d a = found_then (λ x. argument_of a x.it) (directive_lookup d)
