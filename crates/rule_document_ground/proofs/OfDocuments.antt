@@ -13,7 +13,7 @@ use Rattle.document_meaning.specs.MeantTree.{MeantDocument, meant_of_set}
 use Rattle.document_typing.specs.DocumentView.{meant_by_operation, meant_by_fragment, meant_document}
 use Rattle.rule_document_definitions.specs.Selected.{Position, InOperation, standing_in, operation_name}
 use Rattle.rule_document_definitions.specs.FieldSets.{document_of_set}
-use Rattle.rule_document_ground.specs.Reach.{IsReach, meant_fragments, reached_members, reached_fragments_of, Reaches}
+use Rattle.rule_document_ground.specs.Reach.{IsReach, meant_fragments, reached_members, reached_fragments_of, IsReachOf}
 use Rattle.rule_document_ground.specs.declared.lists.Reach.{Reach}
 use Rattle.indexmap.specs.IndexMap.{IndexMap}
 
@@ -23,7 +23,7 @@ ReachesFrom start fragments r = (d : MeantDocument Place) (holder : Position) �
 
 -- it is what an operation reaches, in the document of the fragments
 pub operation_reaches : (document : ExecutableDocument) (o : Node Operation) (r : Reach) → ReachesFrom (typed_set_tree (content o).selection_set) document.fragments r
-    → Reaches (meant_document (typed_document_tree document)) (meant_by_operation (node_tree typed_operation_tree o)) r
+    → IsReachOf (meant_document (typed_document_tree document)) (meant_by_operation (node_tree typed_operation_tree o)) r
 operation_reaches document o r h = h (meant_document (typed_document_tree document)) (InOperation (operation_name (meant_by_operation (node_tree typed_operation_tree o)))) refl
 
 -- and what the only operation of a field set reaches, where there are no fragments

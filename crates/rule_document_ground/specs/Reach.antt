@@ -46,8 +46,8 @@ pub record IsReach {P : Type 0} (d : MeantDocument P) (start : List (Standing P)
   pub fragments : (f : MeantFragment P) → Contains spread f ↔ ((x : Standing P) × (Closed (Contains start) (LeadsInto d) x × Present (spread_name x.it) (λ n. fragment_named d n ≡ Some f)))
 
 -- what an operation reaches in a document
-abbrev pub Reaches : MeantDocument Place → MeantOperation Place → Reach → Type 0
-Reaches d o r = IsReach d (own o) (reached_members r) (reached_fragments_of r)
+abbrev pub IsReachOf : MeantDocument Place → MeantOperation Place → Reach → Type 0
+IsReachOf d o r = IsReach d (own o) (reached_members r) (reached_fragments_of r)
 
 -- the field that a selection is, with nothing told of where it stands
 abbrev pub field_of : {P : Type 0} → Member P → Option (StandingField P)

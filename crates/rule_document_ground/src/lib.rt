@@ -4,7 +4,7 @@
 //! For the layers above:
 //! - `reach` gives two lists, the selections with the types of their sets and the fragments that are spread, which are all
 //!   that is reached and no more (`IsReach` of `specs/Reach.antt`), in every document with these fragments: for an operation
-//!   that is `Reaches`, and a field set has a document without fragments (`proofs/OfDocuments.antt`). What is said of the
+//!   that is `IsReachOf`, and a field set has a document without fragments (`proofs/OfDocuments.antt`). What is said of the
 //!   members of the lists is said at all that is reached, and back (`proofs/AtReaches.antt`). What is reached in a typed
 //!   document or field set is typed (`proofs/TypedReached.antt`).
 //! - Contracts see a field that is selected as `field_of`, and its contents as `content_of` (`specs/Fields.antt`): equality

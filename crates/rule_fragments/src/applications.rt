@@ -12,7 +12,7 @@ ghost use Rattle.fault_data.specs.Adds.{Adds};
 ghost use Rattle.rule_definitions.specs.Judged.{judged};
 ghost use Rattle.rule_document_definitions.specs.Fragments.{InvalidFragmentTargetAt, InvalidFragmentSpreadAt};
 ghost use Rattle.rule_document_definitions.specs.Told.{places_in};
-ghost use Rattle.rule_document_ground.specs.Reach.{Reaches, meant_fragments, reached_members};
+ghost use Rattle.rule_document_ground.specs.Reach.{IsReachOf, meant_fragments, reached_members};
 ghost use Rattle.rule_fragments.specs.Possible.{ArePossible};
 ghost use Rattle.rule_fragments.specs.Applied.{application_tree, application_in, invalid_fragment_spread, spread_told};
 
@@ -163,7 +163,7 @@ pub fn check_applications(
     reach: &Reach<'_>,
     faults: &mut Vec<Fault>,
 ) -> Result<(), AllocError>
-    ensures { OnOk result ((d : MeantDocument Place) (o : MeantOperation Place) → Reaches d o reach.now → d.fragments ≡ meant_fragments fragments.now → ArePossible (judged (schema_tree schema.now)) possible.now → Adds faults.old faults.new (λ f. InvalidFragmentTargetAt (judged (schema_tree schema.now)) d o f ⊎ InvalidFragmentSpreadAt (judged (schema_tree schema.now)) d o f (places_in (schema_tree schema.now)))) }
+    ensures { OnOk result ((d : MeantDocument Place) (o : MeantOperation Place) → IsReachOf d o reach.now → d.fragments ≡ meant_fragments fragments.now → ArePossible (judged (schema_tree schema.now)) possible.now → Adds faults.old faults.new (λ f. InvalidFragmentTargetAt (judged (schema_tree schema.now)) d o f ⊎ InvalidFragmentSpreadAt (judged (schema_tree schema.now)) d o f (places_in (schema_tree schema.now)))) }
 {
     check_targets(schema, reach, faults)?;
     check_fragment_spreads(schema, possible, fragments, reach, faults)

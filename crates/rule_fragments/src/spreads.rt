@@ -6,7 +6,7 @@ ghost use Rattle.document_meaning.specs.MeantTree.{MeantOperation, MeantDocument
 ghost use Rattle.fault_data.specs.FaultView.{fault_of};
 ghost use Rattle.fault_data.specs.Adds.{Adds};
 ghost use Rattle.rule_document_definitions.specs.Fragments.{UndefinedFragmentAt};
-ghost use Rattle.rule_document_ground.specs.Reach.{Reaches, meant_fragments};
+ghost use Rattle.rule_document_ground.specs.Reach.{IsReachOf, meant_fragments};
 ghost use Rattle.rule_fragments.specs.Listed.{undefined_fragment};
 
 use document_typed_operations::FragmentMap;
@@ -42,7 +42,7 @@ pub fn check_spreads(
     reach: &Reach<'_>,
     faults: &mut Vec<Fault>,
 ) -> Result<(), AllocError>
-    ensures { OnOk result ((d : MeantDocument Place) (o : MeantOperation Place) → Reaches d o reach.now → d.fragments ≡ meant_fragments fragments.now → Adds faults.old faults.new (λ f. UndefinedFragmentAt d f o)) }
+    ensures { OnOk result ((d : MeantDocument Place) (o : MeantOperation Place) → IsReachOf d o reach.now → d.fragments ≡ meant_fragments fragments.now → Adds faults.old faults.new (λ f. UndefinedFragmentAt d f o)) }
 {
     for (_, selection) in &reach.selections {
         tell(faults, undefined_fragment(fragments, selection)?)?;

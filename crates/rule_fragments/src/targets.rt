@@ -11,7 +11,7 @@ ghost use Rattle.fault_data.specs.FaultView.{fault_of, faults_of};
 ghost use Rattle.fault_data.specs.Adds.{Adds};
 ghost use Rattle.rule_definitions.specs.Judged.{judged};
 ghost use Rattle.rule_document_definitions.specs.Fragments.{InvalidFragmentTargetAt};
-ghost use Rattle.rule_document_ground.specs.Reach.{Reaches, reached_members, reached_fragments_of};
+ghost use Rattle.rule_document_ground.specs.Reach.{IsReachOf, reached_members, reached_fragments_of};
 ghost use Rattle.rule_fragments.specs.Listed.{is_no_composite, invalid_fragment_target, fragment_target, inline_target};
 
 use crate::names::copied_name;
@@ -114,7 +114,7 @@ pub(crate) fn check_targets(
     reach: &Reach<'_>,
     faults: &mut Vec<Fault>,
 ) -> Result<(), AllocError>
-    ensures { OnOk result ((d : MeantDocument Place) (o : MeantOperation Place) → Reaches d o reach.now → Adds faults.old faults.new (λ f. InvalidFragmentTargetAt (judged (schema_tree schema.now)) d o f)) }
+    ensures { OnOk result ((d : MeantDocument Place) (o : MeantOperation Place) → IsReachOf d o reach.now → Adds faults.old faults.new (λ f. InvalidFragmentTargetAt (judged (schema_tree schema.now)) d o f)) }
 {
     check_fragment_targets(schema, reach, faults)?;
     check_inline_targets(schema, reach, faults)

@@ -12,7 +12,7 @@ ghost use Rattle.document_typed_operations.specs.TypedDocument.{typed_fragment_t
 ghost use Rattle.document_typing.specs.DocumentView.{meant_by_operation};
 ghost use Rattle.rule_document_definitions.specs.Standalone.{GivenInBreaks};
 ghost use Rattle.rule_document_definitions.specs.Told.{places_alone};
-ghost use Rattle.rule_document_ground.specs.Reach.{reached_members, reached_fragments_of, Reaches};
+ghost use Rattle.rule_document_ground.specs.Reach.{reached_members, reached_fragments_of, IsReachOf};
 ghost use Rattle.rule_uses.specs.Alone.{DirectivesAloneBreak};
 ghost use Rattle.rule_selections.specs.Steps.{SelectionAloneBreaks};
 
@@ -86,7 +86,7 @@ pub fn check_selections_alone(
     reach: &Reach<'_>,
     faults: &mut Vec<Fault>,
 ) -> Result<(), AllocError>
-    ensures { OnOk result ((d : MeantDocument Place) → Reaches d (meant_by_operation (node_tree typed_operation_tree operation.now)) reach.now → Adds faults.old faults.new (λ fault. GivenInBreaks places_alone d fault (meant_by_operation (node_tree typed_operation_tree operation.now)))) }
+    ensures { OnOk result ((d : MeantDocument Place) → IsReachOf d (meant_by_operation (node_tree typed_operation_tree operation.now)) reach.now → Adds faults.old faults.new (λ fault. GivenInBreaks places_alone d fault (meant_by_operation (node_tree typed_operation_tree operation.now)))) }
 {
     let operation = operation.content();
     check_directives_alone(&operation.directives.0, faults)?;

@@ -20,7 +20,7 @@ ghost use Rattle.document_typing.specs.TypedByPlace.{IsTyped};
 ghost use Rattle.rule_document_definitions.specs.Selected.{selection_location};
 ghost use Rattle.rule_document_definitions.specs.Selections.{SelectionsBreak};
 ghost use Rattle.rule_document_definitions.specs.Told.{places_in};
-ghost use Rattle.rule_document_ground.specs.Reach.{Member, reached_members, reached_fragments_of, Reaches};
+ghost use Rattle.rule_document_ground.specs.Reach.{Member, reached_members, reached_fragments_of, IsReachOf};
 ghost use Rattle.rule_selections.specs.Steps.{SelectionBreaks};
 ghost use Rattle.rule_selections.specs.Typed.{ReachesTyped};
 
@@ -128,7 +128,7 @@ pub fn check_selections(
     reach: &Reach<'_>,
     faults: &mut Vec<Fault>,
 ) -> Result<(), AllocError>
-    ensures { OnOk result ((d : MeantDocument Place) → Reaches d (meant_by_operation (node_tree typed_operation_tree operation.now)) reach.now → ReachesTyped (meanings (plain (schema_tree schema.now))) d (meant_by_operation (node_tree typed_operation_tree operation.now)) → Adds faults.old faults.new (λ fault. SelectionsBreak (places_in (schema_tree schema.now)) (judged (schema_tree schema.now)) d (meant_by_operation (node_tree typed_operation_tree operation.now)) fault)) }
+    ensures { OnOk result ((d : MeantDocument Place) → IsReachOf d (meant_by_operation (node_tree typed_operation_tree operation.now)) reach.now → ReachesTyped (meanings (plain (schema_tree schema.now))) d (meant_by_operation (node_tree typed_operation_tree operation.now)) → Adds faults.old faults.new (λ fault. SelectionsBreak (places_in (schema_tree schema.now)) (judged (schema_tree schema.now)) d (meant_by_operation (node_tree typed_operation_tree operation.now)) fault)) }
 {
     let operation = operation.content();
     let alloc = *faults.allocator();

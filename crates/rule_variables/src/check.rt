@@ -8,7 +8,7 @@ ghost use Rattle.rule_values.specs.in_fault_data.Adds.{Adds};
 ghost use Rattle.rule_values.specs.Wanting.{variables_of};
 ghost use Rattle.schema_types.specs.Addresses.{Address};
 ghost use Rattle.document_meaning.specs.MeantTree.{MeantDocument};
-ghost use Rattle.rule_document_ground.specs.Reach.{Reaches};
+ghost use Rattle.rule_document_ground.specs.Reach.{IsReachOf};
 ghost use Rattle.rule_variables.specs.Parts.{VariablesBreakAlone, VariablesBreakUnder};
 ghost use Rattle.rule_variables.specs.UsedNames.{noted_names};
 ghost use Rattle.rule_variables.specs.VariableFaults.{AloneBreaks};
@@ -46,7 +46,7 @@ pub fn check_variables_alone(
     reach: &Reach<'_>,
     faults: &mut Vec<Fault>,
 ) -> Result<(), AllocError>
-    ensures { OnOk result ((at : Address → Place) (d : MeantDocument Place) → Reaches d (meant_by_operation (node_tree typed_operation_tree operation.now)) reach.now → Adds faults.old faults.new (VariablesBreakAlone at d (meant_by_operation (node_tree typed_operation_tree operation.now)))) }
+    ensures { OnOk result ((at : Address → Place) (d : MeantDocument Place) → IsReachOf d (meant_by_operation (node_tree typed_operation_tree operation.now)) reach.now → Adds faults.old faults.new (VariablesBreakAlone at d (meant_by_operation (node_tree typed_operation_tree operation.now)))) }
 {
     let own = operation.content();
     let alloc = *faults.allocator();
