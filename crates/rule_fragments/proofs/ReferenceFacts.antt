@@ -10,7 +10,7 @@ use Rattle.std.proofs.lemmas.List.Folds.{find-append}
 use Rattle.rule_cycle_search.specs.Graph.{references}
 use Rattle.indexmap.specs.IndexMap.{IndexMap}
 use Rattle.rule_cycles.specs.Labels.{Labelled, targets, label}
-use Rattle.rule_fragments.specs.References.{reference_view, label_at, AreFirsts, between, Adds, AreNoted}
+use Rattle.rule_fragments.specs.References.{reference_view, label_at, AreFirsts, between, AddsNode, AreNoted}
 use Rattle.rule_fragments.specs.declared.references.Reference.{Reference}
 use Rattle.rule_fragments.specs.declared.references.References.{References}
 
@@ -85,7 +85,7 @@ module _ {L X : Type 0} (view : L → X) (of : ℕ → Labelled X) where
     labels = λ i to h. absurd (omega arith);
   }
 
-  pub AreNoted-more : (n : ℕ) (old new : References L) (rs : List (Reference L)) → AreNoted view of n old → Adds old new (map reference_view rs) → map (λ r. (r.to, view r.by)) rs ≡ of n → AreNoted view of (n + 1) new
+  pub AreNoted-more : (n : ℕ) (old new : References L) (rs : List (Reference L)) → AreNoted view of n old → AddsNode old new (map reference_view rs) → map (λ r. (r.to, view r.by)) rs ≡ of n → AreNoted view of (n + 1) new
   AreNoted-more n old new rs before adds is = record {
     long = ap length adds.lists ∙ length_push old.graph.references.items adds.list ∙ ap (λ k. k + 1) before.long;
     noted = adds.long ∙ ap (λ k. k + 1) before.noted;

@@ -24,7 +24,7 @@ module _ {L : Type 0} where
   between r from to = option_and_then (λ m. label_at m to) (slice_get r.firsts.items from)
 
   -- one node more, which has these references
-  pub record Adds (old new : References L) (rs : Labelled L) : Type 0 where
+  pub record AddsNode (old new : References L) (rs : Labelled L) : Type 0 where
     pub list : Vec ℕ Global
     pub lists : new.graph.references.items ≡ old.graph.references.items ++ list ∷ []
     pub targets : list.items ≡ targets rs

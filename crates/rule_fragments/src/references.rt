@@ -3,7 +3,7 @@ ghost use Rattle.std.specs.Prelude.{◌≡◌, ◌++◌, [], ◌∷◌, map, IfO
 ghost use Rattle.std.specs.Option.{option_copied};
 ghost use Rattle.rule_document_definitions.specs.Limits.{spread_bound};
 ghost use Rattle.rule_cycles.specs.Labels.{targets};
-ghost use Rattle.rule_fragments.specs.References.{reference_view, AreFirsts, Adds, between};
+ghost use Rattle.rule_fragments.specs.References.{reference_view, AreFirsts, AddsNode, between};
 
 use indexmap::IndexMap;
 use rule_cycle_search::Graph;
@@ -91,7 +91,7 @@ impl<L: Drop> References<L> {
         alloc: Global,
         references: Vec<Reference<L>>,
     ) -> Result<(), AllocError>
-        ensures { OnOk result (Adds self.old self.new (map reference_view references.items)) }
+        ensures { OnOk result (AddsNode self.old self.new (map reference_view references.items)) }
     {
         let targets = targets_of(alloc, &references)?;
         let firsts = firsts_of(alloc, references)?;
