@@ -33,7 +33,7 @@ use Rattle.rule_fragments.specs.SpreadNumbers.{Spread, references_at}
 use Rattle.rule_fragments.specs.SpreadViews.{spread_between}
 use Rattle.rule_fragments.specs.SpreadGraph.{AreSpreadReferences}
 use Rattle.rule_fragments.specs.CycleFaults.{spread_trace, IsRecursiveFault, IsDeepFault, Tells, used_at, TellsRecursive, TellsDeep}
-use Rattle.rule_fragments.specs.Told.{CyclesFail, Answers, TellsCycles}
+use Rattle.rule_fragments.specs.Told.{FragmentCyclesFail, Answers, TellsCycles}
 use Rattle.rule_fragments.specs.declared.references.References.{References}
 use Rattle.rule_fragments.proofs.Named.{any_among, fragment_there, used_there, own_number, one_fragment, used_by_name}
 use Rattle.rule_fragments.proofs.SpreadBridge.{name_at, number_at, said, spread_sound, spread_full, spread_defined, spread_one}
@@ -112,7 +112,7 @@ module _ (d : MeantDocument Place) (own : AreUnderOwnNames d) (names : List (Lis
 
   -- ---- what is told is right
 
-  recursive_right : (root : ℕ) (path : List ℕ) (l : List PlacedFault) (x : PlacedFault) → IsWayBack r.graph root path → TellsRecursive r o root path l → Contains l x → CyclesFail d x
+  recursive_right : (root : ℕ) (path : List ℕ) (l : List PlacedFault) (x : PlacedFault) → IsWayBack r.graph root path → TellsRecursive r o root path l → Contains l x → FragmentCyclesFail d x
   recursive_right root path l x way tells c =
       let e : IsOne (IsRecursiveFault (spread_trace r root path)) root x = one_told (IsRecursiveFault (spread_trace r root path)) root l x tells c in
       let f : MeantFragment Place = e.0 in
@@ -161,7 +161,7 @@ module _ (d : MeantDocument Place) (own : AreUnderOwnNames d) (names : List (Lis
   none_first : (n : ℕ) → is_first r.graph n ≡ false
   none_first n = ap (λ k. nat_lt n k) are.graph.none_first ∙ le-ltb n 0 (omega arith)
 
-  deep_right : (root : ℕ) (l : List PlacedFault) (x : PlacedFault) → IsDeep r.graph root → TellsDeep r o root l → Contains l x → CyclesFail d x
+  deep_right : (root : ℕ) (l : List PlacedFault) (x : PlacedFault) → IsDeep r.graph root → TellsDeep r o root l → Contains l x → FragmentCyclesFail d x
   deep_right root l x deep tells c =
       let e : IsOne IsDeepFault root x = one_told IsDeepFault root l x tells c in
       let f : MeantFragment Place = e.0 in
@@ -178,7 +178,7 @@ module _ (d : MeantDocument Place) (own : AreUnderOwnNames d) (names : List (Lis
       ] in
       inr (f, (used_there d f e.1.0.1, ((w.0, (w.1.1, (apart, long))), (e.1.1.0, (e.1.1.1.0, ap (λ y. OfData y) e.1.1.1.1)))))
 
-  root_right : (root : ℕ) (l : List PlacedFault) (x : PlacedFault) → IsOfRoot (TellsRecursive r o) (TellsDeep r o) r.graph root l → Contains l x → CyclesFail d x
+  root_right : (root : ℕ) (l : List PlacedFault) (x : PlacedFault) → IsOfRoot (TellsRecursive r o) (TellsDeep r o) r.graph root l → Contains l x → FragmentCyclesFail d x
   root_right root l x (inl h) c = recursive_right root h.0 l x h.1.0 h.1.1 c
   root_right root l x (inr h) c = deep_right root l x h.0 h.1 c
 

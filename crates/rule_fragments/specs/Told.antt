@@ -13,8 +13,8 @@ use Rattle.rule_document_definitions.specs.Told.{places_alone}
 use Rattle.rule_fragments.specs.Used.{IsUsed}
 
 -- a fragment that an operation reaches leads back to itself, or the bound on spreads is passed, and this tells it
-abbrev pub CyclesFail : MeantDocument Place → PlacedFault → Type 0
-CyclesFail d fault = AtOperation d (λ o. RecursiveFragmentDefinitionAt d fault places_alone o) ⊎ SpreadBoundFails places_alone d (OfData fault)
+abbrev pub FragmentCyclesFail : MeantDocument Place → PlacedFault → Type 0
+FragmentCyclesFail d fault = AtOperation d (λ o. RecursiveFragmentDefinitionAt d fault places_alone o) ⊎ SpreadBoundFails places_alone d (OfData fault)
 
 -- a fault that says so of the fragment, or that the ways from there are too long
 abbrev pub Answers : MeantFragment Place → PlacedFault → Type 0
@@ -26,5 +26,5 @@ Answers f fault =
 pub record TellsCycles (d : MeantDocument Place) (old new : List PlacedFault) : Type 0 where
   pub added : List PlacedFault
   pub is : new ≡ old ++ added
-  pub right : (fault : PlacedFault) → Contains added fault → CyclesFail d fault
+  pub right : (fault : PlacedFault) → Contains added fault → FragmentCyclesFail d fault
   pub full : (f : MeantFragment Place) → IsUsed d f → ReachesItself d f → (fault : PlacedFault) × (Contains added fault × Answers f fault)
