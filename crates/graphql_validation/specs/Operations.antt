@@ -28,7 +28,7 @@ use Rattle.rule_document_definitions.specs.Told.{PlacedDocumentFault, places_in,
 use Rattle.rule_document_ground.specs.Broken.{brokens_of}
 use Rattle.rule_selections.specs.Typed.{ReachesTyped}
 use Rattle.rule_subscriptions.specs.Told.{AreAlike}
-use Rattle.rule_fragments.specs.Told.{Answers, TellsCycles}
+use Rattle.rule_fragments.specs.Told.{Answers, TellsFragmentCycles}
 use Rattle.rule_fragments.specs.Used.{IsUsed}
 
 module _ (d : MeantDocument Place) (o : MeantOperation Place) where
@@ -62,7 +62,7 @@ with_fragments = fold (λ ns f. insert_key bytes_eq ns f.name.it)
 
 -- behind these faults those of the fragments that no operation reaches, and then those of the fragments that reach themselves
 abbrev pub FragmentsTold : MeantDocument Place → List PlacedFault → List PlacedFault → Type 0
-FragmentsTold d old new = (unused : List PlacedFault) × (((f : PlacedFault) → Contains unused f ↔ UnusedFragmentAt d f) × TellsCycles d (old ++ unused) new)
+FragmentsTold d old new = (unused : List PlacedFault) × (((f : PlacedFault) → Contains unused f ↔ UnusedFragmentAt d f) × TellsFragmentCycles d (old ++ unused) new)
 
 -- the faults with data of a document: `All` are those of an operation, `Beside` those but that fragments reach themselves
 pub record TellsData (d : MeantDocument Place) (All Beside : MeantOperation Place → PlacedFault → Type 0) (told : List PlacedFault) : Type 0 where

@@ -33,7 +33,7 @@ use Rattle.rule_fragments.specs.SpreadNumbers.{Spread, references_at}
 use Rattle.rule_fragments.specs.SpreadViews.{spread_between}
 use Rattle.rule_fragments.specs.SpreadGraph.{AreSpreadReferences}
 use Rattle.rule_fragments.specs.CycleFaults.{spread_trace, IsRecursiveFault, IsDeepFault, Tells, used_at, TellsRecursive, TellsDeep}
-use Rattle.rule_fragments.specs.Told.{FragmentCyclesFail, Answers, TellsCycles}
+use Rattle.rule_fragments.specs.Told.{FragmentCyclesFail, Answers, TellsFragmentCycles}
 use Rattle.rule_fragments.specs.declared.references.References.{References}
 use Rattle.rule_fragments.proofs.Named.{any_among, fragment_there, used_there, own_number, one_fragment, used_by_name}
 use Rattle.rule_fragments.proofs.SpreadBridge.{name_at, number_at, said, spread_sound, spread_full, spread_defined, spread_one}
@@ -213,7 +213,7 @@ module _ (d : MeantDocument Place) (own : AreUnderOwnNames d) (names : List (Lis
       t.full i.0 within (w.0 ∷ w.1.0) (w.0, (w.1.0, (refl, Leads-same Walks (RefersTo r.graph) from_walk i.0 (w.0 ∷ w.1.0) i.0 w.1.1))) in
       answered i.0 f heard.0 t.added (here_used i.0 f at u) heard.1.0 heard.1.1
 
-  pub cycles_told : (old new : List PlacedFault) → TellsRoots (TellsRecursive r o) (TellsDeep r o) r.graph r.graph.roots old new → TellsCycles d old new
+  pub cycles_told : (old new : List PlacedFault) → TellsRoots (TellsRecursive r o) (TellsDeep r o) r.graph r.graph.roots old new → TellsFragmentCycles d old new
   cycles_told old new t = record {
     added = t.added;
     is = t.is;

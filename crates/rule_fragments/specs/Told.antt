@@ -23,7 +23,7 @@ Answers f fault =
     ⊎ ((head : Place) × (fault ≡ wrong head (DeeplyNestedType f.name.it (codes "fragment"))))
 
 -- what is added tells what fails, and each fragment that an operation reaches and that reaches itself is answered
-pub record TellsCycles (d : MeantDocument Place) (old new : List PlacedFault) : Type 0 where
+pub record TellsFragmentCycles (d : MeantDocument Place) (old new : List PlacedFault) : Type 0 where
   pub added : List PlacedFault
   pub is : new ≡ old ++ added
   pub right : (fault : PlacedFault) → Contains added fault → FragmentCyclesFail d fault

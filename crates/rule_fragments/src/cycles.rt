@@ -8,7 +8,7 @@ ghost use Rattle.rule_document_ground.specs.Reach.{meant_fragments};
 ghost use Rattle.rule_fragments.specs.Used.{names_of, AreUnderOwnNames, AreUsed};
 ghost use Rattle.rule_fragments.specs.SpreadViews.{fragment_entries, lent_at};
 ghost use Rattle.rule_fragments.specs.CycleFaults.{used_at, TellsRecursive, TellsDeep};
-ghost use Rattle.rule_fragments.specs.Told.{TellsCycles};
+ghost use Rattle.rule_fragments.specs.Told.{TellsFragmentCycles};
 
 use crate::cycle_faults::{deeply_nested_fragment, recursive_fragment_definition};
 use crate::spread_graph::{SpreadReferences, references_of_fragments};
@@ -68,7 +68,7 @@ pub fn check_cycles(
     used: &IndexSet<Name>,
     faults: &mut Vec<Fault>,
 ) -> Result<(), AllocError>
-    ensures { OnOk result ((d : MeantDocument Place) → d.fragments ≡ meant_fragments fragments.now → AreUnderOwnNames d → AreUsed d (names_of used.now) → TellsCycles d (faults_of faults.old) (faults_of faults.new)) }
+    ensures { OnOk result ((d : MeantDocument Place) → d.fragments ≡ meant_fragments fragments.now → AreUnderOwnNames d → AreUsed d (names_of used.now) → TellsFragmentCycles d (faults_of faults.old) (faults_of faults.new)) }
 {
     let references = references_of_fragments(alloc, fragments)?;
     let all = ways_back(alloc, &references.graph)?;
