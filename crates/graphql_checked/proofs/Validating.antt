@@ -5,13 +5,13 @@ use Rattle.schema_types.specs.SchemaTree.{SchemaTree}
 use Rattle.rule_definitions.specs.Rules.{RulesFail, BoundFails}
 use Rattle.rule_definitions.specs.Told.{PlacedFault, Told}
 use Rattle.graphql_faults.specs.DetailsTree.{of_rule}
-use Rattle.graphql_rules.specs.SchemaTold.{Fails, SchemaTold}
+use Rattle.graphql_rules.specs.SchemaTold.{RulesOrBoundFail, SchemaTold}
 use Rattle.verdict_definitions.specs.Says.{Fault}
 use Rattle.graphql_checked.specs.Finishing.{RefusesSchemaRules}
 use Rattle.rule_document_definitions.proofs.Unplaced.{contains_unmap}
 
 -- a rule fails so, or the bound is passed
-fails_so : (s : SchemaTree Place) (f : PlacedFault) → Told s Fails f → RulesFail s f ⊎ BoundFails s f
+fails_so : (s : SchemaTree Place) (f : PlacedFault) → Told s RulesOrBoundFail f → RulesFail s f ⊎ BoundFails s f
 fails_so s f (broken, (inl breaks, told)) = inl (broken, (breaks, told))
 fails_so s f (broken, (inr passes, told)) = inr (broken, (passes, told))
 

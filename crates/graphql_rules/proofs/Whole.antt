@@ -13,7 +13,7 @@ use Rattle.rule_definitions.proofs.Lists.{not_in_nil, Contains-first}
 use Rattle.rule_types.specs.TypesBreak.{TypesBreak}
 use Rattle.rule_cycles.specs.Told.{CyclesFail, CyclesTold}
 use Rattle.rule_definitions.proofs.Listing.{Gains}
-use Rattle.graphql_rules.specs.SchemaTold.{Fails, BreaksBesideCycles, IsWithinReferenceBound, TellsSchema}
+use Rattle.graphql_rules.specs.SchemaTold.{RulesOrBoundFail, BreaksBesideCycles, IsWithinReferenceBound, TellsSchema}
 use Rattle.graphql_rules.proofs.Stands.{stands}
 
 told_as : {A B : Judged → SchemaFault → Type 0} → ((j : Judged) (g : SchemaFault) → A j g → B j g) → (s : SchemaTree Place) (f : PlacedFault) → Told s A f → Told s B f
@@ -41,28 +41,28 @@ module _ (s : SchemaTree Place) (none types interfaces cycles uses : List Placed
   by_uses : (f : PlacedFault) → Contains uses f ↔ (Contains cycles f ⊎ Told s SchemaUsesBreak f)
   by_uses = gained cycles uses (Told s SchemaUsesBreak) uses_added
 
-  of_types : (f : PlacedFault) → Contains types f → Told s Fails f
+  of_types : (f : PlacedFault) → Contains types f → Told s RulesOrBoundFail f
   of_types f h = elim ((by_types f).0 h) [
     | inl n ↦ not_in_nil f (subst (λ l. Contains l f) is_none n)
-    | inr t ↦ told_as {A = TypesBreak} {B = Fails} (λ j g b. inl (elim b [ inl r ↦ inl r | inr e ↦ inr (inl e) ])) s f t
+    | inr t ↦ told_as {A = TypesBreak} {B = RulesOrBoundFail} (λ j g b. inl (elim b [ inl r ↦ inl r | inr e ↦ inr (inl e) ])) s f t
   ]
 
-  of_interfaces : (f : PlacedFault) → Contains interfaces f → Told s Fails f
+  of_interfaces : (f : PlacedFault) → Contains interfaces f → Told s RulesOrBoundFail f
   of_interfaces f h = elim ((by_interfaces f).0 h) [
     | inl before ↦ of_types f before
-    | inr t ↦ told_as {A = InterfacesBreak} {B = Fails} (λ j g b. inl (inr (inr (inl b)))) s f t
+    | inr t ↦ told_as {A = InterfacesBreak} {B = RulesOrBoundFail} (λ j g b. inl (inr (inr (inl b)))) s f t
   ]
 
-  of_cycles : (f : PlacedFault) → Contains cycles f → Told s Fails f
+  of_cycles : (f : PlacedFault) → Contains cycles f → Told s RulesOrBoundFail f
   of_cycles f h = elim (Contains-append_cases interfaces by_cycles.added f (subst (λ l. Contains l f) by_cycles.is h)) [
     | inl before ↦ of_interfaces f before
-    | inr c ↦ told_as {A = CyclesFail} {B = Fails} (λ j g b. elim b [ inl r ↦ inl (inr (inr (inr (inl r)))) | inr p ↦ inr p ]) s f (by_cycles.right f c)
+    | inr c ↦ told_as {A = CyclesFail} {B = RulesOrBoundFail} (λ j g b. elim b [ inl r ↦ inl (inr (inr (inr (inl r)))) | inr p ↦ inr p ]) s f (by_cycles.right f c)
   ]
 
-  of_uses : (f : PlacedFault) → Contains uses f → Told s Fails f
+  of_uses : (f : PlacedFault) → Contains uses f → Told s RulesOrBoundFail f
   of_uses f h = elim ((by_uses f).0 h) [
     | inl before ↦ of_cycles f before
-    | inr t ↦ told_as {A = SchemaUsesBreak} {B = Fails} (λ j g b. inl (inr (inr (inr (inr b))))) s f t
+    | inr t ↦ told_as {A = SchemaUsesBreak} {B = RulesOrBoundFail} (λ j g b. inl (inr (inr (inr (inr b))))) s f t
   ]
 
   from_interfaces : (f : PlacedFault) → Contains interfaces f → Contains uses f

@@ -12,8 +12,8 @@ use Rattle.rule_cycles.specs.Told.{IsInputCycle, IsDirectiveCycle, AnswersInput,
 use Rattle.graphql_rules.specs.Appends.{Telling, AppendsThese}
 
 -- a rule fails so, or the bound on references is passed
-abbrev pub Fails : Judged → SchemaFault → Type 0
-Fails s fault = Breaks s fault ⊎ PassesReferenceBound s fault
+abbrev pub RulesOrBoundFail : Judged → SchemaFault → Type 0
+RulesOrBoundFail s fault = Breaks s fault ⊎ PassesReferenceBound s fault
 
 -- a rule fails so, other than those on definitions that lead back to themselves
 abbrev pub BreaksBesideCycles : Judged → SchemaFault → Type 0
@@ -25,7 +25,7 @@ IsWithinReferenceBound s = (fault : SchemaFault) → PassesReferenceBound s faul
 
 -- these faults tell what fails of the schema, and all of it: of cycles, each definition that leads back to itself
 pub record TellsSchema (s : SchemaTree Place) (told : List PlacedFault) : Type 0 where
-  pub right : (f : PlacedFault) → Contains told f → Told s Fails f
+  pub right : (f : PlacedFault) → Contains told f → Told s RulesOrBoundFail f
   pub full : (f : PlacedFault) → Told s BreaksBesideCycles f → Contains told f
   pub inputs : (n : List ℕ) → IsInputCycle (judged s) n → (f : PlacedFault) × (Contains told f × AnswersInput n f)
   pub directives : (n : List ℕ) → IsDirectiveCycle (judged s) n → (f : PlacedFault) × (Contains told f × AnswersDirective n f)
