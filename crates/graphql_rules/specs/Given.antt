@@ -36,14 +36,14 @@ Each Gives (x ∷ xs) (y ∷ ys) = Gives x y × Each Gives xs ys
 Each Gives xs ys = ⊥
 
 -- what leads to a node that is this directive
-abbrev pub LeadsTo : {A : Type 0} → (A → Node Directive → Type 0) → A → Placed Place (DirectiveTree Place) → Type 0
-LeadsTo Gives x d = (n : Node Directive) × (Gives x n × (node_tree directive_tree n ≡ d))
+abbrev pub LeadsToDirective : {A : Type 0} → (A → Node Directive → Type 0) → A → Placed Place (DirectiveTree Place) → Type 0
+LeadsToDirective Gives x d = (n : Node Directive) × (Gives x n × (node_tree directive_tree n ≡ d))
 
 -- of what is made into an iterator: what it is made into, what the steps of that give, and what such a thing leads to
 module _ {C S A : Type 0} (gives : C → S → Type 0) (steps : S → Option A → S → Type 0) (leads : A → Node Directive → Type 0) (c : C) where
   -- what an iterator of it gives leads to directives, in order, and they are so
   abbrev pub GivesDirectives : (Directives Place → Type 0) → Type 0
-  GivesDirectives AreSo = (it : S) × (gives c it × ((all : List A) × (DrainsIf steps ⊤ it all × ((ds : Directives Place) × (Each (LeadsTo leads) all ds × AreSo ds)))))
+  GivesDirectives AreSo = (it : S) × (gives c it × ((all : List A) × (DrainsIf steps ⊤ it all × ((ds : Directives Place) × (Each (LeadsToDirective leads) all ds × AreSo ds)))))
 
   -- behind what was told stand the faults of these directives, which are used at one place of a schema or a document, with the
   -- variables of an operation or none

@@ -6,7 +6,7 @@ ghost use Rattle.rule_uses.specs.Alone.{ArgumentsBreak};
 ghost use Rattle.rule_uses.specs.Trees.{arguments_of, directives_of};
 ghost use Rattle.graphql_faults.specs.DetailsView.{diagnostics_of, BeginsAs};
 ghost use Rattle.graphql_rules.specs.Appends.{Appends};
-ghost use Rattle.graphql_rules.specs.Given.{Each, LeadsTo, UsesTold, UsageTold};
+ghost use Rattle.graphql_rules.specs.Given.{Each, LeadsToDirective, UsesTold, UsageTold};
 
 use graphql_faults::DiagnosticList;
 use graphql_names::Node;
@@ -24,7 +24,7 @@ fn nodes_of<D: Deref<Target = Node<Directive>> + Drop, I: IntoIterator<Item = D>
     directives: I,
 ) -> Result<Vec<Node<Directive>>, AllocError>
     requires { (it : I.IntoIter) → I.into_iter_gives directives it → I.IntoIter.can_next it × IsFinite (I.IntoIter.remaining it) × HoldsAlong I.IntoIter.next_gives it (λ _. ⊤) }
-    ensures { IfOk result (λ nodes. (it : I.IntoIter) × (I.into_iter_gives directives it × ((all : List D) × (DrainsIf I.IntoIter.next_gives ⊤ it all × Each (LeadsTo D.deref_gives) all (directives_of nodes.items))))) }
+    ensures { IfOk result (λ nodes. (it : I.IntoIter) × (I.into_iter_gives directives it × ((all : List D) × (DrainsIf I.IntoIter.next_gives ⊤ it all × Each (LeadsToDirective D.deref_gives) all (directives_of nodes.items))))) }
 {
     let mut nodes = Vec::new(alloc);
     for directive in directives {

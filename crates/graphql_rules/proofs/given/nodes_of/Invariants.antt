@@ -1,6 +1,6 @@
 use Rattle.rule_uses.specs.Trees.{directives_of}
-use Rattle.graphql_rules.specs.Given.{Each, LeadsTo}
+use Rattle.graphql_rules.specs.Given.{Each, LeadsToDirective}
 use Rattle.graphql_rules.proofs.given.nodes_of.Given as goal
 
 abbrev pub invariant-loop-directive : goal.invariant-loop-directive
-invariant-loop-directive g l = Each (LeadsTo g.D.Deref.deref_gives) l.yielded (directives_of l.nodes.items)
+invariant-loop-directive g l = Each (LeadsToDirective g.D.Deref.deref_gives) l.yielded (directives_of l.nodes.items)
