@@ -19,7 +19,7 @@ use Rattle.rule_selections.proofs.Typing.{field_set_reaches_typed}
 use Rattle.document_typing.specs.Meanings.{meanings}
 use Rattle.schema_types.specs.Plain.{plain}
 use Rattle.graphql_validation.specs.Operations.{AreReachesTyped, TellsData, AllUnder, OperationFails, all_told}
-use Rattle.graphql_validation.specs.Told.{IsTypedSet, SetFails, TellsFieldSet}
+use Rattle.graphql_validation.specs.Told.{IsTypedSet, SetRulesOrBoundFail, TellsFieldSet}
 use Rattle.graphql_validation.proofs.Telling.{data_in, told_cases, bound_is}
 use Rattle.graphql_validation.proofs.Ordered.{beside_under}
 
@@ -41,9 +41,9 @@ module _ (s : SchemaTree Place) (set : MeantSet Place) where
       → TellsFieldSet s set (all_told faults [] is_passed)
   tells_field_set faults is_passed parts passes = record { right = right; full = full }
     where
-      right : (f : PlacedDocumentFault) → Contains (all_told faults [] is_passed) f → SetFails s set f
+      right : (f : PlacedDocumentFault) → Contains (all_told faults [] is_passed) f → SetRulesOrBoundFail s set f
       right f c = elim (told_cases faults [] is_passed f c) [
-        | inl g ↦ subst (λ x. SetFails s set x) g.1.1 (elim (parts.right g.0 g.1.0) [ inl h ↦ inl h | inr h ↦ absurd (not_in_nil h.0 h.1.0) ])
+        | inl g ↦ subst (λ x. SetRulesOrBoundFail s set x) g.1.1 (elim (parts.right g.0 g.1.0) [ inl h ↦ inl h | inr h ↦ absurd (not_in_nil h.0 h.1.0) ])
         | inr r ↦ elim r [
           | inl b ↦ absurd (not_in_nil b.0 b.1.0)
           | inr k ↦ let b = bound_is is_passed f k in inr (passes b.0, inr b.1)

@@ -63,12 +63,12 @@ abbrev pub IsTypedSet : SchemaTree Place → MeantSet Place → Type 0
 IsTypedSet s set = (t : List ℕ) × IsSetOn (meanings (plain s)) t set
 
 -- a rule on field sets fails so: they have no fragments of their own
-abbrev pub SetFails : SchemaTree Place → MeantSet Place → PlacedDocumentFault → Type 0
-SetFails s set f = SetRulesFail s set f ⊎ SetBoundFails set f
+abbrev pub SetRulesOrBoundFail : SchemaTree Place → MeantSet Place → PlacedDocumentFault → Type 0
+SetRulesOrBoundFail s set f = SetRulesFail s set f ⊎ SetBoundFails set f
 
 -- these tell what fails of the field set, and all of it but the bound
 pub record TellsFieldSet (s : SchemaTree Place) (set : MeantSet Place) (told : List PlacedDocumentFault) : Type 0 where
-  pub right : (f : PlacedDocumentFault) → Contains told f → SetFails s set f
+  pub right : (f : PlacedDocumentFault) → Contains told f → SetRulesOrBoundFail s set f
   pub full : (f : PlacedDocumentFault) → SetRulesFail s set f → Contains told f
 
 abbrev pub FieldSetTold : SchemaTree Place → MeantSet Place → Telling → Telling → Type 0
