@@ -2,21 +2,21 @@
 use Rattle.std.proofs.Common.{inl, inr, ◌≡◌, ◌≢◌, ℕ, ◌+◌, ◌<◌, ◌≤◌, ◌^◌, List, [], ◌∷◌, ◌++◌, length, length-append, refl, ap, ◌∙◌, subst, arith}
 use Rattle.std.proofs.Math.Nat.{lt_irrefl}
 use Rattle.graphql_read.specs.Reads.{NestingBound}
-use Rattle.verdict_definitions.specs.Texts.{Text, Tree, Terms, ReadsText, ReadsAll, document_number, PassesNumbers, IsRead}
+use Rattle.verdict_definitions.specs.Texts.{SourceText, Tree, Terms, ReadsText, ReadsAll, document_number, PassesNumbers, IsRead}
 use Rattle.verdict_definitions.specs.Says.{Fault, IsFaultOfText, UnreadFault, spent}
 use Rattle.verdict_definitions.specs.Answer.{UnreadFaults}
 use Rattle.graphql_checked.specs.Added.{IsNextNumber, AreAdded}
 
 -- ---- a text at the end of the texts, where the first has any number
 
-module _ (text : Text) (number : ℕ) where
-  read_more : (nesting first : ℕ) (texts : List Text) (faults : List Fault) → number ≡ length texts + first → UnreadFaults nesting first texts faults
+module _ (text : SourceText) (number : ℕ) where
+  read_more : (nesting first : ℕ) (texts : List SourceText) (faults : List Fault) → number ≡ length texts + first → UnreadFaults nesting first texts faults
       → IsRead nesting number text → UnreadFaults nesting first (texts ++ text ∷ []) faults
   read_more nesting first [] faults e h read = inl (subst (λ n. IsRead nesting n text) (e ∙ omega arith) read, h)
   read_more nesting first (t ∷ ts) faults e (inl h) read = inl (h.0, read_more nesting (first + 1) ts faults (omega (arith, e)) h.1 read)
   read_more nesting first (t ∷ ts) faults e (inr h) read = inr (h.0, (h.1.0, (h.1.1.0, h.1.1.1, read_more nesting (first + 1) ts h.1.0 (omega (arith, e)) h.1.1.2 read)))
 
-  fault_more : (nesting first : ℕ) (texts : List Text) (faults : List Fault) (fault : Fault) → number ≡ length texts + first → UnreadFaults nesting first texts faults
+  fault_more : (nesting first : ℕ) (texts : List SourceText) (faults : List Fault) (fault : Fault) → number ≡ length texts + first → UnreadFaults nesting first texts faults
       → UnreadFault nesting number text fault → UnreadFaults nesting first (texts ++ text ∷ []) (faults ++ fault ∷ [])
   fault_more nesting first [] faults fault e h unread =
       inr (fault, ([], (ap (λ l. l ++ fault ∷ []) h, subst (λ n. UnreadFault nesting n text fault) (e ∙ omega arith) unread, refl)))
@@ -24,7 +24,7 @@ module _ (text : Text) (number : ℕ) where
   fault_more nesting first (t ∷ ts) faults fault e (inr h) unread =
       inr (h.0, (h.1.0 ++ fault ∷ [], (ap (λ l. l ++ fault ∷ []) h.1.1.0, h.1.1.1, fault_more nesting (first + 1) ts h.1.0 fault (omega (arith, e)) h.1.1.2 unread)))
 
-  reads_more : (first : ℕ) (texts : List Text) (trees : List Tree) (tree : Tree) → number ≡ length texts + first → ReadsAll first texts trees
+  reads_more : (first : ℕ) (texts : List SourceText) (trees : List Tree) (tree : Tree) → number ≡ length texts + first → ReadsAll first texts trees
       → ReadsText number text tree → ReadsAll first (texts ++ text ∷ []) (trees ++ tree ∷ [])
   reads_more first [] [] tree e h reads = (subst (λ n. ReadsText n text tree) (e ∙ omega arith) reads, tt)
   reads_more first [] (u ∷ us) tree e h reads = absurd h
@@ -37,7 +37,7 @@ some_fault : (faults : List Fault) (fault : Fault) → faults ++ fault ∷ [] �
 some_fault [] fault e = absurd cc
 some_fault (f ∷ fs) fault e = absurd cc
 
-module _ (terms : Terms) (texts : List Text) (number : ℕ) (text : Text) (faults : List Fault) where
+module _ (terms : Terms) (texts : List SourceText) (number : ℕ) (text : SourceText) (faults : List Fault) where
   -- where a number is left, it is that of the next text
   number_left : IsNextNumber terms texts faults number → number + 1 < 2 ^ 64 → number ≡ length texts + terms.first_text
   number_left (inl e) left = e
@@ -58,7 +58,7 @@ module _ (terms : Terms) (texts : List Text) (number : ℕ) (text : Text) (fault
       within (inl e) = omega (arith, e)
       within (inr h) = let le = h.1.0 in omega (arith, le)
 
-module _ (terms : Terms) (texts : List Text) (number : ℕ) (text : Text) (trees : List Tree) (faults : List Fault) (added : AreAdded terms texts number trees faults) where
+module _ (terms : Terms) (texts : List SourceText) (number : ℕ) (text : SourceText) (trees : List Tree) (faults : List Fault) (added : AreAdded terms texts number trees faults) where
   -- a text without a number
   pub spent_added : number + 1 ≡ 2 ^ 64 → AreAdded terms (texts ++ text ∷ []) number trees (faults ++ spent ∷ [])
   spent_added none =

@@ -4,7 +4,7 @@ use Rattle.std.specs.Prelude.{Vec}
 use Rattle.graphql_names.specs.Placed.{Place}
 use Rattle.document_meaning.specs.MeantTree.{MeantDocument}
 use Rattle.graphql_faults.specs.DetailsView.{diagnostics_of}
-use Rattle.verdict_definitions.specs.Texts.{Text, Terms}
+use Rattle.verdict_definitions.specs.Texts.{SourceText, Terms}
 use Rattle.verdict_definitions.specs.Out.{Layout, layout_text}
 use Rattle.verdict_definitions.specs.Answer.{WritesDocument, AcceptedBytes}
 use Rattle.checker_answers.specs.declared.run_fault.Outcome.{Outcome}
@@ -16,7 +16,7 @@ use Rattle.graphql_checked.specs.declared.refusal.Refusal.{Refusal}
 use Rattle.graphql_checked.specs.declared.refusal.Refusal.TheVariants.{Faults, Memory, Failed}
 use Rattle.graphql_checked.proofs.Verdicts.{accepted_pair, refused_pair}
 
-module _ (terms : Terms) (texts : List Text) (text : Text) (schema : CheckedSchemaValue) (is : IsCheckedSchemaOf terms texts schema) where
+module _ (terms : Terms) (texts : List SourceText) (text : SourceText) (schema : CheckedSchemaValue) (is : IsCheckedSchemaOf terms texts schema) where
   -- the bytes of an accepted pair
   pub accepted_bytes : (document : MeantDocument Place) → IsCheckedDocumentOf schema text document → (layout : Layout) (bytes : List ℕ) → IsWrittenAnswer layout schema text bytes → AcceptedBytes terms layout texts text bytes
   accepted_bytes document checked layout bytes written = record {
@@ -38,7 +38,7 @@ module _ (terms : Terms) (texts : List Text) (text : Text) (schema : CheckedSche
   document_answer layout Failed answer h of = absurd h
 
 -- the answer of a refusal of schema texts
-pub schemas_answer : {Z : Type 0} (terms : Terms) (texts : List Text) (text : Text) (layout : Layout) (refusal : Refusal) (answer : Result (Outcome × Vec ℕ Z) RunFault)
+pub schemas_answer : {Z : Type 0} (terms : Terms) (texts : List SourceText) (text : SourceText) (layout : Layout) (refusal : Refusal) (answer : Result (Outcome × Vec ℕ Z) RunFault)
     → RefusalOfSchemas terms texts refusal → IsAnswerOfRefusal refusal answer → IsAnswerTo layout terms texts text answer
 schemas_answer terms texts text layout (Faults list) (Ok (outcome, bytes)) h of =
     subst (λ o. BytesOf terms layout o texts text bytes.items) (sym of.0) (record { faults = diagnostics_of list; refused = inl h; is = of.1 })

@@ -14,7 +14,7 @@ use Rattle.rule_document_definitions.specs.Told.{IsValidDocument}
 use Rattle.rule_document_definitions.specs.Verdict.{WithinBounds}
 use Rattle.graphql_faults.specs.DetailsView.{diagnostics_of}
 use Rattle.graphql_validation.specs.TellsDocument.{SomeFails}
-use Rattle.verdict_definitions.specs.Texts.{Text, Tree}
+use Rattle.verdict_definitions.specs.Texts.{SourceText, Tree}
 use Rattle.verdict_definitions.specs.Judge.{document_over, IsDocumentCertain}
 use Rattle.verdict_definitions.specs.Says.{Fault, of_typing, UnreadFault, TypingFailsOver}
 use Rattle.verdict_definitions.specs.Out.{Layout, layout_text}
@@ -31,7 +31,7 @@ some_one : (fault : Fault) (faults : List Fault) → faults ≡ fault ∷ [] →
 some_one fault faults is none = let e : [] ≡ fault ∷ [] = sym none ∙ is in absurd cc
 
 -- a document that is not read is refused with its fault alone
-pub unread_alone : (schema : SchemaTree Place) (nesting number : ℕ) (text : Text) (faults : List Fault) → UnreadAlone nesting number text faults → RefusesDocument schema nesting number text faults
+pub unread_alone : (schema : SchemaTree Place) (nesting number : ℕ) (text : SourceText) (faults : List Fault) → UnreadAlone nesting number text faults → RefusesDocument schema nesting number text faults
 unread_alone schema nesting number text faults (here, (is, unread)) = record {
   some = some_one here faults is;
   says = λ fault h. inl (subst (UnreadFault nesting number text) (sym (only here fault (subst (λ l. Contains l fault) is h))) unread);
@@ -39,7 +39,7 @@ unread_alone schema nesting number text faults (here, (is, unread)) = record {
   full = λ within tree read fault fails. absurd (unread_not_read nesting number text here unread (is_read nesting number text tree read within));
 }
 
-module _ (schema : CheckedSchemaValue) (text : Text) where
+module _ (schema : CheckedSchemaValue) (text : SourceText) where
   -- ---- a document that is not read
 
   -- the one fault that is told says why
@@ -121,7 +121,7 @@ module _ (schema : CheckedSchemaValue) (text : Text) where
       }
 
 -- the written document
-pub writes_document : (schema : CheckedSchemaValue) (text : Text) (document : TypedDocumentTree Place) → IsCheckedDocumentOf schema text (meant_document document)
+pub writes_document : (schema : CheckedSchemaValue) (text : SourceText) (document : TypedDocumentTree Place) → IsCheckedDocumentOf schema text (meant_document document)
     → (layout : Layout) (written : Tree) (bytes : List ℕ) → written ≡ ast_document document → bytes ≡ layout_text layout written → WritesDocument layout schema.number text bytes
 writes_document schema text document checked layout written bytes is out =
     (checked.accepted.judged.tree, (checked.accepted.judged.read, out ∙ ap (layout_text layout) (is ∙ document-written document ∙ checked.written)))

@@ -5,7 +5,7 @@ use Rattle.std.specs.Prelude.{Err, Ok, IfSome, IsUtf8, Vec}
 use Rattle.std.specs.List.{AllZip}
 use Rattle.graphql_names.specs.declared.device.Device.{Device}
 use Rattle.graphql_names.specs.Device.{device_failed}
-use Rattle.verdict_definitions.specs.Texts.{Text, Terms}
+use Rattle.verdict_definitions.specs.Texts.{SourceText, Terms}
 use Rattle.verdict_definitions.specs.Judge.{IsCertain}
 use Rattle.verdict_definitions.specs.Out.{Layout}
 use Rattle.verdict_definitions.specs.Answer.{Answer}
@@ -69,7 +69,7 @@ pub certain_fault : (fault : RunFault) → fault ≡ Memory → IsAnswerToCertai
 certain_fault fault is = rw is tt
 
 -- the texts that are read of readers that tell a certain pair
-pub certain_here : {R D : Type 0} (of_schema : R → Option (List ℕ)) (of_document : D → Option (List ℕ)) (terms : Terms) (schemas : List (Device R)) (document : Device D) (texts : List Text) (text : Text)
+pub certain_here : {R D : Type 0} (of_schema : R → Option (List ℕ)) (of_document : D → Option (List ℕ)) (terms : Terms) (schemas : List (Device R)) (document : Device D) (texts : List SourceText) (text : SourceText)
     → AreTextsOf of_schema schemas texts → IsTextOf of_document document text → TellCertain of_schema of_document terms schemas document → IsCertain terms texts text
 certain_here of_schema of_document terms schemas document texts text are is tell =
     subst (λ t. IsCertain terms t text) (sym (texts_told of_schema schemas texts tell.texts are tell.schemas_tell))
@@ -77,12 +77,12 @@ certain_here of_schema of_document terms schemas document texts text are is tell
 
 -- ---- a writer that fails
 
-answer_of : (layout : Layout) (terms : Terms) (texts : List Text) (text : Text) (outcome : Outcome) (bytes : List ℕ) → BytesOf terms layout outcome texts text bytes → Answer terms layout texts text bytes
+answer_of : (layout : Layout) (terms : Terms) (texts : List SourceText) (text : SourceText) (outcome : Outcome) (bytes : List ℕ) → BytesOf terms layout outcome texts text bytes → Answer terms layout texts text bytes
 answer_of layout terms texts text Accepted bytes h = inl h
 answer_of layout terms texts text Refused bytes h = inr h
 
 pub put_due : {R D W : Type 0} (of_schema : R → Option (List ℕ)) (of_document : D → Option (List ℕ)) (contents : W → Option (List ℕ)) (layout : Layout) (terms : Terms)
-    → (schemas schemas' : List (Device R)) (document document' : Device D) (out out' : Device W) (texts : List Text) (text : Text) (outcome : Outcome) (bytes : List ℕ) (fault : RunFault)
+    → (schemas schemas' : List (Device R)) (document document' : Device D) (out out' : Device W) (texts : List SourceText) (text : SourceText) (outcome : Outcome) (bytes : List ℕ) (fault : RunFault)
     → AreTextsOf of_schema schemas texts → IsTextOf of_document document text → BytesOf terms layout outcome texts text bytes → IsPutFault contents out out' bytes fault
     → RunFaultIsDue of_schema of_document contents layout terms schemas schemas' document document' out out' fault
 put_due of_schema of_document contents layout terms schemas schemas' document document' out out' texts text outcome bytes (Writer count) are is answers (short, failed, taken) =

@@ -15,7 +15,7 @@ use Rattle.rule_definitions.specs.Kept.{validated}
 use Rattle.rule_definitions.specs.Rules.{SchemaRules, RulesFail, BoundFails}
 use Rattle.rule_definitions.specs.Told.{PlacedFault}
 use Rattle.graphql_faults.specs.DetailsTree.{of_rule}
-use Rattle.verdict_definitions.specs.Texts.{Text, Tree, Terms, ReadsAll, document_number, AreRead}
+use Rattle.verdict_definitions.specs.Texts.{SourceText, Tree, Terms, ReadsAll, document_number, AreRead}
 use Rattle.verdict_definitions.specs.Judge.{definitions_of, schema_of}
 use Rattle.verdict_definitions.specs.Says.{Fault, of_folding, spent, FoldingFails, SchemaFails}
 use Rattle.verdict_definitions.specs.Answer.{UnreadFaults, RefusesSchemas}
@@ -50,7 +50,7 @@ module _ (terms : Terms) (trees : List Tree) (b : BuilderValue) (filled : IsFill
 -- ---- refusals
 
 -- some text is not read
-pub unread_refused : (terms : Terms) (texts : List Text) (faults : List Fault) → faults ≢ [] → UnreadFaults terms.nesting terms.first_text texts faults → RefusesSchemas terms texts faults
+pub unread_refused : (terms : Terms) (texts : List SourceText) (faults : List Fault) → faults ≢ [] → UnreadFaults terms.nesting terms.first_text texts faults → RefusesSchemas terms texts faults
 unread_refused terms texts faults some unread = record {
   some = some;
   says = λ fault h. inl (says_unread terms.nesting terms.first_text texts faults unread fault h);
@@ -61,7 +61,7 @@ unread_refused terms texts faults some unread = record {
 none_alone : spent ∷ [] ≢ []
 none_alone e = absurd cc
 
-module _ (terms : Terms) (texts : List Text) (trees : List Tree) (read : AreRead terms.nesting terms.first_text texts) (reads : ReadsAll terms.first_text texts trees) where
+module _ (terms : Terms) (texts : List SourceText) (trees : List Tree) (read : AreRead terms.nesting terms.first_text texts) (reads : ReadsAll terms.first_text texts trees) where
   -- what is said of the schema is said of the texts
   says_schema : (faults : List Fault) → faults ≢ [] → ((fault : Fault) → Contains faults fault → SchemaFails terms trees fault)
       → (faults ≡ spent ∷ []) ⊎ ((f : folding.Fault) → FoldingFails terms trees f → Contains faults (of_folding f)) → RefusesSchemas terms texts faults
@@ -134,7 +134,7 @@ module _ (terms : Terms) (texts : List Text) (trees : List Tree) (read : AreRead
 
 -- ---- what a checker has read
 
-module _ (terms : Terms) (texts : List Text) (number : ℕ) (trees : List Tree) (faults : List Fault) (added : AreAdded terms texts number trees faults) where
+module _ (terms : Terms) (texts : List SourceText) (number : ℕ) (trees : List Tree) (faults : List Fault) (added : AreAdded terms texts number trees faults) where
   pub unread_refusal : faults ≢ [] → RefusesSchemas terms texts faults
   unread_refusal some = unread_refused terms texts faults some added.unread
 

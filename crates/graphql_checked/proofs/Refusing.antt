@@ -2,7 +2,7 @@
 use Rattle.std.proofs.Common.{inl, inr, ◌≡◌, List, refl, subst}
 use Rattle.schema_building.specs.Numbers.{HaveNumbers}
 use Rattle.graphql_faults.specs.DetailsView.{diagnostics_of}
-use Rattle.verdict_definitions.specs.Texts.{Text, Tree, Terms, AreRead}
+use Rattle.verdict_definitions.specs.Texts.{SourceText, Tree, Terms, AreRead}
 use Rattle.verdict_definitions.specs.Judge.{definitions_of, AreSchemasAccepted, AreSchemasCertain}
 use Rattle.verdict_definitions.specs.Says.{Fault, FoldingFails, SchemaRuleFails, SchemaFails, SaysSchema}
 use Rattle.verdict_definitions.specs.Answer.{RefusesSchemas}
@@ -11,7 +11,7 @@ use Rattle.graphql_checked.specs.declared.refusal.Refusal.{Refusal}
 use Rattle.graphql_checked.specs.declared.refusal.Refusal.TheVariants.{Faults, Memory, Failed}
 use Rattle.graphql_checked.proofs.Deciding.{one_list, are_read, not_unread_from, none_told}
 
-module _ (terms : Terms) (texts : List Text) (certain : AreSchemasCertain terms texts) where
+module _ (terms : Terms) (texts : List SourceText) (certain : AreSchemasCertain terms texts) where
   abbrev accepted : AreSchemasAccepted terms texts
   accepted = certain.0
 

@@ -3,7 +3,7 @@ use Rattle.std.proofs.Common.{◌≡◌, ◌≢◌, ◌+◌, ◌<◌, ◌^◌, �
 use Rattle.graphql_names.specs.declared.span.FileId.{FileId}
 use Rattle.graphql_read.specs.Reads.{NestingBound}
 use Rattle.graphql_faults.specs.DetailsView.{details_at, diagnostics_of}
-use Rattle.verdict_definitions.specs.Texts.{Text, Tree, ReadsText}
+use Rattle.verdict_definitions.specs.Texts.{SourceText, Tree, ReadsText}
 use Rattle.verdict_definitions.specs.Says.{Fault, spent}
 use Rattle.graphql_checked.specs.Unread.{IsUnread}
 use Rattle.graphql_checked.specs.declared.read_text.Unread.{Unread}
@@ -14,7 +14,7 @@ use Rattle.graphql_checked.specs.declared.schema_texts.SchemaTexts.{SchemaTexts}
 use Rattle.graphql_checked.proofs.Adding.{spent_added, fault_added, behind_added, tree_added}
 
 -- with the number that comes next
-pub reading_of : (texts : List Text) (s : SchemaTexts) (number : ℕ) → s.files ≡ number → IsReadingAt texts number s → IsReadingOf texts s
+pub reading_of : (texts : List SourceText) (s : SchemaTexts) (number : ℕ) → s.files ≡ number → IsReadingAt texts number s → IsReadingOf texts s
 reading_of texts s number next is = subst (λ n. IsReadingAt texts n s) (sym next) is
 
 -- the next text has the number that was taken
@@ -26,13 +26,13 @@ before_next s files file is given next left = record {
 }
 
 -- one without a number
-pub spent_kept : (s : SchemaTexts) → IsReadingOf (texts_of s) s → s.files + 1 ≡ 2 ^ 64 → (text : Text) (faults : List Fault) → faults ≡ diagnostics_of s.unread ++ spent ∷ []
+pub spent_kept : (s : SchemaTexts) → IsReadingOf (texts_of s) s → s.files + 1 ≡ 2 ^ 64 → (text : SourceText) (faults : List Fault) → faults ≡ diagnostics_of s.unread ++ spent ∷ []
     → AreAdded (terms_of s) (texts_of s ++ text ∷ []) s.files (trees_of s) faults
 spent_kept s is none text faults told =
     subst (AreAdded (terms_of s) (texts_of s ++ text ∷ []) s.files (trees_of s)) (sym told)
     (spent_added (terms_of s) (texts_of s) s.files text (trees_of s) (diagnostics_of s.unread) is none)
 
-module _ (s : SchemaTexts) (file : FileId) (before : IsBefore (texts_of s) file s) (text : Text) where
+module _ (s : SchemaTexts) (file : FileId) (before : IsBefore (texts_of s) file s) (text : SourceText) where
   -- one that is not read
   pub unread_kept : (u : Unread) → IsUnread s.nesting file.0 text u → (faults : List Fault) → IsToldBehind u (diagnostics_of s.unread) faults
       → AreAdded (terms_of s) (texts_of s ++ text ∷ []) (file.0 + 1) (trees_of s) faults

@@ -6,7 +6,7 @@ use Rattle.graphql_names.specs.Placed.{Place}
 use Rattle.schema_types.specs.SchemaTree.{SchemaTree}
 use Rattle.document_meaning.specs.MeantTree.{MeantDocument}
 use Rattle.graphql_faults.specs.DetailsView.{diagnostics_of}
-use Rattle.verdict_definitions.specs.Texts.{Text, Terms, document_number}
+use Rattle.verdict_definitions.specs.Texts.{SourceText, Terms, document_number}
 use Rattle.verdict_definitions.specs.Judge.{schema_at_hand, IsDocumentAccepted, IsAccepted, AreSchemasCertain, IsDocumentCertain, IsCertain}
 use Rattle.verdict_definitions.specs.Says.{Fault}
 use Rattle.verdict_definitions.specs.Answer.{RefusesDocument, Refuses}
@@ -25,7 +25,7 @@ use Rattle.graphql_checked.proofs.Deciding.{one_list}
 -- ---- a checker that is given texts
 
 -- a checker that was given texts, and runs
-abbrev given : Terms → List Text → CheckerValue
+abbrev given : Terms → List SourceText → CheckerValue
 given terms texts = record { terms = terms; texts = texts; failed = false }
 
 -- one more of the texts is added
@@ -54,12 +54,12 @@ finish_refusal checker Memory runs h = tt
 finish_refusal checker Failed runs h = let e : true ≡ false = sym h ∙ runs in absurd cc
 
 -- where memory alone wanted
-pub memory_refusal : (terms : Terms) (texts : List Text) (refusal : Refusal) → refusal ≡ Memory → RefusalOfSchemas terms texts refusal
+pub memory_refusal : (terms : Terms) (texts : List SourceText) (refusal : Refusal) → refusal ≡ Memory → RefusalOfSchemas terms texts refusal
 memory_refusal terms texts refusal is = rw is tt
 
 -- ---- a document over a checked schema, and over the schema of the texts
 
-module _ (terms : Terms) (texts : List Text) (text : Text) (schema : CheckedSchemaValue) (is : IsCheckedSchemaOf terms texts schema) where
+module _ (terms : Terms) (texts : List SourceText) (text : SourceText) (schema : CheckedSchemaValue) (is : IsCheckedSchemaOf terms texts schema) where
   -- what is said of the document over the schema
   abbrev OverSchema : (SchemaTree Place → ℕ → ℕ → Type 0) → Type 0
   OverSchema says = says schema.schema schema.nesting schema.number
@@ -104,11 +104,11 @@ module _ (terms : Terms) (texts : List Text) (text : Text) (schema : CheckedSche
   document_verdict Failed h = tt
 
 -- where the pair is certain, so are the schema texts
-pub certain_schemas : (terms : Terms) (texts : List Text) (text : Text) → IsCertain terms texts text → AreSchemasCertain terms texts
+pub certain_schemas : (terms : Terms) (texts : List SourceText) (text : SourceText) → IsCertain terms texts text → AreSchemasCertain terms texts
 certain_schemas terms texts text certain = (certain.accepted.schema, certain.references)
 
 -- the verdict of a refusal of schema texts
-pub schemas_verdict : (terms : Terms) (texts : List Text) (text : Text) (refusal : Refusal) → RefusalOfSchemas terms texts refusal → IfOk (refusal_verdict refusal) (IsVerdict terms texts text)
+pub schemas_verdict : (terms : Terms) (texts : List SourceText) (text : SourceText) (refusal : Refusal) → RefusalOfSchemas terms texts refusal → IfOk (refusal_verdict refusal) (IsVerdict terms texts text)
 schemas_verdict terms texts text (Faults list) h = inl h
 schemas_verdict terms texts text Memory h = tt
 schemas_verdict terms texts text Failed h = tt

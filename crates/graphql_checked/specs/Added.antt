@@ -1,20 +1,20 @@
 -- Private: leads to what `Checker::finish` answers. How a checker keeps the schema texts that it was given: what reading them gave.
 use Rattle.std.specs.Prelude.{◌≡◌, ◌≢◌, ℕ, ◌+◌, ◌^◌, ◌<◌, ◌⊎◌, List, [], ◌∷◌, ◌++◌, Some}
 use Rattle.graphql_faults.specs.DetailsView.{details_at}
-use Rattle.verdict_definitions.specs.Texts.{Text, Tree, Terms, ReadsAll, document_number}
+use Rattle.verdict_definitions.specs.Texts.{SourceText, Tree, Terms, ReadsAll, document_number}
 use Rattle.verdict_definitions.specs.Says.{Fault}
 use Rattle.verdict_definitions.specs.Answer.{UnreadFaults}
 use Rattle.graphql_checked.specs.declared.read_text.Unread.{Unread}
 use Rattle.graphql_checked.specs.declared.read_text.Unread.TheVariants as unread
 
 -- the next text gets this number, or no number is left, as a fault has told
-abbrev pub IsNextNumber : Terms → List Text → List Fault → ℕ → Type 0
+abbrev pub IsNextNumber : Terms → List SourceText → List Fault → ℕ → Type 0
 IsNextNumber terms texts faults number =
     (number ≡ document_number terms texts)
     ⊎ ((number + 1 ≡ 2 ^ 64) × ((number < document_number terms texts) × (faults ≢ [])))
 
 -- What reading the texts gave: these faults of those that are not read, and without any these trees.
-pub record AreAdded (terms : Terms) (texts : List Text) (number : ℕ) (trees : List Tree) (faults : List Fault) : Type 0 where
+pub record AreAdded (terms : Terms) (texts : List SourceText) (number : ℕ) (trees : List Tree) (faults : List Fault) : Type 0 where
   pub unread : UnreadFaults terms.nesting terms.first_text texts faults
   pub kept : faults ≡ [] → ReadsAll terms.first_text texts trees
   pub next : IsNextNumber terms texts faults number

@@ -7,7 +7,7 @@ use Rattle.graphql_schema.specs.declared.schema.Schema.{Schema}
 use Rattle.document_typed_operations.specs.TypedDocument.{typed_document_tree}
 use Rattle.document_typed_operations.specs.declared.document.ExecutableDocument.{ExecutableDocument}
 use Rattle.document_typing.specs.DocumentView.{meant_document}
-use Rattle.verdict_definitions.specs.Texts.{Text}
+use Rattle.verdict_definitions.specs.Texts.{SourceText}
 use Rattle.graphql_checked.specs.CheckerValue.{CheckedSchemaValue, CheckedDocumentValue}
 
 -- how many brackets may be open at once, the number of a document, the schema at hand and what is written
@@ -19,7 +19,7 @@ pub record CheckedSchemaParts : Type 0 where
 
 pub record CheckedDocumentParts : Type 0 where
   pub schema : CheckedSchemaParts
-  pub text : Text
+  pub text : SourceText
   pub document : ExecutableDocument
 
 abbrev pub schema_value : CheckedSchemaParts → CheckedSchemaValue

@@ -4,7 +4,7 @@ use Rattle.graphql_names.specs.Placed.{Place}
 use Rattle.schema_types.specs.SchemaTree.{SchemaTree}
 use Rattle.document_typing.specs.OutDoc.{written_document}
 use Rattle.document_meaning.specs.MeantTree.{MeantDocument}
-use Rattle.verdict_definitions.specs.Texts.{Text, Tree, Terms, ReadsText, document_number}
+use Rattle.verdict_definitions.specs.Texts.{SourceText, Tree, Terms, ReadsText, document_number}
 use Rattle.verdict_definitions.specs.Judge.{schema_of, schema_at_hand, document_over, AreSchemasAccepted, IsDocumentAccepted}
 use Rattle.verdict_definitions.specs.Out.{Out, OutDoc, Layout}
 use Rattle.verdict_definitions.specs.Answer.{WritesDocument}
@@ -12,7 +12,7 @@ use Rattle.verdict_definitions.specs.Answer.{WritesDocument}
 -- a checker: its terms, the schema texts that it was given in order, and whether memory ran out
 pub record CheckerValue : Type 0 where
   pub terms : Terms
-  pub texts : List Text
+  pub texts : List SourceText
   pub failed : Bool
 
 -- a checked schema: how many brackets may be open at once, the number of a document, the schema over which documents are
@@ -26,11 +26,11 @@ pub record CheckedSchemaValue : Type 0 where
 -- a checked document: its schema, its text, what it means over the schema, and what is written of it
 pub record CheckedDocumentValue : Type 0 where
   pub schema : CheckedSchemaValue
-  pub text : Text
+  pub text : SourceText
   pub document : MeantDocument Place
 
 -- The checked schema is that of these texts, which are accepted.
-pub record IsCheckedSchemaOf (terms : Terms) (schemas : List Text) (schema : CheckedSchemaValue) : Type 0 where
+pub record IsCheckedSchemaOf (terms : Terms) (schemas : List SourceText) (schema : CheckedSchemaValue) : Type 0 where
   pub accepted : AreSchemasAccepted terms schemas
   pub nesting : schema.nesting ≡ terms.nesting
   pub number : schema.number ≡ document_number terms schemas
@@ -38,7 +38,7 @@ pub record IsCheckedSchemaOf (terms : Terms) (schemas : List Text) (schema : Che
   pub written : schema.written ≡ Out terms accepted.judged.trees
 
 -- The document of this text is accepted over the checked schema, and this is what it means.
-pub record IsCheckedDocumentOf (schema : CheckedSchemaValue) (text : Text) (document : MeantDocument Place) : Type 0 where
+pub record IsCheckedDocumentOf (schema : CheckedSchemaValue) (text : SourceText) (document : MeantDocument Place) : Type 0 where
   pub accepted : IsDocumentAccepted schema.schema schema.nesting schema.number text
   pub is : document ≡ document_over schema.schema accepted.judged.tree
   pub written : written_document document ≡ OutDoc accepted.judged.tree
@@ -50,5 +50,5 @@ WritesCheckedDocument layout document written = WritesDocument layout document.s
 -- The schema is that of some accepted texts.
 pub record IsOfAcceptedTexts (schema : CheckedSchemaValue) : Type 0 where
   pub terms : Terms
-  pub schemas : List Text
+  pub schemas : List SourceText
   pub is : IsCheckedSchemaOf terms schemas schema

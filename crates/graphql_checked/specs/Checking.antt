@@ -10,7 +10,7 @@ use Rattle.rule_document_definitions.specs.Verdict.{WithinBounds}
 use Rattle.document_meaning.specs.Unplaced.{unplaced_document}
 use Rattle.graphql_faults.specs.DetailsView.{diagnostics_of}
 use Rattle.graphql_validation.specs.TellsDocument.{IsTypedUnder, SomeFails}
-use Rattle.verdict_definitions.specs.Texts.{Text, Tree, ReadsText, IsWithin}
+use Rattle.verdict_definitions.specs.Texts.{SourceText, Tree, ReadsText, IsWithin}
 use Rattle.verdict_definitions.specs.Judge.{document_over}
 use Rattle.verdict_definitions.specs.Says.{Fault, of_typing, of_document, TypingFailsOver}
 use Rattle.verdict_definitions.specs.Answer.{UnreadAlone}
@@ -21,11 +21,11 @@ use Rattle.graphql_checked.specs.declared.refusal.Refusal.TheVariants.{Faults, M
 -- ---- reading a document with the number that it has behind the schema texts, if one is left for it
 
 -- the document is read, and passes no bound
-abbrev pub IsReadDocument : CheckedSchemaValue → Text → Tree → Type 0
+abbrev pub IsReadDocument : CheckedSchemaValue → SourceText → Tree → Type 0
 IsReadDocument schema text tree = ReadsText schema.number text tree × IsWithin schema.nesting schema.number text
 
 -- the document is not read
-abbrev pub IsUnreadDocument : CheckedSchemaValue → Text → Refusal → Type 0
+abbrev pub IsUnreadDocument : CheckedSchemaValue → SourceText → Refusal → Type 0
 IsUnreadDocument schema text (Faults list) = UnreadAlone schema.nesting schema.number text (diagnostics_of list)
 IsUnreadDocument schema text Memory = Unit {0}
 IsUnreadDocument schema text Failed = ⊥

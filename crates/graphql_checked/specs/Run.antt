@@ -5,7 +5,7 @@ use Rattle.std.specs.Io.KnownBytes.{Appends}
 use Rattle.graphql_names.specs.declared.device.Device.{Device}
 use Rattle.graphql_names.specs.Device.{device_inner, device_failed}
 use Rattle.graphql_faults.specs.DetailsView.{diagnostics_of}
-use Rattle.verdict_definitions.specs.Texts.{Text, Terms}
+use Rattle.verdict_definitions.specs.Texts.{SourceText, Terms}
 use Rattle.verdict_definitions.specs.Judge.{IsCertain}
 use Rattle.verdict_definitions.specs.Out.{Layout, layout_text, as_lines}
 use Rattle.verdict_definitions.specs.Answer.{WritesDocument, AcceptedBytes, RefusedBytes, Answer, fault_line}
@@ -19,15 +19,15 @@ use Rattle.graphql_checked.specs.declared.refusal.Refusal.{Refusal}
 use Rattle.graphql_checked.specs.declared.refusal.Refusal.TheVariants as refusal
 
 -- the bytes that go with an outcome for these texts
-abbrev pub BytesOf : Terms → Layout → Outcome → List Text → Text → List ℕ → Type 0
+abbrev pub BytesOf : Terms → Layout → Outcome → List SourceText → SourceText → List ℕ → Type 0
 BytesOf terms layout Accepted texts text bytes = AcceptedBytes terms layout texts text bytes
 BytesOf terms layout Refused texts text bytes = RefusedBytes terms texts text bytes
 
 module _ {R D : Type 0} (of_schema : R → Option (List ℕ)) (of_document : D → Option (List ℕ)) (terms : Terms) where
   -- The readers tell their texts, and the pair is accepted and passes no bound.
   pub record TellCertain (schemas : List (Device R)) (document : Device D) : Type 0 where
-    pub texts : List Text
-    pub text : Text
+    pub texts : List SourceText
+    pub text : SourceText
     pub schemas_tell : AllZip (TellsText of_schema) schemas texts
     pub document_tells : TellsText of_document document text
     pub certain : IsCertain terms texts text
@@ -44,9 +44,9 @@ IsAnswerToCertain (Err (NotUtf8 number)) = ⊥
 module _ {R D W : Type 0} (of_schema : R → Option (List ℕ)) (of_document : D → Option (List ℕ)) (contents : W → Option (List ℕ))
     (layout : Layout) (terms : Terms) where
   -- What the writer took is `front` of bytes that are `of` the texts of the readers.
-  pub record WritesOfTexts (of : List Text → Text → List ℕ → Type 0) (schemas : List (Device R)) (document : Device D) (old new : Device W) (front : List ℕ → List ℕ) : Type 0 where
-    pub texts : List Text
-    pub text : Text
+  pub record WritesOfTexts (of : List SourceText → SourceText → List ℕ → Type 0) (schemas : List (Device R)) (document : Device D) (old new : Device W) (front : List ℕ → List ℕ) : Type 0 where
+    pub texts : List SourceText
+    pub text : SourceText
     pub bytes : List ℕ
     pub schemas_are : AreTextsOf of_schema schemas texts
     pub document_is : IsTextOf of_document document text
@@ -70,7 +70,7 @@ module _ {R D W : Type 0} (of_schema : R → Option (List ℕ)) (of_document : D
 -- ---- private: what the parts of a run answer
 
 -- the outcome for the texts, with the bytes that go with it; or memory ran out
-abbrev pub IsAnswerTo : {Z : Type 0} → Layout → Terms → List Text → Text → Result (Outcome × Vec ℕ Z) RunFault → Type 0
+abbrev pub IsAnswerTo : {Z : Type 0} → Layout → Terms → List SourceText → SourceText → Result (Outcome × Vec ℕ Z) RunFault → Type 0
 IsAnswerTo layout terms texts text (Ok (outcome, bytes)) = BytesOf terms layout outcome texts text bytes.items
 IsAnswerTo layout terms texts text (Err fault) = fault ≡ Memory
 
@@ -81,7 +81,7 @@ AcceptsOrFails (Ok (Refused, bytes)) = ⊥
 AcceptsOrFails (Err fault) = Unit {0}
 
 -- These bytes go with the document of this text, which is accepted over the schema.
-pub record IsWrittenAnswer (layout : Layout) (schema : CheckedSchemaValue) (text : Text) (bytes : List ℕ) : Type 0 where
+pub record IsWrittenAnswer (layout : Layout) (schema : CheckedSchemaValue) (text : SourceText) (bytes : List ℕ) : Type 0 where
   pub written_document : List ℕ
   pub writes_document : WritesDocument layout schema.number text written_document
   pub is : bytes ≡ codes "accepted\n" ++ as_lines layout (layout_text layout schema.written) ++ as_lines layout written_document

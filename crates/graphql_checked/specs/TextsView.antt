@@ -3,7 +3,7 @@ use Rattle.std.specs.Prelude.{◌≡◌, ℕ, ◌+◌, ◌<◌, ◌^◌, List, m
 use Rattle.graphql_names.specs.declared.span.FileId.{FileId}
 use Rattle.tree_definitions.specs.DefinitionTree.{document_tree}
 use Rattle.graphql_faults.specs.DetailsView.{diagnostics_of}
-use Rattle.verdict_definitions.specs.Texts.{Text, Tree, Terms}
+use Rattle.verdict_definitions.specs.Texts.{SourceText, Tree, Terms}
 use Rattle.graphql_checked.specs.Added.{AreAdded}
 use Rattle.graphql_checked.specs.declared.schema_texts.SchemaTexts.{SchemaTexts}
 
@@ -12,7 +12,7 @@ abbrev pub terms_of : SchemaTexts → Terms
 terms_of s = record { nesting = s.nesting; first_text = s.first; first_extension = s.extensions }
 
 -- the texts, in order
-abbrev pub texts_of : SchemaTexts → List Text
+abbrev pub texts_of : SchemaTexts → List SourceText
 texts_of s = map string_bytes s.texts.items
 
 -- what was kept of them
@@ -20,15 +20,15 @@ abbrev pub trees_of : SchemaTexts → List Tree
 trees_of s = map document_tree s.documents.items
 
 -- What is kept of reading is of these texts, where the next one gets this number.
-abbrev pub IsReadingAt : List Text → ℕ → SchemaTexts → Type 0
+abbrev pub IsReadingAt : List SourceText → ℕ → SchemaTexts → Type 0
 IsReadingAt texts number s = AreAdded (terms_of s) texts number (trees_of s) (diagnostics_of s.unread)
 
 -- What is kept of reading is of these texts.
-abbrev pub IsReadingOf : List Text → SchemaTexts → Type 0
+abbrev pub IsReadingOf : List SourceText → SchemaTexts → Type 0
 IsReadingOf texts s = IsReadingAt texts s.files s
 
 -- What is kept of reading is of these texts; the next one has the number, which was taken.
-pub record IsBefore (texts : List Text) (file : FileId) (s : SchemaTexts) : Type 0 where
+pub record IsBefore (texts : List SourceText) (file : FileId) (s : SchemaTexts) : Type 0 where
   pub added : IsReadingAt texts file.0 s
   pub number : s.files ≡ file.0 + 1
   pub left : file.0 + 1 < 2 ^ 64

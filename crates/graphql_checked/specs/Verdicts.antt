@@ -1,7 +1,7 @@
 -- What the verdict on whole texts says.
 use Rattle.std.specs.Prelude.{ℕ, List, Result, Ok, Err}
 use Rattle.graphql_faults.specs.DetailsView.{diagnostics_of}
-use Rattle.verdict_definitions.specs.Texts.{Text, Terms}
+use Rattle.verdict_definitions.specs.Texts.{SourceText, Terms}
 use Rattle.verdict_definitions.specs.Judge.{IsAccepted}
 use Rattle.verdict_definitions.specs.Answer.{Refuses}
 use Rattle.graphql_checked.specs.declared.refusal.Refusal.{Refusal}
@@ -16,7 +16,7 @@ abbrev pub first_terms : ℕ → Terms
 first_terms nesting = record { nesting = nesting; first_text = 1; first_extension = 1 }
 
 -- The verdict is right.
-abbrev pub IsVerdict : Terms → List Text → Text → Verdict → Type 0
+abbrev pub IsVerdict : Terms → List SourceText → SourceText → Verdict → Type 0
 IsVerdict terms schemas document Accepted = IsAccepted terms schemas document
 IsVerdict terms schemas document (Refused list) = Refuses terms schemas document (diagnostics_of list)
 

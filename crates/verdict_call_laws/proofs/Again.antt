@@ -10,7 +10,7 @@ use Rattle.rule_definitions.specs.Faults.{SchemaFault}
 use Rattle.rule_definitions.specs.Cycles.{PassesReferenceBound}
 use Rattle.rule_definitions.specs.Laws.{AreEqual}
 use Rattle.rule_definitions.proofs.Same.{read_the_same}
-use Rattle.verdict_definitions.specs.Texts.{Text, Tree, Terms, ReadsText, document_number}
+use Rattle.verdict_definitions.specs.Texts.{SourceText, Tree, Terms, ReadsText, document_number}
 use Rattle.verdict_definitions.specs.Judge.{schema_of, schema_at_hand, document_over, AreSchemasCertain, IsDocumentCertain, PassesNoReferenceBound, PassesNoDocumentBound}
 use Rattle.verdict_definitions.specs.Out.{Out, OutDoc, Layout, layout_text}
 use Rattle.verdict_definitions.specs.Answer.{WritesDocument}
@@ -32,7 +32,7 @@ use Rattle.verdict_call_laws.specs.Again.{SchemasAreSame, IsWrittenPlain, checke
 references_too : (a b : SchemaTree Place) → AreEqual a b → PassesNoReferenceBound a → PassesNoReferenceBound b
 references_too a b equal h = subst (λ (s : Judged). (fault : SchemaFault) → PassesReferenceBound s fault → ⊥) (read_the_same a b equal) h
 
-module _ (terms : Terms) (layout : Layout) (first : CheckedSchemaValue) (schemas : List Text) (w : IsWrittenPlain terms layout first schemas) where
+module _ (terms : Terms) (layout : Layout) (first : CheckedSchemaValue) (schemas : List SourceText) (w : IsWrittenPlain terms layout first schemas) where
   back : SchemaLeadsBack terms schemas w.is.accepted (layout_text layout first.written)
   back = schema_road_back terms schemas w.elsewhere w.is.accepted layout w.plain (layout_text layout first.written) (inl (ap (layout_text layout) w.is.written))
 
@@ -71,10 +71,10 @@ schema_again terms layout first schemas w answer x = (answer_again terms layout 
 -- ---- the document
 
 -- what is written of a text is written of its tree
-written_of : (number : ℕ) (document : Text) (tree : Tree) (layout : Layout) (bytes : List ℕ) → ReadsText number document tree → WritesDocument layout number document bytes → bytes ≡ layout_text layout (OutDoc tree)
+written_of : (number : ℕ) (document : SourceText) (tree : Tree) (layout : Layout) (bytes : List ℕ) → ReadsText number document tree → WritesDocument layout number document bytes → bytes ≡ layout_text layout (OutDoc tree)
 written_of number document tree layout bytes read (other, (other_read, is)) = is ∙ ap (λ t. layout_text layout (OutDoc t)) (one_tree number document other tree other_read read)
 
-module _ (layout : Layout) (schema : CheckedSchemaValue) (document : Text) (first : MeantDocument Place) (other : CheckedSchemaValue) (text : Text)
+module _ (layout : Layout) (schema : CheckedSchemaValue) (document : SourceText) (first : MeantDocument Place) (other : CheckedSchemaValue) (text : SourceText)
     (w : IsWrittenPlainOver layout schema document first other text) where
   document_back : DocumentLeadsBack schema.nesting schema.schema other.schema schema.number other.number document w.is.accepted text
   document_back = document_road_back schema.schema other.schema w.equal schema.nesting schema.number other.number w.numbered document w.is.accepted layout w.plain text

@@ -3,7 +3,7 @@ use Rattle.std.proofs.Common.{◌≡◌, ◌↔◌, ◌⊎◌, List, Result, Ok,
 use Rattle.std.specs.Prelude.{IfOk, IfErr}
 use Rattle.rule_definitions.specs.Laws.{AreEqual}
 use Rattle.verdict_rearranging_laws.specs.Permuting.{IsPermuted}
-use Rattle.verdict_definitions.specs.Texts.{Text, Terms}
+use Rattle.verdict_definitions.specs.Texts.{SourceText, Terms}
 use Rattle.verdict_definitions.specs.Judge.{schema_at_hand, AreSchemasCertain, IsAccepted, IsCertain, IsDocumentAccepted}
 use Rattle.verdict_definitions.specs.Out.{Out, layout_text}
 use Rattle.verdict_laws.specs.Rearranged.{AreRearranged, AreCut, AreNumbered, AreAcceptedAlike}
@@ -32,7 +32,7 @@ not_refused : (list : DiagnosticList) → ToCertain (Ok (Refused list)) → ⊥
 not_refused list (inl h) = cc
 not_refused list (inr h) = cc
 
-module _ (terms : Terms) (texts others : List Text) (document : Text) (same : IsAccepted terms texts document ↔ IsAccepted terms others document)
+module _ (terms : Terms) (texts others : List SourceText) (document : SourceText) (same : IsAccepted terms texts document ↔ IsAccepted terms others document)
     (bounds : PassesNoBound terms texts document) (other_bounds : PassesNoBound terms others document) where
   pub same_verdict : (v w : Verdict) → IsVerdict terms texts document v → IsVerdict terms others document w
       → (IsCertain terms texts document → ToCertain (Ok v)) → (IsCertain terms others document → ToCertain (Ok w)) → SameVerdict v w
@@ -41,7 +41,7 @@ module _ (terms : Terms) (texts others : List Text) (document : Text) (same : Is
   same_verdict (Refused list) Accepted a b first second = not_refused list (first (bounds.certain (same.1 b)))
   same_verdict (Refused list) (Refused other) a b first second = tt
 
-answered : (terms : Terms) (texts others : List Text) → AreAcceptedAlike terms texts others → AreAnsweredAlike terms texts others
+answered : (terms : Terms) (texts others : List SourceText) → AreAcceptedAlike terms texts others → AreAnsweredAlike terms texts others
 answered terms texts others same document (Err e) other x y bounds other_bounds = tt
 answered terms texts others same document (Ok v) (Err e) x y bounds other_bounds = tt
 answered terms texts others same document (Ok v) (Ok w) x y bounds other_bounds =
@@ -55,7 +55,7 @@ verdicts_of_cut terms texts others same = answered terms texts others (cutting t
 
 -- ---- schemas
 
-module _ (terms : Terms) (texts others : List Text) (a b : CheckedSchemaValue) (is_a : IsCheckedSchemaOf terms texts a) (is_b : IsCheckedSchemaOf terms others b) where
+module _ (terms : Terms) (texts others : List SourceText) (a b : CheckedSchemaValue) (is_a : IsCheckedSchemaOf terms texts a) (is_b : IsCheckedSchemaOf terms others b) where
   -- the schemas at hand, and what is written, are those of the texts
   hands : AreEqual (schema_at_hand terms is_a.accepted.judged.trees) (schema_at_hand terms is_b.accepted.judged.trees) → AreEqual a.schema b.schema
   hands h = subst (λ s. AreEqual s b.schema) (sym is_a.at_hand) (subst (AreEqual (schema_at_hand terms is_a.accepted.judged.trees)) (sym is_b.at_hand) h)

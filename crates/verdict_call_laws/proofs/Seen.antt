@@ -1,7 +1,7 @@
 -- Lemmas on what contracts see of what the calls answer.
 use Rattle.std.proofs.Common.{◌≡◌, false, Result, Ok, Err}
 use Rattle.std.specs.Prelude.{IfOk, IfErr}
-use Rattle.verdict_definitions.specs.Texts.{Text}
+use Rattle.verdict_definitions.specs.Texts.{SourceText}
 use Rattle.verdict_definitions.specs.Judge.{AreSchemasCertain, IsDocumentCertain}
 use Rattle.graphql_checked.specs.CheckerValue.{CheckerValue, CheckedSchemaValue, IsCheckedSchemaOf, IsCheckedDocumentOf}
 use Rattle.graphql_checked.specs.CheckedView.{CheckedSchemaParts, CheckedDocumentParts, schema_value, document_value}
@@ -18,7 +18,7 @@ pub finish_answers : (checker : CheckerValue) (answer : Result CheckedSchemaPart
 finish_answers checker (Ok s) schema refused complete = record { schema = schema; refused = tt; complete = tt }
 finish_answers checker (Err r) schema refused complete = record { schema = tt; refused = refused; complete = complete }
 
-pub check_answers : (schema : CheckedSchemaValue) (text : Text) (answer : Result CheckedDocumentParts Refusal) → IfOk answer (λ d. IsCheckedDocumentOf schema text (document_value d).document)
+pub check_answers : (schema : CheckedSchemaValue) (text : SourceText) (answer : Result CheckedDocumentParts Refusal) → IfOk answer (λ d. IsCheckedDocumentOf schema text (document_value d).document)
     → IfErr answer (RefusalOfDocument schema text) → IfErr answer (λ r. IsDocumentCertain schema.schema schema.nesting schema.number text → r ≡ refusal.Memory)
     → AnswersCheck schema text (seen_document answer)
 check_answers schema text (Ok d) accepted refused complete = record { accepted = accepted; refused = tt; complete = tt }

@@ -5,7 +5,7 @@ use Rattle.graphql_names.specs.Placed.{Place}
 use Rattle.document_meaning.specs.MeantTree.{MeantDocument}
 use Rattle.document_meaning.specs.Unplaced.{unplaced_document}
 use Rattle.rule_definitions.specs.Laws.{AreEqual}
-use Rattle.verdict_definitions.specs.Texts.{Text, Terms}
+use Rattle.verdict_definitions.specs.Texts.{SourceText, Terms}
 use Rattle.verdict_definitions.specs.Judge.{AreSchemasCertain, IsDocumentCertain, IsCertain}
 use Rattle.verdict_definitions.specs.Out.{Layout, layout_text}
 use Rattle.verdict_definitions.specs.Answer.{WritesDocument}
@@ -29,7 +29,7 @@ pub record SchemasAreSame (first again : CheckedSchemaValue) : Type 0 where
   pub written : (layout : Layout) → layout_text layout again.written ≡ layout_text layout first.written
 
 -- The schema is that of these texts, on these terms; no text has the number of what is built in; and its own is under a plain layout.
-pub record IsWrittenPlain (terms : Terms) (layout : Layout) (first : CheckedSchemaValue) (schemas : List Text) : Type 0 where
+pub record IsWrittenPlain (terms : Terms) (layout : Layout) (first : CheckedSchemaValue) (schemas : List SourceText) : Type 0 where
   pub is : IsCheckedSchemaOf terms schemas first
   pub elsewhere : terms.first_text ≢ 0
   pub plain : IsPlainLayout layout
@@ -40,24 +40,24 @@ checker_of_written terms layout first = record { terms = terms; texts = layout_t
 
 -- gives the same schema; and gives one, unless memory runs out, where the texts are accepted for sure
 abbrev pub SchemaAgain : Type 0
-SchemaAgain = (terms : Terms) (layout : Layout) (first : CheckedSchemaValue) (schemas : List Text) → IsWrittenPlain terms layout first schemas
+SchemaAgain = (terms : Terms) (layout : Layout) (first : CheckedSchemaValue) (schemas : List SourceText) → IsWrittenPlain terms layout first schemas
     → (answer : Result CheckedSchemaValue Refusal) → AnswersFinish (checker_of_written terms layout first) answer
     → (IfOk answer (SchemasAreSame first)) × (AreSchemasCertain terms schemas → IfErr answer (λ r. r ≡ refusal.Memory))
 
 -- ---- the document
 
 -- this is the text of the document, which was checked over the schema as this text
-abbrev pub IsTextOfWritten : Layout → CheckedSchemaValue → Text → Text → Type 0
+abbrev pub IsTextOfWritten : Layout → CheckedSchemaValue → SourceText → SourceText → Type 0
 IsTextOfWritten layout schema document text = WritesDocument layout schema.number document text
 
 -- Both documents are equal, places aside, and in every layout the same is written of their texts.
-pub record DocumentsAreSame (schema : CheckedSchemaValue) (document : Text) (first : MeantDocument Place) (other : CheckedSchemaValue) (text : Text) (again : MeantDocument Place) : Type 0 where
+pub record DocumentsAreSame (schema : CheckedSchemaValue) (document : SourceText) (first : MeantDocument Place) (other : CheckedSchemaValue) (text : SourceText) (again : MeantDocument Place) : Type 0 where
   pub equal : unplaced_document first ≡ unplaced_document again
   pub written : (layout : Layout) (bytes : List ℕ) → WritesDocument layout other.number text bytes ↔ WritesDocument layout schema.number document bytes
 
 -- The document of this text is accepted over the schema; the other schema is equal, with the same built in and the same limit, and a
 -- number is left for a document over it; and this is the document's text under a plain layout.
-pub record IsWrittenPlainOver (layout : Layout) (schema : CheckedSchemaValue) (document : Text) (first : MeantDocument Place) (other : CheckedSchemaValue) (text : Text) : Type 0 where
+pub record IsWrittenPlainOver (layout : Layout) (schema : CheckedSchemaValue) (document : SourceText) (first : MeantDocument Place) (other : CheckedSchemaValue) (text : SourceText) : Type 0 where
   pub is : IsCheckedDocumentOf schema document first
   pub equal : AreEqual schema.schema other.schema
   pub nesting : schema.nesting ≡ other.nesting
@@ -67,20 +67,20 @@ pub record IsWrittenPlainOver (layout : Layout) (schema : CheckedSchemaValue) (d
 
 -- checked over the other schema, it is the same; and it is accepted, unless memory runs out, where the first is accepted for sure
 abbrev pub DocumentAgain : Type 0
-DocumentAgain = (layout : Layout) (schema : CheckedSchemaValue) (document : Text) (first : MeantDocument Place) (other : CheckedSchemaValue) (text : Text)
+DocumentAgain = (layout : Layout) (schema : CheckedSchemaValue) (document : SourceText) (first : MeantDocument Place) (other : CheckedSchemaValue) (text : SourceText)
     → IsWrittenPlainOver layout schema document first other text → (answer : Result (MeantDocument Place) Refusal) → AnswersCheck other text answer
     → (IfOk answer (DocumentsAreSame schema document first other text)) × (IsDocumentCertain schema.schema schema.nesting schema.number document → IfErr answer (λ r. r ≡ refusal.Memory))
 
 -- ---- the pair
 
 -- The document is accepted for sure over the schema of these texts, on these terms; no text has the number of what is built in.
-pub record IsCertainPair (terms : Terms) (schema : CheckedSchemaValue) (document : Text) (schemas : List Text) : Type 0 where
+pub record IsCertainPair (terms : Terms) (schema : CheckedSchemaValue) (document : SourceText) (schemas : List SourceText) : Type 0 where
   pub is : IsCheckedSchemaOf terms schemas schema
   pub certain : IsCertain terms schemas document
   pub elsewhere : terms.first_text ≢ 0
 
 -- what is written of the pair, each text under a plain layout of its own, is accepted, unless memory runs out
 abbrev pub PairAgain : Type 0
-PairAgain = (terms : Terms) (schema : CheckedSchemaValue) (document : Text) (schemas : List Text) → IsCertainPair terms schema document schemas
-    → (layout next : Layout) → IsPlainLayout layout → IsPlainLayout next → (text : Text) → IsTextOfWritten next schema document text
+PairAgain = (terms : Terms) (schema : CheckedSchemaValue) (document : SourceText) (schemas : List SourceText) → IsCertainPair terms schema document schemas
+    → (layout next : Layout) → IsPlainLayout layout → IsPlainLayout next → (text : SourceText) → IsTextOfWritten next schema document text
     → (answer : Result Verdict CheckError) → AnswersTexts terms (layout_text layout schema.written ∷ []) text answer → (answer ≡ Ok Accepted) ⊎ (answer ≡ Err Memory)

@@ -5,7 +5,7 @@ use Rattle.graphql_names.specs.Placed.{Place}
 use Rattle.document_meaning.specs.MeantTree.{MeantDocument}
 use Rattle.rule_definitions.specs.Laws.{AreEqual}
 use Rattle.verdict_rearranging_laws.specs.Permuting.{IsPermuted}
-use Rattle.verdict_definitions.specs.Texts.{Text, Terms}
+use Rattle.verdict_definitions.specs.Texts.{SourceText, Terms}
 use Rattle.verdict_definitions.specs.Judge.{IsAccepted, IsCertain, AreSchemasCertain, IsDocumentAccepted, IsDocumentCertain}
 use Rattle.verdict_definitions.specs.Out.{Layout, layout_text}
 use Rattle.verdict_laws.specs.AnyNumber.{IsNumber}
@@ -28,20 +28,20 @@ SameVerdict (Refused list) Accepted = ⊥
 SameVerdict (Refused list) (Refused other) = Unit {0}
 
 -- The pair passes no bound: a number is left for each text, and what is accepted is accepted for sure.
-pub record PassesNoBound (terms : Terms) (schemas : List Text) (document : Text) : Type 0 where
+pub record PassesNoBound (terms : Terms) (schemas : List SourceText) (document : SourceText) : Type 0 where
   pub numbered : LeaveNumber terms schemas
   pub certain : IsAccepted terms schemas document → IsCertain terms schemas document
 
 -- where neither pair passes a bound, and memory suffices for both, the verdicts are the same
-abbrev pub AreAnsweredAlike : Terms → List Text → List Text → Type 0
-AreAnsweredAlike terms texts others = (document : Text) (one other : Result Verdict CheckError) → AnswersTexts terms texts document one → AnswersTexts terms others document other
+abbrev pub AreAnsweredAlike : Terms → List SourceText → List SourceText → Type 0
+AreAnsweredAlike terms texts others = (document : SourceText) (one other : Result Verdict CheckError) → AnswersTexts terms texts document one → AnswersTexts terms others document other
     → PassesNoBound terms texts document → PassesNoBound terms others document → IfOk one (λ v. IfOk other (λ w. SameVerdict v w))
 
 abbrev pub VerdictsOfRearranged : Type 0
-VerdictsOfRearranged = (terms : Terms) (texts others : List Text) → AreRearranged terms texts others → AreAnsweredAlike terms texts others
+VerdictsOfRearranged = (terms : Terms) (texts others : List SourceText) → AreRearranged terms texts others → AreAnsweredAlike terms texts others
 
 abbrev pub VerdictsOfCut : Type 0
-VerdictsOfCut = (terms : Terms) (texts others : List Text) → AreCut terms texts others → AreAnsweredAlike terms texts others
+VerdictsOfCut = (terms : Terms) (texts others : List SourceText) → AreCut terms texts others → AreAnsweredAlike terms texts others
 
 -- ---- schemas
 
@@ -59,7 +59,7 @@ pub record AreCutSchemas (a b : CheckedSchemaValue) : Type 0 where
   pub written : (layout : Layout) → layout_text layout a.written ≡ layout_text layout b.written
 
 -- Two checkers on the same terms, whose texts are related so.
-pub record AreOfTexts (Same : Terms → List Text → List Text → Type 0) (one other : CheckerValue) : Type 0 where
+pub record AreOfTexts (Same : Terms → List SourceText → List SourceText → Type 0) (one other : CheckerValue) : Type 0 where
   pub terms : one.terms ≡ other.terms
   pub texts : Same one.terms one.texts other.texts
 
@@ -85,13 +85,13 @@ SchemasOfCut = (one other : CheckerValue) → AreOfTexts AreCut one other → Fi
 -- ---- documents over equal schemas
 
 -- A number is left for a document over both, and what is accepted over the second is accepted for sure.
-pub record SecondPassesNoBound (a b : CheckedSchemaValue) (document : Text) : Type 0 where
+pub record SecondPassesNoBound (a b : CheckedSchemaValue) (document : SourceText) : Type 0 where
   pub numbered : IsNumber a.number
   pub other_numbered : IsNumber b.number
   pub certain : IsDocumentAccepted b.schema b.nesting b.number document → IsDocumentCertain b.schema b.nesting b.number document
 
 -- what is accepted over one is accepted over the other, unless memory runs out
 abbrev pub DocumentsOverEqual : Type 0
-DocumentsOverEqual = (a b : CheckedSchemaValue) → AreEqual a.schema b.schema → a.nesting ≡ b.nesting → (document : Text) → SecondPassesNoBound a b document
+DocumentsOverEqual = (a b : CheckedSchemaValue) → AreEqual a.schema b.schema → a.nesting ≡ b.nesting → (document : SourceText) → SecondPassesNoBound a b document
     → (one other : Result (MeantDocument Place) Refusal) → AnswersCheck a document one → AnswersCheck b document other
     → IfOk one (λ d. IfErr other (λ r. r ≡ refusal.Memory))

@@ -2,7 +2,7 @@
 use Rattle.std.specs.Prelude.{◌≡◌, ◌⊎◌, false, List, Result, Ok, Err, IfOk, IfErr}
 use Rattle.graphql_names.specs.Placed.{Place}
 use Rattle.document_meaning.specs.MeantTree.{MeantDocument}
-use Rattle.verdict_definitions.specs.Texts.{Text, Terms}
+use Rattle.verdict_definitions.specs.Texts.{SourceText, Terms}
 use Rattle.verdict_definitions.specs.Judge.{AreSchemasCertain, IsDocumentCertain, IsCertain}
 use Rattle.graphql_checked.specs.CheckerValue.{CheckerValue, CheckedSchemaValue, IsCheckedSchemaOf, IsCheckedDocumentOf}
 use Rattle.graphql_checked.specs.CheckerAnswers.{IsFinishRefusal}
@@ -16,7 +16,7 @@ use Rattle.graphql_checked.specs.declared.verdict.CheckError.{CheckError}
 use Rattle.graphql_checked.specs.declared.verdict.CheckError.TheVariants.{Memory}
 
 -- `check_texts`, of these texts on these terms
-pub record AnswersTexts (terms : Terms) (schemas : List Text) (document : Text) (answer : Result Verdict CheckError) : Type 0 where
+pub record AnswersTexts (terms : Terms) (schemas : List SourceText) (document : SourceText) (answer : Result Verdict CheckError) : Type 0 where
   pub verdict : IfOk answer (IsVerdict terms schemas document)
   pub complete : IsCertain terms schemas document → (answer ≡ Ok Accepted) ⊎ (answer ≡ Err Memory)
 
@@ -27,7 +27,7 @@ pub record AnswersFinish (checker : CheckerValue) (answer : Result CheckedSchema
   pub complete : IfErr answer (λ r. checker.failed ≡ false → AreSchemasCertain checker.terms checker.texts → r ≡ refusal.Memory)
 
 -- `CheckedSchema::check`, of what the checked document means
-pub record AnswersCheck (schema : CheckedSchemaValue) (text : Text) (answer : Result (MeantDocument Place) Refusal) : Type 0 where
+pub record AnswersCheck (schema : CheckedSchemaValue) (text : SourceText) (answer : Result (MeantDocument Place) Refusal) : Type 0 where
   pub accepted : IfOk answer (IsCheckedDocumentOf schema text)
   pub refused : IfErr answer (RefusalOfDocument schema text)
   pub complete : IfErr answer (λ r. IsDocumentCertain schema.schema schema.nesting schema.number text → r ≡ refusal.Memory)

@@ -12,7 +12,7 @@ use Rattle.schema_building.specs.Numbers.{HaveNumbers}
 use Rattle.graphql_read.proofs.Bounds.{memory_alone}
 use Rattle.rule_definitions.proofs.Lists.{Contains-cons, only}
 use Rattle.graphql_faults.specs.DetailsTree.{Syntax}
-use Rattle.verdict_definitions.specs.Texts.{Text, Tree, Terms, DerivesIn, ReadsText, ReadsAll, AreWithin, IsRead}
+use Rattle.verdict_definitions.specs.Texts.{SourceText, Tree, Terms, DerivesIn, ReadsText, ReadsAll, AreWithin, IsRead}
 use Rattle.verdict_definitions.specs.Says.{Fault, spent, UnreadFault, SaysSchema}
 use Rattle.verdict_definitions.specs.Out.{Out, OutDoc, Layout, layout_text, as_lines}
 use Rattle.verdict_definitions.specs.Answer.{AcceptedBytes, RefusesSchemas, AllSay, Answer}
@@ -22,7 +22,7 @@ use Rattle.verdict_definitions.proofs.TextRows.{query_field, query_field_tree, q
 
 -- ---- accepted
 
-module _ (layout : Layout) (schema document : Text) (tree document_tree : Tree) (read_schema : ReadsText 1 schema tree) (read_document : ReadsText 2 document document_tree) where
+module _ (layout : Layout) (schema document : SourceText) (tree document_tree : Tree) (read_schema : ReadsText 1 schema tree) (read_document : ReadsText 2 document document_tree) where
   -- what is put out is written of these trees
   written_bytes : (bytes : List ℕ) → AcceptedBytes terms layout (schema ∷ []) document bytes
       → bytes ≡ codes "accepted\n" ++ as_lines layout (layout_text layout (Out terms (tree ∷ []))) ++ as_lines layout (layout_text layout (OutDoc document_tree))
@@ -53,7 +53,7 @@ indented_bytes bytes a = written_bytes (Some (codes "  ")) query_field just_fiel
 -- ---- refused: a schema text that is not read
 
 -- a fault is due of a text, so it is not read
-pub due_unread : (number : ℕ) (text : Text) (fault : read.Fault) (tree : Tree) → fault ≢ read.Memory → IsDue (DerivesIn number) 500 text fault → (NestingBound 500 text → ⊥) → ReadsText number text tree → ⊥
+pub due_unread : (number : ℕ) (text : SourceText) (fault : read.Fault) (tree : Tree) → fault ≢ read.Memory → IsDue (DerivesIn number) 500 text fault → (NestingBound 500 text → ⊥) → ReadsText number text tree → ⊥
 due_unread number text fault tree some due nests reads = some (memory_alone (DerivesIn number) 500 text fault due tree reads nests)
 
 -- the only fault of a list is so
@@ -71,7 +71,7 @@ pub not_empty : (fault : Fault) (faults : List Fault) → fault ∷ faults ≢ [
 not_empty fault faults e = cc
 
 -- S `{ a`, any D: `End` at 1:3
-abbrev open_set : Text
+abbrev open_set : SourceText
 open_set = codes "{ a"
 
 abbrev open_set_span : SourceSpan
@@ -99,12 +99,12 @@ open_set_refuses = record {
     never within [] reads = reads
     never within (tree ∷ trees) reads = due_unread 1 open_set (read.End 3) tree (λ e. cc) open_set_due within.0.nests reads.0
 
-open_set_bytes : (document : Text) → Answer terms None (open_set ∷ []) document (codes "refused\n1:3: unexpected end of text\n")
+open_set_bytes : (document : SourceText) → Answer terms None (open_set ∷ []) document (codes "refused\n1:3: unexpected end of text\n")
 unfolding digits
 open_set_bytes document = inr (record { faults = open_set_fault ∷ []; refused = inl open_set_refuses; is = refl })
 
 -- S `{ a` and `{ }`, any D: a line for each
-abbrev empty_set : Text
+abbrev empty_set : SourceText
 empty_set = codes "{ }"
 
 abbrev empty_set_span : SourceSpan
@@ -132,7 +132,7 @@ both_refuse = record {
     never within [] reads = reads
     never within (tree ∷ trees) reads = due_unread 1 open_set (read.End 3) tree (λ e. cc) open_set_due within.0.nests reads.0
 
-both_bytes : (document : Text) → Answer terms None (open_set ∷ empty_set ∷ []) document (codes "refused\n1:3: unexpected end of text\n2:2: unexpected token\n")
+both_bytes : (document : SourceText) → Answer terms None (open_set ∷ empty_set ∷ []) document (codes "refused\n1:3: unexpected end of text\n2:2: unexpected token\n")
 unfolding digits
 both_bytes document = inr (record { faults = open_set_fault ∷ empty_set_fault ∷ []; refused = inl both_refuse; is = refl })
 
@@ -161,5 +161,5 @@ spent_refuses = record {
   full = λ within trees reads. inl refl;
 }
 
-spent_bytes : (document : Text) → Answer last_extension None (orphan ∷ []) document (codes "refused\n-: numbers are spent\n")
+spent_bytes : (document : SourceText) → Answer last_extension None (orphan ∷ []) document (codes "refused\n-: numbers are spent\n")
 spent_bytes document = inr (record { faults = spent ∷ []; refused = inl spent_refuses; is = refl })

@@ -22,7 +22,7 @@ use Rattle.rule_document_definitions.specs.Merging.{SameName, telling}
 use Rattle.rule_document_definitions.specs.Told.{PlacedDocumentFault, DocumentFails, DocumentMergingFails}
 use Rattle.rule_document_definitions.proofs.RowWords.{of_present, not_at_index, none_reached, no_fragment}
 use Rattle.graphql_faults.specs.in_document_data.DocumentBreaches.{ConflictingFieldName}
-use Rattle.verdict_definitions.specs.Texts.{Text, Tree, ReadsText}
+use Rattle.verdict_definitions.specs.Texts.{SourceText, Tree, ReadsText}
 use Rattle.verdict_definitions.specs.Judge.{schema_at_hand, document_over, IsAccepted}
 use Rattle.verdict_definitions.specs.Says.{of_document, SaysDocument}
 use Rattle.verdict_definitions.proofs.RowReading.{reader, reads}
@@ -37,7 +37,7 @@ int_field name = record { description = None; name = record { it = name; place =
 
 -- ---- S `type Query { field: Int }`, D `query Q($v: Int) { field }`: `UnusedVariable` at 2:8
 
-abbrev pub unused : Text
+abbrev pub unused : SourceText
 unused = codes "query Q($v: Int) { field }"
 
 abbrev v_variable : Placed Place (VariableDefinitionTree Place)
@@ -128,7 +128,7 @@ unused_said = inr (unused_tree, (unused_reads, inr (unused_fault, (refl, inl unu
 
 -- ---- S `type Query { a: Int b: Int }`, D `{ x: a x: b }`: `ConflictingFieldName` at 2:7
 
-abbrev a_and_b : Text
+abbrev a_and_b : SourceText
 a_and_b = codes "type Query { a: Int b: Int }"
 
 abbrev a_and_b_tree : Tree
@@ -138,7 +138,7 @@ a_and_b_reads : ReadsText 1 a_and_b a_and_b_tree
 unfolding reader
 a_and_b_reads = reads 500 1 a_and_b a_and_b_tree refl
 
-abbrev pub conflict : Text
+abbrev pub conflict : SourceText
 conflict = codes "{ x: a x: b }"
 
 abbrev x_is_a : FieldHead Place

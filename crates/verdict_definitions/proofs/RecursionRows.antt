@@ -16,7 +16,7 @@ use Rattle.rule_definitions.specs.Rules.{Breaks}
 use Rattle.rule_definitions.specs.Spots.{At}
 use Rattle.rule_definitions.specs.Told.{PlacedFault}
 use Rattle.graphql_faults.specs.DetailsTree.{of_rule}
-use Rattle.verdict_definitions.specs.Texts.{Text, Tree, ReadsText}
+use Rattle.verdict_definitions.specs.Texts.{SourceText, Tree, ReadsText}
 use Rattle.verdict_definitions.specs.Judge.{schema_of, IsAccepted}
 use Rattle.verdict_definitions.specs.Says.{SaysSchema}
 use Rattle.verdict_definitions.proofs.RowReading.{reader, reads}
@@ -24,7 +24,7 @@ use Rattle.verdict_definitions.proofs.RowTrees.{terms, named, node, object}
 use Rattle.verdict_definitions.proofs.RowMeanings.{type_found, judged_found, same_judged}
 use Rattle.verdict_definitions.proofs.RowJudging.{schema_refused}
 
-abbrev recursive : Text
+abbrev recursive : SourceText
 recursive = codes "type Query { f(i: I): Int } input I { i: I! }"
 
 abbrev i_field : Placed Place (InputValueTree Place)
@@ -93,7 +93,7 @@ leads_back = inr (inr (inr (inl (inl (
 recursion_breaks : Breaks (judged recursive_schema) recursion
 recursion_breaks = subst (λ j. Breaks j recursion) (same_judged recursive_schema) leads_back
 
-recursion_refused : (document : Text) → IsAccepted terms (recursive ∷ []) document → ⊥
+recursion_refused : (document : SourceText) → IsAccepted terms (recursive ∷ []) document → ⊥
 recursion_refused document = schema_refused terms recursive document recursive_tree recursive_reads recursion recursion_breaks
 
 recursion_said : SaysSchema terms (recursive ∷ []) (of_rule recursion_told)

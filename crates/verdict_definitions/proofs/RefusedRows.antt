@@ -17,7 +17,7 @@ use Rattle.rule_definitions.specs.Judged.{judged}
 use Rattle.rule_definitions.specs.Rules.{Breaks}
 use Rattle.graphql_faults.specs.DetailsTree.{of_rule}
 use Rattle.document_typing.specs.TypingFaults as typing
-use Rattle.verdict_definitions.specs.Texts.{Text, Tree, ReadsText}
+use Rattle.verdict_definitions.specs.Texts.{SourceText, Tree, ReadsText}
 use Rattle.verdict_definitions.specs.Judge.{schema_of, schema_at_hand, IsAccepted}
 use Rattle.verdict_definitions.specs.Says.{of_folding, of_typing, FoldingFails, TypingFailsOver, SaysSchema, SaysDocument}
 use Rattle.verdict_definitions.proofs.RowReading.{reader, reads}
@@ -27,7 +27,7 @@ use Rattle.verdict_definitions.proofs.TextRows.{query_field, query_field_tree, q
 
 -- ---- S `{ a }`: `ExecutableDefinition` at 1:0
 
-abbrev operation : Text
+abbrev operation : SourceText
 operation = codes "{ a }"
 
 abbrev operation_tree : DefinitionTree Place
@@ -49,7 +49,7 @@ operation_fault = record { place = place_in 1 0 5; breach = folding.ExecutableDe
 operation_fails : FoldingFails terms ((operation_tree ∷ []) ∷ []) operation_fault
 operation_fails = folding.executable_definition ([], (operation_tree, (([], refl), (refl, refl))))
 
-operation_refused : (document : Text) → IsAccepted terms (operation ∷ []) document → ⊥
+operation_refused : (document : SourceText) → IsAccepted terms (operation ∷ []) document → ⊥
 operation_refused document = folding_refused terms operation document (operation_tree ∷ []) operation_reads operation_fault operation_fails
 
 operation_said : SaysSchema terms (operation ∷ []) (of_folding operation_fault)
@@ -57,7 +57,7 @@ operation_said = inr ((operation_tree ∷ []) ∷ [], ((operation_reads, tt), in
 
 -- ---- S `scalar Int type Query { a: Int }`: `BuiltInScalarTypeRedefinition` at 1:0
 
-abbrev scalar_int : Text
+abbrev scalar_int : SourceText
 scalar_int = codes "scalar Int type Query { a: Int }"
 
 abbrev scalar_int_tree : Tree
@@ -77,7 +77,7 @@ scalar_int_fails : FoldingFails terms (scalar_int_tree ∷ []) scalar_int_fault
 unfolding built_in_definitions
 scalar_int_fails = folding.built_in_scalar_type_redefinition ([], (_, ((_, refl), (_, ((refl, refl), refl, refl)))))
 
-scalar_int_refused : (document : Text) → IsAccepted terms (scalar_int ∷ []) document → ⊥
+scalar_int_refused : (document : SourceText) → IsAccepted terms (scalar_int ∷ []) document → ⊥
 scalar_int_refused document = folding_refused terms scalar_int document scalar_int_tree scalar_int_reads scalar_int_fault scalar_int_fails
 
 scalar_int_said : SaysSchema terms (scalar_int ∷ []) (of_folding scalar_int_fault)
@@ -85,7 +85,7 @@ scalar_int_said = inr (scalar_int_tree ∷ [], ((scalar_int_reads, tt), inr (inl
 
 -- ---- S `type Query { a: Int a: Int }`: `ObjectFieldNameCollision` at 1:20
 
-abbrev twice : Text
+abbrev twice : SourceText
 twice = codes "type Query { a: Int a: Int }"
 
 abbrev twice_tree : Tree
@@ -118,7 +118,7 @@ twice_fails = folding.object_field_name_collision (
   ),
 )
 
-twice_refused : (document : Text) → IsAccepted terms (twice ∷ []) document → ⊥
+twice_refused : (document : SourceText) → IsAccepted terms (twice ∷ []) document → ⊥
 twice_refused document = folding_refused terms twice document twice_tree twice_reads twice_fault twice_fails
 
 twice_said : SaysSchema terms (twice ∷ []) (of_folding twice_fault)
@@ -126,7 +126,7 @@ twice_said = inr (twice_tree ∷ [], ((twice_reads, tt), inr (inl (twice_fault, 
 
 -- ---- S `type T { a: Int }`: `QueryRootOperationType`, without a place
 
-abbrev no_query : Text
+abbrev no_query : SourceText
 no_query = codes "type T { a: Int }"
 
 abbrev no_query_tree : Tree
@@ -140,7 +140,7 @@ no_query_breaks : Breaks (judged (schema_of terms (no_query_tree ∷ []))) (told
 unfolding built_in_definitions
 no_query_breaks = inl (inl (refl, refl))
 
-no_query_refused : (document : Text) → IsAccepted terms (no_query ∷ []) document → ⊥
+no_query_refused : (document : SourceText) → IsAccepted terms (no_query ∷ []) document → ⊥
 no_query_refused document = schema_refused terms no_query document no_query_tree no_query_reads (told SchemaAt QueryRootOperationType) no_query_breaks
 
 no_query_said : SaysSchema terms (no_query ∷ []) (of_rule (wrong None QueryRootOperationType))

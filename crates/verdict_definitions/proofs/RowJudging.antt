@@ -14,7 +14,7 @@ use Rattle.document_typing.specs.TypingFaults.{TypingRules}
 use Rattle.rule_document_definitions.specs.Told.{PlacedDocumentFault, DocumentFails, DocumentMergingFails, IsValidDocument}
 use Rattle.rule_document_definitions.specs.Named.{AreNamed}
 use Rattle.rule_document_definitions.proofs.Verdicts.{valid_where_nothing_is_told}
-use Rattle.verdict_definitions.specs.Texts.{Text, Tree, Terms, DerivesIn, ReadsText, ReadsAll, PassesNumbers, document_number}
+use Rattle.verdict_definitions.specs.Texts.{SourceText, Tree, Terms, DerivesIn, ReadsText, ReadsAll, PassesNumbers, document_number}
 use Rattle.verdict_definitions.specs.Judge.{definitions_of, Folds, schema_of, schema_at_hand, meanings_over, document_over, IsAccepted}
 use Rattle.verdict_definitions.specs.Says.{FoldingFails, TypingFailsOver}
 use Rattle.verdict_definitions.proofs.RowReading.{one_tree, one_list}
@@ -22,13 +22,13 @@ use Rattle.verdict_definitions.proofs.RowReading.{one_tree, one_list}
 -- ---- bounds, and texts that are not read
 
 -- a fault is due of the document
-pub unread_refused : (terms : Terms) (schemas : List Text) (document : Text) (fault : read.Fault) → fault ≢ read.Memory
+pub unread_refused : (terms : Terms) (schemas : List SourceText) (document : SourceText) (fault : read.Fault) → fault ≢ read.Memory
     → IsDue (DerivesIn (document_number terms schemas)) terms.nesting document fault → IsAccepted terms schemas document → ⊥
 unread_refused terms schemas document fault some due accepted =
     some (memory_alone (DerivesIn (document_number terms schemas)) terms.nesting document fault due accepted.over.judged.tree accepted.over.judged.read accepted.over.within.nests)
 
 -- a fault is due of the first schema text
-pub unread_schema_refused : (terms : Terms) (schema : Text) (schemas : List Text) (document : Text) (fault : read.Fault) → fault ≢ read.Memory
+pub unread_schema_refused : (terms : Terms) (schema : SourceText) (schemas : List SourceText) (document : SourceText) (fault : read.Fault) → fault ≢ read.Memory
     → IsDue (DerivesIn terms.first_text) terms.nesting schema fault → IsAccepted terms (schema ∷ schemas) document → ⊥
 unread_schema_refused terms schema schemas document fault some due accepted = by accepted.schema.judged.trees accepted.schema.judged.read
   where
@@ -37,12 +37,12 @@ unread_schema_refused terms schema schemas document fault some due accepted = by
     by (tree ∷ trees) reads = some (memory_alone (DerivesIn terms.first_text) terms.nesting schema fault due tree reads.0 accepted.schema.within.0.nests)
 
 -- no number is left for the document
-pub number_refused : (terms : Terms) (schemas : List Text) (document : Text) → PassesNumbers (document_number terms schemas) → IsAccepted terms schemas document → ⊥
+pub number_refused : (terms : Terms) (schemas : List SourceText) (document : SourceText) → PassesNumbers (document_number terms schemas) → IsAccepted terms schemas document → ⊥
 number_refused terms schemas document passed accepted = accepted.over.within.numbered passed
 
 -- ---- rules
 
-module _ (terms : Terms) (schema document : Text) (tree : Tree) (read_schema : ReadsText terms.first_text schema tree) where
+module _ (terms : Terms) (schema document : SourceText) (tree : Tree) (read_schema : ReadsText terms.first_text schema tree) where
   trees_are : (accepted : IsAccepted terms (schema ∷ []) document) → accepted.schema.judged.trees ≡ tree ∷ []
   trees_are accepted = one_list terms.first_text schema tree accepted.schema.judged.trees read_schema accepted.schema.judged.read
 

@@ -5,7 +5,7 @@ use Rattle.graphql_names.specs.Placed.{Place}
 use Rattle.graphql_read.specs.in_directives.declared.directive_location.DirectiveLocation.TheVariants as at
 use Rattle.graphql_read.specs.in_grammar.Places.{place_in}
 use Rattle.graphql_read.specs.in_operations.SelectionTree.{no_selections}
-use Rattle.verdict_definitions.specs.Texts.{Text, Tree, ReadsText, document_number}
+use Rattle.verdict_definitions.specs.Texts.{SourceText, Tree, ReadsText, document_number}
 use Rattle.verdict_definitions.proofs.RowReading.{reader, reads}
 use Rattle.verdict_definitions.proofs.RowTrees.{terms, named, field_definition, object, extend_object, use_of, directive, field, short_query}
 
@@ -21,7 +21,7 @@ two_schema_texts = refl
 
 -- ---- S `type Query { field: Int }`, D `{ field }`
 
-abbrev pub query_field : Text
+abbrev pub query_field : SourceText
 query_field = codes "type Query { field: Int }"
 
 abbrev pub query_field_tree : Tree
@@ -31,7 +31,7 @@ pub query_field_reads : ReadsText 1 query_field query_field_tree
 unfolding reader
 query_field_reads = reads 500 1 query_field query_field_tree refl
 
-abbrev pub just_field : Text
+abbrev pub just_field : SourceText
 just_field = codes "{ field }"
 
 abbrev pub just_field_tree : Tree
@@ -42,7 +42,7 @@ unfolding reader
 just_field_reads = reads 500 2 just_field just_field_tree refl
 
 -- D `,{ field, } # note`: what is ignored is not in the tree
-abbrev pub noted_field : Text
+abbrev pub noted_field : SourceText
 noted_field = codes ",{ field, } # note"
 
 abbrev pub noted_field_tree : Tree
@@ -54,7 +54,7 @@ noted_field_reads = reads 500 2 noted_field noted_field_tree refl
 
 -- ---- S `extend scalar ID @d directive @d on SCALAR type Query { a: Int }`
 
-abbrev pub scalar_extended : Text
+abbrev pub scalar_extended : SourceText
 scalar_extended = codes "extend scalar ID @d directive @d on SCALAR type Query { a: Int }"
 
 abbrev pub extended_id : DefinitionTree Place
@@ -72,7 +72,7 @@ scalar_extended_reads = reads 500 1 scalar_extended (extended_id ∷ directive_d
 
 -- ---- S `type Query { a: Int } extend type T { a: Int }`
 
-abbrev pub orphan : Text
+abbrev pub orphan : SourceText
 orphan = codes "type Query { a: Int } extend type T { a: Int }"
 
 abbrev pub orphan_query : DefinitionTree Place
@@ -87,7 +87,7 @@ orphan_reads = reads 500 1 orphan (orphan_query ∷ orphan_extension ∷ []) ref
 
 -- ---- D `{ missing }`
 
-abbrev pub missing : Text
+abbrev pub missing : SourceText
 missing = codes "{ missing }"
 
 abbrev pub missing_tree : Tree

@@ -8,7 +8,7 @@ use Rattle.graphql_read.specs.declared.fault.SyntaxFaultKind.TheVariants.{NoToke
 use Rattle.graphql_read.specs.Reads.{IsDue}
 use Rattle.graphql_read.specs.in_operations.SelectionTree.{SelectionTrees, FieldTree, no_selections, selection_then}
 use Rattle.graphql_faults.specs.DetailsTree.{Syntax, Nesting}
-use Rattle.verdict_definitions.specs.Texts.{Text, Tree, DerivesIn, PassesNumbers, IsRead}
+use Rattle.verdict_definitions.specs.Texts.{SourceText, Tree, DerivesIn, PassesNumbers, IsRead}
 use Rattle.verdict_definitions.specs.Judge.{IsAccepted}
 use Rattle.verdict_definitions.specs.Says.{Fault, spent, UnreadFault}
 use Rattle.verdict_definitions.proofs.RowReading.{reader, reads, is_within, is_due}
@@ -84,7 +84,7 @@ surrogate_refused = unread_refused terms (query_field ∷ []) (codes "{ f(x: \"\
 
 -- ---- `{ a { b { c } } }` with nesting 2: `Nesting` at 8; with 3 it is read
 
-abbrev three_deep : Text
+abbrev three_deep : SourceText
 three_deep = codes "{ a { b { c } } }"
 
 third_bracket : IsDue (DerivesIn 2) 2 three_deep (read.Nesting 8)
@@ -116,8 +116,8 @@ no_number : PassesNumbers (2 ^ 64 - 1)
 no_number = omega arith
 
 -- the document behind one schema text, whose number is the last one
-spent_said : (text : Text) → UnreadFault 500 (2 ^ 64 - 1) text spent
+spent_said : (text : SourceText) → UnreadFault 500 (2 ^ 64 - 1) text spent
 spent_said text = inr (refl, no_number)
 
-spent_refused : (schema document : Text) → IsAccepted (record { nesting = 500; first_text = 2 ^ 64 - 2; first_extension = 1 }) (schema ∷ []) document → ⊥
+spent_refused : (schema document : SourceText) → IsAccepted (record { nesting = 500; first_text = 2 ^ 64 - 2; first_extension = 1 }) (schema ∷ []) document → ⊥
 spent_refused schema document = number_refused (record { nesting = 500; first_text = 2 ^ 64 - 2; first_extension = 1 }) (schema ∷ []) document no_number

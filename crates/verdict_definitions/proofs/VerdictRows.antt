@@ -11,7 +11,7 @@ use Rattle.graphql_read.specs.in_operations.SelectionTree.{FieldTree, no_selecti
 use Rattle.schema_types.specs.TypeParts.{with_fields}
 use Rattle.schema_types.specs.SchemaTree.{SchemaTree}
 use Rattle.schema_types.specs.declared.type_kind.TypeKind.TheVariants as kind
-use Rattle.verdict_definitions.specs.Texts.{Text}
+use Rattle.verdict_definitions.specs.Texts.{SourceText}
 use Rattle.verdict_definitions.specs.Judge.{schema_at_hand, IsAccepted}
 use Rattle.verdict_definitions.specs.Says.{of_folding, of_typing, FoldingFails, TypingFailsOver, SaysSchema, SaysDocument}
 use Rattle.verdict_definitions.proofs.RowTrees.{terms, named, field_definition, fields_of, field}
@@ -36,7 +36,7 @@ orphan_fails = folding.orphan_type_extension (
   ),
 )
 
-orphan_refused : (document : Text) → IsAccepted terms (orphan ∷ []) document → ⊥
+orphan_refused : (document : SourceText) → IsAccepted terms (orphan ∷ []) document → ⊥
 orphan_refused document = folding_refused terms orphan document (orphan_query ∷ orphan_extension ∷ []) orphan_reads orphan_fault orphan_fails
 
 orphan_said : SaysSchema terms (orphan ∷ []) (of_folding orphan_fault)

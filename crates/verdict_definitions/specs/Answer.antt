@@ -7,7 +7,7 @@ use Rattle.schema_fold.specs.BuildErrors as folding
 use Rattle.schema_types.specs.SchemaTree.{SchemaTree}
 use Rattle.document_typing.specs.TypingFaults as typing
 use Rattle.graphql_faults.specs.DetailsMessages.{details_message}
-use Rattle.verdict_definitions.specs.Texts.{Text, Tree, Terms, ReadsText, ReadsAll, document_number, IsWithin, AreWithin, IsRead, AreRead}
+use Rattle.verdict_definitions.specs.Texts.{SourceText, Tree, Terms, ReadsText, ReadsAll, document_number, IsWithin, AreWithin, IsRead, AreRead}
 use Rattle.verdict_definitions.specs.Judge.{schema_at_hand, AreSchemasAccepted, IsAccepted}
 use Rattle.verdict_definitions.specs.Says.{Fault, of_folding, of_typing, spent, UnreadFault, FoldingFails, TypingFailsOver, SaysSchema, SaysDocument}
 use Rattle.verdict_definitions.specs.Out.{Out, OutDoc, Layout, layout_text, as_lines}
@@ -15,7 +15,7 @@ use Rattle.verdict_definitions.specs.Out.{Out, OutDoc, Layout, layout_text, as_l
 -- ---- lists of faults
 
 -- each text is read or has one fault, in order, where the first text has this number
-abbrev pub UnreadFaults : ℕ → ℕ → List Text → List Fault → Type 0
+abbrev pub UnreadFaults : ℕ → ℕ → List SourceText → List Fault → Type 0
 UnreadFaults nesting first [] faults = faults ≡ []
 UnreadFaults nesting first (text ∷ texts) faults =
     (IsRead nesting first text × UnreadFaults nesting (first + 1) texts faults)
@@ -29,7 +29,7 @@ AllSay says faults = (fault : Fault) → Contains faults fault → says fault
 -- The schema texts are refused with these faults: there are some, and each is so. Those of unread texts stand alone, one for
 -- each; or each text is read, and then that no number is left for an extension stands alone, or each breach of a folding rule
 -- is among them.
-pub record RefusesSchemas (terms : Terms) (schemas : List Text) (faults : List Fault) : Type 0 where
+pub record RefusesSchemas (terms : Terms) (schemas : List SourceText) (faults : List Fault) : Type 0 where
   pub some : faults ≢ []
   pub says : AllSay (SaysSchema terms schemas) faults
   pub alone : UnreadFaults terms.nesting terms.first_text schemas faults ⊎ AreRead terms.nesting terms.first_text schemas
@@ -37,12 +37,12 @@ pub record RefusesSchemas (terms : Terms) (schemas : List Text) (faults : List F
       → (faults ≡ spent ∷ []) ⊎ ((fault : folding.Fault) → FoldingFails terms trees fault → Contains faults (of_folding fault))
 
 -- this is all that is said of the document: that it is unread
-abbrev pub UnreadAlone : ℕ → ℕ → Text → List Fault → Type 0
+abbrev pub UnreadAlone : ℕ → ℕ → SourceText → List Fault → Type 0
 UnreadAlone nesting number document faults = (fault : Fault) × ((faults ≡ fault ∷ []) × UnreadFault nesting number document fault)
 
 -- The document, which has this number, is refused over the schema with these faults: there are some, and each is so. That it
 -- is unread stands alone; of a read one each breach of a rule of typing is among them.
-pub record RefusesDocument (schema : SchemaTree Place) (nesting number : ℕ) (document : Text) (faults : List Fault) : Type 0 where
+pub record RefusesDocument (schema : SchemaTree Place) (nesting number : ℕ) (document : SourceText) (faults : List Fault) : Type 0 where
   pub some : faults ≢ []
   pub says : AllSay (SaysDocument schema nesting number document) faults
   pub alone : UnreadAlone nesting number document faults ⊎ IsRead nesting number document
@@ -50,7 +50,7 @@ pub record RefusesDocument (schema : SchemaTree Place) (nesting number : ℕ) (d
       → (fault : typing.TypingFault Place) → TypingFailsOver schema tree fault → Contains faults (of_typing fault)
 
 -- The pair is refused with these faults: the schema texts are, or they are accepted and the document is.
-abbrev pub Refuses : Terms → List Text → Text → List Fault → Type 0
+abbrev pub Refuses : Terms → List SourceText → SourceText → List Fault → Type 0
 Refuses terms schemas document faults =
     RefusesSchemas terms schemas faults
     ⊎ ((accepted : AreSchemasAccepted terms schemas) × RefusesDocument (schema_at_hand terms accepted.judged.trees) terms.nesting (document_number terms schemas) document faults)
@@ -69,17 +69,17 @@ fault_line fault = place_text fault.place ++ codes ": " ++ details_message fault
 -- ---- written texts
 
 -- the written schema of texts
-abbrev pub WritesSchema : Terms → Layout → List Text → List ℕ → Type 0
+abbrev pub WritesSchema : Terms → Layout → List SourceText → List ℕ → Type 0
 WritesSchema terms layout schemas bytes = (trees : List Tree) × (ReadsAll terms.first_text schemas trees × (bytes ≡ layout_text layout (Out terms trees)))
 
 -- the written document of a text with this number
-abbrev pub WritesDocument : Layout → ℕ → Text → List ℕ → Type 0
+abbrev pub WritesDocument : Layout → ℕ → SourceText → List ℕ → Type 0
 WritesDocument layout number document bytes = (tree : Tree) × (ReadsText number document tree × (bytes ≡ layout_text layout (OutDoc tree)))
 
 -- ---- the bytes of an answer
 
 -- `accepted` and the written texts, each ending with a line feed
-pub record AcceptedBytes (terms : Terms) (layout : Layout) (schemas : List Text) (document : Text) (bytes : List ℕ) : Type 0 where
+pub record AcceptedBytes (terms : Terms) (layout : Layout) (schemas : List SourceText) (document : SourceText) (bytes : List ℕ) : Type 0 where
   pub accepted : IsAccepted terms schemas document
   pub written_schema : List ℕ
   pub written_document : List ℕ
@@ -88,11 +88,11 @@ pub record AcceptedBytes (terms : Terms) (layout : Layout) (schemas : List Text)
   pub is : bytes ≡ codes "accepted\n" ++ as_lines layout written_schema ++ as_lines layout written_document
 
 -- `refused` and a line for each fault
-pub record RefusedBytes (terms : Terms) (schemas : List Text) (document : Text) (bytes : List ℕ) : Type 0 where
+pub record RefusedBytes (terms : Terms) (schemas : List SourceText) (document : SourceText) (bytes : List ℕ) : Type 0 where
   pub faults : List Fault
   pub refused : Refuses terms schemas document faults
   pub is : bytes ≡ codes "refused\n" ++ flat_map fault_line faults
 
 -- The bytes that may be put out for these texts.
-abbrev pub Answer : Terms → Layout → List Text → Text → List ℕ → Type 0
+abbrev pub Answer : Terms → Layout → List SourceText → SourceText → List ℕ → Type 0
 Answer terms layout schemas document bytes = AcceptedBytes terms layout schemas document bytes ⊎ RefusedBytes terms schemas document bytes

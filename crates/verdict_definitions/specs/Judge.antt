@@ -20,7 +20,7 @@ use Rattle.document_typing.specs.KeptDocument.{kept_document}
 use Rattle.document_typing.specs.TypingFaults.{TypingRules}
 use Rattle.rule_document_definitions.specs.Told.{IsValidDocument}
 use Rattle.rule_document_definitions.specs.Verdict.{WithinBounds}
-use Rattle.verdict_definitions.specs.Texts.{Text, Tree, Terms, ReadsText, ReadsAll, document_number, IsWithin, AreWithin}
+use Rattle.verdict_definitions.specs.Texts.{SourceText, Tree, Terms, ReadsText, ReadsAll, document_number, IsWithin, AreWithin}
 
 -- ---- the schema, and the document over it
 
@@ -51,7 +51,7 @@ document_over schema tree = kept_document (meanings_over schema) tree
 -- ---- the verdict
 
 -- The schema texts are read, and every rule holds of the schema that they fold to.
-pub record JudgeSchemas (terms : Terms) (schemas : List Text) : Type 0 where
+pub record JudgeSchemas (terms : Terms) (schemas : List SourceText) : Type 0 where
   pub trees : List Tree
   pub read : ReadsAll terms.first_text schemas trees
   pub folds : Folds terms trees
@@ -59,29 +59,29 @@ pub record JudgeSchemas (terms : Terms) (schemas : List Text) : Type 0 where
 
 -- The document, which has this number, is read, and every rule holds of it over the schema: those of typing, and then those
 -- on documents and on merging.
-pub record JudgeDocument (schema : SchemaTree Place) (number : ℕ) (document : Text) : Type 0 where
+pub record JudgeDocument (schema : SchemaTree Place) (number : ℕ) (document : SourceText) : Type 0 where
   pub tree : Tree
   pub read : ReadsText number document tree
   pub typed : TypingRules (meanings_over schema) tree
   pub holds : IsValidDocument schema (document_over schema tree)
 
 -- The texts are read, and every rule holds of the schema and of the document over it.
-pub record Judge (terms : Terms) (schemas : List Text) (document : Text) : Type 0 where
+pub record Judge (terms : Terms) (schemas : List SourceText) (document : SourceText) : Type 0 where
   pub schema : JudgeSchemas terms schemas
   pub over : JudgeDocument (schema_at_hand terms schema.trees) (document_number terms schemas) document
 
 -- ---- what is accepted: what is judged well, and nests and counts within the bounds
 
-pub record AreSchemasAccepted (terms : Terms) (schemas : List Text) : Type 0 where
+pub record AreSchemasAccepted (terms : Terms) (schemas : List SourceText) : Type 0 where
   pub judged : JudgeSchemas terms schemas
   pub within : AreWithin terms.nesting terms.first_text schemas
   pub numbered : HaveNumbers terms.first_extension (definitions_of judged.trees)
 
-pub record IsDocumentAccepted (schema : SchemaTree Place) (nesting number : ℕ) (document : Text) : Type 0 where
+pub record IsDocumentAccepted (schema : SchemaTree Place) (nesting number : ℕ) (document : SourceText) : Type 0 where
   pub judged : JudgeDocument schema number document
   pub within : IsWithin nesting number document
 
-pub record IsAccepted (terms : Terms) (schemas : List Text) (document : Text) : Type 0 where
+pub record IsAccepted (terms : Terms) (schemas : List SourceText) (document : SourceText) : Type 0 where
   pub schema : AreSchemasAccepted terms schemas
   pub over : IsDocumentAccepted (schema_at_hand terms schema.judged.trees) terms.nesting (document_number terms schemas) document
 
@@ -96,13 +96,13 @@ abbrev pub PassesNoDocumentBound : SchemaTree Place → Tree → Type 0
 PassesNoDocumentBound schema tree = WithinBounds (unplaced_document (document_over schema tree))
 
 -- the accepted schema texts, the accepted document, the accepted pair, pass none of these
-abbrev pub AreSchemasCertain : Terms → List Text → Type 0
+abbrev pub AreSchemasCertain : Terms → List SourceText → Type 0
 AreSchemasCertain terms schemas = (accepted : AreSchemasAccepted terms schemas) × PassesNoReferenceBound (schema_of terms accepted.judged.trees)
 
-abbrev pub IsDocumentCertain : SchemaTree Place → ℕ → ℕ → Text → Type 0
+abbrev pub IsDocumentCertain : SchemaTree Place → ℕ → ℕ → SourceText → Type 0
 IsDocumentCertain schema nesting number document = (accepted : IsDocumentAccepted schema nesting number document) × PassesNoDocumentBound schema accepted.judged.tree
 
-pub record IsCertain (terms : Terms) (schemas : List Text) (document : Text) : Type 0 where
+pub record IsCertain (terms : Terms) (schemas : List SourceText) (document : SourceText) : Type 0 where
   pub accepted : IsAccepted terms schemas document
   pub references : PassesNoReferenceBound (schema_of terms accepted.schema.judged.trees)
   pub nests : PassesNoDocumentBound (schema_at_hand terms accepted.schema.judged.trees) accepted.over.judged.tree

@@ -17,7 +17,7 @@ use Rattle.document_typing.specs.TypingFaults.{TypingFails}
 use Rattle.rule_document_definitions.specs.DocumentFaults.{OfData, OfDocument, OfLimit}
 use Rattle.rule_document_definitions.specs.Told.{PlacedDocumentFault, DocumentFails, DocumentMergingFails, DocumentBoundFails}
 use Rattle.graphql_faults.specs.DetailsTree.{DetailsAt, Syntax, Nesting, Spent, SchemaBuild, DocumentBuild, RecursionLimitError, of_rule}
-use Rattle.verdict_definitions.specs.Texts.{Text, Tree, Terms, DerivesIn, ReadsText, ReadsAll, PassesNumbers}
+use Rattle.verdict_definitions.specs.Texts.{SourceText, Tree, Terms, DerivesIn, ReadsText, ReadsAll, PassesNumbers}
 use Rattle.verdict_definitions.specs.Judge.{definitions_of, schema_of, meanings_over, document_over}
 
 -- what is wrong, and where
@@ -55,7 +55,7 @@ Tells number (read.End offset) fault = (fault.details ≡ Syntax End) × IsPlace
 Tells number (read.Nesting offset) fault = (fault.details ≡ Nesting) × IsPlaceIn number offset 1 fault.place
 
 -- The fault tells of one that is due of the text with this number.
-pub record IsFaultOfText (nesting number : ℕ) (text : Text) (fault : Fault) : Type 0 where
+pub record IsFaultOfText (nesting number : ℕ) (text : SourceText) (fault : Fault) : Type 0 where
   pub read : read.Fault
   pub due : IsDue (DerivesIn number) nesting text read
   pub tells : Tells number read fault
@@ -65,11 +65,11 @@ abbrev pub spent : Fault
 spent = record { place = None; details = Spent }
 
 -- the text with this number is not read, and this fault says why: what is wrong with it, or that no number is left for it
-abbrev pub UnreadFault : ℕ → ℕ → Text → Fault → Type 0
+abbrev pub UnreadFault : ℕ → ℕ → SourceText → Fault → Type 0
 UnreadFault nesting number text fault = IsFaultOfText nesting number text fault ⊎ ((fault ≡ spent) × PassesNumbers number)
 
 -- one of the texts is not read, and this fault says why, where the first has this number
-abbrev pub UnreadFaultFrom : ℕ → ℕ → List Text → Fault → Type 0
+abbrev pub UnreadFaultFrom : ℕ → ℕ → List SourceText → Fault → Type 0
 UnreadFaultFrom nesting first [] fault = ⊥
 UnreadFaultFrom nesting first (text ∷ texts) fault = UnreadFault nesting first text fault ⊎ UnreadFaultFrom nesting (first + 1) texts fault
 
@@ -113,13 +113,13 @@ module _ (schema : SchemaTree Place) (tree : Tree) where
 -- ---- what a fault says
 
 -- Some fault of the schema texts is so: of a text that is not read, or of the schema.
-abbrev pub SaysSchema : Terms → List Text → Fault → Type 0
+abbrev pub SaysSchema : Terms → List SourceText → Fault → Type 0
 SaysSchema terms schemas fault =
     UnreadFaultFrom terms.nesting terms.first_text schemas fault
     ⊎ ((trees : List Tree) × (ReadsAll terms.first_text schemas trees × SchemaFails terms trees fault))
 
 -- Some fault of the document, which has this number, is so: that it is not read, or what is wrong with it over the schema.
-abbrev pub SaysDocument : SchemaTree Place → ℕ → ℕ → Text → Fault → Type 0
+abbrev pub SaysDocument : SchemaTree Place → ℕ → ℕ → SourceText → Fault → Type 0
 SaysDocument schema nesting number document fault =
     UnreadFault nesting number document fault
     ⊎ ((tree : Tree) × (ReadsText number document tree × DocumentFailsOver schema tree fault))

@@ -8,8 +8,8 @@ use Rattle.graphql_read.specs.in_read_values.Meanings.{in_file}
 use Rattle.graphql_read.specs.Reads.{HasTree, NestingBound}
 
 -- a text, in bytes, and the definitions that one has
-abbrev pub Text : Type 0
-Text = List ℕ
+abbrev pub SourceText : Type 0
+SourceText = List ℕ
 
 abbrev pub Tree : Type 0
 Tree = List (DefinitionTree Place)
@@ -26,17 +26,17 @@ abbrev pub DerivesIn : ℕ → List Token → Tree → Type 0
 DerivesIn number = Derives (in_file (record { 0 = number }))
 
 -- the text with this number has this tree
-abbrev pub ReadsText : ℕ → Text → Tree → Type 0
+abbrev pub ReadsText : ℕ → SourceText → Tree → Type 0
 ReadsText number = HasTree (DerivesIn number)
 
 -- each text has its tree, where the first has this number and each next one the next
-abbrev pub ReadsAll : ℕ → List Text → List Tree → Type 0
+abbrev pub ReadsAll : ℕ → List SourceText → List Tree → Type 0
 ReadsAll first [] [] = Unit {0}
 ReadsAll first (text ∷ texts) (tree ∷ trees) = ReadsText first text tree × ReadsAll (first + 1) texts trees
 ReadsAll first _ _ = ⊥
 
 -- the number of the document behind these schema texts
-abbrev pub document_number : Terms → List Text → ℕ
+abbrev pub document_number : Terms → List SourceText → ℕ
 document_number terms schemas = length schemas + terms.first_text
 
 -- ---- bounds
@@ -46,22 +46,22 @@ abbrev pub PassesNumbers : ℕ → Type 0
 PassesNumbers number = 2 ^ 64 ≤ number + 1
 
 -- a text with this number passes no bound
-pub record IsWithin (nesting number : ℕ) (text : Text) : Type 0 where
+pub record IsWithin (nesting number : ℕ) (text : SourceText) : Type 0 where
   pub nests : NestingBound nesting text → ⊥
   pub numbered : PassesNumbers number → ⊥
 
 -- each text passes no bound, where the first has this number
-abbrev pub AreWithin : ℕ → ℕ → List Text → Type 0
+abbrev pub AreWithin : ℕ → ℕ → List SourceText → Type 0
 AreWithin nesting first [] = Unit {0}
 AreWithin nesting first (text ∷ texts) = IsWithin nesting first text × AreWithin nesting (first + 1) texts
 
 -- The text with this number is read.
-pub record IsRead (nesting number : ℕ) (text : Text) : Type 0 where
+pub record IsRead (nesting number : ℕ) (text : SourceText) : Type 0 where
   pub tree : Tree
   pub reads : ReadsText number text tree
   pub within : IsWithin nesting number text
 
 -- each text is read, where the first has this number
-abbrev pub AreRead : ℕ → ℕ → List Text → Type 0
+abbrev pub AreRead : ℕ → ℕ → List SourceText → Type 0
 AreRead nesting first [] = Unit {0}
 AreRead nesting first (text ∷ texts) = IsRead nesting first text × AreRead nesting (first + 1) texts

@@ -22,7 +22,7 @@ use Rattle.document_typing.specs.KeptDocument.{kept_document}
 use Rattle.document_typing.specs.TypingFaults.{TypingRules}
 use Rattle.document_typing.specs.OutDoc.{is_anonymous, is_named_operation, is_fragment, out_doc}
 use Rattle.rule_document_definitions.proofs.Same.{same_document_verdict, same_bounds}
-use Rattle.verdict_definitions.specs.Texts.{Text, Tree, DerivesIn}
+use Rattle.verdict_definitions.specs.Texts.{SourceText, Tree, DerivesIn}
 use Rattle.verdict_definitions.specs.Judge.{document_over, JudgeDocument, IsDocumentAccepted, IsDocumentCertain}
 use Rattle.verdict_definitions.specs.Out.{Layout}
 use Rattle.verdict_definitions.specs.Answer.{WritesDocument}
@@ -79,7 +79,7 @@ out_same ds =
 pub text_same : (layout : Layout) (ds es : Tree) → map unplaced_definition ds ≡ map unplaced_definition es → document_text layout 0 ds ≡ document_text layout 0 es
 text_same layout ds es same = document_same layout 0 ds ∙ ap (document_text layout 0) same ∙ sym (document_same layout 0 es)
 
-pub written_too : (layout : Layout) (i j : ℕ) (document : Text) (bytes : List ℕ) → WritesDocument layout i document bytes → WritesDocument layout j document bytes
+pub written_too : (layout : Layout) (i j : ℕ) (document : SourceText) (bytes : List ℕ) → WritesDocument layout i document bytes → WritesDocument layout j document bytes
 written_too layout i j document bytes w =
     let r = read_alike i j document w.0 w.1.0 in
     (r.0, (r.1.0, w.1.1 ∙ text_same layout (out_doc w.0) (out_doc r.0) (out_same w.0 ∙ ap out_doc r.1.1 ∙ sym (out_same r.0))))
@@ -93,11 +93,11 @@ pub turned_equal : (a b : SchemaTree Place) → AreEqual a b → AreEqual b a
 turned_equal a b e = record { same = sym e.same; marks = λ at. sym (e.marks at) }
 
 -- the document is judged so over the other schema too, and the same is kept of it
-pub record JudgedToo (a b : SchemaTree Place) (i j : ℕ) (document : Text) (h : JudgeDocument a i document) : Type 0 where
+pub record JudgedToo (a b : SchemaTree Place) (i j : ℕ) (document : SourceText) (h : JudgeDocument a i document) : Type 0 where
   pub judged : JudgeDocument b j document
   pub same : unplaced_document (document_over a h.tree) ≡ unplaced_document (document_over b judged.tree)
 
-pub judged_too : (a b : SchemaTree Place) → AreEqual a b → (i j : ℕ) (document : Text) (h : JudgeDocument a i document) → JudgedToo a b i j document h
+pub judged_too : (a b : SchemaTree Place) → AreEqual a b → (i j : ℕ) (document : SourceText) (h : JudgeDocument a i document) → JudgedToo a b i j document h
 judged_too a b e i j document h =
     let r = read_alike i j document h.tree h.read in
     let same : unplaced_document (document_over a h.tree) ≡ unplaced_document (document_over b r.0)
@@ -112,10 +112,10 @@ judged_too a b e i j document h =
       same = same;
     }
 
-abbrev pub accepted_too : (a b : SchemaTree Place) → AreEqual a b → (nesting i j : ℕ) → IsNumber j → (document : Text) → IsDocumentAccepted a nesting i document → IsDocumentAccepted b nesting j document
+abbrev pub accepted_too : (a b : SchemaTree Place) → AreEqual a b → (nesting i j : ℕ) → IsNumber j → (document : SourceText) → IsDocumentAccepted a nesting i document → IsDocumentAccepted b nesting j document
 accepted_too a b e nesting i j left document h = record { judged = (judged_too a b e i j document h.judged).judged; within = record { nests = h.within.nests; numbered = left } }
 
-pub certain_too : (a b : SchemaTree Place) → AreEqual a b → (nesting i j : ℕ) → IsNumber j → (document : Text) → IsDocumentCertain a nesting i document → IsDocumentCertain b nesting j document
+pub certain_too : (a b : SchemaTree Place) → AreEqual a b → (nesting i j : ℕ) → IsNumber j → (document : SourceText) → IsDocumentCertain a nesting i document → IsDocumentCertain b nesting j document
 certain_too a b e nesting i j left document h =
     let k = judged_too a b e i j document h.0.judged in
     (accepted_too a b e nesting i j left document h.0, (same_bounds (document_over a h.0.judged.tree) (document_over b k.judged.tree) k.same).0 h.1)

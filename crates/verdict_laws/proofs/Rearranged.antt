@@ -40,7 +40,7 @@ use Rattle.verdict_rearranging_laws.proofs.Cut.{writes_alike}
 use Rattle.verdict_rearranging_laws.proofs.WrittenSorts.{writes_permuted}
 use Rattle.verdict_rearranging_laws.proofs.Permuting.{rearranged_permuted}
 use Rattle.verdict_rearranging_laws.proofs.ReadTexts.{texts_elsewhere, is_own_list}
-use Rattle.verdict_definitions.specs.Texts.{Text, Tree, Terms, ReadsText, ReadsAll, document_number, AreWithin}
+use Rattle.verdict_definitions.specs.Texts.{SourceText, Tree, Terms, ReadsText, ReadsAll, document_number, AreWithin}
 use Rattle.verdict_definitions.specs.Judge.{definitions_of, Folds, schema_of, schema_at_hand, JudgeSchemas, Judge, AreSchemasAccepted, IsAccepted, PassesNoReferenceBound, AreSchemasCertain, IsCertain}
 use Rattle.verdict_definitions.specs.Out.{Out, Layout}
 use Rattle.verdict_definitions.specs.Answer.{WritesSchema, AcceptedBytes}
@@ -49,7 +49,7 @@ use Rattle.verdict_laws.proofs.AnyNumber.{one_tree, text_same, written_too, judg
 
 -- ---- the texts
 
-pub all_one : (first : ℕ) (texts : List Text) (ts us : List Tree) → ReadsAll first texts ts → ReadsAll first texts us → ts ≡ us
+pub all_one : (first : ℕ) (texts : List SourceText) (ts us : List Tree) → ReadsAll first texts ts → ReadsAll first texts us → ts ≡ us
 all_one first [] [] [] a b = refl
 all_one first [] [] (u ∷ us) a b = absurd b
 all_one first [] (t ∷ ts) us a b = absurd a
@@ -67,7 +67,7 @@ unfolding numbered
 all_numbered first [] = refl
 all_numbered first (t ∷ ts) = ap (λ ds. t ++ ds) (all_numbered (first + 1) ts)
 
-are_numbered : (first : ℕ) (texts : List Text) (ts : List Tree) → first ≢ 0 → ReadsAll first texts ts → AreReadElsewhere (numbered first ts)
+are_numbered : (first : ℕ) (texts : List SourceText) (ts : List Tree) → first ≢ 0 → ReadsAll first texts ts → AreReadElsewhere (numbered first ts)
 unfolding numbered
 are_numbered first [] [] some read = tt
 are_numbered first [] (t ∷ ts) some read = absurd read
@@ -75,7 +75,7 @@ are_numbered first (text ∷ texts) [] some read = absurd read
 are_numbered first (text ∷ texts) (t ∷ ts) some read =
     ((some, document_sound (record { 0 = first }) text t read.0), are_numbered (first + 1) texts ts (λ e. let bad : suc first ≡ 0 = omega (arith, e) in cc) read.1)
 
-stand_elsewhere : (first : ℕ) (texts : List Text) (ts : List Tree) → first ≢ 0 → ReadsAll first texts ts → AreAllElsewhere (definitions_of ts)
+stand_elsewhere : (first : ℕ) (texts : List SourceText) (ts : List Tree) → first ≢ 0 → ReadsAll first texts ts → AreAllElsewhere (definitions_of ts)
 stand_elsewhere first texts ts some read = subst AreAllElsewhere (all_numbered first ts) (texts_elsewhere (numbered first ts) (are_numbered first texts ts some read))
 
 -- ---- how many extensions there are
@@ -169,22 +169,22 @@ deep_permuted ds es (next front d back e rest pass same more) =
     by m n f b r h k = omega (arith, h, k)
 
 -- the brackets of a text nest as deep as its tree
-deep_text : (nesting number : ℕ) (text : Text) (t : Tree) → ReadsText number text t → (NestingBound nesting text → ⊥) → document_depth t ≤ nesting
+deep_text : (nesting number : ℕ) (text : SourceText) (t : Tree) → ReadsText number text t → (NestingBound nesting text → ⊥) → document_depth t ≤ nesting
 deep_text nesting number text t r within =
     let deep = derived_depth (in_file (record { 0 = number })) r.tokens t r.derived in
     subst (λ n. n ≤ nesting) deep (no_more nesting (depth r.tokens) (λ above. within (record { tokens = r.tokens; behind = []; lexed = r.lexed; above = above })))
 
-text_within : (nesting number : ℕ) (text : Text) (t : Tree) → ReadsText number text t → document_depth t ≤ nesting → NestingBound nesting text → ⊥
+text_within : (nesting number : ℕ) (text : SourceText) (t : Tree) → ReadsText number text t → document_depth t ≤ nesting → NestingBound nesting text → ⊥
 text_within nesting number text t r le = within_all nesting text r.tokens r.lexed (subst (λ n. n ≤ nesting) (sym (derived_depth (in_file (record { 0 = number })) r.tokens t r.derived)) le)
 
-deep_texts : (nesting first : ℕ) (texts : List Text) (ts : List Tree) → ReadsAll first texts ts → AreWithin nesting first texts → document_depth (definitions_of ts) ≤ nesting
+deep_texts : (nesting first : ℕ) (texts : List SourceText) (ts : List Tree) → ReadsAll first texts ts → AreWithin nesting first texts → document_depth (definitions_of ts) ≤ nesting
 deep_texts nesting first [] [] read within = omega arith
 deep_texts nesting first [] (t ∷ ts) read within = absurd read
 deep_texts nesting first (text ∷ texts) [] read within = absurd read
 deep_texts nesting first (text ∷ texts) (t ∷ ts) read within =
     omega (arith, deepest_append definition_depth t (definitions_of ts), deep_text nesting first text t read.0 within.0.nests, deep_texts nesting (first + 1) texts ts read.1 within.1)
 
-texts_within : (nesting first : ℕ) (texts : List Text) (ts : List Tree) → ReadsAll first texts ts → length texts + first < 2 ^ 64 → document_depth (definitions_of ts) ≤ nesting → AreWithin nesting first texts
+texts_within : (nesting first : ℕ) (texts : List SourceText) (ts : List Tree) → ReadsAll first texts ts → length texts + first < 2 ^ 64 → document_depth (definitions_of ts) ≤ nesting → AreWithin nesting first texts
 texts_within nesting first [] [] read room deep = tt
 texts_within nesting first [] (t ∷ ts) read room deep = absurd read
 texts_within nesting first (text ∷ texts) [] read room deep = absurd read
@@ -195,7 +195,7 @@ texts_within nesting first (text ∷ texts) (t ∷ ts) read room deep =
     )
 
 -- where a number is left behind all texts, each has one
-room_for_all : (terms : Terms) (texts : List Text) → LeaveNumber terms texts → AreNumbered terms texts
+room_for_all : (terms : Terms) (texts : List SourceText) → LeaveNumber terms texts → AreNumbered terms texts
 room_for_all terms texts left = let k = no_less (document_number terms texts + 1) (2 ^ 64) left in omega (arith, k)
 
 -- ---- two lists of texts
@@ -216,7 +216,7 @@ module _ (terms : Terms) (ts us : List Tree) (own : AreAllElsewhere (definitions
   references_too : PassesNoReferenceBound (schema_of terms ts) → PassesNoReferenceBound (schema_of terms us)
   references_too = subst (λ (s : Judged). (fault : SchemaFault) → PassesReferenceBound s fault → ⊥) (read_the_same (schema_of terms ts) (schema_of terms us) equal_schemas)
 
-module _ {Same : Tree → Tree → Type 0} (terms : Terms) (texts others : List Text) where
+module _ {Same : Tree → Tree → Type 0} (terms : Terms) (texts others : List SourceText) where
   -- in whichever trees they are read
   same_of : (r : AreBothRead Same terms texts others) (ts us : List Tree) → ReadsAll terms.first_text texts ts → ReadsAll terms.first_text others us → Same (definitions_of ts) (definitions_of us)
   same_of r ts us read read' =
@@ -229,7 +229,7 @@ module _ {Same : Tree → Tree → Type 0} (terms : Terms) (texts others : List 
   other_own_of : (r : AreBothRead Same terms texts others) (us : List Tree) → ReadsAll terms.first_text others us → AreAllElsewhere (definitions_of us)
   other_own_of r us read = stand_elsewhere terms.first_text others us r.elsewhere read
 
-other_way : (terms : Terms) (texts others : List Text) → AreRearranged terms texts others → AreRearranged terms others texts
+other_way : (terms : Terms) (texts others : List SourceText) → AreRearranged terms texts others → AreRearranged terms others texts
 other_way terms texts others r = record {
   elsewhere = r.elsewhere;
   trees = r.other_trees;
@@ -241,7 +241,7 @@ other_way terms texts others r = record {
 
 -- ---- what holds of the one holds of the other
 
-module _ (terms : Terms) (texts others : List Text) (r : AreRearranged terms texts others) where
+module _ (terms : Terms) (texts others : List SourceText) (r : AreRearranged terms texts others) where
   at_hand : (ts us : List Tree) → ReadsAll terms.first_text texts ts → ReadsAll terms.first_text others us → AreEqual (schema_at_hand terms ts) (schema_at_hand terms us)
   at_hand ts us read read' = equal_at_hand terms ts us (own_of terms texts others r ts read) (other_own_of terms texts others r us read') (same_of terms texts others r ts us read read')
 
@@ -253,7 +253,7 @@ module _ (terms : Terms) (texts others : List Text) (r : AreRearranged terms tex
     holds = rules_too terms j.trees r.other_trees (own_of terms texts others r j.trees j.read) (other_own_of terms texts others r r.other_trees r.other_read) (same_of terms texts others r j.trees r.other_trees j.read r.other_read) j.holds;
   }
 
-  pair_too : (document : Text) → Judge terms texts document → Judge terms others document
+  pair_too : (document : SourceText) → Judge terms texts document → Judge terms others document
   pair_too document j = record {
     schema = schemas_too j.schema;
     over = (judged_too (schema_at_hand terms j.schema.trees) (schema_at_hand terms r.other_trees) (at_hand j.schema.trees r.other_trees j.schema.read r.other_read) (document_number terms texts) (document_number terms others) document j.over).judged;
@@ -285,14 +285,14 @@ module _ (terms : Terms) (texts others : List Text) (r : AreRearranged terms tex
     room_behind : AreNumbered terms others
     room_behind = room_for_all terms others left
 
-    abbrev accepted_pair_too : (document : Text) → IsAccepted terms texts document → IsAccepted terms others document
+    abbrev accepted_pair_too : (document : SourceText) → IsAccepted terms texts document → IsAccepted terms others document
     accepted_pair_too document a = record {
       schema = accepted_schemas_too room_behind a.schema;
       over = accepted_too (schema_at_hand terms a.schema.judged.trees) (schema_at_hand terms r.other_trees) (at_hand a.schema.judged.trees r.other_trees a.schema.judged.read r.other_read)
           terms.nesting (document_number terms texts) (document_number terms others) left document a.over;
     }
 
-    certain_pair_too : (document : Text) → IsCertain terms texts document → IsCertain terms others document
+    certain_pair_too : (document : SourceText) → IsCertain terms texts document → IsCertain terms others document
     certain_pair_too document c =
         let k = certain_too (schema_at_hand terms c.accepted.schema.judged.trees) (schema_at_hand terms r.other_trees) (at_hand c.accepted.schema.judged.trees r.other_trees c.accepted.schema.judged.read r.other_read)
         terms.nesting (document_number terms texts) (document_number terms others) left document (c.accepted.over, c.nests) in
@@ -304,14 +304,14 @@ module _ (terms : Terms) (texts others : List Text) (r : AreRearranged terms tex
 
 -- ---- rearranging
 
-pub judged_alike : (terms : Terms) (texts others : List Text) → AreRearranged terms texts others → AreJudgedAlike terms texts others
+pub judged_alike : (terms : Terms) (texts others : List SourceText) → AreRearranged terms texts others → AreJudgedAlike terms texts others
 judged_alike terms texts others r = record {
   schemas = (schemas_too terms texts others r, schemas_too terms others texts (other_way terms texts others r));
   at_hand = λ a b. at_hand terms texts others r a.trees b.trees a.read b.read;
   pairs = λ document. (pair_too terms texts others r document, pair_too terms others texts (other_way terms texts others r) document);
 }
 
-pub accepted_alike : (terms : Terms) (texts others : List Text) → AreRearranged terms texts others → AreAcceptedAlike terms texts others
+pub accepted_alike : (terms : Terms) (texts others : List SourceText) → AreRearranged terms texts others → AreAcceptedAlike terms texts others
 accepted_alike terms texts others r =
     let r' = other_way terms texts others r in
     record {
@@ -331,7 +331,7 @@ rearranging terms texts others r = record {
 
 -- ---- cutting
 
-as_rearranged : (terms : Terms) (texts others : List Text) → AreCut terms texts others → AreRearranged terms texts others
+as_rearranged : (terms : Terms) (texts others : List SourceText) → AreCut terms texts others → AreRearranged terms texts others
 as_rearranged terms texts others r = record {
   elsewhere = r.elsewhere;
   trees = r.trees;
@@ -341,10 +341,10 @@ as_rearranged terms texts others r = record {
   same = cut (definitions_of r.trees) (definitions_of r.other_trees) r.same;
 }
 
-cut_other_way : (terms : Terms) (texts others : List Text) → AreCut terms texts others → AreCut terms others texts
+cut_other_way : (terms : Terms) (texts others : List SourceText) → AreCut terms texts others → AreCut terms others texts
 cut_other_way terms texts others r = record { elsewhere = r.elsewhere; trees = r.other_trees; other_trees = r.trees; read = r.other_read; other_read = r.read; same = sym r.same }
 
-module _ (terms : Terms) (texts others : List Text) (r : AreCut terms texts others) where
+module _ (terms : Terms) (texts others : List SourceText) (r : AreCut terms texts others) where
   writes : (ts us : List Tree) → ReadsAll terms.first_text texts ts → ReadsAll terms.first_text others us → unplaced_document (Out terms ts) ≡ unplaced_document (Out terms us)
   writes ts us read read' =
       writes_alike built_in_definitions terms.first_extension terms.first_extension (definitions_of ts) (definitions_of us) (same_of terms texts others r ts us read read')
@@ -353,7 +353,7 @@ module _ (terms : Terms) (texts others : List Text) (r : AreCut terms texts othe
   schema_written_too : (layout : Layout) (bytes : List ℕ) → WritesSchema terms layout texts bytes → WritesSchema terms layout others bytes
   schema_written_too layout bytes h = (r.other_trees, (r.other_read, h.1.1 ∙ text_same layout (Out terms h.0) (Out terms r.other_trees) (writes h.0 r.other_trees h.1.0 r.other_read)))
 
-  answered_too : LeaveNumber terms others → (layout : Layout) (document : Text) (bytes : List ℕ) → AcceptedBytes terms layout texts document bytes → AcceptedBytes terms layout others document bytes
+  answered_too : LeaveNumber terms others → (layout : Layout) (document : SourceText) (bytes : List ℕ) → AcceptedBytes terms layout texts document bytes → AcceptedBytes terms layout others document bytes
   answered_too left layout document bytes a = record {
     accepted = accepted_pair_too terms texts others (as_rearranged terms texts others r) left document a.accepted;
     written_schema = a.written_schema;

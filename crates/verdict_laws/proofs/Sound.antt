@@ -13,7 +13,7 @@ use Rattle.schema_fold.specs.Listed.{types_in, directive_here, directives_in}
 use Rattle.graphql_read.specs.EachPlace.{all_in_definition, all_in_document}
 use Rattle.graphql_read.specs.Sound.{is_own}
 use Rattle.graphql_read.proofs.Soundness.{document_sound}
-use Rattle.verdict_definitions.specs.Texts.{Text, Tree, ReadsText, ReadsAll}
+use Rattle.verdict_definitions.specs.Texts.{SourceText, Tree, ReadsText, ReadsAll}
 use Rattle.verdict_definitions.specs.Judge.{definitions_of}
 use Rattle.verdict_written_laws.specs.Table.{AreOwn}
 
@@ -33,12 +33,12 @@ pub record Fine (ds : Tree) : Type 0 where
   pub can : list_all definition_writable ds ≡ true
   pub own : all_in_document is_own ds ≡ true
 
-fine_text : (number : ℕ) (text : Text) (tree : Tree) → number ≢ 0 → ReadsText number text tree → Fine tree
+fine_text : (number : ℕ) (text : SourceText) (tree : Tree) → number ≢ 0 → ReadsText number text tree → Fine tree
 fine_text number text tree some read =
     let sound = document_sound (record { 0 = number }) text tree read in
     record { can = (both (has_some tree) (list_all definition_writable tree) sound.writable).1; own = sound.own some }
 
-pub fine_all : (first : ℕ) (texts : List Text) (trees : List Tree) → first ≢ 0 → ReadsAll first texts trees → Fine (definitions_of trees)
+pub fine_all : (first : ℕ) (texts : List SourceText) (trees : List Tree) → first ≢ 0 → ReadsAll first texts trees → Fine (definitions_of trees)
 fine_all first [] [] some read = record { can = refl; own = refl }
 fine_all first [] (tree ∷ trees) some read = absurd read
 fine_all first (text ∷ texts) [] some read = absurd read

@@ -5,7 +5,7 @@ use Rattle.tree_definitions.specs.DefinitionTree.{unplaced_document}
 use Rattle.rule_definitions.specs.Laws.{AreEqual}
 use Rattle.verdict_rearranging_laws.specs.Rearranged.{IsRearranged}
 use Rattle.verdict_rearranging_laws.specs.Permuting.{IsPermuted}
-use Rattle.verdict_definitions.specs.Texts.{Text, Tree, Terms, ReadsAll, document_number}
+use Rattle.verdict_definitions.specs.Texts.{SourceText, Tree, Terms, ReadsAll, document_number}
 use Rattle.verdict_definitions.specs.Judge.{definitions_of, schema_at_hand, JudgeSchemas, Judge, AreSchemasAccepted, AreSchemasCertain, IsAccepted, IsCertain}
 use Rattle.verdict_definitions.specs.Out.{Out, Layout, layout_text}
 use Rattle.verdict_definitions.specs.Answer.{WritesSchema, AcceptedBytes}
@@ -15,7 +15,7 @@ use Rattle.verdict_laws.specs.AnyNumber.{IsNumber}
 
 -- Both lists of schema texts are read, counted from a number other than that of what is built in, and in this sense their definitions
 -- are the same.
-pub record AreBothRead (Same : Tree → Tree → Type 0) (terms : Terms) (texts others : List Text) : Type 0 where
+pub record AreBothRead (Same : Tree → Tree → Type 0) (terms : Terms) (texts others : List SourceText) : Type 0 where
   pub elsewhere : terms.first_text ≢ 0
   pub trees : List Tree
   pub other_trees : List Tree
@@ -24,58 +24,58 @@ pub record AreBothRead (Same : Tree → Tree → Type 0) (terms : Terms) (texts 
   pub same : Same (definitions_of trees) (definitions_of other_trees)
 
 -- the same definitions, in an order that is the same for each sort
-abbrev pub AreRearranged : Terms → List Text → List Text → Type 0
+abbrev pub AreRearranged : Terms → List SourceText → List SourceText → Type 0
 AreRearranged = AreBothRead IsRearranged
 
 -- one list of definitions, cut into texts in two ways: a text that is read has a definition
-abbrev pub AreCut : Terms → List Text → List Text → Type 0
+abbrev pub AreCut : Terms → List SourceText → List SourceText → Type 0
 AreCut = AreBothRead (λ ds es. unplaced_document ds ≡ unplaced_document es)
 
 -- each text of the list has a number: the greatest of 64 bits is given to none
-abbrev pub AreNumbered : Terms → List Text → Type 0
+abbrev pub AreNumbered : Terms → List SourceText → Type 0
 AreNumbered terms texts = document_number terms texts < 2 ^ 64
 
 -- and behind it a number is left for a document
-abbrev pub LeaveNumber : Terms → List Text → Type 0
+abbrev pub LeaveNumber : Terms → List SourceText → Type 0
 LeaveNumber terms texts = IsNumber (document_number terms texts)
 
 -- ---- what is the same
 
-module _ (terms : Terms) (texts others : List Text) where
+module _ (terms : Terms) (texts others : List SourceText) where
   -- The verdict on the schema texts and, over them, on every document; and documents are judged over equal schemas.
   pub record AreJudgedAlike : Type 0 where
     pub schemas : JudgeSchemas terms texts ↔ JudgeSchemas terms others
     pub at_hand : (a : JudgeSchemas terms texts) (b : JudgeSchemas terms others) → AreEqual (schema_at_hand terms a.trees) (schema_at_hand terms b.trees)
-    pub pairs : (document : Text) → Judge terms texts document ↔ Judge terms others document
+    pub pairs : (document : SourceText) → Judge terms texts document ↔ Judge terms others document
 
   -- Which schema texts, and which pairs, are accepted, and which are for sure, where there are numbers.
   pub record AreAcceptedAlike : Type 0 where
     pub schemas : AreNumbered terms texts → AreNumbered terms others → AreSchemasAccepted terms texts ↔ AreSchemasAccepted terms others
     pub schemas_for_sure : AreNumbered terms texts → AreNumbered terms others → AreSchemasCertain terms texts ↔ AreSchemasCertain terms others
-    pub pairs : LeaveNumber terms texts → LeaveNumber terms others → (document : Text) → IsAccepted terms texts document ↔ IsAccepted terms others document
-    pub pairs_for_sure : LeaveNumber terms texts → LeaveNumber terms others → (document : Text) → IsCertain terms texts document ↔ IsCertain terms others document
+    pub pairs : LeaveNumber terms texts → LeaveNumber terms others → (document : SourceText) → IsAccepted terms texts document ↔ IsAccepted terms others document
+    pub pairs_for_sure : LeaveNumber terms texts → LeaveNumber terms others → (document : SourceText) → IsCertain terms texts document ↔ IsCertain terms others document
 
 -- ---- the laws
 
 -- what is written of the schemas are the same definitions, in some order
-pub record RearrangingIsFree (terms : Terms) (texts others : List Text) (same : AreRearranged terms texts others) : Type 0 where
+pub record RearrangingIsFree (terms : Terms) (texts others : List SourceText) (same : AreRearranged terms texts others) : Type 0 where
   pub judged : AreJudgedAlike terms texts others
   pub accepted : AreAcceptedAlike terms texts others
   pub writes : IsPermuted (Out terms same.trees) (Out terms same.other_trees)
 
 abbrev pub LawOfRearranging : Type 0
-LawOfRearranging = (terms : Terms) (texts others : List Text) (same : AreRearranged terms texts others) → RearrangingIsFree terms texts others same
+LawOfRearranging = (terms : Terms) (texts others : List SourceText) (same : AreRearranged terms texts others) → RearrangingIsFree terms texts others same
 
 -- the same is written of the schemas, in the same order: in every layout the same text; and of every accepted pair the same bytes
 -- are put out
-pub record CuttingIsFree (terms : Terms) (texts others : List Text) (same : AreCut terms texts others) : Type 0 where
+pub record CuttingIsFree (terms : Terms) (texts others : List SourceText) (same : AreCut terms texts others) : Type 0 where
   pub judged : AreJudgedAlike terms texts others
   pub accepted : AreAcceptedAlike terms texts others
   pub writes : unplaced_document (Out terms same.trees) ≡ unplaced_document (Out terms same.other_trees)
   pub texts_written : (layout : Layout) → layout_text layout (Out terms same.trees) ≡ layout_text layout (Out terms same.other_trees)
   pub written : (layout : Layout) (bytes : List ℕ) → WritesSchema terms layout texts bytes ↔ WritesSchema terms layout others bytes
-  pub answered : LeaveNumber terms texts → LeaveNumber terms others → (layout : Layout) (document : Text) (bytes : List ℕ)
+  pub answered : LeaveNumber terms texts → LeaveNumber terms others → (layout : Layout) (document : SourceText) (bytes : List ℕ)
       → AcceptedBytes terms layout texts document bytes ↔ AcceptedBytes terms layout others document bytes
 
 abbrev pub LawOfCutting : Type 0
-LawOfCutting = (terms : Terms) (texts others : List Text) (same : AreCut terms texts others) → CuttingIsFree terms texts others same
+LawOfCutting = (terms : Terms) (texts others : List SourceText) (same : AreCut terms texts others) → CuttingIsFree terms texts others same

@@ -14,7 +14,7 @@ use Rattle.document_typing.specs.KeptDocument.{kept_document}
 use Rattle.document_typing.specs.TypingFaults.{TypingRules}
 use Rattle.document_typing.specs.OutDoc.{is_anonymous, is_named_operation, is_fragment, out_doc}
 use Rattle.rule_document_definitions.proofs.Same.{same_document_verdict, same_bounds}
-use Rattle.verdict_definitions.specs.Texts.{Text, Tree}
+use Rattle.verdict_definitions.specs.Texts.{SourceText, Tree}
 use Rattle.verdict_definitions.specs.Judge.{document_over, meanings_over, IsDocumentAccepted}
 use Rattle.verdict_definitions.specs.Out.{OutDoc, Layout}
 use Rattle.verdict_laws.specs.AnyNumber.{IsNumber}
@@ -55,7 +55,7 @@ out_depth ds =
 
 -- ---- the way back
 
-module _ (schema other : SchemaTree Place) (equal : AreEqual schema other) (nesting number again : ℕ) (left : IsNumber again) (document : Text) (first : IsDocumentAccepted schema nesting number document) (layout : Layout) (plain_layout : IsPlainLayout layout) (text : Text) (is : IsTextOf layout (OutDoc first.judged.tree) text) where
+module _ (schema other : SchemaTree Place) (equal : AreEqual schema other) (nesting number again : ℕ) (left : IsNumber again) (document : SourceText) (first : IsDocumentAccepted schema nesting number document) (layout : Layout) (plain_layout : IsPlainLayout layout) (text : SourceText) (is : IsTextOf layout (OutDoc first.judged.tree) text) where
   abbrev read : Tree
   read = first.judged.tree
 

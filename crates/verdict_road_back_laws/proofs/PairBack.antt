@@ -7,7 +7,7 @@ use Rattle.rule_definitions.specs.Faults.{SchemaFault}
 use Rattle.rule_definitions.specs.Cycles.{PassesReferenceBound}
 use Rattle.rule_definitions.specs.Laws.{AreEqual}
 use Rattle.rule_definitions.proofs.Same.{read_the_same}
-use Rattle.verdict_definitions.specs.Texts.{Text, Tree, Terms, ReadsText, ReadsAll, document_number, PassesNumbers}
+use Rattle.verdict_definitions.specs.Texts.{SourceText, Tree, Terms, ReadsText, ReadsAll, document_number, PassesNumbers}
 use Rattle.verdict_definitions.specs.Judge.{schema_of, schema_at_hand, IsAccepted, PassesNoReferenceBound, PassesNoDocumentBound, IsCertain}
 use Rattle.verdict_definitions.specs.Out.{Out, OutDoc, Layout, layout_text, as_lines}
 use Rattle.verdict_definitions.specs.Answer.{WritesSchema, WritesDocument, AcceptedBytes}
@@ -22,14 +22,14 @@ use Rattle.verdict_road_back_laws.proofs.DocumentBack.{document_road_back}
 -- ---- texts have one tree
 
 -- what is written of texts is written of the trees in which they are read
-schema_bytes : (terms : Terms) (layout : Layout) (schemas : List Text) (trees : List Tree) (bytes : List ℕ) → ReadsAll terms.first_text schemas trees → WritesSchema terms layout schemas bytes → bytes ≡ layout_text layout (Out terms trees)
+schema_bytes : (terms : Terms) (layout : Layout) (schemas : List SourceText) (trees : List Tree) (bytes : List ℕ) → ReadsAll terms.first_text schemas trees → WritesSchema terms layout schemas bytes → bytes ≡ layout_text layout (Out terms trees)
 schema_bytes terms layout schemas trees bytes read (others, (other_read, is)) = is ∙ ap (λ ts. layout_text layout (Out terms ts)) (all_one terms.first_text schemas others trees other_read read)
 
-document_bytes : (layout : Layout) (number : ℕ) (document : Text) (tree : Tree) (bytes : List ℕ) → ReadsText number document tree → WritesDocument layout number document bytes → bytes ≡ layout_text layout (OutDoc tree)
+document_bytes : (layout : Layout) (number : ℕ) (document : SourceText) (tree : Tree) (bytes : List ℕ) → ReadsText number document tree → WritesDocument layout number document bytes → bytes ≡ layout_text layout (OutDoc tree)
 document_bytes layout number document tree bytes read (other, (other_read, is)) = is ∙ ap (λ t. layout_text layout (OutDoc t)) (one_tree number document other tree other_read read)
 
 -- a pair that passes no bound passes none in whichever trees it is accepted
-module _ (terms : Terms) (schemas : List Text) (document : Text) (certain : IsCertain terms schemas document) (accepted : IsAccepted terms schemas document) where
+module _ (terms : Terms) (schemas : List SourceText) (document : SourceText) (certain : IsCertain terms schemas document) (accepted : IsAccepted terms schemas document) where
   same_trees : certain.accepted.schema.judged.trees ≡ accepted.schema.judged.trees
   same_trees = all_one terms.first_text schemas certain.accepted.schema.judged.trees accepted.schema.judged.trees certain.accepted.schema.judged.read accepted.schema.judged.read
 
@@ -59,7 +59,7 @@ behind_fewer count first some left = λ passed. left (by passed)
 
 -- ---- the way back
 
-module _ (terms : Terms) (schemas : List Text) (document : Text) (other : terms.first_text ≢ 0) (first : IsAccepted terms schemas document) (layout next : Layout) (plain : IsPlainLayout layout) (plain_next : IsPlainLayout next) (schema_written document_written : Text) (schema_is : IsTextOf layout (Out terms first.schema.judged.trees) schema_written) (document_is : IsTextOf next (OutDoc first.over.judged.tree) document_written) where
+module _ (terms : Terms) (schemas : List SourceText) (document : SourceText) (other : terms.first_text ≢ 0) (first : IsAccepted terms schemas document) (layout next : Layout) (plain : IsPlainLayout layout) (plain_next : IsPlainLayout next) (schema_written document_written : SourceText) (schema_is : IsTextOf layout (Out terms first.schema.judged.trees) schema_written) (document_is : IsTextOf next (OutDoc first.over.judged.tree) document_written) where
   abbrev number : ℕ
   number = document_number terms schemas
 

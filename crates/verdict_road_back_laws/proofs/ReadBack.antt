@@ -24,21 +24,21 @@ use Rattle.rule_schema_laws.specs.ReadTexts.{Texts, AreReadElsewhere}
 use Rattle.verdict_rearranging_laws.specs.ReadTexts.{all_of}
 use Rattle.verdict_rearranging_laws.specs.Elsewhere.{AreAllElsewhere}
 use Rattle.verdict_rearranging_laws.proofs.ReadTexts.{texts_elsewhere}
-use Rattle.verdict_definitions.specs.Texts.{Text, Tree, ReadsText, ReadsAll, DerivesIn, IsWithin, AreWithin}
+use Rattle.verdict_definitions.specs.Texts.{SourceText, Tree, ReadsText, ReadsAll, DerivesIn, IsWithin, AreWithin}
 use Rattle.verdict_definitions.specs.Judge.{definitions_of}
 use Rattle.verdict_definitions.specs.Out.{Layout, layout_text, as_lines}
 use Rattle.verdict_road_back_laws.specs.RoadBack.{IsPlainLayout, IsTextOf, IsSameTree, IsWrittenAlike}
 use Rattle.verdict_road_back_laws.proofs.LineFeeds.{document_line}
 
 -- The text has this number and is read as the definitions, places aside; and it nests no deeper than they.
-pub record ReadsBack (number : ℕ) (text : Text) (ds : Tree) : Type 0 where
+pub record ReadsBack (number : ℕ) (text : SourceText) (ds : Tree) : Type 0 where
   pub tree : Tree
   pub read : ReadsText number text tree
   pub same : IsSameTree tree ds
   pub nests : (nesting : ℕ) → document_depth ds ≤ nesting → NestingBound nesting text → ⊥
 
 -- a text that is read as these definitions alone
-of_alone : (number : ℕ) (text : Text) (ds : Tree) → ReadsAlone (Derives (in_file (record { 0 = number }))) unplaced_document text (unplaced_document ds) → ReadsBack number text ds
+of_alone : (number : ℕ) (text : SourceText) (ds : Tree) → ReadsAlone (Derives (in_file (record { 0 = number }))) unplaced_document text (unplaced_document ds) → ReadsBack number text ds
 of_alone number text ds r =
     let read : HasTree (DerivesIn number) text r.tree = record { tokens = r.tokens; lexed = r.lexed; derived = r.derived } in
     record {
@@ -50,7 +50,7 @@ of_alone number text ds r =
           not_passed (DerivesIn number) nesting text r.tree (record { reads = read; within = omega (arith, size, deep) });
     }
 
-pub reads_back : (number : ℕ) (layout : Layout) → IsPlainLayout layout → (ds : Tree) → list_all definition_well_formed ds ≡ true → document_writable ds ≡ true → (text : Text) → IsTextOf layout ds text → ReadsBack number text ds
+pub reads_back : (number : ℕ) (layout : Layout) → IsPlainLayout layout → (ds : Tree) → list_all definition_well_formed ds ≡ true → document_writable ds ≡ true → (text : SourceText) → IsTextOf layout ds text → ReadsBack number text ds
 reads_back number layout plain [] formed writable text is = absurd cc
 reads_back number layout plain (d ∷ ds) formed writable text is = by is
   where
@@ -84,7 +84,7 @@ no_more a b h = by (ltb b a) refl
     by true e = absurd (h (ltb-true b a e))
     by false e = ltb-false b a e
 
-pub text_depth : (nesting number : ℕ) (text : Text) (tree : Tree) → ReadsText number text tree → IsWithin nesting number text → document_depth tree ≤ nesting
+pub text_depth : (nesting number : ℕ) (text : SourceText) (tree : Tree) → ReadsText number text tree → IsWithin nesting number text → document_depth tree ≤ nesting
 text_depth nesting number text tree r within =
     let size : depth r.tokens ≡ document_depth tree = derived_depth (in_file (record { 0 = number })) r.tokens tree r.derived in
     let few : depth r.tokens ≤ nesting = no_more (depth r.tokens) nesting (λ above. within.nests (record { tokens = r.tokens; behind = []; lexed = r.lexed; above = above })) in
@@ -94,7 +94,7 @@ pub depth_append : (xs ys : Tree) → document_depth (xs ++ ys) ≡ max (documen
 depth_append [] ys = omega arith
 depth_append (x ∷ xs) ys = let rest = depth_append xs ys in omega (arith, rest)
 
-pub texts_depth : (nesting first : ℕ) (texts : List Text) (trees : List Tree) → ReadsAll first texts trees → AreWithin nesting first texts → document_depth (definitions_of trees) ≤ nesting
+pub texts_depth : (nesting first : ℕ) (texts : List SourceText) (trees : List Tree) → ReadsAll first texts trees → AreWithin nesting first texts → document_depth (definitions_of trees) ≤ nesting
 texts_depth nesting first [] [] read within = omega arith
 texts_depth nesting first [] (tree ∷ trees) read within = absurd read
 texts_depth nesting first (text ∷ texts) [] read within = absurd read
@@ -115,7 +115,7 @@ unfolding numbered_texts
 numbered_all first [] = refl
 numbered_all first (tree ∷ trees) = ap (λ l. tree ++ l) (numbered_all (first + 1) trees)
 
-numbered_read : (first : ℕ) (texts : List Text) (trees : List Tree) → first ≢ 0 → ReadsAll first texts trees → AreReadElsewhere (numbered_texts first trees)
+numbered_read : (first : ℕ) (texts : List SourceText) (trees : List Tree) → first ≢ 0 → ReadsAll first texts trees → AreReadElsewhere (numbered_texts first trees)
 unfolding numbered_texts
 numbered_read first [] [] some read = tt
 numbered_read first [] (tree ∷ trees) some read = absurd read
@@ -125,7 +125,7 @@ numbered_read first (text ∷ texts) (tree ∷ trees) some read = (
   numbered_read (first + 1) texts trees (λ e. let bad : suc first ≡ 0 = omega (arith, e) in cc) read.1,
 )
 
-pub read_elsewhere : (first : ℕ) (texts : List Text) (trees : List Tree) → first ≢ 0 → ReadsAll first texts trees → AreAllElsewhere (definitions_of trees)
+pub read_elsewhere : (first : ℕ) (texts : List SourceText) (trees : List Tree) → first ≢ 0 → ReadsAll first texts trees → AreAllElsewhere (definitions_of trees)
 read_elsewhere first texts trees some read = subst AreAllElsewhere (numbered_all first trees) (texts_elsewhere (numbered_texts first trees) (numbered_read first texts trees some read))
 
 -- the definitions of one tree

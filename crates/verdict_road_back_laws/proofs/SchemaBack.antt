@@ -26,7 +26,7 @@ use Rattle.verdict_rearranging_laws.proofs.EqualAfter.{equal_after}
 use Rattle.verdict_rearranging_laws.proofs.Distinct.{folds_distinct}
 use Rattle.verdict_rearranging_laws.proofs.Cut.{writes_alike}
 use Rattle.verdict_rearranging_laws.proofs.ReadTexts.{is_own_list}
-use Rattle.verdict_definitions.specs.Texts.{Text, Tree, Terms}
+use Rattle.verdict_definitions.specs.Texts.{SourceText, Tree, Terms}
 use Rattle.verdict_definitions.specs.Judge.{definitions_of, schema_of, schema_at_hand, AreSchemasAccepted}
 use Rattle.verdict_definitions.specs.Out.{Out, Layout}
 use Rattle.verdict_laws.proofs.Schemas.{schemas}
@@ -47,7 +47,7 @@ hands_equal terms trees other_trees equal =
     equal_after (schema_of terms trees) (schema_of terms other_trees)
     (folds_distinct built_in_definitions terms.first_extension (definitions_of trees)) (folds_distinct built_in_definitions terms.first_extension (definitions_of other_trees)) equal
 
-module _ (terms : Terms) (texts : List Text) (other : terms.first_text ≢ 0) (first : AreSchemasAccepted terms texts) where
+module _ (terms : Terms) (texts : List SourceText) (other : terms.first_text ≢ 0) (first : AreSchemasAccepted terms texts) where
   abbrev ds : Definitions
   ds = definitions_of first.judged.trees
 
@@ -66,7 +66,7 @@ module _ (terms : Terms) (texts : List Text) (other : terms.first_text ≢ 0) (f
   formed : list_all definition_well_formed out ≡ true
   formed = out_formed built_in_definitions terms.first_extension ds real_table own first.judged.folds (all_formed terms.first_text texts first.judged.trees first.judged.read)
 
-  module _ (layout : Layout) (plain : IsPlainLayout layout) (text : Text) (is : IsTextOf layout out text) where
+  module _ (layout : Layout) (plain : IsPlainLayout layout) (text : SourceText) (is : IsTextOf layout out text) where
     back : ReadsBack terms.first_text text out
     back = reads_back terms.first_text layout plain out formed (schemas terms texts other first) text is
 

@@ -33,7 +33,7 @@ use Rattle.verdict_written_laws.proofs.Depth.{all_fit}
 use Rattle.verdict_written_laws.proofs.RealTable.{real_table, real_table_has_no_query}
 use Rattle.verdict_written_laws.proofs.TypesTwice.{types_append}
 use Rattle.verdict_rearranging_laws.proofs.Marks.{under_firsts}
-use Rattle.verdict_definitions.specs.Texts.{Text, Tree, Terms, ReadsAll, AreWithin, PassesNumbers}
+use Rattle.verdict_definitions.specs.Texts.{SourceText, Tree, Terms, ReadsAll, AreWithin, PassesNumbers}
 use Rattle.verdict_definitions.specs.Judge.{definitions_of, AreSchemasAccepted}
 use Rattle.verdict_road_back_laws.proofs.ReadBack.{texts_depth}
 use Rattle.verdict_road_back_laws.proofs.Bracketless.{GivesNone, flat_each, own_fields, table_each, roots_are, base_roots, no_components}
@@ -142,7 +142,7 @@ module _ (first : ℕ) (ds : Definitions) (flat_all : Each (λ d. definition_dep
 positive : (n : ℕ) → (n ≤ 0 → ⊥) → 1 ≤ n
 positive n h = omega arith
 
-module _ (terms : Terms) (texts : List Text) (first : AreSchemasAccepted terms texts) where
+module _ (terms : Terms) (texts : List SourceText) (first : AreSchemasAccepted terms texts) where
   some_bracket : 1 ≤ document_depth (definitions_of first.judged.trees)
   some_bracket = positive (document_depth (definitions_of first.judged.trees)) (λ flat. some_bracket_missing terms.first_extension (definitions_of first.judged.trees) (all_fit 0 (definitions_of first.judged.trees) flat) first.judged.holds)
 
@@ -156,7 +156,7 @@ module _ (terms : Terms) (texts : List Text) (first : AreSchemasAccepted terms t
   pub some_text : 1 ≤ length texts
   some_text = by texts first.judged.trees refl first.judged.read
     where
-      by : (xs : List Text) (trees : List Tree) → first.judged.trees ≡ trees → ReadsAll terms.first_text xs trees → 1 ≤ length xs
+      by : (xs : List SourceText) (trees : List Tree) → first.judged.trees ≡ trees → ReadsAll terms.first_text xs trees → 1 ≤ length xs
       by (x ∷ xs) trees e read = omega arith
       by [] (tree ∷ trees) e read = absurd read
       by [] [] e read = let bad : 1 ≤ 0 = subst (λ ts. 1 ≤ document_depth (definitions_of ts)) e some_bracket in absurd (omega (arith, bad))
@@ -165,6 +165,6 @@ module _ (terms : Terms) (texts : List Text) (first : AreSchemasAccepted terms t
   pub first_left : PassesNumbers terms.first_text → ⊥
   first_left = by texts some_text first.within
     where
-      by : (xs : List Text) → 1 ≤ length xs → AreWithin terms.nesting terms.first_text xs → PassesNumbers terms.first_text → ⊥
+      by : (xs : List SourceText) → 1 ≤ length xs → AreWithin terms.nesting terms.first_text xs → PassesNumbers terms.first_text → ⊥
       by [] some within = absurd (omega (arith, some))
       by (x ∷ xs) some within = within.0.numbered

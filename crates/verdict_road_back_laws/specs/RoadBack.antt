@@ -8,7 +8,7 @@ use Rattle.schema_types.specs.SchemaTree.{SchemaTree}
 use Rattle.rule_definitions.specs.Laws.{AreEqual}
 use Rattle.document_meaning.specs.MeantTree.{MeantDocument}
 use Rattle.document_meaning.specs.Unplaced as meant
-use Rattle.verdict_definitions.specs.Texts.{Text, Tree, Terms, document_number}
+use Rattle.verdict_definitions.specs.Texts.{SourceText, Tree, Terms, document_number}
 use Rattle.verdict_definitions.specs.Judge.{definitions_of, schema_of, schema_at_hand, document_over, AreSchemasAccepted, IsDocumentAccepted, IsAccepted, PassesNoDocumentBound, IsCertain}
 use Rattle.verdict_definitions.specs.Out.{Out, OutDoc, Layout, layout_text, as_lines}
 use Rattle.verdict_definitions.specs.Answer.{AcceptedBytes}
@@ -19,7 +19,7 @@ abbrev pub IsPlainLayout : Layout → Type 0
 IsPlainLayout layout = is_white_prefix layout ≡ true
 
 -- the text of these definitions under the layout, or the same with the line feed that is put out behind it
-abbrev pub IsTextOf : Layout → Tree → Text → Type 0
+abbrev pub IsTextOf : Layout → Tree → SourceText → Type 0
 IsTextOf layout ds text = (text ≡ layout_text layout ds) ⊎ (text ≡ as_lines layout (layout_text layout ds))
 
 -- two trees are the same, places aside
@@ -38,7 +38,7 @@ IsWrittenAlike a b = (layout : Layout) → layout_text layout a ≡ layout_text 
 
 -- The written text is read as what was written, places aside; it is accepted on the same terms, and so passes no bound; the schema
 -- that it folds to is equal, with the same built in, and so is the one at hand; and what is written of it is the same.
-pub record SchemaLeadsBack (terms : Terms) (schemas : List Text) (first : AreSchemasAccepted terms schemas) (text : Text) : Type 0 where
+pub record SchemaLeadsBack (terms : Terms) (schemas : List SourceText) (first : AreSchemasAccepted terms schemas) (text : SourceText) : Type 0 where
   pub accepted : AreSchemasAccepted terms (text ∷ [])
   pub read_back : IsSameTree (definitions_of accepted.judged.trees) (Out terms first.judged.trees)
   pub equal : AreEqual (schema_of terms first.judged.trees) (schema_of terms accepted.judged.trees)
@@ -47,15 +47,15 @@ pub record SchemaLeadsBack (terms : Terms) (schemas : List Text) (first : AreSch
 
 -- no schema text has the number of what is built in
 abbrev pub SchemaRoadBack : Type 0
-SchemaRoadBack = (terms : Terms) (schemas : List Text) → terms.first_text ≢ 0 → (first : AreSchemasAccepted terms schemas)
-    → (layout : Layout) → IsPlainLayout layout → (text : Text) → IsTextOf layout (Out terms first.judged.trees) text → SchemaLeadsBack terms schemas first text
+SchemaRoadBack = (terms : Terms) (schemas : List SourceText) → terms.first_text ≢ 0 → (first : AreSchemasAccepted terms schemas)
+    → (layout : Layout) → IsPlainLayout layout → (text : SourceText) → IsTextOf layout (Out terms first.judged.trees) text → SchemaLeadsBack terms schemas first text
 
 -- ---- the document, over the schema at hand
 
 -- Over the other schema, and under the other number, the written text is accepted with the same limit, and so passes no bound of
 -- brackets; it is read as what was written, places aside; what typing keeps of it is an equal document; it passes no bound on
 -- documents exactly where the first passes none; and what is written of it is the same.
-pub record DocumentLeadsBack (nesting : ℕ) (schema other : SchemaTree Place) (number again : ℕ) (document : Text) (first : IsDocumentAccepted schema nesting number document) (text : Text) : Type 0 where
+pub record DocumentLeadsBack (nesting : ℕ) (schema other : SchemaTree Place) (number again : ℕ) (document : SourceText) (first : IsDocumentAccepted schema nesting number document) (text : SourceText) : Type 0 where
   pub accepted : IsDocumentAccepted other nesting again text
   pub read_back : IsSameTree accepted.judged.tree (OutDoc first.judged.tree)
   pub equal : IsSameDocument (document_over schema first.judged.tree) (document_over other accepted.judged.tree)
@@ -65,15 +65,15 @@ pub record DocumentLeadsBack (nesting : ℕ) (schema other : SchemaTree Place) (
 -- the other schema is equal, with the same built in, and the other number is left for a text
 abbrev pub DocumentRoadBack : Type 0
 DocumentRoadBack = (schema other : SchemaTree Place) → AreEqual schema other → (nesting number again : ℕ) → IsNumber again
-    → (document : Text) (first : IsDocumentAccepted schema nesting number document) → (layout : Layout) → IsPlainLayout layout
-    → (text : Text) → IsTextOf layout (OutDoc first.judged.tree) text → DocumentLeadsBack nesting schema other number again document first text
+    → (document : SourceText) (first : IsDocumentAccepted schema nesting number document) → (layout : Layout) → IsPlainLayout layout
+    → (text : SourceText) → IsTextOf layout (OutDoc first.judged.tree) text → DocumentLeadsBack nesting schema other number again document first text
 
 -- ---- the pair
 
 -- The written pair is accepted on the same terms; its schema leads back, and so does its document, over the schemas at hand and
 -- under the numbers behind their texts; it passes no bound exactly where the first passes none; and in every layout the same
 -- bytes are put out for both.
-pub record PairLeadsBack (terms : Terms) (schemas : List Text) (document : Text) (first : IsAccepted terms schemas document) (schema_written document_written : Text) : Type 0 where
+pub record PairLeadsBack (terms : Terms) (schemas : List SourceText) (document : SourceText) (first : IsAccepted terms schemas document) (schema_written document_written : SourceText) : Type 0 where
   pub accepted : IsAccepted terms (schema_written ∷ []) document_written
   pub schema : SchemaLeadsBack terms schemas first.schema schema_written
   pub over : DocumentLeadsBack terms.nesting (schema_at_hand terms first.schema.judged.trees) (schema_at_hand terms schema.accepted.judged.trees)
@@ -83,13 +83,13 @@ pub record PairLeadsBack (terms : Terms) (schemas : List Text) (document : Text)
 
 -- each text under a layout of its own
 abbrev pub PairRoadBack : Type 0
-PairRoadBack = (terms : Terms) (schemas : List Text) (document : Text) → terms.first_text ≢ 0 → (first : IsAccepted terms schemas document)
+PairRoadBack = (terms : Terms) (schemas : List SourceText) (document : SourceText) → terms.first_text ≢ 0 → (first : IsAccepted terms schemas document)
     → (layout next : Layout) → IsPlainLayout layout → IsPlainLayout next
-    → (schema_written document_written : Text) → IsTextOf layout (Out terms first.schema.judged.trees) schema_written → IsTextOf next (OutDoc first.over.judged.tree) document_written
+    → (schema_written document_written : SourceText) → IsTextOf layout (Out terms first.schema.judged.trees) schema_written → IsTextOf next (OutDoc first.over.judged.tree) document_written
     → PairLeadsBack terms schemas document first schema_written document_written
 
 -- the two texts that are put out for an accepted pair, put in again, have the same bytes put out
 abbrev pub AnswerRoadBack : Type 0
-AnswerRoadBack = (terms : Terms) (schemas : List Text) (document : Text) → terms.first_text ≢ 0 → (layout : Layout) → IsPlainLayout layout
+AnswerRoadBack = (terms : Terms) (schemas : List SourceText) (document : SourceText) → terms.first_text ≢ 0 → (layout : Layout) → IsPlainLayout layout
     → (bytes : List ℕ) (first : AcceptedBytes terms layout schemas document bytes)
     → AcceptedBytes terms layout (as_lines layout first.written_schema ∷ []) (as_lines layout first.written_document) bytes
