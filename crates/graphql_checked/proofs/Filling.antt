@@ -12,7 +12,7 @@ use Rattle.schema_building.specs.declared.refusal.BuilderRefusal.{BuilderRefusal
 use Rattle.schema_building.specs.declared.refusal.BuilderRefusal.TheVariants as builder
 use Rattle.schema_building.proofs.Numbering.{count_append}
 use Rattle.verdict_definitions.specs.Texts.{Tree}
-use Rattle.verdict_definitions.specs.Judge.{definitions_of}
+use Rattle.verdict_definitions.specs.Judge.{all_definitions}
 use Rattle.verdict_definitions.specs.Says.{spent}
 use Rattle.graphql_checked.specs.Checking.{TellsOnly}
 use Rattle.graphql_checked.specs.Finishing.{IsFilled, RefusalOfNumbers, IsOfBuilder}
@@ -32,19 +32,19 @@ filled_first number b is = subst (IsFilled number []) (sym is) (record { first =
 
 module _ (number : ℕ) (documents : List Document) (i : ℕ) (d : Document) (inside : i < length documents) (is : d ≡ get_or documents i d) where
   -- the definitions up to and with this document
-  definitions_more : definitions_of (map document_tree (take (i + 1) documents)) ≡ definitions_of (map document_tree (take i documents)) ++ document_tree d
+  definitions_more : all_definitions (map document_tree (take (i + 1) documents)) ≡ all_definitions (map document_tree (take i documents)) ++ document_tree d
   definitions_more =
-      ap definitions_of (map_more document_tree documents i d inside)
+      ap all_definitions (map_more document_tree documents i d inside)
       ∙ flat_map-append (λ t. t) (map document_tree (take i documents)) (document_tree (get_or documents i d) ∷ [])
-      ∙ ap (λ l. definitions_of (map document_tree (take i documents)) ++ l) (append-nil (document_tree (get_or documents i d)) ∙ ap document_tree (sym is))
+      ∙ ap (λ l. all_definitions (map document_tree (take i documents)) ++ l) (append-nil (document_tree (get_or documents i d)) ∙ ap document_tree (sym is))
 
   -- they begin those of all
-  definitions_split : definitions_of (map document_tree documents) ≡ (definitions_of (map document_tree (take i documents)) ++ document_tree d) ++ definitions_of (map document_tree (drop (i + 1) documents))
+  definitions_split : all_definitions (map document_tree documents) ≡ (all_definitions (map document_tree (take i documents)) ++ document_tree d) ++ all_definitions (map document_tree (drop (i + 1) documents))
   definitions_split =
-      ap (λ ds. definitions_of (map document_tree ds)) (sym (take-append-drop (i + 1) documents))
-      ∙ ap definitions_of (map-append document_tree (take (i + 1) documents) (drop (i + 1) documents))
+      ap (λ ds. all_definitions (map document_tree ds)) (sym (take-append-drop (i + 1) documents))
+      ∙ ap all_definitions (map-append document_tree (take (i + 1) documents) (drop (i + 1) documents))
       ∙ flat_map-append (λ t. t) (map document_tree (take (i + 1) documents)) (map document_tree (drop (i + 1) documents))
-      ∙ ap (λ l. l ++ definitions_of (map document_tree (drop (i + 1) documents))) definitions_more
+      ∙ ap (λ l. l ++ all_definitions (map document_tree (drop (i + 1) documents))) definitions_more
 
   module _ (old : BuilderValue) (before : IsFilled number (map document_tree (take i documents)) old) where
     -- one more document
@@ -52,7 +52,7 @@ module _ (number : ℕ) (documents : List Document) (i : ℕ) (d : Document) (in
         → IsFilled number (map document_tree (take (i + 1) documents)) new
     filled_more new sources added have =
         let first : new.first ≡ number = ap (λ (b : BuilderValue). b.first) added ∙ before.first in
-        let are : new.texts ≡ definitions_of (map document_tree (take (i + 1) documents)) =
+        let are : new.texts ≡ all_definitions (map document_tree (take (i + 1) documents)) =
         ap (λ (b : BuilderValue). b.texts) added ∙ ap (λ l. l ++ document_tree d) before.are ∙ sym definitions_more in
         record {
           first = first;
@@ -63,13 +63,13 @@ module _ (number : ℕ) (documents : List Document) (i : ℕ) (d : Document) (in
         }
 
     -- no number is left for an extension of this document
-    none_left : (HaveNumbers old.first (old.texts ++ document_tree d) → ⊥) → HaveNumbers number (definitions_of (map document_tree documents)) → ⊥
+    none_left : (HaveNumbers old.first (old.texts ++ document_tree d) → ⊥) → HaveNumbers number (all_definitions (map document_tree documents)) → ⊥
     none_left none have =
-        let front : HaveNumbers number (definitions_of (map document_tree (take i documents)) ++ document_tree d) =
-        front_numbers number (definitions_of (map document_tree (take i documents)) ++ document_tree d) (definitions_of (map document_tree (drop (i + 1) documents))) (subst (HaveNumbers number) definitions_split have) in
+        let front : HaveNumbers number (all_definitions (map document_tree (take i documents)) ++ document_tree d) =
+        front_numbers number (all_definitions (map document_tree (take i documents)) ++ document_tree d) (all_definitions (map document_tree (drop (i + 1) documents))) (subst (HaveNumbers number) definitions_split have) in
         none (subst (λ n. HaveNumbers n (old.texts ++ document_tree d)) (sym before.first) (subst (λ ds. HaveNumbers number (ds ++ document_tree d)) (sym before.are) front))
 
-    told_spent : (HaveNumbers number (definitions_of (map document_tree documents)) → ⊥) → (refusal : Refusal) → TellsOnly spent refusal → RefusalOfNumbers number (map document_tree documents) refusal
+    told_spent : (HaveNumbers number (all_definitions (map document_tree documents)) → ⊥) → (refusal : Refusal) → TellsOnly spent refusal → RefusalOfNumbers number (map document_tree documents) refusal
     told_spent none (Faults list) told = (told, none)
     told_spent none Memory told = tt
     told_spent none Failed told = told

@@ -16,7 +16,7 @@ use Rattle.rule_definitions.specs.Rules.{SchemaRules, RulesFail, BoundFails}
 use Rattle.rule_definitions.specs.Told.{PlacedFault}
 use Rattle.graphql_faults.specs.DetailsTree.{of_rule}
 use Rattle.verdict_definitions.specs.Texts.{SourceText, Tree, Terms, ReadsAll, document_number, AreRead}
-use Rattle.verdict_definitions.specs.Judge.{definitions_of, schema_of}
+use Rattle.verdict_definitions.specs.Judge.{all_definitions, schema_of}
 use Rattle.verdict_definitions.specs.Says.{Fault, of_folding, spent, FoldingFails, SchemaFails}
 use Rattle.verdict_definitions.specs.Answer.{UnreadFaults, RefusesSchemas}
 use Rattle.graphql_checked.specs.Added.{IsNextNumber, AreAdded}
@@ -35,8 +35,8 @@ counted_of : (b : BuilderValue) (ds : Tree) → b.settings ≡ plain_settings �
 counted_of b ds plain are = ap (λ s. counted (record b { settings = s })) plain ∙ are
 
 module _ (terms : Terms) (trees : List Tree) (b : BuilderValue) (filled : IsFilled terms.first_extension trees b) where
-  counts : counted b ≡ definitions_of trees
-  counts = counted_of b (definitions_of trees) filled.plain filled.are
+  counts : counted b ≡ all_definitions trees
+  counts = counted_of b (all_definitions trees) filled.plain filled.are
 
   pub folds_to : folded b ≡ schema_of terms trees
   folds_to = ap (λ n. fold built_in_definitions n (counted b)) filled.first ∙ ap (fold built_in_definitions terms.first_extension) counts
@@ -74,7 +74,7 @@ module _ (terms : Terms) (texts : List SourceText) (trees : List Tree) (read : A
   }
 
   -- no number is left for an extension
-  spent_refused : (faults : List Fault) → faults ≡ spent ∷ [] → (HaveNumbers terms.first_extension (definitions_of trees) → ⊥) → RefusesSchemas terms texts faults
+  spent_refused : (faults : List Fault) → faults ≡ spent ∷ [] → (HaveNumbers terms.first_extension (all_definitions trees) → ⊥) → RefusesSchemas terms texts faults
   spent_refused faults is none =
       says_schema faults (subst (λ fs. fs ≢ []) (sym is) none_alone)
       (λ fault h. inl (only_spent fault (subst (λ fs. Contains fs fault) is h), none)) (inl is)

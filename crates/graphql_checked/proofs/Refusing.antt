@@ -3,7 +3,7 @@ use Rattle.std.proofs.Common.{inl, inr, ◌≡◌, List, refl, subst}
 use Rattle.schema_building.specs.Numbers.{HaveNumbers}
 use Rattle.graphql_faults.specs.DetailsView.{diagnostics_of}
 use Rattle.verdict_definitions.specs.Texts.{SourceText, Tree, Terms, AreRead}
-use Rattle.verdict_definitions.specs.Judge.{definitions_of, AreSchemasAccepted, AreSchemasCertain}
+use Rattle.verdict_definitions.specs.Judge.{all_definitions, AreSchemasAccepted, AreSchemasCertain}
 use Rattle.verdict_definitions.specs.Says.{Fault, FoldingFails, SchemaRuleFails, SchemaFails, SaysSchema}
 use Rattle.verdict_definitions.specs.Answer.{RefusesSchemas}
 use Rattle.graphql_checked.specs.Refusals.{RefusalOfSchemas}

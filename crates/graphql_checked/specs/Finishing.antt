@@ -18,7 +18,7 @@ use Rattle.rule_definitions.specs.Told.{PlacedFault}
 use Rattle.graphql_faults.specs.DetailsTree.{of_rule}
 use Rattle.graphql_faults.specs.DetailsView.{diagnostics_of}
 use Rattle.verdict_definitions.specs.Texts.{Tree}
-use Rattle.verdict_definitions.specs.Judge.{definitions_of}
+use Rattle.verdict_definitions.specs.Judge.{all_definitions}
 use Rattle.verdict_definitions.specs.Says.{Fault, of_folding, spent}
 use Rattle.graphql_checked.specs.Checking.{TellsOnly}
 use Rattle.graphql_checked.specs.declared.refusal.Refusal.{Refusal}
@@ -29,14 +29,14 @@ use Rattle.graphql_checked.specs.declared.refusal.Refusal.TheVariants.{Faults, M
 -- The builder runs, and has the definitions of these trees, in order, each extension with a number from this one on.
 pub record IsFilled (number : ℕ) (trees : List Tree) (b : BuilderValue) : Type 0 where
   pub first : b.first ≡ number
-  pub are : b.texts ≡ definitions_of trees
+  pub are : b.texts ≡ all_definitions trees
   pub plain : b.settings ≡ plain_settings
   pub running : b.failed ≡ false
-  pub numbered : HaveNumbers number (definitions_of trees)
+  pub numbered : HaveNumbers number (all_definitions trees)
 
 -- no number is left for an extension, which is told alone; or memory ran out
 abbrev pub RefusalOfNumbers : ℕ → List Tree → Refusal → Type 0
-RefusalOfNumbers number trees (Faults list) = (diagnostics_of list ≡ spent ∷ []) × (HaveNumbers number (definitions_of trees) → ⊥)
+RefusalOfNumbers number trees (Faults list) = (diagnostics_of list ≡ spent ∷ []) × (HaveNumbers number (all_definitions trees) → ⊥)
 RefusalOfNumbers number trees Memory = Unit {0}
 RefusalOfNumbers number trees Failed = ⊥
 

@@ -19,7 +19,7 @@ use Rattle.schema_types.specs.declared.type_kind.TypeKind.{TypeKind}
 use Rattle.schema_types.specs.declared.type_kind.TypeKind.TheVariants as kind
 use Rattle.rule_definitions.proofs.Lists.{given_in}
 use Rattle.verdict_definitions.specs.Texts.{AreWithin}
-use Rattle.verdict_definitions.specs.Judge.{definitions_of, Folds}
+use Rattle.verdict_definitions.specs.Judge.{all_definitions, Folds}
 use Rattle.verdict_definitions.proofs.RowReading.{reader, is_within}
 use Rattle.verdict_definitions.proofs.RowTrees.{terms, named, field_definition, fields_of, object}
 use Rattle.verdict_definitions.proofs.TextRows.{query_field, query_field_tree}
@@ -100,5 +100,5 @@ unfolding reader
 query_within = (is_within 500 1 query_field query_field_tree refl (λ passed. omega (arith, passed)), tt)
 
 -- it has no extension
-pub query_numbered : HaveNumbers 1 (definitions_of (query_field_tree ∷ []))
+pub query_numbered : HaveNumbers 1 (all_definitions (query_field_tree ∷ []))
 query_numbered some = omega arith

@@ -15,7 +15,7 @@ use Rattle.rule_document_definitions.specs.Told.{PlacedDocumentFault, DocumentFa
 use Rattle.rule_document_definitions.specs.Named.{AreNamed}
 use Rattle.rule_document_definitions.proofs.Verdicts.{valid_where_nothing_is_told}
 use Rattle.verdict_definitions.specs.Texts.{SourceText, Tree, Terms, DerivesIn, ReadsText, ReadsAll, PassesNumbers, document_number}
-use Rattle.verdict_definitions.specs.Judge.{definitions_of, Folds, schema_of, schema_at_hand, meanings_over, document_over, IsAccepted}
+use Rattle.verdict_definitions.specs.Judge.{all_definitions, Folds, schema_of, schema_at_hand, meanings_over, document_over, IsAccepted}
 use Rattle.verdict_definitions.specs.Says.{FoldingFails, TypingFailsOver}
 use Rattle.verdict_definitions.proofs.RowReading.{one_tree, one_list}
 
@@ -47,8 +47,8 @@ module _ (terms : Terms) (schema document : SourceText) (tree : Tree) (read_sche
   trees_are accepted = one_list terms.first_text schema tree accepted.schema.judged.trees read_schema accepted.schema.judged.read
 
   -- no number is left for an extension
-  pub extension_refused : (HaveNumbers terms.first_extension (definitions_of (tree ∷ [])) → ⊥) → IsAccepted terms (schema ∷ []) document → ⊥
-  extension_refused none accepted = none (subst (λ (ts : List Tree). HaveNumbers terms.first_extension (definitions_of ts)) (trees_are accepted) accepted.schema.numbered)
+  pub extension_refused : (HaveNumbers terms.first_extension (all_definitions (tree ∷ [])) → ⊥) → IsAccepted terms (schema ∷ []) document → ⊥
+  extension_refused none accepted = none (subst (λ (ts : List Tree). HaveNumbers terms.first_extension (all_definitions ts)) (trees_are accepted) accepted.schema.numbered)
 
   -- a folding rule is broken
   pub folding_refused : (fault : folding.Fault) → FoldingFails terms (tree ∷ []) fault → IsAccepted terms (schema ∷ []) document → ⊥

@@ -25,17 +25,17 @@ use Rattle.verdict_definitions.specs.Texts.{SourceText, Tree, Terms, ReadsText, 
 -- ---- the schema, and the document over it
 
 -- the definitions of the texts, in order
-abbrev pub definitions_of : List Tree → Tree
-definitions_of trees = flat_map (λ t. t) trees
+abbrev pub all_definitions : List Tree → Tree
+all_definitions trees = flat_map (λ t. t) trees
 
 module _ (terms : Terms) (trees : List Tree) where
   -- no folding rule is broken
   abbrev pub Folds : Type 0
-  Folds = FoldingRules built_in_definitions terms.first_extension (definitions_of trees)
+  Folds = FoldingRules built_in_definitions terms.first_extension (all_definitions trees)
 
   -- the schema that they fold to, behind what is built in
   abbrev pub schema_of : SchemaTree Place
-  schema_of = fold built_in_definitions terms.first_extension (definitions_of trees)
+  schema_of = fold built_in_definitions terms.first_extension (all_definitions trees)
 
   -- the schema over which documents are judged: without built-in scalars to which nothing refers
   abbrev pub schema_at_hand : SchemaTree Place
@@ -75,7 +75,7 @@ pub record Judge (terms : Terms) (schemas : List SourceText) (document : SourceT
 pub record AreSchemasAccepted (terms : Terms) (schemas : List SourceText) : Type 0 where
   pub judged : JudgeSchemas terms schemas
   pub within : AreWithin terms.nesting terms.first_text schemas
-  pub numbered : HaveNumbers terms.first_extension (definitions_of judged.trees)
+  pub numbered : HaveNumbers terms.first_extension (all_definitions judged.trees)
 
 pub record IsDocumentAccepted (schema : SchemaTree Place) (nesting number : ℕ) (document : SourceText) : Type 0 where
   pub judged : JudgeDocument schema number document

@@ -18,7 +18,7 @@ use Rattle.rule_document_definitions.specs.DocumentFaults.{OfData, OfDocument, O
 use Rattle.rule_document_definitions.specs.Told.{PlacedDocumentFault, DocumentFails, DocumentMergingFails, DocumentBoundFails}
 use Rattle.graphql_faults.specs.DetailsTree.{DetailsAt, Syntax, Nesting, Spent, SchemaBuild, DocumentBuild, RecursionLimitError, of_rule}
 use Rattle.verdict_definitions.specs.Texts.{SourceText, Tree, Terms, DerivesIn, ReadsText, ReadsAll, PassesNumbers}
-use Rattle.verdict_definitions.specs.Judge.{definitions_of, schema_of, meanings_over, document_over}
+use Rattle.verdict_definitions.specs.Judge.{all_definitions, schema_of, meanings_over, document_over}
 
 -- what is wrong, and where
 abbrev pub Fault : Type 0
@@ -78,7 +78,7 @@ UnreadFaultFrom nesting first (text ∷ texts) fault = UnreadFault nesting first
 module _ (terms : Terms) (trees : List Tree) where
   -- a folding rule is broken so
   abbrev pub FoldingFails : folding.Fault → Type 0
-  FoldingFails fault = Fails built_in_definitions terms.first_extension (definitions_of trees) fault
+  FoldingFails fault = Fails built_in_definitions terms.first_extension (all_definitions trees) fault
 
   -- a rule on schemas is broken so, or the bound on references is passed
   abbrev pub SchemaRuleFails : PlacedFault → Type 0
@@ -87,7 +87,7 @@ module _ (terms : Terms) (trees : List Tree) where
   -- a fault of the schema: no number is left for an extension, or a rule is broken so
   abbrev pub SchemaFails : Fault → Type 0
   SchemaFails fault =
-      ((fault ≡ spent) × (HaveNumbers terms.first_extension (definitions_of trees) → ⊥))
+      ((fault ≡ spent) × (HaveNumbers terms.first_extension (all_definitions trees) → ⊥))
       ⊎ (((f : folding.Fault) × ((fault ≡ of_folding f) × FoldingFails f))
       ⊎ ((f : PlacedFault) × ((fault ≡ of_rule f) × SchemaRuleFails f)))
 

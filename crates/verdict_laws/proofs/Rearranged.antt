@@ -41,7 +41,7 @@ use Rattle.verdict_rearranging_laws.proofs.WrittenSorts.{writes_permuted}
 use Rattle.verdict_rearranging_laws.proofs.Permuting.{rearranged_permuted}
 use Rattle.verdict_rearranging_laws.proofs.ReadTexts.{texts_elsewhere, is_own_list}
 use Rattle.verdict_definitions.specs.Texts.{SourceText, Tree, Terms, ReadsText, ReadsAll, document_number, AreWithin}
-use Rattle.verdict_definitions.specs.Judge.{definitions_of, Folds, schema_of, schema_at_hand, JudgeSchemas, Judge, AreSchemasAccepted, IsAccepted, PassesNoReferenceBound, AreSchemasCertain, IsCertain}
+use Rattle.verdict_definitions.specs.Judge.{all_definitions, Folds, schema_of, schema_at_hand, JudgeSchemas, Judge, AreSchemasAccepted, IsAccepted, PassesNoReferenceBound, AreSchemasCertain, IsCertain}
 use Rattle.verdict_definitions.specs.Out.{Out, Layout}
 use Rattle.verdict_definitions.specs.Answer.{WritesSchema, AcceptedBytes}
 use Rattle.verdict_laws.specs.Rearranged.{AreBothRead, AreRearranged, AreCut, AreNumbered, LeaveNumber, AreJudgedAlike, AreAcceptedAlike, LawOfRearranging, LawOfCutting}
@@ -62,7 +62,7 @@ numbered : ℕ → List Tree → Texts
 numbered first [] = []
 numbered first (t ∷ ts) = (first, t) ∷ numbered (first + 1) ts
 
-all_numbered : (first : ℕ) (ts : List Tree) → all_of (numbered first ts) ≡ definitions_of ts
+all_numbered : (first : ℕ) (ts : List Tree) → all_of (numbered first ts) ≡ all_definitions ts
 unfolding numbered
 all_numbered first [] = refl
 all_numbered first (t ∷ ts) = ap (λ ds. t ++ ds) (all_numbered (first + 1) ts)
@@ -75,7 +75,7 @@ are_numbered first (text ∷ texts) [] some read = absurd read
 are_numbered first (text ∷ texts) (t ∷ ts) some read =
     ((some, document_sound (record { 0 = first }) text t read.0), are_numbered (first + 1) texts ts (λ e. let bad : suc first ≡ 0 = omega (arith, e) in cc) read.1)
 
-stand_elsewhere : (first : ℕ) (texts : List SourceText) (ts : List Tree) → first ≢ 0 → ReadsAll first texts ts → AreAllElsewhere (definitions_of ts)
+stand_elsewhere : (first : ℕ) (texts : List SourceText) (ts : List Tree) → first ≢ 0 → ReadsAll first texts ts → AreAllElsewhere (all_definitions ts)
 stand_elsewhere first texts ts some read = subst AreAllElsewhere (all_numbered first ts) (texts_elsewhere (numbered first ts) (are_numbered first texts ts some read))
 
 -- ---- how many extensions there are
@@ -177,19 +177,19 @@ deep_text nesting number text t r within =
 text_within : (nesting number : ℕ) (text : SourceText) (t : Tree) → ReadsText number text t → document_depth t ≤ nesting → NestingBound nesting text → ⊥
 text_within nesting number text t r le = within_all nesting text r.tokens r.lexed (subst (λ n. n ≤ nesting) (sym (derived_depth (in_file (record { 0 = number })) r.tokens t r.derived)) le)
 
-deep_texts : (nesting first : ℕ) (texts : List SourceText) (ts : List Tree) → ReadsAll first texts ts → AreWithin nesting first texts → document_depth (definitions_of ts) ≤ nesting
+deep_texts : (nesting first : ℕ) (texts : List SourceText) (ts : List Tree) → ReadsAll first texts ts → AreWithin nesting first texts → document_depth (all_definitions ts) ≤ nesting
 deep_texts nesting first [] [] read within = omega arith
 deep_texts nesting first [] (t ∷ ts) read within = absurd read
 deep_texts nesting first (text ∷ texts) [] read within = absurd read
 deep_texts nesting first (text ∷ texts) (t ∷ ts) read within =
-    omega (arith, deepest_append definition_depth t (definitions_of ts), deep_text nesting first text t read.0 within.0.nests, deep_texts nesting (first + 1) texts ts read.1 within.1)
+    omega (arith, deepest_append definition_depth t (all_definitions ts), deep_text nesting first text t read.0 within.0.nests, deep_texts nesting (first + 1) texts ts read.1 within.1)
 
-texts_within : (nesting first : ℕ) (texts : List SourceText) (ts : List Tree) → ReadsAll first texts ts → length texts + first < 2 ^ 64 → document_depth (definitions_of ts) ≤ nesting → AreWithin nesting first texts
+texts_within : (nesting first : ℕ) (texts : List SourceText) (ts : List Tree) → ReadsAll first texts ts → length texts + first < 2 ^ 64 → document_depth (all_definitions ts) ≤ nesting → AreWithin nesting first texts
 texts_within nesting first [] [] read room deep = tt
 texts_within nesting first [] (t ∷ ts) read room deep = absurd read
 texts_within nesting first (text ∷ texts) [] read room deep = absurd read
 texts_within nesting first (text ∷ texts) (t ∷ ts) read room deep =
-    let parts = deepest_append definition_depth t (definitions_of ts) in (
+    let parts = deepest_append definition_depth t (all_definitions ts) in (
       record { nests = text_within nesting first text t read.0 (omega (arith, parts, deep)); numbered = λ passed. omega (arith, room, passed) },
       texts_within nesting (first + 1) texts ts read.1 (omega (arith, room)) (omega (arith, parts, deep)),
     )
@@ -200,33 +200,33 @@ room_for_all terms texts left = let k = no_less (document_number terms texts + 1
 
 -- ---- two lists of texts
 
-module _ (terms : Terms) (ts us : List Tree) (own : AreAllElsewhere (definitions_of ts)) (other_own : AreAllElsewhere (definitions_of us)) (same : IsRearranged (definitions_of ts) (definitions_of us)) where
+module _ (terms : Terms) (ts us : List Tree) (own : AreAllElsewhere (all_definitions ts)) (other_own : AreAllElsewhere (all_definitions us)) (same : IsRearranged (all_definitions ts) (all_definitions us)) where
   folds_too : Folds terms ts → Folds terms us
-  folds_too = (keep_the_rules built_in_definitions terms.first_extension terms.first_extension (definitions_of ts) (definitions_of us) same).0
+  folds_too = (keep_the_rules built_in_definitions terms.first_extension terms.first_extension (all_definitions ts) (all_definitions us) same).0
 
   rules_too : SchemaRules (judged (schema_of terms ts)) → SchemaRules (judged (schema_of terms us))
-  rules_too = (rearranged_same_verdict built_in_definitions terms.first_extension terms.first_extension (definitions_of ts) (definitions_of us) same own other_own).0
+  rules_too = (rearranged_same_verdict built_in_definitions terms.first_extension terms.first_extension (all_definitions ts) (all_definitions us) same own other_own).0
 
   equal_schemas : AreEqual (schema_of terms ts) (schema_of terms us)
-  equal_schemas = are_equal built_in_definitions terms.first_extension terms.first_extension (definitions_of ts) (definitions_of us) same own other_own
+  equal_schemas = are_equal built_in_definitions terms.first_extension terms.first_extension (all_definitions ts) (all_definitions us) same own other_own
 
   equal_at_hand : AreEqual (schema_at_hand terms ts) (schema_at_hand terms us)
-  equal_at_hand = left_equal built_in_definitions terms.first_extension terms.first_extension (definitions_of ts) (definitions_of us) same own other_own
+  equal_at_hand = left_equal built_in_definitions terms.first_extension terms.first_extension (all_definitions ts) (all_definitions us) same own other_own
 
   references_too : PassesNoReferenceBound (schema_of terms ts) → PassesNoReferenceBound (schema_of terms us)
   references_too = subst (λ (s : Judged). (fault : SchemaFault) → PassesReferenceBound s fault → ⊥) (read_the_same (schema_of terms ts) (schema_of terms us) equal_schemas)
 
 module _ {Same : Tree → Tree → Type 0} (terms : Terms) (texts others : List SourceText) where
   -- in whichever trees they are read
-  same_of : (r : AreBothRead Same terms texts others) (ts us : List Tree) → ReadsAll terms.first_text texts ts → ReadsAll terms.first_text others us → Same (definitions_of ts) (definitions_of us)
+  same_of : (r : AreBothRead Same terms texts others) (ts us : List Tree) → ReadsAll terms.first_text texts ts → ReadsAll terms.first_text others us → Same (all_definitions ts) (all_definitions us)
   same_of r ts us read read' =
-      subst (λ xs. Same (definitions_of xs) (definitions_of us)) (all_one terms.first_text texts r.trees ts r.read read)
-      (subst (λ xs. Same (definitions_of r.trees) (definitions_of xs)) (all_one terms.first_text others r.other_trees us r.other_read read') r.same)
+      subst (λ xs. Same (all_definitions xs) (all_definitions us)) (all_one terms.first_text texts r.trees ts r.read read)
+      (subst (λ xs. Same (all_definitions r.trees) (all_definitions xs)) (all_one terms.first_text others r.other_trees us r.other_read read') r.same)
 
-  own_of : (r : AreBothRead Same terms texts others) (ts : List Tree) → ReadsAll terms.first_text texts ts → AreAllElsewhere (definitions_of ts)
+  own_of : (r : AreBothRead Same terms texts others) (ts : List Tree) → ReadsAll terms.first_text texts ts → AreAllElsewhere (all_definitions ts)
   own_of r ts read = stand_elsewhere terms.first_text texts ts r.elsewhere read
 
-  other_own_of : (r : AreBothRead Same terms texts others) (us : List Tree) → ReadsAll terms.first_text others us → AreAllElsewhere (definitions_of us)
+  other_own_of : (r : AreBothRead Same terms texts others) (us : List Tree) → ReadsAll terms.first_text others us → AreAllElsewhere (all_definitions us)
   other_own_of r us read = stand_elsewhere terms.first_text others us r.elsewhere read
 
 other_way : (terms : Terms) (texts others : List SourceText) → AreRearranged terms texts others → AreRearranged terms others texts
@@ -236,7 +236,7 @@ other_way terms texts others r = record {
   other_trees = r.trees;
   read = r.other_read;
   other_read = r.read;
-  same = turned (definitions_of r.trees) (definitions_of r.other_trees) r.same;
+  same = turned (all_definitions r.trees) (all_definitions r.other_trees) r.same;
 }
 
 -- ---- what holds of the one holds of the other
@@ -264,15 +264,15 @@ module _ (terms : Terms) (texts others : List SourceText) (r : AreRearranged ter
     within_too : (a : AreSchemasAccepted terms texts) → AreWithin terms.nesting terms.first_text others
     within_too a =
         texts_within terms.nesting terms.first_text others r.other_trees r.other_read room
-        (subst (λ n. n ≤ terms.nesting) (deep_permuted (definitions_of a.judged.trees) (definitions_of r.other_trees)
-        (rearranged_permuted (definitions_of a.judged.trees) (definitions_of r.other_trees) (none_executable terms.first_extension (definitions_of a.judged.trees) a.judged.folds) (same_of terms texts others r a.judged.trees r.other_trees a.judged.read r.other_read)))
+        (subst (λ n. n ≤ terms.nesting) (deep_permuted (all_definitions a.judged.trees) (all_definitions r.other_trees)
+        (rearranged_permuted (all_definitions a.judged.trees) (all_definitions r.other_trees) (none_executable terms.first_extension (all_definitions a.judged.trees) a.judged.folds) (same_of terms texts others r a.judged.trees r.other_trees a.judged.read r.other_read)))
         (deep_texts terms.nesting terms.first_text texts a.judged.trees a.judged.read a.within))
 
     abbrev accepted_schemas_too : AreSchemasAccepted terms texts → AreSchemasAccepted terms others
     accepted_schemas_too a = record {
       judged = schemas_too a.judged;
       within = within_too a;
-      numbered = have_numbers terms.first_extension (definitions_of a.judged.trees) (definitions_of r.other_trees) a.judged.folds (same_of terms texts others r a.judged.trees r.other_trees a.judged.read r.other_read) a.numbered;
+      numbered = have_numbers terms.first_extension (all_definitions a.judged.trees) (all_definitions r.other_trees) a.judged.folds (same_of terms texts others r a.judged.trees r.other_trees a.judged.read r.other_read) a.numbered;
     }
 
     references : (a : AreSchemasAccepted terms texts) → PassesNoReferenceBound (schema_of terms a.judged.trees) → PassesNoReferenceBound (schema_of terms r.other_trees)
@@ -325,8 +325,8 @@ pub rearranging : LawOfRearranging
 rearranging terms texts others r = record {
   judged = judged_alike terms texts others r;
   accepted = accepted_alike terms texts others r;
-  writes = writes_permuted built_in_definitions terms.first_extension terms.first_extension (definitions_of r.trees) (definitions_of r.other_trees) r.same
-      (is_own_list (definitions_of r.trees) (own_of terms texts others r r.trees r.read)) (is_own_list (definitions_of r.other_trees) (other_own_of terms texts others r r.other_trees r.other_read));
+  writes = writes_permuted built_in_definitions terms.first_extension terms.first_extension (all_definitions r.trees) (all_definitions r.other_trees) r.same
+      (is_own_list (all_definitions r.trees) (own_of terms texts others r r.trees r.read)) (is_own_list (all_definitions r.other_trees) (other_own_of terms texts others r r.other_trees r.other_read));
 }
 
 -- ---- cutting
@@ -338,7 +338,7 @@ as_rearranged terms texts others r = record {
   other_trees = r.other_trees;
   read = r.read;
   other_read = r.other_read;
-  same = cut (definitions_of r.trees) (definitions_of r.other_trees) r.same;
+  same = cut (all_definitions r.trees) (all_definitions r.other_trees) r.same;
 }
 
 cut_other_way : (terms : Terms) (texts others : List SourceText) → AreCut terms texts others → AreCut terms others texts
@@ -347,8 +347,8 @@ cut_other_way terms texts others r = record { elsewhere = r.elsewhere; trees = r
 module _ (terms : Terms) (texts others : List SourceText) (r : AreCut terms texts others) where
   writes : (ts us : List Tree) → ReadsAll terms.first_text texts ts → ReadsAll terms.first_text others us → unplaced_document (Out terms ts) ≡ unplaced_document (Out terms us)
   writes ts us read read' =
-      writes_alike built_in_definitions terms.first_extension terms.first_extension (definitions_of ts) (definitions_of us) (same_of terms texts others r ts us read read')
-      (is_own_list (definitions_of ts) (own_of terms texts others r ts read)) (is_own_list (definitions_of us) (other_own_of terms texts others r us read'))
+      writes_alike built_in_definitions terms.first_extension terms.first_extension (all_definitions ts) (all_definitions us) (same_of terms texts others r ts us read read')
+      (is_own_list (all_definitions ts) (own_of terms texts others r ts read)) (is_own_list (all_definitions us) (other_own_of terms texts others r us read'))
 
   schema_written_too : (layout : Layout) (bytes : List ℕ) → WritesSchema terms layout texts bytes → WritesSchema terms layout others bytes
   schema_written_too layout bytes h = (r.other_trees, (r.other_read, h.1.1 ∙ text_same layout (Out terms h.0) (Out terms r.other_trees) (writes h.0 r.other_trees h.1.0 r.other_read)))

@@ -10,7 +10,7 @@ use Rattle.schema_fold.specs.SchemaFold.{Root, SchemaGiver, schema_definition_in
 use Rattle.rule_definitions.specs.Faults.{told}
 use Rattle.rule_definitions.specs.Diagnostics.{QueryRootOperationType}
 use Rattle.schema_types.specs.Addresses.{SchemaAt}
-use Rattle.verdict_definitions.specs.Judge.{definitions_of}
+use Rattle.verdict_definitions.specs.Judge.{all_definitions}
 use Rattle.verdict_laws.specs.Written.{AcceptedSchemasCanBeWritten}
 use Rattle.verdict_written_laws.proofs.OutSome.{written_writable}
 use Rattle.verdict_written_laws.proofs.RealTable.{real_table, real_table_has_no_query}
@@ -46,7 +46,7 @@ defined_where_root first ds some = by (schema_is_defined ds) refl
 pub schemas : AcceptedSchemasCanBeWritten
 schemas terms texts some accepted =
     let trees = accepted.judged.trees in
-    let ds = definitions_of trees in
+    let ds = all_definitions trees in
     let fine = fine_all terms.first_text texts trees some accepted.judged.read in
     written_writable built_in_definitions terms.first_extension ds (record {
       table = real_table;

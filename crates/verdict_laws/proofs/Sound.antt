@@ -14,7 +14,7 @@ use Rattle.graphql_read.specs.EachPlace.{all_in_definition, all_in_document}
 use Rattle.graphql_read.specs.Sound.{is_own}
 use Rattle.graphql_read.proofs.Soundness.{document_sound}
 use Rattle.verdict_definitions.specs.Texts.{SourceText, Tree, ReadsText, ReadsAll}
-use Rattle.verdict_definitions.specs.Judge.{definitions_of}
+use Rattle.verdict_definitions.specs.Judge.{all_definitions}
 use Rattle.verdict_written_laws.specs.Table.{AreOwn}
 
 pub both : (a b : Bool) → (a && b) ≡ true → (a ≡ true) × (b ≡ true)
@@ -38,7 +38,7 @@ fine_text number text tree some read =
     let sound = document_sound (record { 0 = number }) text tree read in
     record { can = (both (has_some tree) (list_all definition_writable tree) sound.writable).1; own = sound.own some }
 
-pub fine_all : (first : ℕ) (texts : List SourceText) (trees : List Tree) → first ≢ 0 → ReadsAll first texts trees → Fine (definitions_of trees)
+pub fine_all : (first : ℕ) (texts : List SourceText) (trees : List Tree) → first ≢ 0 → ReadsAll first texts trees → Fine (all_definitions trees)
 fine_all first [] [] some read = record { can = refl; own = refl }
 fine_all first [] (tree ∷ trees) some read = absurd read
 fine_all first (text ∷ texts) [] some read = absurd read
@@ -46,8 +46,8 @@ fine_all first (text ∷ texts) (tree ∷ trees) some read =
     let here = fine_text first text tree some read.0 in
     let rest = fine_all (first + 1) texts trees (λ e. let bad : suc first ≡ 0 = omega (arith, e) in cc) read.1 in
     record {
-      can = all_append definition_writable tree (definitions_of trees) here.can rest.can;
-      own = all_append (all_in_definition is_own) tree (definitions_of trees) here.own rest.own;
+      can = all_append definition_writable tree (all_definitions trees) here.can rest.can;
+      own = all_append (all_in_definition is_own) tree (all_definitions trees) here.own rest.own;
     }
 
 -- ---- none stands in the file of what is built in

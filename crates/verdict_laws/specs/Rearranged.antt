@@ -6,7 +6,7 @@ use Rattle.rule_definitions.specs.Laws.{AreEqual}
 use Rattle.verdict_rearranging_laws.specs.Rearranged.{IsRearranged}
 use Rattle.verdict_rearranging_laws.specs.Permuting.{IsPermuted}
 use Rattle.verdict_definitions.specs.Texts.{SourceText, Tree, Terms, ReadsAll, document_number}
-use Rattle.verdict_definitions.specs.Judge.{definitions_of, schema_at_hand, JudgeSchemas, Judge, AreSchemasAccepted, AreSchemasCertain, IsAccepted, IsCertain}
+use Rattle.verdict_definitions.specs.Judge.{all_definitions, schema_at_hand, JudgeSchemas, Judge, AreSchemasAccepted, AreSchemasCertain, IsAccepted, IsCertain}
 use Rattle.verdict_definitions.specs.Out.{Out, Layout, layout_text}
 use Rattle.verdict_definitions.specs.Answer.{WritesSchema, AcceptedBytes}
 use Rattle.verdict_laws.specs.AnyNumber.{IsNumber}
@@ -21,7 +21,7 @@ pub record AreBothRead (Same : Tree → Tree → Type 0) (terms : Terms) (texts 
   pub other_trees : List Tree
   pub read : ReadsAll terms.first_text texts trees
   pub other_read : ReadsAll terms.first_text others other_trees
-  pub same : Same (definitions_of trees) (definitions_of other_trees)
+  pub same : Same (all_definitions trees) (all_definitions other_trees)
 
 -- the same definitions, in an order that is the same for each sort
 abbrev pub AreRearranged : Terms → List SourceText → List SourceText → Type 0

@@ -16,7 +16,7 @@ use Rattle.read_grammar.specs.Grammar.{described, type_system_of, extended, exte
 use Rattle.read_values.specs.Meanings.{in_file}
 use Rattle.read_printed.specs.Definitions.{directive_definition_well_formed, definition_well_formed}
 use Rattle.verdict_definitions.specs.Texts.{SourceText as Bytes, Tree, ReadsText, ReadsAll}
-use Rattle.verdict_definitions.specs.Judge.{definitions_of}
+use Rattle.verdict_definitions.specs.Judge.{all_definitions}
 use Rattle.verdict_laws.proofs.Sound.{all_append}
 use Rattle.verdict_road_back_laws.proofs.Taken.{AreTaken, are_taken, Makes, mapped, mark, seq, choice, such_that, maybe_any, some_all, located}
 use Rattle.verdict_road_back_laws.proofs.FormedOperations.{operation_makes, fragment_makes}
@@ -82,8 +82,8 @@ pub read_formed : (number : ℕ) (text : Bytes) (tree : Tree) → ReadsText numb
 read_formed number text tree r = document_formed (in_file (record { 0 = number })) r.tokens tree (are_taken text r.tokens [] r.lexed) r.derived
 
 -- and so is what is read of several
-pub all_formed : (first : ℕ) (texts : List Bytes) (trees : List Tree) → ReadsAll first texts trees → list_all definition_well_formed (definitions_of trees) ≡ true
+pub all_formed : (first : ℕ) (texts : List Bytes) (trees : List Tree) → ReadsAll first texts trees → list_all definition_well_formed (all_definitions trees) ≡ true
 all_formed first [] [] read = refl
 all_formed first [] (tree ∷ trees) read = absurd read
 all_formed first (text ∷ texts) [] read = absurd read
-all_formed first (text ∷ texts) (tree ∷ trees) read = all_append definition_well_formed tree (definitions_of trees) (read_formed first text tree read.0) (all_formed (first + 1) texts trees read.1)
+all_formed first (text ∷ texts) (tree ∷ trees) read = all_append definition_well_formed tree (all_definitions trees) (read_formed first text tree read.0) (all_formed (first + 1) texts trees read.1)

@@ -25,7 +25,7 @@ use Rattle.verdict_rearranging_laws.specs.ReadTexts.{all_of}
 use Rattle.verdict_rearranging_laws.specs.Elsewhere.{AreAllElsewhere}
 use Rattle.verdict_rearranging_laws.proofs.ReadTexts.{texts_elsewhere}
 use Rattle.verdict_definitions.specs.Texts.{SourceText, Tree, ReadsText, ReadsAll, DerivesIn, IsWithin, AreWithin}
-use Rattle.verdict_definitions.specs.Judge.{definitions_of}
+use Rattle.verdict_definitions.specs.Judge.{all_definitions}
 use Rattle.verdict_definitions.specs.Out.{Layout, layout_text, as_lines}
 use Rattle.verdict_road_back_laws.specs.RoadBack.{IsPlainLayout, IsTextOf, IsSameTree, IsWrittenAlike}
 use Rattle.verdict_road_back_laws.proofs.LineFeeds.{document_line}
@@ -94,14 +94,14 @@ pub depth_append : (xs ys : Tree) → document_depth (xs ++ ys) ≡ max (documen
 depth_append [] ys = omega arith
 depth_append (x ∷ xs) ys = let rest = depth_append xs ys in omega (arith, rest)
 
-pub texts_depth : (nesting first : ℕ) (texts : List SourceText) (trees : List Tree) → ReadsAll first texts trees → AreWithin nesting first texts → document_depth (definitions_of trees) ≤ nesting
+pub texts_depth : (nesting first : ℕ) (texts : List SourceText) (trees : List Tree) → ReadsAll first texts trees → AreWithin nesting first texts → document_depth (all_definitions trees) ≤ nesting
 texts_depth nesting first [] [] read within = omega arith
 texts_depth nesting first [] (tree ∷ trees) read within = absurd read
 texts_depth nesting first (text ∷ texts) [] read within = absurd read
 texts_depth nesting first (text ∷ texts) (tree ∷ trees) read within =
     let here = text_depth nesting first text tree read.0 within.0 in
     let rest = texts_depth nesting (first + 1) texts trees read.1 within.1 in
-    let both = depth_append tree (definitions_of trees) in
+    let both = depth_append tree (all_definitions trees) in
     omega (arith, here, rest, both)
 
 -- ---- what is read under other numbers than that of what is built in stands elsewhere
@@ -110,7 +110,7 @@ numbered_texts : ℕ → List Tree → Texts
 numbered_texts first [] = []
 numbered_texts first (tree ∷ trees) = (first, tree) ∷ numbered_texts (first + 1) trees
 
-numbered_all : (first : ℕ) (trees : List Tree) → all_of (numbered_texts first trees) ≡ definitions_of trees
+numbered_all : (first : ℕ) (trees : List Tree) → all_of (numbered_texts first trees) ≡ all_definitions trees
 unfolding numbered_texts
 numbered_all first [] = refl
 numbered_all first (tree ∷ trees) = ap (λ l. tree ++ l) (numbered_all (first + 1) trees)
@@ -125,9 +125,9 @@ numbered_read first (text ∷ texts) (tree ∷ trees) some read = (
   numbered_read (first + 1) texts trees (λ e. let bad : suc first ≡ 0 = omega (arith, e) in cc) read.1,
 )
 
-pub read_elsewhere : (first : ℕ) (texts : List SourceText) (trees : List Tree) → first ≢ 0 → ReadsAll first texts trees → AreAllElsewhere (definitions_of trees)
+pub read_elsewhere : (first : ℕ) (texts : List SourceText) (trees : List Tree) → first ≢ 0 → ReadsAll first texts trees → AreAllElsewhere (all_definitions trees)
 read_elsewhere first texts trees some read = subst AreAllElsewhere (numbered_all first trees) (texts_elsewhere (numbered_texts first trees) (numbered_read first texts trees some read))
 
 -- the definitions of one tree
-pub one_tree : (tree : Tree) → definitions_of (tree ∷ []) ≡ tree
+pub one_tree : (tree : Tree) → all_definitions (tree ∷ []) ≡ tree
 one_tree tree = append-nil tree

@@ -27,7 +27,7 @@ use Rattle.verdict_rearranging_laws.proofs.Distinct.{folds_distinct}
 use Rattle.verdict_rearranging_laws.proofs.Cut.{writes_alike}
 use Rattle.verdict_rearranging_laws.proofs.ReadTexts.{is_own_list}
 use Rattle.verdict_definitions.specs.Texts.{SourceText, Tree, Terms}
-use Rattle.verdict_definitions.specs.Judge.{definitions_of, schema_of, schema_at_hand, AreSchemasAccepted}
+use Rattle.verdict_definitions.specs.Judge.{all_definitions, schema_of, schema_at_hand, AreSchemasAccepted}
 use Rattle.verdict_definitions.specs.Out.{Out, Layout}
 use Rattle.verdict_laws.proofs.Schemas.{schemas}
 use Rattle.verdict_road_back_laws.specs.RoadBack.{IsPlainLayout, IsTextOf, IsSameTree, SchemaLeadsBack, SchemaRoadBack}
@@ -45,11 +45,11 @@ joined a b c one two = record { same = one.same ∙ two.same; marks = λ at. one
 hands_equal : (terms : Terms) (trees other_trees : List Tree) → AreEqual (schema_of terms trees) (schema_of terms other_trees) → AreEqual (schema_at_hand terms trees) (schema_at_hand terms other_trees)
 hands_equal terms trees other_trees equal =
     equal_after (schema_of terms trees) (schema_of terms other_trees)
-    (folds_distinct built_in_definitions terms.first_extension (definitions_of trees)) (folds_distinct built_in_definitions terms.first_extension (definitions_of other_trees)) equal
+    (folds_distinct built_in_definitions terms.first_extension (all_definitions trees)) (folds_distinct built_in_definitions terms.first_extension (all_definitions other_trees)) equal
 
 module _ (terms : Terms) (texts : List SourceText) (other : terms.first_text ≢ 0) (first : AreSchemasAccepted terms texts) where
   abbrev ds : Definitions
-  ds = definitions_of first.judged.trees
+  ds = all_definitions first.judged.trees
 
   abbrev out : Definitions
   out = Out terms first.judged.trees
@@ -74,7 +74,7 @@ module _ (terms : Terms) (texts : List SourceText) (other : terms.first_text ≢
     trees = back.tree ∷ []
 
     abbrev again : Definitions
-    again = definitions_of trees
+    again = all_definitions trees
 
     same : IsSameTree again out
     same = ap unplaced_document (one_tree back.tree) ∙ back.same

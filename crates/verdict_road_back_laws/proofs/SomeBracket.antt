@@ -34,7 +34,7 @@ use Rattle.verdict_written_laws.proofs.RealTable.{real_table, real_table_has_no_
 use Rattle.verdict_written_laws.proofs.TypesTwice.{types_append}
 use Rattle.verdict_rearranging_laws.proofs.Marks.{under_firsts}
 use Rattle.verdict_definitions.specs.Texts.{SourceText, Tree, Terms, ReadsAll, AreWithin, PassesNumbers}
-use Rattle.verdict_definitions.specs.Judge.{definitions_of, AreSchemasAccepted}
+use Rattle.verdict_definitions.specs.Judge.{all_definitions, AreSchemasAccepted}
 use Rattle.verdict_road_back_laws.proofs.ReadBack.{texts_depth}
 use Rattle.verdict_road_back_laws.proofs.Bracketless.{GivesNone, flat_each, own_fields, table_each, roots_are, base_roots, no_components}
 
@@ -143,8 +143,8 @@ positive : (n : ℕ) → (n ≤ 0 → ⊥) → 1 ≤ n
 positive n h = omega arith
 
 module _ (terms : Terms) (texts : List SourceText) (first : AreSchemasAccepted terms texts) where
-  some_bracket : 1 ≤ document_depth (definitions_of first.judged.trees)
-  some_bracket = positive (document_depth (definitions_of first.judged.trees)) (λ flat. some_bracket_missing terms.first_extension (definitions_of first.judged.trees) (all_fit 0 (definitions_of first.judged.trees) flat) first.judged.holds)
+  some_bracket : 1 ≤ document_depth (all_definitions first.judged.trees)
+  some_bracket = positive (document_depth (all_definitions first.judged.trees)) (λ flat. some_bracket_missing terms.first_extension (all_definitions first.judged.trees) (all_fit 0 (all_definitions first.judged.trees) flat) first.judged.holds)
 
   -- one bracket may be open at once
   pub some_nesting : 1 ≤ terms.nesting
@@ -159,7 +159,7 @@ module _ (terms : Terms) (texts : List SourceText) (first : AreSchemasAccepted t
       by : (xs : List SourceText) (trees : List Tree) → first.judged.trees ≡ trees → ReadsAll terms.first_text xs trees → 1 ≤ length xs
       by (x ∷ xs) trees e read = omega arith
       by [] (tree ∷ trees) e read = absurd read
-      by [] [] e read = let bad : 1 ≤ 0 = subst (λ ts. 1 ≤ document_depth (definitions_of ts)) e some_bracket in absurd (omega (arith, bad))
+      by [] [] e read = let bad : 1 ≤ 0 = subst (λ ts. 1 ≤ document_depth (all_definitions ts)) e some_bracket in absurd (omega (arith, bad))
 
   -- and the number of the first is left
   pub first_left : PassesNumbers terms.first_text → ⊥

@@ -9,7 +9,7 @@ use Rattle.rule_definitions.specs.Laws.{AreEqual}
 use Rattle.document_meaning.specs.MeantTree.{MeantDocument}
 use Rattle.document_meaning.specs.Unplaced as meant
 use Rattle.verdict_definitions.specs.Texts.{SourceText, Tree, Terms, document_number}
-use Rattle.verdict_definitions.specs.Judge.{definitions_of, schema_of, schema_at_hand, document_over, AreSchemasAccepted, IsDocumentAccepted, IsAccepted, PassesNoDocumentBound, IsCertain}
+use Rattle.verdict_definitions.specs.Judge.{all_definitions, schema_of, schema_at_hand, document_over, AreSchemasAccepted, IsDocumentAccepted, IsAccepted, PassesNoDocumentBound, IsCertain}
 use Rattle.verdict_definitions.specs.Out.{Out, OutDoc, Layout, layout_text, as_lines}
 use Rattle.verdict_definitions.specs.Answer.{AcceptedBytes}
 use Rattle.verdict_laws.specs.AnyNumber.{IsNumber}
@@ -40,7 +40,7 @@ IsWrittenAlike a b = (layout : Layout) → layout_text layout a ≡ layout_text 
 -- that it folds to is equal, with the same built in, and so is the one at hand; and what is written of it is the same.
 pub record SchemaLeadsBack (terms : Terms) (schemas : List SourceText) (first : AreSchemasAccepted terms schemas) (text : SourceText) : Type 0 where
   pub accepted : AreSchemasAccepted terms (text ∷ [])
-  pub read_back : IsSameTree (definitions_of accepted.judged.trees) (Out terms first.judged.trees)
+  pub read_back : IsSameTree (all_definitions accepted.judged.trees) (Out terms first.judged.trees)
   pub equal : AreEqual (schema_of terms first.judged.trees) (schema_of terms accepted.judged.trees)
   pub at_hand : AreEqual (schema_at_hand terms first.judged.trees) (schema_at_hand terms accepted.judged.trees)
   pub written : IsWrittenAlike (Out terms accepted.judged.trees) (Out terms first.judged.trees)
