@@ -3,20 +3,20 @@ use Rattle.std.proofs.Common.{inl, inr, ◌≡◌, ◌≢◌, ℕ, ◌+◌, ◌<
 use Rattle.std.proofs.Math.Nat.{lt_irrefl}
 use Rattle.graphql_read.specs.Reads.{NestingBound}
 use Rattle.verdict_definitions.specs.Texts.{SourceText, Tree, Terms, ReadsText, ReadsAll, document_number, PassesNumbers, IsRead}
-use Rattle.verdict_definitions.specs.Says.{Fault, IsFaultOfText, UnreadFault, spent}
+use Rattle.verdict_definitions.specs.Says.{AnyFault, IsFaultOfText, UnreadFault, spent}
 use Rattle.verdict_definitions.specs.Answer.{UnreadFaults}
 use Rattle.graphql_checked.specs.Added.{IsNextNumber, AreAdded}
 
 -- ---- a text at the end of the texts, where the first has any number
 
 module _ (text : SourceText) (number : ℕ) where
-  read_more : (nesting first : ℕ) (texts : List SourceText) (faults : List Fault) → number ≡ length texts + first → UnreadFaults nesting first texts faults
+  read_more : (nesting first : ℕ) (texts : List SourceText) (faults : List AnyFault) → number ≡ length texts + first → UnreadFaults nesting first texts faults
       → IsRead nesting number text → UnreadFaults nesting first (texts ++ text ∷ []) faults
   read_more nesting first [] faults e h read = inl (subst (λ n. IsRead nesting n text) (e ∙ omega arith) read, h)
   read_more nesting first (t ∷ ts) faults e (inl h) read = inl (h.0, read_more nesting (first + 1) ts faults (omega (arith, e)) h.1 read)
   read_more nesting first (t ∷ ts) faults e (inr h) read = inr (h.0, (h.1.0, (h.1.1.0, h.1.1.1, read_more nesting (first + 1) ts h.1.0 (omega (arith, e)) h.1.1.2 read)))
 
-  fault_more : (nesting first : ℕ) (texts : List SourceText) (faults : List Fault) (fault : Fault) → number ≡ length texts + first → UnreadFaults nesting first texts faults
+  fault_more : (nesting first : ℕ) (texts : List SourceText) (faults : List AnyFault) (fault : AnyFault) → number ≡ length texts + first → UnreadFaults nesting first texts faults
       → UnreadFault nesting number text fault → UnreadFaults nesting first (texts ++ text ∷ []) (faults ++ fault ∷ [])
   fault_more nesting first [] faults fault e h unread =
       inr (fault, ([], (ap (λ l. l ++ fault ∷ []) h, subst (λ n. UnreadFault nesting n text fault) (e ∙ omega arith) unread, refl)))
@@ -33,17 +33,17 @@ module _ (text : SourceText) (number : ℕ) where
 
 -- ---- the texts of a checker
 
-some_fault : (faults : List Fault) (fault : Fault) → faults ++ fault ∷ [] ≢ []
+some_fault : (faults : List AnyFault) (fault : AnyFault) → faults ++ fault ∷ [] ≢ []
 some_fault [] fault e = absurd cc
 some_fault (f ∷ fs) fault e = absurd cc
 
-module _ (terms : Terms) (texts : List SourceText) (number : ℕ) (text : SourceText) (faults : List Fault) where
+module _ (terms : Terms) (texts : List SourceText) (number : ℕ) (text : SourceText) (faults : List AnyFault) where
   -- where a number is left, it is that of the next text
   number_left : IsNextNumber terms texts faults number → number + 1 < 2 ^ 64 → number ≡ length texts + terms.first_text
   number_left (inl e) left = e
   number_left (inr h) left = absurd (lt_irrefl (2 ^ 64) (omega (arith, left, h.0)))
 
-  next_number : (faults' : List Fault) → number ≡ length texts + terms.first_text → IsNextNumber terms (texts ++ text ∷ []) faults' (number + 1)
+  next_number : (faults' : List AnyFault) → number ≡ length texts + terms.first_text → IsNextNumber terms (texts ++ text ∷ []) faults' (number + 1)
   next_number faults' e = let l = length-append texts (text ∷ []) in inl (omega (arith, l, e))
 
   -- where none is left
@@ -58,7 +58,7 @@ module _ (terms : Terms) (texts : List SourceText) (number : ℕ) (text : Source
       within (inl e) = omega (arith, e)
       within (inr h) = let le = h.1.0 in omega (arith, le)
 
-module _ (terms : Terms) (texts : List SourceText) (number : ℕ) (text : SourceText) (trees : List Tree) (faults : List Fault) (added : AreAdded terms texts number trees faults) where
+module _ (terms : Terms) (texts : List SourceText) (number : ℕ) (text : SourceText) (trees : List Tree) (faults : List AnyFault) (added : AreAdded terms texts number trees faults) where
   -- a text without a number
   pub spent_added : number + 1 ≡ 2 ^ 64 → AreAdded terms (texts ++ text ∷ []) number trees (faults ++ spent ∷ [])
   spent_added none =
@@ -74,7 +74,7 @@ module _ (terms : Terms) (texts : List SourceText) (number : ℕ) (text : Source
     here = number_left terms texts number text faults added.next left
 
     -- a text that is not read
-    pub fault_added : (fault : Fault) → IsFaultOfText terms.nesting number text fault → AreAdded terms (texts ++ text ∷ []) (number + 1) trees (faults ++ fault ∷ [])
+    pub fault_added : (fault : AnyFault) → IsFaultOfText terms.nesting number text fault → AreAdded terms (texts ++ text ∷ []) (number + 1) trees (faults ++ fault ∷ [])
     fault_added fault is = record {
       unread = fault_more text number terms.nesting terms.first_text texts faults fault here added.unread (inl is);
       kept = λ silent. absurd (some_fault faults fault silent);

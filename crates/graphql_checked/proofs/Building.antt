@@ -14,7 +14,7 @@ use Rattle.rule_definitions.specs.Kept.{validated}
 use Rattle.rule_definitions.specs.Rules.{SchemaRules}
 use Rattle.graphql_faults.specs.DetailsView.{diagnostics_of}
 use Rattle.verdict_definitions.specs.Texts.{Tree}
-use Rattle.verdict_definitions.specs.Says.{Fault, of_folding}
+use Rattle.verdict_definitions.specs.Says.{AnyFault, of_folding}
 use Rattle.graphql_checked.specs.Finishing.{BuildsSchema, RefusesFolding, RefusalOfFolding, RefusesSchemaRules, RefusalOfSchemaRules, IsJudgedSchema, RefusalOfBuilder}
 use Rattle.graphql_checked.specs.declared.refusal.Refusal.{Refusal}
 use Rattle.graphql_checked.specs.declared.refusal.Refusal.TheVariants.{Faults, Memory, Failed}
@@ -26,7 +26,7 @@ map_nil f [] e = refl
 map_nil f (x ∷ xs) e = absurd cc
 
 -- these are the faults of the list
-pub builds : (b : BuilderValue) (schema : SchemaTree Place) (errors : List folding.Fault) (faults : List Fault) → schema ≡ folded b → ((f : folding.Fault) → Contains errors f ↔ FailsIn b f)
+pub builds : (b : BuilderValue) (schema : SchemaTree Place) (errors : List folding.Fault) (faults : List AnyFault) → schema ≡ folded b → ((f : folding.Fault) → Contains errors f ↔ FailsIn b f)
     → (errors ≡ []) ↔ FoldingRules built_in_definitions b.first (counted b) → faults ≡ map of_folding errors → BuildsSchema b schema faults
 builds b schema errors faults is all faultless told = record {
   is = is;
@@ -36,11 +36,11 @@ builds b schema errors faults is all faultless told = record {
 }
 
 -- there are some
-pub folding_refused : (b : BuilderValue) (schema : SchemaTree Place) (faults : List Fault) → BuildsSchema b schema faults → faults ≢ [] → RefusesFolding b faults
+pub folding_refused : (b : BuilderValue) (schema : SchemaTree Place) (faults : List AnyFault) → BuildsSchema b schema faults → faults ≢ [] → RefusesFolding b faults
 folding_refused b schema faults built some = record { some = some; right = built.right; full = built.full }
 
 -- there is none
-pub silent_build : (b : BuilderValue) (schema : SchemaTree Place) (faults : List Fault) → BuildsSchema b schema faults → faults ≡ [] → BuildsSchema b schema []
+pub silent_build : (b : BuilderValue) (schema : SchemaTree Place) (faults : List AnyFault) → BuildsSchema b schema faults → faults ≡ [] → BuildsSchema b schema []
 silent_build b schema faults built none = subst (BuildsSchema b schema) none built
 
 -- ---- building and judging

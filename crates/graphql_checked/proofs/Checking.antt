@@ -16,7 +16,7 @@ use Rattle.graphql_faults.specs.DetailsView.{diagnostics_of}
 use Rattle.graphql_validation.specs.TellsDocument.{SomeFails}
 use Rattle.verdict_definitions.specs.Texts.{SourceText, Tree}
 use Rattle.verdict_definitions.specs.Judge.{document_over, IsDocumentCertain}
-use Rattle.verdict_definitions.specs.Says.{Fault, of_typing, UnreadFault, TypingFailsOver}
+use Rattle.verdict_definitions.specs.Says.{AnyFault, of_typing, UnreadFault, TypingFailsOver}
 use Rattle.verdict_definitions.specs.Out.{Layout, layout_text}
 use Rattle.verdict_definitions.specs.Answer.{UnreadAlone, RefusesDocument, WritesDocument}
 use Rattle.graphql_checked.specs.CheckerValue.{CheckedSchemaValue, IsCheckedDocumentOf}
@@ -27,11 +27,11 @@ use Rattle.graphql_checked.specs.declared.refusal.Refusal.TheVariants.{Faults, M
 use Rattle.graphql_checked.proofs.Deciding.{one_tree, none_told, unread_not_read, is_read}
 
 -- a list of one is not empty
-some_one : (fault : Fault) (faults : List Fault) → faults ≡ fault ∷ [] → faults ≢ []
+some_one : (fault : AnyFault) (faults : List AnyFault) → faults ≡ fault ∷ [] → faults ≢ []
 some_one fault faults is none = let e : [] ≡ fault ∷ [] = sym none ∙ is in absurd cc
 
 -- a document that is not read is refused with its fault alone
-pub unread_alone : (schema : SchemaTree Place) (nesting number : ℕ) (text : SourceText) (faults : List Fault) → UnreadAlone nesting number text faults → RefusesDocument schema nesting number text faults
+pub unread_alone : (schema : SchemaTree Place) (nesting number : ℕ) (text : SourceText) (faults : List AnyFault) → UnreadAlone nesting number text faults → RefusesDocument schema nesting number text faults
 unread_alone schema nesting number text faults (here, (is, unread)) = record {
   some = some_one here faults is;
   says = λ fault h. inl (subst (UnreadFault nesting number text) (sym (only here fault (subst (λ l. Contains l fault) is h))) unread);
@@ -43,7 +43,7 @@ module _ (schema : CheckedSchemaValue) (text : SourceText) where
   -- ---- a document that is not read
 
   -- the one fault that is told says why
-  pub tells_unread : (fault : Fault) (refusal : Refusal) → UnreadFault schema.nesting schema.number text fault → TellsOnly fault refusal → IsUnreadDocument schema text refusal
+  pub tells_unread : (fault : AnyFault) (refusal : Refusal) → UnreadFault schema.nesting schema.number text fault → TellsOnly fault refusal → IsUnreadDocument schema text refusal
   tells_unread fault (Faults list) unread told = (fault, (told, unread))
   tells_unread fault Memory unread told = tt
   tells_unread fault Failed unread told = told

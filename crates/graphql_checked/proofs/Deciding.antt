@@ -14,7 +14,7 @@ use Rattle.graphql_read.specs.declared.fault.SyntaxFaultKind.TheVariants.{NoToke
 use Rattle.graphql_read.proofs.Bounds.{memory_alone}
 use Rattle.graphql_faults.specs.DetailsTree.{Syntax}
 use Rattle.verdict_definitions.specs.Texts.{SourceText, Tree, DerivesIn, ReadsText, ReadsAll, IsWithin, AreWithin, IsRead, AreRead}
-use Rattle.verdict_definitions.specs.Says.{Fault, Tells, IsFaultOfText, UnreadFault, UnreadFaultFrom}
+use Rattle.verdict_definitions.specs.Says.{AnyFault, Tells, IsFaultOfText, UnreadFault, UnreadFaultFrom}
 use Rattle.verdict_definitions.specs.Answer.{UnreadFaults, AllSay}
 use Rattle.graphql_checked.specs.Unread.{IsUnread, TellsUnread}
 use Rattle.graphql_checked.specs.declared.read_text.Unread.{Unread}
@@ -27,7 +27,7 @@ pub no_member : {X : Type 0} (xs : List X) (x : X) → xs ≡ [] → Contains xs
 no_member xs x e h = not_in_nil x (subst (λ l. Contains l x) e h)
 
 -- where no fault is so, none is told
-pub none_told : (says : Fault → Type 0) (faults : List Fault) → faults ≢ [] → AllSay says faults → ((fault : Fault) → says fault → ⊥) → ⊥
+pub none_told : (says : AnyFault → Type 0) (faults : List AnyFault) → faults ≢ [] → AllSay says faults → ((fault : AnyFault) → says fault → ⊥) → ⊥
 none_told says [] some are none = some refl
 none_told says (fault ∷ faults) some are none = none fault (are fault (Contains-first fault faults fault refl))
 
@@ -53,7 +53,7 @@ one_list first (text ∷ texts) (a ∷ trees) (b ∷ bs) r s =
 -- ---- faults
 
 -- want of memory is told of no text
-memory_told : (number : ℕ) (fault : read.Fault) (told : Fault) → fault ≡ read.Memory → Tells number fault told → ⊥
+memory_told : (number : ℕ) (fault : read.Fault) (told : AnyFault) → fault ≡ read.Memory → Tells number fault told → ⊥
 memory_told number read.Memory told same tells = tells
 memory_told number (read.NoToken offset) told same tells = absurd cc
 memory_told number (read.Unexpected offset) told same tells = absurd cc
@@ -73,11 +73,11 @@ unread_due nesting number text fault unread.Memory due tells = tt
 unread_due nesting number text fault (unread.Fault place details) due tells = record { read = fault; due = due; tells = tells }
 
 -- of a text that has a tree and nests within the limit no fault is due
-pub no_fault : (nesting number : ℕ) (text : SourceText) (fault : Fault) (tree : Tree) → IsFaultOfText nesting number text fault → ReadsText number text tree → (NestingBound nesting text → ⊥) → ⊥
+pub no_fault : (nesting number : ℕ) (text : SourceText) (fault : AnyFault) (tree : Tree) → IsFaultOfText nesting number text fault → ReadsText number text tree → (NestingBound nesting text → ⊥) → ⊥
 no_fault nesting number text fault tree is reads nests = memory_told number is.read fault (memory_alone (DerivesIn number) nesting text is.read is.due tree reads nests) is.tells
 
 -- a text of which a fault says that it is unread is not read
-pub unread_not_read : (nesting number : ℕ) (text : SourceText) (fault : Fault) → UnreadFault nesting number text fault → IsRead nesting number text → ⊥
+pub unread_not_read : (nesting number : ℕ) (text : SourceText) (fault : AnyFault) → UnreadFault nesting number text fault → IsRead nesting number text → ⊥
 unread_not_read nesting number text fault (inl u) r = no_fault nesting number text fault r.tree u r.reads r.within.nests
 unread_not_read nesting number text fault (inr u) r = r.within.numbered u.1
 
@@ -99,12 +99,12 @@ are_within nesting first [] read = tt
 are_within nesting first (text ∷ texts) read = (read.0.within, are_within nesting (first + 1) texts read.1)
 
 -- texts that are read have no such faults
-pub no_unread : (nesting first : ℕ) (texts : List SourceText) (faults : List Fault) → AreRead nesting first texts → UnreadFaults nesting first texts faults → faults ≡ []
+pub no_unread : (nesting first : ℕ) (texts : List SourceText) (faults : List AnyFault) → AreRead nesting first texts → UnreadFaults nesting first texts faults → faults ≡ []
 no_unread nesting first [] faults read none = none
 no_unread nesting first (text ∷ texts) faults read (inl (here, others)) = no_unread nesting (first + 1) texts faults read.1 others
 no_unread nesting first (text ∷ texts) faults read (inr (fault, (others, (is, unread, more)))) = absurd (unread_not_read nesting first text fault unread read.0)
 
-pub not_unread_from : (nesting first : ℕ) (texts : List SourceText) (fault : Fault) → AreRead nesting first texts → UnreadFaultFrom nesting first texts fault → ⊥
+pub not_unread_from : (nesting first : ℕ) (texts : List SourceText) (fault : AnyFault) → AreRead nesting first texts → UnreadFaultFrom nesting first texts fault → ⊥
 not_unread_from nesting first [] fault read h = h
 not_unread_from nesting first (text ∷ texts) fault read (inl unread) = unread_not_read nesting first text fault unread read.0
 not_unread_from nesting first (text ∷ texts) fault read (inr others) = not_unread_from nesting (first + 1) texts fault read.1 others
@@ -116,7 +116,7 @@ read_unread nesting first (text ∷ texts) (inl h) = (h.0, read_unread nesting (
 read_unread nesting first (text ∷ texts) (inr h) = let e : [] ≡ h.0 ∷ h.1.0 = h.1.1.0 in absurd cc
 
 -- each of such faults says that a text is unread
-pub says_unread : (nesting first : ℕ) (texts : List SourceText) (faults : List Fault) → UnreadFaults nesting first texts faults → AllSay (UnreadFaultFrom nesting first texts) faults
+pub says_unread : (nesting first : ℕ) (texts : List SourceText) (faults : List AnyFault) → UnreadFaults nesting first texts faults → AllSay (UnreadFaultFrom nesting first texts) faults
 says_unread nesting first [] faults none fault h = no_member faults fault none h
 says_unread nesting first (text ∷ texts) faults (inl (read, rest)) fault h = inr (says_unread nesting (first + 1) texts faults rest fault h)
 says_unread nesting first (text ∷ texts) faults (inr (here, (others, (is, unread, rest)))) fault h =

@@ -17,7 +17,7 @@ use Rattle.rule_definitions.specs.Told.{PlacedFault}
 use Rattle.graphql_faults.specs.DetailsTree.{of_rule}
 use Rattle.verdict_definitions.specs.Texts.{SourceText, Tree, Terms, ReadsAll, document_number, AreRead}
 use Rattle.verdict_definitions.specs.Judge.{all_definitions, schema_of}
-use Rattle.verdict_definitions.specs.Says.{Fault, of_folding, spent, FoldingFails, SchemaFails}
+use Rattle.verdict_definitions.specs.Says.{AnyFault, of_folding, spent, FoldingFails, SchemaFails}
 use Rattle.verdict_definitions.specs.Answer.{UnreadFaults, RefusesSchemas}
 use Rattle.graphql_checked.specs.Added.{IsNextNumber, AreAdded}
 use Rattle.graphql_checked.specs.CheckerValue.{IsCheckedSchemaOf}
@@ -50,7 +50,7 @@ module _ (terms : Terms) (trees : List Tree) (b : BuilderValue) (filled : IsFill
 -- ---- refusals
 
 -- some text is not read
-pub unread_refused : (terms : Terms) (texts : List SourceText) (faults : List Fault) → faults ≢ [] → UnreadFaults terms.nesting terms.first_text texts faults → RefusesSchemas terms texts faults
+pub unread_refused : (terms : Terms) (texts : List SourceText) (faults : List AnyFault) → faults ≢ [] → UnreadFaults terms.nesting terms.first_text texts faults → RefusesSchemas terms texts faults
 unread_refused terms texts faults some unread = record {
   some = some;
   says = λ fault h. inl (says_unread terms.nesting terms.first_text texts faults unread fault h);
@@ -63,7 +63,7 @@ none_alone e = absurd cc
 
 module _ (terms : Terms) (texts : List SourceText) (trees : List Tree) (read : AreRead terms.nesting terms.first_text texts) (reads : ReadsAll terms.first_text texts trees) where
   -- what is said of the schema is said of the texts
-  says_schema : (faults : List Fault) → faults ≢ [] → ((fault : Fault) → Contains faults fault → SchemaFails terms trees fault)
+  says_schema : (faults : List AnyFault) → faults ≢ [] → ((fault : AnyFault) → Contains faults fault → SchemaFails terms trees fault)
       → (faults ≡ spent ∷ []) ⊎ ((f : folding.Fault) → FoldingFails terms trees f → Contains faults (of_folding f)) → RefusesSchemas terms texts faults
   says_schema faults some right full = record {
     some = some;
@@ -74,12 +74,12 @@ module _ (terms : Terms) (texts : List SourceText) (trees : List Tree) (read : A
   }
 
   -- no number is left for an extension
-  spent_refused : (faults : List Fault) → faults ≡ spent ∷ [] → (HaveNumbers terms.first_extension (all_definitions trees) → ⊥) → RefusesSchemas terms texts faults
+  spent_refused : (faults : List AnyFault) → faults ≡ spent ∷ [] → (HaveNumbers terms.first_extension (all_definitions trees) → ⊥) → RefusesSchemas terms texts faults
   spent_refused faults is none =
       says_schema faults (subst (λ fs. fs ≢ []) (sym is) none_alone)
       (λ fault h. inl (only_spent fault (subst (λ fs. Contains fs fault) is h), none)) (inl is)
     where
-      only_spent : (fault : Fault) → Contains (spent ∷ []) fault → fault ≡ spent
+      only_spent : (fault : AnyFault) → Contains (spent ∷ []) fault → fault ≡ spent
       only_spent fault h = elim (Contains-cons spent [] fault h) [ inl same ↦ sym same | inr other ↦ absurd (not_in_nil fault other) ]
 
   pub numbers_refusal : (refusal : Refusal) → RefusalOfNumbers terms.first_extension trees refusal → RefusalOfSchemas terms texts refusal
@@ -89,21 +89,21 @@ module _ (terms : Terms) (texts : List SourceText) (trees : List Tree) (read : A
 
   module _ (b : BuilderValue) (filled : IsFilled terms.first_extension trees b) where
     -- folding rules are broken
-    folding_refused : (faults : List Fault) → RefusesFolding b faults → RefusesSchemas terms texts faults
+    folding_refused : (faults : List AnyFault) → RefusesFolding b faults → RefusesSchemas terms texts faults
     folding_refused faults refused = says_schema faults refused.some
         (λ fault h. let told = refused.right fault h in inr (inl (told.0, (told.1.0, fails_so terms trees b filled told.0 told.1.1))))
         (inr (λ f fails. refused.full f (fails_here terms trees b filled f fails)))
 
     -- rules on schemas are broken
-    rule_fails : (fault : Fault) → (f : PlacedFault) × ((fault ≡ of_rule f) × (RulesFail (folded b) f ⊎ BoundFails (folded b) f)) → SchemaFails terms trees fault
+    rule_fails : (fault : AnyFault) → (f : PlacedFault) × ((fault ≡ of_rule f) × (RulesFail (folded b) f ⊎ BoundFails (folded b) f)) → SchemaFails terms trees fault
     rule_fails fault (f, (is, fails)) = inr (inr (f, (is, subst (λ s. RulesFail s f ⊎ BoundFails s f) (folds_to terms trees b filled) fails)))
 
-    rules_refused : (faults : List Fault) → FoldingRules built_in_definitions b.first (counted b) → RefusesSchemaRules (folded b) faults → RefusesSchemas terms texts faults
+    rules_refused : (faults : List AnyFault) → FoldingRules built_in_definitions b.first (counted b) → RefusesSchemaRules (folded b) faults → RefusesSchemas terms texts faults
     rules_refused faults folds refused = says_schema faults refused.some
         (λ fault h. rule_fails fault (refused.right fault h))
         (inr (λ f fails. absurd (folds f (fails_here terms trees b filled f fails))))
 
-    builder_refused : (faults : List Fault) → RefusesBuilder b faults → RefusesSchemas terms texts faults
+    builder_refused : (faults : List AnyFault) → RefusesBuilder b faults → RefusesSchemas terms texts faults
     builder_refused faults (inl folding) = folding_refused faults folding
     builder_refused faults (inr (folds, rules)) = rules_refused faults folds rules
 
@@ -134,7 +134,7 @@ module _ (terms : Terms) (texts : List SourceText) (trees : List Tree) (read : A
 
 -- ---- what a checker has read
 
-module _ (terms : Terms) (texts : List SourceText) (number : ℕ) (trees : List Tree) (faults : List Fault) (added : AreAdded terms texts number trees faults) where
+module _ (terms : Terms) (texts : List SourceText) (number : ℕ) (trees : List Tree) (faults : List AnyFault) (added : AreAdded terms texts number trees faults) where
   pub unread_refusal : faults ≢ [] → RefusesSchemas terms texts faults
   unread_refusal some = unread_refused terms texts faults some added.unread
 

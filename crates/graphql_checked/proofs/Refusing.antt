@@ -4,7 +4,7 @@ use Rattle.schema_building.specs.Numbers.{HaveNumbers}
 use Rattle.graphql_faults.specs.DetailsView.{diagnostics_of}
 use Rattle.verdict_definitions.specs.Texts.{SourceText, Tree, Terms, AreRead}
 use Rattle.verdict_definitions.specs.Judge.{all_definitions, AreSchemasAccepted, AreSchemasCertain}
-use Rattle.verdict_definitions.specs.Says.{Fault, FoldingFails, SchemaRuleFails, SchemaFails, SaysSchema}
+use Rattle.verdict_definitions.specs.Says.{AnyFault, FoldingFails, SchemaRuleFails, SchemaFails, SaysSchema}
 use Rattle.verdict_definitions.specs.Answer.{RefusesSchemas}
 use Rattle.graphql_checked.specs.Refusals.{RefusalOfSchemas}
 use Rattle.graphql_checked.specs.declared.refusal.Refusal.{Refusal}
@@ -22,19 +22,19 @@ module _ (terms : Terms) (texts : List SourceText) (certain : AreSchemasCertain 
   read = are_read terms.nesting terms.first_text texts accepted.judged.trees accepted.judged.read accepted.within
 
   -- no fault of the schema is so
-  none_of_schema : (fault : Fault) → SchemaFails terms accepted.judged.trees fault → ⊥
+  none_of_schema : (fault : AnyFault) → SchemaFails terms accepted.judged.trees fault → ⊥
   none_of_schema fault (inl (is, none_left)) = none_left accepted.numbered
   none_of_schema fault (inr (inl (f, (is, fails)))) = accepted.judged.folds f fails
   none_of_schema fault (inr (inr (f, (is, inl fails)))) = accepted.judged.holds fails.0 fails.1.0
   none_of_schema fault (inr (inr (f, (is, inr fails)))) = certain.1 fails.0 fails.1.0
 
   -- no fault of the texts is so
-  none_of_schemas : (fault : Fault) → SaysSchema terms texts fault → ⊥
+  none_of_schemas : (fault : AnyFault) → SaysSchema terms texts fault → ⊥
   none_of_schemas fault (inl unread) = not_unread_from terms.nesting terms.first_text texts fault read unread
   none_of_schemas fault (inr (others, (reads, fails))) =
       none_of_schema fault (subst (λ ts. SchemaFails terms ts fault) (one_list terms.first_text texts others accepted.judged.trees reads accepted.judged.read) fails)
 
-  pub schemas_not_refused : (faults : List Fault) → RefusesSchemas terms texts faults → ⊥
+  pub schemas_not_refused : (faults : List AnyFault) → RefusesSchemas terms texts faults → ⊥
   schemas_not_refused faults refused = none_told (SaysSchema terms texts) faults refused.some refused.says none_of_schemas
 
   -- there is no refusal but for memory

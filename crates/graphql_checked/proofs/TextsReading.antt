@@ -4,7 +4,7 @@ use Rattle.graphql_names.specs.declared.span.FileId.{FileId}
 use Rattle.graphql_read.specs.Reads.{NestingBound}
 use Rattle.graphql_faults.specs.DetailsView.{details_at, diagnostics_of}
 use Rattle.verdict_definitions.specs.Texts.{SourceText, Tree, ReadsText}
-use Rattle.verdict_definitions.specs.Says.{Fault, spent}
+use Rattle.verdict_definitions.specs.Says.{AnyFault, spent}
 use Rattle.graphql_checked.specs.Unread.{IsUnread}
 use Rattle.graphql_checked.specs.declared.read_text.Unread.{Unread}
 use Rattle.graphql_checked.specs.declared.read_text.Unread.TheVariants as unread
@@ -26,7 +26,7 @@ before_next s files file is given next left = record {
 }
 
 -- one without a number
-pub spent_kept : (s : SchemaTexts) → IsReadingOf (texts_of s) s → s.files + 1 ≡ 2 ^ 64 → (text : SourceText) (faults : List Fault) → faults ≡ diagnostics_of s.unread ++ spent ∷ []
+pub spent_kept : (s : SchemaTexts) → IsReadingOf (texts_of s) s → s.files + 1 ≡ 2 ^ 64 → (text : SourceText) (faults : List AnyFault) → faults ≡ diagnostics_of s.unread ++ spent ∷ []
     → AreAdded (terms_of s) (texts_of s ++ text ∷ []) s.files (trees_of s) faults
 spent_kept s is none text faults told =
     subst (AreAdded (terms_of s) (texts_of s ++ text ∷ []) s.files (trees_of s)) (sym told)
@@ -34,7 +34,7 @@ spent_kept s is none text faults told =
 
 module _ (s : SchemaTexts) (file : FileId) (before : IsBefore (texts_of s) file s) (text : SourceText) where
   -- one that is not read
-  pub unread_kept : (u : Unread) → IsUnread s.nesting file.0 text u → (faults : List Fault) → IsToldBehind u (diagnostics_of s.unread) faults
+  pub unread_kept : (u : Unread) → IsUnread s.nesting file.0 text u → (faults : List AnyFault) → IsToldBehind u (diagnostics_of s.unread) faults
       → AreAdded (terms_of s) (texts_of s ++ text ∷ []) (file.0 + 1) (trees_of s) faults
   unread_kept unread.Memory is faults told = absurd told
   unread_kept (unread.Fault place details) is faults told =

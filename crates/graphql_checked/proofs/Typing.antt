@@ -20,7 +20,7 @@ use Rattle.rule_document_definitions.proofs.Unplaced.{contains_map, contains_unm
 use Rattle.graphql_validation.specs.Told as told
 use Rattle.graphql_validation.specs.TellsDocument.{DocumentTold}
 use Rattle.verdict_definitions.specs.Texts.{Tree}
-use Rattle.verdict_definitions.specs.Says.{Fault, of_typing, of_document, TypingFailsOver}
+use Rattle.verdict_definitions.specs.Says.{AnyFault, of_typing, of_document, TypingFailsOver}
 use Rattle.graphql_checked.specs.Checking.{TypesDocument, RefusesTyping, RefusesRules}
 
 -- ---- lists
@@ -31,10 +31,10 @@ nil_of_map f (x ∷ xs) e = absurd cc
 
 -- ---- typing
 
-module _ (schema : SchemaTree Place) (tree : Tree) (found : List (typing.TypingFault Place)) (faults : List Fault) where
+module _ (schema : SchemaTree Place) (tree : Tree) (found : List (typing.TypingFault Place)) (faults : List AnyFault) where
   -- what is told of them is all that breaks rules of typing
   right_told : faults ≡ map of_typing found → ((f : typing.TypingFault Place) → Contains found f ↔ TypingFailsOver schema tree f)
-      → (fault : Fault) → Contains faults fault → (f : typing.TypingFault Place) × ((fault ≡ of_typing f) × TypingFailsOver schema tree f)
+      → (fault : AnyFault) → Contains faults fault → (f : typing.TypingFault Place) × ((fault ≡ of_typing f) × TypingFailsOver schema tree f)
   right_told are exact fault c =
       let p = contains_unmap of_typing found fault (subst (λ l. Contains l fault) are c) in
       (p.0, (sym p.1.1, (exact p.0).0 p.1.0))
@@ -44,7 +44,7 @@ module _ (schema : SchemaTree Place) (tree : Tree) (found : List (typing.TypingF
   full_told are exact f fails = subst (λ l. Contains l (of_typing f)) (sym are) (contains_map of_typing found f ((exact f).1 fails))
 
 -- what a builder of a document over the schema gives
-pub types_document : (schema : SchemaTree Place) (tree : Tree) (builder : DocumentBuilder) (document : MeantDocument Place) (found : List (typing.TypingFault Place)) (faults : List Fault)
+pub types_document : (schema : SchemaTree Place) (tree : Tree) (builder : DocumentBuilder) (document : MeantDocument Place) (found : List (typing.TypingFault Place)) (faults : List AnyFault)
     → builder.meanings ≡ meanings (plain schema) → builder.definitions ≡ tree → document ≡ kept_document builder.meanings builder.definitions
     → IsTypedDocument builder.meanings document → (found ≡ [] → written_document document ≡ out_doc builder.definitions)
     → ((f : typing.TypingFault Place) → Contains found f ↔ TypingFails builder.meanings builder.definitions f) → faults ≡ map of_typing found
@@ -62,7 +62,7 @@ types_document schema tree builder document found faults over of is typed whole 
     }
 
 -- some rule of typing is broken
-pub refuses_typing : (schema : SchemaTree Place) (tree : Tree) (document : MeantDocument Place) (faults : List Fault) → TypesDocument schema tree document faults → faults ≢ [] → RefusesTyping schema tree faults
+pub refuses_typing : (schema : SchemaTree Place) (tree : Tree) (document : MeantDocument Place) (faults : List AnyFault) → TypesDocument schema tree document faults → faults ≢ [] → RefusesTyping schema tree faults
 refuses_typing schema tree document faults types some = record { some = some; right = types.right; full = types.full }
 
 -- ---- judging
@@ -74,7 +74,7 @@ same_fault (OfDocument broken) = refl
 same_fault (OfLimit place) = refl
 
 -- some rule on documents or on merging is broken, or a bound is passed
-pub refuses_rules : (schema : SchemaTree Place) (document : MeantDocument Place) (old faults : List Fault) → old ≡ [] → DocumentTold schema document old faults
+pub refuses_rules : (schema : SchemaTree Place) (document : MeantDocument Place) (old faults : List AnyFault) → old ≡ [] → DocumentTold schema document old faults
     → (IsValidDocument schema document → WithinBounds (unplaced_document document) → faults ≡ old) → faults ≢ [] → RefusesRules schema document faults
 refuses_rules schema document old faults none (added, (is, tells)) accepts some = record {
   some = some;

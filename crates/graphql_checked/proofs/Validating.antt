@@ -6,7 +6,7 @@ use Rattle.rule_definitions.specs.Rules.{RulesFail, BoundFails}
 use Rattle.rule_definitions.specs.Told.{PlacedFault, Told}
 use Rattle.graphql_faults.specs.DetailsTree.{of_rule}
 use Rattle.graphql_rules.specs.SchemaTold.{RulesOrBoundFail, SchemaTold}
-use Rattle.verdict_definitions.specs.Says.{Fault}
+use Rattle.verdict_definitions.specs.Says.{AnyFault}
 use Rattle.graphql_checked.specs.Finishing.{RefusesSchemaRules}
 use Rattle.rule_document_definitions.proofs.Unplaced.{contains_unmap}
 
@@ -16,7 +16,7 @@ fails_so s f (broken, (inl breaks, told)) = inl (broken, (breaks, told))
 fails_so s f (broken, (inr passes, told)) = inr (broken, (passes, told))
 
 -- what is told behind nothing
-pub rules_told : (s : SchemaTree Place) (old new : List Fault) → old ≡ [] → SchemaTold s old new → new ≢ [] → RefusesSchemaRules s new
+pub rules_told : (s : SchemaTree Place) (old new : List AnyFault) → old ≡ [] → SchemaTold s old new → new ≢ [] → RefusesSchemaRules s new
 rules_told s old new none told some =
     let is : new ≡ map of_rule told.0 = told.1.0 ∙ ap (λ l. l ++ map of_rule told.0) none in
     record {

@@ -8,7 +8,7 @@ use Rattle.document_meaning.specs.MeantTree.{MeantDocument}
 use Rattle.graphql_faults.specs.DetailsView.{diagnostics_of}
 use Rattle.verdict_definitions.specs.Texts.{SourceText, Terms, document_number}
 use Rattle.verdict_definitions.specs.Judge.{schema_at_hand, IsDocumentAccepted, IsAccepted, AreSchemasCertain, IsDocumentCertain, IsCertain}
-use Rattle.verdict_definitions.specs.Says.{Fault}
+use Rattle.verdict_definitions.specs.Says.{AnyFault}
 use Rattle.verdict_definitions.specs.Answer.{RefusesDocument, Refuses}
 use Rattle.graphql_checked.specs.CheckerValue.{CheckerValue, CheckedSchemaValue, IsCheckedSchemaOf, IsCheckedDocumentOf}
 use Rattle.graphql_checked.specs.CheckerAnswers.{IsAddRefusal, IsFinishRefusal}
@@ -87,7 +87,7 @@ module _ (terms : Terms) (texts : List SourceText) (text : SourceText) (schema :
   }
 
   -- the pair is refused
-  pub refused_pair : (faults : List Fault) → RefusesDocument schema.schema schema.nesting schema.number text faults → Refuses terms texts text faults
+  pub refused_pair : (faults : List AnyFault) → RefusesDocument schema.schema schema.nesting schema.number text faults → Refuses terms texts text faults
   refused_pair faults refuses = inr (is.accepted, over_texts (λ s nesting number. RefusesDocument s nesting number text faults) refuses)
 
   -- where the pair is certain, so is the document

@@ -12,7 +12,7 @@ use Rattle.graphql_faults.specs.DetailsView.{diagnostics_of}
 use Rattle.graphql_validation.specs.TellsDocument.{IsTypedUnder, SomeFails}
 use Rattle.verdict_definitions.specs.Texts.{SourceText, Tree, ReadsText, IsWithin}
 use Rattle.verdict_definitions.specs.Judge.{document_over}
-use Rattle.verdict_definitions.specs.Says.{Fault, of_typing, of_document, TypingFailsOver}
+use Rattle.verdict_definitions.specs.Says.{AnyFault, of_typing, of_document, TypingFailsOver}
 use Rattle.verdict_definitions.specs.Answer.{UnreadAlone}
 use Rattle.graphql_checked.specs.CheckerValue.{CheckedSchemaValue}
 use Rattle.graphql_checked.specs.declared.refusal.Refusal.{Refusal}
@@ -31,7 +31,7 @@ IsUnreadDocument schema text Memory = Unit {0}
 IsUnreadDocument schema text Failed = ⊥
 
 -- this fault is all that is told, or memory ran out
-abbrev pub TellsOnly : Fault → Refusal → Type 0
+abbrev pub TellsOnly : AnyFault → Refusal → Type 0
 TellsOnly fault (Faults list) = diagnostics_of list ≡ fault ∷ []
 TellsOnly fault Memory = Unit {0}
 TellsOnly fault Failed = ⊥
@@ -39,17 +39,17 @@ TellsOnly fault Failed = ⊥
 -- ---- typing it
 
 -- This is what is kept of the document over the schema, and these are all faults of typing.
-pub record TypesDocument (schema : SchemaTree Place) (tree : Tree) (document : MeantDocument Place) (faults : List Fault) : Type 0 where
+pub record TypesDocument (schema : SchemaTree Place) (tree : Tree) (document : MeantDocument Place) (faults : List AnyFault) : Type 0 where
   pub is : document ≡ document_over schema tree
   pub typed : IsTypedUnder schema document
   pub whole : faults ≡ [] → written_document document ≡ out_doc tree
-  pub right : (fault : Fault) → Contains faults fault → (f : typing.TypingFault Place) × ((fault ≡ of_typing f) × TypingFailsOver schema tree f)
+  pub right : (fault : AnyFault) → Contains faults fault → (f : typing.TypingFault Place) × ((fault ≡ of_typing f) × TypingFailsOver schema tree f)
   pub full : (f : typing.TypingFault Place) → TypingFailsOver schema tree f → Contains faults (of_typing f)
 
 -- rules of typing are broken, and all that breaks them is told
-pub record RefusesTyping (schema : SchemaTree Place) (tree : Tree) (faults : List Fault) : Type 0 where
+pub record RefusesTyping (schema : SchemaTree Place) (tree : Tree) (faults : List AnyFault) : Type 0 where
   pub some : faults ≢ []
-  pub right : (fault : Fault) → Contains faults fault → (f : typing.TypingFault Place) × ((fault ≡ of_typing f) × TypingFailsOver schema tree f)
+  pub right : (fault : AnyFault) → Contains faults fault → (f : typing.TypingFault Place) × ((fault ≡ of_typing f) × TypingFailsOver schema tree f)
   pub full : (f : typing.TypingFault Place) → TypingFailsOver schema tree f → Contains faults (of_typing f)
 
 abbrev pub RefusalOfTyping : SchemaTree Place → Tree → Refusal → Type 0
@@ -60,9 +60,9 @@ RefusalOfTyping schema tree Failed = ⊥
 -- ---- judging it
 
 -- rules on documents or on merging are broken so, or bounds are passed; a document that is valid is refused by bounds alone
-pub record RefusesRules (schema : SchemaTree Place) (document : MeantDocument Place) (faults : List Fault) : Type 0 where
+pub record RefusesRules (schema : SchemaTree Place) (document : MeantDocument Place) (faults : List AnyFault) : Type 0 where
   pub some : faults ≢ []
-  pub right : (fault : Fault) → Contains faults fault → (f : PlacedDocumentFault) × ((fault ≡ of_document f) × SomeFails schema document f)
+  pub right : (fault : AnyFault) → Contains faults fault → (f : PlacedDocumentFault) × ((fault ≡ of_document f) × SomeFails schema document f)
   pub bounds : IsValidDocument schema document → WithinBounds (unplaced_document document) → ⊥
 
 abbrev pub RefusalOfRules : SchemaTree Place → MeantDocument Place → Refusal → Type 0

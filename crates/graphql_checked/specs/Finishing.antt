@@ -19,7 +19,7 @@ use Rattle.graphql_faults.specs.DetailsTree.{of_rule}
 use Rattle.graphql_faults.specs.DetailsView.{diagnostics_of}
 use Rattle.verdict_definitions.specs.Texts.{Tree}
 use Rattle.verdict_definitions.specs.Judge.{all_definitions}
-use Rattle.verdict_definitions.specs.Says.{Fault, of_folding, spent}
+use Rattle.verdict_definitions.specs.Says.{AnyFault, of_folding, spent}
 use Rattle.graphql_checked.specs.Checking.{TellsOnly}
 use Rattle.graphql_checked.specs.declared.refusal.Refusal.{Refusal}
 use Rattle.graphql_checked.specs.declared.refusal.Refusal.TheVariants.{Faults, Memory, Failed}
@@ -49,16 +49,16 @@ IsOfBuilder builder.Failed refusal = refusal ≡ Memory
 -- ---- folding
 
 -- This is what the builder's definitions fold to, and these are all breaches of folding rules.
-pub record BuildsSchema (b : BuilderValue) (schema : SchemaTree Place) (faults : List Fault) : Type 0 where
+pub record BuildsSchema (b : BuilderValue) (schema : SchemaTree Place) (faults : List AnyFault) : Type 0 where
   pub is : schema ≡ folded b
-  pub right : (fault : Fault) → Contains faults fault → (f : folding.Fault) × ((fault ≡ of_folding f) × FailsIn b f)
+  pub right : (fault : AnyFault) → Contains faults fault → (f : folding.Fault) × ((fault ≡ of_folding f) × FailsIn b f)
   pub full : (f : folding.Fault) → FailsIn b f → Contains faults (of_folding f)
   pub faultless : (faults ≡ []) ↔ FoldingRules built_in_definitions b.first (counted b)
 
 -- folding rules are broken, and all that breaks them is told
-pub record RefusesFolding (b : BuilderValue) (faults : List Fault) : Type 0 where
+pub record RefusesFolding (b : BuilderValue) (faults : List AnyFault) : Type 0 where
   pub some : faults ≢ []
-  pub right : (fault : Fault) → Contains faults fault → (f : folding.Fault) × ((fault ≡ of_folding f) × FailsIn b f)
+  pub right : (fault : AnyFault) → Contains faults fault → (f : folding.Fault) × ((fault ≡ of_folding f) × FailsIn b f)
   pub full : (f : folding.Fault) → FailsIn b f → Contains faults (of_folding f)
 
 -- nothing is built: rules are broken, or memory ran out
@@ -70,9 +70,9 @@ RefusalOfFolding b Failed = ⊥
 -- ---- rules on schemas
 
 -- they are broken so, or the bound on references is passed
-pub record RefusesSchemaRules (schema : SchemaTree Place) (faults : List Fault) : Type 0 where
+pub record RefusesSchemaRules (schema : SchemaTree Place) (faults : List AnyFault) : Type 0 where
   pub some : faults ≢ []
-  pub right : (fault : Fault) → Contains faults fault → (f : PlacedFault) × ((fault ≡ of_rule f) × (RulesFail schema f ⊎ BoundFails schema f))
+  pub right : (fault : AnyFault) → Contains faults fault → (f : PlacedFault) × ((fault ≡ of_rule f) × (RulesFail schema f ⊎ BoundFails schema f))
 
 abbrev pub RefusalOfSchemaRules : SchemaTree Place → Refusal → Type 0
 RefusalOfSchemaRules schema (Faults list) = RefusesSchemaRules schema (diagnostics_of list)
@@ -89,7 +89,7 @@ pub record IsJudgedSchema (b : BuilderValue) (schema : SchemaTree Place) (out : 
   pub written : out ≡ written (folded b)
 
 -- folding rules are broken; or none is, and rules on schemas are
-abbrev pub RefusesBuilder : BuilderValue → List Fault → Type 0
+abbrev pub RefusesBuilder : BuilderValue → List AnyFault → Type 0
 RefusesBuilder b faults = RefusesFolding b faults ⊎ (FoldingRules built_in_definitions b.first (counted b) × RefusesSchemaRules (folded b) faults)
 
 abbrev pub RefusalOfBuilder : BuilderValue → Refusal → Type 0

@@ -13,7 +13,7 @@ use Rattle.graphql_read.proofs.Bounds.{memory_alone}
 use Rattle.rule_definitions.proofs.Lists.{Contains-cons, only}
 use Rattle.graphql_faults.specs.DetailsTree.{Syntax}
 use Rattle.verdict_definitions.specs.Texts.{SourceText, Tree, Terms, DerivesIn, ReadsText, ReadsAll, AreWithin, IsRead}
-use Rattle.verdict_definitions.specs.Says.{Fault, spent, UnreadFault, SaysSchema}
+use Rattle.verdict_definitions.specs.Says.{AnyFault, spent, UnreadFault, SaysSchema}
 use Rattle.verdict_definitions.specs.Out.{Out, OutDoc, Layout, layout_text, as_lines}
 use Rattle.verdict_definitions.specs.Answer.{AcceptedBytes, RefusesSchemas, AllSay, Answer}
 use Rattle.verdict_definitions.proofs.RowReading.{reader, is_due, is_within, one_tree, one_list}
@@ -57,17 +57,17 @@ pub due_unread : (number : ℕ) (text : SourceText) (fault : read.Fault) (tree :
 due_unread number text fault tree some due nests reads = some (memory_alone (DerivesIn number) 500 text fault due tree reads nests)
 
 -- the only fault of a list is so
-pub of_one : (says : Fault → Type 0) (fault : Fault) → says fault → AllSay says (fault ∷ [])
+pub of_one : (says : AnyFault → Type 0) (fault : AnyFault) → says fault → AllSay says (fault ∷ [])
 of_one says fault is other c = subst says (sym (only fault other c)) is
 
 -- of two so is each
-of_two : (says : Fault → Type 0) (first second : Fault) → says first → says second → AllSay says (first ∷ second ∷ [])
+of_two : (says : AnyFault → Type 0) (first second : AnyFault) → says first → says second → AllSay says (first ∷ second ∷ [])
 of_two says first second is_first is_second other c = elim (Contains-cons first (second ∷ []) other c) [
   | inl e ↦ subst says e is_first
   | inr r ↦ of_one says second is_second other r
 ]
 
-pub not_empty : (fault : Fault) (faults : List Fault) → fault ∷ faults ≢ []
+pub not_empty : (fault : AnyFault) (faults : List AnyFault) → fault ∷ faults ≢ []
 not_empty fault faults e = cc
 
 -- S `{ a`, any D: `End` at 1:3
@@ -77,7 +77,7 @@ open_set = codes "{ a"
 abbrev open_set_span : SourceSpan
 open_set_span = record { file_id = record { 0 = 1 }; offset = 3; length = 0; fits = omega arith }
 
-abbrev open_set_fault : Fault
+abbrev open_set_fault : AnyFault
 open_set_fault = record { place = Some open_set_span; details = Syntax End }
 
 open_set_due : IsDue (DerivesIn 1) 500 open_set (read.End 3)
@@ -110,7 +110,7 @@ empty_set = codes "{ }"
 abbrev empty_set_span : SourceSpan
 empty_set_span = record { file_id = record { 0 = 2 }; offset = 2; length = 0; fits = omega arith }
 
-abbrev empty_set_fault : Fault
+abbrev empty_set_fault : AnyFault
 empty_set_fault = record { place = Some empty_set_span; details = Syntax Unexpected }
 
 empty_set_due : IsDue (DerivesIn 2) 500 empty_set (read.Unexpected 2)

@@ -10,7 +10,7 @@ use Rattle.document_typing.specs.TypingFaults as typing
 use Rattle.document_typing.specs.TypingFaults.{TypingFails}
 use Rattle.document_typing.proofs.DocumentFailures.{document-fails}
 use Rattle.verdict_definitions.specs.Texts.{SourceText, Tree, ReadsText, IsWithin}
-use Rattle.verdict_definitions.specs.Says.{Fault, of_typing, of_document, SaysDocument, TypingFailsOver}
+use Rattle.verdict_definitions.specs.Says.{AnyFault, of_typing, of_document, SaysDocument, TypingFailsOver}
 use Rattle.verdict_definitions.specs.Answer.{RefusesDocument, Answer}
 use Rattle.verdict_definitions.proofs.RowReading.{reader, is_within, one_tree}
 use Rattle.verdict_definitions.proofs.RowTrees.{terms}
@@ -21,7 +21,7 @@ use Rattle.verdict_definitions.proofs.DocumentRows.{unused, unused_tree, unused_
 use Rattle.verdict_definitions.proofs.BytesRows.{of_one, not_empty}
 use Rattle.verdict_definitions.proofs.PairRows.{schema_accepted}
 
-module _ (schema : SchemaTree Place) (document : SourceText) (tree : Tree) (reads : ReadsText 2 document tree) (within : IsWithin 500 2 document) (fault : Fault) (said : SaysDocument schema 500 2 document fault) where
+module _ (schema : SchemaTree Place) (document : SourceText) (tree : Tree) (reads : ReadsText 2 document tree) (within : IsWithin 500 2 document) (fault : AnyFault) (said : SaysDocument schema 500 2 document fault) where
   -- one fault, where it is the only one of typing, or there is none
   one_refuses : ((f : typing.TypingFault Place) → TypingFails (meanings_found schema) tree f → of_typing f ≡ fault) → RefusesDocument schema 500 2 document (fault ∷ [])
   one_refuses all = record {

@@ -10,7 +10,7 @@ use Rattle.graphql_read.specs.in_operations.SelectionTree.{SelectionTrees, Field
 use Rattle.graphql_faults.specs.DetailsTree.{Syntax, Nesting}
 use Rattle.verdict_definitions.specs.Texts.{SourceText, Tree, DerivesIn, PassesNumbers, IsRead}
 use Rattle.verdict_definitions.specs.Judge.{IsAccepted}
-use Rattle.verdict_definitions.specs.Says.{Fault, spent, UnreadFault}
+use Rattle.verdict_definitions.specs.Says.{AnyFault, spent, UnreadFault}
 use Rattle.verdict_definitions.proofs.RowReading.{reader, reads, is_within, is_due}
 use Rattle.verdict_definitions.proofs.RowTrees.{terms, named, field, short_query}
 use Rattle.verdict_definitions.proofs.RowJudging.{unread_refused, number_refused}
@@ -31,7 +31,7 @@ spread_alone : IsDue (DerivesIn 2) 500 (codes "{ ... }") (read.Unexpected 6)
 unfolding reader
 spread_alone = is_due 500 2 (codes "{ ... }") (read.Unexpected 6) refl
 
-abbrev spread_fault : Fault
+abbrev spread_fault : AnyFault
 spread_fault = record { place = Some (span 6 0 (omega arith)); details = Syntax Unexpected }
 
 spread_said : UnreadFault 500 2 (codes "{ ... }") spread_fault

@@ -9,27 +9,27 @@ use Rattle.document_typing.specs.TypingFaults as typing
 use Rattle.graphql_faults.specs.DetailsMessages.{details_message}
 use Rattle.verdict_definitions.specs.Texts.{SourceText, Tree, Terms, ReadsText, ReadsAll, document_number, IsWithin, AreWithin, IsRead, AreRead}
 use Rattle.verdict_definitions.specs.Judge.{schema_at_hand, AreSchemasAccepted, IsAccepted}
-use Rattle.verdict_definitions.specs.Says.{Fault, of_folding, of_typing, spent, UnreadFault, FoldingFails, TypingFailsOver, SaysSchema, SaysDocument}
+use Rattle.verdict_definitions.specs.Says.{AnyFault, of_folding, of_typing, spent, UnreadFault, FoldingFails, TypingFailsOver, SaysSchema, SaysDocument}
 use Rattle.verdict_definitions.specs.Out.{Out, OutDoc, Layout, layout_text, as_lines}
 
 -- ---- lists of faults
 
 -- each text is read or has one fault, in order, where the first text has this number
-abbrev pub UnreadFaults : ℕ → ℕ → List SourceText → List Fault → Type 0
+abbrev pub UnreadFaults : ℕ → ℕ → List SourceText → List AnyFault → Type 0
 UnreadFaults nesting first [] faults = faults ≡ []
 UnreadFaults nesting first (text ∷ texts) faults =
     (IsRead nesting first text × UnreadFaults nesting (first + 1) texts faults)
-    ⊎ ((fault : Fault) × ((others : List Fault) × (
+    ⊎ ((fault : AnyFault) × ((others : List AnyFault) × (
     (faults ≡ fault ∷ others) × UnreadFault nesting first text fault × UnreadFaults nesting (first + 1) texts others)))
 
 -- each of these faults is so
-abbrev pub AllSay : (Fault → Type 0) → List Fault → Type 0
-AllSay says faults = (fault : Fault) → Contains faults fault → says fault
+abbrev pub AllSay : (AnyFault → Type 0) → List AnyFault → Type 0
+AllSay says faults = (fault : AnyFault) → Contains faults fault → says fault
 
 -- The schema texts are refused with these faults: there are some, and each is so. Those of unread texts stand alone, one for
 -- each; or each text is read, and then that no number is left for an extension stands alone, or each breach of a folding rule
 -- is among them.
-pub record RefusesSchemas (terms : Terms) (schemas : List SourceText) (faults : List Fault) : Type 0 where
+pub record RefusesSchemas (terms : Terms) (schemas : List SourceText) (faults : List AnyFault) : Type 0 where
   pub some : faults ≢ []
   pub says : AllSay (SaysSchema terms schemas) faults
   pub alone : UnreadFaults terms.nesting terms.first_text schemas faults ⊎ AreRead terms.nesting terms.first_text schemas
@@ -37,12 +37,12 @@ pub record RefusesSchemas (terms : Terms) (schemas : List SourceText) (faults : 
       → (faults ≡ spent ∷ []) ⊎ ((fault : folding.Fault) → FoldingFails terms trees fault → Contains faults (of_folding fault))
 
 -- this is all that is said of the document: that it is unread
-abbrev pub UnreadAlone : ℕ → ℕ → SourceText → List Fault → Type 0
-UnreadAlone nesting number document faults = (fault : Fault) × ((faults ≡ fault ∷ []) × UnreadFault nesting number document fault)
+abbrev pub UnreadAlone : ℕ → ℕ → SourceText → List AnyFault → Type 0
+UnreadAlone nesting number document faults = (fault : AnyFault) × ((faults ≡ fault ∷ []) × UnreadFault nesting number document fault)
 
 -- The document, which has this number, is refused over the schema with these faults: there are some, and each is so. That it
 -- is unread stands alone; of a read one each breach of a rule of typing is among them.
-pub record RefusesDocument (schema : SchemaTree Place) (nesting number : ℕ) (document : SourceText) (faults : List Fault) : Type 0 where
+pub record RefusesDocument (schema : SchemaTree Place) (nesting number : ℕ) (document : SourceText) (faults : List AnyFault) : Type 0 where
   pub some : faults ≢ []
   pub says : AllSay (SaysDocument schema nesting number document) faults
   pub alone : UnreadAlone nesting number document faults ⊎ IsRead nesting number document
@@ -50,7 +50,7 @@ pub record RefusesDocument (schema : SchemaTree Place) (nesting number : ℕ) (d
       → (fault : typing.TypingFault Place) → TypingFailsOver schema tree fault → Contains faults (of_typing fault)
 
 -- The pair is refused with these faults: the schema texts are, or they are accepted and the document is.
-abbrev pub Refuses : Terms → List SourceText → SourceText → List Fault → Type 0
+abbrev pub Refuses : Terms → List SourceText → SourceText → List AnyFault → Type 0
 Refuses terms schemas document faults =
     RefusesSchemas terms schemas faults
     ⊎ ((accepted : AreSchemasAccepted terms schemas) × RefusesDocument (schema_at_hand terms accepted.judged.trees) terms.nesting (document_number terms schemas) document faults)
@@ -63,7 +63,7 @@ place_text None = codes "-"
 place_text (Some span) = if is_built_in (Some span) then codes "-" else decimal span.file_id.0 ++ codes ":" ++ decimal span.offset
 
 -- the line of a fault
-abbrev pub fault_line : Fault → List ℕ
+abbrev pub fault_line : AnyFault → List ℕ
 fault_line fault = place_text fault.place ++ codes ": " ++ details_message fault.details ++ codes "\n"
 
 -- ---- written texts
@@ -89,7 +89,7 @@ pub record AcceptedBytes (terms : Terms) (layout : Layout) (schemas : List Sourc
 
 -- `refused` and a line for each fault
 pub record RefusedBytes (terms : Terms) (schemas : List SourceText) (document : SourceText) (bytes : List ℕ) : Type 0 where
-  pub faults : List Fault
+  pub faults : List AnyFault
   pub refused : Refuses terms schemas document faults
   pub is : bytes ≡ codes "refused\n" ++ flat_map fault_line faults
 

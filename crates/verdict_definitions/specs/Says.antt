@@ -21,17 +21,17 @@ use Rattle.verdict_definitions.specs.Texts.{SourceText, Tree, Terms, DerivesIn, 
 use Rattle.verdict_definitions.specs.Judge.{all_definitions, schema_of, meanings_over, document_over}
 
 -- what is wrong, and where
-abbrev pub Fault : Type 0
-Fault = DetailsAt Place (List Place)
+abbrev pub AnyFault : Type 0
+AnyFault = DetailsAt Place (List Place)
 
 -- what breaks a rule of folding, of typing or of documents, among all that can be wrong
-abbrev pub of_folding : folding.Fault → Fault
+abbrev pub of_folding : folding.Fault → AnyFault
 of_folding f = record { place = f.place; details = SchemaBuild f.breach }
 
-abbrev pub of_typing : typing.TypingFault Place → Fault
+abbrev pub of_typing : typing.TypingFault Place → AnyFault
 of_typing f = record { place = f.place; details = DocumentBuild f.breach }
 
-abbrev pub of_document : PlacedDocumentFault → Fault
+abbrev pub of_document : PlacedDocumentFault → AnyFault
 of_document (OfData fault) = of_rule fault
 of_document (OfDocument broken) = record { place = broken.place; details = DocumentBuild broken.it }
 of_document (OfLimit place) = record { place = place; details = RecursionLimitError }
@@ -47,7 +47,7 @@ pub record IsPlaceIn (number offset length : ℕ) (place : Place) : Type 0 where
   pub long : span.length ≡ length
 
 -- the fault tells of this one of the reader: that the syntax is wrong at an offset, or one bracket too many at it
-abbrev pub Tells : ℕ → read.Fault → Fault → Type 0
+abbrev pub Tells : ℕ → read.Fault → AnyFault → Type 0
 Tells number read.Memory fault = ⊥
 Tells number (read.NoToken offset) fault = (fault.details ≡ Syntax NoToken) × IsPlaceIn number offset 0 fault.place
 Tells number (read.Unexpected offset) fault = (fault.details ≡ Syntax Unexpected) × IsPlaceIn number offset 0 fault.place
@@ -55,21 +55,21 @@ Tells number (read.End offset) fault = (fault.details ≡ Syntax End) × IsPlace
 Tells number (read.Nesting offset) fault = (fault.details ≡ Nesting) × IsPlaceIn number offset 1 fault.place
 
 -- The fault tells of one that is due of the text with this number.
-pub record IsFaultOfText (nesting number : ℕ) (text : SourceText) (fault : Fault) : Type 0 where
+pub record IsFaultOfText (nesting number : ℕ) (text : SourceText) (fault : AnyFault) : Type 0 where
   pub read : read.Fault
   pub due : IsDue (DerivesIn number) nesting text read
   pub tells : Tells number read fault
 
 -- that numbers are spent
-abbrev pub spent : Fault
+abbrev pub spent : AnyFault
 spent = record { place = None; details = Spent }
 
 -- the text with this number is not read, and this fault says why: what is wrong with it, or that no number is left for it
-abbrev pub UnreadFault : ℕ → ℕ → SourceText → Fault → Type 0
+abbrev pub UnreadFault : ℕ → ℕ → SourceText → AnyFault → Type 0
 UnreadFault nesting number text fault = IsFaultOfText nesting number text fault ⊎ ((fault ≡ spent) × PassesNumbers number)
 
 -- one of the texts is not read, and this fault says why, where the first has this number
-abbrev pub UnreadFaultFrom : ℕ → ℕ → List SourceText → Fault → Type 0
+abbrev pub UnreadFaultFrom : ℕ → ℕ → List SourceText → AnyFault → Type 0
 UnreadFaultFrom nesting first [] fault = ⊥
 UnreadFaultFrom nesting first (text ∷ texts) fault = UnreadFault nesting first text fault ⊎ UnreadFaultFrom nesting (first + 1) texts fault
 
@@ -85,7 +85,7 @@ module _ (terms : Terms) (trees : List Tree) where
   SchemaRuleFails fault = rules.RulesFail (schema_of terms trees) fault ⊎ rules.BoundFails (schema_of terms trees) fault
 
   -- a fault of the schema: no number is left for an extension, or a rule is broken so
-  abbrev pub SchemaFails : Fault → Type 0
+  abbrev pub SchemaFails : AnyFault → Type 0
   SchemaFails fault =
       ((fault ≡ spent) × (HaveNumbers terms.first_extension (all_definitions trees) → ⊥))
       ⊎ (((f : folding.Fault) × ((fault ≡ of_folding f) × FoldingFails f))
@@ -105,7 +105,7 @@ module _ (schema : SchemaTree Place) (tree : Tree) where
       ⊎ (DocumentMergingFails schema (document_over schema tree) fault ⊎ DocumentBoundFails (document_over schema tree) fault)
 
   -- a fault of the document
-  abbrev pub DocumentFailsOver : Fault → Type 0
+  abbrev pub DocumentFailsOver : AnyFault → Type 0
   DocumentFailsOver fault =
       ((f : typing.TypingFault Place) × ((fault ≡ of_typing f) × TypingFailsOver f))
       ⊎ ((f : PlacedDocumentFault) × ((fault ≡ of_document f) × DocumentRuleFails f))
@@ -113,13 +113,13 @@ module _ (schema : SchemaTree Place) (tree : Tree) where
 -- ---- what a fault says
 
 -- Some fault of the schema texts is so: of a text that is not read, or of the schema.
-abbrev pub SaysSchema : Terms → List SourceText → Fault → Type 0
+abbrev pub SaysSchema : Terms → List SourceText → AnyFault → Type 0
 SaysSchema terms schemas fault =
     UnreadFaultFrom terms.nesting terms.first_text schemas fault
     ⊎ ((trees : List Tree) × (ReadsAll terms.first_text schemas trees × SchemaFails terms trees fault))
 
 -- Some fault of the document, which has this number, is so: that it is not read, or what is wrong with it over the schema.
-abbrev pub SaysDocument : SchemaTree Place → ℕ → ℕ → SourceText → Fault → Type 0
+abbrev pub SaysDocument : SchemaTree Place → ℕ → ℕ → SourceText → AnyFault → Type 0
 SaysDocument schema nesting number document fault =
     UnreadFault nesting number document fault
     ⊎ ((tree : Tree) × (ReadsText number document tree × DocumentFailsOver schema tree fault))
