@@ -14,7 +14,7 @@ use Rattle.graphql_read.specs.declared.fault.SyntaxFaultKind.TheVariants.{NoToke
 use Rattle.graphql_read.proofs.Bounds.{memory_alone}
 use Rattle.graphql_faults.specs.DetailsTree.{Syntax}
 use Rattle.verdict_definitions.specs.Texts.{SourceText, Tree, DerivesIn, ReadsText, ReadsAll, IsWithin, AreWithin, IsRead, AreRead}
-use Rattle.verdict_definitions.specs.Says.{AnyFault, Tells, IsFaultOfText, UnreadFault, UnreadFaultFrom}
+use Rattle.verdict_definitions.specs.Says.{AnyFault, TellsReadFault, IsFaultOfText, UnreadFault, UnreadFaultFrom}
 use Rattle.verdict_definitions.specs.Answer.{UnreadFaults, AllSay}
 use Rattle.graphql_checked.specs.Unread.{IsUnread, TellsUnread}
 use Rattle.graphql_checked.specs.declared.read_text.Unread.{Unread}
@@ -53,7 +53,7 @@ one_list first (text ∷ texts) (a ∷ trees) (b ∷ bs) r s =
 -- ---- faults
 
 -- want of memory is told of no text
-memory_told : (number : ℕ) (fault : read.Fault) (told : AnyFault) → fault ≡ read.Memory → Tells number fault told → ⊥
+memory_told : (number : ℕ) (fault : read.Fault) (told : AnyFault) → fault ≡ read.Memory → TellsReadFault number fault told → ⊥
 memory_told number read.Memory told same tells = tells
 memory_told number (read.NoToken offset) told same tells = absurd cc
 memory_told number (read.Unexpected offset) told same tells = absurd cc
@@ -62,7 +62,7 @@ memory_told number (read.Nesting offset) told same tells = absurd cc
 
 -- what is told of tokens that are wrong at an offset
 pub syntax_tells : (number : ℕ) (kind : SyntaxFaultKind) (span : SourceSpan) → span.file_id.0 ≡ number → span.length ≡ 0
-    → Tells number (fault_at kind span.offset) (record { place = Some span; details = Syntax kind })
+    → TellsReadFault number (fault_at kind span.offset) (record { place = Some span; details = Syntax kind })
 syntax_tells number NoToken span f l = (refl, record { span = span; is = refl; of_file = f; at = refl; long = l })
 syntax_tells number Unexpected span f l = (refl, record { span = span; is = refl; of_file = f; at = refl; long = l })
 syntax_tells number End span f l = (refl, record { span = span; is = refl; of_file = f; at = refl; long = l })

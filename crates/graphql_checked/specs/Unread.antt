@@ -2,7 +2,7 @@
 use Rattle.std.specs.Prelude.{◌≡◌, ℕ, List, Some}
 use Rattle.graphql_read.specs.in_grammar.Faults as read
 use Rattle.graphql_faults.specs.DetailsView.{details_at}
-use Rattle.verdict_definitions.specs.Says.{Tells, IsFaultOfText}
+use Rattle.verdict_definitions.specs.Says.{TellsReadFault, IsFaultOfText}
 use Rattle.graphql_checked.specs.declared.read_text.Unread.{Unread}
 use Rattle.graphql_checked.specs.declared.read_text.Unread.TheVariants as unread
 
@@ -14,4 +14,4 @@ IsUnread nesting number text (unread.Fault place details) = IsFaultOfText nestin
 -- what is told of a fault of the reader
 abbrev pub TellsUnread : ℕ → read.Fault → Unread → Type 0
 TellsUnread number fault unread.Memory = fault ≡ read.Memory
-TellsUnread number fault (unread.Fault place details) = Tells number fault (details_at (Some place, details))
+TellsUnread number fault (unread.Fault place details) = TellsReadFault number fault (details_at (Some place, details))

@@ -47,18 +47,18 @@ pub record IsPlaceIn (number offset length : ℕ) (place : Place) : Type 0 where
   pub long : span.length ≡ length
 
 -- the fault tells of this one of the reader: that the syntax is wrong at an offset, or one bracket too many at it
-abbrev pub Tells : ℕ → read.Fault → AnyFault → Type 0
-Tells number read.Memory fault = ⊥
-Tells number (read.NoToken offset) fault = (fault.details ≡ Syntax NoToken) × IsPlaceIn number offset 0 fault.place
-Tells number (read.Unexpected offset) fault = (fault.details ≡ Syntax Unexpected) × IsPlaceIn number offset 0 fault.place
-Tells number (read.End offset) fault = (fault.details ≡ Syntax End) × IsPlaceIn number offset 0 fault.place
-Tells number (read.Nesting offset) fault = (fault.details ≡ Nesting) × IsPlaceIn number offset 1 fault.place
+abbrev pub TellsReadFault : ℕ → read.Fault → AnyFault → Type 0
+TellsReadFault number read.Memory fault = ⊥
+TellsReadFault number (read.NoToken offset) fault = (fault.details ≡ Syntax NoToken) × IsPlaceIn number offset 0 fault.place
+TellsReadFault number (read.Unexpected offset) fault = (fault.details ≡ Syntax Unexpected) × IsPlaceIn number offset 0 fault.place
+TellsReadFault number (read.End offset) fault = (fault.details ≡ Syntax End) × IsPlaceIn number offset 0 fault.place
+TellsReadFault number (read.Nesting offset) fault = (fault.details ≡ Nesting) × IsPlaceIn number offset 1 fault.place
 
 -- The fault tells of one that is due of the text with this number.
 pub record IsFaultOfText (nesting number : ℕ) (text : SourceText) (fault : AnyFault) : Type 0 where
   pub read : read.Fault
   pub due : IsDue (DerivesIn number) nesting text read
-  pub tells : Tells number read fault
+  pub tells : TellsReadFault number read fault
 
 -- that numbers are spent
 abbrev pub spent : AnyFault
