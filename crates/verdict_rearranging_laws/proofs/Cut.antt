@@ -20,7 +20,7 @@ use Rattle.schema_fold.specs.Listed.{Definitions, Listed, listed, numbered, type
 use Rattle.schema_fold.specs.Components.{go_together, extension_here, parts_of}
 use Rattle.schema_fold.specs.Fold.{folded_type, folded_types, folded_directives}
 use Rattle.verdict_written_laws.specs.Table.{AreOwn}
-use Rattle.verdict_written_laws.specs.Twice.{Out}
+use Rattle.verdict_written_laws.specs.Twice.{WrittenOf}
 use Rattle.verdict_rearranging_laws.specs.Cutting.{unplaced_type, unplaced_types, CutKeepsTypes, CutWritesAlike, NumbersAreNotWritten}
 use Rattle.verdict_rearranging_laws.proofs.Gathered.{map-filter, all_gathered}
 use Rattle.verdict_rearranging_laws.proofs.Parts.{unplaced_parts, unplaced_type_definition, type_unplaced, type_extension_unplaced}
@@ -153,7 +153,7 @@ module _ (built_in ds es : Definitions) (same : unplaced_document ds ≡ unplace
       at : (fs : Definitions) → filter (λ q. bytes_eq n (marked_directive_name q)) (map marked_directive (directives_in fs)) ≡ own_directives fs n
       at fs = map-filter marked_directive (λ d. bytes_eq n (directive_name d)) (λ q. bytes_eq n (marked_directive_name q)) (λ d. refl) (directives_in fs)
 
-  out_alike : (i j : ℕ) → unplaced_document (Out built_in i ds) ≡ unplaced_document (Out built_in j es)
+  out_alike : (i j : ℕ) → unplaced_document (WrittenOf built_in i ds) ≡ unplaced_document (WrittenOf built_in j es)
   out_alike i j =
       let rearranged = cut (all ds) (all es) same_all in
       let schemas = schema_alike (all ds) (all es) rearranged in

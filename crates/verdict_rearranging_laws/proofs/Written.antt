@@ -22,7 +22,7 @@ use Rattle.schema_fold.specs.in_schema_types.Out.{is_object_named, written_schem
 use Rattle.schema_fold.specs.Listed.{Definitions, numbered, type_name, types_in, type_named, directive_name, directives_in}
 use Rattle.schema_fold.specs.SchemaFold.{schema_extension_here, schema_base, schema_is_defined, is_object_in}
 use Rattle.schema_fold.specs.Fold.{folded_type, folded_types, chosen_directive, folded_directives, fold}
-use Rattle.verdict_written_laws.specs.Twice.{Out}
+use Rattle.verdict_written_laws.specs.Twice.{WrittenOf}
 use Rattle.verdict_written_laws.specs.Whole.{Extension, extensions_in}
 use Rattle.verdict_written_laws.specs.WholeSchema.{SchemaExtension, schema_extensions_in}
 use Rattle.verdict_written_laws.proofs.Whole.{as_given}
@@ -258,7 +258,7 @@ all_out schema own directives extensions types = (schema ++ flat_map (directive_
 abbrev pub schema_of_all : Definitions → List (DefinitionTree (Unit {0}))
 schema_of_all all = schema_out (is_object_in all) (told (schema_base all)) (applied_extensions all)
 
-pub out_plain : (built_in : Definitions) (first : ℕ) (texts : Definitions) → unplaced_document (Out built_in first texts)
+pub out_plain : (built_in : Definitions) (first : ℕ) (texts : Definitions) → unplaced_document (WrittenOf built_in first texts)
     ≡ all_out (schema_of_all (built_in ++ texts)) (own_directives texts) (map marked_directive (directives_in (built_in ++ texts))) (extensions_of (built_in ++ texts)) (map marked_type (types_in (built_in ++ texts)))
 out_plain built_in first texts =
     map-append unplaced_definition (written_schema s ++ flat_map written_directive s.directives) (flat_map written_type s.types)

@@ -18,7 +18,7 @@ use Rattle.schema_fold.specs.Listed.{Definitions, type_name, types_in, directive
 use Rattle.schema_fold.specs.SchemaFold.{schema_base, is_object_in}
 use Rattle.rule_definitions.proofs.Lookups.{find_given}
 use Rattle.verdict_written_laws.specs.Table.{AreOwn}
-use Rattle.verdict_written_laws.specs.Twice.{Out}
+use Rattle.verdict_written_laws.specs.Twice.{WrittenOf}
 use Rattle.verdict_rearranging_laws.specs.Rearranged.{IsRearranged}
 use Rattle.verdict_rearranging_laws.specs.Writing.{RearrangedWritesAlike, RearrangedWritesPermuted}
 use Rattle.verdict_rearranging_laws.proofs.Gathered.{map-filter, find-filter}
@@ -129,7 +129,7 @@ module _ (built_in ds es : Definitions) (r : IsRearranged ds es) (hd : AreOwn ds
         passing test n marked_type_name (type_out (extensions_of (all ds))) (λ q h. no_type test q.0 (type_with (extensions_of (all ds)) q) (is.types (marked_type_name q) h) (is.extensions (marked_type_name q) h)) (map marked_type (types_in (all ds))) (map marked_type (types_in (all es))) (types_alike n)
         ∙ (λ k. filter (passes test) (types_out (λ m. extensions_same (all ds) (all es) (rearranged_behind built_in ds es r) m k) (all es)))
 
-    out_alike : (i j : ℕ) → filter (passes test) (unplaced_document (Out built_in i ds)) ≡ filter (passes test) (unplaced_document (Out built_in j es))
+    out_alike : (i j : ℕ) → filter (passes test) (unplaced_document (WrittenOf built_in i ds)) ≡ filter (passes test) (unplaced_document (WrittenOf built_in j es))
     out_alike i j =
         ap (filter (passes test)) (out_plain built_in i ds)
         ∙ pieces (schema_of_all (all ds)) (directives_out (own_directives ds) (all ds)) (types_out (extensions_of (all ds)) (all ds))
@@ -138,7 +138,7 @@ module _ (built_in ds es : Definitions) (r : IsRearranged ds es) (hd : AreOwn ds
         ∙ ap (filter (passes test)) (sym (out_plain built_in j es))
 
 pub writes_rearranged : RearrangedWritesAlike
-writes_rearranged built_in i j ds es r hd he = rearranged_by_sorts (Out built_in i ds) (Out built_in j es) (λ n test is. out_alike built_in ds es r hd he n test is i j)
+writes_rearranged built_in i j ds es r hd he = rearranged_by_sorts (WrittenOf built_in i ds) (WrittenOf built_in j es) (λ n test is. out_alike built_in ds es r hd he n test is i j)
 
 -- ---- no operation or fragment is written
 
@@ -156,10 +156,10 @@ none_of_schema is_object r = by (left_out is_object r)
     by true = refl
     by false = no_map executes (λ e. ExtendSchema e.place (schema_parts_given_by tt (Some e) r)) (λ e. refl) (extensions_of_schema r)
 
-none_written : (built_in : Definitions) (first : ℕ) (texts : Definitions) → list_any is_executable (Out built_in first texts) ≡ false
+none_written : (built_in : Definitions) (first : ℕ) (texts : Definitions) → list_any is_executable (WrittenOf built_in first texts) ≡ false
 none_written built_in first texts =
-    any-filter is_executable unplaced_definition (Out built_in first texts)
-    ∙ ap (λ l. is_some (slice_get l 0)) (sym (map-filter unplaced_definition is_executable is_executable executable_unplaced (Out built_in first texts)) ∙ ap (filter is_executable) (out_plain built_in first texts) ∙ none)
+    any-filter is_executable unplaced_definition (WrittenOf built_in first texts)
+    ∙ ap (λ l. is_some (slice_get l 0)) (sym (map-filter unplaced_definition is_executable is_executable executable_unplaced (WrittenOf built_in first texts)) ∙ ap (filter is_executable) (out_plain built_in first texts) ∙ none)
   where
     schema : List (DefinitionTree (Unit {0}))
     schema = schema_of_all (built_in ++ texts)
@@ -179,4 +179,4 @@ none_written built_in first texts =
         ++ none_of_each (type_out (extensions_of (built_in ++ texts))) (λ q. no_type executes q.0 (type_with (extensions_of (built_in ++ texts)) q) refl refl) (firsts marked_type_name (map marked_type (types_in (built_in ++ texts)))) i)
 
 pub writes_permuted : RearrangedWritesPermuted
-writes_permuted built_in i j ds es r hd he = rearranged_permuted (Out built_in i ds) (Out built_in j es) (none_written built_in i ds) (writes_rearranged built_in i j ds es r hd he)
+writes_permuted built_in i j ds es r hd he = rearranged_permuted (WrittenOf built_in i ds) (WrittenOf built_in j es) (none_written built_in i ds) (writes_rearranged built_in i j ds es r hd he)

@@ -11,7 +11,7 @@ use Rattle.schema_fold.specs.in_schema_types.SchemaTree.{SchemaType}
 use Rattle.schema_fold.specs.Listed.{Definitions}
 use Rattle.schema_fold.specs.Fold.{folded_types}
 use Rattle.verdict_written_laws.specs.Table.{AreOwn}
-use Rattle.verdict_written_laws.specs.Twice.{Out}
+use Rattle.verdict_written_laws.specs.Twice.{WrittenOf}
 use Rattle.verdict_rearranging_laws.specs.Rearranged.{IsRearranged}
 
 abbrev pub CutIsRearranged : Type 0
@@ -54,8 +54,8 @@ CutKeepsTypes = (first : ℕ) (ds es : Definitions) → unplaced_document ds ≡
 -- the same definitions in the same order
 abbrev pub CutWritesAlike : Type 0
 CutWritesAlike = (built_in : Definitions) (i j : ℕ) (ds es : Definitions) → unplaced_document ds ≡ unplaced_document es → AreOwn ds → AreOwn es
-    → unplaced_document (Out built_in i ds) ≡ unplaced_document (Out built_in j es)
+    → unplaced_document (WrittenOf built_in i ds) ≡ unplaced_document (WrittenOf built_in j es)
 
 -- the numbers of extensions play no part
 abbrev pub NumbersAreNotWritten : Type 0
-NumbersAreNotWritten = (built_in : Definitions) (i j : ℕ) (ds : Definitions) → Out built_in i ds ≡ Out built_in j ds
+NumbersAreNotWritten = (built_in : Definitions) (i j : ℕ) (ds : Definitions) → WrittenOf built_in i ds ≡ WrittenOf built_in j ds

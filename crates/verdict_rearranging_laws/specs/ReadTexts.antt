@@ -16,7 +16,7 @@ use Rattle.rule_definitions.specs.Laws.{AreEqual}
 use Rattle.rule_definitions.specs.Kept.{validated}
 use Rattle.rule_schema_laws.specs.ReadTexts.{Texts, AreReadElsewhere}
 use Rattle.verdict_written_laws.specs.Table.{AreOwn}
-use Rattle.verdict_written_laws.specs.Twice.{Out}
+use Rattle.verdict_written_laws.specs.Twice.{WrittenOf}
 use Rattle.verdict_rearranging_laws.specs.Rearranged.{IsRearranged}
 use Rattle.verdict_rearranging_laws.specs.Permuting.{IsPermuted}
 use Rattle.verdict_rearranging_laws.specs.Elsewhere.{AreAllElsewhere}
@@ -52,7 +52,7 @@ module _ (settings : Settings) where
     pub rules : SchemaRules (judged (schema_of i texts)) ↔ SchemaRules (judged (schema_of j others))
     pub schema : AreEqual (schema_of i texts) (schema_of j others)
     pub at_hand : AreEqual (validated (schema_of i texts)) (validated (schema_of j others))
-    pub writes : IsPermuted (Out built_in_definitions i (list_of texts)) (Out built_in_definitions j (list_of others))
+    pub writes : IsPermuted (WrittenOf built_in_definitions i (list_of texts)) (WrittenOf built_in_definitions j (list_of others))
 
 abbrev pub LawOfRearranging : Type 0
 LawOfRearranging = (settings : Settings) (i j : ℕ) (texts others : Texts) → AreReadElsewhere texts → AreReadElsewhere others
@@ -63,4 +63,4 @@ abbrev pub LawOfCutting : Type 0
 LawOfCutting = (settings : Settings) (i j : ℕ) (texts others : Texts) → AreReadElsewhere texts → AreReadElsewhere others
     → unplaced_document (all_of texts) ≡ unplaced_document (all_of others)
     → MakesTheSame settings i j texts others
-    × (unplaced_document (Out built_in_definitions i (list_of settings texts)) ≡ unplaced_document (Out built_in_definitions j (list_of settings others)))
+    × (unplaced_document (WrittenOf built_in_definitions i (list_of settings texts)) ≡ unplaced_document (WrittenOf built_in_definitions j (list_of settings others)))

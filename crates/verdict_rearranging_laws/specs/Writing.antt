@@ -3,16 +3,16 @@
 use Rattle.std.specs.Prelude.{ℕ}
 use Rattle.schema_fold.specs.Listed.{Definitions}
 use Rattle.verdict_written_laws.specs.Table.{AreOwn}
-use Rattle.verdict_written_laws.specs.Twice.{Out}
+use Rattle.verdict_written_laws.specs.Twice.{WrittenOf}
 use Rattle.verdict_rearranging_laws.specs.Rearranged.{IsRearranged}
 use Rattle.verdict_rearranging_laws.specs.Permuting.{IsPermuted}
 
 -- no folding rule is asked for
 abbrev pub RearrangedWritesAlike : Type 0
 RearrangedWritesAlike = (built_in : Definitions) (i j : ℕ) (ds es : Definitions) → IsRearranged ds es → AreOwn ds → AreOwn es
-    → IsRearranged (Out built_in i ds) (Out built_in j es)
+    → IsRearranged (WrittenOf built_in i ds) (WrittenOf built_in j es)
 
 -- and since no operation or fragment is written, they are permuted
 abbrev pub RearrangedWritesPermuted : Type 0
 RearrangedWritesPermuted = (built_in : Definitions) (i j : ℕ) (ds es : Definitions) → IsRearranged ds es → AreOwn ds → AreOwn es
-    → IsPermuted (Out built_in i ds) (Out built_in j es)
+    → IsPermuted (WrittenOf built_in i ds) (WrittenOf built_in j es)

@@ -29,7 +29,7 @@ use Rattle.verdict_written_laws.specs.Arranged.{arranged}
 use Rattle.verdict_written_laws.specs.Whole.{Extension, classes, extension_at, extensions_in, whole_definition, whole_extension, whole_type}
 use Rattle.verdict_written_laws.specs.WholeSchema.{SchemaExtension, schema_classes, schema_extensions_in, whole_schema_extension, left_out}
 use Rattle.verdict_written_laws.specs.Table.{AreOwn}
-use Rattle.verdict_written_laws.specs.Twice.{Out}
+use Rattle.verdict_written_laws.specs.Twice.{WrittenOf}
 use Rattle.verdict_written_laws.proofs.Order.{Each, IsApart, AreApart}
 use Rattle.verdict_written_laws.proofs.Again.{firsts_apart}
 use Rattle.verdict_written_laws.proofs.Accepted.{types_whole}
@@ -285,13 +285,13 @@ table_none : extension_count built_in_definitions ≡ 0
 unfolding built_in_definitions
 table_none = refl
 
-pub no_more : (first : ℕ) (texts : Definitions) → AreOwn texts → FoldingRules built_in_definitions first texts → extension_count (Out built_in_definitions first texts) ≤ extension_count texts
+pub no_more : (first : ℕ) (texts : Definitions) → AreOwn texts → FoldingRules built_in_definitions first texts → extension_count (WrittenOf built_in_definitions first texts) ≤ extension_count texts
 no_more first texts own rules =
     let ds = built_in_definitions ++ texts in
     let ts : List Definition = firsts type_name (types_in ds) in
     let entries = map (λ d. (directive_name d, chosen_directive texts d)) (firsts directive_name (directives_in ds)) in
     let b = left_out (is_object_named (folded_types first ds)) (schema_base ds) (is_empty (arranged schema_classes (schema_extensions_in ds))) in
-    let same : Out built_in_definitions first texts ≡ (written_by b ds ++ flat_map written_directive entries) ++ flat_map (whole_type ds) ts =
+    let same : WrittenOf built_in_definitions first texts ≡ (written_by b ds ++ flat_map written_directive entries) ++ flat_map (whole_type ds) ts =
     λ i. (schema_written built_in_definitions first texts (accepted_applied built_in_definitions first texts rules real_table) (accepted_at_most built_in_definitions first texts rules real_table) i ++ flat_map written_directive entries) ++ types_whole built_in_definitions first texts rules i in
     let count = ap extension_count same in
     let outer = count_append (written_by b ds ++ flat_map written_directive entries) (flat_map (whole_type ds) ts) in

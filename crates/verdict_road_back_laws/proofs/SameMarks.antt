@@ -21,7 +21,7 @@ use Rattle.rule_definitions.specs.Laws.{AreEqual}
 use Rattle.verdict_rearranging_laws.specs.Elsewhere.{AreElsewhere, ArePartsElsewhere, AreAllElsewhere}
 use Rattle.verdict_rearranging_laws.proofs.Marks.{under_firsts}
 use Rattle.verdict_written_laws.specs.Table.{IsTable, AreOwn}
-use Rattle.verdict_written_laws.specs.Twice.{Out}
+use Rattle.verdict_written_laws.specs.Twice.{WrittenOf}
 use Rattle.verdict_written_laws.proofs.Order.{Each, Each-append}
 use Rattle.verdict_written_laws.proofs.TypesTwice.{all_each}
 use Rattle.verdict_written_laws.proofs.Twice.{types_all, directives_plain, all_plain}
@@ -143,9 +143,9 @@ abbrev argument_mark : ℕ → Option Field → Bool
 argument_mark k o = is_built_in (place_of (slice_get (option_map_or (λ f. f.it.arguments) o []) k))
 
 module _ (built_in : Definitions) (first again : ℕ) (texts : Definitions) (rules : FoldingRules built_in first texts) (table : IsTable built_in) (own : AreOwn texts)
-    (elsewhere : AreAllElsewhere texts) (out_elsewhere : AreAllElsewhere (Out built_in first texts)) where
+    (elsewhere : AreAllElsewhere texts) (out_elsewhere : AreAllElsewhere (WrittenOf built_in first texts)) where
   abbrev out : Definitions
-  out = Out built_in first texts
+  out = WrittenOf built_in first texts
 
   table_elsewhere : Each ExtendsElsewhere built_in
   table_elsewhere = table_extends built_in (all_each (λ d. type_extension_here d ≡ None) built_in table.no_extension)

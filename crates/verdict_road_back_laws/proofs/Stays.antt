@@ -26,7 +26,7 @@ use Rattle.verdict_written_laws.specs.Arranged.{arranged}
 use Rattle.verdict_written_laws.specs.Whole.{Extension, classes, extension_at, extensions_in, whole_definition, whole_extension, whole_type}
 use Rattle.verdict_written_laws.specs.WholeSchema.{whole_parts, SchemaExtension, schema_classes, schema_extensions_in, whole_schema_extension, left_out}
 use Rattle.verdict_written_laws.specs.Table.{IsTable, AreOwn}
-use Rattle.verdict_written_laws.specs.Twice.{Out}
+use Rattle.verdict_written_laws.specs.Twice.{WrittenOf}
 use Rattle.verdict_written_laws.proofs.Order.{Each, Each-append, Each-arranged}
 use Rattle.verdict_written_laws.proofs.Accepted.{types_whole}
 use Rattle.verdict_written_laws.proofs.Again.{kinds_same}
@@ -202,7 +202,7 @@ module _ (Q : DefinitionTree Place → Type 0) (R : SchemaParts Place → Type 0
   either_each N [] (y ∷ ys) h k = (inr k.0, either_each N [] ys tt k.1)
   either_each N (x ∷ xs) ys h k = (inl h.0, either_each N xs ys h.1 k)
 
-  pub out_stays : (built_in : Definitions) (first : ℕ) (texts : Definitions) → IsTable built_in → AreOwn texts → FoldingRules built_in first texts → Each Q texts → Each Q (Out built_in first texts)
+  pub out_stays : (built_in : Definitions) (first : ℕ) (texts : Definitions) → IsTable built_in → AreOwn texts → FoldingRules built_in first texts → Each Q texts → Each Q (WrittenOf built_in first texts)
   out_stays built_in first texts table own rules fit =
       let ds = built_in ++ texts in
       let schema = subst (Each Q) (sym (schema_written built_in first texts (accepted_applied built_in first texts rules table) (accepted_at_most built_in first texts rules table)))

@@ -20,7 +20,7 @@ use Rattle.read_printed.specs.WellFormed.{names_well_formed, directives_well_for
 use Rattle.read_printed.specs.Definitions.{definition_well_formed}
 use Rattle.verdict_written_laws.specs.WholeSchema.{roots_of, written_roots, whole_parts}
 use Rattle.verdict_written_laws.specs.Table.{IsTable, AreOwn}
-use Rattle.verdict_written_laws.specs.Twice.{Out}
+use Rattle.verdict_written_laws.specs.Twice.{WrittenOf}
 use Rattle.verdict_written_laws.proofs.Order.{Each}
 use Rattle.verdict_rearranging_laws.specs.Elsewhere.{ArePartsElsewhere, IsElsewhere, AreAllElsewhere}
 use Rattle.verdict_rearranging_laws.proofs.Elsewhere.{other_elsewhere}
@@ -110,8 +110,8 @@ all_are_formed [] h = refl
 all_are_formed (d ∷ ds) h = and_from (definition_well_formed d) (list_all definition_well_formed ds) h.0 (all_are_formed ds h.1)
 
 pub out_formed : (built_in : Definitions) (first : ℕ) (texts : Definitions) → IsTable built_in → AreOwn texts → FoldingRules built_in first texts → list_all definition_well_formed texts ≡ true
-    → list_all definition_well_formed (Out built_in first texts) ≡ true
-out_formed built_in first texts table own rules h = all_are_formed (Out built_in first texts) (out_stays IsFormed AreFormedParts formed_stays built_in first texts table own rules (each_formed texts h))
+    → list_all definition_well_formed (WrittenOf built_in first texts) ≡ true
+out_formed built_in first texts table own rules h = all_are_formed (WrittenOf built_in first texts) (out_stays IsFormed AreFormedParts formed_stays built_in first texts table own rules (each_formed texts h))
 
 -- ---- elsewhere
 
@@ -155,6 +155,6 @@ pub each_one : {X : Type 0} (P : X → Type 0) (xs : List X) → Each P xs → (
 each_one P [] h x c = not_in_nil x c
 each_one P (y ∷ xs) h x c = elim (Contains-cons y xs x c) [ inl e ↦ subst P e h.0 | inr r ↦ each_one P xs h.1 x r ]
 
-pub out_elsewhere : (built_in : Definitions) (first : ℕ) (texts : Definitions) → IsTable built_in → AreOwn texts → FoldingRules built_in first texts → AreAllElsewhere texts → AreAllElsewhere (Out built_in first texts)
+pub out_elsewhere : (built_in : Definitions) (first : ℕ) (texts : Definitions) → IsTable built_in → AreOwn texts → FoldingRules built_in first texts → AreAllElsewhere texts → AreAllElsewhere (WrittenOf built_in first texts)
 out_elsewhere built_in first texts table own rules h =
-    each_one IsElsewhere (Out built_in first texts) (out_stays IsElsewhere (λ p. Unit {0}) elsewhere_stays built_in first texts table own rules (each_elsewhere texts h))
+    each_one IsElsewhere (WrittenOf built_in first texts) (out_stays IsElsewhere (λ p. Unit {0}) elsewhere_stays built_in first texts table own rules (each_elsewhere texts h))

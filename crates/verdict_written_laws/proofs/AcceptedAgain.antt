@@ -19,7 +19,7 @@ use Rattle.schema_fold.specs.SchemaFold.{schema_here, roots_given, root_key}
 use Rattle.schema_fold.specs.BuildErrors as rule
 use Rattle.schema_fold.specs.BuildErrors.{FoldingRules}
 use Rattle.verdict_written_laws.specs.Table.{IsTable, AreOwn}
-use Rattle.verdict_written_laws.specs.Twice.{Out}
+use Rattle.verdict_written_laws.specs.Twice.{WrittenOf}
 use Rattle.verdict_written_laws.proofs.Order.{Each}
 use Rattle.verdict_written_laws.proofs.Types.{HasNoRepeats}
 use Rattle.verdict_written_laws.proofs.Names.{AreNew, kept_new}
@@ -90,7 +90,7 @@ some_one (Some x) h = refl
 
 module _ (built_in : Definitions) (first again_first : ℕ) (texts : Definitions) (table : IsTable built_in) (own : AreOwn texts) (rules : FoldingRules built_in first texts) where
   abbrev out : Definitions
-  out = Out built_in first texts
+  out = WrittenOf built_in first texts
 
   abbrev again : Definitions
   again = built_in ++ out

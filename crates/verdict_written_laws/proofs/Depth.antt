@@ -24,7 +24,7 @@ use Rattle.verdict_written_laws.specs.Arranged.{arranged}
 use Rattle.verdict_written_laws.specs.Whole.{Extension, classes, extension_at, extensions_in, whole_definition, whole_extension, whole_type}
 use Rattle.verdict_written_laws.specs.WholeSchema.{whole_parts, SchemaExtension, schema_classes, schema_extensions_in, whole_schema_extension, left_out}
 use Rattle.verdict_written_laws.specs.Table.{IsTable, AreOwn}
-use Rattle.verdict_written_laws.specs.Twice.{Out}
+use Rattle.verdict_written_laws.specs.Twice.{WrittenOf}
 use Rattle.read_depth_laws.specs.TreeDepth.{deepest, bracketed, input_values_depth, directives_depth, schema_depth, definition_depth, document_depth}
 use Rattle.verdict_written_laws.proofs.Order.{Each, Each-append, Each-arranged}
 use Rattle.verdict_written_laws.proofs.Accepted.{types_whole}
@@ -235,7 +235,7 @@ module _ (bound : ℕ) where
     either_each Q [] (y ∷ ys) h k = (inr k.0, either_each Q [] ys tt k.1)
     either_each Q (x ∷ xs) ys h k = (inl h.0, either_each Q xs ys h.1 k)
 
-    pub out_fits : (built_in : Definitions) (first : ℕ) (texts : Definitions) → IsTable built_in → AreOwn texts → FoldingRules built_in first texts → document_depth texts ≤ bound → document_depth (Out built_in first texts) ≤ bound
+    pub out_fits : (built_in : Definitions) (first : ℕ) (texts : Definitions) → IsTable built_in → AreOwn texts → FoldingRules built_in first texts → document_depth texts ≤ bound → document_depth (WrittenOf built_in first texts) ≤ bound
     out_fits built_in first texts table own rules deep =
         let fit = all_fit texts deep in
         let ds = built_in ++ texts in
@@ -248,4 +248,4 @@ module _ (bound : ℕ) where
         (whole_fit ds (either_each (λ d. type_extension_here d ≡ None) built_in texts (all_each (λ d. type_extension_here d ≡ None) built_in table.no_extension) fit) (firsts type_name (types_in ds))
         (subst (Each TypeFits) (sym (all_types built_in first texts rules table own))
         (Each-append TypeFits (types_in built_in) (types_in texts) (marked_fit (types_in built_in) (all_each (λ t. is_built_in t.place ≡ true) (types_in built_in) table.types_marked)) (types_fit texts fit)))) in
-        fits_all (Out built_in first texts) (Each-append Fits _ _ (Each-append Fits _ _ schema directives) types)
+        fits_all (WrittenOf built_in first texts) (Each-append Fits _ _ (Each-append Fits _ _ schema directives) types)

@@ -22,7 +22,7 @@ use Rattle.verdict_written_laws.specs.Arranged.{arranged}
 use Rattle.verdict_written_laws.specs.Whole.{classes, extensions_in, whole_definition, whole_extension, whole_type}
 use Rattle.verdict_written_laws.specs.WholeSchema.{roots_of, schema_classes, schema_extensions_in, implicit_of, left_out}
 use Rattle.verdict_written_laws.specs.Table.{IsTable, AreOwn, HasNoQuery}
-use Rattle.verdict_written_laws.specs.Twice.{Out, WrittenIsWritable}
+use Rattle.verdict_written_laws.specs.Twice.{WrittenOf, WrittenIsWritable}
 use Rattle.verdict_written_laws.proofs.Accepted.{types_whole}
 use Rattle.verdict_written_laws.proofs.TypesTwice.{all_types}
 use Rattle.verdict_written_laws.proofs.SchemaTwice.{schema_written, accepted_applied, accepted_at_most, written_by}
@@ -92,7 +92,7 @@ module _ (built_in : Definitions) (first : ℕ) (texts : Definitions) (table : I
   abbrev leaves_out : Bool
   leaves_out = left_out is_object (schema_base ds) (is_empty (arranged schema_classes (schema_extensions_in ds)))
 
-  pub out_some : has_some (Out built_in first texts) ≡ true
+  pub out_some : has_some (WrittenOf built_in first texts) ≡ true
   out_some = by leaves_out refl
     where
       given : leaves_out ≡ true → is_object (default_root_name operation.Query) ≡ true
@@ -106,7 +106,7 @@ module _ (built_in : Definitions) (first : ℕ) (texts : Definitions) (table : I
       written : (b : Bool) → leaves_out ≡ b → written_schema (fold built_in first texts) ≡ written_by b ds
       written b e = schema_written built_in first texts (accepted_applied built_in first texts rules table) (accepted_at_most built_in first texts rules table) ∙ ap (λ b. written_by b ds) e
 
-      by : (b : Bool) → leaves_out ≡ b → has_some (Out built_in first texts) ≡ true
+      by : (b : Bool) → leaves_out ≡ b → has_some (WrittenOf built_in first texts) ≡ true
       by true e = some_second (written_schema (fold built_in first texts) ++ flat_map written_directive (fold built_in first texts).directives) (flat_map written_type (folded_types first ds)) (types_or_not (types_in texts) refl (given e))
       by false e = some_first (written_schema (fold built_in first texts) ++ flat_map written_directive (fold built_in first texts).directives) (flat_map written_type (folded_types first ds))
           (some_first (written_schema (fold built_in first texts)) (flat_map written_directive (fold built_in first texts).directives)
@@ -114,5 +114,5 @@ module _ (built_in : Definitions) (first : ℕ) (texts : Definitions) (table : I
 
 pub written_writable : WrittenIsWritable
 written_writable built_in first texts can =
-    ap (λ b. b && list_all definition_writable (Out built_in first texts)) (out_some built_in first texts can.table can.no_query can.own can.rules)
+    ap (λ b. b && list_all definition_writable (WrittenOf built_in first texts)) (out_some built_in first texts can.table can.no_query can.own can.rules)
     ∙ out_writable built_in first texts can.table can.own can.rules can.defined can.writable

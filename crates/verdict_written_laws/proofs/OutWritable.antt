@@ -29,7 +29,7 @@ use Rattle.verdict_written_laws.specs.Arranged.{arranged}
 use Rattle.verdict_written_laws.specs.Whole.{Extension, classes, extension_at, extensions_in, whole_definition, whole_extension, whole_type}
 use Rattle.verdict_written_laws.specs.WholeSchema.{roots_of, written_roots, whole_parts, SchemaExtension, schema_classes, schema_extensions_in, whole_schema_extension, left_out}
 use Rattle.verdict_written_laws.specs.Table.{IsTable, AreOwn}
-use Rattle.verdict_written_laws.specs.Twice.{Out}
+use Rattle.verdict_written_laws.specs.Twice.{WrittenOf}
 use Rattle.verdict_written_laws.proofs.Order.{Each, Each-append, Each-arranged}
 use Rattle.verdict_written_laws.proofs.Accepted.{types_whole}
 use Rattle.verdict_written_laws.proofs.Again.{kinds_same}
@@ -295,7 +295,7 @@ either_each Q [] (y ∷ ys) h k = (inr k.0, either_each Q [] ys tt k.1)
 either_each Q (x ∷ xs) ys h k = (inl h.0, either_each Q xs ys h.1 k)
 
 pub out_writable : (built_in : Definitions) (first : ℕ) (texts : Definitions) → IsTable built_in → AreOwn texts → FoldingRules built_in first texts → schema_is_defined (built_in ++ texts) ≡ true
-    → list_all definition_writable texts ≡ true → list_all definition_writable (Out built_in first texts) ≡ true
+    → list_all definition_writable texts ≡ true → list_all definition_writable (WrittenOf built_in first texts) ≡ true
 out_writable built_in first texts table own rules defined can =
     let fit = all_fit texts can in
     let ds = built_in ++ texts in
@@ -308,4 +308,4 @@ out_writable built_in first texts table own rules defined can =
     (whole_fit ds (either_each (λ d. type_extension_here d ≡ None) built_in texts (all_each (λ d. type_extension_here d ≡ None) built_in table.no_extension) fit) (firsts type_name (types_in ds))
     (subst (Each TypeFits) (sym (all_types built_in first texts rules table own))
     (Each-append TypeFits (types_in built_in) (types_in texts) (marked_fit (types_in built_in) (all_each (λ t. is_built_in t.place ≡ true) (types_in built_in) table.types_marked)) (types_fit texts fit)))) in
-    fits_all (Out built_in first texts) (Each-append Fits _ _ (Each-append Fits _ _ schema directives) types)
+    fits_all (WrittenOf built_in first texts) (Each-append Fits _ _ (Each-append Fits _ _ schema directives) types)

@@ -25,7 +25,7 @@ use Rattle.verdict_written_laws.specs.Arranged.{arranged}
 use Rattle.verdict_written_laws.specs.Whole.{Extension, classes, extensions_in, whole_definition, whole_extension, whole_type}
 use Rattle.verdict_written_laws.specs.WholeSchema.{whole_parts, schema_classes, schema_extensions_in, whole_schema, roots_in}
 use Rattle.verdict_written_laws.specs.Table.{IsTable, AreOwn}
-use Rattle.verdict_written_laws.specs.Twice.{Out}
+use Rattle.verdict_written_laws.specs.Twice.{WrittenOf}
 use Rattle.verdict_written_laws.proofs.Order.{Each, Each-append}
 use Rattle.verdict_written_laws.proofs.Accepted.{types_whole}
 use Rattle.verdict_written_laws.proofs.TypesTwice.{all_each, types_append, all_types, same_types, types_twice, types_equal, again_no_repeats}
@@ -195,7 +195,7 @@ module _ (built_in : Definitions) (first again_first : ℕ) (texts : Definitions
       ∙ types_again (whole_schema ds) (each_whole_schema (λ d. type_here d ≡ None) (λ p d s. refl) (λ p s. refl) ds) (each_whole_schema (λ d. type_extension_here d ≡ None) (λ p d s. refl) (λ p s. refl) ds)
 
   abbrev out : Definitions
-  out = Out built_in first texts
+  out = WrittenOf built_in first texts
 
   abbrev behind_schema : Definitions
   behind_schema = directives_out ++ types_out
@@ -352,5 +352,5 @@ module _ (built_in : Definitions) (first again_first : ℕ) (texts : Definitions
   pub all_plain : plain (fold built_in again_first out) ≡ plain (fold built_in first texts)
   all_plain = λ i. record { definition = definition_plain i; directives = named plain_directive_definition (directives_same i); types = types_plain i }
 
-  pub written_twice : Out built_in again_first out ≡ out
+  pub written_twice : WrittenOf built_in again_first out ≡ out
   written_twice = λ i. schema_same i ++ flat_map written_directive (directives_same i) ++ types_same i

@@ -13,30 +13,30 @@ use Rattle.verdict_written_laws.specs.Table.{IsTable, HasNoQuery, AreOwn}
 use Rattle.read_depth_laws.specs.TreeDepth.{document_depth}
 
 -- what is written of a list, beside the table, where extensions are numbered from `first`
-abbrev pub Out : Definitions → ℕ → Definitions → Definitions
-Out built_in first texts = written (fold built_in first texts)
+abbrev pub WrittenOf : Definitions → ℕ → Definitions → Definitions
+WrittenOf built_in first texts = written (fold built_in first texts)
 
 abbrev pub WrittenTwice : Type 0
 WrittenTwice = (built_in : Definitions) (first again_first : ℕ) (texts : Definitions) → IsTable built_in → AreOwn texts → FoldingRules built_in first texts
-    → Out built_in again_first (Out built_in first texts) ≡ Out built_in first texts
+    → WrittenOf built_in again_first (WrittenOf built_in first texts) ≡ WrittenOf built_in first texts
 
 -- the same of the repository's table
 abbrev pub WrittenTwiceBesideTheTable : Type 0
 WrittenTwiceBesideTheTable = (first again_first : ℕ) (texts : Definitions) → AreOwn texts → FoldingRules built_in_definitions first texts
-    → Out built_in_definitions again_first (Out built_in_definitions first texts) ≡ Out built_in_definitions first texts
+    → WrittenOf built_in_definitions again_first (WrittenOf built_in_definitions first texts) ≡ WrittenOf built_in_definitions first texts
 
 abbrev pub NestsNoDeeper : Type 0
 NestsNoDeeper = (bound : ℕ) → 1 ≤ bound → (built_in : Definitions) (first : ℕ) (texts : Definitions) → IsTable built_in → AreOwn texts → FoldingRules built_in first texts
-    → document_depth texts ≤ bound → document_depth (Out built_in first texts) ≤ bound
+    → document_depth texts ≤ bound → document_depth (WrittenOf built_in first texts) ≤ bound
 
 abbrev pub FoldsToEqual : Type 0
 FoldsToEqual = (built_in : Definitions) (first again_first : ℕ) (texts : Definitions) → IsTable built_in → AreOwn texts → FoldingRules built_in first texts
-    → plain (fold built_in again_first (Out built_in first texts)) ≡ plain (fold built_in first texts)
+    → plain (fold built_in again_first (WrittenOf built_in first texts)) ≡ plain (fold built_in first texts)
 
 -- no folding rule is broken by what is written: no orphan, no second definition, no repeated component or root
 abbrev pub AcceptedAgain : Type 0
 AcceptedAgain = (built_in : Definitions) (first again_first : ℕ) (texts : Definitions) → IsTable built_in → AreOwn texts → FoldingRules built_in first texts
-    → FoldingRules built_in again_first (Out built_in first texts)
+    → FoldingRules built_in again_first (WrittenOf built_in first texts)
 
 -- where each definition can be written, and a schema is defined or implied, what is written is a document that can be written
 pub record CanBeWritten (built_in : Definitions) (first : ℕ) (texts : Definitions) : Type 0 where
@@ -48,4 +48,4 @@ pub record CanBeWritten (built_in : Definitions) (first : ℕ) (texts : Definiti
   pub writable : list_all definition_writable texts ≡ true
 
 abbrev pub WrittenIsWritable : Type 0
-WrittenIsWritable = (built_in : Definitions) (first : ℕ) (texts : Definitions) → CanBeWritten built_in first texts → document_writable (Out built_in first texts) ≡ true
+WrittenIsWritable = (built_in : Definitions) (first : ℕ) (texts : Definitions) → CanBeWritten built_in first texts → document_writable (WrittenOf built_in first texts) ≡ true
