@@ -20,7 +20,7 @@ use Rattle.rule_definitions.proofs.Lists.{not_in_nil, Contains-first}
 use Rattle.rule_schema_laws.specs.ReadTexts.{Texts, AreReadElsewhere}
 use Rattle.rule_schema_laws.proofs.Fine.{all_so}
 use Rattle.verdict_rearranging_laws.specs.Elsewhere.{AreElsewhere, AreFieldsElsewhere, ArePartsElsewhere, IsElsewhere, AreAllElsewhere}
-use Rattle.verdict_rearranging_laws.specs.ReadTexts.{all_of, list_of, ReadTextsStandElsewhere, ElsewhereIsOwn, LawOfRearranging, LawOfCutting}
+use Rattle.verdict_rearranging_laws.specs.ReadTexts.{all_of, list_of, ReadTextsStandElsewhere, ElsewhereIsOwn, LawOfRearrangingReadTexts, LawOfCutting}
 use Rattle.verdict_rearranging_laws.proofs.Rearranged.{cut}
 use Rattle.verdict_rearranging_laws.proofs.Faults.{keep_the_rules}
 use Rattle.verdict_rearranging_laws.proofs.Marks.{are_equal, rearranged_same_verdict}
@@ -143,7 +143,7 @@ is_own_list ds h = record {
 list_elsewhere : (settings : Settings) (texts : Texts) → AreReadElsewhere texts → AreAllElsewhere (list_of settings texts)
 list_elsewhere settings texts read = settled_elsewhere built_in_definitions settings (all_of texts) (texts_elsewhere texts read)
 
-pub rearranging : LawOfRearranging
+pub rearranging : LawOfRearrangingReadTexts
 rearranging settings i j texts others read other_read r =
     let list = settled_rearranged built_in_definitions settings (all_of texts) (all_of others) r in
     let own = list_elsewhere settings texts read in

@@ -54,8 +54,8 @@ module _ (settings : Settings) where
     pub at_hand : AreEqual (validated (schema_of i texts)) (validated (schema_of j others))
     pub writes : IsPermuted (WrittenOf built_in_definitions i (list_of texts)) (WrittenOf built_in_definitions j (list_of others))
 
-abbrev pub LawOfRearranging : Type 0
-LawOfRearranging = (settings : Settings) (i j : ℕ) (texts others : Texts) → AreReadElsewhere texts → AreReadElsewhere others
+abbrev pub LawOfRearrangingReadTexts : Type 0
+LawOfRearrangingReadTexts = (settings : Settings) (i j : ℕ) (texts others : Texts) → AreReadElsewhere texts → AreReadElsewhere others
     → IsRearranged (all_of texts) (all_of others) → MakesTheSame settings i j texts others
 
 -- texts that are cut in two ways: besides, what is written is the same, in the same order

@@ -12,7 +12,7 @@ ghost use Rattle.verdict_rearranging_laws.specs.Adopting.{SettledIsRearranged, C
 ghost use Rattle.verdict_rearranging_laws.specs.Folding.{RearrangedFoldsAlike, RearrangedFailAlike, RearrangedKeepTheRules};
 ghost use Rattle.verdict_rearranging_laws.specs.Judging.{RearrangedAreEqual, RearrangedSameVerdict, RearrangedLeaveEqual, RearrangedJudgeAlike, EqualAfterValidation, FoldsAreDistinct};
 ghost use Rattle.verdict_rearranging_laws.specs.Cutting.{CutIsRearranged, CutKeepsTypes, CutWritesAlike, NumbersAreNotWritten};
-ghost use Rattle.verdict_rearranging_laws.specs.ReadTexts.{ReadTextsStandElsewhere, ElsewhereIsOwn, LawOfRearranging, LawOfCutting};
+ghost use Rattle.verdict_rearranging_laws.specs.ReadTexts.{ReadTextsStandElsewhere, ElsewhereIsOwn, LawOfRearrangingReadTexts, LawOfCutting};
 ghost use Rattle.verdict_rearranging_laws.specs.Writing.{RearrangedWritesAlike, RearrangedWritesPermuted};
 
 /// Lists that are rearranged fold to equal schemas, and break the same folding rules.
@@ -84,6 +84,6 @@ pub fn read_texts_stand_elsewhere()
 /// Of texts that are read, with the same definitions in an order that is the same for each sort, a builder makes the same; and
 /// of one list that is cut in two ways the same is written.
 pub fn builders_make_the_same()
-    ensures rearranged { LawOfRearranging }
+    ensures rearranged { LawOfRearrangingReadTexts }
     ensures cut { LawOfCutting }
 {}
