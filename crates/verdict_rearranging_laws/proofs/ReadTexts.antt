@@ -20,7 +20,7 @@ use Rattle.rule_definitions.proofs.Lists.{not_in_nil, Contains-first}
 use Rattle.rule_schema_laws.specs.ReadTexts.{Texts, AreReadElsewhere}
 use Rattle.rule_schema_laws.proofs.Fine.{all_so}
 use Rattle.verdict_rearranging_laws.specs.Elsewhere.{AreElsewhere, AreFieldsElsewhere, ArePartsElsewhere, IsElsewhere, AreAllElsewhere}
-use Rattle.verdict_rearranging_laws.specs.ReadTexts.{all_of, list_of, ReadTextsStandElsewhere, ElsewhereIsOwn, LawOfRearrangingReadTexts, LawOfCutting}
+use Rattle.verdict_rearranging_laws.specs.ReadTexts.{all_of, list_of, ReadTextsStandElsewhere, ElsewhereIsOwn, LawOfRearrangingReadTexts, LawOfCuttingReadTexts}
 use Rattle.verdict_rearranging_laws.proofs.Rearranged.{cut}
 use Rattle.verdict_rearranging_laws.proofs.Faults.{keep_the_rules}
 use Rattle.verdict_rearranging_laws.proofs.Marks.{are_equal, rearranged_same_verdict}
@@ -156,7 +156,7 @@ rearranging settings i j texts others read other_read r =
       writes = writes_permuted built_in_definitions i j (list_of settings texts) (list_of settings others) list (is_own_list (list_of settings texts) own) (is_own_list (list_of settings others) other_own);
     }
 
-pub cutting : LawOfCutting
+pub cutting : LawOfCuttingReadTexts
 cutting settings i j texts others read other_read same = (
   rearranging settings i j texts others read other_read (cut (all_of texts) (all_of others) same),
   writes_alike built_in_definitions i j (list_of settings texts) (list_of settings others) (cut_settled built_in_definitions settings (all_of texts) (all_of others) same)

@@ -59,8 +59,8 @@ LawOfRearrangingReadTexts = (settings : Settings) (i j : ℕ) (texts others : Te
     → IsRearranged (all_of texts) (all_of others) → MakesTheSame settings i j texts others
 
 -- texts that are cut in two ways: besides, what is written is the same, in the same order
-abbrev pub LawOfCutting : Type 0
-LawOfCutting = (settings : Settings) (i j : ℕ) (texts others : Texts) → AreReadElsewhere texts → AreReadElsewhere others
+abbrev pub LawOfCuttingReadTexts : Type 0
+LawOfCuttingReadTexts = (settings : Settings) (i j : ℕ) (texts others : Texts) → AreReadElsewhere texts → AreReadElsewhere others
     → unplaced_document (all_of texts) ≡ unplaced_document (all_of others)
     → MakesTheSame settings i j texts others
     × (unplaced_document (WrittenOf built_in_definitions i (list_of settings texts)) ≡ unplaced_document (WrittenOf built_in_definitions j (list_of settings others)))

@@ -12,7 +12,7 @@ ghost use Rattle.verdict_rearranging_laws.specs.Adopting.{SettledIsRearranged, C
 ghost use Rattle.verdict_rearranging_laws.specs.Folding.{RearrangedFoldsAlike, RearrangedFailAlike, RearrangedKeepTheRules};
 ghost use Rattle.verdict_rearranging_laws.specs.Judging.{RearrangedAreEqual, RearrangedSameVerdict, RearrangedLeaveEqual, RearrangedJudgeAlike, EqualAfterValidation, FoldsAreDistinct};
 ghost use Rattle.verdict_rearranging_laws.specs.Cutting.{CutIsRearranged, CutKeepsTypes, CutWritesAlike, NumbersAreNotWritten};
-ghost use Rattle.verdict_rearranging_laws.specs.ReadTexts.{ReadTextsStandElsewhere, ElsewhereIsOwn, LawOfRearrangingReadTexts, LawOfCutting};
+ghost use Rattle.verdict_rearranging_laws.specs.ReadTexts.{ReadTextsStandElsewhere, ElsewhereIsOwn, LawOfRearrangingReadTexts, LawOfCuttingReadTexts};
 ghost use Rattle.verdict_rearranging_laws.specs.Writing.{RearrangedWritesAlike, RearrangedWritesPermuted};
 
 /// Lists that are rearranged fold to equal schemas, and break the same folding rules.
@@ -85,5 +85,5 @@ pub fn read_texts_stand_elsewhere()
 /// of one list that is cut in two ways the same is written.
 pub fn builders_make_the_same()
     ensures rearranged { LawOfRearrangingReadTexts }
-    ensures cut { LawOfCutting }
+    ensures cut { LawOfCuttingReadTexts }
 {}
