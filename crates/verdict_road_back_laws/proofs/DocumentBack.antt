@@ -22,7 +22,7 @@ use Rattle.verdict_laws.proofs.Sound.{all_append}
 use Rattle.verdict_laws.proofs.Documents.{documents}
 use Rattle.verdict_laws.proofs.TypedAlike.{kept_document_same, rules_same}
 use Rattle.verdict_laws.proofs.AnyNumber.{out_same}
-use Rattle.verdict_road_back_laws.specs.RoadBack.{IsPlainLayout, IsTextOf, IsSameTree, IsSameDocument, DocumentLeadsBack, DocumentRoadBack}
+use Rattle.verdict_road_back_laws.specs.RoadBack.{IsPlainLayout, IsLaidOutText, IsSameTree, IsSameDocument, DocumentLeadsBack, DocumentRoadBack}
 use Rattle.verdict_road_back_laws.proofs.Passing.{all_passing}
 use Rattle.verdict_road_back_laws.proofs.OutDocuments.{out_twice, kept_of_out, rules_of_out}
 use Rattle.verdict_road_back_laws.proofs.FormedDocuments.{read_formed}
@@ -55,7 +55,7 @@ out_depth ds =
 
 -- ---- the way back
 
-module _ (schema other : SchemaTree Place) (equal : AreEqual schema other) (nesting number again : ℕ) (left : IsNumber again) (document : SourceText) (first : IsDocumentAccepted schema nesting number document) (layout : Layout) (plain_layout : IsPlainLayout layout) (text : SourceText) (is : IsTextOf layout (OutDoc first.judged.tree) text) where
+module _ (schema other : SchemaTree Place) (equal : AreEqual schema other) (nesting number again : ℕ) (left : IsNumber again) (document : SourceText) (first : IsDocumentAccepted schema nesting number document) (layout : Layout) (plain_layout : IsPlainLayout layout) (text : SourceText) (is : IsLaidOutText layout (OutDoc first.judged.tree) text) where
   abbrev read : Tree
   read = first.judged.tree
 

@@ -14,7 +14,7 @@ use Rattle.verdict_definitions.specs.Answer.{WritesSchema, WritesDocument, Accep
 use Rattle.verdict_laws.specs.AnyNumber.{IsNumber}
 use Rattle.verdict_laws.proofs.AnyNumber.{one_tree}
 use Rattle.verdict_laws.proofs.Rearranged.{all_one}
-use Rattle.verdict_road_back_laws.specs.RoadBack.{IsPlainLayout, IsTextOf, SchemaLeadsBack, DocumentLeadsBack, PairLeadsBack, PairRoadBack, AnswerRoadBack}
+use Rattle.verdict_road_back_laws.specs.RoadBack.{IsPlainLayout, IsLaidOutText, SchemaLeadsBack, DocumentLeadsBack, PairLeadsBack, PairRoadBack, AnswerRoadBack}
 use Rattle.verdict_road_back_laws.proofs.SomeBracket.{some_text}
 use Rattle.verdict_road_back_laws.proofs.SchemaBack.{schema_road_back}
 use Rattle.verdict_road_back_laws.proofs.DocumentBack.{document_road_back}
@@ -59,7 +59,7 @@ behind_fewer count first some left = λ passed. left (by passed)
 
 -- ---- the way back
 
-module _ (terms : Terms) (schemas : List SourceText) (document : SourceText) (other : terms.first_text ≢ 0) (first : IsAccepted terms schemas document) (layout next : Layout) (plain : IsPlainLayout layout) (plain_next : IsPlainLayout next) (schema_written document_written : SourceText) (schema_is : IsTextOf layout (Out terms first.schema.judged.trees) schema_written) (document_is : IsTextOf next (OutDoc first.over.judged.tree) document_written) where
+module _ (terms : Terms) (schemas : List SourceText) (document : SourceText) (other : terms.first_text ≢ 0) (first : IsAccepted terms schemas document) (layout next : Layout) (plain : IsPlainLayout layout) (plain_next : IsPlainLayout next) (schema_written document_written : SourceText) (schema_is : IsLaidOutText layout (Out terms first.schema.judged.trees) schema_written) (document_is : IsLaidOutText next (OutDoc first.over.judged.tree) document_written) where
   abbrev number : ℕ
   number = document_number terms schemas
 

@@ -27,7 +27,7 @@ use Rattle.verdict_rearranging_laws.proofs.ReadTexts.{texts_elsewhere}
 use Rattle.verdict_definitions.specs.Texts.{SourceText, Tree, ReadsText, ReadsAll, DerivesIn, IsWithin, AreWithin}
 use Rattle.verdict_definitions.specs.Judge.{all_definitions}
 use Rattle.verdict_definitions.specs.Out.{Layout, layout_text, as_lines}
-use Rattle.verdict_road_back_laws.specs.RoadBack.{IsPlainLayout, IsTextOf, IsSameTree, IsWrittenAlike}
+use Rattle.verdict_road_back_laws.specs.RoadBack.{IsPlainLayout, IsLaidOutText, IsSameTree, IsWrittenAlike}
 use Rattle.verdict_road_back_laws.proofs.LineFeeds.{document_line}
 
 -- The text has this number and is read as the definitions, places aside; and it nests no deeper than they.
@@ -50,7 +50,7 @@ of_alone number text ds r =
           not_passed (DerivesIn number) nesting text r.tree (record { reads = read; within = omega (arith, size, deep) });
     }
 
-pub reads_back : (number : ℕ) (layout : Layout) → IsPlainLayout layout → (ds : Tree) → list_all definition_well_formed ds ≡ true → document_writable ds ≡ true → (text : SourceText) → IsTextOf layout ds text → ReadsBack number text ds
+pub reads_back : (number : ℕ) (layout : Layout) → IsPlainLayout layout → (ds : Tree) → list_all definition_well_formed ds ≡ true → document_writable ds ≡ true → (text : SourceText) → IsLaidOutText layout ds text → ReadsBack number text ds
 reads_back number layout plain [] formed writable text is = absurd cc
 reads_back number layout plain (d ∷ ds) formed writable text is = by is
   where
@@ -67,7 +67,7 @@ reads_back number layout plain (d ∷ ds) formed writable text is = by is
     lines None plain' back = of_alone number (layout_text None (d ∷ ds) ++ codes "\n") (d ∷ ds) (document_line (in_file file) literals_read None d ds plain' formed each)
     lines (Some prefix) plain' back = back
 
-    by : IsTextOf layout (d ∷ ds) text → ReadsBack number text (d ∷ ds)
+    by : IsLaidOutText layout (d ∷ ds) text → ReadsBack number text (d ∷ ds)
     by (inl e) = subst (λ t. ReadsBack number t (d ∷ ds)) (sym e) bare
     by (inr e) = subst (λ t. ReadsBack number t (d ∷ ds)) (sym e) (lines layout plain bare)
 

@@ -30,7 +30,7 @@ use Rattle.verdict_definitions.specs.Texts.{SourceText, Tree, Terms}
 use Rattle.verdict_definitions.specs.Judge.{all_definitions, schema_of, schema_at_hand, AreSchemasAccepted}
 use Rattle.verdict_definitions.specs.Out.{Out, Layout}
 use Rattle.verdict_laws.proofs.Schemas.{schemas}
-use Rattle.verdict_road_back_laws.specs.RoadBack.{IsPlainLayout, IsTextOf, IsSameTree, SchemaLeadsBack, SchemaRoadBack}
+use Rattle.verdict_road_back_laws.specs.RoadBack.{IsPlainLayout, IsLaidOutText, IsSameTree, SchemaLeadsBack, SchemaRoadBack}
 use Rattle.verdict_road_back_laws.proofs.SomeBracket.{some_nesting, first_left}
 use Rattle.verdict_road_back_laws.proofs.FormedDocuments.{all_formed}
 use Rattle.verdict_road_back_laws.proofs.StaysSo.{out_formed, out_elsewhere}
@@ -66,7 +66,7 @@ module _ (terms : Terms) (texts : List SourceText) (other : terms.first_text ≢
   formed : list_all definition_well_formed out ≡ true
   formed = out_formed built_in_definitions terms.first_extension ds real_table own first.judged.folds (all_formed terms.first_text texts first.judged.trees first.judged.read)
 
-  module _ (layout : Layout) (plain : IsPlainLayout layout) (text : SourceText) (is : IsTextOf layout out text) where
+  module _ (layout : Layout) (plain : IsPlainLayout layout) (text : SourceText) (is : IsLaidOutText layout out text) where
     back : ReadsBack terms.first_text text out
     back = reads_back terms.first_text layout plain out formed (schemas terms texts other first) text is
 

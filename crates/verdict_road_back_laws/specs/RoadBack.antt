@@ -19,8 +19,8 @@ abbrev pub IsPlainLayout : Layout → Type 0
 IsPlainLayout layout = is_white_prefix layout ≡ true
 
 -- the text of these definitions under the layout, or the same with the line feed that is put out behind it
-abbrev pub IsTextOf : Layout → Tree → SourceText → Type 0
-IsTextOf layout ds text = (text ≡ layout_text layout ds) ⊎ (text ≡ as_lines layout (layout_text layout ds))
+abbrev pub IsLaidOutText : Layout → Tree → SourceText → Type 0
+IsLaidOutText layout ds text = (text ≡ layout_text layout ds) ⊎ (text ≡ as_lines layout (layout_text layout ds))
 
 -- two trees are the same, places aside
 abbrev pub IsSameTree : Tree → Tree → Type 0
@@ -48,7 +48,7 @@ pub record SchemaLeadsBack (terms : Terms) (schemas : List SourceText) (first : 
 -- no schema text has the number of what is built in
 abbrev pub SchemaRoadBack : Type 0
 SchemaRoadBack = (terms : Terms) (schemas : List SourceText) → terms.first_text ≢ 0 → (first : AreSchemasAccepted terms schemas)
-    → (layout : Layout) → IsPlainLayout layout → (text : SourceText) → IsTextOf layout (Out terms first.judged.trees) text → SchemaLeadsBack terms schemas first text
+    → (layout : Layout) → IsPlainLayout layout → (text : SourceText) → IsLaidOutText layout (Out terms first.judged.trees) text → SchemaLeadsBack terms schemas first text
 
 -- ---- the document, over the schema at hand
 
@@ -66,7 +66,7 @@ pub record DocumentLeadsBack (nesting : ℕ) (schema other : SchemaTree Place) (
 abbrev pub DocumentRoadBack : Type 0
 DocumentRoadBack = (schema other : SchemaTree Place) → AreEqual schema other → (nesting number again : ℕ) → IsNumber again
     → (document : SourceText) (first : IsDocumentAccepted schema nesting number document) → (layout : Layout) → IsPlainLayout layout
-    → (text : SourceText) → IsTextOf layout (OutDoc first.judged.tree) text → DocumentLeadsBack nesting schema other number again document first text
+    → (text : SourceText) → IsLaidOutText layout (OutDoc first.judged.tree) text → DocumentLeadsBack nesting schema other number again document first text
 
 -- ---- the pair
 
@@ -85,7 +85,7 @@ pub record PairLeadsBack (terms : Terms) (schemas : List SourceText) (document :
 abbrev pub PairRoadBack : Type 0
 PairRoadBack = (terms : Terms) (schemas : List SourceText) (document : SourceText) → terms.first_text ≢ 0 → (first : IsAccepted terms schemas document)
     → (layout next : Layout) → IsPlainLayout layout → IsPlainLayout next
-    → (schema_written document_written : SourceText) → IsTextOf layout (Out terms first.schema.judged.trees) schema_written → IsTextOf next (OutDoc first.over.judged.tree) document_written
+    → (schema_written document_written : SourceText) → IsLaidOutText layout (Out terms first.schema.judged.trees) schema_written → IsLaidOutText next (OutDoc first.over.judged.tree) document_written
     → PairLeadsBack terms schemas document first schema_written document_written
 
 -- the two texts that are put out for an accepted pair, put in again, have the same bytes put out
