@@ -19,7 +19,7 @@ use Rattle.graphql_checked.specs.declared.verdict.Verdict.TheVariants.{Accepted,
 use Rattle.graphql_checked.specs.declared.verdict.CheckError.{CheckError}
 use Rattle.graphql_checked.specs.declared.verdict.CheckError.TheVariants.{Memory}
 use Rattle.verdict_call_laws.specs.Answers.{AnswersFinish}
-use Rattle.verdict_call_laws.specs.Alike.{SameVerdict, PassesNoBound, AreAnsweredAlike, VerdictsOfRearranged, VerdictsOfCut, AreRearrangedSchemas, AreCutSchemas, FirstIsCertain, FinishAlike, SchemasOfRearranged, SchemasOfCut, DocumentsOverEqual}
+use Rattle.verdict_call_laws.specs.Alike.{VerdictsAgree, PassesNoBound, AreAnsweredAlike, VerdictsOfRearranged, VerdictsOfCut, AreRearrangedSchemas, AreCutSchemas, FirstIsCertain, FinishAlike, SchemasOfRearranged, SchemasOfCut, DocumentsOverEqual}
 
 -- ---- verdicts
 
@@ -35,7 +35,7 @@ not_refused list (inr h) = cc
 module _ (terms : Terms) (texts others : List SourceText) (document : SourceText) (same : IsAccepted terms texts document ↔ IsAccepted terms others document)
     (bounds : PassesNoBound terms texts document) (other_bounds : PassesNoBound terms others document) where
   pub same_verdict : (v w : Verdict) → IsVerdict terms texts document v → IsVerdict terms others document w
-      → (IsCertain terms texts document → ToCertain (Ok v)) → (IsCertain terms others document → ToCertain (Ok w)) → SameVerdict v w
+      → (IsCertain terms texts document → ToCertain (Ok v)) → (IsCertain terms others document → ToCertain (Ok w)) → VerdictsAgree v w
   same_verdict Accepted Accepted a b first second = tt
   same_verdict Accepted (Refused list) a b first second = not_refused list (second (other_bounds.certain (same.0 a)))
   same_verdict (Refused list) Accepted a b first second = not_refused list (first (bounds.certain (same.1 b)))

@@ -21,11 +21,11 @@ use Rattle.verdict_call_laws.specs.Answers.{AnswersTexts, AnswersFinish, Answers
 -- ---- verdicts
 
 -- both are accepted, or both are refused
-abbrev pub SameVerdict : Verdict → Verdict → Type 0
-SameVerdict Accepted Accepted = Unit {0}
-SameVerdict Accepted (Refused list) = ⊥
-SameVerdict (Refused list) Accepted = ⊥
-SameVerdict (Refused list) (Refused other) = Unit {0}
+abbrev pub VerdictsAgree : Verdict → Verdict → Type 0
+VerdictsAgree Accepted Accepted = Unit {0}
+VerdictsAgree Accepted (Refused list) = ⊥
+VerdictsAgree (Refused list) Accepted = ⊥
+VerdictsAgree (Refused list) (Refused other) = Unit {0}
 
 -- The pair passes no bound: a number is left for each text, and what is accepted is accepted for sure.
 pub record PassesNoBound (terms : Terms) (schemas : List SourceText) (document : SourceText) : Type 0 where
@@ -35,7 +35,7 @@ pub record PassesNoBound (terms : Terms) (schemas : List SourceText) (document :
 -- where neither pair passes a bound, and memory suffices for both, the verdicts are the same
 abbrev pub AreAnsweredAlike : Terms → List SourceText → List SourceText → Type 0
 AreAnsweredAlike terms texts others = (document : SourceText) (one other : Result Verdict CheckError) → AnswersTexts terms texts document one → AnswersTexts terms others document other
-    → PassesNoBound terms texts document → PassesNoBound terms others document → IfOk one (λ v. IfOk other (λ w. SameVerdict v w))
+    → PassesNoBound terms texts document → PassesNoBound terms others document → IfOk one (λ v. IfOk other (λ w. VerdictsAgree v w))
 
 abbrev pub VerdictsOfRearranged : Type 0
 VerdictsOfRearranged = (terms : Terms) (texts others : List SourceText) → AreRearranged terms texts others → AreAnsweredAlike terms texts others
