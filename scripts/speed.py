@@ -66,6 +66,172 @@ scalar Moment# @specifiedBy(url: "https://example.org/moment")
 
 '''
 
+# Six definitions as large services describe theirs: each member has a description on lines of its own, lists are pages. # is
+# the number of the six, ~ that of the next.
+DESCRIBED = '''"""
+Represents an item of the kind # that a member of an organization keeps in one of its spaces.
+"""
+type Item# implements Node {
+  """
+  Identifies the date and time when the object was created.
+  """
+  createdAt: DateTime!
+
+  """
+  Identifies the primary key from the database.
+  """
+  databaseId: Int
+
+  """
+  The object's globally unique identifier, by which it can be found again.
+  """
+  id: ID!
+
+  """
+  Indicates whether the viewer has permission to change this object.
+  """
+  viewerCanUpdate: Boolean!
+
+  """
+  The HTTP path for this object, without the name of its host.
+  """
+  resourcePath: URI!
+
+  """
+  The state of the item, whether it was closed, and why it was.
+  """
+  state: ItemState#!
+
+  """
+  A list of comments associated with the item, the oldest first, in pages.
+  """
+  comments(
+    """
+    Returns the elements in the list that come after the specified cursor.
+    """
+    after: String
+
+    """
+    Returns the elements in the list that come before the specified cursor.
+    """
+    before: String
+
+    """
+    Returns the first _n_ elements from the list.
+    """
+    first: Int
+
+    """
+    Returns the last _n_ elements from the list.
+    """
+    last: Int
+
+    """
+    Ordering options for the elements that are returned from the list.
+    """
+    orderBy: ItemOrder#
+  ): ItemConnection~!
+
+  """
+  Identifies the date and time when the object was last updated.
+  """
+  updatedAt: DateTime! @deprecated(reason: "General type updated timestamps will eventually be replaced by specific ones.")
+}
+
+"""
+The connection type for items of the kind #.
+"""
+type ItemConnection# {
+  """
+  A list of edges, each with a cursor and the item at its end.
+  """
+  edges: [ItemEdge#]
+
+  """
+  A list of nodes, which are the items themselves.
+  """
+  nodes: [Item#]
+
+  """
+  Identifies the total count of items in the connection.
+  """
+  totalCount: Int!
+}
+
+"""
+An edge in a connection.
+"""
+type ItemEdge# {
+  """
+  A cursor for use in pagination.
+  """
+  cursor: String!
+
+  """
+  The item at the end of the edge.
+  """
+  node: Item#
+}
+
+"""
+The possible states of an item of the kind #.
+"""
+enum ItemState# {
+  """
+  An item that has been closed since its work was done.
+  """
+  CLOSED
+
+  """
+  An item that is still open, and that members can take.
+  """
+  OPEN
+
+  """
+  An item that has been closed by merging what it asked for.
+  """
+  MERGED
+}
+
+"""
+Ways in which lists of items can be ordered upon return.
+"""
+input ItemOrder# {
+  """
+  The direction in which to order items by the specified field.
+  """
+  direction: ItemState# = OPEN
+
+  """
+  The field in which to order items by, the date of creation if none is given.
+  """
+  field: String
+}
+
+"""
+Types that can be requested of items of the kind #.
+"""
+union ItemOrNext# = Item# | Item~
+
+'''
+
+# What they all refer to.
+COMMON = """type Query {
+  "An object by its key."
+  object(id: ID!): Item0
+}
+
+"An object with an ID."
+interface Node {
+  "ID of the object."
+  id: ID!
+}
+
+scalar DateTime
+scalar URI
+
+"""
+
 # Ten selections of a document, as #.
 TEN = """  k#: object(id: "#") {
     id
@@ -84,12 +250,20 @@ TEN = """  k#: object(id: "#") {
 
 SMALL = "{ object(id: 1) { id name } }\n"
 
+SMALL_DESCRIBED = "{ object(id: 1) { id comments(first: 3) { totalCount nodes { id state } } } }\n"
+
 
 def schema(types):
     """A schema of some number of types."""
     count = max(types // 6, 1)
     six = (SIX.replace("#", str(i)).replace("~", str((i + 1) % count)) for i in range(count))
     return 'type Query {\n  "An object by its key."\n  object(id: ID!): Object0\n}\n\n' + "".join(six)
+
+
+def described(types):
+    """A schema of some number of types, with long descriptions."""
+    count = max(types // 6, 1)
+    return COMMON + "".join(DESCRIBED.replace("#", str(i)).replace("~", str((i + 1) % count)) for i in range(count))
 
 
 def document(selections):
@@ -102,6 +276,8 @@ CASES = [
     ("1,000 types", lambda: (schema(1000), SMALL)),
     ("10,000 types", lambda: (schema(10000), SMALL)),
     ("100,000 types", lambda: (schema(100000), SMALL)),
+    ("780 types, described at length", lambda: (described(780), SMALL_DESCRIBED)),
+    ("7,800 types, described at length", lambda: (described(7800), SMALL_DESCRIBED)),
     ("1,000 types, 1,000 selections", lambda: (schema(1000), document(1000))),
     ("1,000 types, 10,000 selections", lambda: (schema(1000), document(10000))),
     ("10,000 types, 1,000 selections", lambda: (schema(10000), document(1000))),
