@@ -17,25 +17,25 @@ returns-in-Ok-clause-found c = found (selections_parses (in_file c.args.file)) r
 pub returns-in-Ok-clause-only : goal.returns-in-Ok-clause-only
 returns-in-Ok-clause-only c = λ tree d. only (selections_parses (in_file c.args.file)) refl c.args.nesting c.args.text.now c.new-tokens.result (begins _ c.new-tokens.result c.new-tokens.ensures.shows) (lexed_as c.args.text.now _ c.new-tokens.result c.in_ok-shared.ensures.ok c.new-tokens.ensures.lexed) (selections_tree c.in-Ok.found) tree c.whole_selections.new.tokens c.in-Ok.ensures d
 
-pub returns-in-Err-clause-only : goal.returns-in-Err-clause-only
-returns-in-Err-clause-only c = λ tree d. c.fault.ensures ∙ memory (selections_parses (in_file c.args.file)) refl c.args.nesting c.args.text.now c.new-tokens.result (begins _ c.new-tokens.result c.new-tokens.ensures.shows) (lexed_as c.args.text.now _ c.new-tokens.result c.in_ok-shared.ensures.ok c.new-tokens.ensures.lexed) c.in-Err.stop c.whole_selections.new.tokens tree c.in-Err.ensures d
+pub returns-clause-only : goal.returns-clause-only
+returns-clause-only c = λ tree d. c.fault.ensures ∙ memory (selections_parses (in_file c.args.file)) refl c.args.nesting c.args.text.now c.new-tokens.result (begins _ c.new-tokens.result c.new-tokens.ensures.shows) (lexed_as c.args.text.now _ c.new-tokens.result c.in_ok-shared.ensures.ok c.new-tokens.ensures.lexed) c.in-Err.stop c.whole_selections.new.tokens tree c.in-Err.ensures d
 
-pub returns-in-Err-clause-fault : goal.returns-in-Err-clause-fault
-returns-in-Err-clause-fault c =
+pub returns-clause-fault : goal.returns-clause-fault
+returns-clause-fault c =
     subst (IsDue (DerivesSelections (in_file c.args.file)) c.args.nesting c.args.text.now) (sym c.fault.ensures)
     (due (selections_parses (in_file c.args.file)) refl c.args.nesting c.args.text.now c.new-tokens.result (begins _ c.new-tokens.result c.new-tokens.ensures.shows) (lexed_as c.args.text.now _ c.new-tokens.result c.in_ok-shared.ensures.ok c.new-tokens.ensures.lexed) (selections_viable (in_file c.args.file)) refl c.in-Err.stop c.whole_selections.new.tokens c.in-Err.ensures)
 
 pub returns-in-Ok-clause-sound : goal.returns-in-Ok-clause-sound
 returns-in-Ok-clause-sound c = selections_sound c.args.file c.args.text.now (selections_tree c.in-Ok.found) (returns-in-Ok-clause-found c).reads
 
-pub returns-in-Err-clause-within : goal.returns-in-Err-clause-within
-returns-in-Err-clause-within c = stands_in (DerivesSelections (in_file c.args.file)) c.args.nesting c.args.text.now (fault_view c.fault.result) (returns-in-Err-clause-fault c)
+pub returns-clause-within : goal.returns-clause-within
+returns-clause-within c = stands_in (DerivesSelections (in_file c.args.file)) c.args.nesting c.args.text.now (fault_view c.fault.result) (returns-clause-fault c)
 
 pub returns-in-Ok-clause-bound : goal.returns-in-Ok-clause-bound
 returns-in-Ok-clause-bound c = not_passed (DerivesSelections (in_file c.args.file)) c.args.nesting c.args.text.now (selections_tree c.in-Ok.found) (returns-in-Ok-clause-found c)
 
-pub returns-in-Err-clause-bound : goal.returns-in-Err-clause-bound
-returns-in-Err-clause-bound c = passes_bound (DerivesSelections (in_file c.args.file)) c.args.nesting c.args.text.now c.fault.result (returns-in-Err-clause-fault c)
+pub returns-clause-bound : goal.returns-clause-bound
+returns-clause-bound c = passes_bound (DerivesSelections (in_file c.args.file)) c.args.nesting c.args.text.now c.fault.result (returns-clause-fault c)
 
 pub returns-in_err-shared-clause-fault : goal.returns-in_err-shared-clause-fault
 returns-in_err-shared-clause-fault c =

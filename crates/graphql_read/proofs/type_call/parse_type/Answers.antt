@@ -18,25 +18,25 @@ returns-in-Ok-clause-found c = found (any_type_parses (in_file c.args.file)) ref
 pub returns-in-Ok-clause-only : goal.returns-in-Ok-clause-only
 returns-in-Ok-clause-only c = λ tree d. only (any_type_parses (in_file c.args.file)) refl c.args.nesting c.args.text.now c.new-tokens.result (begins _ c.new-tokens.result c.new-tokens.ensures.shows) (lexed_as c.args.text.now _ c.new-tokens.result c.in_ok-shared.ensures.ok c.new-tokens.ensures.lexed) (type_tree c.in-Ok.found) tree c.whole_type.new.tokens c.in-Ok.ensures d
 
-pub returns-in-Err-clause-only : goal.returns-in-Err-clause-only
-returns-in-Err-clause-only c = λ tree d. c.fault.ensures ∙ memory (any_type_parses (in_file c.args.file)) refl c.args.nesting c.args.text.now c.new-tokens.result (begins _ c.new-tokens.result c.new-tokens.ensures.shows) (lexed_as c.args.text.now _ c.new-tokens.result c.in_ok-shared.ensures.ok c.new-tokens.ensures.lexed) c.in-Err.stop c.whole_type.new.tokens tree c.in-Err.ensures d
+pub returns-clause-only : goal.returns-clause-only
+returns-clause-only c = λ tree d. c.fault.ensures ∙ memory (any_type_parses (in_file c.args.file)) refl c.args.nesting c.args.text.now c.new-tokens.result (begins _ c.new-tokens.result c.new-tokens.ensures.shows) (lexed_as c.args.text.now _ c.new-tokens.result c.in_ok-shared.ensures.ok c.new-tokens.ensures.lexed) c.in-Err.stop c.whole_type.new.tokens tree c.in-Err.ensures d
 
-pub returns-in-Err-clause-fault : goal.returns-in-Err-clause-fault
-returns-in-Err-clause-fault c =
+pub returns-clause-fault : goal.returns-clause-fault
+returns-clause-fault c =
     subst (IsDue (DerivesType (in_file c.args.file)) c.args.nesting c.args.text.now) (sym c.fault.ensures)
     (due (any_type_parses (in_file c.args.file)) refl c.args.nesting c.args.text.now c.new-tokens.result (begins _ c.new-tokens.result c.new-tokens.ensures.shows) (lexed_as c.args.text.now _ c.new-tokens.result c.in_ok-shared.ensures.ok c.new-tokens.ensures.lexed) (type_viable (in_file c.args.file)) refl c.in-Err.stop c.whole_type.new.tokens c.in-Err.ensures)
 
 pub returns-in-Ok-clause-sound : goal.returns-in-Ok-clause-sound
 returns-in-Ok-clause-sound c = type_sound c.args.file c.args.text.now (type_tree c.in-Ok.found) (returns-in-Ok-clause-found c).reads
 
-pub returns-in-Err-clause-within : goal.returns-in-Err-clause-within
-returns-in-Err-clause-within c = stands_in (DerivesType (in_file c.args.file)) c.args.nesting c.args.text.now (fault_view c.fault.result) (returns-in-Err-clause-fault c)
+pub returns-clause-within : goal.returns-clause-within
+returns-clause-within c = stands_in (DerivesType (in_file c.args.file)) c.args.nesting c.args.text.now (fault_view c.fault.result) (returns-clause-fault c)
 
 pub returns-in-Ok-clause-bound : goal.returns-in-Ok-clause-bound
 returns-in-Ok-clause-bound c = not_passed (DerivesType (in_file c.args.file)) c.args.nesting c.args.text.now (type_tree c.in-Ok.found) (returns-in-Ok-clause-found c)
 
-pub returns-in-Err-clause-bound : goal.returns-in-Err-clause-bound
-returns-in-Err-clause-bound c = passes_bound (DerivesType (in_file c.args.file)) c.args.nesting c.args.text.now c.fault.result (returns-in-Err-clause-fault c)
+pub returns-clause-bound : goal.returns-clause-bound
+returns-clause-bound c = passes_bound (DerivesType (in_file c.args.file)) c.args.nesting c.args.text.now c.fault.result (returns-clause-fault c)
 
 pub returns-in_err-shared-clause-fault : goal.returns-in_err-shared-clause-fault
 returns-in_err-shared-clause-fault c =
