@@ -1,4 +1,4 @@
--- The faults of one fragment that is used: its head is not one place alone, so they are said by a relation (section 5.5.2.2).
+-- Private: leads to `Told`. The faults of one fragment that is used: its head is not one place alone, so they are said by a relation (section 5.5.2.2).
 use Rattle.std.specs.Prelude.{◌≡◌, ℕ, List, [], ◌∷◌, reverse, codes, slice_get, bytes_eq, Option, None, Some, option_and_then, if◌then◌else◌}
 use Rattle.std.specs.List.{list_any}
 use Rattle.graphql_names.specs.Placed.{Place}

@@ -1,4 +1,4 @@
--- The graph of the fragments of a document.
+-- Private: leads to `Told`. The graph of the fragments of a document.
 use Rattle.std.specs.Prelude.{◌≡◌, ℕ, length, bytes_eq}
 use Rattle.std.specs.List.{IsDistinct}
 use Rattle.std.specs.Map.{keys_of}

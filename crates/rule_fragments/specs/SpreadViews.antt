@@ -1,4 +1,4 @@
--- What contracts see of fragments, and of references by spreads.
+-- Private: leads to `Told`. What contracts see of fragments, and of references by spreads.
 use Rattle.std.specs.Prelude.{ℕ, Option}
 use Rattle.std.specs.Borrow.{Bor}
 use Rattle.std.specs.Option.{option_map}

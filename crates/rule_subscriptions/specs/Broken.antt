@@ -1,4 +1,4 @@
--- What a rule tells; lists of breaches, and what a check adds to one, are those of `rule_document_ground`.
+-- Private: leads to `Told`. What a rule tells; lists of breaches, and what a check adds to one, are those of `rule_document_ground`.
 use Rattle.std.specs.Prelude.{List, map, Option, option_to_list}
 use Rattle.graphql_names.specs.Placed.{Place}
 use Rattle.fault_document_data.specs.declared.build_error.BuildError.{BuildError}
