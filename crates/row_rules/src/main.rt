@@ -2,13 +2,13 @@
 //! `data/`.
 #![tactic(auto)]
 
-mod rule_given;
-mod rule_schemas;
-mod rule_uses;
+mod given;
+mod schemas;
 mod told;
+mod uses;
 
-use crate::rule_schemas::push_rules;
-use crate::rule_uses::push_use;
+use crate::schemas::push_rules;
+use crate::uses::push_use;
 use graphql_schema::Schema;
 use row_files::{Calls, Case, Problem, Tally, judge, judge_files};
 use row_schemas::build;

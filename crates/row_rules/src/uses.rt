@@ -1,6 +1,6 @@
 //! Rows of directives, arguments, variables and values by themselves, and of types that fields of interfaces ask for.
 
-use crate::rule_given::{arguments_of, asked_for, first_argument, location_of, row_type, type_of};
+use crate::given::{arguments_of, asked_for, first_argument, location_of, row_type, type_of};
 use crate::told::push_told;
 use graphql_faults::DiagnosticList;
 use graphql_names::{FileId, Node};
