@@ -14,20 +14,20 @@ use tree_operations::OperationType;
 pub(crate) fn show_merging(alloc: Global, lines: &mut Lines) -> Result<(), AllocError> {
     let fault = Box::new(alloc, conflicting_name())?;
     let error = BuildError::ConflictingFieldName(fault);
-    show(lines, "ConflictingFieldName", error);
+    show(lines, error);
     let fault = Box::new(alloc, conflicting_argument())?;
     let error = BuildError::ConflictingFieldArgument(fault);
-    show(lines, "ConflictingFieldArgument", error);
+    show(lines, error);
     let fault = Box::new(alloc, conflicting_type())?;
     let error = BuildError::ConflictingFieldType(fault);
-    show(lines, "ConflictingFieldType", error);
+    show(lines, error);
     show_subscriptions(alloc, lines);
     show_defer(alloc, lines)
 }
 
-/// Adds what the error tells, behind the name of its variant.
-fn show(lines: &mut Lines, variant: &str, error: BuildError) {
-    show_details(lines, variant, Details::DocumentBuild(error));
+/// Adds what the error tells, behind its name.
+fn show(lines: &mut Lines, error: BuildError) {
+    show_details(lines, &Details::DocumentBuild(error));
 }
 
 /// Adds what breaks the rules of subscriptions.
@@ -36,32 +36,32 @@ fn show_subscriptions(alloc: Global, lines: &mut Lines) {
         name: None,
         fields: Vec::new(alloc),
     };
-    show(lines, "SubscriptionUsesMultipleFields", error);
+    show(lines, error);
     let error = BuildError::SubscriptionUsesIntrospection {
         name: None,
         field: reserved_name(),
     };
-    show(lines, "SubscriptionUsesIntrospection", error);
+    show(lines, error);
     let error = BuildError::SubscriptionUsesConditionalSelection { name: None };
-    show(lines, "SubscriptionUsesConditionalSelection", error);
+    show(lines, error);
 }
 
 /// Adds what breaks the rules of `@defer`.
 fn show_defer(alloc: Global, lines: &mut Lines) -> Result<(), AllocError> {
     let label = String::from_str(alloc, "l")?;
     let error = BuildError::DeferLabelMustNotBeVariable;
-    show(lines, "DeferLabelMustNotBeVariable", error);
+    show(lines, error);
     let error = BuildError::DuplicateDeferLabel {
         label,
         original_location: None,
     };
-    show(lines, "DuplicateDeferLabel", error);
+    show(lines, error);
     let error = BuildError::DeferOnRootMutationOrSubscriptionField {
         operation_type: OperationType::Subscription,
     };
-    show(lines, "DeferOnRootMutationOrSubscriptionField", error);
+    show(lines, error);
     let error = BuildError::DeferInSubscriptionMustBeConditional;
-    show(lines, "DeferInSubscriptionMustBeConditional", error);
+    show(lines, error);
     Ok(())
 }
 
