@@ -1,5 +1,5 @@
-//! Trees, schemas and documents, with what is wrong told to a list. A builder refuses where memory runs out, or
-//! numbers of extensions, which are as many as 64 bits count.
+//! Texts read, folded and typed, with what is wrong told to a list. A builder refuses where memory runs out, or numbers of
+//! extensions, which are as many as 64 bits count.
 
 use graphql_ast::Document;
 use graphql_documents::{ExecutableDocument, ExecutableDocumentExt};
@@ -50,34 +50,38 @@ fn tell_unread(
 /// The schema that the definitions fold to. The list is told what breaks a rule of folding.
 pub(crate) fn fold(
     alloc: Global,
-    tree: &Document,
+    tree: Document,
     faults: &mut DiagnosticList,
 ) -> Result<Schema, AllocError> {
     let mut builder = Schema::builder(alloc);
-    if builder.add_ast(tree).is_err() {
+    if builder.add_ast(&tree).is_err() {
         return Err(AllocError);
     }
-    let Ok((schema, errors)) = builder.build() else {
-        return Err(AllocError);
-    };
-    faults.append_schema_errors(errors)?;
-    Ok(schema)
+    match builder.build() {
+        Ok((schema, errors)) => {
+            faults.append_schema_errors(errors)?;
+            Ok(schema)
+        }
+        Err(_) => Err(AllocError),
+    }
 }
 
 /// The document, in which each field has its definition from the schema. The list is told what breaks a rule of typing.
 pub(crate) fn typed(
     alloc: Global,
     schema: &Schema,
-    tree: &Document,
+    tree: Document,
     faults: &mut DiagnosticList,
 ) -> Result<ExecutableDocument, AllocError> {
     let mut builder = ExecutableDocument::builder(alloc, Some(schema));
-    if builder.add_ast_document(tree).is_err() {
+    if builder.add_ast_document(&tree).is_err() {
         return Err(AllocError);
     }
-    let Ok((document, errors)) = builder.build() else {
-        return Err(AllocError);
-    };
-    faults.append_document_errors(errors)?;
-    Ok(document)
+    match builder.build() {
+        Ok((document, errors)) => {
+            faults.append_document_errors(errors)?;
+            Ok(document)
+        }
+        Err(_) => Err(AllocError),
+    }
 }
