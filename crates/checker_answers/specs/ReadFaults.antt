@@ -1,4 +1,4 @@
--- Why readers give no texts, and why an answer is not out.
+-- Private: leads to `RunFaultIsDue`. Why readers give no texts, and why an answer is not out.
 use Rattle.std.specs.Prelude.{◌≡◌, ℕ, ◌<◌, true, List, length, take, Option}
 use Rattle.std.specs.Io.KnownBytes.{Appends}
 use Rattle.graphql_names.specs.declared.device.Device.{Device}

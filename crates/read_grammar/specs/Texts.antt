@@ -1,4 +1,4 @@
--- What is said of texts, given which tokens are those of a text and which those of a front of it.
+-- Private: leads to `HasTree` and `NestingBound`. What is said of texts, given which tokens are those of a text and which those of a front of it.
 use Rattle.std.specs.Prelude.{ℕ, ◌<◌, List}
 use Rattle.read_tokens.specs.Input.{Token}
 use Rattle.read_grammar.specs.Depth.{depth}

@@ -1,4 +1,4 @@
--- That numbers and strings are read as they are printed: what the laws of values rest on. Private to the proofs.
+-- Private: leads to `ReadsAlone`. That numbers and strings are read as they are printed: what the laws of values rest on.
 use Rattle.std.specs.Prelude.{◌≡◌, ℕ, true, List, ◌++◌, length, Some}
 use Rattle.read_printed_strings.specs.in_printing.StringLayout.{quoted_text, description_string}
 use Rattle.read_printed_strings.specs.in_printing.LineLayout.{Prefix}

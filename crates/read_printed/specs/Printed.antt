@@ -1,4 +1,4 @@
--- How what is printed is read: the relation from which the laws of this crate are put together. Private to the proofs.
+-- Private: leads to `ReadsAlone`. How what is printed is read: the relation from which the laws of this crate are put together.
 --
 -- A text is printed for a rule of the grammar where, whatever stands behind it, its tokens come first and the rule reads
 -- just these, to a tree of which something is said (`says`), as that it is the printed one, places aside. What stands behind

@@ -1,4 +1,4 @@
--- What the text of a token is, by its terminal symbol.
+-- Private: leads to `IsName`, `string_value` and `block_value`. What the text of a token is, by its terminal symbol.
 use Rattle.std.specs.Prelude.{◌≡◌, ◌≤◌, ◌<◌, ℕ, ◌+◌, ◌-◌, Bool, true, false, List, [], ◌∷◌, ◌++◌, length, take, slice_index, Option, Some, None}
 use Rattle.graphql_names.specs.NameSyntax.{IsName}
 use Rattle.read_tokens.specs.Blocks.{quotes}

@@ -1,4 +1,4 @@
--- Parts of strings and lines, for the private functions that write their values; users need not read it.
+-- Private: leads to `string_value` and `block_string_value`. Parts of strings and lines, of which their values are made.
 use Rattle.std.specs.Prelude.{◌≡◌, ◌⊎◌, ◌≤◌, ℕ, ◌+◌, Bool, not, ◌==◌, if◌then◌else◌, List, [], ◌∷◌, ◌++◌, length, take, drop, map, Option, Some, None}
 use Rattle.std.specs.List.{prefix_len, list_all, flat_map}
 use Rattle.read_tokens.specs.Blocks.{lines_of, is_blank, indent_of, least, without_blank_front, without_blank_back}

@@ -1,4 +1,4 @@
--- Words by their first byte, for the private function that looks them up; users need not read it.
+-- Private: leads to `terminal_of`. Words by their first byte.
 use Rattle.std.specs.Prelude.{ℕ, ◌==◌, List}
 use Rattle.std.specs.List.{filter}
 use Rattle.read_tokens.specs.Bytes.{begins_by}

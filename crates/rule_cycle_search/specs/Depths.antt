@@ -1,4 +1,4 @@
--- How many of a kind are on a way.
+-- Private: leads to `CyclesBreak` and `RecursiveFragmentDefinitionAt`. How many of a kind are on a way.
 use Rattle.std.specs.Prelude.{◌≡◌, ◌≤◌, ℕ, Bool, List, [], ◌∷◌, Contains, slice_get, count_by, Some}
 use Rattle.rule_cycle_search.specs.declared.graph.Graph.{Graph}
 use Rattle.rule_cycle_search.specs.Graph.{references}

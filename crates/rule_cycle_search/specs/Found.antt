@@ -1,4 +1,4 @@
--- What is found of the roots.
+-- Private: leads to `CyclesBreak` and `RecursiveFragmentDefinitionAt`. What is found of the roots.
 use Rattle.std.specs.Prelude.{◌≡◌, ℕ, List, length, slice_get, Some}
 use Rattle.rule_cycle_search.specs.declared.graph.Graph.{Graph}
 use Rattle.rule_cycle_search.specs.declared.found.Found.{Found}

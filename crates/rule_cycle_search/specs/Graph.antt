@@ -1,4 +1,4 @@
--- Graphs whose nodes are numbers: what each refers to, and ways along the references.
+-- Private: leads to `CyclesBreak` and `RecursiveFragmentDefinitionAt`. Graphs whose nodes are numbers: what each refers to, and ways along the references.
 use Rattle.std.specs.Prelude.{◌≡◌, ℕ, ◌<◌, Bool, true, false, not, List, [], ◌∷◌, Contains, slice_get, nat_lt, count_by, ◌⊎◌, Vec}
 use Rattle.std.specs.Global.{Global}
 use Rattle.std.specs.Option.{option_map_or}

@@ -1,4 +1,4 @@
--- What a search into depth has still to do.
+-- Private: leads to `CyclesBreak` and `RecursiveFragmentDefinitionAt`. What a search into depth has still to do.
 use Rattle.std.specs.Prelude.{ℕ, ◌+◌, Bool, List, [], ◌∷◌, length, cond, Vec}
 use Rattle.std.specs.Global.{Global}
 

@@ -1,4 +1,4 @@
--- Parts of a graph.
+-- Private: leads to `CyclesBreak` and `RecursiveFragmentDefinitionAt`. Parts of a graph.
 use Rattle.std.specs.Prelude.{◌≡◌, ℕ, false, List, Contains, length, ◌⊎◌}
 use Rattle.rule_cycle_search.specs.declared.graph.Graph.{Graph}
 use Rattle.rule_cycle_search.specs.declared.steps.Step.{Step}

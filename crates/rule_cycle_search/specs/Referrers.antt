@@ -1,4 +1,4 @@
--- References the other way round.
+-- Private: leads to `CyclesBreak` and `RecursiveFragmentDefinitionAt`. References the other way round.
 use Rattle.std.specs.Prelude.{◌≡◌, ◌<◌, ℕ, List, Contains, length, ◌⊎◌, Vec}
 use Rattle.std.specs.Global.{Global}
 use Rattle.rule_cycle_search.specs.Graph.{listed}

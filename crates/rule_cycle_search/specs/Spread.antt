@@ -1,4 +1,4 @@
--- What spreading from a center comes to.
+-- Private: leads to `CyclesBreak` and `RecursiveFragmentDefinitionAt`. What spreading from a center comes to.
 use Rattle.std.specs.Prelude.{◌≡◌, ◌<◌, ◌≤◌, ◌+◌, drop, ℕ, false, List, ◌++◌, Contains, slice_get, length, ◌⊎◌, Vec}
 use Rattle.std.specs.Global.{Global}
 use Rattle.rule_cycle_search.specs.Graph.{listed}

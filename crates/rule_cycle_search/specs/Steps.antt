@@ -1,4 +1,4 @@
--- The steps of nodes.
+-- Private: leads to `CyclesBreak` and `RecursiveFragmentDefinitionAt`. The steps of nodes.
 use Rattle.std.specs.Prelude.{◌≡◌, ◌==◌, ℕ, Bool, true, false, List, slice_get, count_by, not}
 use Rattle.std.specs.Option.{option_map_or}
 use Rattle.rule_cycle_search.specs.declared.steps.Step.{Step}

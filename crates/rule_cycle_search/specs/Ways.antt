@@ -1,4 +1,4 @@
--- Ways along the steps of a part.
+-- Private: leads to `CyclesBreak` and `RecursiveFragmentDefinitionAt`. Ways along the steps of a part.
 use Rattle.std.specs.Prelude.{◌≡◌, ℕ, List, [], ◌∷◌, ◌++◌, ◌+◌, Contains, length, reverse, Option, None, Some, Vec}
 use Rattle.std.specs.Global.{Global}
 use Rattle.rule_cycle_search.specs.declared.steps.Step.{Step}

@@ -1,4 +1,4 @@
--- The faults of one directive: its head is not one place alone, so they are said by a relation (section 3.13).
+-- Private: leads to `RecursiveDirectiveDefinitionAt`. The faults of one directive: its head is not one place alone, so they are said by a relation (section 3.13).
 use Rattle.std.specs.Prelude.{◌≡◌, ℕ, List, [], ◌∷◌, map, reverse, filter_map, codes, slice_get, Option, None, Some}
 use Rattle.graphql_names.specs.Placed.{Placed, Place}
 use Rattle.graphql_names.specs.Places.{Recomposes}

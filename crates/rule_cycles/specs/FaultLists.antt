@@ -1,4 +1,4 @@
--- The faults of one root, and what is told of the roots so far.
+-- Private: leads to `RecursiveInputObjectDefinitionAt`. The faults of one root, and what is told of the roots so far.
 use Rattle.std.specs.Prelude.{◌≡◌, ℕ, List, [], ◌∷◌, map, reverse, codes, slice_get}
 use Rattle.std.specs.Option.{option_map_or}
 use Rattle.graphql_names.specs.Placed.{Placed, Place}

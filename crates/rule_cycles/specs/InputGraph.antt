@@ -1,4 +1,4 @@
--- The graph of the input objects of a schema.
+-- Private: leads to `RecursiveInputObjectDefinitionAt`. The graph of the input objects of a schema.
 use Rattle.std.specs.Prelude.{◌≡◌, ℕ, length}
 use Rattle.graphql_names.specs.Placed.{Place}
 use Rattle.graphql_names.specs.declared.node.Node.{Node}

@@ -1,4 +1,4 @@
--- What is referred to by number, and by what.
+-- Private: leads to `CyclesBreak` and `RecursiveFragmentDefinitionAt`. What is referred to by number, and by what.
 use Rattle.std.specs.Prelude.{ℕ, ◌==◌, List, [], ◌∷◌, ◌++◌, map, find, Option, option_to_list}
 use Rattle.std.specs.Option.{option_map}
 

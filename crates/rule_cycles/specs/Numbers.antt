@@ -1,4 +1,4 @@
--- Types and directive definitions by number, which is their place in the schema's order, and what they refer to by number.
+-- Private: leads to `CyclesBreak`. Types and directive definitions by number, which is their place in the schema's order, and what they refer to by number.
 use Rattle.std.specs.Prelude.{ℕ, Bool, false, List, [], ◌∷◌, Option, None, Some, slice_get, position, flat_map, bytes_eq, if◌then◌else◌}
 use Rattle.std.specs.Option.{option_map_or}
 use Rattle.std.specs.Map.{keys_of}

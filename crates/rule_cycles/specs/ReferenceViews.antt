@@ -1,4 +1,4 @@
--- What contracts see of references.
+-- Private: leads to `RecursiveInputObjectDefinitionAt`. What contracts see of references.
 use Rattle.std.specs.Prelude.{ℕ, Option}
 use Rattle.std.specs.Option.{option_map}
 use Rattle.graphql_names.specs.Placed.{Placed, Place, node_tree}

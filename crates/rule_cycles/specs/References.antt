@@ -1,4 +1,4 @@
--- References of nodes, kept by their targets.
+-- Private: leads to `CyclesBreak` and `RecursiveFragmentDefinitionAt`. References of nodes, kept by their targets.
 use Rattle.std.specs.Prelude.{◌≡◌, ℕ, ◌==◌, ◌+◌, ◌<◌, [], ◌∷◌, ◌++◌, length, Option, Vec, slice_get, option_and_then}
 use Rattle.std.specs.Global.{Global}
 use Rattle.std.specs.Option.{option_map}

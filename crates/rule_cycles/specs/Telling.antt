@@ -1,4 +1,4 @@
--- What is told of the roots of a graph, one after the other.
+-- Private: leads to `CyclesBreak` and `RecursiveFragmentDefinitionAt`. What is told of the roots of a graph, one after the other.
 use Rattle.std.specs.Prelude.{◌≡◌, ℕ, ◌<◌, List, [], ◌++◌, Contains, ◌⊎◌}
 use Rattle.rule_cycle_search.specs.declared.graph.Graph.{Graph}
 use Rattle.rule_cycle_search.specs.declared.found.Found.{Found}

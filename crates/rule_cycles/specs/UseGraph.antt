@@ -1,4 +1,4 @@
--- The graph of the directives and types of a schema.
+-- Private: leads to `RecursiveDirectiveDefinitionAt`. The graph of the directives and types of a schema.
 use Rattle.std.specs.Prelude.{◌≡◌, ℕ, Option, length}
 use Rattle.graphql_names.specs.Placed.{Place}
 use Rattle.graphql_names.specs.declared.node.Node.{Node}

@@ -1,4 +1,4 @@
--- What directives and types refer to by number: directives come first, and types behind them (section 3.13).
+-- Private: leads to `RecursiveDirectiveDefinitionAt`. What directives and types refer to by number: directives come first, and types behind them (section 3.13).
 use Rattle.std.specs.Prelude.{ℕ, ◌+◌, ◌-◌, List, [], ◌∷◌, ◌++◌, flat_map, Option, None, Some, length, nat_lt, if◌then◌else◌}
 use Rattle.std.specs.Option.{option_map}
 use Rattle.graphql_names.specs.Placed.{Placed, Place}

@@ -1,4 +1,4 @@
--- What contracts see of references by directives and types.
+-- Private: leads to `RecursiveDirectiveDefinitionAt`. What contracts see of references by directives and types.
 use Rattle.std.specs.Prelude.{ℕ, Option}
 use Rattle.std.specs.Option.{option_map}
 use Rattle.graphql_names.specs.Placed.{Place, node_tree}

@@ -1,4 +1,4 @@
--- What a check adds to a list of breaches of documents, as `Adds` of the faults with data says it of theirs.
+-- Private: leads to `TellsDocument`. What a check adds to a list of breaches of documents, as `Adds` of the faults with data says it of theirs.
 use Rattle.std.specs.Prelude.{◌≡◌, ◌↔◌, ◌++◌, List, map, Vec, Contains}
 use Rattle.std.specs.declared.alloc.Global.{Global}
 use Rattle.graphql_names.specs.Placed.{Place}

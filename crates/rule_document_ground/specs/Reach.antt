@@ -1,4 +1,4 @@
--- What a selection set reaches in a document, as lists of what is meant (GraphQL, October 2021, sections 2.8 and 5.5.2).
+-- Private: leads to `Reached` of `rule_document_definitions`. What a selection set reaches in a document, as lists of what is meant (GraphQL, October 2021, sections 2.8 and 5.5.2).
 use Rattle.std.specs.Prelude.{◌≡◌, ◌↔◌, ℕ, List, map, Contains, Option, None, Some}
 use Rattle.std.specs.Borrow.{Bor}
 use Rattle.graphql_names.specs.Placed.{Place, node_tree}

@@ -1,4 +1,4 @@
--- How often shapes are compared in a pass.
+-- Private: leads to `IsCountedBy`. How often shapes are compared in a pass.
 use Rattle.std.specs.Prelude.{ℕ, List, length}
 use Rattle.rule_field_groups.specs.declared.pass.Pass.{Pass}
 use Rattle.rule_field_groups.specs.declared.pass.Pass.TheVariants.{Shapes, Selections}

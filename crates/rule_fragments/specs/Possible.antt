@@ -1,4 +1,4 @@
--- The object types that values of each type can be (GetPossibleTypes of GraphQL, October 2021, section 5.5.2.3), as they are held.
+-- Private: leads to `CanBe` and `MayApply`. The object types that values of each type can be (GetPossibleTypes of GraphQL, October 2021, section 5.5.2.3), as they are held.
 use Rattle.std.specs.Prelude.{◌↔◌, ◌⊎◌, ℕ, Bool, ◌||◌, List, [], map, Option, Contains, bytes_eq}
 use Rattle.std.specs.List.{list_any}
 use Rattle.std.specs.Map.{lookup}

@@ -1,4 +1,4 @@
--- The first argument definition of each name, in a map.
+-- Private: leads to `InterfacesBreak`. The first argument definition of each name, in a map.
 use Rattle.std.specs.Prelude.{◌≡◌}
 use Rattle.std.specs.Option.{option_map}
 use Rattle.indexmap.specs.IndexMap.{IndexMap, get}

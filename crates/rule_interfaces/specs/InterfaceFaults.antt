@@ -1,4 +1,4 @@
--- The faults that each rule on interfaces tells of one place, and those of all of them, in order. The public contract cites the
+-- Private: leads to `InterfacesBreak`. The faults that each rule on interfaces tells of one place, and those of all of them, in order. The public contract cites the
 -- rules alone.
 use Rattle.std.specs.Prelude.{ℕ, Bool, false, List, [], ◌∷◌, ◌++◌, map, if◌then◌else◌, find, bytes_eq, flat_map, Option}
 use Rattle.std.specs.Option.{option_map, option_map_or}

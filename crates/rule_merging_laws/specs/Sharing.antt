@@ -1,4 +1,4 @@
--- Groups of a list of fields: those of one key, and those of one key that one object may have (GraphQL, October 2021, section
+-- Private: leads to `FieldsMerge`. Groups of a list of fields: those of one key, and those of one key that one object may have (GraphQL, October 2021, section
 -- 5.3.2).
 use Rattle.std.specs.Prelude.{◌≡◌, ℕ, List, Contains, ◌⊎◌}
 use Rattle.rule_definitions.specs.Judged.{Judged}

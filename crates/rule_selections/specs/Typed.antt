@@ -1,4 +1,4 @@
--- What an operation reaches is typed by its place: so it is in a document that is typed, and in a field set.
+-- Private: leads to `IsTypedUnder` and `IsTypedSet`. What an operation reaches is typed by its place: so it is in a document that is typed, and in a field set.
 use Rattle.document_meaning.specs.MeantTree.{MeantOperation, MeantDocument}
 use Rattle.document_typing.specs.Meanings.{Meanings}
 use Rattle.document_typing.specs.TypedByPlace.{IsTyped}

@@ -1,4 +1,4 @@
--- The faults that each rule tells of one place, and those of all of them, in order. The public contract cites the rules alone.
+-- Private: leads to `ReferencesBreak` and `EmptyBreaks`. The faults that each rule tells of one place, and those of all of them, in order. The public contract cites the rules alone.
 use Rattle.std.specs.Prelude.{◌≡◌, ℕ, Bool, List, [], ◌∷◌, ◌++◌, map, if◌then◌else◌, find, bytes_eq, codes, flat_map, Option, None, Some}
 use Rattle.std.specs.Option.{option_map, option_map_or}
 use Rattle.graphql_names.specs.NameValue.{NameValue}

@@ -1,4 +1,4 @@
--- What the check of repeated names has noted.
+-- Private: leads to `UniqueArgumentDefinitionAt`. What the check of repeated names has noted.
 use Rattle.std.specs.Prelude.{◌≡◌, Option}
 use Rattle.std.specs.Option.{option_map}
 use Rattle.indexmap.specs.IndexMap.{IndexMap, get}

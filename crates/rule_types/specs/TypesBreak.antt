@@ -1,4 +1,4 @@
--- The rules of this crate together.
+-- Private: leads to `ReferencesBreak` and `EmptyBreaks`. The rules of this crate together.
 use Rattle.std.specs.Prelude.{◌⊎◌}
 use Rattle.fault_data.specs.in_rule_definitions.Faults.{SchemaFault}
 use Rattle.fault_data.specs.in_rule_definitions.Judged.{Judged}

@@ -1,4 +1,4 @@
--- The faults of a value against a type as a list, in the order in which they are told. `ty` is the type that is wanted, `at_type` the place
+-- Private: leads to `TypeBreaks`. The faults of a value against a type as a list, in the order in which they are told. `ty` is the type that is wanted, `at_type` the place
 -- of the reference to it, and `t` the type of the schema that stands inside all its brackets.
 use Rattle.std.specs.Prelude.{ℕ, ℤ, pos, negsuc, ◌^◌, ltb, Bool, true, not, ◌&&◌, ◌||◌, is_none, List, [], ◌∷◌, ◌++◌, codes, find, bytes_eq, Option, None, Some, if◌then◌else◌}
 use Rattle.std.specs.List.{list_any}

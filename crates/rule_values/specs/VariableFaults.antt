@@ -1,4 +1,4 @@
--- The faults of the variables in a value as a list, in the order in which they are told.
+-- Private: leads to `UndefinedVariableIn`. The faults of the variables in a value as a list, in the order in which they are told.
 use Rattle.std.specs.Prelude.{List, [], ◌∷◌, ◌++◌, find, bytes_eq}
 use Rattle.std.specs.Option.{option_map_or}
 use Rattle.graphql_names.specs.Placed.{Place, Text}

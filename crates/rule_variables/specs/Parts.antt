@@ -1,4 +1,4 @@
--- The rules on the variables of an operation in two parts: what asks nothing of a schema, and what holds under one
+-- Private: leads to `VariablesBreak`. The rules on the variables of an operation in two parts: what asks nothing of a schema, and what holds under one
 -- (GraphQL, October 2021, section 5.8).
 use Rattle.std.specs.Prelude.{◌⊎◌, None}
 use Rattle.graphql_names.specs.Placed.{Place}

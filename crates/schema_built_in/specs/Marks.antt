@@ -1,4 +1,4 @@
--- Marks: which types and directive definitions of a schema, and which of their fields, arguments and values, are built in.
+-- Private: leads to `AreEqual`. Marks: which types and directive definitions of a schema, and which of their fields, arguments and values, are built in.
 -- Each is told by its names; what comes from the table has its place in the file of what is built in.
 use Rattle.std.specs.Prelude.{ℕ, List, [], ◌∷◌, ◌++◌, ◌↔◌, if◌then◌else◌, Contains}
 use Rattle.std.specs.List.{flat_map}

@@ -1,4 +1,4 @@
--- What is built in, as GraphQL: a text for each definition, and one for the five scalars.
+-- Private: leads to `built_in_definitions`. What is built in, as GraphQL: a text for each definition, and one for the five scalars.
 use Rattle.std.specs.Prelude.{ℕ, List, [], ◌∷◌, codes}
 use Rattle.std.specs.List.{concat}
 

@@ -1,4 +1,4 @@
--- That the text is read as what is built in.
+-- Private: leads to `built_in_definitions`. That the text is read as what is built in.
 use Rattle.std.specs.Prelude.{◌≡◌, ◌≤◌, List}
 use Rattle.graphql_names.specs.declared.span.FileId.{FileId}
 use Rattle.graphql_names.specs.Placed.{Place}

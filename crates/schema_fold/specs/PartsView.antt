@@ -1,4 +1,4 @@
--- What contracts see of the parts of a type, of what is collected and of what is kept.
+-- Private: leads to `folded_type`. What contracts see of the parts of a type, of what is collected and of what is kept.
 use Rattle.std.specs.Prelude.{List, map}
 use Rattle.graphql_names.specs.Placed.{Placed, Place, name_tree, node_tree}
 use Rattle.tree_directives.specs.DirectiveTree.{directives_tree, input_value_tree}

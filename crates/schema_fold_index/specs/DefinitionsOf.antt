@@ -1,4 +1,4 @@
--- The definitions of a list, without its numbers.
+-- Private: leads to `fold`. The definitions of a list, without its numbers.
 use Rattle.std.specs.Prelude.{List, map}
 use Rattle.schema_fold.specs.Listed.{Definitions, Listed}
 

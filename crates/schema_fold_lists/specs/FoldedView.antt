@@ -1,4 +1,4 @@
--- What contracts see of what a list folds to.
+-- Private: leads to `folded`. What contracts see of what a list folds to.
 use Rattle.graphql_names.specs.Placed.{Place}
 use Rattle.schema_fold.specs.in_schema_types.SchemaTree.{SchemaTree}
 use Rattle.schema_fold.specs.in_schema_types.SchemaView.{schema_view}

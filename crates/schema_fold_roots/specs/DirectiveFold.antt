@@ -1,4 +1,4 @@
--- The directive definitions of two lists, what is built in and what the texts define, and the faults of second definitions.
+-- Private: leads to `folded_directives` and `DirectiveDefinitionCollisionAt`. The directive definitions of two lists, what is built in and what the texts define, and the faults of second definitions.
 use Rattle.std.specs.Prelude.{◌≡◌, ◌↔◌, ◌⊎◌, List, ◌++◌, map, Contains}
 use Rattle.std.specs.Map.{lookup}
 use Rattle.std.specs.Option.{option_map_or}

@@ -1,4 +1,4 @@
--- The schema definition of a list whose extensions have their numbers, and the faults of its roots.
+-- Private: leads to `folded_schema` and `DuplicateRootOperationIn`. The schema definition of a list whose extensions have their numbers, and the faults of its roots.
 use Rattle.std.specs.Prelude.{◌≡◌, ◌↔◌, ◌⊎◌, ℕ, List, [], ◌∷◌, ◌++◌, map, Option, None, if◌then◌else◌, Contains, is_some, slice_get}
 use Rattle.std.specs.List.{flat_map}
 use Rattle.graphql_names.specs.Placed.{Place, Text}

@@ -1,4 +1,4 @@
--- The types of a list whose extensions have their numbers, and the faults of their components.
+-- Private: leads to `folded_types` and `Fails` of `schema_fold`. The types of a list whose extensions have their numbers, and the faults of their components.
 use Rattle.std.specs.Prelude.{◌≡◌, ◌↔◌, ◌⊎◌, ℕ, false, List, ◌++◌, map, is_some, Contains}
 use Rattle.std.specs.List.{flat_map, list_any}
 use Rattle.graphql_names.specs.Placed.{Place}

@@ -1,4 +1,4 @@
--- The folding rules that are judged by what stands at a position of the list, together (GraphQL, October 2021, section 3).
+-- Private: leads to `Fails` of `schema_fold`. The folding rules that are judged by what stands at a position of the list, together (GraphQL, October 2021, section 3).
 use Rattle.std.specs.Prelude.{◌↔◌, ◌⊎◌, List, Contains}
 use Rattle.schema_fold.specs.Listed.{Definitions}
 use Rattle.schema_fold.specs.BuildErrors.{Fault, Somewhere, ExecutableDefinitionAt, SchemaDefinitionCollisionAt, TypeDefinitionCollisionAt, BuiltInScalarTypeRedefinitionAt, OrphanSchemaExtensionAt, OrphanTypeExtensionAt, TypeExtensionKindMismatchAt}

@@ -1,4 +1,4 @@
--- The faults of all types, and the rules that they break.
+-- Private: leads to `Fails` of `schema_fold`. The faults of all types, and the rules that they break.
 use Rattle.std.specs.Prelude.{ℕ, List}
 use Rattle.std.specs.List.{flat_map}
 use Rattle.graphql_names.specs.Placed.{Place}

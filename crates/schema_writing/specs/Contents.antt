@@ -1,5 +1,5 @@
--- What a type has, class by class and without the keys of its maps, and what of it a giver gave
--- (private: it leads to `specs/Out.antt` of `schema_types`).
+-- Private: leads to `written_type` of `schema_types`. What a type has, class by class and without the keys of its maps,
+-- and what of it a giver gave.
 use Rattle.std.specs.Prelude.{List, [], ◌∷◌, ◌++◌, map, Option, None, Some, if◌then◌else◌}
 use Rattle.std.specs.Option.{option_map}
 use Rattle.indexmap.specs.IndexMap.{values}

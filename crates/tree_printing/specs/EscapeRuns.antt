@@ -1,4 +1,4 @@
--- Where the next byte of a text stands that is not written as it is.
+-- Private: leads to `escaped_text` and `block_escaped`. Where the next byte of a text stands that is not written as it is.
 use Rattle.std.specs.Prelude.{◌≡◌, ℕ, ◌<◌, ◌+◌, ◌==◌, nat_lt, Bool, true, false, ◌||◌, List, [], ◌∷◌, ◌++◌, length, take, drop, slice_index, codes}
 use Rattle.tree_printing.specs.StringLayout.{escaped_byte, escaped_text, block_escaped, is_quotes}
 

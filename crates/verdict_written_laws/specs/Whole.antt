@@ -1,4 +1,4 @@
--- Definitions written whole: what stands in a list of definitions, in the order of the write-out. No numbers, and nothing is folded.
+-- Private: leads to `WrittenTwice`. Definitions written whole: what stands in a list of definitions, in the order of the write-out. No numbers, and nothing is folded.
 use Rattle.std.specs.Prelude.{Bool, not, List, [], ◌∷◌, ◌++◌, map, if◌then◌else◌}
 use Rattle.std.specs.List.{flat_map}
 use Rattle.std.specs.Option.{option_map_or}

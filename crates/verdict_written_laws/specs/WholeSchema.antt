@@ -1,4 +1,4 @@
--- The schema definition and its extensions written whole: as they stood in the list, but with their roots in order and without the places of those.
+-- Private: leads to `WrittenTwice`. The schema definition and its extensions written whole: as they stood in the list, but with their roots in order and without the places of those.
 use Rattle.std.specs.Prelude.{ℕ, Bool, not, ◌&&◌, List, [], ◌∷◌, ◌++◌, map, None, is_none}
 use Rattle.std.specs.List.{flat_map, filter}
 use Rattle.std.specs.Option.{option_map_or}
