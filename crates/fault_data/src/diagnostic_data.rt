@@ -103,7 +103,7 @@ pub enum DiagnosticData {
     RecursiveInterfaceDefinition {
         name: Name,
     },
-    /// A type does not implement an interface that one of its interfaces implements (section 3.7).
+    /// A type does not implement an interface that one of its interfaces implements (sections 3.6 and 3.7).
     TransitiveImplementedInterfaces {
         interface: Name,
         #[derive_where(skip(Hash))]
@@ -113,7 +113,7 @@ pub enum DiagnosticData {
         #[derive_where(skip(Hash))]
         missing_interface: Name,
     },
-    /// A type lacks a field of its interface (section 3.7.1).
+    /// A type lacks a field of its interface (sections 3.6 and 3.7).
     MissingInterfaceField {
         name: Name,
         #[derive_where(skip(Hash))]
@@ -125,7 +125,7 @@ pub enum DiagnosticData {
         #[derive_where(skip(Hash))]
         field_location: Option<SourceSpan>,
     },
-    /// A field's type does not fit its interface's (section 3.7.1).
+    /// A field's type does not fit its interface's (sections 3.6 and 3.7).
     InvalidImplementationFieldType {
         name: Name,
         #[derive_where(skip(Hash))]
@@ -141,7 +141,7 @@ pub enum DiagnosticData {
         #[derive_where(skip(Hash))]
         interface_field_location: Option<SourceSpan>,
     },
-    /// A field lacks an argument of its interface's field (section 3.7.1).
+    /// A field lacks an argument of its interface's field (sections 3.6 and 3.7).
     MissingInterfaceFieldArgument {
         name: Name,
         #[derive_where(skip(Hash))]
@@ -155,7 +155,7 @@ pub enum DiagnosticData {
         #[derive_where(skip(Hash))]
         interface_argument_location: Option<SourceSpan>,
     },
-    /// An argument has another type than that of the interface's field (section 3.7.1).
+    /// An argument has another type than that of the interface's field (sections 3.6 and 3.7).
     InvalidImplementationFieldArgumentType {
         name: Name,
         #[derive_where(skip(Hash))]
@@ -173,7 +173,7 @@ pub enum DiagnosticData {
         #[derive_where(skip(Hash))]
         interface_argument_location: Option<SourceSpan>,
     },
-    /// A field has a required argument that its interface's field lacks (section 3.7.1).
+    /// A field has a required argument that its interface's field lacks (sections 3.6 and 3.7).
     ExtraRequiredImplementationFieldArgument {
         name: Name,
         #[derive_where(skip(Hash))]

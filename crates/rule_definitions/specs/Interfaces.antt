@@ -1,4 +1,4 @@
--- Rules on types that implement interfaces (GraphQL, October 2021, sections 3.6, 3.7, and IsValidImplementation in 3.6.1).
+-- Rules on types that implement interfaces (GraphQL, October 2021, sections 3.6 and 3.7; IsValidImplementation stands in 3.6).
 use Rattle.std.specs.Prelude.{◌≡◌, ◌≢◌, ℕ, Bool, true, false, ◌&&◌, ◌||◌, List, None, bytes_eq}
 use Rattle.std.specs.Option.{option_map_or}
 use Rattle.tree_literals.specs.TypeTree.{TypeTree, NamedTree, NonNullNamedTree, ListTree, NonNullListTree}
@@ -14,12 +14,12 @@ use Rattle.rule_definitions.specs.Faults.{SchemaFault, told}
 use Rattle.rule_definitions.specs.Judged.{Judged, AtType}
 
 module _ (s : Judged) where
-  -- what is named t is a member of the union n, or names the interface n among its interfaces (IsSubType, section 3.6.1)
+  -- what is named t is a member of the union n, or names the interface n among its interfaces (IsSubType, section 3.6)
   abbrev pub is_subtype : List ℕ → List ℕ → Bool
   is_subtype n t = option_map_or (λ a. (same_kind a.kind kind.Union && a.has_member t)
       || (same_kind a.kind kind.Interface && option_map_or (λ b. b.implements n) (s.type_named t) false)) (s.type_named n) false
 
-  -- a field of the second type serves where an interface has one of the first (IsValidImplementationFieldType, section 3.6.1)
+  -- a field of the second type serves where an interface has one of the first (IsValidImplementationFieldType, section 3.6)
   abbrev pub is_valid_type : TypeTree (Unit {0}) → TypeTree (Unit {0}) → Bool
   is_valid_type (NamedTree wanted) (NamedTree n) = bytes_eq wanted.it n.it || is_subtype wanted.it n.it
   is_valid_type (NamedTree wanted) (NonNullNamedTree n) = bytes_eq wanted.it n.it || is_subtype wanted.it n.it

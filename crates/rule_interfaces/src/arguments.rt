@@ -1,4 +1,4 @@
-//! Rules on the arguments of fields over an interface's fields (section 3.6.1, IsValidImplementation).
+//! Rules on the arguments of fields over an interface's fields (section 3.6, IsValidImplementation).
 ghost use Rattle.std.specs.Prelude.{◌≡◌, ◌++◌, [], ◌∷◌, map, IfOk, OnOk, option_to_list, flat_map};
 ghost use Rattle.std.specs.Option.{option_map, option_map_or};
 ghost use Rattle.graphql_names.specs.Placed.{node_tree};

@@ -1,4 +1,4 @@
-//! Rules on the fields of types that implement interfaces (section 3.6.1, IsValidImplementation).
+//! Rules on the fields of types that implement interfaces (section 3.6, IsValidImplementation).
 ghost use Rattle.std.specs.Prelude.{◌≡◌, ◌++◌, map, IfOk, OnOk, option_to_list};
 ghost use Rattle.graphql_names.specs.Placed.{name_tree, node_tree};
 ghost use Rattle.tree_type_members.specs.TypeSystemTree.{field_definition_tree};

@@ -1,4 +1,4 @@
-//! The rules on types that implement interfaces (sections 3.6, 3.6.1 and 3.7).
+//! The rules on types that implement interfaces (sections 3.6 and 3.7).
 //!
 //! For the layer above: `check_interfaces` tells each fault of these rules, with its place and data, and nothing else.
 //! Each rule is a function named after the variant of the fault that it tells; `rule_definitions` says what they

@@ -1,4 +1,4 @@
-//! Which types may stand where an interface has one (section 3.6.1, IsValidImplementationFieldType).
+//! Which types may stand where an interface has one (section 3.6, IsValidImplementationFieldType).
 ghost use Rattle.std.specs.Prelude.{◌≡◌, ◌||◌, bytes_eq};
 ghost use Rattle.graphql_names.specs.Placed.{name_tree, unplaced_text};
 ghost use Rattle.tree_literals.specs.TypeTree.{NamedTree, NonNullNamedTree, type_tree, unplaced_type};

@@ -1,4 +1,4 @@
--- That names are names, which holds of every schema in memory, so that nobody needs to believe this: it leads to literals.
+-- That the values of enums and the fields of input objects have names, which holds of every schema in memory: a premise of the law of literals.
 use Rattle.std.specs.Prelude.{◌≡◌, ℕ, true, List, is_some}
 use Rattle.graphql_names.specs.NameSyntax.{is_name}
 use Rattle.rule_definitions.specs.Words.{IfPresent}
