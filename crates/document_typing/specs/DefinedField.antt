@@ -1,4 +1,4 @@
--- What is kept and told of a field with a definition (private: it leads to `KeptSelections.antt`, `SetFaults.antt`).
+-- Private: leads to `KeptSelections.antt` and `TypingFaults.antt`. What is kept and told of a field with a definition.
 use Rattle.std.specs.Prelude.{List, [], ◌∷◌, if◌then◌else◌}
 use Rattle.graphql_names.specs.Node.{content, place}
 use Rattle.graphql_names.specs.declared.node.Node.{Node}

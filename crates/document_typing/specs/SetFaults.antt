@@ -1,4 +1,4 @@
--- The faults of a set, in the order of its selections (private: it leads to `TypingFaults.antt`).
+-- Private: leads to `TypingFaults.antt`. The faults of a set, in the order of its selections.
 use Rattle.std.specs.Prelude.{ℕ, List, [], ◌∷◌, ◌++◌, None, Some, if◌then◌else◌}
 use Rattle.std.specs.Option.{option_map_or}
 use Rattle.tree_operations.specs.SelectionTree.{SelectionTree, FieldTree, SpreadTree, InlineTree, SelectionTrees, no_selections, selection_then}

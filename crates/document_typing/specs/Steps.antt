@@ -1,4 +1,4 @@
--- What one definition adds to what is kept and told of those before it (private: it leads to `KeptDocument.antt`, `TypingFaults.antt`).
+-- Private: leads to `KeptDocument.antt` and `TypingFaults.antt`. What one definition adds to what is kept and told of those before it.
 use Rattle.std.specs.Prelude.{ℕ, Bool, List, [], ◌∷◌, ◌++◌, Option, None, Some, is_some, fold, nat_lt, length, if◌then◌else◌}
 use Rattle.std.specs.List.{filter}
 use Rattle.std.specs.Option.{option_map_or}

@@ -1,4 +1,4 @@
--- What contracts see of a document that is being typed (private: it leads to `Steps.antt`).
+-- Private: leads to `KeptDocument.antt` and `TypingFaults.antt`. What contracts see of a document that is being typed.
 use Rattle.std.specs.Option.{option_map}
 use Rattle.indexmap.specs.IndexMap.{IndexMap}
 use Rattle.graphql_names.specs.NameValue.{NameValue}

@@ -1,4 +1,4 @@
--- Which variants are copied alike (private: it leads to `diagnostic_of`).
+-- Private: leads to `diagnostic_of`. Which variants are copied alike.
 use Rattle.std.specs.Prelude.{Bool, true, false, List, Option, Some, None}
 use Rattle.graphql_names.specs.NameValue.{NameValue}
 use Rattle.graphql_names.specs.Placed.{Place}

@@ -1,4 +1,4 @@
--- The text of a template with its gaps filled (private: it leads to `specs/Messages.antt`).
+-- Private: leads to `specs/Messages.antt`. The text of a template with its gaps filled.
 use Rattle.std.specs.Prelude.{ℕ, List, ◌++◌}
 use Rattle.std.specs.Option.{option_map}
 use Rattle.graphql_names.specs.Node.{content}

@@ -1,4 +1,4 @@
--- The text of words with their gaps filled (private: it leads to `specs/DocumentMessages.antt`).
+-- Private: leads to `specs/DocumentMessages.antt`. The text of words with their gaps filled.
 use Rattle.std.specs.Prelude.{ℕ, List, ◌++◌}
 use Rattle.tree_operations.specs.OperationQueries.{operation_keyword}
 use Rattle.fault_document_data.specs.declared.build_error_text.Words.{Words}

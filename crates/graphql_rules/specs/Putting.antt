@@ -1,4 +1,4 @@
--- Types that are put under names one after another (private: it leads to `validated`).
+-- Private: leads to `validated`. Types that are put under names one after another.
 use Rattle.std.specs.Prelude.{ℕ, List, [], ◌∷◌, if◌then◌else◌}
 use Rattle.std.specs.Str.{bytes_eq}
 use Rattle.graphql_names.specs.Placed.{Place}

@@ -1,4 +1,4 @@
--- Implementers that are noted one after another (private: it leads to `implementers_in`).
+-- Private: leads to `implementers_in`. Implementers that are noted one after another.
 use Rattle.std.specs.Prelude.{ℕ, Bool, List, [], ◌∷◌, ◌++◌, map, Option, None, Some, unwrap_or, fold, if◌then◌else◌}
 use Rattle.std.specs.List.{flat_map}
 use Rattle.std.specs.Str.{bytes_eq}

@@ -1,4 +1,4 @@
--- What the two lists are made of (private: it leads to `specs/Reach.antt`).
+-- Private: leads to `Reached` of `rule_document_definitions`. What the two lists of `Reach.antt` are made of.
 use Rattle.std.specs.Prelude.{ℕ, List, map, option_to_list, Vec}
 use Rattle.std.specs.Borrow.{Bor}
 use Rattle.std.specs.List.{flat_map}

@@ -1,4 +1,4 @@
--- The fields among the selections that a walk lends (private: it leads to `specs/Fields.antt`).
+-- Private: leads to `specs/Fields.antt`. The fields among the selections that a walk lends.
 use Rattle.std.specs.Prelude.{List, flat_map, option_to_list, None}
 use Rattle.graphql_names.specs.Placed.{Place}
 use Rattle.document_meaning.specs.MeantTree.{meant}

@@ -1,4 +1,4 @@
--- The sameness of values as a test (private: it decides `SameValue` of the definitions of the rules of documents).
+-- Private: leads to `SameValue` of the definitions of the rules of documents. The sameness of values as a test.
 use Rattle.std.specs.Prelude.{◌≡◌, ℕ, Bool, true, false, ◌&&◌, ◌||◌, is_none, List, [], map, Option, None, Some, bytes_eq, if◌then◌else◌}
 use mathlib.Core.Bool.{beq}
 use Rattle.std.specs.List.{list_any}

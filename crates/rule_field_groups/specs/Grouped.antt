@@ -1,4 +1,4 @@
--- Groups of a list of field selections (private: it leads to `Sharing.antt` of the laws of merging).
+-- Private: leads to `FieldsMerge`. Groups of a list of field selections.
 use Rattle.std.specs.Prelude.{◌≡◌, ℕ, Bool, ◌&&◌, ◌||◌, not, List, [], map, filter, length, Vec, Contains, ◌⊎◌}
 use Rattle.std.specs.List.{sum, list_any}
 use Rattle.std.specs.Map.{lookup}

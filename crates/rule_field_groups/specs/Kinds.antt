@@ -1,4 +1,4 @@
--- Which types are abstract, which are composite, as tests (private: it leads to `Merging.antt` of the rules' definitions).
+-- Private: leads to `Merging.antt` of the rules' definitions. Which types are abstract, which are composite, as tests.
 use Rattle.std.specs.Prelude.{ℕ, Bool, true, false, ◌&&◌, not, List}
 use Rattle.std.specs.Option.{option_map_or}
 use Rattle.schema_types.specs.SchemaTree.{is_leaf_kind, is_output_kind}

@@ -1,5 +1,5 @@
--- The two passes over the lists: which fields go together, when two agree, and what is told of two that do not (private: it leads to
--- `Merging.antt` of the rules' definitions).
+-- Private: leads to `Merging.antt` of the rules' definitions.
+-- The two passes over the lists: which fields go together, when two agree, and what is told of two that do not.
 use Rattle.std.specs.Prelude.{◌≡◌, ◌++◌, ℕ, List, [], Vec, Option, MatchOption, Contains, ◌⊎◌}
 use Rattle.std.specs.declared.alloc.Global.{Global}
 use Rattle.graphql_names.specs.Placed.{Place}

@@ -1,4 +1,4 @@
--- Shapes of types, as tests (private: it leads to `SameType` of the rules' definitions).
+-- Private: leads to `SameType` of the rules' definitions. Shapes of types, as tests.
 use Rattle.std.specs.Prelude.{ℕ, Bool, true, false, ◌&&◌, ◌||◌, List, bytes_eq}
 use Rattle.tree_literals.specs.TypeTree.{TypeTree, NamedTree, NonNullNamedTree, ListTree, NonNullListTree}
 use Rattle.rule_definitions.specs.Judged.{Judged}

@@ -1,4 +1,4 @@
--- Fragments where they stand, and what the check tells of them (private: it leads to InvalidFragmentSpread of the rules' definitions).
+-- Private: leads to `InvalidFragmentSpreadAt` of the rules' definitions. Fragments where they stand, and what the check tells of them.
 use Rattle.std.specs.Prelude.{ℕ, List, [], ◌∷◌, Option, None, Some, if◌then◌else◌}
 use Rattle.std.specs.Option.{option_map, option_map_or}
 use Rattle.graphql_names.specs.Placed.{Place}

@@ -1,4 +1,4 @@
--- What the checks tell of single selections and fragments (private: it leads to `Fragments.antt` of the rules' definitions).
+-- Private: leads to `Fragments.antt` of the rules' definitions. What the checks tell of single selections and fragments.
 use Rattle.std.specs.Prelude.{ℕ, Bool, false, ◌&&◌, not, List, [], ◌∷◌, Option, None, Some, if◌then◌else◌}
 use Rattle.std.specs.Option.{option_map_or}
 use Rattle.graphql_names.specs.Placed.{Place}

@@ -1,4 +1,4 @@
--- What is noted of each type of a schema: names of objects under names of types (private: it leads to `ArePossible`).
+-- Private: leads to `CanBe`. What is noted of each type of a schema: names of objects under names of types.
 use Rattle.std.specs.Prelude.{ℕ, Bool, false, List, [], ◌∷◌, ◌++◌, map, flat_map, if◌then◌else◌}
 use Rattle.std.specs.Option.{option_map_or}
 use Rattle.graphql_names.specs.Placed.{Place}

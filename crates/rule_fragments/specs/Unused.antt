@@ -1,4 +1,4 @@
--- What is told of one fragment, where those names are used (private: it leads to `Fragments.antt` of the rules' definitions).
+-- Private: leads to `Fragments.antt` of the rules' definitions. What is told of one fragment, where those names are used.
 use Rattle.std.specs.Prelude.{ℕ, List, [], ◌∷◌, bytes_eq, if◌then◌else◌}
 use Rattle.std.specs.List.{list_any}
 use Rattle.graphql_names.specs.Placed.{Place}

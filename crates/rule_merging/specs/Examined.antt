@@ -1,4 +1,4 @@
--- What the examination of a group, of a list, of a level and of all levels comes to (private: it leads to the laws of merging).
+-- Private: leads to `MergingBreaks` and `FieldsMerge`. What the examination of a group, of a list, of a level and of all levels comes to.
 use Rattle.std.specs.Prelude.{◌≡◌, ◌++◌, ◌∷◌, Bool, true, false, List, [], map, Vec, Contains}
 use Rattle.std.specs.declared.alloc.Global.{Global}
 use Rattle.graphql_names.specs.Placed.{Place}

@@ -1,4 +1,4 @@
--- What the checks tell of single selections (private: it leads to `Selections.antt` and `Standalone.antt` of the rules' definitions).
+-- Private: leads to `Selections.antt` and `Standalone.antt` of the rules' definitions. What the checks tell of single selections.
 use Rattle.std.specs.Prelude.{◌≡◌, Bool, true, false, ◌&&◌, not, List, [], ◌∷◌, None, Some, ◌⊎◌, if◌then◌else◌}
 use Rattle.std.specs.Option.{option_map, option_map_or}
 use Rattle.graphql_names.specs.Node.{content, place}

@@ -1,5 +1,5 @@
--- What the walk over selections that are always reached has found, and what it has still to do (private: it leads to `Defer.antt` of the
--- rules' definitions).
+-- Private: leads to `Defer.antt` of the rules' definitions.
+-- What the walk over selections that are always reached has found, and what it has still to do.
 use Rattle.std.specs.Prelude.{◌≡◌, ◌↔◌, ℕ, ◌+◌, ◌-◌, ◌<◌, true, List, [], ◌∷◌, ◌++◌, length, map, slice_get, bytes_eq, Contains, Option, None, Some, if◌then◌else◌, ◌⊎◌}
 use Rattle.std.specs.List.{list_any}
 use Rattle.std.specs.Option.{option_map, option_and_then}

@@ -1,5 +1,5 @@
--- What stands inside a set, of selections that pass a test and stand in none that fails it (private: it leads to `Reached.antt` and
--- `Defer.antt` of the rules' definitions).
+-- Private: leads to `Reached.antt` and `Defer.antt` of the rules' definitions.
+-- What stands inside a set, of selections that pass a test and stand in none that fails it.
 use Rattle.std.specs.Prelude.{◌≡◌, ◌++◌, ℕ, suc, Bool, true, List, [], ◌∷◌, flat_map, Contains, Option, ◌⊎◌, if◌then◌else◌}
 use Rattle.std.specs.Option.{option_map_or}
 use Rattle.document_meaning.specs.MeantTree.{MeantSelection, MeantField, MeantSpread, MeantInline, MeantSet, meant_set, MeantSelections, no_meant, meant_then, MeantOperation, MeantFragment, MeantDocument}

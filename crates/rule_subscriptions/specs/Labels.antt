@@ -1,5 +1,5 @@
--- What the rules on labels of `@defer` tell of one label after another, as lists (private: it leads to `Defer.antt` of the rules'
--- definitions).
+-- Private: leads to `Defer.antt` of the rules' definitions.
+-- What the rules on labels of `@defer` tell of one label after another, as lists.
 use Rattle.std.specs.Prelude.{◌≡◌, ◌++◌, ℕ, true, List, [], ◌∷◌, map, flat_map, find, codes, bytes_eq, Option, None, Some, option_map, option_to_list, String, if◌then◌else◌}
 use Rattle.std.specs.Option.{option_map_or, option_or}
 use Rattle.indexmap.specs.IndexMap.{IndexMap, get_by_text}

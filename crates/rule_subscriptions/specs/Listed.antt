@@ -1,5 +1,5 @@
--- What each rule tells of one selection or directive, as a list (private: it leads to `Subscriptions.antt` and `Defer.antt` of the
--- rules' definitions).
+-- Private: leads to `Subscriptions.antt` and `Defer.antt` of the rules' definitions.
+-- What each rule tells of one selection or directive, as a list.
 use Rattle.std.specs.Prelude.{ℕ, ◌++◌, Bool, true, false, ◌&&◌, ◌||◌, not, nat_lt, List, [], ◌∷◌, length, flat_map, codes, bytes_eq, is_some, unwrap_or, if◌then◌else◌}
 use Rattle.std.specs.List.{list_any}
 use Rattle.std.specs.Option.{option_map_or}

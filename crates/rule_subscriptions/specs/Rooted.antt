@@ -1,5 +1,5 @@
--- What contracts see of selections that are lent, and of those at the root of an operation (private: it leads to `Subscriptions.antt` and
--- `Defer.antt` of the rules' definitions).
+-- Private: leads to `Subscriptions.antt` and `Defer.antt` of the rules' definitions.
+-- What contracts see of selections that are lent, and of those at the root of an operation.
 use Rattle.std.specs.Prelude.{◌≡◌, ◌↔◌, Bool, false, Option, List, [], ◌∷◌, map, Contains}
 use Rattle.std.specs.Option.{option_map_or}
 use Rattle.graphql_names.specs.Node.{content}

@@ -1,4 +1,4 @@
--- Trees at other places (private: it leads to what is told of a schema).
+-- Private: leads to what is told of a schema. Trees at other places.
 use Rattle.std.specs.Prelude.{map}
 use Rattle.graphql_names.specs.Placed.{Placed, Text}
 use Rattle.tree_literals.specs.ValueTree.{ValueTree, ItemTrees, EntryTrees, NullTree, EnumTree, VariableTree, StringTree, FloatTree, IntTree, BooleanTree, ListTree, ObjectTree, no_items, item_then, no_entries, entry_then}

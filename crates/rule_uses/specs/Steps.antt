@@ -1,4 +1,4 @@
--- What parts of the rules tell of what is given against what is defined, by the first that is found (private: it leads to specs/Uses.antt of the rules' definitions).
+-- Private: leads to `specs/Uses.antt` of the rules' definitions. What parts of the rules tell of what is given against what is defined, by the first that is found.
 use Rattle.std.specs.Prelude.{◌≡◌, true, false, is_some, List, None, find, Contains, ◌↔◌, ◌⊎◌, bytes_eq}
 use Rattle.graphql_names.specs.Placed.{Placed, Place}
 use Rattle.tree_literals.specs.TypeTree.{unplaced_type}

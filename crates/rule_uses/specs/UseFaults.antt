@@ -1,4 +1,4 @@
--- What each rule on uses tells, as a list of one fault or none (private: it leads to specs/Uses.antt of the rules' definitions).
+-- Private: leads to `specs/Uses.antt` of the rules' definitions. What each rule on uses tells, as a list of one fault or none.
 use Rattle.std.specs.Prelude.{Bool, ◌&&◌, List, [], ◌∷◌, Option, find, if◌then◌else◌}
 use Rattle.std.specs.Option.{option_map_or}
 use Rattle.graphql_names.specs.Placed.{Placed, Place}

@@ -1,4 +1,4 @@
--- Names, with those of the variables that stand somewhere (private: it leads to `IsUsedIn` of the definitions of the rules of documents).
+-- Private: leads to `IsUsedIn` of the definitions of the rules of documents. Names, with those of the variables that stand somewhere.
 use Rattle.std.specs.Prelude.{ℕ, List, map, fold}
 use Rattle.std.specs.Str.{bytes_eq}
 use Rattle.indexmap.specs.IndexSet.{IndexSet, insert_key}

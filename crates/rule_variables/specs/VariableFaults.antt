@@ -1,4 +1,4 @@
--- What each rule tells of one variable (private: it leads to specs/Variables.antt of the definitions of the rules of documents).
+-- Private: leads to `specs/Variables.antt` of the definitions of the rules of documents. What each rule tells of one variable.
 use Rattle.std.specs.Prelude.{◌≡◌, ◌⊎◌, ℕ, false, List, [], ◌∷◌, Contains, Option, None, find, bytes_eq, if◌then◌else◌}
 use Rattle.std.specs.Option.{option_map_or}
 use Rattle.graphql_names.specs.Placed.{Placed, Place}

@@ -1,4 +1,4 @@
--- The types that are extended and those that are defined, by name (private: it leads to `specs/Building.antt`).
+-- Private: leads to `specs/Building.antt`. The types that are extended and those that are defined, by name.
 use Rattle.std.specs.Prelude.{ℕ, List, map, option_to_list}
 use Rattle.std.specs.List.{flat_map}
 use Rattle.graphql_names.specs.Placed.{Place}

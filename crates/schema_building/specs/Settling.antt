@@ -1,4 +1,4 @@
--- The steps that lead to the list of definitions that counts (private: it leads to `specs/Building.antt`).
+-- Private: leads to `specs/Building.antt`. The steps that lead to the list of definitions that counts.
 use Rattle.std.specs.Prelude.{Bool, not, ◌&&◌, List, [], ◌∷◌, ◌++◌, map, None, is_some, if◌then◌else◌}
 use Rattle.std.specs.List.{filter, list_any}
 use Rattle.graphql_names.specs.Placed.{Place}

@@ -1,4 +1,4 @@
--- The definitions of texts with their numbers (private: it leads to `specs/Building.antt`).
+-- Private: leads to `specs/Building.antt`. The definitions of texts with their numbers.
 use Rattle.std.specs.Prelude.{◌≡◌, ℕ, ◌+◌, ◌++◌}
 use Rattle.schema_fold.specs.Listed.{Definitions, numbered}
 use Rattle.schema_building.specs.Numbers.{extension_count, HaveNumbers}

@@ -1,4 +1,4 @@
--- What the rows of the table say (private: it leads to `built_in_definitions`).
+-- Private: leads to `built_in_definitions`. What the rows of the table say.
 use Rattle.std.specs.Prelude.{ℕ, Bool, false, List, ◌&&◌, map, Option, None, Some}
 use Rattle.std.specs.List.{list_all}
 use Rattle.std.specs.Str.{bytes_eq}

@@ -1,4 +1,4 @@
--- How a coordinate is read: private to this crate. A text is cut at the first of each sign in turn.
+-- Private: leads to `printed` and `ParseErrorIsDue`. How a coordinate is read: a text is cut at the first of each sign in turn.
 use Rattle.std.specs.Prelude.{ℕ, List, [], ◌∷◌, Option, None, Some, codes, ◌==◌, if◌then◌else◌, bytes_eq}
 use Rattle.std.specs.Option.{option_map, option_and_then}
 use Rattle.schema_coordinates.specs.Coordinate.{Coordinate, OfType, OfAttribute, OfArgument, OfDirective, OfDirectiveArgument, is_signless}

@@ -1,4 +1,4 @@
--- All components of a type, class by class, repeated ones too (private: it leads to `specs/Fold.antt`).
+-- Private: leads to `specs/Fold.antt`. All components of a type, class by class, repeated ones too.
 use Rattle.std.specs.Prelude.{◌≡◌, List, ◌++◌, map}
 use Rattle.std.specs.List.{flat_map}
 use Rattle.graphql_names.specs.Placed.{Placed, Place, Text}

@@ -1,4 +1,4 @@
--- The text of a template with its gaps filled (private: it leads to `specs/Messages.antt`).
+-- Private: leads to `specs/Messages.antt`. The text of a template with its gaps filled.
 use Rattle.std.specs.Prelude.{ℕ, List, ◌++◌}
 use Rattle.schema_fold.specs.declared.build_error_text.Template.{Template}
 

@@ -1,4 +1,4 @@
--- What keeping the first component of each name does (private: it leads to `specs/Fold.antt` and `specs/BuildErrors.antt`).
+-- Private: leads to `specs/Fold.antt` and `specs/BuildErrors.antt`. What keeping the first component of each name does.
 use Rattle.std.specs.Prelude.{◌≡◌, ℕ, List, [], ◌∷◌, ◌++◌, map, if◌then◌else◌}
 use Rattle.graphql_names.specs.NameValue.{NameValue}
 use Rattle.graphql_names.specs.Placed.{Placed, Place, Text}

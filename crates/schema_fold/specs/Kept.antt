@@ -1,4 +1,4 @@
--- What is kept of all components of a type, and what is told of them (private: it leads to `specs/Fold.antt` and `specs/BuildErrors.antt`).
+-- Private: leads to `specs/Fold.antt` and `specs/BuildErrors.antt`. What is kept of all components of a type, and what is told of them.
 use Rattle.std.specs.Prelude.{◌≡◌, ℕ, List, [], ◌++◌, map}
 use Rattle.graphql_names.specs.Placed.{Placed, Place, Text}
 use Rattle.tree_directives.specs.DirectiveTree.{DirectiveTree, InputValueTree, directive_tree, input_value_tree}

@@ -1,4 +1,4 @@
--- A type made of its definition and of what it keeps (private: it leads to `specs/Fold.antt`).
+-- Private: leads to `specs/Fold.antt`. A type made of its definition and of what it keeps.
 use Rattle.std.specs.Prelude.{◌≡◌, [], Option, Some}
 use Rattle.std.specs.Option.{option_map}
 use Rattle.graphql_names.specs.Placed.{Place, Text, name_tree, text_tree}

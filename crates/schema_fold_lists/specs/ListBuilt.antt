@@ -1,4 +1,4 @@
--- What a whole list with its numbers builds (private: it leads to `specs/Building.antt`).
+-- Private: leads to `folded`. What a whole list with its numbers builds.
 use Rattle.std.specs.Prelude.{◌≡◌, ◌↔◌, ℕ, List, ◌++◌, length, Contains}
 use Rattle.graphql_names.specs.Placed.{Place}
 use Rattle.schema_fold.specs.in_schema_types.SchemaTree.{SchemaTree}

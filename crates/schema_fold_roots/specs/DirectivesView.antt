@@ -1,4 +1,4 @@
--- What contracts see of directive definitions (private: it leads to `specs/DirectiveFold.antt`).
+-- Private: leads to `folded_directives`. What contracts see of directive definitions.
 use Rattle.graphql_names.specs.NameValue.{NameValue}
 use Rattle.graphql_names.specs.declared.node.Node.{Node}
 use Rattle.graphql_names.specs.Placed.{node_tree}

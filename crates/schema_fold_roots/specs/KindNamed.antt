@@ -1,4 +1,4 @@
--- The kind of the first type of a name (private: it leads to `is_object_in`).
+-- Private: leads to `is_object_in`. The kind of the first type of a name.
 use Rattle.std.specs.Prelude.{ℕ, List, Option, None, Some, if◌then◌else◌}
 use Rattle.std.specs.Option.{option_map, option_map_or}
 use Rattle.std.specs.Str.{bytes_eq}

@@ -1,4 +1,4 @@
--- What collecting the parts of the schema definition and keeping its roots does (private: it leads to `specs/ListFold.antt`).
+-- Private: leads to `folded_schema`. What collecting the parts of the schema definition and keeping its roots does.
 use Rattle.std.specs.Prelude.{◌≡◌, List, [], ◌∷◌, ◌++◌, Option, Some}
 use Rattle.graphql_names.specs.Placed.{Place, Text}
 use Rattle.tree_directives.specs.declared.operation_type.OperationType.{OperationType}

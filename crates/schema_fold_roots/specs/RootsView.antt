@@ -1,4 +1,4 @@
--- What contracts see of schema definitions and extensions, of what is collected and of what is kept (private: it leads to `specs/ListFold.antt`).
+-- Private: leads to `folded_schema`. What contracts see of schema definitions and extensions, of what is collected and of what is kept.
 use Rattle.std.specs.Prelude.{List, map}
 use Rattle.std.specs.Option.{option_map}
 use Rattle.graphql_names.specs.Node.{content, place}

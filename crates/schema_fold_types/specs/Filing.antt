@@ -1,4 +1,4 @@
--- The fold of types with the extensions under their names (private: it leads to `specs/ListTypes.antt`).
+-- Private: leads to `folded_types`. The fold of types with the extensions under their names.
 use Rattle.std.specs.Prelude.{◌≡◌, ℕ, List, ◌++◌, map}
 use Rattle.std.specs.List.{flat_map}
 use Rattle.graphql_names.specs.Placed.{Place}

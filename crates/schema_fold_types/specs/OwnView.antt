@@ -1,4 +1,4 @@
--- What contracts see of what the texts define, by their index (private: it leads to `specs/Seen.antt`).
+-- Private: leads to `Fails` of `schema_fold`. What contracts see of what the texts define, by their index.
 use Rattle.std.specs.Prelude.{ℕ, Bool, List, map}
 use Rattle.schema_fold_index.specs.Index.{text_kind, is_filed_before}
 use Rattle.schema_fold_types.specs.Seen.{Seen}

@@ -1,4 +1,4 @@
--- What a list defines, and what each rule on positions tells by it (private: it leads to `specs/Misplaced.antt`).
+-- Private: leads to `Fails` of `schema_fold`. What a list defines, and what each rule on positions tells by it.
 use Rattle.std.specs.Prelude.{◌≡◌, ℕ, Bool, false, not, ◌&&◌, ◌||◌, List, [], ◌∷◌, ◌++◌, map, Option, None, Some, if◌then◌else◌, is_some, option_to_list}
 use Rattle.std.specs.List.{flat_map}
 use Rattle.std.specs.Map.{lookup}

@@ -1,4 +1,4 @@
--- What contracts see of what a list defines (private: it leads to `specs/Seen.antt`).
+-- Private: leads to `Fails` of `schema_fold`. What contracts see of what a list defines.
 use Rattle.schema_fold.specs.in_components.Names.{entries_of}
 use Rattle.schema_fold.specs.in_schema_types.TypeView.{name_text}
 use Rattle.schema_fold.specs.PartsView.{itself}

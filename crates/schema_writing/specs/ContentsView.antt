@@ -1,4 +1,4 @@
--- What contracts see of a type's contents that are filed and given out (private: it leads to `specs/Out.antt` of `schema_types`).
+-- Private: leads to `specs/Out.antt` of `schema_types`. What contracts see of a type's contents that are filed and given out.
 use Rattle.std.specs.Prelude.{◌≡◌, List, [], map, Option}
 use Rattle.graphql_names.specs.Placed.{Place, name_tree, node_tree}
 use Rattle.tree_directives.specs.DirectiveTree.{directive_tree, directives_tree, input_value_tree}

@@ -1,4 +1,4 @@
--- What is filed under a giver: the definition, or an extension by its number (private: it leads to `specs/Out.antt` of `schema_types`).
+-- Private: leads to `specs/Out.antt` of `schema_types`. What is filed under a giver: the definition, or an extension by its number.
 use Rattle.std.specs.Prelude.{◌≡◌, List, [], ◌∷◌, ◌++◌, map, Option, Vec, if◌then◌else◌}
 use Rattle.std.specs.Option.{option_map_or}
 use Rattle.std.specs.Map.{lookup}

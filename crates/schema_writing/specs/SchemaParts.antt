@@ -1,4 +1,4 @@
--- What is written of the schema definition and of directives, by pieces (private: it leads to `specs/Out.antt` of `schema_types`).
+-- Private: leads to `specs/Out.antt` of `schema_types`. What is written of the schema definition and of directives, by pieces.
 use Rattle.std.specs.Prelude.{List, [], ◌∷◌, map, None, Some}
 use Rattle.graphql_names.specs.declared.node.Node.{Node}
 use Rattle.graphql_names.specs.Placed.{Place, node_tree}
