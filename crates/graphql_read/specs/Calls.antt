@@ -1,4 +1,4 @@
--- Private layer: how a text is read up to its end. No public clause cites it.
+-- Private: leads to `HasTree` and `IsDue`. How a text is read up to its end.
 use Rattle.std.specs.Prelude.{Option, Some, None, Ok, Err, if◌then◌else◌}
 use Rattle.read_tokens.specs.declared.terminal.Terminal.{Terminal}
 use Rattle.read_tokens.specs.Input.{next}

@@ -1,4 +1,4 @@
--- Private layer: which terminals begin a symbol. No public clause cites it.
+-- Private: leads to `Says`. Which terminals begin a symbol.
 use Rattle.std.specs.Prelude.{Bool}
 use Rattle.read_tokens.specs.declared.terminal.Terminal.{Terminal}
 use Rattle.read_grammar.specs.Kinds.{or, is_name, is_string, is_operation_type, is_int, is_float, is_dollar, is_spread, is_open_bracket, is_open_brace, is_fragment, is_extend, is_schema, is_scalar, is_type, is_interface, is_union, is_enum, is_input, is_directive}

@@ -1,4 +1,4 @@
--- Private layer: how documents are read. No public clause cites it.
+-- Private: leads to `Derives` and `Says`. How documents are read.
 use Rattle.std.specs.Prelude.{ℕ, List, ◌⊎◌}
 use Rattle.std.proofs.Common.{inl, inr}
 use Rattle.graphql_ast.specs.in_directives.DirectiveTree.{DirectiveDefinitionTree}

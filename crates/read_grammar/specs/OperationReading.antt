@@ -1,4 +1,4 @@
--- Private layer: how selections, operations and fragments are read. No public clause cites it.
+-- Private: leads to `Derives` and `Says`. How selections, operations and fragments are read.
 use Rattle.std.specs.Prelude.{ℕ, zero, suc, List, Option, Some, None, ◌⊎◌}
 use Rattle.std.proofs.Common.{inl, inr}
 use Rattle.graphql_names.specs.Placed.{Placed, Text}

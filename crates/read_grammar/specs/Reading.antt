@@ -1,4 +1,4 @@
--- Private layer: how tokens are read, for each way to put rules together. No public clause cites it.
+-- Private: leads to `Derives` and `Says`. How tokens are read, for each way to put rules together.
 use Rattle.std.specs.Prelude.{◌≡◌, ◌≢◌, ℕ, zero, suc, Bool, true, false, if◌then◌else◌, List, [], ◌∷◌, length, Option, Some, None, Result, Ok, Err}
 use Rattle.graphql_names.specs.Placed.{Placed}
 use Rattle.read_tokens.specs.declared.terminal.Terminal.{Terminal}

@@ -1,4 +1,4 @@
--- Private layer: the fault, where reading stops. No public clause cites it.
+-- Private: leads to `Says`. The fault, where reading stops.
 use Rattle.std.specs.Prelude.{List, [], ◌∷◌}
 use Rattle.read_tokens.specs.Input.{Token, Input, Ending, Ended, NoTokenAt}
 use Rattle.read_grammar.specs.declared.stop.Stop.{Stop}

@@ -1,4 +1,4 @@
--- Private layer: how the type system is read. No public clause cites it.
+-- Private: leads to `Derives` and `Says`. How the type system is read.
 use Rattle.std.specs.Prelude.{ℕ, zero, suc, List}
 use Rattle.graphql_names.specs.Placed.{Placed, Text}
 use Rattle.graphql_ast.specs.in_directives.DirectiveTree.{InputValueTree, InputValues, DirectiveDefinitionTree}

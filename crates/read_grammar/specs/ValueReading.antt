@@ -1,4 +1,4 @@
--- Private layer: how values, arguments, directives and types are read. No public clause cites it.
+-- Private: leads to `Derives` and `Says`. How values, arguments, directives and types are read.
 use Rattle.std.specs.Prelude.{ℕ, zero, suc, true, false}
 use Rattle.graphql_names.specs.Placed.{Placed, Text}
 use Rattle.graphql_ast.specs.in_literals.ValueTree.{ValueTree, NullTree, EnumTree, VariableTree, StringTree, FloatTree, IntTree, BooleanTree, ListTree, ObjectTree}

@@ -1,4 +1,4 @@
--- Private layer: the parts of definitions within the type system. No public clause cites it.
+-- Private: leads to `Derives` and `Says`. The parts of definitions within the type system.
 use Rattle.std.specs.Prelude.{ℕ, Bool, List, ◌++◌, Option}
 use Rattle.graphql_names.specs.Placed.{Placed, Text}
 use Rattle.tree_literals.specs.ValueTree.{ValueTree}

@@ -1,4 +1,4 @@
--- Private layer: the parts of operations, fragments and definitions of variables. No public clause cites it.
+-- Private: leads to `Derives` and `Says`. The parts of operations, fragments and definitions of variables.
 use Rattle.std.specs.Prelude.{ℕ, List, Option}
 use Rattle.graphql_names.specs.Placed.{Placed, Text}
 use Rattle.tree_literals.specs.ValueTree.{ValueTree}

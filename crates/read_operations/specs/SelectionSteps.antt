@@ -1,4 +1,4 @@
--- Private layer: the parts of selections. No public clause cites it.
+-- Private: leads to `Derives` and `Says`. The parts of selections.
 use Rattle.std.specs.Prelude.{ℕ, [], Option, Ok, unwrap_or}
 use Rattle.std.specs.Option.{option_map}
 use Rattle.graphql_names.specs.declared.name.Name.{Name}

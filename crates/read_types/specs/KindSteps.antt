@@ -1,4 +1,4 @@
--- Private layer: how what stands behind a description or behind `extend` is read. No public clause cites it.
+-- Private: leads to `Derives` and `Says`. How what stands behind a description or behind `extend` is read.
 use Rattle.std.specs.Prelude.{ℕ, List, Option, Ok}
 use Rattle.tree_directives.specs.DirectiveTree.{Directives, InputValues}
 use Rattle.graphql_names.specs.Placed.{Text}

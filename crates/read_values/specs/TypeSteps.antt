@@ -1,4 +1,4 @@
--- Private layer: the parts of a type. No public clause cites it.
+-- Private: leads to `Derives` and `Says`. The parts of a type.
 use Rattle.std.specs.Prelude.{ℕ, ◌-◌}
 use Rattle.tree_literals.specs.TypeTree.{TypeTree, NamedTree}
 use Rattle.tree_literals.specs.TypeTree as types
