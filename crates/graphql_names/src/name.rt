@@ -152,7 +152,8 @@ impl Name {
         }
     }
 
-    /// A name of a part of a shared text, which is a Name token, without a place. It takes no memory.
+    /// A name of a part of a shared text, which is a Name token, as [`Name::is_valid_syntax`] tells of the
+    /// part's text, without a place. It takes no memory.
     pub fn from_part_unchecked(part: TextPart) -> Name
         requires { IsName (part_bytes part) }
         ensures text { result.text ≡ part_bytes part }
