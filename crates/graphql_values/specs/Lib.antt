@@ -1,4 +1,3 @@
-pub mod ValueLayout
 pub mod Writable
 pub mod OperationQueries
 pub mod TreeLaws

@@ -9,7 +9,6 @@ pub mod Grammar
 pub mod Places
 pub mod Depth
 pub mod Faults
-pub mod Texts
 pub mod Begins
 pub mod Reading
 pub mod ValueReading

@@ -1,7 +1,7 @@
 //! What is built in: the definitions that each schema has, whatever its texts define, and the meta-fields.
 //!
 //! For the layer above: `built_in_definitions` answers the table (`specs/Table.antt`), each definition and each part at
-//! the place of what is built in; the meta-fields are those of `specs/MetaFields.antt`; `specs/Marks.antt` says which parts of a schema come from it.
+//! the place of what is built in; the meta-fields are those of `specs/MetaFields.antt`.
 //!
 //! Begin with `table.rt`: the table is data, and the other files build trees of its rows.
 #![tactic(auto)]
