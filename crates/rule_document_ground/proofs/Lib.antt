@@ -8,10 +8,5 @@ pub mod AddingBroken
 pub mod ContentEquality
 pub mod FieldBridge
 pub mod Pushed
-pub mod Noting
-pub mod Turns
-pub mod Deciding
-pub mod ArgumentsTold
-pub mod Equivalences
 -- Lists of what rules tell, for the layers above.
 pub use Rattle.rule_definitions.proofs.Listing

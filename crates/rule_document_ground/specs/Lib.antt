@@ -3,4 +3,3 @@ pub mod Broken
 pub mod Gathered
 pub mod Fields
 pub mod Lent
-pub mod Tests

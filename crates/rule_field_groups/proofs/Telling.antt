@@ -12,7 +12,7 @@ use Rattle.rule_document_definitions.specs.DocumentFaults.{Broken}
 use Rattle.rule_document_definitions.specs.Selected.{StandingField}
 use Rattle.rule_document_definitions.specs.Groups.{AgreeWithHead}
 use Rattle.rule_document_definitions.proofs.Unplaced.{contains_map}
-use Rattle.rule_document_ground.proofs.Equivalences.{arguments_refl}
+use Rattle.rule_same_values.proofs.Equivalences.{arguments_refl}
 use Rattle.rule_document_ground.specs.Broken.{broken_of, brokens_of}
 use Rattle.rule_document_ground.specs.Fields.{field_of, fields_of}
 use Rattle.rule_document_ground.specs.declared.field_selection.FieldSelection.{FieldSelection}

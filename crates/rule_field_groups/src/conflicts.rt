@@ -18,7 +18,8 @@ use fault_document_data::{
 };
 use graphql_names::{Name, SourceSpan, copies_of_three};
 use graphql_schema::Schema;
-use rule_document_ground::{FieldSelection, differing_argument, tell_breach};
+use rule_document_ground::{FieldSelection, tell_breach};
+use rule_same_values::differing_argument;
 use schema_coordinates::{FieldArgumentCoordinate, TypeAttributeCoordinate};
 use std::alloc::{AllocError, Global};
 use tree_literals::Value;

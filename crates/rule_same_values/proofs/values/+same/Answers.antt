@@ -3,10 +3,10 @@ use Rattle.std.specs.Option.{option_map_or}
 use Rattle.std.proofs.lemmas.Result.{IfOk-weaker}
 use Rattle.graphql_names.specs.NameValue.{NameValue}
 use Rattle.graphql_names.specs.Node.{content}
-use Rattle.rule_document_ground.specs.Tests.{plain, noted_names, value_under, plain_entries, same, differing_key}
-use Rattle.rule_document_ground.proofs.Turns.{by_first, key_seen, key_same, key_differs, keys_end, items_end}
-use Rattle.rule_document_ground.proofs.values.+same.Goals as goal
-use Rattle.rule_document_ground.proofs.values.+same.Goals.{differing_key-then-branch+else-not-same, differing_key-in-Some+in_ok-same-in-Some, differing_key-in-None, differing_key-else-branch}
+use Rattle.rule_same_values.specs.Tests.{plain, noted_names, value_under, plain_entries, same, differing_key}
+use Rattle.rule_same_values.proofs.Turns.{by_first, key_seen, key_same, key_differs, keys_end, items_end}
+use Rattle.rule_same_values.proofs.values.+same.Goals as goal
+use Rattle.rule_same_values.proofs.values.+same.Goals.{differing_key-then-branch+else-not-same, differing_key-in-Some+in_ok-same-in-Some, differing_key-in-None, differing_key-else-branch}
 
 pub same_items-returns : goal.same_items-returns
 same_items-returns t c = c.is_empty.ensures ∙ sym (c.loop-item.invariant ∙ items_end c.args.a.now c.loop-item.others.now c.loop-item.item-index c.loop-item-test.false)

@@ -1,8 +1,8 @@
 use Rattle.std.proofs.Common.{sym, ap, ◌∙◌}
 use Rattle.graphql_names.specs.Node.{content}
-use Rattle.rule_document_ground.specs.Tests.{plain}
-use Rattle.rule_document_ground.proofs.Noting.{noted_value}
-use Rattle.rule_document_ground.proofs.values.note_value.Goals as goal
+use Rattle.rule_same_values.specs.Tests.{plain}
+use Rattle.rule_same_values.proofs.Noting.{noted_value}
+use Rattle.rule_same_values.proofs.values.note_value.Goals as goal
 
 pub returns : goal.returns
 returns c n =

@@ -10,8 +10,8 @@ use Rattle.tree_directives.specs.DirectiveTree.{ArgumentTree, argument_tree}
 use Rattle.tree_directives.specs.DirectiveQueries.{argument_has_name}
 use Rattle.tree_directives.specs.declared.directive.Argument.{Argument}
 use Rattle.rule_document_definitions.specs.SameValues.{SameGiven, SameArguments, plain_given}
-use Rattle.rule_document_ground.specs.Tests.{Plain, plain_entries, first_under, differing_key, entry_pair, argument_pair, arguments_of}
-use Rattle.rule_document_ground.proofs.Deciding.{Told, key_told, not_seen}
+use Rattle.rule_same_values.specs.Tests.{Plain, plain_entries, first_under, differing_key, entry_pair, argument_pair, arguments_of}
+use Rattle.rule_same_values.proofs.Deciding.{Told, key_told, not_seen}
 
 abbrev Pair : Type 0
 Pair = List ℕ × Plain

@@ -2,9 +2,9 @@ use Rattle.std.proofs.Common.{map, not, ap, ◌∙◌, bytes_eq}
 use Rattle.std.specs.List.{list_any}
 use Rattle.indexmap.specs.IndexSet.{insert_key}
 use Rattle.graphql_names.specs.NameValue.{NameValue}
-use Rattle.rule_document_ground.specs.Tests.{noted_names}
-use Rattle.rule_document_ground.proofs.Noting.{any_text, inserted}
-use Rattle.rule_document_ground.proofs.values.note.Goals as goal
+use Rattle.rule_same_values.specs.Tests.{noted_names}
+use Rattle.rule_same_values.proofs.Noting.{any_text, inserted}
+use Rattle.rule_same_values.proofs.values.note.Goals as goal
 
 pub returns-clause-new : goal.returns-clause-new
 returns-clause-new c =

@@ -6,7 +6,7 @@ ghost use Rattle.indexmap.specs.IndexSet.{insert_key};
 ghost use Rattle.graphql_names.specs.Node.{content};
 ghost use Rattle.tree_literals.specs.ValueTree.{value_tree, unplaced_value};
 ghost use Rattle.rule_document_definitions.specs.SameValues.{SameValue};
-ghost use Rattle.rule_document_ground.specs.Tests.{plain, plain_items, plain_entries, noted_names, value_under, AreFirsts, unseen_key, same_leaf, same, same_items, differing_key};
+ghost use Rattle.rule_same_values.specs.Tests.{plain, plain_items, plain_entries, noted_names, value_under, AreFirsts, unseen_key, same_leaf, same, same_items, differing_key};
 
 use graphql_names::{Name, Node};
 use indexmap::{IndexMap, IndexSet};

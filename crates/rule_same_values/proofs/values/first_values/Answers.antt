@@ -1,7 +1,7 @@
 use Rattle.std.proofs.Common.{◌<◌, length, arith}
-use Rattle.rule_document_ground.specs.Tests.{plain_entries, first_under}
-use Rattle.rule_document_ground.proofs.Noting.{values_more, values_end}
-use Rattle.rule_document_ground.proofs.values.first_values.Goals as goal
+use Rattle.rule_same_values.specs.Tests.{plain_entries, first_under}
+use Rattle.rule_same_values.proofs.Noting.{values_more, values_end}
+use Rattle.rule_same_values.proofs.values.first_values.Goals as goal
 
 pub loop-entry-preserved : goal.loop-entry-preserved
 loop-entry-preserved c n =

@@ -1,8 +1,8 @@
 use Rattle.std.proofs.Common.{map, ap, ◌∙◌}
 use Rattle.std.proofs.lemmas.Result.{IfOk-weaker}
-use Rattle.rule_document_ground.specs.Tests.{entry_pair}
-use Rattle.rule_document_ground.proofs.ArgumentsTold.{arguments_told}
-use Rattle.rule_document_ground.proofs.arguments.differing_argument.Goals as goal
+use Rattle.rule_same_values.specs.Tests.{entry_pair}
+use Rattle.rule_same_values.proofs.ArgumentsTold.{arguments_told}
+use Rattle.rule_same_values.proofs.arguments.differing_argument.Goals as goal
 
 pub returns-clause-same : goal.returns-clause-same
 returns-clause-same c =

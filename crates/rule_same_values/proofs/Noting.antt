@@ -11,7 +11,7 @@ use Rattle.graphql_names.specs.NameValue.{NameValue}
 use Rattle.graphql_names.specs.Node.{content}
 use Rattle.graphql_names.specs.declared.node.Node.{Node}
 use Rattle.tree_literals.specs.declared.value.Value.{Value}
-use Rattle.rule_document_ground.specs.Tests.{Plain, plain, plain_entries, first_under, value_under}
+use Rattle.rule_same_values.specs.Tests.{Plain, plain, plain_entries, first_under, value_under}
 
 abbrev text_of : NameValue → List ℕ
 text_of k = k.text

@@ -9,7 +9,7 @@ use Rattle.graphql_names.specs.NameValue.{NameValue}
 use Rattle.graphql_names.specs.Node.{content}
 use Rattle.graphql_names.specs.declared.node.Node.{Node}
 use Rattle.tree_literals.specs.declared.value.Value.{Value}
-use Rattle.rule_document_ground.specs.Tests.{Plain, PlainEntries, plain, plain_items, plain_entries, first_under, unseen_key, same, same_items, differing_key}
+use Rattle.rule_same_values.specs.Tests.{Plain, PlainEntries, plain, plain_items, plain_entries, first_under, unseen_key, same, same_items, differing_key}
 
 abbrev Entry : Type 0
 Entry = NameValue × Node Value

@@ -1,9 +1,9 @@
 use Rattle.std.proofs.Common.{◌<◌, Some, length, ap, ◌∙◌, arith, rules}
 use Rattle.graphql_names.specs.NameValue.{NameValue}
-use Rattle.rule_document_ground.specs.Tests.{noted_names, plain_entries, unseen_key}
-use Rattle.rule_document_ground.proofs.Noting.{any_text}
-use Rattle.rule_document_ground.proofs.Turns.{unseen_on, unseen_here}
-use Rattle.rule_document_ground.proofs.values.unseen_key.Goals as goal
+use Rattle.rule_same_values.specs.Tests.{noted_names, plain_entries, unseen_key}
+use Rattle.rule_same_values.proofs.Noting.{any_text}
+use Rattle.rule_same_values.proofs.Turns.{unseen_on, unseen_here}
+use Rattle.rule_same_values.proofs.values.unseen_key.Goals as goal
 
 pub returns-then-not-contains : goal.returns-then-not-contains
 returns-then-not-contains c =

@@ -1,8 +1,8 @@
 use Rattle.std.proofs.Common.{sym, ◌∙◌}
 use Rattle.std.proofs.lemmas.Result.{IfOk-weaker}
-use Rattle.rule_document_ground.specs.Tests.{plain}
-use Rattle.rule_document_ground.proofs.Deciding.{same_decides}
-use Rattle.rule_document_ground.proofs.values.same_value.Goals as goal
+use Rattle.rule_same_values.specs.Tests.{plain}
+use Rattle.rule_same_values.proofs.Deciding.{same_decides}
+use Rattle.rule_same_values.proofs.values.same_value.Goals as goal
 
 pub returns : goal.returns
 returns c =

@@ -1,7 +1,7 @@
 //! Arguments.
 ghost use Rattle.std.specs.Prelude.{◌≡◌, map, IfOk, IfNone, IfSome};
 ghost use Rattle.rule_document_definitions.specs.SameValues.{SameGiven, SameArguments, plain_given};
-ghost use Rattle.rule_document_ground.specs.Tests.{entry_pair, argument_pair, arguments_of};
+ghost use Rattle.rule_same_values.specs.Tests.{entry_pair, argument_pair, arguments_of};
 
 use crate::values::differing_key;
 use graphql_names::{Name, Node};

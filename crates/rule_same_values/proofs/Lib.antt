@@ -1,0 +1,5 @@
+pub mod Noting
+pub mod Turns
+pub mod Deciding
+pub mod ArgumentsTold
+pub mod Equivalences
