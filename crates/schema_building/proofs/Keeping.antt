@@ -6,10 +6,9 @@ use Rattle.schema_components.specs.Lists.{firsts}
 use Rattle.schema_fold.specs.in_schema_types.TypeParts.{TypeParts}
 use Rattle.schema_fold.specs.Adoption.{orphans, settled, Settings}
 use Rattle.schema_built_in.specs.Table.{built_in_definitions}
-use Rattle.schema_fold.specs.Listed.{Definitions, Listed, numbered}
+use Rattle.schema_fold.specs.Listed.{Definitions, Listed, numbered, definitions_of}
 use Rattle.schema_fold.specs.ListedView.{listed_view}
 use Rattle.schema_fold.specs.declared.listed.Listed.{Listed as Rust}
-use Rattle.schema_building.specs.DefinitionsOf.{definitions_of}
 use Rattle.schema_building.proofs.Numbering.{definitions_numbered}
 use Rattle.schema_building.specs.Building.{orphan_names, IsAddRefusal}
 use Rattle.schema_building.specs.BuilderValue.{BuilderValue}

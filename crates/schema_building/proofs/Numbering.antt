@@ -6,8 +6,7 @@ use Rattle.graphql_names.specs.Placed.{Place}
 use Rattle.schema_fold.specs.in_definitions.DefinitionTree.{DefinitionTree}
 use Rattle.schema_fold.specs.in_definitions.Queries.{is_extension, definition_place}
 use Rattle.schema_components.specs.Lists.{each_place_after}
-use Rattle.schema_fold.specs.Listed.{Definitions, Listed, listed, numbered}
-use Rattle.schema_building.specs.DefinitionsOf.{definitions_of}
+use Rattle.schema_fold.specs.Listed.{Definitions, Listed, listed, numbered, definitions_of}
 use Rattle.schema_building.specs.Numbers.{extension_count}
 use Rattle.schema_building.specs.Settling.{unnumbered}
 

@@ -3,7 +3,6 @@ pub mod SourcesView
 pub mod KeptView
 pub mod BuildingView
 pub mod Building
-pub mod DefinitionsOf
 pub mod Numbers
 pub mod TextsView
 pub mod TextsList

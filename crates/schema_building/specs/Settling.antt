@@ -4,14 +4,13 @@ use Rattle.std.specs.List.{filter, list_any}
 use Rattle.graphql_names.specs.Placed.{Place}
 use Rattle.schema_fold.specs.in_definitions.DefinitionTree.{DefinitionTree}
 use Rattle.schema_fold.specs.in_schema_types.TypeParts.{bare, definition_by}
-use Rattle.schema_fold.specs.Listed.{Definitions, Listed}
+use Rattle.schema_fold.specs.Listed.{Definitions, Listed, definitions_of}
 use Rattle.schema_fold.specs.SchemaFold.{schema_extension_here, schema_is_defined}
 use Rattle.schema_fold.specs.Adoption.{Settings, is_redefinition, empty_type, empty_schema, orphans}
 use Rattle.schema_built_in.specs.Table.{built_in_definitions}
 use Rattle.schema_components.specs.Lists.{firsts}
 use Rattle.schema_fold_index.specs.Index.{NamedKind}
 use Rattle.schema_building.specs.Noted.{parts_key}
-use Rattle.schema_building.specs.DefinitionsOf.{definitions_of}
 
 -- a definition that is no extension
 abbrev pub unnumbered : DefinitionTree Place → Listed

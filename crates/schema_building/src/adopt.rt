@@ -1,8 +1,8 @@
 //! Adoption: empty definitions for what is extended and not defined.
 ghost use Rattle.std.specs.Prelude.{◌≡◌, ◌++◌, ◌&&◌, [], ◌∷◌, not, map, is_some, if◌then◌else◌, OnOk};
 ghost use Rattle.std.specs.List.{list_any};
+ghost use Rattle.schema_fold.specs.Listed.{definitions_of};
 ghost use Rattle.schema_fold.specs.ListedView.{listed_view};
-ghost use Rattle.schema_building.specs.DefinitionsOf.{definitions_of};
 ghost use Rattle.schema_building.specs.Settling.{unnumbered, empty_of, adopted_schema};
 ghost use Rattle.schema_building.specs.Waiting.{orphan_kinds};
 

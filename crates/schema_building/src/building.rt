@@ -3,12 +3,11 @@ ghost use Rattle.std.specs.Prelude.{◌≡◌, ◌≤◌, ◌++◌, [], true, fa
 ghost use Rattle.schema_fold.specs.in_definitions.DefinitionTree.{document_tree};
 ghost use Rattle.schema_fold.specs.in_definitions.Sources.{sources_of};
 ghost use Rattle.schema_built_in.specs.Table.{built_in_definitions};
-ghost use Rattle.schema_fold.specs.Listed.{numbered};
+ghost use Rattle.schema_fold.specs.Listed.{numbered, definitions_of};
 ghost use Rattle.schema_fold.specs.ListedView.{listed_view};
 ghost use Rattle.schema_fold_index.specs.Index.{IsIndexOf};
 ghost use Rattle.schema_building.specs.Building.{plain_settings, counted, lent_names, IsAddRefusal, IsBuildRefusal};
 ghost use Rattle.schema_building.specs.BuildingView.{builder_view};
-ghost use Rattle.schema_building.specs.DefinitionsOf.{definitions_of};
 ghost use Rattle.schema_building.specs.KeptView.{KeepsIndex};
 ghost use Rattle.schema_building.specs.TextsList.{Adds, IsListRefusal};
 ghost use Rattle.schema_building.specs.TextsView.{texts_view};

@@ -2,9 +2,9 @@
 ghost use Rattle.std.specs.Prelude.{◌≡◌, map, is_some};
 ghost use Rattle.std.specs.List.{list_any};
 ghost use Rattle.schema_fold.specs.in_definitions.DefinitionTree.{definition_tree};
+ghost use Rattle.schema_fold.specs.Listed.{definitions_of};
 ghost use Rattle.schema_fold.specs.SchemaFold.{schema_here, schema_extension_here, schema_definition_in, is_object_in, schema_is_defined};
 ghost use Rattle.schema_fold.specs.ListedView.{listed_view};
-ghost use Rattle.schema_building.specs.DefinitionsOf.{definitions_of};
 
 use schema_fold::{Definition, Listed, TypeKind, type_definition};
 use tree_operations::OperationType;

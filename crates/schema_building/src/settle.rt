@@ -3,9 +3,9 @@ ghost use Rattle.std.specs.Prelude.{◌≡◌, ◌≤◌, ◌++◌, [], ◌∷�
 ghost use Rattle.std.specs.List.{filter};
 ghost use Rattle.schema_fold.specs.in_definitions.DefinitionTree.{definition_tree};
 ghost use Rattle.schema_built_in.specs.Table.{built_in_definitions};
+ghost use Rattle.schema_fold.specs.Listed.{definitions_of};
 ghost use Rattle.schema_fold.specs.ListedView.{listed_view};
 ghost use Rattle.schema_fold_index.specs.Index.{IsIndexOf};
-ghost use Rattle.schema_building.specs.DefinitionsOf.{definitions_of};
 ghost use Rattle.schema_building.specs.Settling.{unnumbered, is_kept, settled_from};
 ghost use Rattle.schema_building.specs.Waiting.{orphan_kinds};
 ghost use Rattle.schema_building.specs.TextsView.{texts_view};

@@ -1,5 +1,5 @@
 -- The list of definitions: the types and directives that are defined in it, and the numbers of its extensions (GraphQL, October 2021, section 3).
-use Rattle.std.specs.Prelude.{ℕ, ◌+◌, List, [], ◌∷◌, length, Option, None, Some, if◌then◌else◌, option_to_list}
+use Rattle.std.specs.Prelude.{ℕ, ◌+◌, List, [], ◌∷◌, length, map, Option, None, Some, if◌then◌else◌, option_to_list}
 use Rattle.std.specs.List.{flat_map, filter, find}
 use Rattle.std.specs.Str.{bytes_eq}
 use Rattle.graphql_names.specs.Placed.{Placed, Place}
@@ -33,6 +33,10 @@ listed first before d = record {
 -- the definitions in order, each extension with its number, folded or not
 abbrev pub numbered : ℕ → Definitions → List Listed
 numbered first ds = each_place (λ before d. listed first before d ∷ []) ds
+
+-- the definitions of a list, without its numbers
+abbrev pub definitions_of : List Listed → Definitions
+definitions_of list = map (λ l. l.definition) list
 
 -- ---- types
 

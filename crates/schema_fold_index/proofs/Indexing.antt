@@ -13,11 +13,10 @@ use Rattle.schema_fold.specs.in_components.Lists.{each_place_after, firsts, has_
 use Rattle.schema_fold.proofs.in_components.Firsts.{kept_seen, kept_new}
 use Rattle.schema_fold.proofs.in_components.Places.{each_place-push}
 use Rattle.schema_fold.specs.in_schema_types.TypeParts.{TypeParts, TypeDefinition, type_here, type_extension_here}
-use Rattle.schema_fold.specs.Listed.{Definitions, Listed, type_name, types_in}
+use Rattle.schema_fold.specs.Listed.{Definitions, Listed, type_name, types_in, definitions_of}
 use Rattle.schema_fold.specs.PartsView.{parts_view}
 use Rattle.schema_fold.specs.declared.parts.Parts.{Parts}
 use Rattle.schema_fold_index.specs.declared.index.Filed.{Filed}
-use Rattle.schema_fold_index.specs.DefinitionsOf.{definitions_of}
 use Rattle.schema_fold_index.specs.Index.{Standing, standing_name, parts_here, standing_after, standing, positions_named, first_of, first_filed, positions_of, FiledEntries, AreFiled, FilesUnder, listed_at, defined_at, extensions_under, extensions_named}
 use Rattle.schema_fold_index.proofs.Under.{added_behind, added_new}
 

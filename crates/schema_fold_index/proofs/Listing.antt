@@ -4,10 +4,9 @@ use Rattle.std.specs.List.{flat_map}
 use Rattle.std.proofs.lemmas.List.{append_assoc, append-nil, map-append, map_more, take-map}
 use Rattle.schema_fold.specs.in_components.Lists.{each_place_after}
 use Rattle.schema_fold.specs.in_definitions.DefinitionTree.{definition_tree}
-use Rattle.schema_fold.specs.Listed.{Definitions, listed, numbered}
+use Rattle.schema_fold.specs.Listed.{Definitions, listed, numbered, definitions_of}
 use Rattle.schema_fold.specs.ListedView.{listed_view}
 use Rattle.schema_fold.specs.declared.listed.Listed.{Listed as RustListed}
-use Rattle.schema_fold_index.specs.DefinitionsOf.{definitions_of}
 
 numbered_after : (first : ℕ) (before ds : Definitions) → definitions_of (each_place_after (λ b d. listed first b d ∷ []) before ds) ≡ ds
 numbered_after first before [] = refl

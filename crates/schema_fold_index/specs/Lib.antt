@@ -1,3 +1,2 @@
-pub mod DefinitionsOf
 pub mod Index
 pub use Rattle.schema_fold.specs as in_fold

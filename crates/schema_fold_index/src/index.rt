@@ -4,9 +4,9 @@ ghost use Rattle.indexmap.specs.IndexMap.{get};
 ghost use Rattle.schema_fold.specs.in_components.Names.{same_text};
 ghost use Rattle.schema_fold.specs.in_definitions.DefinitionTree.{definition_tree};
 ghost use Rattle.schema_fold.specs.in_schema_types.TypeView.{name_text};
+ghost use Rattle.schema_fold.specs.Listed.{definitions_of};
 ghost use Rattle.schema_fold.specs.ListedView.{listed_view};
 ghost use Rattle.schema_fold.specs.PartsView.{parts_view};
-ghost use Rattle.schema_fold_index.specs.DefinitionsOf.{definitions_of};
 ghost use Rattle.schema_fold_index.specs.Index.{IsIndexOf, Files, FilesUnder, FilesRest};
 
 use graphql_names::Name;

@@ -7,11 +7,11 @@ use Rattle.graphql_names.specs.Placed.{Place}
 use Rattle.schema_fold.proofs.in_components.Places.{not_in_nil, Contains-first}
 use Rattle.schema_fold.specs.in_schema_types.SchemaTree.{SchemaTree}
 use Rattle.schema_fold.specs.in_schema_types.TypeParts.{type_extension_here}
-use Rattle.schema_fold.specs.Listed.{Definitions, Listed}
+use Rattle.schema_fold.specs.Listed.{Definitions, Listed, definitions_of}
 use Rattle.schema_built_in.specs.Table.{built_in_definitions}
 use Rattle.schema_fold.specs.BuildErrors.{Fault, Fails, FoldingRules, Somewhere, DirectiveDefinitionCollisionAt, DuplicateRootOperationIn}
 use Rattle.schema_fold.specs.Fold.{folded_directives}
-use Rattle.schema_fold_roots.specs.ListFold.{definitions_of, IsFoldOf, TellsRoots}
+use Rattle.schema_fold_roots.specs.ListFold.{IsFoldOf, TellsRoots}
 use Rattle.schema_fold_roots.proofs.Listing.{definitions_numbered}
 use Rattle.schema_fold_roots.specs.DirectiveFold.{TellsDirectives}
 use Rattle.schema_fold_types.specs.TypeFaults.{FailsInType}

@@ -2,11 +2,10 @@
 use Rattle.std.specs.Prelude.{◌≡◌, ◌↔◌, ℕ, List, ◌++◌, length, Contains}
 use Rattle.graphql_names.specs.Placed.{Place}
 use Rattle.schema_fold.specs.in_schema_types.SchemaTree.{SchemaTree}
-use Rattle.schema_fold.specs.Listed.{Definitions, Listed, numbered}
+use Rattle.schema_fold.specs.Listed.{Definitions, Listed, numbered, definitions_of}
 use Rattle.schema_built_in.specs.Table.{built_in_definitions}
 use Rattle.schema_fold.specs.BuildErrors.{Fault, Fails}
 use Rattle.schema_fold.specs.Fold.{fold}
-use Rattle.schema_fold_roots.specs.ListFold.{definitions_of}
 
 -- where the list is that of what is built in and of some texts, this is what they fold to, with their faults
 abbrev pub FoldsParts : List Listed → List Listed → List Listed → SchemaTree Place → List Fault → Type 0

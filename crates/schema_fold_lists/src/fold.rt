@@ -1,8 +1,8 @@
 //! What a whole list folds to, with its faults.
 ghost use Rattle.std.specs.Prelude.{◌≡◌, ◌≤◌, [], drop, length, map, IfOk};
 ghost use Rattle.schema_fold.specs.FaultView.{faults_of};
+ghost use Rattle.schema_fold.specs.Listed.{definitions_of};
 ghost use Rattle.schema_fold.specs.ListedView.{listed_view};
-ghost use Rattle.schema_fold_index.specs.DefinitionsOf.{definitions_of};
 ghost use Rattle.schema_fold_index.specs.Index.{IsIndexOf};
 ghost use Rattle.schema_fold_lists.specs.FoldedView.{folded_view};
 ghost use Rattle.schema_fold_lists.specs.ListBuilt.{Folds};

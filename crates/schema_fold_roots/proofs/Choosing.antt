@@ -16,10 +16,9 @@ use Rattle.schema_components.specs.Names.{Entries}
 use Rattle.schema_components.proofs.Firsts.{has_name-push, kept_seen, kept_new}
 use Rattle.schema_fold.specs.Components.{keyed_firsts}
 use Rattle.schema_fold.specs.Fold.{chosen_directive, folded_directives}
-use Rattle.schema_fold.specs.Listed.{Definitions, directive_here, directive_name, directives_in}
+use Rattle.schema_fold.specs.Listed.{Definitions, directive_here, directive_name, directives_in, definitions_of}
 use Rattle.schema_fold.specs.ListedView.{listed_view}
 use Rattle.schema_fold.specs.declared.listed.Listed.{Listed as RustListed}
-use Rattle.schema_fold_roots.specs.ListFold.{definitions_of}
 use Rattle.schema_fold_roots.specs.DirectiveFold.{Directive, chosen_of, chosen_firsts, Chooses}
 use Rattle.schema_fold_roots.specs.DirectivesView.{directive_view}
 use Rattle.schema_fold_roots.proofs.Named.{named}

@@ -4,10 +4,10 @@ use Rattle.std.specs.List.{flat_map}
 use Rattle.std.specs.Option.{option_map_or}
 use Rattle.graphql_names.specs.Placed.{Place}
 use Rattle.schema_fold.specs.in_schema_types.SchemaTree.{SchemaRoots}
-use Rattle.schema_fold.specs.Listed.{Definitions, Listed, numbered}
+use Rattle.schema_fold.specs.Listed.{Definitions, Listed, numbered, definitions_of}
 use Rattle.schema_fold.specs.SchemaFold.{SchemaGiver, implicit_roots, schema_definition_in, schema_base, schema_is_defined, extends_schema, schema_parts, roots_given, root_key}
 use Rattle.schema_fold.specs.BuildErrors.{Fault, DuplicateRootOperationIn}
-use Rattle.schema_fold_roots.specs.ListFold.{Parts, definitions_of, parts_given, roots_from, schema_from, schema_of, root_fault, root_faults, IsFoldOf, TellsRoots}
+use Rattle.schema_fold_roots.specs.ListFold.{Parts, parts_given, roots_from, schema_from, schema_of, root_fault, root_faults, IsFoldOf, TellsRoots}
 use Rattle.schema_fold_roots.proofs.Listing.{definitions_numbered}
 use Rattle.schema_fold_roots.proofs.Telling.{told, told_more}
 

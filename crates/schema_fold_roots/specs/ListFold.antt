@@ -8,14 +8,10 @@ use Rattle.schema_components.specs.Lists.{repeats}
 use Rattle.schema_components.specs.Given.{Given}
 use Rattle.schema_components.specs.Applied.{Applied}
 use Rattle.schema_fold.specs.in_schema_types.SchemaTree.{SchemaRoots}
-use Rattle.schema_fold.specs.Listed.{Definitions, Listed, numbered}
+use Rattle.schema_fold.specs.Listed.{Definitions, Listed, numbered, definitions_of}
 use Rattle.schema_fold.specs.Components.{all_given}
 use Rattle.schema_fold.specs.SchemaFold.{Root, schema_base, schema_is_defined, implicit_roots, extends_schema, root_key, root_in, folded_schema}
 use Rattle.schema_fold.specs.BuildErrors.{Fault, DuplicateRootOperation, DuplicateRootOperationIn}
-
--- the definitions of a list
-abbrev pub definitions_of : List Listed → Definitions
-definitions_of list = map (λ l. l.definition) list
 
 abbrev pub Parts : Type 0
 Parts = Given Place (SchemaParts Place)

@@ -2,9 +2,9 @@
 ghost use Rattle.std.specs.Prelude.{◌≡◌, map, option_copied};
 ghost use Rattle.std.specs.Option.{option_map};
 ghost use Rattle.schema_fold.specs.in_definitions.DefinitionTree.{definition_tree, schema_extension_parts};
+ghost use Rattle.schema_fold.specs.Listed.{definitions_of};
 ghost use Rattle.schema_fold.specs.SchemaFold.{schema_here, schema_extension_here, schema_definition_in, is_object_in};
 ghost use Rattle.schema_fold.specs.ListedView.{listed_view};
-ghost use Rattle.schema_fold_roots.specs.ListFold.{definitions_of};
 ghost use Rattle.schema_fold_roots.specs.RootsView.{schema_giver};
 ghost use Rattle.schema_fold_roots.specs.KindNamed.{kind_here, kind_named};
 

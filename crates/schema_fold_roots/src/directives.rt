@@ -5,14 +5,13 @@ ghost use Rattle.indexmap.specs.IndexMap.{get};
 ghost use Rattle.schema_components.specs.Names.{same_text};
 ghost use Rattle.schema_fold.specs.in_schema_types.TypeView.{name_text};
 ghost use Rattle.schema_fold.specs.in_definitions.DefinitionTree.{definition_tree};
-ghost use Rattle.schema_fold.specs.Listed.{directive_here, directive_name, directives_in};
+ghost use Rattle.schema_fold.specs.Listed.{directive_here, directive_name, directives_in, definitions_of};
 ghost use Rattle.schema_fold.specs.Components.{keyed_firsts};
 ghost use Rattle.schema_fold.specs.Fold.{folded_directives};
 ghost use Rattle.schema_fold.specs.FaultView.{faults_of};
 ghost use Rattle.schema_fold.specs.BuildErrors.{DirectiveDefinitionCollision};
 ghost use Rattle.schema_fold.specs.Keeping.{KeepsOn};
 ghost use Rattle.schema_fold.specs.ListedView.{listed_view};
-ghost use Rattle.schema_fold_roots.specs.ListFold.{definitions_of};
 ghost use Rattle.schema_fold_roots.specs.DirectiveFold.{directive_fault, directive_faults, chosen_of, chosen_firsts, Chooses, TellsDirectives};
 ghost use Rattle.schema_fold_roots.specs.DirectivesView.{directive_view, entries_view};
 

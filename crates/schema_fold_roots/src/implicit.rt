@@ -2,9 +2,9 @@
 ghost use Rattle.std.specs.Prelude.{◌≡◌, ◌++◌, None, map, OnOk};
 ghost use Rattle.schema_components.specs.in_values.OperationQueries.{default_root_name};
 ghost use Rattle.schema_fold.specs.Components.{all_given};
+ghost use Rattle.schema_fold.specs.Listed.{definitions_of};
 ghost use Rattle.schema_fold.specs.SchemaFold.{implicit_root, implicit_roots};
 ghost use Rattle.schema_fold.specs.ListedView.{listed_view};
-ghost use Rattle.schema_fold_roots.specs.ListFold.{definitions_of};
 ghost use Rattle.schema_fold_roots.specs.RootsView.{roots_given_by};
 
 use crate::defined::is_object;

@@ -12,11 +12,10 @@ use Rattle.schema_fold.specs.in_schema_types.TypeParts.{TypeParts, TypeDefinitio
 use Rattle.schema_fold.specs.Components.{go_together, extension_here, keyed_firsts, field_key, value_key, input_key}
 use Rattle.schema_fold.specs.Collected.{class_from, collected_from}
 use Rattle.schema_fold.specs.Kept.{component_faults}
-use Rattle.schema_fold.specs.Listed.{Listed, type_name}
+use Rattle.schema_fold.specs.Listed.{Listed, type_name, definitions_of}
 use Rattle.schema_fold.specs.Fold.{folded_type}
 use Rattle.schema_fold.specs.BuildErrors.{Fault}
 use Rattle.schema_fold_types.specs.TypeFaults.{faults_of_type}
-use Rattle.schema_fold_index.specs.DefinitionsOf.{definitions_of}
 use Rattle.schema_fold_types.specs.ListTypes.{ExtendsNone}
 use Rattle.schema_fold_types.specs.Filing.{type_by, types_by, faults_by}
 use Rattle.schema_fold_index.specs.Index.{extends_name, extensions_named}

@@ -8,7 +8,7 @@ use Rattle.schema_fold.specs.in_components.Lists.{firsts}
 use Rattle.schema_fold.specs.in_components.Names.{Entries}
 use Rattle.schema_fold.specs.in_schema_types.SchemaTree.{SchemaType}
 use Rattle.schema_fold.specs.in_schema_types.TypeParts.{type_here}
-use Rattle.schema_fold.specs.Listed.{Definitions, Listed, numbered, type_name, types_in}
+use Rattle.schema_fold.specs.Listed.{Definitions, Listed, numbered, type_name, types_in, definitions_of}
 use Rattle.schema_fold.specs.Fold.{folded_type, folded_types}
 use Rattle.schema_fold.specs.BuildErrors.{Fault}
 use Rattle.schema_fold_types.specs.TypeFaults.{faults_of_type, faults_of_types, FailsInType}
@@ -16,7 +16,6 @@ use Rattle.schema_fold_index.proofs.Listing.{definitions_numbered}
 use Rattle.schema_fold_types.proofs.Telling.{told_more}
 use Rattle.schema_fold_types.proofs.TypeFaults.{types_tell}
 use Rattle.schema_fold_types.specs.ListTypes.{types_from, faults_from, ExtendsNone, FoldsTypes, TellsTypes}
-use Rattle.schema_fold_index.specs.DefinitionsOf.{definitions_of}
 use Rattle.schema_fold_types.proofs.Filing.{type_behind, told_behind}
 
 -- the types and faults of a whole list

@@ -11,11 +11,10 @@ use Rattle.schema_fold.specs.in_components.Lists.{firsts}
 use Rattle.schema_fold.specs.in_components.Names.{Entries}
 use Rattle.schema_fold.specs.in_schema_types.SchemaTree.{SchemaType}
 use Rattle.schema_fold.specs.in_schema_types.TypeParts.{TypeDefinition, type_here, type_extension_here}
-use Rattle.schema_fold.specs.Listed.{Listed, type_name, types_in}
+use Rattle.schema_fold.specs.Listed.{Listed, type_name, types_in, definitions_of}
 use Rattle.schema_fold.specs.ListedView.{listed_view}
 use Rattle.schema_fold.specs.BuildErrors.{Fault}
 use Rattle.schema_fold.specs.declared.listed.Listed.{Listed as Rust}
-use Rattle.schema_fold_index.specs.DefinitionsOf.{definitions_of}
 use Rattle.schema_fold_index.specs.declared.index.Filed.{Filed}
 use Rattle.schema_fold_types.specs.Filing.{type_by, FoldsOn}
 use Rattle.schema_fold_index.specs.Index.{FiledEntries, AreFiled, standing, parts_here, defined_at, extensions_under}

@@ -6,10 +6,9 @@ use Rattle.schema_fold.specs.in_components.Lists.{firsts}
 use Rattle.schema_fold.specs.in_components.Names.{Entries}
 use Rattle.schema_fold.specs.in_schema_types.SchemaTree.{SchemaType}
 use Rattle.schema_fold.specs.in_schema_types.TypeParts.{TypeDefinition, type_extension_here}
-use Rattle.schema_fold.specs.Listed.{Definitions, Listed, numbered, type_name, types_in}
+use Rattle.schema_fold.specs.Listed.{Definitions, Listed, numbered, type_name, types_in, definitions_of}
 use Rattle.schema_fold.specs.Fold.{folded_type, folded_types}
 use Rattle.schema_fold.specs.BuildErrors.{Fault}
-use Rattle.schema_fold_index.specs.DefinitionsOf.{definitions_of}
 use Rattle.schema_fold_types.specs.TypeFaults.{faults_of_type, FailsInType}
 
 -- these extend no type

@@ -3,9 +3,9 @@ ghost use Rattle.std.specs.Prelude.{◌≡◌, ◌||◌, ◌++◌, [], ◌∷◌
 ghost use Rattle.schema_fold.specs.in_definitions.DefinitionTree.{definition_tree};
 ghost use Rattle.schema_fold.specs.BuildErrors.{ExecutableDefinition, SchemaDefinitionCollision, TypeDefinitionCollision, BuiltInScalarTypeRedefinition};
 ghost use Rattle.schema_fold.specs.FaultView.{faults_of};
+ghost use Rattle.schema_fold.specs.Listed.{definitions_of};
 ghost use Rattle.schema_fold.specs.ListedView.{listed_view};
 ghost use Rattle.schema_fold.specs.SchemaFold.{schema_definition_in};
-ghost use Rattle.schema_fold_index.specs.DefinitionsOf.{definitions_of};
 ghost use Rattle.schema_fold_index.specs.Index.{AreFiled, standing, parts_here};
 ghost use Rattle.schema_fold_types.specs.Seen.{kind_in, type_faults, faults_behind, collision_faults};
 ghost use Rattle.schema_fold_types.specs.SeenView.{seen_view};

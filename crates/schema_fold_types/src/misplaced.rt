@@ -1,8 +1,8 @@
 //! All rules on positions.
 ghost use Rattle.std.specs.Prelude.{◌≡◌, ◌++◌, map, OnOk};
 ghost use Rattle.schema_fold.specs.FaultView.{faults_of};
+ghost use Rattle.schema_fold.specs.Listed.{definitions_of};
 ghost use Rattle.schema_fold.specs.ListedView.{listed_view};
-ghost use Rattle.schema_fold_index.specs.DefinitionsOf.{definitions_of};
 ghost use Rattle.schema_fold_index.specs.Index.{IsIndexOf};
 ghost use Rattle.schema_fold_types.specs.Misplaced.{TellsMisplaced};
 ghost use Rattle.schema_fold_types.specs.Seen.{misplaced_faults};

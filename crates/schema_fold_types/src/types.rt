@@ -5,10 +5,9 @@ ghost use Rattle.schema_fold.specs.in_definitions.DefinitionTree.{definition_tre
 ghost use Rattle.schema_fold.specs.in_schema_types.SchemaView.{types_view};
 ghost use Rattle.schema_fold.specs.in_schema_types.TypeParts.{type_here};
 ghost use Rattle.schema_fold.specs.FaultView.{faults_of};
-ghost use Rattle.schema_fold.specs.Listed.{types_in};
+ghost use Rattle.schema_fold.specs.Listed.{types_in, definitions_of};
 ghost use Rattle.schema_fold.specs.ListedView.{listed_view};
 ghost use Rattle.schema_fold.specs.Made.{defined_view, IsDefinition};
-ghost use Rattle.schema_fold_index.specs.DefinitionsOf.{definitions_of};
 ghost use Rattle.schema_fold_index.specs.Index.{IsIndexOf, extensions_under, defined_at};
 ghost use Rattle.schema_fold_types.specs.ListTypes.{types_from, faults_from, FoldsTypes, TellsTypes};
 ghost use Rattle.schema_fold_types.specs.OwnNames.{TypesUnderOwnNames};

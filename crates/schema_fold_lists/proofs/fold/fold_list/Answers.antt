@@ -1,9 +1,9 @@
 use Rattle.std.proofs.Common.{map, subst}
 use Rattle.schema_fold.specs.in_schema_types.SchemaView.{schema_view}
 use Rattle.schema_fold.specs.FaultView.{fault_of, faults_of}
+use Rattle.schema_fold.specs.Listed.{definitions_of}
 use Rattle.schema_fold.specs.ListedView.{listed_view}
 use Rattle.schema_fold_types.specs.Misplaced.{TellsMisplaced}
-use Rattle.schema_fold_roots.specs.ListFold.{definitions_of}
 use Rattle.schema_fold_lists.proofs.Folding.{folds_parts, folds_split, joined}
 use Rattle.schema_fold_lists.proofs.fold.fold_list.Goals as goal
 

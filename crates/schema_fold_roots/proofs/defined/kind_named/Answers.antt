@@ -2,9 +2,9 @@ use Rattle.std.proofs.Common.{◌<◌, ◌+◌, ◌∷◌, List, Option, map, dr
 use Rattle.std.proofs.lemmas.List.{at_drop_more}
 use Rattle.schema_fold.specs.in_definitions.DefinitionTree.{definition_tree}
 use Rattle.schema_fold.specs.in_schema_types.declared.type_kind.TypeKind.{TypeKind}
+use Rattle.schema_fold.specs.Listed.{definitions_of}
 use Rattle.schema_fold.specs.ListedView.{listed_view}
 use Rattle.schema_fold.specs.declared.listed.Listed.{Listed}
-use Rattle.schema_fold_roots.specs.ListFold.{definitions_of}
 use Rattle.schema_fold_roots.specs.KindNamed.{kind_named}
 use Rattle.schema_fold_roots.proofs.Listing.{kind_some}
 use Rattle.schema_fold_roots.proofs.defined.kind_named.Goals as goal

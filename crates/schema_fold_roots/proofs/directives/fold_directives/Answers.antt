@@ -1,10 +1,9 @@
 use Rattle.std.proofs.Common.{◌≡◌, ◌++◌, map, ◌∙◌}
 use Rattle.std.proofs.lemmas.Result.{IfOk-weaker}
-use Rattle.schema_fold.specs.Listed.{directives_in}
+use Rattle.schema_fold.specs.Listed.{directives_in, definitions_of}
 use Rattle.schema_fold.specs.ListedView.{listed_view}
 use Rattle.schema_fold.specs.Fold.{folded_directives}
 use Rattle.schema_fold.specs.FaultView.{faults_of}
-use Rattle.schema_fold_roots.specs.ListFold.{definitions_of}
 use Rattle.schema_fold_roots.specs.DirectiveFold.{chosen_firsts}
 use Rattle.schema_fold_roots.specs.DirectivesView.{entries_view}
 use Rattle.schema_fold_roots.proofs.Choosing.{folded_is}

@@ -1,9 +1,10 @@
 use Rattle.std.proofs.Common.{◌==◌, [], ◌∷◌, ◌++◌, None, map, sym, ap, ◌∙◌, if◌then◌else◌}
 use Rattle.std.specs.List.{flat_map}
 use Rattle.schema_fold.specs.Components.{all_given}
+use Rattle.schema_fold.specs.Listed.{definitions_of}
 use Rattle.schema_fold.specs.SchemaFold.{extends_schema, implicit_roots}
 use Rattle.schema_fold.specs.ListedView.{listed_view}
-use Rattle.schema_fold_roots.specs.ListFold.{Parts, definitions_of}
+use Rattle.schema_fold_roots.specs.ListFold.{Parts}
 use Rattle.schema_fold_roots.specs.RootFold.{all_from}
 use Rattle.schema_fold_roots.proofs.Gathering.{all_push, some_given}
 use Rattle.schema_fold_roots.proofs.schema.collect_implicit.Goals as goal

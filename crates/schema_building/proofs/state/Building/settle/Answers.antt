@@ -1,8 +1,8 @@
 use Rattle.std.proofs.Common.{length, map, take, drop, sym, ap, subst, ◌∙◌}
+use Rattle.schema_fold.specs.Listed.{definitions_of}
 use Rattle.schema_fold.specs.ListedView.{listed_view}
 use Rattle.schema_built_in.specs.Table.{built_in_definitions}
 use Rattle.schema_fold_index.specs.Index.{IsIndexOf}
-use Rattle.schema_building.specs.DefinitionsOf.{definitions_of}
 use Rattle.schema_building.specs.Settling.{unnumbered, settled_from}
 use Rattle.schema_building.specs.SettingsView.{settings_view}
 use Rattle.schema_building.specs.SourcesView.{sources_view}
