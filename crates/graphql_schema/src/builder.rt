@@ -9,13 +9,13 @@ ghost use Rattle.schema_building.specs.in_fold.Fold.{fold};
 ghost use Rattle.schema_building.specs.in_fold.Listed.{definitions_of};
 ghost use Rattle.schema_building.specs.in_fold.ListedView.{listed_view};
 ghost use Rattle.schema_building.specs.in_fold_index.Index.{IsIndexOf};
-ghost use Rattle.schema_building.specs.Building.{plain_settings, counted, folded, FailsIn, lent_names, IsAddRefusal, IsBuildRefusal};
+ghost use Rattle.schema_building.specs.Building.{plain_settings, with_document, counted, folded, FailsIn, lent_names, IsAddRefusal, IsBuildRefusal};
 ghost use Rattle.schema_building.specs.Numbers.{HaveNumbers};
 ghost use Rattle.schema_building.specs.SourcesView.{sources_view};
 ghost use Rattle.schema_building.specs.Waiting.{left_names};
 ghost use Rattle.schema_fold_lists.specs.ListBuilt.{Folds};
 ghost use Rattle.schema_fold_lists.specs.in_fold_types.OwnNames.{UnderOwnNames};
-ghost use Rattle.graphql_schema.specs.BuilderOf.{builder_value, with_document};
+ghost use Rattle.graphql_schema.specs.BuilderOf.{builder_value};
 ghost use Rattle.graphql_schema.specs.SchemaOf.{schema_tree};
 
 use crate::meta_fields::MetaFields;

@@ -10,12 +10,17 @@ use Rattle.schema_fold.specs.BuildErrors.{Fault, Fails}
 use Rattle.schema_fold.specs.Fold.{fold}
 use Rattle.schema_building.specs.BuilderValue.{BuilderValue}
 use Rattle.schema_building.specs.Numbers.{HaveNumbers}
+use Rattle.schema_building.specs.SourcesView.{Sources, with_sources}
 use Rattle.schema_building.specs.declared.refusal.BuilderRefusal.{BuilderRefusal}
 use Rattle.schema_building.specs.declared.refusal.BuilderRefusal.TheVariants.{Memory, Spent, Failed}
 
 -- neither adopts nor passes over
 abbrev pub plain_settings : Settings
 plain_settings = record { adopts = false; ignores = false }
+
+-- a builder with these definitions and these sources, those of a document, behind the others
+abbrev pub with_document : Definitions → Sources → BuilderValue → BuilderValue
+with_document more given b = record b { texts = b.texts ++ more; sources = with_sources b.sources given }
 
 -- the definitions that count, behind what is built in
 abbrev pub counted : BuilderValue → Definitions

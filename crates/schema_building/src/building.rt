@@ -6,7 +6,7 @@ ghost use Rattle.schema_built_in.specs.Table.{built_in_definitions};
 ghost use Rattle.schema_fold.specs.Listed.{numbered, definitions_of};
 ghost use Rattle.schema_fold.specs.ListedView.{listed_view};
 ghost use Rattle.schema_fold_index.specs.Index.{IsIndexOf};
-ghost use Rattle.schema_building.specs.Building.{plain_settings, counted, lent_names, IsAddRefusal, IsBuildRefusal};
+ghost use Rattle.schema_building.specs.Building.{plain_settings, with_document, counted, lent_names, IsAddRefusal, IsBuildRefusal};
 ghost use Rattle.schema_building.specs.BuildingView.{builder_view};
 ghost use Rattle.schema_building.specs.KeptView.{KeepsIndex};
 ghost use Rattle.schema_building.specs.TextsList.{Adds, IsListRefusal};
@@ -79,7 +79,7 @@ impl Building {
     /// Where memory or numbers run out it answers so, and from then on [`BuilderRefusal::Failed`].
     pub fn add_ast(&mut self, document: &Document) -> Result<(), BuilderRefusal>
         ensures running { OnOk result ((builder_view self.old).failed ≡ false) }
-        ensures added { OnOk result (builder_view self.new ≡ record (builder_view self.old) { texts = (builder_view self.old).texts ++ document_tree document.now; sources = with_sources (builder_view self.old).sources (sources_of document.now) }) }
+        ensures added { OnOk result (builder_view self.new ≡ with_document (document_tree document.now) (sources_of document.now) (builder_view self.old)) }
         ensures numbers { OnOk result (HaveNumbers (builder_view self.new).first (builder_view self.new).texts) }
         ensures refused { IfErr result (IsAddRefusal (builder_view self.old) (document_tree document.now) (builder_view self.new)) }
     {
