@@ -26,7 +26,7 @@ map_nil f [] e = refl
 map_nil f (x ∷ xs) e = absurd cc
 
 -- these are the faults of the list
-pub builds : (b : BuilderValue) (schema : SchemaTree Place) (errors : List folding.Fault) (faults : List AnyFault) → schema ≡ folded b → ((f : folding.Fault) → Contains errors f ↔ FailsIn b f)
+pub builds : (b : BuilderValue) (schema : SchemaTree Place) (errors : List folding.BuildFault) (faults : List AnyFault) → schema ≡ folded b → ((f : folding.BuildFault) → Contains errors f ↔ FailsIn b f)
     → (errors ≡ []) ↔ FoldingRules built_in_definitions b.first (counted b) → faults ≡ map of_folding errors → BuildsSchema b schema faults
 builds b schema errors faults is all faultless told = record {
   is = is;

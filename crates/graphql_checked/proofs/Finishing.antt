@@ -41,10 +41,10 @@ module _ (terms : Terms) (trees : List Tree) (b : BuilderValue) (filled : IsFill
   pub folds_to : folded b ≡ schema_of terms trees
   folds_to = ap (λ n. fold built_in_definitions n (counted b)) filled.first ∙ ap (fold built_in_definitions terms.first_extension) counts
 
-  fails_so : (f : folding.Fault) → FailsIn b f → FoldingFails terms trees f
+  fails_so : (f : folding.BuildFault) → FailsIn b f → FoldingFails terms trees f
   fails_so f h = subst (λ ds. folding.Fails built_in_definitions terms.first_extension ds f) counts (subst (λ n. folding.Fails built_in_definitions n (counted b) f) filled.first h)
 
-  fails_here : (f : folding.Fault) → FoldingFails terms trees f → FailsIn b f
+  fails_here : (f : folding.BuildFault) → FoldingFails terms trees f → FailsIn b f
   fails_here f h = subst (λ n. folding.Fails built_in_definitions n (counted b) f) (sym filled.first) (subst (λ ds. folding.Fails built_in_definitions terms.first_extension ds f) (sym counts) h)
 
 -- ---- refusals
@@ -64,12 +64,12 @@ none_alone e = absurd cc
 module _ (terms : Terms) (texts : List SourceText) (trees : List Tree) (read : AreRead terms.nesting terms.first_text texts) (reads : ReadsAll terms.first_text texts trees) where
   -- what is said of the schema is said of the texts
   says_schema : (faults : List AnyFault) → faults ≢ [] → ((fault : AnyFault) → Contains faults fault → SchemaFails terms trees fault)
-      → (faults ≡ spent ∷ []) ⊎ ((f : folding.Fault) → FoldingFails terms trees f → Contains faults (of_folding f)) → RefusesSchemas terms texts faults
+      → (faults ≡ spent ∷ []) ⊎ ((f : folding.BuildFault) → FoldingFails terms trees f → Contains faults (of_folding f)) → RefusesSchemas terms texts faults
   says_schema faults some right full = record {
     some = some;
     says = λ fault h. inr (trees, (reads, right fault h));
     alone = inr read;
-    full = λ within others reads'. subst (λ ts. (faults ≡ spent ∷ []) ⊎ ((f : folding.Fault) → FoldingFails terms ts f → Contains faults (of_folding f)))
+    full = λ within others reads'. subst (λ ts. (faults ≡ spent ∷ []) ⊎ ((f : folding.BuildFault) → FoldingFails terms ts f → Contains faults (of_folding f)))
         (one_list terms.first_text texts trees others reads reads') full;
   }
 

@@ -51,15 +51,15 @@ IsOfBuilder builder.Failed refusal = refusal ≡ Memory
 -- This is what the builder's definitions fold to, and these are all breaches of folding rules.
 pub record BuildsSchema (b : BuilderValue) (schema : SchemaTree Place) (faults : List AnyFault) : Type 0 where
   pub is : schema ≡ folded b
-  pub right : (fault : AnyFault) → Contains faults fault → (f : folding.Fault) × ((fault ≡ of_folding f) × FailsIn b f)
-  pub full : (f : folding.Fault) → FailsIn b f → Contains faults (of_folding f)
+  pub right : (fault : AnyFault) → Contains faults fault → (f : folding.BuildFault) × ((fault ≡ of_folding f) × FailsIn b f)
+  pub full : (f : folding.BuildFault) → FailsIn b f → Contains faults (of_folding f)
   pub faultless : (faults ≡ []) ↔ FoldingRules built_in_definitions b.first (counted b)
 
 -- folding rules are broken, and all that breaks them is told
 pub record RefusesFolding (b : BuilderValue) (faults : List AnyFault) : Type 0 where
   pub some : faults ≢ []
-  pub right : (fault : AnyFault) → Contains faults fault → (f : folding.Fault) × ((fault ≡ of_folding f) × FailsIn b f)
-  pub full : (f : folding.Fault) → FailsIn b f → Contains faults (of_folding f)
+  pub right : (fault : AnyFault) → Contains faults fault → (f : folding.BuildFault) × ((fault ≡ of_folding f) × FailsIn b f)
+  pub full : (f : folding.BuildFault) → FailsIn b f → Contains faults (of_folding f)
 
 -- nothing is built: rules are broken, or memory ran out
 abbrev pub RefusalOfFolding : BuilderValue → Refusal → Type 0

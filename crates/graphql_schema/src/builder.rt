@@ -13,7 +13,7 @@ ghost use Rattle.schema_building.specs.Building.{plain_settings, with_document, 
 ghost use Rattle.schema_building.specs.Numbers.{HaveNumbers};
 ghost use Rattle.schema_building.specs.SourcesView.{sources_view};
 ghost use Rattle.schema_building.specs.Waiting.{left_names};
-ghost use Rattle.schema_fold_lists.specs.ListBuilt.{Folds};
+ghost use Rattle.schema_fold_lists.specs.ListBuilt.{FoldsList};
 ghost use Rattle.schema_fold_lists.specs.in_fold_types.OwnNames.{UnderOwnNames};
 ghost use Rattle.graphql_schema.specs.BuilderOf.{builder_value};
 ghost use Rattle.graphql_schema.specs.SchemaOf.{schema_tree};
@@ -144,7 +144,7 @@ fn fold_settled(
 ) -> Result<(Schema, Vec<(Option<SourceSpan>, BuildError)>), AllocError>
     requires within { settled.built_in ≤ length settled.list.items }
     requires indexed { IsIndexOf (definitions_of (map listed_view (drop settled.built_in settled.list.items))) settled.index }
-    ensures folds { IfOk result (λ r. Folds (map listed_view settled.list.items) settled.built_in (schema_tree r.0) (faults_of r.1)) }
+    ensures folds { IfOk result (λ r. FoldsList (map listed_view settled.list.items) settled.built_in (schema_tree r.0) (faults_of r.1)) }
     ensures sources { IfOk result (λ r. sources_view r.0.sources ≡ sources_view settled.sources) }
 {
     let SettledList {

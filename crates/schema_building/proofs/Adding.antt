@@ -8,7 +8,7 @@ use Rattle.schema_components.proofs.Places.{each_place-push}
 use Rattle.schema_fold.specs.Listed.{Definitions, Listed, listed}
 use Rattle.schema_building.specs.Numbers.{extension_count, HaveNumbers}
 use Rattle.schema_building.specs.TextsView.{TextsView}
-use Rattle.schema_building.specs.TextsList.{IsListOf, Adds, IsListRefusal}
+use Rattle.schema_building.specs.TextsList.{IsListOf, AddsDefinitions, IsListRefusal}
 use Rattle.schema_building.specs.declared.refusal.BuilderRefusal.{BuilderRefusal}
 use Rattle.schema_building.specs.declared.refusal.BuilderRefusal.TheVariants as refusal
 use Rattle.schema_building.proofs.Numbering.{count_append, count_one, count_none}
@@ -31,7 +31,7 @@ module _ (d : DefinitionTree Place) (old new : TextsView) where
       let count : extension_count (ds ++ d ∷ []) ≡ extension_count ds = count_append ds (d ∷ []) ∙ ap (λ k. extension_count ds + k) (count_none d e) ∙ omega arith in
       (step ∙ is ∙ ap (λ k. first + k) (sym count), λ some. subst (λ k. first + k < 2 ^ 64) (sym count) (have (subst (λ k. 0 < k) count some)))
 
-  adds_one : new.list ≡ old.list ++ added_here ∷ [] → new.next ≡ next_number → (is_extension d ≡ true → old.next + 1 < 2 ^ 64) → Adds (d ∷ []) old new
+  adds_one : new.list ≡ old.list ++ added_here ∷ [] → new.next ≡ next_number → (is_extension d ≡ true → old.next + 1 < 2 ^ 64) → AddsDefinitions (d ∷ []) old new
   adds_one list next within first ds is =
       let numbers = numbers_more (is_extension d) first old.next new.next ds refl is.next is.numbers within next in
       record {
@@ -42,29 +42,29 @@ module _ (d : DefinitionTree Place) (old new : TextsView) where
       }
 
   -- a definition that is no extension, and one that is
-  pub adds_unnumbered : is_extension d ≡ false → new.list ≡ old.list ++ record { definition = d; extension = None } ∷ [] → new.next ≡ old.next → Adds (d ∷ []) old new
+  pub adds_unnumbered : is_extension d ≡ false → new.list ≡ old.list ++ record { definition = d; extension = None } ∷ [] → new.next ≡ old.next → AddsDefinitions (d ∷ []) old new
   adds_unnumbered unnumbered list next =
       adds_one (list ∙ ap (λ b. old.list ++ record { definition = d; extension = if b then Some (record { number = old.next; place = definition_place d }) else None } ∷ []) (sym unnumbered))
       (next ∙ ap (λ b. if b then old.next + 1 else old.next) (sym unnumbered)) (λ h. absurd (true≢false (sym h ∙ unnumbered)))
 
-  pub adds_numbered : is_extension d ≡ true → new.list ≡ old.list ++ record { definition = d; extension = Some (record { number = old.next; place = definition_place d }) } ∷ [] → new.next ≡ old.next + 1 → old.next + 1 < 2 ^ 64 → Adds (d ∷ []) old new
+  pub adds_numbered : is_extension d ≡ true → new.list ≡ old.list ++ record { definition = d; extension = Some (record { number = old.next; place = definition_place d }) } ∷ [] → new.next ≡ old.next + 1 → old.next + 1 < 2 ^ 64 → AddsDefinitions (d ∷ []) old new
   adds_numbered extends list next within =
       adds_one (list ∙ ap (λ b. old.list ++ record { definition = d; extension = if b then Some (record { number = old.next; place = definition_place d }) else None } ∷ []) (sym extends))
       (next ∙ ap (λ b. if b then old.next + 1 else old.next) (sym extends)) (λ _. within)
 
 -- ---- in a loop
 
-pub adds_none : (t : TextsView) → Adds [] t t
+pub adds_none : (t : TextsView) → AddsDefinitions [] t t
 adds_none t first ds is = subst (λ l. IsListOf first l t) (sym (append-nil ds)) is
 
-pub adds_then : (a b c : TextsView) (xs ys : Definitions) → Adds xs a b → Adds ys b c → Adds (xs ++ ys) a c
+pub adds_then : (a b c : TextsView) (xs ys : Definitions) → AddsDefinitions xs a b → AddsDefinitions ys b c → AddsDefinitions (xs ++ ys) a c
 adds_then a b c xs ys one two first ds is = subst (λ l. IsListOf first l c) (append_assoc ds xs ys) (two first (ds ++ xs) (one first ds is))
 
 have_fewer : (first : ℕ) (xs ys : Definitions) → extension_count xs ≤ extension_count ys → HaveNumbers first ys → HaveNumbers first xs
 have_fewer first xs ys h have some = let within = have (omega (arith, h, some)) in omega (arith, h, within)
 
 -- what is refused behind others of a list is refused of the list
-pub refusal_more : (start now : TextsView) (before : Definitions) (d : DefinitionTree Place) (rest : Definitions) → Adds before start now
+pub refusal_more : (start now : TextsView) (before : Definitions) (d : DefinitionTree Place) (rest : Definitions) → AddsDefinitions before start now
     → (r : BuilderRefusal) → IsListRefusal (d ∷ []) now r → IsListRefusal (before ++ d ∷ rest) start r
 refusal_more start now before d rest adds refusal.Memory h = tt
 refusal_more start now before d rest adds refusal.Failed h = h

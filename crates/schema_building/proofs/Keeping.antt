@@ -19,7 +19,7 @@ use Rattle.schema_fold_index.specs.declared.index.Index.{Index}
 use Rattle.schema_building.specs.Noted.{named_kind, parts_key}
 use Rattle.schema_building.specs.Numbers.{extension_count}
 use Rattle.schema_building.specs.Settling.{unnumbered, settled_from}
-use Rattle.schema_building.specs.TextsList.{IsListOf, Adds, IsListRefusal}
+use Rattle.schema_building.specs.TextsList.{IsListOf, AddsDefinitions, IsListRefusal}
 use Rattle.schema_building.specs.TextsView.{texts_view}
 use Rattle.schema_building.specs.Waiting.{orphan_kinds}
 use Rattle.schema_building.specs.declared.refusal.BuilderRefusal.{BuilderRefusal}
@@ -55,7 +55,7 @@ abbrev pub Keeps : Texts → Type 0
 Keeps t = IsListOf (first_number t) (definitions t) (texts_view t) × IsIndexOf (definitions t) t.index
 
 -- what a builder keeps once a document is added
-module _ (old new : Texts) (more : Definitions) (kept : Keeps old) (adds : Adds more (texts_view old) (texts_view new)) (filed : KeepsIndex old new) where
+module _ (old new : Texts) (more : Definitions) (kept : Keeps old) (adds : AddsDefinitions more (texts_view old) (texts_view new)) (filed : KeepsIndex old new) where
   added : IsListOf (first_number old) (definitions old ++ more) (texts_view new)
   added = adds (first_number old) (definitions old) kept.0
 

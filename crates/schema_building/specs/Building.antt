@@ -6,7 +6,7 @@ use Rattle.schema_fold.specs.in_schema_types.SchemaTree.{SchemaTree}
 use Rattle.schema_fold.specs.Listed.{Definitions}
 use Rattle.schema_fold.specs.Adoption.{Settings, settled, orphans, parts_name}
 use Rattle.schema_built_in.specs.Table.{built_in_definitions}
-use Rattle.schema_fold.specs.BuildErrors.{Fault, Fails}
+use Rattle.schema_fold.specs.BuildErrors.{BuildFault, Fails}
 use Rattle.schema_fold.specs.Fold.{fold}
 use Rattle.schema_building.specs.BuilderValue.{BuilderValue}
 use Rattle.schema_building.specs.Numbers.{HaveNumbers}
@@ -31,7 +31,7 @@ abbrev pub folded : BuilderValue → SchemaTree Place
 folded b = fold built_in_definitions b.first (counted b)
 
 -- a folding rule is broken so
-abbrev pub FailsIn : BuilderValue → Fault → Type 0
+abbrev pub FailsIn : BuilderValue → BuildFault → Type 0
 FailsIn b fault = Fails built_in_definitions b.first (counted b) fault
 
 -- ---- orphans

@@ -13,8 +13,8 @@ pub record IsListOf (first : ℕ) (ds : Definitions) (t : TextsView) : Type 0 wh
   pub numbers : HaveNumbers first ds
 
 -- definitions stand behind those before them
-abbrev pub Adds : Definitions → TextsView → TextsView → Type 0
-Adds more old new = (first : ℕ) (ds : Definitions) → IsListOf first ds old → IsListOf first (ds ++ more) new
+abbrev pub AddsDefinitions : Definitions → TextsView → TextsView → Type 0
+AddsDefinitions more old new = (first : ℕ) (ds : Definitions) → IsListOf first ds old → IsListOf first (ds ++ more) new
 
 -- they are not added: there are numbers for the extensions no more
 abbrev pub IsListRefusal : Definitions → TextsView → BuilderRefusal → Type 0

@@ -9,7 +9,7 @@ ghost use Rattle.schema_fold_index.specs.Index.{IsIndexOf};
 ghost use Rattle.schema_building.specs.Building.{plain_settings, with_document, counted, lent_names, IsAddRefusal, IsBuildRefusal};
 ghost use Rattle.schema_building.specs.BuildingView.{builder_view};
 ghost use Rattle.schema_building.specs.KeptView.{KeepsIndex};
-ghost use Rattle.schema_building.specs.TextsList.{Adds, IsListRefusal};
+ghost use Rattle.schema_building.specs.TextsList.{AddsDefinitions, IsListRefusal};
 ghost use Rattle.schema_building.specs.TextsView.{texts_view};
 ghost use Rattle.schema_building.specs.Numbers.{HaveNumbers};
 ghost use Rattle.schema_building.specs.SourcesView.{sources_view, with_sources};
@@ -142,7 +142,7 @@ fn add_document(
     sources: &mut IndexMap<FileId, SourceFile>,
     document: &Document,
 ) -> Result<(), BuilderRefusal>
-    ensures texts { OnOk result (Adds (document_tree document.now) (texts_view texts.old) (texts_view texts.new)) }
+    ensures texts { OnOk result (AddsDefinitions (document_tree document.now) (texts_view texts.old) (texts_view texts.new)) }
     ensures filed { OnOk result (KeepsIndex texts.old texts.new) }
     ensures sources { OnOk result (sources_view sources.new ≡ with_sources (sources_view sources.old) (sources_of document.now)) }
     ensures refused { IfErr result (IsListRefusal (document_tree document.now) (texts_view texts.old)) }

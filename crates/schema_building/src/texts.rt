@@ -7,7 +7,7 @@ ghost use Rattle.schema_components.specs.Given.{extension_tree};
 ghost use Rattle.schema_fold.specs.ListedView.{listed_view};
 ghost use Rattle.schema_building.specs.KeptView.{definitions, KeepsIndex};
 ghost use Rattle.schema_building.specs.TextsView.{texts_view};
-ghost use Rattle.schema_building.specs.TextsList.{Adds, IsListRefusal};
+ghost use Rattle.schema_building.specs.TextsList.{AddsDefinitions, IsListRefusal};
 
 use crate::refusal::BuilderRefusal;
 use schema_components::{ExtensionId, Extensions};
@@ -31,7 +31,7 @@ impl Texts {
         alloc: Global,
         definition: &Definition,
     ) -> Result<(), BuilderRefusal>
-        ensures added { OnOk result (Adds (definition_tree definition.now ∷ []) (texts_view self.old) (texts_view self.new)) }
+        ensures added { OnOk result (AddsDefinitions (definition_tree definition.now ∷ []) (texts_view self.old) (texts_view self.new)) }
         ensures filed { OnOk result (KeepsIndex self.old self.new) }
         ensures refused { IfErr result (IsListRefusal (definition_tree definition.now ∷ []) (texts_view self.old)) }
     {
@@ -43,7 +43,7 @@ impl Texts {
 
     /// Puts a definition behind the others, with a number if it is an extension.
     fn push(&mut self, definition: &Definition) -> Result<(), BuilderRefusal>
-        ensures added { OnOk result (Adds (definition_tree definition.now ∷ []) (texts_view self.old) (texts_view self.new)) }
+        ensures added { OnOk result (AddsDefinitions (definition_tree definition.now ∷ []) (texts_view self.old) (texts_view self.new)) }
         ensures behind { OnOk result (definitions self.new ≡ definitions self.old ++ definition_tree definition.now ∷ []) }
         ensures index { self.new.index ≡ self.old.index }
         ensures refused { IfErr result (IsListRefusal (definition_tree definition.now ∷ []) (texts_view self.old)) }

@@ -10,7 +10,7 @@ use Rattle.schema_types.specs.in_components.Given.{Given, component_tree}
 use Rattle.schema_types.specs.in_components.declared.component.Component.{Component}
 use Rattle.schema_types.specs.TypeView.{name_text}
 use Rattle.schema_fold.specs.Components.{keyed_firsts}
-use Rattle.schema_fold.specs.BuildErrors.{Fault}
+use Rattle.schema_fold.specs.BuildErrors.{BuildFault}
 use Rattle.schema_fold.specs.FaultView.{repeat_breach}
 use Rattle.schema_fold.specs.Keeping.{content_key, component_fault}
 use Rattle.schema_fold.specs.PartsView.{itself, given_contents}
@@ -80,10 +80,10 @@ module _ {X Y : Type 0} (h : X → Y) (key : Y → List ℕ) where
   pub keyed_grown : (xs : List X) → keyed_firsts key (map h xs) ≡ map entry_grown (keyed_firsts inner xs)
   keyed_grown xs = ap (map under_key) (firsts_grown xs) ∙ keyed_map (firsts inner xs)
 
-  pub told_grown : (note : Y → Fault) (xs : List X) → map note (repeats key (map h xs)) ≡ map (λ x. note (h x)) (repeats inner xs)
+  pub told_grown : (note : Y → BuildFault) (xs : List X) → map note (repeats key (map h xs)) ≡ map (λ x. note (h x)) (repeats inner xs)
   told_grown note xs = ap (map note) (repeats_grown xs) ∙ map_map note (repeats inner xs)
     where
-      map_map : (note : Y → Fault) (ys : List X) → map note (map h ys) ≡ map (λ x. note (h x)) ys
+      map_map : (note : Y → BuildFault) (ys : List X) → map note (map h ys) ≡ map (λ x. note (h x)) ys
       map_map note [] = refl
       map_map note (y ∷ ys) = ap (λ l. note (h y) ∷ l) (map_map note ys)
 

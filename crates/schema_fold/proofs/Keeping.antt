@@ -10,20 +10,20 @@ use Rattle.schema_types.specs.in_components.Names.{Entries}
 use Rattle.schema_types.proofs.in_components.Places.{each_place-push}
 use Rattle.schema_types.proofs.in_components.Firsts.{kept_seen, kept_new, is_some-firsts, has_name-firsts, firsts-push_new, firsts-push_seen}
 use Rattle.schema_fold.specs.Components.{keyed_firsts}
-use Rattle.schema_fold.specs.BuildErrors.{Fault}
+use Rattle.schema_fold.specs.BuildErrors.{BuildFault}
 use Rattle.schema_fold.specs.Keeping.{told_behind, KeepsOn, KeepsNames}
 
-module _ {X : Type 0} (key : X → List ℕ) (note : X → Fault) where
+module _ {X : Type 0} (key : X → List ℕ) (note : X → BuildFault) where
   abbrev made : X → List ℕ × X
   made x = (key x, x)
 
   abbrev entry_name : List ℕ × X → List ℕ
   entry_name w = w.0
 
-  told_seen : (before : List X) (x : X) (faults faults' : List Fault) → has_name key (key x) before ≡ true → faults' ≡ faults ++ note x ∷ [] → faults' ≡ faults ++ told_behind key note before x
+  told_seen : (before : List X) (x : X) (faults faults' : List BuildFault) → has_name key (key x) before ≡ true → faults' ≡ faults ++ note x ∷ [] → faults' ≡ faults ++ told_behind key note before x
   told_seen before x faults faults' seen told = told ∙ ap (λ b. faults ++ map note (cond b (x ∷ []) [])) (sym seen)
 
-  told_new : (before : List X) (x : X) (faults : List Fault) → has_name key (key x) before ≡ false → faults ≡ faults ++ told_behind key note before x
+  told_new : (before : List X) (x : X) (faults : List BuildFault) → has_name key (key x) before ≡ false → faults ≡ faults ++ told_behind key note before x
   told_new before x faults new = sym (append-nil faults) ∙ ap (λ b. faults ++ map note (cond b (x ∷ []) [])) (sym new)
 
   -- a component whose name is known, and one whose name is new
@@ -31,12 +31,12 @@ module _ {X : Type 0} (key : X → List ℕ) (note : X → Fault) where
     abbrev seen_as : NameValue × V → List ℕ × X
     seen_as e = (e.0.text, view e.1)
 
-    pub keeps_seen : (faults faults' : List Fault) → is_some (lookup (λ k. bytes_eq (key x) k.text) es) ≡ true → faults' ≡ faults ++ note x ∷ [] → KeepsOn key note x (map seen_as es) faults (map seen_as es) faults'
+    pub keeps_seen : (faults faults' : List BuildFault) → is_some (lookup (λ k. bytes_eq (key x) k.text) es) ≡ true → faults' ≡ faults ++ note x ∷ [] → KeepsOn key note x (map seen_as es) faults (map seen_as es) faults'
     keeps_seen faults faults' there told before is =
         let seen = sym (is_some-firsts key seen_as made entry_name (λ e. refl) (λ y. refl) (key x) es before is) ∙ there in
         (kept_seen key seen_as made entry_name (λ e. refl) (λ y. refl) es before x is there, told_seen before x faults faults' seen told)
 
-    pub keeps_new : (new : Entries X) (faults : List Fault) → is_some (lookup (λ k. bytes_eq (key x) k.text) es) ≡ false → new ≡ map seen_as es ++ (key x, x) ∷ [] → KeepsOn key note x (map seen_as es) faults new faults
+    pub keeps_new : (new : Entries X) (faults : List BuildFault) → is_some (lookup (λ k. bytes_eq (key x) k.text) es) ≡ false → new ≡ map seen_as es ++ (key x, x) ∷ [] → KeepsOn key note x (map seen_as es) faults new faults
     keeps_new new faults absent added before is =
         let unseen = sym (is_some-firsts key seen_as made entry_name (λ e. refl) (λ y. refl) (key x) es before is) ∙ absent in
         (kept_new key seen_as made entry_name (λ e. refl) (λ y. refl) es before x new is absent added, told_new before x faults unseen)
@@ -47,35 +47,35 @@ module _ {X : Type 0} (key : X → List ℕ) (note : X → Fault) where
     any_view n [] = refl
     any_view n (v ∷ vs) = ap (λ b. bytes_eq n (key (view v)) || b) (any_view n vs)
 
-    pub names_seen : (faults faults' : List Fault) → list_any (λ v. bytes_eq (key x) (key (view v))) ks ≡ true → faults' ≡ faults ++ note x ∷ [] → KeepsNames key note x (map view ks) faults (map view ks) faults'
+    pub names_seen : (faults faults' : List BuildFault) → list_any (λ v. bytes_eq (key x) (key (view v))) ks ≡ true → faults' ≡ faults ++ note x ∷ [] → KeepsNames key note x (map view ks) faults (map view ks) faults'
     names_seen faults faults' there told before is =
         let seen = sym (any_view (key x) ks ∙ ap (has_name key (key x)) is ∙ has_name-firsts key (key x) before) ∙ there in
         (is ∙ sym (firsts-push_seen key before x seen), told_seen before x faults faults' seen told)
 
-    pub names_new : (new : List X) (faults : List Fault) → list_any (λ v. bytes_eq (key x) (key (view v))) ks ≡ false → new ≡ map view ks ++ x ∷ [] → KeepsNames key note x (map view ks) faults new faults
+    pub names_new : (new : List X) (faults : List BuildFault) → list_any (λ v. bytes_eq (key x) (key (view v))) ks ≡ false → new ≡ map view ks ++ x ∷ [] → KeepsNames key note x (map view ks) faults new faults
     names_new new faults absent added before is =
         let unseen = sym (any_view (key x) ks ∙ ap (has_name key (key x)) is ∙ has_name-firsts key (key x) before) ∙ absent in
         (added ∙ ap (λ l. l ++ x ∷ []) is ∙ sym (firsts-push_new key before x unseen), told_new before x faults unseen)
 
   -- a turn of the loops
-  pub told_more : (xs : List X) (x : X) (start faults faults' : List Fault) → faults ≡ start ++ map note (repeats key xs) → faults' ≡ faults ++ told_behind key note xs x → faults' ≡ start ++ map note (repeats key (xs ++ x ∷ []))
+  pub told_more : (xs : List X) (x : X) (start faults faults' : List BuildFault) → faults ≡ start ++ map note (repeats key xs) → faults' ≡ faults ++ told_behind key note xs x → faults' ≡ start ++ map note (repeats key (xs ++ x ∷ []))
   told_more xs x start faults faults' was step =
       step ∙ ap (λ l. l ++ told_behind key note xs x) was
       ∙ append_assoc start (map note (repeats key xs)) (told_behind key note xs x)
       ∙ ap (λ l. start ++ l) (sym (ap (map note) (each_place-push (λ before y. if has_name key (key y) before then y ∷ [] else []) xs x) ∙ map-append note (repeats key xs) (if has_name key (key x) xs then x ∷ [] else [])))
 
   module _ (xs : List X) (x : X) (xs' : List X) (front : xs' ≡ xs ++ x ∷ []) where
-    pub kept_on : (kept kept' : Entries X) (faults faults' : List Fault) → kept ≡ keyed_firsts key xs → KeepsOn key note x kept faults kept' faults' → kept' ≡ keyed_firsts key xs'
+    pub kept_on : (kept kept' : Entries X) (faults faults' : List BuildFault) → kept ≡ keyed_firsts key xs → KeepsOn key note x kept faults kept' faults' → kept' ≡ keyed_firsts key xs'
     kept_on kept kept' faults faults' is step = (step xs is).0 ∙ ap (keyed_firsts key) (sym front)
 
-    pub told_on : (kept kept' : Entries X) (start faults faults' : List Fault) → kept ≡ keyed_firsts key xs → faults ≡ start ++ map note (repeats key xs) → KeepsOn key note x kept faults kept' faults'
+    pub told_on : (kept kept' : Entries X) (start faults faults' : List BuildFault) → kept ≡ keyed_firsts key xs → faults ≡ start ++ map note (repeats key xs) → KeepsOn key note x kept faults kept' faults'
         → faults' ≡ start ++ map note (repeats key xs')
     told_on kept kept' start faults faults' is was step = told_more xs x start faults faults' was (step xs is).1 ∙ ap (λ l. start ++ map note (repeats key l)) (sym front)
 
-    pub names_on : (kept kept' : List X) (faults faults' : List Fault) → kept ≡ firsts key xs → KeepsNames key note x kept faults kept' faults' → kept' ≡ firsts key xs'
+    pub names_on : (kept kept' : List X) (faults faults' : List BuildFault) → kept ≡ firsts key xs → KeepsNames key note x kept faults kept' faults' → kept' ≡ firsts key xs'
     names_on kept kept' faults faults' is step = (step xs is).0 ∙ ap (firsts key) (sym front)
 
-    pub names_told_on : (kept kept' : List X) (start faults faults' : List Fault) → kept ≡ firsts key xs → faults ≡ start ++ map note (repeats key xs) → KeepsNames key note x kept faults kept' faults'
+    pub names_told_on : (kept kept' : List X) (start faults faults' : List BuildFault) → kept ≡ firsts key xs → faults ≡ start ++ map note (repeats key xs) → KeepsNames key note x kept faults kept' faults'
         → faults' ≡ start ++ map note (repeats key xs')
     names_told_on kept kept' start faults faults' is was step = told_more xs x start faults faults' was (step xs is).1 ∙ ap (λ l. start ++ map note (repeats key l)) (sym front)
 

@@ -36,17 +36,17 @@ pub data Breach : Type 0 where
   InputFieldNameCollision : (type_name name : List ℕ) → Breach
 
 -- what is wrong, and where
-pub record Fault : Type 0 where
+pub record BuildFault : Type 0 where
   pub place : Place
   pub breach : Breach
 
 -- ---- rules on what stands at a position of the texts' list, behind these
 
 abbrev pub RuleAt : Type 1
-RuleAt = Definitions → DefinitionTree Place → Fault → Type 0
+RuleAt = Definitions → DefinitionTree Place → BuildFault → Type 0
 
 -- the fault stands at the definition
-abbrev pub At : DefinitionTree Place → Breach → Fault
+abbrev pub At : DefinitionTree Place → Breach → BuildFault
 At d breach = record { place = definition_place d; breach = breach }
 
 -- an operation or a fragment
@@ -103,45 +103,45 @@ module _ (built_in texts : Definitions) where
       × (fault ≡ At d (TypeExtensionKindMismatch e.name.it))))
 
   -- a rule is broken so by what stands at some position
-  abbrev pub Somewhere : RuleAt → Fault → Type 0
+  abbrev pub Somewhere : RuleAt → BuildFault → Type 0
   Somewhere rule fault = AtSomePlace (λ before d. rule before d fault) texts
 
   -- ---- rules on the components of the schema definition and of the types
 
   -- a root behind another one of its operation
-  abbrev pub DuplicateRootOperationIn : ℕ → Fault → Type 0
+  abbrev pub DuplicateRootOperationIn : ℕ → BuildFault → Type 0
   DuplicateRootOperationIn first fault = (g : Given Place Root) × (
       IsRepeated root_key (roots_given first all) g × (fault ≡ record { place = g.it.place; breach = DuplicateRootOperation g.it.it.operation_type }))
 
   -- in a type of that kind a component of some class stands behind another one of its name
-  abbrev pub RepeatedIn : {A : Type 0} → TypeKind → (TypeParts Place → List A) → (Given Place A → List ℕ) → (A → Place) → (List ℕ → List ℕ → Breach) → ℕ → Fault → Type 0
+  abbrev pub RepeatedIn : {A : Type 0} → TypeKind → (TypeParts Place → List A) → (Given Place A → List ℕ) → (A → Place) → (List ℕ → List ℕ → Breach) → ℕ → BuildFault → Type 0
   RepeatedIn {A} kind of key place breach first fault = (t : TypeDefinition Place) × ((g : Given Place A) × (
       Contains (firsts type_name (types_in all)) t × (same_kind t.parts.kind kind ≡ true) × IsRepeated key (components of (numbered first all) t) g
       × (fault ≡ record { place = place g.it; breach = breach (type_name t) (key g) })))
 
-  abbrev pub DuplicateImplementsInterfaceInObjectIn : ℕ → Fault → Type 0
+  abbrev pub DuplicateImplementsInterfaceInObjectIn : ℕ → BuildFault → Type 0
   DuplicateImplementsInterfaceInObjectIn = RepeatedIn kind.Object (λ p. p.interfaces) given_name (λ x. x.place) DuplicateImplementsInterfaceInObject
 
-  abbrev pub DuplicateImplementsInterfaceInInterfaceIn : ℕ → Fault → Type 0
+  abbrev pub DuplicateImplementsInterfaceInInterfaceIn : ℕ → BuildFault → Type 0
   DuplicateImplementsInterfaceInInterfaceIn = RepeatedIn kind.Interface (λ p. p.interfaces) given_name (λ x. x.place) DuplicateImplementsInterfaceInInterface
 
-  abbrev pub ObjectFieldNameCollisionIn : ℕ → Fault → Type 0
+  abbrev pub ObjectFieldNameCollisionIn : ℕ → BuildFault → Type 0
   ObjectFieldNameCollisionIn = RepeatedIn kind.Object (λ p. p.fields) field_key (λ x. x.place) ObjectFieldNameCollision
 
-  abbrev pub InterfaceFieldNameCollisionIn : ℕ → Fault → Type 0
+  abbrev pub InterfaceFieldNameCollisionIn : ℕ → BuildFault → Type 0
   InterfaceFieldNameCollisionIn = RepeatedIn kind.Interface (λ p. p.fields) field_key (λ x. x.place) InterfaceFieldNameCollision
 
-  abbrev pub EnumValueNameCollisionIn : ℕ → Fault → Type 0
+  abbrev pub EnumValueNameCollisionIn : ℕ → BuildFault → Type 0
   EnumValueNameCollisionIn = RepeatedIn kind.Enum (λ p. p.values) value_key (λ x. x.place) EnumValueNameCollision
 
-  abbrev pub UnionMemberNameCollisionIn : ℕ → Fault → Type 0
+  abbrev pub UnionMemberNameCollisionIn : ℕ → BuildFault → Type 0
   UnionMemberNameCollisionIn = RepeatedIn kind.Union (λ p. p.members) given_name (λ x. x.place) UnionMemberNameCollision
 
-  abbrev pub InputFieldNameCollisionIn : ℕ → Fault → Type 0
+  abbrev pub InputFieldNameCollisionIn : ℕ → BuildFault → Type 0
   InputFieldNameCollisionIn = RepeatedIn kind.InputObject (λ p. p.inputs) input_key (λ x. x.place) InputFieldNameCollision
 
 -- a folding rule is broken so
-pub data Fails (built_in : Definitions) (first : ℕ) (texts : Definitions) (fault : Fault) : Type 0 where
+pub data Fails (built_in : Definitions) (first : ℕ) (texts : Definitions) (fault : BuildFault) : Type 0 where
   executable_definition : Somewhere built_in texts ExecutableDefinitionAt fault → Fails built_in first texts fault
   schema_definition_collision : Somewhere built_in texts SchemaDefinitionCollisionAt fault → Fails built_in first texts fault
   directive_definition_collision : Somewhere built_in texts DirectiveDefinitionCollisionAt fault → Fails built_in first texts fault
@@ -161,4 +161,4 @@ pub data Fails (built_in : Definitions) (first : ℕ) (texts : Definitions) (fau
 
 -- no folding rule is broken
 abbrev pub FoldingRules : Definitions → ℕ → Definitions → Type 0
-FoldingRules built_in first texts = (fault : Fault) → Fails built_in first texts fault → ⊥
+FoldingRules built_in first texts = (fault : BuildFault) → Fails built_in first texts fault → ⊥

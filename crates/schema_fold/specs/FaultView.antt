@@ -3,7 +3,7 @@ use Rattle.std.specs.Prelude.{ℕ, List, map, Vec}
 use Rattle.std.specs.declared.alloc.Global.{Global}
 use Rattle.graphql_names.specs.Placed.{Place}
 use Rattle.schema_fold.specs.BuildErrors as breach
-use Rattle.schema_fold.specs.BuildErrors.{Breach, Fault}
+use Rattle.schema_fold.specs.BuildErrors.{Breach, BuildFault}
 use Rattle.schema_fold.specs.declared.build_error.BuildError.{BuildError}
 use Rattle.schema_fold.specs.declared.build_error.BuildError.TheVariants as rust
 use Rattle.schema_fold.specs.declared.build_error.Repeat.{Repeat}
@@ -27,10 +27,10 @@ breach_of (rust.EnumValueNameCollision t n) = breach.EnumValueNameCollision t.te
 breach_of (rust.UnionMemberNameCollision t n) = breach.UnionMemberNameCollision t.text n.text
 breach_of (rust.InputFieldNameCollision t n) = breach.InputFieldNameCollision t.text n.text
 
-abbrev pub fault_of : Place × BuildError → Fault
+abbrev pub fault_of : Place × BuildError → BuildFault
 fault_of f = record { place = f.0; breach = breach_of f.1 }
 
-abbrev pub faults_of : Vec (Place × BuildError) Global → List Fault
+abbrev pub faults_of : Vec (Place × BuildError) Global → List BuildFault
 faults_of faults = map fault_of faults.items
 
 -- what a second component of one name in a type breaks

@@ -6,21 +6,21 @@ use Rattle.schema_types.specs.in_components.Lists.{firsts, has_name}
 use Rattle.schema_types.specs.in_components.Names.{Entries}
 use Rattle.schema_types.specs.in_components.Given.{Given, given_name}
 use Rattle.schema_fold.specs.Components.{keyed_firsts}
-use Rattle.schema_fold.specs.BuildErrors.{Fault}
+use Rattle.schema_fold.specs.BuildErrors.{BuildFault}
 use Rattle.schema_fold.specs.FaultView.{repeat_breach}
 use Rattle.schema_fold.specs.declared.build_error.Repeat.{Repeat}
 
-module _ {X : Type 0} (key : X → List ℕ) (note : X → Fault) where
+module _ {X : Type 0} (key : X → List ℕ) (note : X → BuildFault) where
   -- the fault of x behind these: one of them has its name
-  abbrev pub told_behind : List X → X → List Fault
+  abbrev pub told_behind : List X → X → List BuildFault
   told_behind before x = map note (if has_name key (key x) before then x ∷ [] else [])
 
   -- with x behind others, what is kept under names and the faults become those
-  abbrev pub KeepsOn : X → Entries X → List Fault → Entries X → List Fault → Type 0
+  abbrev pub KeepsOn : X → Entries X → List BuildFault → Entries X → List BuildFault → Type 0
   KeepsOn x kept faults kept' faults' = (before : List X) → kept ≡ keyed_firsts key before → (kept' ≡ keyed_firsts key (before ++ x ∷ [])) × (faults' ≡ faults ++ told_behind before x)
 
   -- the same of what is kept as a set
-  abbrev pub KeepsNames : X → List X → List Fault → List X → List Fault → Type 0
+  abbrev pub KeepsNames : X → List X → List BuildFault → List X → List BuildFault → Type 0
   KeepsNames x kept faults kept' faults' = (before : List X) → kept ≡ firsts key before → (kept' ≡ firsts key (before ++ x ∷ [])) × (faults' ≡ faults ++ told_behind before x)
 
 -- the name of a component, where `name` is that of its content
@@ -28,8 +28,8 @@ abbrev pub content_key : {A : Type 0} → (A → NameValue) → Given Place (Pla
 content_key name g = (name g.it.it).text
 
 -- the fault of a second component of one name
-abbrev pub component_fault : {A : Type 0} → (A → NameValue) → Repeat → List ℕ → Given Place (Placed Place A) → Fault
+abbrev pub component_fault : {A : Type 0} → (A → NameValue) → Repeat → List ℕ → Given Place (Placed Place A) → BuildFault
 component_fault name repeat type_name g = record { place = g.it.place; breach = repeat_breach repeat type_name (content_key name g) }
 
-abbrev pub name_fault : Repeat → List ℕ → Given Place (Text Place) → Fault
+abbrev pub name_fault : Repeat → List ℕ → Given Place (Text Place) → BuildFault
 name_fault repeat type_name g = record { place = g.it.place; breach = repeat_breach repeat type_name (given_name g) }

@@ -9,7 +9,7 @@ use Rattle.schema_types.specs.in_components.Given.{Given, component_tree, compon
 use Rattle.schema_types.specs.TypeView.{name_text}
 use Rattle.schema_types.specs.declared.type_kind.TypeKind.{TypeKind}
 use Rattle.schema_types.specs.declared.type_kind.TypeKind.TheVariants as kind
-use Rattle.schema_fold.specs.BuildErrors.{Fault}
+use Rattle.schema_fold.specs.BuildErrors.{BuildFault}
 use Rattle.schema_fold.specs.Components.{keyed_firsts, field_key, value_key, input_key}
 use Rattle.schema_fold.specs.Collected.{AllComponents}
 use Rattle.schema_fold.specs.FaultView.{repeat_breach}
@@ -60,10 +60,10 @@ field_repeat kind.Object = repeat.ObjectField
 field_repeat _ = repeat.InterfaceField
 
 -- the faults of the components that are not the first of their name
-abbrev pub repeat_faults : {A : Type 0} → Repeat → List ℕ → (Given Place A → List ℕ) → (A → Place) → List (Given Place A) → List Fault
+abbrev pub repeat_faults : {A : Type 0} → Repeat → List ℕ → (Given Place A → List ℕ) → (A → Place) → List (Given Place A) → List BuildFault
 repeat_faults repeat type_name key place gs = map (λ g. record { place = place g.it; breach = repeat_breach repeat type_name (key g) }) (repeats key gs)
 
-abbrev pub component_faults : TypeKind → List ℕ → AllComponents → List Fault
+abbrev pub component_faults : TypeKind → List ℕ → AllComponents → List BuildFault
 component_faults kind type_name all =
     repeat_faults (interface_repeat kind) type_name given_name (λ x. x.place) all.interfaces
     ++ (repeat_faults (field_repeat kind) type_name field_key (λ x. x.place) all.fields

@@ -62,12 +62,12 @@ abbrev pub extends_schema : Listed → List (Given Place (SchemaParts Place))
 extends_schema l = all_given l.extension (option_to_list (schema_extension_here l.definition))
 
 -- all parts of the schema definition: those of what stands for it, and then those of the schema extensions by position, where they apply
-abbrev pub schema_parts : ℕ → Definitions → List (Given Place (SchemaParts Place))
-schema_parts first ds = record { extension = None; it = (schema_base ds).parts } ∷ (if schema_is_defined ds then flat_map extends_schema (numbered first ds) else [])
+abbrev pub schema_parts_given : ℕ → Definitions → List (Given Place (SchemaParts Place))
+schema_parts_given first ds = record { extension = None; it = (schema_base ds).parts } ∷ (if schema_is_defined ds then flat_map extends_schema (numbered first ds) else [])
 
 -- its roots, repeated ones too
 abbrev pub roots_given : ℕ → Definitions → List (Given Place Root)
-roots_given first ds = flat_map (λ g. all_given g.extension g.it.roots) (schema_parts first ds)
+roots_given first ds = flat_map (λ g. all_given g.extension g.it.roots) (schema_parts_given first ds)
 
 -- roots are told apart by their operations
 abbrev pub root_key : Given Place Root → List ℕ
@@ -82,7 +82,7 @@ abbrev pub folded_schema : ℕ → Definitions → SchemaRoots Place
 folded_schema first ds = record {
   place = (schema_base ds).place;
   description = (schema_base ds).description;
-  directives = flat_map (λ g. all_given g.extension g.it.directives) (schema_parts first ds);
+  directives = flat_map (λ g. all_given g.extension g.it.directives) (schema_parts_given first ds);
   query = root_in operation.Query (roots_given first ds);
   mutation = root_in operation.Mutation (roots_given first ds);
   subscription = root_in operation.Subscription (roots_given first ds);

@@ -11,7 +11,7 @@ use Rattle.schema_fold.specs.in_components.Lists.{each_place_after, firsts, has_
 use Rattle.schema_fold.specs.in_schema_types.TypeParts.{TypeParts, TypeDefinition, type_here}
 use Rattle.schema_fold.specs.Listed.{Definitions, type_name, types_in}
 use Rattle.schema_fold.specs.in_schema_types.declared.type_kind.TypeKind.{TypeKind}
-use Rattle.schema_fold_index.specs.Index.{Standing, standing_name, parts_here, standing_after, standing, first_of, first_filed, FiledEntries, AreFiled, NamedKind, filed_kind, text_kind}
+use Rattle.schema_fold_index.specs.Index.{StandingParts, standing_name, parts_here, standing_after, standing, first_of, first_filed, FiledEntries, AreFiled, NamedKind, filed_kind, text_kind}
 
 -- the firsts of what is made of each
 module _ {X Y : Type 0} (f : X → Y) (key : Y → List ℕ) where
@@ -48,7 +48,7 @@ parts_name p = p.name.it
 abbrev kind_of : TypeParts Place → NamedKind
 kind_of p = (p.name, p.kind)
 
-abbrev stand_here : ℕ → Option (TypeParts Place) → List Standing
+abbrev stand_here : ℕ → Option (TypeParts Place) → List StandingParts
 stand_here place o = map (λ parts. record { position = place; parts = parts }) (option_to_list o)
 
 module _ (here : DefinitionTree Place → Option (TypeParts Place)) where
@@ -71,7 +71,7 @@ module _ (here : DefinitionTree Place → Option (TypeParts Place)) where
   kinds_filed [] = refl
   kinds_filed (e ∷ es) = ap (λ l. filed_kind e ∷ l) (kinds_filed es)
 
-  kinds_standing : (ss : List Standing) → map (λ f. (f.name, f.kind)) (map first_of ss) ≡ map kind_of (map (λ s. s.parts) ss)
+  kinds_standing : (ss : List StandingParts) → map (λ f. (f.name, f.kind)) (map first_of ss) ≡ map kind_of (map (λ s. s.parts) ss)
   kinds_standing [] = refl
   kinds_standing (s ∷ ss) = ap (λ l. kind_of s.parts ∷ l) (kinds_standing ss)
 

@@ -17,19 +17,19 @@ use Rattle.schema_fold.specs.Listed.{Definitions, Listed, type_name, types_in, d
 use Rattle.schema_fold.specs.PartsView.{parts_view}
 use Rattle.schema_fold.specs.declared.parts.Parts.{Parts}
 use Rattle.schema_fold_index.specs.declared.index.Filed.{Filed}
-use Rattle.schema_fold_index.specs.Index.{Standing, standing_name, parts_here, standing_after, standing, positions_named, first_of, first_filed, positions_of, FiledEntries, AreFiled, FilesUnder, listed_at, defined_at, extensions_under, extensions_named}
+use Rattle.schema_fold_index.specs.Index.{StandingParts, standing_name, parts_here, standing_after, standing, positions_named, first_of, first_filed, positions_of, FiledEntries, AreFiled, FilesUnder, listed_at, defined_at, extensions_under, extensions_named}
 use Rattle.schema_fold_index.proofs.Under.{added_behind, added_new}
 
 abbrev test : List ℕ → NameValue → Bool
 test n k = bytes_eq n k.text
 
-abbrev stands : ℕ → TypeParts Place → Standing
+abbrev stands : ℕ → TypeParts Place → StandingParts
 stands position parts = record { position = position; parts = parts }
 
 -- ---- one definition more
 
 module _ (here : DefinitionTree Place → Option (TypeParts Place)) where
-  abbrev stand_here : ℕ → Option (TypeParts Place) → List Standing
+  abbrev stand_here : ℕ → Option (TypeParts Place) → List StandingParts
   stand_here position o = map (λ parts. stands position parts) (option_to_list o)
 
   standing-push : (ds : Definitions) (d : DefinitionTree Place) → standing here (ds ++ d ∷ []) ≡ standing here ds ++ stand_here (length ds) (here d)
@@ -47,9 +47,9 @@ module _ (here : DefinitionTree Place → Option (TypeParts Place)) where
 
 -- ---- a position more under a name
 
-positions_named-push : (n : List ℕ) (ss : List Standing) (s : Standing) → positions_named n (ss ++ s ∷ []) ≡ positions_named n ss ++ (if bytes_eq n (standing_name s) then s.position ∷ [] else [])
+positions_named-push : (n : List ℕ) (ss : List StandingParts) (s : StandingParts) → positions_named n (ss ++ s ∷ []) ≡ positions_named n ss ++ (if bytes_eq n (standing_name s) then s.position ∷ [] else [])
 positions_named-push n ss s =
-    let named : Standing → Bool = λ x. bytes_eq n (standing_name x) in
+    let named : StandingParts → Bool = λ x. bytes_eq n (standing_name x) in
     ap (map (λ x. x.position)) (filter-append named ss (s ∷ [])) ∙ map-append (λ x. x.position) (filter named ss) (filter named (s ∷ []))
     ∙ ap (λ l. positions_named n ss ++ l) (by (bytes_eq n (standing_name s)))
   where
@@ -106,10 +106,10 @@ defined_here : (before : Definitions) (d : DefinitionTree Place) (after : Defini
 defined_here [] d after = refl
 defined_here (b ∷ before) d after = defined_here before d after
 
-abbrev extending : Definitions → List Listed → List Standing
+abbrev extending : Definitions → List Listed → List StandingParts
 extending before rest = standing_after type_extension_here before (definitions_of rest)
 
-module _ (n : List ℕ) (all : List Listed) (behind : List Standing) (found : List Listed) where
+module _ (n : List ℕ) (all : List Listed) (behind : List StandingParts) (found : List Listed) where
   -- what is found at the positions of these and of one in front of them
   abbrev Finds : Type 0
   Finds = flat_map (listed_at all) (positions_named n behind) ≡ found
@@ -142,28 +142,28 @@ extensions_filed list es filed n = ap (flat_map (listed_at list)) (filed.1 n) �
 abbrev Type_ : Type 0
 Type_ = TypeDefinition Place
 
-abbrev first_standing : List Standing → Standing → List Standing
+abbrev first_standing : List StandingParts → StandingParts → List StandingParts
 first_standing before s = if has_name standing_name (standing_name s) before then [] else s ∷ []
 
 abbrev first_type : List Type_ → Type_ → List Type_
 first_type before t = if has_name type_name (type_name t) before then [] else t ∷ []
 
-abbrev places : List Standing → List ℕ
+abbrev places : List StandingParts → List ℕ
 places ss = map (λ s. s.position) ss
 
-module _ (all : Definitions) (behind : List Standing) (left : List Type_) where
+module _ (all : Definitions) (behind : List StandingParts) (left : List Type_) where
   -- what is defined at the positions of the first of these, where some stand before them
-  abbrev Defines : List Standing → List Type_ → Type 0
+  abbrev Defines : List StandingParts → List Type_ → Type 0
   Defines ss ts = flat_map (defined_at all) (places (each_place_after first_standing ss behind)) ≡ each_place_after first_type ts left
 
   module _ (place : ℕ) (d : DefinitionTree Place) (at : slice_get all place ≡ Some d) where
-    new_or_not : (t : Type_) → type_here d ≡ Some t → (ss : List Standing) (ts : List Type_) → Defines ss ts → (b : Bool)
+    new_or_not : (t : Type_) → type_here d ≡ Some t → (ss : List StandingParts) (ts : List Type_) → Defines ss ts → (b : Bool)
         → flat_map (defined_at all) (places (cond b [] (stands place t.parts ∷ []) ++ each_place_after first_standing ss behind)) ≡ cond b [] (t ∷ []) ++ each_place_after first_type ts left
     new_or_not t is ss ts more true = more
     new_or_not t is ss ts more false = λ i. (ap (λ o. option_map_or (λ e. option_to_list (type_here e)) o []) at ∙ ap option_to_list is) i ++ more i
 
-    defines_more : (o : Option Type_) → type_here d ≡ o → ((ss : List Standing) (ts : List Type_) → map standing_name ss ≡ map type_name ts → Defines ss ts)
-        → (ss : List Standing) (ts : List Type_) → map standing_name ss ≡ map type_name ts
+    defines_more : (o : Option Type_) → type_here d ≡ o → ((ss : List StandingParts) (ts : List Type_) → map standing_name ss ≡ map type_name ts → Defines ss ts)
+        → (ss : List StandingParts) (ts : List Type_) → map standing_name ss ≡ map type_name ts
         → flat_map (defined_at all) (places (each_place_after first_standing ss (map (λ parts. stands place parts) (option_to_list (option_map (λ t. t.parts) o)) ++ behind))) ≡ each_place_after first_type ts (option_to_list o ++ left)
     defines_more None is rest ss ts same = rest ss ts same
     defines_more (Some t) is rest ss ts same =
@@ -173,7 +173,7 @@ module _ (all : Definitions) (behind : List Standing) (left : List Type_) where
         (rest (ss ++ s ∷ []) (ts ++ t ∷ []) (map-append standing_name ss (s ∷ []) ∙ ap (λ ns. ns ++ type_name t ∷ []) same ∙ sym (map-append type_name ts (t ∷ []))))
         (has_name type_name (type_name t) ts)
 
-types_after : (before ds : Definitions) (ss : List Standing) (ts : List Type_) → map standing_name ss ≡ map type_name ts
+types_after : (before ds : Definitions) (ss : List StandingParts) (ts : List Type_) → map standing_name ss ≡ map type_name ts
     → Defines (before ++ ds) (standing_after parts_here before ds) (types_in ds) ss ts
 types_after before [] ss ts same = refl
 types_after before (d ∷ ds) ss ts same =
@@ -185,7 +185,7 @@ first_places : (es : FiledEntries) → map (λ f. f.first) (values_of es) ≡ ma
 first_places [] = refl
 first_places (e ∷ es) = ap (λ l. e.1.first ∷ l) (first_places es)
 
-places_of : (ss : List Standing) → map (λ f. f.position) (map first_of ss) ≡ places ss
+places_of : (ss : List StandingParts) → map (λ f. f.position) (map first_of ss) ≡ places ss
 places_of [] = refl
 places_of (s ∷ ss) = ap (λ l. s.position ∷ l) (places_of ss)
 

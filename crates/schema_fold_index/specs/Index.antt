@@ -17,11 +17,11 @@ use Rattle.schema_fold_index.specs.declared.index.Index.{Index}
 -- ---- what a list has
 
 -- the definition or an extension of a type, at a position of the list
-pub record Standing : Type 0 where
+pub record StandingParts : Type 0 where
   pub position : ℕ
   pub parts : TypeParts Place
 
-abbrev pub standing_name : Standing → List ℕ
+abbrev pub standing_name : StandingParts → List ℕ
 standing_name s = s.parts.name.it
 
 -- the parts of the type that is defined here
@@ -30,14 +30,14 @@ parts_here d = option_map (λ t. t.parts) (type_here d)
 
 module _ (here : DefinitionTree Place → Option (TypeParts Place)) where
   -- what each definition gives, by its position behind those before it
-  abbrev pub standing_after : Definitions → Definitions → List Standing
+  abbrev pub standing_after : Definitions → Definitions → List StandingParts
   standing_after = each_place_after (λ before d. map (λ parts. record { position = length before; parts = parts }) (option_to_list (here d)))
 
-  abbrev pub standing : Definitions → List Standing
+  abbrev pub standing : Definitions → List StandingParts
   standing ds = standing_after [] ds
 
 -- the positions of those of that name, in order
-abbrev pub positions_named : List ℕ → List Standing → List ℕ
+abbrev pub positions_named : List ℕ → List StandingParts → List ℕ
 positions_named n ss = map (λ s. s.position) (filter (λ s. bytes_eq n (standing_name s)) ss)
 
 -- ---- what an index has
@@ -48,7 +48,7 @@ pub record FirstFiled : Type 0 where
   pub kind : TypeKind
   pub position : ℕ
 
-abbrev pub first_of : Standing → FirstFiled
+abbrev pub first_of : StandingParts → FirstFiled
 first_of s = record { name = s.parts.name; kind = s.parts.kind; position = s.position }
 
 abbrev pub first_filed : NameValue × Filed → FirstFiled
@@ -80,7 +80,7 @@ abbrev pub is_filed_before : ℕ → FiledEntries → List ℕ → Bool
 is_filed_before position es n = option_map_or (λ f. nat_lt f.first position) (lookup (λ k. bytes_eq n k.text) es) false
 
 -- under each name stand the positions of these, in order; the names are in the order of the first of each
-abbrev pub AreFiled : List Standing → FiledEntries → Type 0
+abbrev pub AreFiled : List StandingParts → FiledEntries → Type 0
 AreFiled ss es = (map first_filed es ≡ map first_of (firsts standing_name ss)) × ((n : List ℕ) → positions_under n es ≡ positions_named n ss)
 
 -- the index has the definitions of types of the list, and the extensions of types
@@ -99,7 +99,7 @@ FilesRest ds from old new = IsIndexOf (take from ds) old → IsIndexOf ds new
 
 -- behind these, one more is filed under its name
 abbrev pub FilesUnder : ℕ → TypeParts Place → FiledEntries → FiledEntries → Type 0
-FilesUnder position parts old new = (ss : List Standing) → AreFiled ss old → AreFiled (ss ++ record { position = position; parts = parts } ∷ []) new
+FilesUnder position parts old new = (ss : List StandingParts) → AreFiled ss old → AreFiled (ss ++ record { position = position; parts = parts } ∷ []) new
 
 -- ---- extensions by name
 

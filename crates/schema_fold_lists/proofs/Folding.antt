@@ -9,7 +9,7 @@ use Rattle.schema_fold.specs.in_schema_types.SchemaTree.{SchemaTree}
 use Rattle.schema_fold.specs.in_schema_types.TypeParts.{type_extension_here}
 use Rattle.schema_fold.specs.Listed.{Definitions, Listed, definitions_of}
 use Rattle.schema_built_in.specs.Table.{built_in_definitions}
-use Rattle.schema_fold.specs.BuildErrors.{Fault, Fails, FoldingRules, Somewhere, DirectiveDefinitionCollisionAt, DuplicateRootOperationIn}
+use Rattle.schema_fold.specs.BuildErrors.{BuildFault, Fails, FoldingRules, Somewhere, DirectiveDefinitionCollisionAt, DuplicateRootOperationIn}
 use Rattle.schema_fold.specs.Fold.{folded_directives}
 use Rattle.schema_fold_roots.specs.ListFold.{IsFoldOf, TellsRoots}
 use Rattle.schema_fold_roots.proofs.Listing.{definitions_numbered}
@@ -18,10 +18,10 @@ use Rattle.schema_fold_types.specs.TypeFaults.{FailsInType}
 use Rattle.schema_fold_types.specs.ListTypes.{ExtendsNone, FoldsTypes, TellsTypes}
 use Rattle.schema_fold_types.specs.Misplaced.{Misplaced, TellsMisplaced}
 use Rattle.schema_fold_types.proofs.FailsIs.{FailsInParts, fails_is}
-use Rattle.schema_fold_lists.specs.ListBuilt.{FoldsParts, Folds}
+use Rattle.schema_fold_lists.specs.ListBuilt.{FoldsParts, FoldsList}
 
 -- a fault that is told by the four calls in turn is one of the four parts
-module _ (built_in : Definitions) (first : ℕ) (texts : Definitions) (f : Fault) (one two three four : List Fault)
+module _ (built_in : Definitions) (first : ℕ) (texts : Definitions) (f : BuildFault) (one two three four : List BuildFault)
     (misplaced : Contains one f ↔ (Contains [] f ⊎ Misplaced built_in texts f))
     (roots : Contains two f ↔ (Contains one f ⊎ DuplicateRootOperationIn built_in texts first f))
     (directives : Contains three f ↔ (Contains two f ⊎ Somewhere built_in texts DirectiveDefinitionCollisionAt f))
@@ -60,7 +60,7 @@ unfolding built_in_definitions
 extends_none = refl
 
 -- what the calls fold and tell is what the list folds to
-pub folds_parts : (list built_in texts : List Listed) (schema : SchemaTree Place) (one two three four : List Fault)
+pub folds_parts : (list built_in texts : List Listed) (schema : SchemaTree Place) (one two three four : List BuildFault)
     → TellsMisplaced (definitions_of built_in) (definitions_of texts) [] one
     → TellsRoots list one two
     → TellsDirectives (definitions_of built_in) (definitions_of texts) two three
@@ -81,8 +81,8 @@ folds_parts list built_in texts schema one two three four misplaced roots direct
     )
 
 -- the same of the two parts of a list
-pub folds_list : {X : Type 0} (view : X → Listed) (xs : List X) (built_in : ℕ) (schema : SchemaTree Place) (faults : List Fault)
-    → FoldsParts (map view xs) (map view (take built_in xs)) (map view (drop built_in xs)) schema faults → Folds (map view xs) built_in schema faults
+pub folds_list : {X : Type 0} (view : X → Listed) (xs : List X) (built_in : ℕ) (schema : SchemaTree Place) (faults : List BuildFault)
+    → FoldsParts (map view xs) (map view (take built_in xs)) (map view (drop built_in xs)) schema faults → FoldsList (map view xs) built_in schema faults
 folds_list view xs built_in schema faults h first ds is many =
     let all : definitions_of (map view xs) ≡ built_in_definitions ++ ds = ap definitions_of is ∙ definitions_numbered first (built_in_definitions ++ ds) in
     h first ds is
@@ -93,17 +93,17 @@ folds_list view xs built_in schema faults h first ds is many =
 pub joined : {X : Type 0} (view : X → Listed) (xs front back : List X) (built_in : ℕ) → front ≡ take built_in xs → back ≡ drop built_in xs → map view front ++ map view back ≡ map view xs
 joined view xs front back built_in f b = sym (map-append view front back) ∙ ap (map view) ((λ i. f i ++ b i) ∙ take-append-drop built_in xs)
 
-pub folds_split : {X : Type 0} (view : X → Listed) (xs front back : List X) (built_in : ℕ) → front ≡ take built_in xs → back ≡ drop built_in xs → (schema : SchemaTree Place) (faults : List Fault)
-    → FoldsParts (map view xs) (map view front) (map view back) schema faults → Folds (map view xs) built_in schema faults
+pub folds_split : {X : Type 0} (view : X → Listed) (xs front back : List X) (built_in : ℕ) → front ≡ take built_in xs → back ≡ drop built_in xs → (schema : SchemaTree Place) (faults : List BuildFault)
+    → FoldsParts (map view xs) (map view front) (map view back) schema faults → FoldsList (map view xs) built_in schema faults
 folds_split view xs front back built_in f b schema faults h =
     folds_list view xs built_in schema faults
     (subst (λ l. FoldsParts (map view xs) (map view (take built_in xs)) (map view l) schema faults) b
     (subst (λ l. FoldsParts (map view xs) (map view l) (map view back) schema faults) f h))
 
 -- no faults where the rules hold
-pub faultless : (built_in : Definitions) (first : ℕ) (texts : Definitions) (faults : List Fault) → ((f : Fault) → Contains faults f ↔ Fails built_in first texts f) → (faults ≡ []) ↔ FoldingRules built_in first texts
+pub faultless : (built_in : Definitions) (first : ℕ) (texts : Definitions) (faults : List BuildFault) → ((f : BuildFault) → Contains faults f ↔ Fails built_in first texts f) → (faults ≡ []) ↔ FoldingRules built_in first texts
 faultless built_in first texts faults all = (λ none f fails. not_in_nil f (subst (λ l. Contains l f) none ((all f).1 fails)), λ rules. none_left faults (λ f h. rules f ((all f).0 h)))
   where
-    none_left : (fs : List Fault) → ((f : Fault) → Contains fs f → ⊥) → fs ≡ []
+    none_left : (fs : List BuildFault) → ((f : BuildFault) → Contains fs f → ⊥) → fs ≡ []
     none_left [] h = refl
     none_left (f ∷ fs) h = absurd (h f (Contains-first f fs f refl))

@@ -4,16 +4,16 @@ use Rattle.graphql_names.specs.Placed.{Place}
 use Rattle.schema_fold.specs.in_schema_types.SchemaTree.{SchemaTree}
 use Rattle.schema_fold.specs.Listed.{Definitions, Listed, numbered, definitions_of}
 use Rattle.schema_built_in.specs.Table.{built_in_definitions}
-use Rattle.schema_fold.specs.BuildErrors.{Fault, Fails}
+use Rattle.schema_fold.specs.BuildErrors.{BuildFault, Fails}
 use Rattle.schema_fold.specs.Fold.{fold}
 
 -- where the list is that of what is built in and of some texts, this is what they fold to, with their faults
-abbrev pub FoldsParts : List Listed → List Listed → List Listed → SchemaTree Place → List Fault → Type 0
+abbrev pub FoldsParts : List Listed → List Listed → List Listed → SchemaTree Place → List BuildFault → Type 0
 FoldsParts list built_in texts schema faults = (first : ℕ) (ds : Definitions) → list ≡ numbered first (built_in_definitions ++ ds)
     → definitions_of built_in ≡ built_in_definitions → definitions_of texts ≡ ds
-    → (schema ≡ fold built_in_definitions first ds) × ((f : Fault) → Contains faults f ↔ Fails built_in_definitions first ds f)
+    → (schema ≡ fold built_in_definitions first ds) × ((f : BuildFault) → Contains faults f ↔ Fails built_in_definitions first ds f)
 
 -- the same of a list of which what is built in is the first part, of that length
-abbrev pub Folds : List Listed → ℕ → SchemaTree Place → List Fault → Type 0
-Folds list built_in schema faults = (first : ℕ) (ds : Definitions) → list ≡ numbered first (built_in_definitions ++ ds) → built_in ≡ length built_in_definitions
-    → (schema ≡ fold built_in_definitions first ds) × ((f : Fault) → Contains faults f ↔ Fails built_in_definitions first ds f)
+abbrev pub FoldsList : List Listed → ℕ → SchemaTree Place → List BuildFault → Type 0
+FoldsList list built_in schema faults = (first : ℕ) (ds : Definitions) → list ≡ numbered first (built_in_definitions ++ ds) → built_in ≡ length built_in_definitions
+    → (schema ≡ fold built_in_definitions first ds) × ((f : BuildFault) → Contains faults f ↔ Fails built_in_definitions first ds f)

@@ -5,7 +5,7 @@ ghost use Rattle.schema_fold.specs.Listed.{definitions_of};
 ghost use Rattle.schema_fold.specs.ListedView.{listed_view};
 ghost use Rattle.schema_fold_index.specs.Index.{IsIndexOf};
 ghost use Rattle.schema_fold_lists.specs.FoldedView.{folded_view};
-ghost use Rattle.schema_fold_lists.specs.ListBuilt.{Folds};
+ghost use Rattle.schema_fold_lists.specs.ListBuilt.{FoldsList};
 
 use graphql_names::{Name, Node, SourceSpan};
 use indexmap::IndexMap;
@@ -36,7 +36,7 @@ pub fn fold_list(
     requires within { built_in ≤ length list.now }
     requires indexed { IsIndexOf (definitions_of (map listed_view (drop built_in list.now))) index.now }
     requires faultless { faults.old.items ≡ [] }
-    ensures { IfOk result (λ folded. Folds (map listed_view list.now) built_in (folded_view folded) (faults_of faults.new)) }
+    ensures { IfOk result (λ folded. FoldsList (map listed_view list.now) built_in (folded_view folded) (faults_of faults.new)) }
 {
     let (first, texts) = list.split_at(built_in);
     tell_misplaced(alloc, first, texts, index, faults)?;

@@ -10,7 +10,7 @@ use Rattle.schema_fold.specs.in_definitions.Queries.{definition_place}
 use Rattle.schema_components.specs.Lists.{each_place, each_place_after, has_name}
 use Rattle.schema_components.proofs.Places.{not_in_nil, found_at, given_at, AtSomePlace-map, only, is_only}
 use Rattle.schema_fold.specs.Listed.{Definitions, directive_here, directive_name, directives_in}
-use Rattle.schema_fold.specs.BuildErrors.{Fault, DirectiveDefinitionCollision, DirectiveDefinitionCollisionAt, Somewhere}
+use Rattle.schema_fold.specs.BuildErrors.{BuildFault, DirectiveDefinitionCollision, DirectiveDefinitionCollisionAt, Somewhere}
 use Rattle.schema_fold_roots.specs.DirectiveFold.{Directive, directive_fault, directive_faults, TellsDirectives}
 use Rattle.schema_fold_roots.proofs.Gathering.{flat_map-push}
 use Rattle.schema_fold_roots.proofs.Telling.{told_more}
@@ -19,10 +19,10 @@ abbrev again : List Directive → Directive → List Directive
 again before x = if has_name directive_name (directive_name x) before then x ∷ [] else []
 
 -- what is told at a place of the list
-abbrev told_of : List Directive → Option Directive → List Fault
+abbrev told_of : List Directive → Option Directive → List BuildFault
 told_of before o = flat_map (λ own. map directive_fault (again before own)) (option_to_list o)
 
-abbrev told_at : Definitions → DefinitionTree Place → List Fault
+abbrev told_at : Definitions → DefinitionTree Place → List BuildFault
 told_at before d = told_of (directives_in before) (directive_here d)
 
 abbrev gives : DefinitionTree Place → List Directive
@@ -45,7 +45,7 @@ place_here (tree.DirectiveDefinition p t) own e = ap (λ x. x.place) (same_Some 
 place_here _ own e = cc
 
 -- at a place, by what is defined there
-found_here : (before : Definitions) (d : DefinitionTree Place) (f : Fault) → Contains (told_at before d) f → DirectiveDefinitionCollisionAt before d f
+found_here : (before : Definitions) (d : DefinitionTree Place) (f : BuildFault) → Contains (told_at before d) f → DirectiveDefinitionCollisionAt before d f
 found_here before d f h = by (directive_here d) refl h
   where
     by : (o : Option Directive) → directive_here d ≡ o → Contains (told_of (directives_in before) o) f → DirectiveDefinitionCollisionAt before d f
@@ -56,13 +56,13 @@ found_here before d f h = by (directive_here d) refl h
         in_list true seen m = (own, (e, seen, only (directive_fault own) f m ∙ ap (λ p. record { place = p; breach = DirectiveDefinitionCollision (directive_name own) }) (sym (place_here d own e))))
         in_list false seen m = absurd (not_in_nil f m)
 
-given_here : (before : Definitions) (d : DefinitionTree Place) (f : Fault) → DirectiveDefinitionCollisionAt before d f → Contains (told_at before d) f
+given_here : (before : Definitions) (d : DefinitionTree Place) (f : BuildFault) → DirectiveDefinitionCollisionAt before d f → Contains (told_at before d) f
 given_here before d f (own, (e, seen, is)) =
     subst (λ o. Contains (told_of (directives_in before) o) f) (sym e)
     (subst (λ b. Contains (map directive_fault (cond b (own ∷ []) []) ++ []) f) (sym seen)
     (is_only (directive_fault own) f (is ∙ ap (λ p. record { place = p; breach = DirectiveDefinitionCollision (directive_name own) }) (place_here d own e))))
 
-pub tells_directives : (built_in texts : Definitions) (old new : List Fault) → new ≡ old ++ directive_faults (directives_in texts) → TellsDirectives built_in texts old new
+pub tells_directives : (built_in texts : Definitions) (old new : List BuildFault) → new ≡ old ++ directive_faults (directives_in texts) → TellsDirectives built_in texts old new
 tells_directives built_in texts old new is f = told_more old (each_place told_at texts) new f (Somewhere built_in texts DirectiveDefinitionCollisionAt f) (is ∙ ap (λ l. old ++ l) (told_after [] texts)) (
   λ h. AtSomePlace-map texts (λ b d k. found_here b d f k) (found_at told_at texts f h),
   λ h. given_at told_at texts f (AtSomePlace-map texts (λ b d k. given_here b d f k) h),

@@ -9,7 +9,7 @@ use Rattle.tree_directives.specs.declared.operation_type.OperationType.{Operatio
 use Rattle.tree_directives.specs.declared.operation_type.OperationType.TheVariants as operation
 use Rattle.schema_components.specs.Lists.{has_name}
 use Rattle.schema_components.specs.Given.{Given, ExtensionTree}
-use Rattle.schema_fold.specs.BuildErrors.{Fault}
+use Rattle.schema_fold.specs.BuildErrors.{BuildFault}
 use Rattle.schema_fold.specs.SchemaFold.{Root, root_key, root_in}
 use Rattle.schema_fold_roots.specs.ListFold.{root_fault}
 use Rattle.schema_fold_roots.specs.RootFold.{RootNames, root_for, with_root, first_roots, root_name, KeepsRoot}
@@ -57,11 +57,11 @@ module _ (e : Option (ExtensionTree Place)) (p : Place) (n : Text Place) (before
   roots_new operation.Subscription new = λ i. record { query = other operation.Subscription operation.Query refl i; mutation = other operation.Subscription operation.Mutation refl i; subscription = own operation.Subscription refl new i }
 
 -- a root whose operation has one, and one whose operation has none
-module _ (g : GivenRoot) (kept : RootNames) (faults : List Fault) where
-  abbrev told_if : List GivenRoot → List Fault
+module _ (g : GivenRoot) (kept : RootNames) (faults : List BuildFault) where
+  abbrev told_if : List GivenRoot → List BuildFault
   told_if before = map root_fault (cond (has_name root_key (root_key g) before) (g ∷ []) [])
 
-  pub keeps_seen : (faults' : List Fault) → is_some (root_for g.it.it.operation_type kept) ≡ true → faults' ≡ faults ++ root_fault g ∷ [] → KeepsRoot g kept faults kept faults'
+  pub keeps_seen : (faults' : List BuildFault) → is_some (root_for g.it.it.operation_type kept) ≡ true → faults' ≡ faults ++ root_fault g ∷ [] → KeepsRoot g kept faults kept faults'
   keeps_seen faults' there told before is =
       let seen = sym (ap (λ k. is_some (root_for g.it.it.operation_type k)) is ∙ has_root g.it.it.operation_type before) ∙ there in
       (is ∙ sym (roots_seen before g seen), told ∙ ap (λ b. faults ++ map root_fault (cond b (g ∷ []) [])) (sym seen))

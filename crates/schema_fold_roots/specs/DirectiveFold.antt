@@ -8,21 +8,21 @@ use Rattle.tree_directives.specs.DirectiveTree.{DirectiveDefinitionTree}
 use Rattle.schema_components.specs.Lists.{firsts, repeats}
 use Rattle.schema_components.specs.Names.{Entries}
 use Rattle.schema_fold.specs.Listed.{Definitions, directive_name}
-use Rattle.schema_fold.specs.BuildErrors.{Fault, DirectiveDefinitionCollision, DirectiveDefinitionCollisionAt, Somewhere}
+use Rattle.schema_fold.specs.BuildErrors.{BuildFault, DirectiveDefinitionCollision, DirectiveDefinitionCollisionAt, Somewhere}
 
 abbrev pub Directive : Type 0
 Directive = Placed Place (DirectiveDefinitionTree Place)
 
 -- a second definition of a directive, and what is told of it
-abbrev pub directive_fault : Directive → Fault
+abbrev pub directive_fault : Directive → BuildFault
 directive_fault d = record { place = d.place; breach = DirectiveDefinitionCollision (directive_name d) }
 
-abbrev pub directive_faults : List Directive → List Fault
+abbrev pub directive_faults : List Directive → List BuildFault
 directive_faults ds = map directive_fault (repeats directive_name ds)
 
 -- the faults that are told more are those of the texts' second definitions of directives
-abbrev pub TellsDirectives : Definitions → Definitions → List Fault → List Fault → Type 0
-TellsDirectives built_in texts old new = (f : Fault) → Contains new f ↔ (Contains old f ⊎ Somewhere built_in texts DirectiveDefinitionCollisionAt f)
+abbrev pub TellsDirectives : Definitions → Definitions → List BuildFault → List BuildFault → Type 0
+TellsDirectives built_in texts old new = (f : BuildFault) → Contains new f ↔ (Contains old f ⊎ Somewhere built_in texts DirectiveDefinitionCollisionAt f)
 
 -- ---- steps
 

@@ -11,12 +11,12 @@ use Rattle.schema_fold.specs.in_schema_types.SchemaTree.{SchemaRoots}
 use Rattle.schema_fold.specs.Listed.{Definitions, Listed, numbered, definitions_of}
 use Rattle.schema_fold.specs.Components.{all_given}
 use Rattle.schema_fold.specs.SchemaFold.{Root, schema_base, schema_is_defined, implicit_roots, extends_schema, root_key, root_in, folded_schema}
-use Rattle.schema_fold.specs.BuildErrors.{Fault, DuplicateRootOperation, DuplicateRootOperationIn}
+use Rattle.schema_fold.specs.BuildErrors.{BuildFault, DuplicateRootOperation, DuplicateRootOperationIn}
 
 abbrev pub Parts : Type 0
 Parts = Given Place (SchemaParts Place)
 
--- all parts of the schema definition: `schema_parts` of a list with its numbers
+-- all parts of the schema definition: `schema_parts_given` of a list with its numbers
 abbrev pub parts_given : List Listed → List Parts
 parts_given list = record { extension = None; it = (schema_base (definitions_of list)).parts } ∷ (if schema_is_defined (definitions_of list) then flat_map extends_schema list else [])
 
@@ -47,10 +47,10 @@ abbrev pub schema_of : List Listed → SchemaRoots Place
 schema_of list = schema_from (schema_base (definitions_of list)).place (schema_base (definitions_of list)).description (parts_given list)
 
 -- a root behind another one of its operation, and what is told of it
-abbrev pub root_fault : Given Place Root → Fault
+abbrev pub root_fault : Given Place Root → BuildFault
 root_fault g = record { place = g.it.place; breach = DuplicateRootOperation g.it.it.operation_type }
 
-abbrev pub root_faults : List (Given Place Root) → List Fault
+abbrev pub root_faults : List (Given Place Root) → List BuildFault
 root_faults gs = map root_fault (repeats root_key gs)
 
 -- where the list is that of some definitions with their numbers, this is what a schema has of its schema definition
@@ -58,6 +58,6 @@ abbrev pub IsFoldOf : List Listed → SchemaRoots Place → Type 0
 IsFoldOf list s = (first : ℕ) (ds : Definitions) → list ≡ numbered first ds → s ≡ folded_schema first ds
 
 -- the faults that are told more are those of the second roots of the list
-abbrev pub TellsRoots : List Listed → List Fault → List Fault → Type 0
+abbrev pub TellsRoots : List Listed → List BuildFault → List BuildFault → Type 0
 TellsRoots list old new = (first : ℕ) (built_in texts : Definitions) → list ≡ numbered first (built_in ++ texts)
-    → (f : Fault) → Contains new f ↔ (Contains old f ⊎ DuplicateRootOperationIn built_in texts first f)
+    → (f : BuildFault) → Contains new f ↔ (Contains old f ⊎ DuplicateRootOperationIn built_in texts first f)

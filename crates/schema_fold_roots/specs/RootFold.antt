@@ -8,7 +8,7 @@ use Rattle.schema_components.specs.Applied.{Applied}
 use Rattle.schema_fold.specs.in_schema_types.SchemaTree.{SchemaRoots}
 use Rattle.schema_fold.specs.Components.{all_given}
 use Rattle.schema_fold.specs.SchemaFold.{Root, root_key, root_in}
-use Rattle.schema_fold.specs.BuildErrors.{Fault}
+use Rattle.schema_fold.specs.BuildErrors.{BuildFault}
 use Rattle.schema_fold.specs.Keeping.{told_behind}
 use Rattle.schema_fold_roots.specs.ListFold.{Parts, directives_from, roots_from, root_fault}
 
@@ -72,6 +72,6 @@ abbrev pub root_name : Given Place Root → Given Place (Text Place)
 root_name g = record { extension = g.extension; it = g.it.it.name }
 
 -- with a root behind others, what is kept and the faults become those
-abbrev pub KeepsRoot : Given Place Root → RootNames → List Fault → RootNames → List Fault → Type 0
+abbrev pub KeepsRoot : Given Place Root → RootNames → List BuildFault → RootNames → List BuildFault → Type 0
 KeepsRoot g kept faults kept' faults' = (before : List (Given Place Root)) → kept ≡ first_roots before
     → (kept' ≡ first_roots (before ++ g ∷ [])) × (faults' ≡ faults ++ told_behind root_key root_fault before g)

@@ -13,17 +13,17 @@ use Rattle.schema_fold.specs.in_components.Lists.{has_name}
 use Rattle.schema_fold.specs.in_schema_types.TypeParts.{TypeDefinition, type_here}
 use Rattle.schema_fold.specs.Listed.{Definitions, type_name, types_in}
 use Rattle.schema_fold_index.specs.declared.index.Filed.{Filed}
-use Rattle.schema_fold_index.specs.Index.{Standing, standing_name, parts_here, standing_after, standing, positions_named, positions_of, FiledEntries, AreFiled, is_filed_before}
+use Rattle.schema_fold_index.specs.Index.{StandingParts, standing_name, parts_here, standing_after, standing, positions_named, positions_of, FiledEntries, AreFiled, is_filed_before}
 
 module _ (n : List ℕ) (i : ℕ) where
   -- the first of these positions is before i
   abbrev starts_before : List ℕ → Bool
   starts_before ps = option_map_or (λ p. nat_lt p i) (slice_get ps 0) false
 
-  abbrev first_before : List Standing → Bool
+  abbrev first_before : List StandingParts → Bool
   first_before ss = starts_before (positions_named n ss)
 
-  abbrev standing_here : ℕ → Option (TypeDefinition Place) → List Standing
+  abbrev standing_here : ℕ → Option (TypeDefinition Place) → List StandingParts
   standing_here place o = map (λ parts. record { position = place; parts = parts }) (option_to_list (option_map (λ t. t.parts) o))
 
   filed_starts : (o : Option Filed) → option_map_or (λ f. nat_lt f.first i) o false ≡ starts_before (option_map_or positions_of o [])
@@ -34,7 +34,7 @@ module _ (n : List ℕ) (i : ℕ) where
   more before d = length-append before (d ∷ [])
 
   -- behind i none stands before it
-  first_behind : (place : ℕ) (o : Option (TypeDefinition Place)) (behind : List Standing) → i ≤ place → first_before behind ≡ false → first_before (standing_here place o ++ behind) ≡ false
+  first_behind : (place : ℕ) (o : Option (TypeDefinition Place)) (behind : List StandingParts) → i ≤ place → first_before behind ≡ false → first_before (standing_here place o ++ behind) ≡ false
   first_behind place None behind h rest = rest
   first_behind place (Some t) behind h rest = by (bytes_eq n (type_name t))
     where
@@ -49,7 +49,7 @@ module _ (n : List ℕ) (i : ℕ) where
       first_behind (length before) (type_here d) (standing_after parts_here (before ++ d ∷ []) ds) h (none_behind (before ++ d ∷ []) ds (omega (arith, m, h)))
 
   -- one that stands before it, if it is of the name
-  first_here : (place : ℕ) (o : Option (TypeDefinition Place)) (behind : List Standing) (ts : List (TypeDefinition Place)) → place + 1 ≤ i → first_before behind ≡ has_name type_name n ts
+  first_here : (place : ℕ) (o : Option (TypeDefinition Place)) (behind : List StandingParts) (ts : List (TypeDefinition Place)) → place + 1 ≤ i → first_before behind ≡ has_name type_name n ts
       → first_before (standing_here place o ++ behind) ≡ has_name type_name n (option_to_list o ++ ts)
   first_here place None behind ts h rest = rest
   first_here place (Some t) behind ts h rest = by (bytes_eq n (type_name t))

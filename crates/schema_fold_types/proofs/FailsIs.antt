@@ -3,13 +3,13 @@ use Rattle.std.proofs.Common.{◌⊎◌, ℕ, inl, inr}
 use Rattle.std.specs.Prelude.{◌↔◌}
 use Rattle.schema_fold.specs.Listed.{Definitions}
 use Rattle.schema_fold.specs.BuildErrors as fails
-use Rattle.schema_fold.specs.BuildErrors.{Fault, Fails, Somewhere, DirectiveDefinitionCollisionAt, DuplicateRootOperationIn}
+use Rattle.schema_fold.specs.BuildErrors.{BuildFault, Fails, Somewhere, DirectiveDefinitionCollisionAt, DuplicateRootOperationIn}
 use Rattle.schema_fold_types.specs.TypeFaults as of_type
 use Rattle.schema_fold_types.specs.TypeFaults.{FailsInType}
 use Rattle.schema_fold_types.specs.Misplaced as placed
 use Rattle.schema_fold_types.specs.Misplaced.{Misplaced}
 
-module _ (built_in : Definitions) (first : ℕ) (texts : Definitions) (f : Fault) where
+module _ (built_in : Definitions) (first : ℕ) (texts : Definitions) (f : BuildFault) where
   -- the four parts of the rules, each told by one call
   abbrev pub FailsInParts : Type 0
   FailsInParts = Misplaced built_in texts f ⊎ (Somewhere built_in texts DirectiveDefinitionCollisionAt f ⊎ (DuplicateRootOperationIn built_in texts first f ⊎ FailsInType built_in texts first f))

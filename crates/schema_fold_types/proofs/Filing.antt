@@ -14,7 +14,7 @@ use Rattle.schema_fold.specs.Collected.{class_from, collected_from}
 use Rattle.schema_fold.specs.Kept.{component_faults}
 use Rattle.schema_fold.specs.Listed.{Listed, type_name, definitions_of}
 use Rattle.schema_fold.specs.Fold.{folded_type}
-use Rattle.schema_fold.specs.BuildErrors.{Fault}
+use Rattle.schema_fold.specs.BuildErrors.{BuildFault}
 use Rattle.schema_fold_types.specs.TypeFaults.{faults_of_type}
 use Rattle.schema_fold_types.specs.ListTypes.{ExtendsNone}
 use Rattle.schema_fold_types.specs.Filing.{type_by, types_by, faults_by}
@@ -76,7 +76,7 @@ module _ (t : TypeDefinition Place) where
     inputs = keyed_firsts input_key (class_from (λ p. p.inputs) (and_own gs));
   }
 
-  abbrev faults_given : AllGiven → List Fault
+  abbrev faults_given : AllGiven → List BuildFault
   faults_given gs = component_faults t.parts.kind t.parts.name.it (collected_from (and_own gs))
 
   module _ (extensions : List ℕ → List Listed) (list : List Listed) (is : (n : List ℕ) → extensions n ≡ extensions_named n list) where

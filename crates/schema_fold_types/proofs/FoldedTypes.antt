@@ -10,7 +10,7 @@ use Rattle.schema_fold.specs.in_schema_types.SchemaTree.{SchemaType}
 use Rattle.schema_fold.specs.in_schema_types.TypeParts.{type_here}
 use Rattle.schema_fold.specs.Listed.{Definitions, Listed, numbered, type_name, types_in, definitions_of}
 use Rattle.schema_fold.specs.Fold.{folded_type, folded_types}
-use Rattle.schema_fold.specs.BuildErrors.{Fault}
+use Rattle.schema_fold.specs.BuildErrors.{BuildFault}
 use Rattle.schema_fold_types.specs.TypeFaults.{faults_of_type, faults_of_types, FailsInType}
 use Rattle.schema_fold_index.proofs.Listing.{definitions_numbered}
 use Rattle.schema_fold_types.proofs.Telling.{told_more}
@@ -22,7 +22,7 @@ use Rattle.schema_fold_types.proofs.Filing.{type_behind, told_behind}
 abbrev types_of : List Listed → Entries (SchemaType Place)
 types_of list = map (λ t. (type_name t, folded_type list t)) (firsts type_name (types_in (definitions_of list)))
 
-abbrev faults_of : List Listed → List Fault
+abbrev faults_of : List Listed → List BuildFault
 faults_of list = flat_map (faults_of_type list) (firsts type_name (types_in (definitions_of list)))
 
 types_numbered : (first : ℕ) (ds : Definitions) → types_of (numbered first ds) ≡ folded_types first ds
@@ -45,7 +45,7 @@ module _ (built_in texts : List Listed) (none : ExtendsNone built_in) where
 pub folds_types : (built_in texts : List Listed) (types : Entries (SchemaType Place)) → types ≡ types_from built_in texts → FoldsTypes built_in texts types
 folds_types built_in texts types is none first ds e = is ∙ whole_types built_in texts none ∙ ap types_of e ∙ types_numbered first ds
 
-pub tells_types : (built_in texts : List Listed) (old new : List Fault) → new ≡ old ++ faults_from built_in texts → TellsTypes built_in texts old new
+pub tells_types : (built_in texts : List Listed) (old new : List BuildFault) → new ≡ old ++ faults_from built_in texts → TellsTypes built_in texts old new
 tells_types built_in texts old new is none first before after e f =
     told_more old (faults_of_types first (before ++ after)) new f (FailsInType before after first f)
     (is ∙ ap (λ fs. old ++ fs) (whole_faults built_in texts none ∙ ap faults_of e ∙ faults_numbered first (before ++ after)))

@@ -15,7 +15,7 @@ use Rattle.schema_fold.specs.in_schema_types.TypeParts.{TypeDefinition, type_her
 use Rattle.schema_fold.specs.in_schema_types.TypeView.{extended_type}
 use Rattle.schema_fold.specs.in_schema_types.declared.extended_type.ExtendedType.{ExtendedType}
 use Rattle.schema_fold.specs.Listed.{Listed, type_name, types_in}
-use Rattle.schema_fold.specs.BuildErrors.{Fault}
+use Rattle.schema_fold.specs.BuildErrors.{BuildFault}
 use Rattle.schema_fold_types.specs.TypeFaults.{faults_of_type}
 use Rattle.schema_fold_index.proofs.Listing.{flat_map-push}
 use Rattle.schema_fold_types.specs.Filing.{type_by, types_by, faults_by, FoldsOn}
@@ -33,15 +33,15 @@ module _ (extensions : List ℕ → List Listed) where
   abbrev made : TypeDefinition Place → List ℕ × SchemaType Place
   made t = (type_name t, type_by extensions t)
 
-  abbrev tell : TypeDefinition Place → List Fault
+  abbrev tell : TypeDefinition Place → List BuildFault
   tell t = faults_of_type (extensions (type_name t)) t
 
   -- no more definitions, and some more behind others
-  pub folds_none : (types : Types) (faults : List Fault) → FoldsOn extensions [] types faults types faults
+  pub folds_none : (types : Types) (faults : List BuildFault) → FoldsOn extensions [] types faults types faults
   folds_none types faults before start is was =
       (is ∙ ap (types_by extensions) (sym (append-nil before)), was ∙ ap (λ ts. start ++ faults_by extensions ts) (sym (append-nil before)))
 
-  pub folds_then : (a b c : Types) (p q r : List Fault) (xs ys : List (TypeDefinition Place)) → FoldsOn extensions xs a p b q → FoldsOn extensions ys b q c r → FoldsOn extensions (xs ++ ys) a p c r
+  pub folds_then : (a b c : Types) (p q r : List BuildFault) (xs ys : List (TypeDefinition Place)) → FoldsOn extensions xs a p b q → FoldsOn extensions ys b q c r → FoldsOn extensions (xs ++ ys) a p c r
   folds_then a b c p q r xs ys one two before start is was =
       let first = one before start is was in
       let second = two (before ++ xs) start first.0 first.1 in
@@ -50,14 +50,14 @@ module _ (extensions : List ℕ → List Listed) where
 
   -- a definition of a name that an earlier one has, and one of a new name
   module _ (es : List (NameValue × ExtendedType)) (t : TypeDefinition Place) where
-    pub folds_seen : (faults : List Fault) → is_some (lookup (λ k. bytes_eq (type_name t) k.text) es) ≡ true → FoldsOn extensions (t ∷ []) (map entry_view es) faults (map entry_view es) faults
+    pub folds_seen : (faults : List BuildFault) → is_some (lookup (λ k. bytes_eq (type_name t) k.text) es) ≡ true → FoldsOn extensions (t ∷ []) (map entry_view es) faults (map entry_view es) faults
     folds_seen faults there before start is was =
         let seen = sym (is_some-firsts type_name entry_view made entry_key (λ e. refl) (λ x. refl) (type_name t) es before is) ∙ there in (
           kept_seen type_name entry_view made entry_key (λ e. refl) (λ x. refl) es before t is there,
           was ∙ ap (λ ts. start ++ flat_map tell ts) (sym (firsts-push_seen type_name before t seen)),
         )
 
-    pub folds_new : (new : Types) (faults faults' : List Fault) → is_some (lookup (λ k. bytes_eq (type_name t) k.text) es) ≡ false
+    pub folds_new : (new : Types) (faults faults' : List BuildFault) → is_some (lookup (λ k. bytes_eq (type_name t) k.text) es) ≡ false
         → new ≡ map entry_view es ++ made t ∷ [] → faults' ≡ faults ++ tell t → FoldsOn extensions (t ∷ []) (map entry_view es) faults new faults'
     folds_new new faults faults' absent added told before start is was =
         let unseen = sym (is_some-firsts type_name entry_view made entry_key (λ e. refl) (λ x. refl) (type_name t) es before is) ∙ absent in (

@@ -13,7 +13,7 @@ use Rattle.schema_fold.specs.in_schema_types.SchemaTree.{SchemaType}
 use Rattle.schema_fold.specs.in_schema_types.TypeParts.{TypeDefinition, type_here, type_extension_here}
 use Rattle.schema_fold.specs.Listed.{Listed, type_name, types_in, definitions_of}
 use Rattle.schema_fold.specs.ListedView.{listed_view}
-use Rattle.schema_fold.specs.BuildErrors.{Fault}
+use Rattle.schema_fold.specs.BuildErrors.{BuildFault}
 use Rattle.schema_fold.specs.declared.listed.Listed.{Listed as Rust}
 use Rattle.schema_fold_index.specs.declared.index.Filed.{Filed}
 use Rattle.schema_fold_types.specs.Filing.{type_by, FoldsOn}
@@ -47,11 +47,11 @@ module _ (xs : List Rust) (i : ℕ) where
 -- ---- folding on
 
 module _ (extensions : List ℕ → List Listed) where
-  pub folds_same : (more more' : List (TypeDefinition Place)) (types types' : Entries (SchemaType Place)) (faults faults' : List Fault) → more ≡ more'
+  pub folds_same : (more more' : List (TypeDefinition Place)) (types types' : Entries (SchemaType Place)) (faults faults' : List BuildFault) → more ≡ more'
       → FoldsOn extensions more types faults types' faults' → FoldsOn extensions more' types faults types' faults'
   folds_same more more' types types' faults faults' same = subst (λ ts. FoldsOn extensions ts types faults types' faults') same
 
-  pub folds_nothing : (more : List (TypeDefinition Place)) (types : Entries (SchemaType Place)) (faults : List Fault) → more ≡ [] → FoldsOn extensions more types faults types faults
+  pub folds_nothing : (more : List (TypeDefinition Place)) (types : Entries (SchemaType Place)) (faults : List BuildFault) → more ≡ [] → FoldsOn extensions more types faults types faults
   folds_nothing more types faults none = folds_same [] more types types faults faults (sym none) (folds_none extensions types faults)
 
 -- ---- all types
@@ -74,7 +74,7 @@ module _ (built_in texts : List Listed) (defined extended : FiledEntries)
   all_firsts fs are = ap (λ l. firsts type_name (first_ones ++ l)) (ap here are ∙ types_filed (definitions_of texts) defined is_defined) ∙ firsts_of_firsts type_name first_ones own
 
   -- the built-in types, and then those that are filed
-  pub folds_all : (types middle types' : Entries (SchemaType Place)) (faults told faults' : List Fault) (fs : List Filed) → fs ≡ values_of defined → types ≡ []
+  pub folds_all : (types middle types' : Entries (SchemaType Place)) (faults told faults' : List BuildFault) (fs : List Filed) → fs ≡ values_of defined → types ≡ []
       → FoldsOn extensions first_ones types faults middle told → FoldsOn extensions (here fs) middle told types' faults'
       → (types' ≡ types_from built_in texts) × (faults' ≡ faults ++ faults_from built_in texts)
   folds_all types middle types' faults told faults' fs are empty one two =

@@ -12,7 +12,7 @@ use Rattle.schema_fold.specs.in_schema_types.declared.type_kind.TypeKind.{TypeKi
 use Rattle.schema_fold.specs.in_schema_types.declared.type_kind.TypeKind.TheVariants.{Scalar}
 use Rattle.schema_fold.specs.Listed.{Definitions, type_name, type_named}
 use Rattle.schema_fold.specs.SchemaFold.{schema_here, schema_extension_here, schema_definition_in}
-use Rattle.schema_fold.specs.BuildErrors.{Breach, Fault, At, ExecutableDefinition, SchemaDefinitionCollision, TypeDefinitionCollision, BuiltInScalarTypeRedefinition, OrphanSchemaExtension, OrphanTypeExtension, TypeExtensionKindMismatch, ExecutableDefinitionAt, SchemaDefinitionCollisionAt, TypeDefinitionCollisionAt, BuiltInScalarTypeRedefinitionAt, OrphanSchemaExtensionAt, OrphanTypeExtensionAt, TypeExtensionKindMismatchAt}
+use Rattle.schema_fold.specs.BuildErrors.{Breach, BuildFault, At, ExecutableDefinition, SchemaDefinitionCollision, TypeDefinitionCollision, BuiltInScalarTypeRedefinition, OrphanSchemaExtension, OrphanTypeExtension, TypeExtensionKindMismatch, ExecutableDefinitionAt, SchemaDefinitionCollisionAt, TypeDefinitionCollisionAt, BuiltInScalarTypeRedefinitionAt, OrphanSchemaExtensionAt, OrphanTypeExtensionAt, TypeExtensionKindMismatchAt}
 use Rattle.schema_fold_types.specs.Seen.{seen_of, told_where, faults_at, is_scalar_in, kind_in, kind_seen, schema_seen, executable_told, schema_told, collision_told, redefinition_told, orphan_told, mismatch_told, type_collision_told, scalar_redefinition_told, orphan_type_told, kind_mismatch_told, orphan_schema_told}
 use Rattle.schema_fold_types.proofs.Seeing.{is_scalar_is, kind_seen_is, some_seen_is, schema_seen_is}
 
@@ -39,7 +39,7 @@ some_too (Some k) p e = refl
 
 -- ---- what is told where a test holds
 
-module _ (d : DefinitionTree Place) (f : Fault) where
+module _ (d : DefinitionTree Place) (f : BuildFault) where
   abbrev Told : Option Breach → Type 0
   Told o = Contains (faults_at d o) f
 

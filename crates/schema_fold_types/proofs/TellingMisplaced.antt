@@ -7,39 +7,39 @@ use Rattle.schema_fold.specs.in_definitions.DefinitionTree.{DefinitionTree}
 use Rattle.schema_fold.specs.in_components.Lists.{AtSomePlace}
 use Rattle.schema_fold.proofs.in_components.Places.{found_at, given_at, found_among, given_among, AtSomePlace-map}
 use Rattle.schema_fold.specs.Listed.{Definitions}
-use Rattle.schema_fold.specs.BuildErrors.{Fault}
+use Rattle.schema_fold.specs.BuildErrors.{BuildFault}
 use Rattle.schema_fold_types.proofs.Telling.{told_more}
 use Rattle.schema_fold_types.specs.Misplaced as placed
 use Rattle.schema_fold_types.specs.Misplaced.{Misplaced, TellsMisplaced}
 use Rattle.schema_fold_types.specs.Seen.{seen_of, faults_at, schema_seen, executable_told, schema_told, type_collision_told, scalar_redefinition_told, orphan_schema_told, orphan_type_told, kind_mismatch_told, definition_faults, extension_faults, collision_faults, misplaced_faults}
 use Rattle.schema_fold_types.proofs.Judging.{is_executable_definition, is_schema_definition_collision, is_type_definition_collision, is_built_in_scalar_type_redefinition, is_orphan_schema_extension, is_orphan_type_extension, is_type_extension_kind_mismatch}
 
-module _ (built_in texts : Definitions) (f : Fault) where
-  abbrev at_definition : Definitions → DefinitionTree Place → List Fault
+module _ (built_in texts : Definitions) (f : BuildFault) where
+  abbrev at_definition : Definitions → DefinitionTree Place → List BuildFault
   at_definition before d = definition_faults (seen_of built_in) (seen_of before) d
 
-  abbrev at_extension : DefinitionTree Place → List Fault
+  abbrev at_extension : DefinitionTree Place → List BuildFault
   at_extension d = extension_faults (seen_of built_in) (seen_of texts) d
 
-  abbrev executable : DefinitionTree Place → List Fault
+  abbrev executable : DefinitionTree Place → List BuildFault
   executable d = faults_at d (executable_told d)
 
-  abbrev schema : Definitions → DefinitionTree Place → List Fault
+  abbrev schema : Definitions → DefinitionTree Place → List BuildFault
   schema before d = faults_at d (schema_told (seen_of before) d)
 
-  abbrev collision : Definitions → DefinitionTree Place → List Fault
+  abbrev collision : Definitions → DefinitionTree Place → List BuildFault
   collision before d = faults_at d (type_collision_told (seen_of built_in) (seen_of before) d)
 
-  abbrev redefinition : DefinitionTree Place → List Fault
+  abbrev redefinition : DefinitionTree Place → List BuildFault
   redefinition d = faults_at d (scalar_redefinition_told (seen_of built_in) d)
 
-  abbrev orphan_schema : DefinitionTree Place → List Fault
+  abbrev orphan_schema : DefinitionTree Place → List BuildFault
   orphan_schema d = faults_at d (orphan_schema_told (schema_seen (seen_of built_in) (seen_of texts)) d)
 
-  abbrev orphan_type : DefinitionTree Place → List Fault
+  abbrev orphan_type : DefinitionTree Place → List BuildFault
   orphan_type d = faults_at d (orphan_type_told (seen_of built_in) (seen_of texts) d)
 
-  abbrev mismatch : DefinitionTree Place → List Fault
+  abbrev mismatch : DefinitionTree Place → List BuildFault
   mismatch d = faults_at d (kind_mismatch_told (seen_of built_in) (seen_of texts) d)
 
   of_definition : AtSomePlace (λ before d. Contains (at_definition before d) f) texts → Misplaced built_in texts f
@@ -63,10 +63,10 @@ module _ (built_in texts : Definitions) (f : Fault) where
     ]
   ]
 
-  abbrev collisions : List Fault
+  abbrev collisions : List BuildFault
   collisions = collision_faults (seen_of built_in) texts
 
-  abbrev extensions : List Fault
+  abbrev extensions : List BuildFault
   extensions = flat_map at_extension texts
 
   is_misplaced : Contains (misplaced_faults built_in texts) f → Misplaced built_in texts f
@@ -104,5 +104,5 @@ module _ (built_in texts : Definitions) (f : Fault) where
       Contains-append_right (orphan_schema d) (orphan_type d ++ mismatch d) f
       (Contains-append_right (orphan_type d) (mismatch d) f ((is_type_extension_kind_mismatch d f built_in texts b).1 k))) h)
 
-pub tells_misplaced : (built_in texts : Definitions) (old new : List Fault) → new ≡ old ++ misplaced_faults built_in texts → TellsMisplaced built_in texts old new
+pub tells_misplaced : (built_in texts : Definitions) (old new : List BuildFault) → new ≡ old ++ misplaced_faults built_in texts → TellsMisplaced built_in texts old new
 tells_misplaced built_in texts old new is f = told_more old (misplaced_faults built_in texts) new f (Misplaced built_in texts f) is (is_misplaced built_in texts f, told built_in texts f)

@@ -21,7 +21,7 @@ use Rattle.schema_fold.specs.Kept.{kept_from, repeat_faults, component_faults}
 use Rattle.schema_fold.specs.Made.{IsOfKind}
 use Rattle.schema_fold.specs.FaultView.{repeat_breach}
 use Rattle.schema_fold.specs.BuildErrors as breach
-use Rattle.schema_fold.specs.BuildErrors.{Breach, Fault}
+use Rattle.schema_fold.specs.BuildErrors.{Breach, BuildFault}
 use Rattle.schema_fold.specs.declared.build_error.Repeat.{Repeat}
 use Rattle.schema_fold.specs.declared.build_error.Repeat.TheVariants as repeat
 use Rattle.schema_fold.proofs.OfKind.{folded_of_kind}
@@ -43,25 +43,25 @@ abbrev Input : Type 0
 Input = Given Place (Placed Place (InputValueTree Place))
 
 -- what is told of a second one of a name
-abbrev note : {A : Type 0} → Repeat → List ℕ → (Given Place A → List ℕ) → (A → Place) → Given Place A → Fault
+abbrev note : {A : Type 0} → Repeat → List ℕ → (Given Place A → List ℕ) → (A → Place) → Given Place A → BuildFault
 note r name key place g = record { place = place g.it; breach = repeat_breach r name (key g) }
 
 -- it is told of a second name, field, value or input field
 module _ (r : Repeat) (name : List ℕ) where
-  abbrev OfName : List Member → Fault → Type 0
+  abbrev OfName : List Member → BuildFault → Type 0
   OfName gs f = IsTold given_name (note r name given_name (λ x. x.place)) gs f
 
-  abbrev OfField : List Field → Fault → Type 0
+  abbrev OfField : List Field → BuildFault → Type 0
   OfField gs f = IsTold field_key (note r name field_key (λ x. x.place)) gs f
 
-  abbrev OfValue : List EnumValue → Fault → Type 0
+  abbrev OfValue : List EnumValue → BuildFault → Type 0
   OfValue gs f = IsTold value_key (note r name value_key (λ x. x.place)) gs f
 
-  abbrev OfInput : List Input → Fault → Type 0
+  abbrev OfInput : List Input → BuildFault → Type 0
   OfInput gs f = IsTold input_key (note r name input_key (λ x. x.place)) gs f
 
 -- it is told of a component of the classes that the kind has
-abbrev pub ToldOf : TypeKind → List ℕ → AllComponents → Fault → Type 0
+abbrev pub ToldOf : TypeKind → List ℕ → AllComponents → BuildFault → Type 0
 ToldOf Scalar name all f = ⊥
 ToldOf Object name all f = OfName repeat.ObjectInterface name all.interfaces f ⊎ OfField repeat.ObjectField name all.fields f
 ToldOf Interface name all f = OfName repeat.InterfaceInterface name all.interfaces f ⊎ OfField repeat.InterfaceField name all.fields f
@@ -78,7 +78,7 @@ no_keyed key [] e = refl
 no_keyed key (x ∷ xs) e = cc
 
 -- nothing is told of nothing
-none_told : {A : Type 0} (r : Repeat) (name : List ℕ) (key : Given Place A → List ℕ) (place : A → Place) (gs : List (Given Place A)) (f : Fault) → gs ≡ [] → Contains (repeat_faults r name key place gs) f → ⊥
+none_told : {A : Type 0} (r : Repeat) (name : List ℕ) (key : Given Place A → List ℕ) (place : A → Place) (gs : List (Given Place A)) (f : BuildFault) → gs ≡ [] → Contains (repeat_faults r name key place gs) f → ⊥
 none_told r name key place gs f e h = not_in_nil f (subst (λ l. Contains (repeat_faults r name key place l) f) e h)
 
 module _ {F : Type 0} (a b c d e : List F) (f : F) where
@@ -112,20 +112,20 @@ module _ {F : Type 0} (a b c d e : List F) (f : F) where
   from_five : Contains e f → Contains (a ++ (b ++ (c ++ (d ++ e)))) f
   from_five h = Contains-append_right a (b ++ (c ++ (d ++ e))) f (Contains-append_right b (c ++ (d ++ e)) f (Contains-append_right c (d ++ e) f (Contains-append_right d e f h)))
 
-module _ (name : List ℕ) (all : AllComponents) (f : Fault) where
-  abbrev names_told : Repeat → List Fault
+module _ (name : List ℕ) (all : AllComponents) (f : BuildFault) where
+  abbrev names_told : Repeat → List BuildFault
   names_told r = repeat_faults r name given_name (λ x. x.place) all.interfaces
 
-  abbrev fields_told : Repeat → List Fault
+  abbrev fields_told : Repeat → List BuildFault
   fields_told r = repeat_faults r name field_key (λ x. x.place) all.fields
 
-  abbrev members_told : List Fault
+  abbrev members_told : List BuildFault
   members_told = repeat_faults repeat.UnionMember name given_name (λ x. x.place) all.members
 
-  abbrev values_told : List Fault
+  abbrev values_told : List BuildFault
   values_told = repeat_faults repeat.EnumValue name value_key (λ x. x.place) all.values
 
-  abbrev inputs_told : List Fault
+  abbrev inputs_told : List BuildFault
   inputs_told = repeat_faults repeat.InputField name input_key (λ x. x.place) all.inputs
 
   no_names : (r : Repeat) → firsts given_name all.interfaces ≡ [] → Contains (names_told r) f → ⊥
@@ -263,7 +263,7 @@ of_kind list ds t h =
     by d None e k = absurd (not_in_nil t k)
     by d (Some u) e k = folded_of_kind list d t (e ∙ ap Some (sym (only u t k)))
 
-module _ (built_in texts : Definitions) (first : ℕ) (f : Fault) where
+module _ (built_in texts : Definitions) (first : ℕ) (f : BuildFault) where
   abbrev all : Definitions
   all = built_in ++ texts
 
@@ -329,7 +329,7 @@ module _ (built_in texts : Definitions) (first : ℕ) (f : Fault) where
 
   -- ---- variant by variant
 
-  abbrev Named : Fault → Type 0
+  abbrev Named : BuildFault → Type 0
   Named z = ComponentRule built_in texts first z.breach z
 
   named_sound : FailsInType built_in texts first f → Named f

@@ -8,7 +8,7 @@ use Rattle.schema_fold.specs.in_schema_types.SchemaTree.{SchemaType}
 use Rattle.schema_fold.specs.in_schema_types.TypeParts.{TypeDefinition}
 use Rattle.schema_fold.specs.Listed.{Listed, type_name}
 use Rattle.schema_fold.specs.Fold.{folded_type}
-use Rattle.schema_fold.specs.BuildErrors.{Fault}
+use Rattle.schema_fold.specs.BuildErrors.{BuildFault}
 use Rattle.schema_fold_types.specs.TypeFaults.{faults_of_type}
 
 -- ---- types with the extensions under their names
@@ -20,10 +20,10 @@ module _ (extensions : List ℕ → List Listed) where
   abbrev pub types_by : List (TypeDefinition Place) → Entries (SchemaType Place)
   types_by ts = map (λ t. (type_name t, type_by t)) (firsts type_name ts)
 
-  abbrev pub faults_by : List (TypeDefinition Place) → List Fault
+  abbrev pub faults_by : List (TypeDefinition Place) → List BuildFault
   faults_by ts = flat_map (λ t. faults_of_type (extensions (type_name t)) t) (firsts type_name ts)
 
   -- where types and faults were those of some definitions, they now are those of these too
-  abbrev pub FoldsOn : List (TypeDefinition Place) → Entries (SchemaType Place) → List Fault → Entries (SchemaType Place) → List Fault → Type 0
-  FoldsOn more types faults types' faults' = (before : List (TypeDefinition Place)) (start : List Fault) → types ≡ types_by before → faults ≡ start ++ faults_by before
+  abbrev pub FoldsOn : List (TypeDefinition Place) → Entries (SchemaType Place) → List BuildFault → Entries (SchemaType Place) → List BuildFault → Type 0
+  FoldsOn more types faults types' faults' = (before : List (TypeDefinition Place)) (start : List BuildFault) → types ≡ types_by before → faults ≡ start ++ faults_by before
       → (types' ≡ types_by (before ++ more)) × (faults' ≡ start ++ faults_by (before ++ more))

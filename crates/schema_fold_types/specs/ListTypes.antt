@@ -8,7 +8,7 @@ use Rattle.schema_fold.specs.in_schema_types.SchemaTree.{SchemaType}
 use Rattle.schema_fold.specs.in_schema_types.TypeParts.{TypeDefinition, type_extension_here}
 use Rattle.schema_fold.specs.Listed.{Definitions, Listed, numbered, type_name, types_in, definitions_of}
 use Rattle.schema_fold.specs.Fold.{folded_type, folded_types}
-use Rattle.schema_fold.specs.BuildErrors.{Fault}
+use Rattle.schema_fold.specs.BuildErrors.{BuildFault}
 use Rattle.schema_fold_types.specs.TypeFaults.{faults_of_type, FailsInType}
 
 -- these extend no type
@@ -25,7 +25,7 @@ module _ (built_in texts : List Listed) where
   types_from = map (λ t. (type_name t, folded_type texts t)) first_types
 
   -- what their folds tell: `faults_of_types` of a list with its numbers
-  abbrev pub faults_from : List Fault
+  abbrev pub faults_from : List BuildFault
   faults_from = flat_map (faults_of_type texts) first_types
 
   -- where the list is that of some definitions with their numbers, these are the types that they fold to
@@ -33,6 +33,6 @@ module _ (built_in texts : List Listed) where
   FoldsTypes types = ExtendsNone built_in → (first : ℕ) (ds : Definitions) → built_in ++ texts ≡ numbered first ds → types ≡ folded_types first ds
 
   -- the faults that are told more are those of the components of the list's types
-  abbrev pub TellsTypes : List Fault → List Fault → Type 0
+  abbrev pub TellsTypes : List BuildFault → List BuildFault → Type 0
   TellsTypes old new = ExtendsNone built_in → (first : ℕ) (before after : Definitions) → built_in ++ texts ≡ numbered first (before ++ after)
-      → (f : Fault) → Contains new f ↔ (Contains old f ⊎ FailsInType before after first f)
+      → (f : BuildFault) → Contains new f ↔ (Contains old f ⊎ FailsInType before after first f)

@@ -1,10 +1,10 @@
 -- Private: leads to `Fails` of `schema_fold`. The folding rules that are judged by what stands at a position of the list, together (GraphQL, October 2021, section 3).
 use Rattle.std.specs.Prelude.{◌↔◌, ◌⊎◌, List, Contains}
 use Rattle.schema_fold.specs.Listed.{Definitions}
-use Rattle.schema_fold.specs.BuildErrors.{Fault, Somewhere, ExecutableDefinitionAt, SchemaDefinitionCollisionAt, TypeDefinitionCollisionAt, BuiltInScalarTypeRedefinitionAt, OrphanSchemaExtensionAt, OrphanTypeExtensionAt, TypeExtensionKindMismatchAt}
+use Rattle.schema_fold.specs.BuildErrors.{BuildFault, Somewhere, ExecutableDefinitionAt, SchemaDefinitionCollisionAt, TypeDefinitionCollisionAt, BuiltInScalarTypeRedefinitionAt, OrphanSchemaExtensionAt, OrphanTypeExtensionAt, TypeExtensionKindMismatchAt}
 
 -- one of these rules is broken so at some position of the texts
-pub data Misplaced (built_in texts : Definitions) (fault : Fault) : Type 0 where
+pub data Misplaced (built_in texts : Definitions) (fault : BuildFault) : Type 0 where
   executable_definition : Somewhere built_in texts ExecutableDefinitionAt fault → Misplaced built_in texts fault
   schema_definition_collision : Somewhere built_in texts SchemaDefinitionCollisionAt fault → Misplaced built_in texts fault
   type_definition_collision : Somewhere built_in texts (TypeDefinitionCollisionAt built_in texts) fault → Misplaced built_in texts fault
@@ -14,5 +14,5 @@ pub data Misplaced (built_in texts : Definitions) (fault : Fault) : Type 0 where
   type_extension_kind_mismatch : Somewhere built_in texts (TypeExtensionKindMismatchAt built_in texts) fault → Misplaced built_in texts fault
 
 -- the faults that are told more are those that break one of these rules
-abbrev pub TellsMisplaced : Definitions → Definitions → List Fault → List Fault → Type 0
-TellsMisplaced built_in texts old new = (f : Fault) → Contains new f ↔ (Contains old f ⊎ Misplaced built_in texts f)
+abbrev pub TellsMisplaced : Definitions → Definitions → List BuildFault → List BuildFault → Type 0
+TellsMisplaced built_in texts old new = (f : BuildFault) → Contains new f ↔ (Contains old f ⊎ Misplaced built_in texts f)

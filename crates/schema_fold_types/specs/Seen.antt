@@ -18,7 +18,7 @@ use Rattle.schema_fold.specs.in_schema_types.declared.type_kind.TypeKind.{TypeKi
 use Rattle.schema_fold.specs.in_schema_types.declared.type_kind.TypeKind.TheVariants.{Scalar, Object}
 use Rattle.schema_fold.specs.Listed.{Definitions, type_name, types_in}
 use Rattle.schema_fold.specs.SchemaFold.{schema_here, schema_extension_here, schema_definition_in}
-use Rattle.schema_fold.specs.BuildErrors.{Breach, Fault, At, ExecutableDefinition, SchemaDefinitionCollision, TypeDefinitionCollision, BuiltInScalarTypeRedefinition, OrphanSchemaExtension, OrphanTypeExtension, TypeExtensionKindMismatch}
+use Rattle.schema_fold.specs.BuildErrors.{Breach, BuildFault, At, ExecutableDefinition, SchemaDefinitionCollision, TypeDefinitionCollision, BuiltInScalarTypeRedefinition, OrphanSchemaExtension, OrphanTypeExtension, TypeExtensionKindMismatch}
 
 -- ---- what is defined
 
@@ -110,10 +110,10 @@ orphan_schema_told schema_is_defined d = told_where (is_some (schema_extension_h
 
 -- ---- the faults
 
-abbrev pub faults_at : DefinitionTree Place → Option Breach → List Fault
+abbrev pub faults_at : DefinitionTree Place → Option Breach → List BuildFault
 faults_at d told = map (At d) (option_to_list told)
 
-abbrev pub faults_where : Place → Option Breach → List Fault
+abbrev pub faults_where : Place → Option Breach → List BuildFault
 faults_where place told = map (λ breach. record { place = place; breach = breach }) (option_to_list told)
 
 module _ (built_in : Seen) (defined : List ℕ → Bool) where
@@ -122,33 +122,33 @@ module _ (built_in : Seen) (defined : List ℕ → Bool) where
   repeat_told n = told_where ((is_some (kind_in built_in n) || defined n) && not (is_scalar_in built_in n)) (TypeDefinitionCollision n)
 
   -- the faults of a type that is defined at that place, by its name
-  abbrev pub type_faults : Place → List ℕ → List Fault
+  abbrev pub type_faults : Place → List ℕ → List BuildFault
   type_faults place n = faults_where place (repeat_told n) ++ faults_where place (redefinition_told built_in n)
 
 -- the faults of a definition, where types of these names stand before it, and a schema definition or none
-abbrev pub faults_behind : Seen → Bool → (List ℕ → Bool) → DefinitionTree Place → List Fault
+abbrev pub faults_behind : Seen → Bool → (List ℕ → Bool) → DefinitionTree Place → List BuildFault
 faults_behind built_in schema defined d =
     faults_at d (executable_told d) ++ (faults_at d (told_where (schema && is_some (schema_here d)) SchemaDefinitionCollision)
     ++ (faults_at d (option_map_or (λ t. repeat_told built_in defined (type_name t)) (type_here d) None) ++ faults_at d (scalar_redefinition_told built_in d)))
 
 module _ (built_in own : Seen) where
   -- those of one that is extended there
-  abbrev pub type_extension_faults : Place → List ℕ → TypeKind → List Fault
+  abbrev pub type_extension_faults : Place → List ℕ → TypeKind → List BuildFault
   type_extension_faults place n kind = faults_where place (orphan_told built_in own n) ++ faults_where place (mismatch_told built_in own n kind)
 
   -- the faults of a definition, where these are seen before it
-  abbrev pub definition_faults : DefinitionTree Place → List Fault
+  abbrev pub definition_faults : DefinitionTree Place → List BuildFault
   definition_faults d =
       faults_at d (executable_told d) ++ (faults_at d (schema_told own d)
       ++ (faults_at d (type_collision_told built_in own d) ++ faults_at d (scalar_redefinition_told built_in d)))
 
   -- the faults of an extension, where these are seen in the whole list
-  abbrev pub extension_faults : DefinitionTree Place → List Fault
+  abbrev pub extension_faults : DefinitionTree Place → List BuildFault
   extension_faults d = faults_at d (orphan_schema_told (schema_seen built_in own) d) ++ (faults_at d (orphan_type_told built_in own d) ++ faults_at d (kind_mismatch_told built_in own d))
 
 -- the faults of all definitions by position, and then those of all extensions
-abbrev pub collision_faults : Seen → Definitions → List Fault
+abbrev pub collision_faults : Seen → Definitions → List BuildFault
 collision_faults built_in texts = each_place (λ before d. definition_faults built_in (seen_of before) d) texts
 
-abbrev pub misplaced_faults : Definitions → Definitions → List Fault
+abbrev pub misplaced_faults : Definitions → Definitions → List BuildFault
 misplaced_faults built_in texts = collision_faults (seen_of built_in) texts ++ flat_map (extension_faults (seen_of built_in) (seen_of texts)) texts

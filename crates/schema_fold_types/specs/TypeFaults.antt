@@ -9,18 +9,18 @@ use Rattle.schema_fold.specs.Components.{parts_of}
 use Rattle.schema_fold.specs.Collected.{collected_from}
 use Rattle.schema_fold.specs.Kept.{component_faults}
 use Rattle.schema_fold.specs.BuildErrors as breach
-use Rattle.schema_fold.specs.BuildErrors.{Breach, Fault, DuplicateImplementsInterfaceInObjectIn, DuplicateImplementsInterfaceInInterfaceIn, ObjectFieldNameCollisionIn, InterfaceFieldNameCollisionIn, EnumValueNameCollisionIn, UnionMemberNameCollisionIn, InputFieldNameCollisionIn}
+use Rattle.schema_fold.specs.BuildErrors.{Breach, BuildFault, DuplicateImplementsInterfaceInObjectIn, DuplicateImplementsInterfaceInInterfaceIn, ObjectFieldNameCollisionIn, InterfaceFieldNameCollisionIn, EnumValueNameCollisionIn, UnionMemberNameCollisionIn, InputFieldNameCollisionIn}
 
 -- what the fold of a type tells
-abbrev pub faults_of_type : List Listed → TypeDefinition Place → List Fault
+abbrev pub faults_of_type : List Listed → TypeDefinition Place → List BuildFault
 faults_of_type list t = component_faults t.parts.kind t.parts.name.it (collected_from (parts_of list t))
 
 -- what the folds of all types tell
-abbrev pub faults_of_types : ℕ → Definitions → List Fault
+abbrev pub faults_of_types : ℕ → Definitions → List BuildFault
 faults_of_types first ds = flat_map (faults_of_type (numbered first ds)) (firsts type_name (types_in ds))
 
 -- a rule on the components of a type is broken so
-pub data FailsInType (built_in texts : Definitions) (first : ℕ) (fault : Fault) : Type 0 where
+pub data FailsInType (built_in texts : Definitions) (first : ℕ) (fault : BuildFault) : Type 0 where
   duplicate_implements_interface_in_object : DuplicateImplementsInterfaceInObjectIn built_in texts first fault → FailsInType built_in texts first fault
   duplicate_implements_interface_in_interface : DuplicateImplementsInterfaceInInterfaceIn built_in texts first fault → FailsInType built_in texts first fault
   object_field_name_collision : ObjectFieldNameCollisionIn built_in texts first fault → FailsInType built_in texts first fault
@@ -30,7 +30,7 @@ pub data FailsInType (built_in texts : Definitions) (first : ℕ) (fault : Fault
   input_field_name_collision : InputFieldNameCollisionIn built_in texts first fault → FailsInType built_in texts first fault
 
 -- the rule that a breach names, where it is one on the components of a type
-abbrev pub ComponentRule : Definitions → Definitions → ℕ → Breach → Fault → Type 0
+abbrev pub ComponentRule : Definitions → Definitions → ℕ → Breach → BuildFault → Type 0
 ComponentRule built_in texts first (breach.DuplicateImplementsInterfaceInObject t n) fault = DuplicateImplementsInterfaceInObjectIn built_in texts first fault
 ComponentRule built_in texts first (breach.DuplicateImplementsInterfaceInInterface t n) fault = DuplicateImplementsInterfaceInInterfaceIn built_in texts first fault
 ComponentRule built_in texts first (breach.ObjectFieldNameCollision t n) fault = ObjectFieldNameCollisionIn built_in texts first fault

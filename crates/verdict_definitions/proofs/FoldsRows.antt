@@ -6,7 +6,7 @@ use Rattle.schema_built_in.specs.Table.{built_in_definitions}
 use Rattle.tree_definitions.specs.DefinitionTree.{DefinitionTree}
 use Rattle.graphql_read.specs.in_grammar.Places.{place_in}
 use Rattle.schema_fold.specs.BuildErrors as rule
-use Rattle.schema_fold.specs.BuildErrors.{Fault, Fails, Breach, RepeatedIn}
+use Rattle.schema_fold.specs.BuildErrors.{BuildFault, Fails, Breach, RepeatedIn}
 use Rattle.schema_fold.specs.Components.{components, field_key, value_key, input_key}
 use Rattle.schema_fold.specs.Listed.{Definitions, numbered, type_name, types_in}
 use Rattle.schema_fold.specs.SchemaFold.{root_key, roots_given}
@@ -46,7 +46,7 @@ is_among_repeats name xs x (before, (y, (at, (same, repeated)))) =
     given_at (λ b z. if has_name name (name z) b then z ∷ [] else []) xs x
     (before, (y, (at, subst (λ c. Contains (if c then y ∷ [] else []) x) (sym (ap (λ z. has_name name (name z) before) same ∙ repeated)) (is_only y x (sym same)))))
 
-module _ (built_in texts : Definitions) (first : ℕ) (fault : Fault) where
+module _ (built_in texts : Definitions) (first : ℕ) (fault : BuildFault) where
   -- where no type repeats a component, the rule is not broken
   none_repeated : {A : Type 0} (k : TypeKind) (of : TypeParts Place → List A) (key : Given Place A → List ℕ) (place : A → Place) (breach : List ℕ → List ℕ → Breach)
       → flat_map (λ t. repeats key (components of (numbered first (built_in ++ texts)) t)) (firsts type_name (types_in (built_in ++ texts))) ≡ []

@@ -43,7 +43,7 @@ operation_reads : ReadsText 1 operation (operation_tree ∷ [])
 unfolding reader
 operation_reads = reads 500 1 operation (operation_tree ∷ []) refl
 
-abbrev operation_fault : folding.Fault
+abbrev operation_fault : folding.BuildFault
 operation_fault = record { place = place_in 1 0 5; breach = folding.ExecutableDefinition }
 
 operation_fails : FoldingFails terms ((operation_tree ∷ []) ∷ []) operation_fault
@@ -70,7 +70,7 @@ scalar_int_reads : ReadsText 1 scalar_int scalar_int_tree
 unfolding reader
 scalar_int_reads = reads 500 1 scalar_int scalar_int_tree refl
 
-abbrev scalar_int_fault : folding.Fault
+abbrev scalar_int_fault : folding.BuildFault
 scalar_int_fault = record { place = place_in 1 0 10; breach = folding.BuiltInScalarTypeRedefinition (codes "Int") }
 
 scalar_int_fails : FoldingFails terms (scalar_int_tree ∷ []) scalar_int_fault
@@ -95,7 +95,7 @@ twice_reads : ReadsText 1 twice twice_tree
 unfolding reader
 twice_reads = reads 500 1 twice twice_tree refl
 
-abbrev twice_fault : folding.Fault
+abbrev twice_fault : folding.BuildFault
 twice_fault = record { place = place_in 1 20 26; breach = folding.ObjectFieldNameCollision (codes "Query") (codes "a") }
 
 -- `Query` is the fourteenth type, behind thirteen built-in ones

@@ -51,7 +51,7 @@ module _ (terms : Terms) (schema document : SourceText) (tree : Tree) (read_sche
   extension_refused none accepted = none (subst (λ (ts : List Tree). HaveNumbers terms.first_extension (all_definitions ts)) (trees_are accepted) accepted.schema.numbered)
 
   -- a folding rule is broken
-  pub folding_refused : (fault : folding.Fault) → FoldingFails terms (tree ∷ []) fault → IsAccepted terms (schema ∷ []) document → ⊥
+  pub folding_refused : (fault : folding.BuildFault) → FoldingFails terms (tree ∷ []) fault → IsAccepted terms (schema ∷ []) document → ⊥
   folding_refused fault fails accepted = subst (λ (ts : List Tree). Folds terms ts) (trees_are accepted) accepted.schema.judged.folds fault fails
 
   -- a rule on schemas is broken

@@ -20,7 +20,7 @@ use Rattle.verdict_definitions.proofs.TextRows.{query_field, query_field_tree, q
 
 -- ---- S `type Query { a: Int } extend type T { a: Int }`: `OrphanTypeExtension` at 1:22
 
-abbrev orphan_fault : folding.Fault
+abbrev orphan_fault : folding.BuildFault
 orphan_fault = record { place = place_in 1 22 46; breach = folding.OrphanTypeExtension (codes "T") }
 
 orphan_fails : FoldingFails terms ((orphan_query ∷ orphan_extension ∷ []) ∷ []) orphan_fault

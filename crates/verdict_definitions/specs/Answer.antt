@@ -34,7 +34,7 @@ pub record RefusesSchemas (terms : Terms) (schemas : List SourceText) (faults : 
   pub says : AllSay (SaysSchema terms schemas) faults
   pub alone : UnreadFaults terms.nesting terms.first_text schemas faults ⊎ AreRead terms.nesting terms.first_text schemas
   pub full : AreWithin terms.nesting terms.first_text schemas → (trees : List Tree) → ReadsAll terms.first_text schemas trees
-      → (faults ≡ spent ∷ []) ⊎ ((fault : folding.Fault) → FoldingFails terms trees fault → Contains faults (of_folding fault))
+      → (faults ≡ spent ∷ []) ⊎ ((fault : folding.BuildFault) → FoldingFails terms trees fault → Contains faults (of_folding fault))
 
 -- this is all that is said of the document: that it is unread
 abbrev pub UnreadAlone : ℕ → ℕ → SourceText → List AnyFault → Type 0

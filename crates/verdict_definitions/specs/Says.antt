@@ -25,7 +25,7 @@ abbrev pub AnyFault : Type 0
 AnyFault = DetailsAt Place (List Place)
 
 -- what breaks a rule of folding, of typing or of documents, among all that can be wrong
-abbrev pub of_folding : folding.Fault → AnyFault
+abbrev pub of_folding : folding.BuildFault → AnyFault
 of_folding f = record { place = f.place; details = SchemaBuild f.breach }
 
 abbrev pub of_typing : typing.TypingFault Place → AnyFault
@@ -77,7 +77,7 @@ UnreadFaultFrom nesting first (text ∷ texts) fault = UnreadFault nesting first
 
 module _ (terms : Terms) (trees : List Tree) where
   -- a folding rule is broken so
-  abbrev pub FoldingFails : folding.Fault → Type 0
+  abbrev pub FoldingFails : folding.BuildFault → Type 0
   FoldingFails fault = Fails built_in_definitions terms.first_extension (all_definitions trees) fault
 
   -- a rule on schemas is broken so, or the bound on references is passed
@@ -88,7 +88,7 @@ module _ (terms : Terms) (trees : List Tree) where
   abbrev pub SchemaFails : AnyFault → Type 0
   SchemaFails fault =
       ((fault ≡ spent) × (HaveNumbers terms.first_extension (all_definitions trees) → ⊥))
-      ⊎ (((f : folding.Fault) × ((fault ≡ of_folding f) × FoldingFails f))
+      ⊎ (((f : folding.BuildFault) × ((fault ≡ of_folding f) × FoldingFails f))
       ⊎ ((f : PlacedFault) × ((fault ≡ of_rule f) × SchemaRuleFails f)))
 
 -- ---- a document of which a rule is broken

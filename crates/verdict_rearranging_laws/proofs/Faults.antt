@@ -23,7 +23,7 @@ use Rattle.schema_fold.specs.Listed.{Definitions, numbered, type_name, types_in,
 use Rattle.schema_fold.specs.Components.{components, field_key, value_key, input_key}
 use Rattle.schema_fold.specs.SchemaFold.{Root, schema_definition_in, schema_is_defined, roots_given, root_key}
 use Rattle.schema_fold.specs.BuildErrors as rule
-use Rattle.schema_fold.specs.BuildErrors.{Breach, Fault, Fails, RepeatedIn, At, is_built_in_scalar}
+use Rattle.schema_fold.specs.BuildErrors.{Breach, BuildFault, Fails, RepeatedIn, At, is_built_in_scalar}
 use Rattle.rule_definitions.proofs.Lookups.{find_given}
 use Rattle.verdict_rearranging_laws.specs.Rearranged.{defines_type, extends_type, defines_directive, defines_schema, extends_schema, AgreeOn, IsRearranged}
 use Rattle.verdict_rearranging_laws.specs.Folding.{RearrangedFailAlike, RearrangedKeepTheRules}
@@ -34,11 +34,11 @@ use Rattle.verdict_rearranging_laws.proofs.Rearranged.{turned, agree_behind, rea
 use Rattle.verdict_rearranging_laws.proofs.Moved.{Placed_so, moved, repeated, has_name-filter, first_named}
 
 -- what is told there, as here
-abbrev ToldToo : (Fault → Type 0) → Fault → Type 0
-ToldToo Fails' fault = (other : Fault) × (Fails' other × (other.breach ≡ fault.breach))
+abbrev ToldToo : (BuildFault → Type 0) → BuildFault → Type 0
+ToldToo Fails' fault = (other : BuildFault) × (Fails' other × (other.breach ≡ fault.breach))
 
-told_of : {fault other : Fault} → fault ≡ other → other.breach ≡ fault.breach
-told_of same = sym (ap (λ (f : Fault). f.breach) same)
+told_of : {fault other : BuildFault} → fault ≡ other → other.breach ≡ fault.breach
+told_of same = sym (ap (λ (f : BuildFault). f.breach) same)
 
 some_of : {A B : Type 0} (f : A → B) (o : Option A) (b : B) → option_map f o ≡ Some b → (a : A) × ((o ≡ Some a) × (f a ≡ b))
 some_of f None b e = cc
@@ -73,7 +73,7 @@ first_too : (gs hs : Definitions) → AgreeOn defines_schema gs hs → is_some (
 first_too gs hs agree = some_first told (schemas_in gs) ∙ ap (λ l. is_some (slice_get l 0)) (schemas_agree gs hs agree) ∙ sym (some_first told (schemas_in hs))
 
 module _ (built_in : Definitions) (i j : ℕ) (ds es : Definitions) (r : IsRearranged ds es) where
-  abbrev There : Fault → Type 0
+  abbrev There : BuildFault → Type 0
   There = Fails built_in j es
 
   all : IsRearranged (built_in ++ ds) (built_in ++ es)
@@ -86,18 +86,18 @@ module _ (built_in : Definitions) (i j : ℕ) (ds es : Definitions) (r : IsRearr
   to_there : (sort : DefinitionTree Place → Bool) → AgreeOn sort ds es → (before : Definitions) (d : DefinitionTree Place) → StandsAfter ds before d → sort d ≡ true → Moved sort before d
   to_there sort agree before d stands is = moved unplaced_definition sort ds es agree before d stands is
 
-  executable_too : (fault : Fault) → rule.Somewhere built_in ds rule.ExecutableDefinitionAt fault → ToldToo There fault
+  executable_too : (fault : BuildFault) → rule.Somewhere built_in ds rule.ExecutableDefinitionAt fault → ToldToo There fault
   executable_too fault (before, (d, ((after, stands), (is, says)))) =
       let any : list_any is_executable ds ≡ true = ap (list_any is_executable) stands ∙ list_any-append is_executable before (d ∷ after) ∙ ap (λ b. list_any is_executable before || (b || list_any is_executable after)) is ∙ or_true (list_any is_executable before) in
       let (front, (e, (stands', is'))) = any_stands is_executable es (sym r.executables ∙ any) in
       (At e rule.ExecutableDefinition, (rule.executable_definition (front, (e, (stands', (is', refl)))), told_of says))
 
-  schema_too : (fault : Fault) → rule.Somewhere built_in ds rule.SchemaDefinitionCollisionAt fault → ToldToo There fault
+  schema_too : (fault : BuildFault) → rule.Somewhere built_in ds rule.SchemaDefinitionCollisionAt fault → ToldToo There fault
   schema_too fault (before, (d, (stands, (is, seen, says)))) =
       let p = to_there defines_schema r.schemas before d stands is in
       (At p.it rule.SchemaDefinitionCollision, (rule.schema_definition_collision (p.front, (p.it, (p.stands, (p.sorted, first_too p.front before p.front_same ∙ seen, refl)))), told_of says))
 
-  directive_too : (fault : Fault) → rule.Somewhere built_in ds rule.DirectiveDefinitionCollisionAt fault → ToldToo There fault
+  directive_too : (fault : BuildFault) → rule.Somewhere built_in ds rule.DirectiveDefinitionCollisionAt fault → ToldToo There fault
   directive_too fault (before, (d, (stands, (own, (here, seen, told))))) =
       let n = directive_name own in
       let p = to_there (defines_directive n) (r.directives n) before d stands (ap (λ o. option_map_or (λ x. bytes_eq n (directive_name x)) o false) here ∙ (bytes_eq-Decides n n).1 refl) in
@@ -123,13 +123,13 @@ module _ (built_in : Definitions) (i j : ℕ) (ds es : Definitions) (r : IsRearr
       ∙ sym (has_name-filter type_name unplaced_type_definition n (types_in (built_in ++ before))) ∙ seen in
       (p.front, (p.it, (u, (p.stands, ((here', seen'), names)))))
 
-  type_too : (fault : Fault) → rule.Somewhere built_in ds (rule.TypeDefinitionCollisionAt built_in ds) fault → ToldToo There fault
+  type_too : (fault : BuildFault) → rule.Somewhere built_in ds (rule.TypeDefinitionCollisionAt built_in ds) fault → ToldToo There fault
   type_too fault (before, (d, (stands, (t, (second, scalar, told))))) =
       let (front, (e, (u, (stands', (second', names))))) = type_moved before d t stands second in
       let fails : There (At e (rule.TypeDefinitionCollision (type_name u))) = rule.type_definition_collision (front, (e, (stands', (u, (second', ap (is_built_in_scalar built_in ds) names ∙ scalar, refl))))) in
       (At e (rule.TypeDefinitionCollision (type_name u)), (fails, ap rule.TypeDefinitionCollision names ∙ told_of told))
 
-  scalar_too : (fault : Fault) → rule.Somewhere built_in ds (rule.BuiltInScalarTypeRedefinitionAt built_in ds) fault → ToldToo There fault
+  scalar_too : (fault : BuildFault) → rule.Somewhere built_in ds (rule.BuiltInScalarTypeRedefinitionAt built_in ds) fault → ToldToo There fault
   scalar_too fault (before, (d, (stands, (t, (second, scalar, told))))) =
       let (front, (e, (u, (stands', (second', names))))) = type_moved before d t stands second in
       let fails : There (At e (rule.BuiltInScalarTypeRedefinition (type_name u))) = rule.built_in_scalar_type_redefinition (front, (e, (stands', (u, (second', ap (is_built_in_scalar built_in ds) names ∙ scalar, refl))))) in
@@ -146,7 +146,7 @@ module _ (built_in : Definitions) (i j : ℕ) (ds es : Definitions) (r : IsRearr
   schema_defined : schema_is_defined (built_in ++ ds) ≡ schema_is_defined (built_in ++ es)
   schema_defined = defined i j (built_in ++ ds) (built_in ++ es) types (schemas_same (built_in ++ ds) (built_in ++ es) all) (schema_extensions_same (built_in ++ ds) (built_in ++ es) all)
 
-  schema_extension_too : (fault : Fault) → rule.Somewhere built_in ds (rule.OrphanSchemaExtensionAt built_in ds) fault → ToldToo There fault
+  schema_extension_too : (fault : BuildFault) → rule.Somewhere built_in ds (rule.OrphanSchemaExtensionAt built_in ds) fault → ToldToo There fault
   schema_extension_too fault (before, (d, (stands, (is, none, told)))) =
       let p = to_there extends_schema r.schema_extensions before d stands is in
       (At p.it rule.OrphanSchemaExtension, (rule.orphan_schema_extension (p.front, (p.it, (p.stands, (p.sorted, sym schema_defined ∙ none, refl)))), told_of told))
@@ -160,7 +160,7 @@ module _ (built_in : Definitions) (i j : ℕ) (ds es : Definitions) (r : IsRearr
       let (e', (here', same)) = given_too type_extension_here type_extension_here unplaced_parts type_extension_unplaced d p.it p.same e here in
       (p.front, (p.it, (e', (p.stands, (here', same)))))
 
-  orphan_too : (fault : Fault) → rule.Somewhere built_in ds (rule.OrphanTypeExtensionAt built_in ds) fault → ToldToo There fault
+  orphan_too : (fault : BuildFault) → rule.Somewhere built_in ds (rule.OrphanTypeExtensionAt built_in ds) fault → ToldToo There fault
   orphan_too fault (before, (d, (stands, (e, (here, none, told))))) =
       let (front, (d', (e', (stands', (here', same))))) = extension_moved before d e stands here in
       let names : e'.name.it ≡ e.name.it = ap (λ (x : TypeParts (Unit {0})). x.name.it) same in
@@ -169,7 +169,7 @@ module _ (built_in : Definitions) (i j : ℕ) (ds es : Definitions) (r : IsRearr
       let fails : There (At d' (rule.OrphanTypeExtension e'.name.it)) = rule.orphan_type_extension (front, (d', (stands', (e', (here', none', refl))))) in
       (At d' (rule.OrphanTypeExtension e'.name.it), (fails, ap rule.OrphanTypeExtension names ∙ told_of told))
 
-  mismatch_too : (fault : Fault) → rule.Somewhere built_in ds (rule.TypeExtensionKindMismatchAt built_in ds) fault → ToldToo There fault
+  mismatch_too : (fault : BuildFault) → rule.Somewhere built_in ds (rule.TypeExtensionKindMismatchAt built_in ds) fault → ToldToo There fault
   mismatch_too fault (before, (d, (stands, (e, (t, (here, is, differ, told)))))) =
       let (front, (d', (e', (stands', (here', same))))) = extension_moved before d e stands here in
       let names : e'.name.it ≡ e.name.it = ap (λ (x : TypeParts (Unit {0})). x.name.it) same in
@@ -181,7 +181,7 @@ module _ (built_in : Definitions) (i j : ℕ) (ds es : Definitions) (r : IsRearr
 
   -- ---- components
 
-  root_too : (fault : Fault) → rule.DuplicateRootOperationIn built_in ds i fault → ToldToo There fault
+  root_too : (fault : BuildFault) → rule.DuplicateRootOperationIn built_in ds i fault → ToldToo There fault
   root_too fault (g, (again, told)) =
       let all_roots = roots i j (built_in ++ ds) (built_in ++ es) types (schemas_same (built_in ++ ds) (built_in ++ es) all) (schema_extensions_same (built_in ++ ds) (built_in ++ es) all) in
       let (h, (again', same)) = repeated (λ (x : Given Place Root). unplaced_root x.it.it) root_key (λ (x : RootOperationTree (Unit {0})). operation_keyword x.operation_type) (λ x. refl)
@@ -192,7 +192,7 @@ module _ (built_in : Definitions) (i j : ℕ) (ds es : Definitions) (r : IsRearr
   -- in one class of components
   module _ {A B : Type 0} (of : TypeParts Place → List A) (key : Given Place A → List ℕ) (view : Given Place A → B) (view' : A → B) (seen : (g : Given Place A) → view g ≡ view' g.it)
       (of' : TypeParts (Unit {0}) → List B) (agree : (p : TypeParts Place) → map view' (of p) ≡ of' (unplaced_parts p)) (name : B → List ℕ) (names : (g : Given Place A) → key g ≡ name (view g)) where
-    component_too : (k : TypeKind) (place : A → Place) (breach : List ℕ → List ℕ → Breach) (fault : Fault) → RepeatedIn built_in ds k of key place breach i fault → ToldToo (RepeatedIn built_in es k of key place breach j) fault
+    component_too : (k : TypeKind) (place : A → Place) (breach : List ℕ → List ℕ → Breach) (fault : BuildFault) → RepeatedIn built_in ds k of key place breach i fault → ToldToo (RepeatedIn built_in es k of key place breach j) fault
     component_too k place breach fault (t, (g, (there, same, again, told))) =
         let n = type_name t in
         let (u, (is, same_type)) = some_of unplaced_type_definition (type_named n (built_in ++ es)) (unplaced_type_definition t)
@@ -207,34 +207,34 @@ module _ (built_in : Definitions) (i j : ℕ) (ds es : Definitions) (r : IsRearr
         let there' = (find_given (λ x. bytes_eq n (type_name x)) (firsts type_name (types_in (built_in ++ es))) u (find-firsts type_name n (types_in (built_in ++ es)) ∙ is)).0 in
         let kinds : same_kind u.parts.kind k ≡ true = ap (λ (x : TypeDefinition (Unit {0})). same_kind x.parts.kind k) same_type ∙ same in
         let breaks : breach (type_name u) (key h) ≡ breach n (key g) = λ m. breach (same_name m) ((names h ∙ ap name same_view ∙ sym (names g)) m) in
-        let other : Fault = record { place = place h.it; breach = breach (type_name u) (key h) } in
+        let other : BuildFault = record { place = place h.it; breach = breach (type_name u) (key h) } in
         (other, ((u, (h, (there', kinds, again', refl {a = other}))), breaks ∙ told_of told))
 
   -- all rules
-  interfaces_too : (k : TypeKind) (place : Text Place → Place) (breach : List ℕ → List ℕ → Breach) (fault : Fault)
+  interfaces_too : (k : TypeKind) (place : Text Place → Place) (breach : List ℕ → List ℕ → Breach) (fault : BuildFault)
       → RepeatedIn built_in ds k (λ p. p.interfaces) given_name place breach i fault → ToldToo (RepeatedIn built_in es k (λ p. p.interfaces) given_name place breach j) fault
   interfaces_too = component_too (λ p. p.interfaces) given_name given_name (λ x. x.it) (λ g. refl) (λ p. map (λ x. x.it) p.interfaces) (λ p. sym (map-map (λ x. x.it) unplaced_text p.interfaces)) (λ n. n) (λ g. refl)
 
-  members_too : (k : TypeKind) (place : Text Place → Place) (breach : List ℕ → List ℕ → Breach) (fault : Fault)
+  members_too : (k : TypeKind) (place : Text Place → Place) (breach : List ℕ → List ℕ → Breach) (fault : BuildFault)
       → RepeatedIn built_in ds k (λ p. p.members) given_name place breach i fault → ToldToo (RepeatedIn built_in es k (λ p. p.members) given_name place breach j) fault
   members_too = component_too (λ p. p.members) given_name given_name (λ x. x.it) (λ g. refl) (λ p. map (λ x. x.it) p.members) (λ p. sym (map-map (λ x. x.it) unplaced_text p.members)) (λ n. n) (λ g. refl)
 
-  fields_too : (k : TypeKind) (place : Placed Place (FieldDefinitionTree Place) → Place) (breach : List ℕ → List ℕ → Breach) (fault : Fault)
+  fields_too : (k : TypeKind) (place : Placed Place (FieldDefinitionTree Place) → Place) (breach : List ℕ → List ℕ → Breach) (fault : BuildFault)
       → RepeatedIn built_in ds k (λ p. p.fields) field_key place breach i fault → ToldToo (RepeatedIn built_in es k (λ p. p.fields) field_key place breach j) fault
   fields_too = component_too (λ p. p.fields) field_key field_key (λ x. x.it.name.it) (λ g. refl) (λ p. map (λ x. x.it.name.it) p.fields) (λ p. sym (map-map (λ x. x.it.name.it) (unplaced_node unplaced_field_definition) p.fields)) (λ n. n) (λ g. refl)
 
-  values_too : (k : TypeKind) (place : Placed Place (EnumValueTree Place) → Place) (breach : List ℕ → List ℕ → Breach) (fault : Fault)
+  values_too : (k : TypeKind) (place : Placed Place (EnumValueTree Place) → Place) (breach : List ℕ → List ℕ → Breach) (fault : BuildFault)
       → RepeatedIn built_in ds k (λ p. p.values) value_key place breach i fault → ToldToo (RepeatedIn built_in es k (λ p. p.values) value_key place breach j) fault
   values_too = component_too (λ p. p.values) value_key value_key (λ x. x.it.value.it) (λ g. refl) (λ p. map (λ x. x.it.value.it) p.values) (λ p. sym (map-map (λ x. x.it.value.it) (unplaced_node unplaced_enum_value) p.values)) (λ n. n) (λ g. refl)
 
-  inputs_too : (k : TypeKind) (place : Placed Place (InputValueTree Place) → Place) (breach : List ℕ → List ℕ → Breach) (fault : Fault)
+  inputs_too : (k : TypeKind) (place : Placed Place (InputValueTree Place) → Place) (breach : List ℕ → List ℕ → Breach) (fault : BuildFault)
       → RepeatedIn built_in ds k (λ p. p.inputs) input_key place breach i fault → ToldToo (RepeatedIn built_in es k (λ p. p.inputs) input_key place breach j) fault
   inputs_too = component_too (λ p. p.inputs) input_key input_key (λ x. x.it.name.it) (λ g. refl) (λ p. map (λ x. x.it.name.it) p.inputs) (λ p. sym (map-map (λ x. x.it.name.it) (unplaced_node unplaced_input_value) p.inputs)) (λ n. n) (λ g. refl)
 
-  abbrev in_class : {F : Fault → Type 0} → ((fault : Fault) → F fault → There fault) → (fault : Fault) → ToldToo F fault → ToldToo There fault
+  abbrev in_class : {F : BuildFault → Type 0} → ((fault : BuildFault) → F fault → There fault) → (fault : BuildFault) → ToldToo F fault → ToldToo There fault
   in_class make fault (other, (fails, same)) = (other, (make other fails, same))
 
-  pub told_too : (fault : Fault) → Fails built_in i ds fault → ToldToo There fault
+  pub told_too : (fault : BuildFault) → Fails built_in i ds fault → ToldToo There fault
   told_too fault (rule.executable_definition h) = executable_too fault h
   told_too fault (rule.schema_definition_collision h) = schema_too fault h
   told_too fault (rule.directive_definition_collision h) = directive_too fault h

@@ -24,7 +24,7 @@ use Rattle.schema_fold.specs.in_schema_types.TypeParts.{TypeDefinition}
 use Rattle.schema_fold.specs.in_schema_types.Plain.{plain_roots, plain_directive_definition}
 use Rattle.schema_fold.specs.Listed.{Definitions, listed, numbered, type_named, directive_here, directive_name, directives_in}
 use Rattle.schema_fold.specs.Components.{all_given}
-use Rattle.schema_fold.specs.SchemaFold.{Root, SchemaGiver, schema_here, schema_extension_here, schema_definition_in, is_object_in, implicit_roots, schema_is_defined, schema_base, extends_schema, schema_parts, roots_given, root_key, root_in, folded_schema}
+use Rattle.schema_fold.specs.SchemaFold.{Root, SchemaGiver, schema_here, schema_extension_here, schema_definition_in, is_object_in, implicit_roots, schema_is_defined, schema_base, extends_schema, schema_parts_given, roots_given, root_key, root_in, folded_schema}
 use Rattle.schema_fold.specs.Fold.{chosen_directive, folded_directives}
 use Rattle.verdict_rearranging_laws.proofs.Gathered.{find-filter, get-of_firsts}
 use Rattle.verdict_rearranging_laws.proofs.Parts.{types_of, unplaced_type_definition, named_unplaced}
@@ -172,7 +172,7 @@ module _ (i j : ℕ) (ds es : Definitions) (types : (n : List ℕ) → types_of 
   parts_by first fs true = extended_after first [] fs
   parts_by first fs false = refl
 
-  parts : map it_of (schema_parts i ds) ≡ map it_of (schema_parts j es)
+  parts : map it_of (schema_parts_given i ds) ≡ map it_of (schema_parts_given j es)
   parts = λ k. (base k).1 ∷ (parts_by i ds (schema_is_defined ds) ∙ (λ m. if defined m then extensions m else []) ∙ sym (parts_by j es (schema_is_defined es))) k
 
   -- directives, in order
@@ -203,7 +203,7 @@ module _ (i j : ℕ) (ds es : Definitions) (types : (n : List ℕ) → types_of 
   roots_told (g ∷ gs) = map-append root_told (all_given g.extension g.it.roots) (flat_map (λ h. all_given h.extension h.it.roots) gs) ∙ (λ k. root_it g k ++ roots_told gs k)
 
   pub roots : map root_told (roots_given i ds) ≡ map root_told (roots_given j es)
-  roots = roots_told (schema_parts i ds) ∙ ap (flat_map (λ (s : SchemaParts (Unit {0})). map (λ r. r.it) s.roots)) parts ∙ sym (roots_told (schema_parts j es))
+  roots = roots_told (schema_parts_given i ds) ∙ ap (flat_map (λ (s : SchemaParts (Unit {0})). map (λ r. r.it) s.roots)) parts ∙ sym (roots_told (schema_parts_given j es))
 
   -- the first root of an operation
   abbrev name_in : OperationType → List (RootOperationTree (Unit {0})) → Option (List ℕ)
@@ -225,7 +225,7 @@ module _ (i j : ℕ) (ds es : Definitions) (types : (n : List ℕ) → types_of 
   pub definition_alike : plain_roots (folded_schema i ds) ≡ plain_roots (folded_schema j es)
   definition_alike = λ k. record {
     description = (base k).0;
-    directives = (directives_told (schema_parts i ds) ∙ ap (flat_map (λ (s : SchemaParts (Unit {0})). map (λ d. d.it) s.directives)) parts ∙ sym (directives_told (schema_parts j es))) k;
+    directives = (directives_told (schema_parts_given i ds) ∙ ap (flat_map (λ (s : SchemaParts (Unit {0})). map (λ d. d.it) s.directives)) parts ∙ sym (directives_told (schema_parts_given j es))) k;
     query = root operation.Query k;
     mutation = root operation.Mutation k;
     subscription = root operation.Subscription k;

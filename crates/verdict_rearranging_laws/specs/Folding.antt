@@ -2,7 +2,7 @@
 use Rattle.std.specs.Prelude.{◌≡◌, ℕ, ◌↔◌}
 use Rattle.schema_fold.specs.in_schema_types.Plain.{plain}
 use Rattle.schema_fold.specs.Listed.{Definitions}
-use Rattle.schema_fold.specs.BuildErrors.{Fault, Fails, FoldingRules}
+use Rattle.schema_fold.specs.BuildErrors.{BuildFault, Fails, FoldingRules}
 use Rattle.schema_fold.specs.Fold.{fold}
 use Rattle.verdict_rearranging_laws.specs.Rearranged.{IsRearranged}
 
@@ -14,7 +14,7 @@ RearrangedFoldsAlike = (built_in : Definitions) (i j : ℕ) (ds es : Definitions
 -- each way in which a folding rule is broken in one is one in the other, at some place
 abbrev pub RearrangedFailAlike : Type 0
 RearrangedFailAlike = (built_in : Definitions) (i j : ℕ) (ds es : Definitions) → IsRearranged ds es
-    → (fault : Fault) → Fails built_in i ds fault → (other : Fault) × (Fails built_in j es other × (other.breach ≡ fault.breach))
+    → (fault : BuildFault) → Fails built_in i ds fault → (other : BuildFault) × (Fails built_in j es other × (other.breach ≡ fault.breach))
 
 abbrev pub RearrangedKeepTheRules : Type 0
 RearrangedKeepTheRules = (built_in : Definitions) (i j : ℕ) (ds es : Definitions) → IsRearranged ds es

@@ -22,7 +22,7 @@ use Rattle.schema_types.specs.SchemaTree.{SchemaType, SchemaRoots}
 use Rattle.schema_types.specs.Out.{is_empty, givers, given_by, each_once, schema_parts_given_by, extensions_of_schema, is_object_named, is_implicit_root}
 use Rattle.schema_fold.specs.Listed.{Definitions, numbered}
 use Rattle.schema_fold.specs.Components.{all_given}
-use Rattle.schema_fold.specs.SchemaFold.{Root, SchemaGiver, schema_extension_here, schema_is_defined, schema_base, extends_schema, schema_parts, roots_given, root_key, root_in, folded_schema}
+use Rattle.schema_fold.specs.SchemaFold.{Root, SchemaGiver, schema_extension_here, schema_is_defined, schema_base, extends_schema, schema_parts_given, roots_given, root_key, root_in, folded_schema}
 use Rattle.verdict_written_laws.specs.Arranged.{arranged}
 use Rattle.verdict_written_laws.specs.WholeSchema.{roots_of, written_roots, whole_parts, schema_extensions_in, schema_classes, whole_base, whole_schema_extension, whole_schema, roots_in, implicit_of, left_out}
 use Rattle.verdict_written_laws.proofs.Order.{Each, Each-map, Each-arranged, filter_all, blocks, tests, firsts_arranged}
@@ -194,14 +194,14 @@ module _ (first : ℕ) (ds : Definitions) where
   unnumbered_are = unnumbered_by schema_extension_here always schema_extension_is first ds
 
   module _ (applied : (if schema_is_defined ds then flat_map extends_schema (numbered first ds) else []) ≡ flat_map extends_schema (numbered first ds)) where
-    parts_are : schema_parts first ds ≡ record { extension = None; it = base.parts } ∷ map as_given es
+    parts_are : schema_parts_given first ds ≡ record { extension = None; it = base.parts } ∷ map as_given es
     parts_are = ap (λ l. record { extension = None; it = base.parts } ∷ l) (applied ∙ extends_are)
 
-    class_are : {A : Type 0} (of : Parts → List A) → flat_map (λ g. all_given g.extension (of g.it)) (schema_parts first ds) ≡ all_of of base.parts es
+    class_are : {A : Type 0} (of : Parts → List A) → flat_map (λ g. all_given g.extension (of g.it)) (schema_parts_given first ds) ≡ all_of of base.parts es
     class_are of = ap (flat_map (λ g. all_given g.extension (of g.it))) parts_are ∙ ap (λ l. all_given None (of base.parts) ++ l) (given_numbered of es)
 
     pub names_are : (op : OperationType) → map root_name (filter (of_operation op) (roots_given first ds)) ≡ all_of (roots_of op) base.parts es
-    names_are op = all_names op (schema_parts first ds) ∙ class_are (roots_of op)
+    names_are op = all_names op (schema_parts_given first ds) ∙ class_are (roots_of op)
 
     all_its : {A : Type 0} (of : Parts → List A) (xs : List (NumberedOf Parts)) → map (λ g. g.it) (flat_map (λ x. all_given (Some x.0) (of x.1)) xs) ≡ flat_map (λ x. of x.it) (map unnumbered xs)
     all_its of [] = refl

@@ -2,7 +2,7 @@ use Rattle.std.proofs.Common.{◌<◌, ◌+◌, [], ◌∷◌, map, take, drop, 
 use Rattle.std.proofs.lemmas.Result.{err_from_is_err_and}
 use Rattle.schema_fold.specs.in_definitions.DefinitionTree.{definition_tree}
 use Rattle.schema_building.specs.TextsView.{texts_view}
-use Rattle.schema_building.specs.TextsList.{Adds, IsListRefusal}
+use Rattle.schema_building.specs.TextsList.{AddsDefinitions, IsListRefusal}
 use Rattle.schema_building.proofs.Adding.{adds_then, refusal_more}
 use Rattle.schema_building.proofs.Growing.{front, split}
 use Rattle.schema_building.proofs.building.add_document.Goals as goal
@@ -17,7 +17,7 @@ loop-definition-preserved c =
     let h = subst (λ l. i < length l) same here in
     let is = c.definition-item.is ∙ ap (λ l. get_or l i x) same in
     let more = sym (front definition_tree xs i x h is) in (
-      subst (λ l. Adds l (texts_view c.args.texts.now) (texts_view c.add.new.self)) more
+      subst (λ l. AddsDefinitions l (texts_view c.args.texts.now) (texts_view c.add.new.self)) more
           (adds_then (texts_view c.args.texts.now) (texts_view c.loop-definition.texts) (texts_view c.add.new.self) (map definition_tree (take i xs)) (definition_tree x ∷ []) c.loop-definition.invariant.0 c.in_ok-add.ensures.added),
       λ filed. c.in_ok-add.ensures.filed (c.loop-definition.invariant.1 filed),
     )

@@ -4,7 +4,7 @@ use Rattle.tree_directives.specs.DirectiveTree.{InputValueTree, directive_tree, 
 use Rattle.schema_types.specs.in_type_members.TypeSystemTree.{FieldDefinitionTree, EnumValueTree, field_definition_tree, enum_value_tree}
 use Rattle.schema_types.specs.in_components.Lists.{firsts, repeats}
 use Rattle.schema_types.specs.in_components.Given.{component_tree, component_name_tree, given_name}
-use Rattle.schema_fold.specs.BuildErrors.{Fault}
+use Rattle.schema_fold.specs.BuildErrors.{BuildFault}
 use Rattle.schema_fold.specs.Components.{keyed_firsts, field_key, value_key, input_key}
 use Rattle.schema_fold.specs.FaultView.{faults_of}
 use Rattle.schema_fold.specs.Keeping.{name_fault}
@@ -37,11 +37,11 @@ returns-clause-faults c =
     let three = faults_of c.keep_names-2.new.faults in
     let four = faults_of c.keep_components-2.new.faults in
     let five = faults_of c.keep_components-3.new.faults in
-    let p : List Fault = repeat_faults {A = Text Place} (interface_repeat c.args.kind) t given_name (λ x. x.place) (map component_name_tree all.interfaces.items) in
-    let q : List Fault = repeat_faults {A = Placed Place (FieldDefinitionTree Place)} (field_repeat c.args.kind) t field_key (λ x. x.place) (map (component_tree field_definition_tree) all.fields.items) in
-    let r : List Fault = repeat_faults {A = Text Place} repeat.UnionMember t given_name (λ x. x.place) (map component_name_tree all.members.items) in
-    let s : List Fault = repeat_faults {A = Placed Place (EnumValueTree Place)} repeat.EnumValue t value_key (λ x. x.place) (map (component_tree enum_value_tree) all.values.items) in
-    let u : List Fault = repeat_faults {A = Placed Place (InputValueTree Place)} repeat.InputField t input_key (λ x. x.place) (map (component_tree input_value_tree) all.inputs.items) in
+    let p : List BuildFault = repeat_faults {A = Text Place} (interface_repeat c.args.kind) t given_name (λ x. x.place) (map component_name_tree all.interfaces.items) in
+    let q : List BuildFault = repeat_faults {A = Placed Place (FieldDefinitionTree Place)} (field_repeat c.args.kind) t field_key (λ x. x.place) (map (component_tree field_definition_tree) all.fields.items) in
+    let r : List BuildFault = repeat_faults {A = Text Place} repeat.UnionMember t given_name (λ x. x.place) (map component_name_tree all.members.items) in
+    let s : List BuildFault = repeat_faults {A = Placed Place (EnumValueTree Place)} repeat.EnumValue t value_key (λ x. x.place) (map (component_tree enum_value_tree) all.values.items) in
+    let u : List BuildFault = repeat_faults {A = Placed Place (InputValueTree Place)} repeat.InputField t input_key (λ x. x.place) (map (component_tree input_value_tree) all.inputs.items) in
     behind start one two three four five p q r s u
     (c.in_ok-keep_names.ensures.faults ∙ ap (λ k. start ++ map (name_fault k t) (repeats given_name (map component_name_tree c.as_slice.result.now))) c.interface_repeat.ensures
     ∙ ap (λ xs. start ++ map (name_fault (interface_repeat c.args.kind) t) (repeats given_name (map component_name_tree xs))) c.as_slice.ensures.value)
