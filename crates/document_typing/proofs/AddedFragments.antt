@@ -13,7 +13,7 @@ use Rattle.document_typed_operations.specs.declared.operation.Fragment.{Fragment
 use Rattle.document_typing.specs.MeantTree.{MeantFragment}
 use Rattle.document_typing.specs.Meanings.{Meanings}
 use Rattle.document_typing.specs.KeptDocument.{meant_fragment}
-use Rattle.document_typing.specs.TypingFaults.{At, FragmentNameCollision, UndefinedTypeInNamedFragmentTypeCondition}
+use Rattle.document_typing.specs.TypingFaults.{typing_fault_at, FragmentNameCollision, UndefinedTypeInNamedFragmentTypeCondition}
 use Rattle.document_typing.specs.SetFaults.{set_faults}
 use Rattle.document_typing.specs.Steps.{Typed, told, faults_if, is_under, with_fragment, and_fragment}
 use Rattle.document_typing.specs.StepsView.{fragment_meaning, fragment_meanings}
@@ -32,10 +32,10 @@ fragment-put old new n k f x same is put absent =
 module _ {P : Type 0} (m : Meanings) (p : P) (f : FragmentTree P) (st : Typed P) where
   -- with what is told of its name
   abbrev pub named_fragment : Typed P
-  named_fragment = told (faults_if (is_under f.name.it st.document.fragments) (At p (FragmentNameCollision f.name.it))) st
+  named_fragment = told (faults_if (is_under f.name.it st.document.fragments) (typing_fault_at p (FragmentNameCollision f.name.it))) st
 
   abbrev pub absent_condition : Typed P
-  absent_condition = told (At p (UndefinedTypeInNamedFragmentTypeCondition f.type_condition.it) ∷ []) named_fragment
+  absent_condition = told (typing_fault_at p (UndefinedTypeInNamedFragmentTypeCondition f.type_condition.it) ∷ []) named_fragment
 
   abbrev pub kept_fragment : Typed P
   kept_fragment = record {

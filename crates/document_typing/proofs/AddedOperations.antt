@@ -15,7 +15,7 @@ use Rattle.document_typed_operations.specs.declared.operation_map.OperationMap.{
 use Rattle.document_typing.specs.MeantTree.{MeantOperation, MeantFragment, MeantDocument}
 use Rattle.document_typing.specs.Meanings.{Meanings}
 use Rattle.document_typing.specs.KeptDocument.{meant_operation}
-use Rattle.document_typing.specs.TypingFaults.{TypingFault, At, UndefinedRootOperation}
+use Rattle.document_typing.specs.TypingFaults.{TypingFault, typing_fault_at, UndefinedRootOperation}
 use Rattle.document_typing.specs.SetFaults.{set_faults}
 use Rattle.document_typing.specs.Steps.{Typed, told, based, is_under, is_known, name_faults, with_anonymous, with_named, on_root, and_operation}
 use Rattle.document_typing.specs.StepsView.{operation_meaning, named_meanings}
@@ -86,8 +86,8 @@ operation-put fragments faults n old new o x is named put absent =
 
 module _ {P : Type 0} (m : Meanings) (beside : Bool) (p : P) (o : OperationTree P) where
   rooted : (f : List ℕ → Typed P → Typed P) (st : Typed P) (root : Option (List ℕ)) → m.root o.operation_type ≡ root
-      → on_root m p o f st ≡ option_map_or (λ t. f t st) root (told (At p (UndefinedRootOperation o.operation_type) ∷ []) st)
-  rooted f st root is = ap (λ r. option_map_or (λ t. f t st) r (told (At p (UndefinedRootOperation o.operation_type) ∷ []) st)) is
+      → on_root m p o f st ≡ option_map_or (λ t. f t st) root (told (typing_fault_at p (UndefinedRootOperation o.operation_type) ∷ []) st)
+  rooted f st root is = ap (λ r. option_map_or (λ t. f t st) r (told (typing_fault_at p (UndefinedRootOperation o.operation_type) ∷ []) st)) is
 
   -- what is told changes no name
   pub told-known : (fs : List (TypingFault P)) (n : Option (Text P)) (st : Typed P) → is_known n (told fs st) ≡ is_known n st
@@ -100,7 +100,7 @@ module _ {P : Type 0} (m : Meanings) (beside : Bool) (p : P) (o : OperationTree 
 
   -- its root is not there
   pub without-root : (n : Option (Text P)) (st : Typed P) → m.root o.operation_type ≡ None
-      → told (At p (UndefinedRootOperation o.operation_type) ∷ []) (checked n st) ≡ and_operation m beside p o n st
+      → told (typing_fault_at p (UndefinedRootOperation o.operation_type) ∷ []) (checked n st) ≡ and_operation m beside p o n st
   without-root None st none = sym (rooted (with_anonymous m p o) (checked None st) None none)
   without-root (Some n) st none = sym (rooted (with_named m p o n.it) (checked (Some n) st) None none)
 

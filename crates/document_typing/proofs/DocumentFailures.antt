@@ -15,7 +15,7 @@ use Rattle.schema_types.proofs.in_components.Places.{not_in_nil, only, is_only, 
 use Rattle.document_typing.specs.Meanings.{Meanings}
 use Rattle.document_typing.specs.KeptDocument.{Based, based_operation, anonymous_here, named_here, fragment_here, text_of, operation_name, fragment_name, kept_anonymous, kept_named, kept_operations, kept_fragments}
 use Rattle.document_typing.specs.TypingFaults as rule
-use Rattle.document_typing.specs.TypingFaults.{TypingFault, At, is_operation, TypeSystemDefinition, AmbiguousAnonymousOperation, OperationNameCollision, FragmentNameCollision, UndefinedRootOperation, UndefinedTypeInNamedFragmentTypeCondition, SetFails, DefinitionBreaks, TypingFails}
+use Rattle.document_typing.specs.TypingFaults.{TypingFault, typing_fault_at, is_operation, TypeSystemDefinition, AmbiguousAnonymousOperation, OperationNameCollision, FragmentNameCollision, UndefinedRootOperation, UndefinedTypeInNamedFragmentTypeCondition, SetFails, DefinitionBreaks, TypingFails}
 use Rattle.document_typing.specs.SetFaults.{set_faults}
 use Rattle.document_typing.specs.Steps.{Typed, faults_if, based, typed_in}
 use Rattle.document_typing.proofs.KeptFirsts.{is-each_place, kept-none, kept-seen, kept-new, first-none, first-seen, first-new}
@@ -146,13 +146,13 @@ module _ {P : Type 0} (m : Meanings) (ds : List (DefinitionTree P)) (f : TypingF
 
   at-root : (before : List (DefinitionTree P)) (p : P) (o : OperationTree P) → StandsAfter ds before (Operation p o) → (known : Bool) (r : Option (List ℕ)) → m.root o.operation_type ≡ r
       → ((t : List ℕ) → r ≡ Some t → known ≡ false → Contains (kept_operations m ds) (based p t o)) → Contains (root_faults m beside p o known r) f → TypingFails m ds f
-  at-root before p o at known None re keeps c = rule.in_definition (before, (Operation p o, (at, rule.undefined_root_operation (re, only (At p (UndefinedRootOperation o.operation_type)) f c))))
+  at-root before p o at known None re keeps c = rule.in_definition (before, (Operation p o, (at, rule.undefined_root_operation (re, only (typing_fault_at p (UndefinedRootOperation o.operation_type)) f c))))
   at-root before p o at true (Some t) re keeps c = absurd (not_in_nil f c)
   at-root before p o at false (Some t) re keeps c = rule.in_operation (based p t o) (keeps t refl refl) ((set-fails m o.selections t f).0 c)
 
   from-operation : (before : List (DefinitionTree P)) (p : P) (o : OperationTree P) → StandsAfter ds before (Operation p o) → (x : Option (Text P)) → o.name ≡ x → Contains (operation_faults m beside before p o x) f → TypingFails m ds f
-  from-operation before p o at None e c = elim (Contains-append_cases (faults_if beside (At p AmbiguousAnonymousOperation)) (root_faults m beside p o (is_some (kept_anonymous m before)) (m.root o.operation_type)) f c) [
-    | inl a ↦ let y = if-told beside (At p AmbiguousAnonymousOperation) f a in
+  from-operation before p o at None e c = elim (Contains-append_cases (faults_if beside (typing_fault_at p AmbiguousAnonymousOperation)) (root_faults m beside p o (is_some (kept_anonymous m before)) (m.root o.operation_type)) f c) [
+    | inl a ↦ let y = if-told beside (typing_fault_at p AmbiguousAnonymousOperation) f a in
         rule.in_definition (before, (Operation p o, (at, rule.ambiguous_anonymous_operation (e, ltb-true 1 (length (filter is_operation ds)) y.0, y.1))))
     | inr b ↦ at-root before p o at (is_some (kept_anonymous m before)) (m.root o.operation_type) refl
         (λ t re k. Contains-append_left (option_to_list (kept_anonymous m ds)) (kept_named m ds) (based p t o)
@@ -161,8 +161,8 @@ module _ {P : Type 0} (m : Meanings) (ds : List (DefinitionTree P)) (f : TypingF
   ]
   from-operation before p o at (Some n) e c =
       let known : Bool = has_name operation_name n.it (kept_named m before) in
-      elim (Contains-append_cases (faults_if known (At p (OperationNameCollision n.it))) (root_faults m beside p o known (m.root o.operation_type)) f c) [
-        | inl a ↦ let y = if-told known (At p (OperationNameCollision n.it)) f a in
+      elim (Contains-append_cases (faults_if known (typing_fault_at p (OperationNameCollision n.it))) (root_faults m beside p o known (m.root o.operation_type)) f c) [
+        | inl a ↦ let y = if-told known (typing_fault_at p (OperationNameCollision n.it)) f a in
             rule.in_definition (before, (Operation p o, (at, rule.operation_name_collision (n, (e, y.0, y.1)))))
         | inr b ↦ at-root before p o at known (m.root o.operation_type) refl
             (λ t re k. Contains-append_right (option_to_list (kept_anonymous m ds)) (kept_named m ds) (based p t o)
@@ -172,7 +172,7 @@ module _ {P : Type 0} (m : Meanings) (ds : List (DefinitionTree P)) (f : TypingF
 
   from-condition : (before : List (DefinitionTree P)) (p : P) (g : FragmentTree P) → StandsAfter ds before (Fragment p g) → (known there : Bool) → has_name fragment_name g.name.it (kept_fragments m before) ≡ known → m.has_type g.type_condition.it ≡ there
       → Contains (condition_faults m beside p g known there) f → TypingFails m ds f
-  from-condition before p g at known false k e c = rule.in_definition (before, (Fragment p g, (at, rule.undefined_type_in_named_fragment_type_condition (e, only (At p (UndefinedTypeInNamedFragmentTypeCondition g.type_condition.it)) f c))))
+  from-condition before p g at known false k e c = rule.in_definition (before, (Fragment p g, (at, rule.undefined_type_in_named_fragment_type_condition (e, only (typing_fault_at p (UndefinedTypeInNamedFragmentTypeCondition g.type_condition.it)) f c))))
   from-condition before p g at true true k e c = absurd (not_in_nil f c)
   from-condition before p g at false true k e c =
       rule.in_named_fragment (record { place = p; base = g.type_condition.it; it = g })
@@ -182,8 +182,8 @@ module _ {P : Type 0} (m : Meanings) (ds : List (DefinitionTree P)) (f : TypingF
   from-fragment : (before : List (DefinitionTree P)) (p : P) (g : FragmentTree P) → StandsAfter ds before (Fragment p g) → Contains (fragment_faults m beside before p g) f → TypingFails m ds f
   from-fragment before p g at c =
       let known : Bool = has_name fragment_name g.name.it (kept_fragments m before) in
-      elim (Contains-append_cases (faults_if known (At p (FragmentNameCollision g.name.it))) (condition_faults m beside p g known (m.has_type g.type_condition.it)) f c) [
-        | inl a ↦ let y = if-told known (At p (FragmentNameCollision g.name.it)) f a in
+      elim (Contains-append_cases (faults_if known (typing_fault_at p (FragmentNameCollision g.name.it))) (condition_faults m beside p g known (m.has_type g.type_condition.it)) f c) [
+        | inl a ↦ let y = if-told known (typing_fault_at p (FragmentNameCollision g.name.it)) f a in
             rule.in_definition (before, (Fragment p g, (at, rule.fragment_name_collision (y.0, y.1))))
         | inr b ↦ from-condition before p g at known (m.has_type g.type_condition.it) refl refl b
       ]
@@ -191,31 +191,31 @@ module _ {P : Type 0} (m : Meanings) (ds : List (DefinitionTree P)) (f : TypingF
   from-definition : (before : List (DefinitionTree P)) (d : DefinitionTree P) → StandsAfter ds before d → Contains (faults_at m beside before d) f → TypingFails m ds f
   from-definition before (Operation p o) at c = from-operation before p o at o.name refl c
   from-definition before (Fragment p g) at c = from-fragment before p g at c
-  from-definition before d at c = rule.in_definition (before, (d, (at, rule.type_system_definition (refl, only (At (definition_place d) TypeSystemDefinition) f c))))
+  from-definition before d at c = rule.in_definition (before, (d, (at, rule.type_system_definition (refl, only (typing_fault_at (definition_place d) TypeSystemDefinition) f c))))
 
   broken : Contains (each_place (faults_at m beside) ds) f → TypingFails m ds f
   broken c = let x = found_at (faults_at m beside) ds f c in from-definition x.0 x.1.0 x.1.1.0 x.1.1.1
 
   -- ---- what breaks a rule is told
 
-  root-told : (before : List (DefinitionTree P)) (p : P) (o : OperationTree P) (x : Option (Text P)) → m.root o.operation_type ≡ None → f ≡ At p (UndefinedRootOperation o.operation_type) → Contains (operation_faults m beside before p o x) f
+  root-told : (before : List (DefinitionTree P)) (p : P) (o : OperationTree P) (x : Option (Text P)) → m.root o.operation_type ≡ None → f ≡ typing_fault_at p (UndefinedRootOperation o.operation_type) → Contains (operation_faults m beside before p o x) f
   root-told before p o None re e =
-      Contains-append_right (faults_if beside (At p AmbiguousAnonymousOperation)) (root_faults m beside p o (is_some (kept_anonymous m before)) (m.root o.operation_type)) f
-      (subst (λ r. Contains (root_faults m beside p o (is_some (kept_anonymous m before)) r) f) (sym re) (is_only (At p (UndefinedRootOperation o.operation_type)) f e))
+      Contains-append_right (faults_if beside (typing_fault_at p AmbiguousAnonymousOperation)) (root_faults m beside p o (is_some (kept_anonymous m before)) (m.root o.operation_type)) f
+      (subst (λ r. Contains (root_faults m beside p o (is_some (kept_anonymous m before)) r) f) (sym re) (is_only (typing_fault_at p (UndefinedRootOperation o.operation_type)) f e))
   root-told before p o (Some n) re e =
       let known : Bool = has_name operation_name n.it (kept_named m before) in
-      Contains-append_right (faults_if known (At p (OperationNameCollision n.it))) (root_faults m beside p o known (m.root o.operation_type)) f
-      (subst (λ r. Contains (root_faults m beside p o known r) f) (sym re) (is_only (At p (UndefinedRootOperation o.operation_type)) f e))
+      Contains-append_right (faults_if known (typing_fault_at p (OperationNameCollision n.it))) (root_faults m beside p o known (m.root o.operation_type)) f
+      (subst (λ r. Contains (root_faults m beside p o known r) f) (sym re) (is_only (typing_fault_at p (UndefinedRootOperation o.operation_type)) f e))
 
   definition-told : (before : List (DefinitionTree P)) (d : DefinitionTree P) → DefinitionBreaks m ds before d f → Contains (faults_at m beside before d) f
   definition-told before (Operation p o) (rule.type_system_definition x) = absurd (true≢false x.0)
   definition-told before (Operation p o) (rule.ambiguous_anonymous_operation x) =
       subst (λ n. Contains (operation_faults m beside before p o n) f) (sym x.0)
-      (Contains-append_left (faults_if beside (At p AmbiguousAnonymousOperation)) (root_faults m beside p o (is_some (kept_anonymous m before)) (m.root o.operation_type)) f (told-if beside (At p AmbiguousAnonymousOperation) f (lt-ltb 1 (length (filter is_operation ds)) x.1) x.2))
+      (Contains-append_left (faults_if beside (typing_fault_at p AmbiguousAnonymousOperation)) (root_faults m beside p o (is_some (kept_anonymous m before)) (m.root o.operation_type)) f (told-if beside (typing_fault_at p AmbiguousAnonymousOperation) f (lt-ltb 1 (length (filter is_operation ds)) x.1) x.2))
   definition-told before (Operation p o) (rule.operation_name_collision (n, x)) =
       let known : Bool = has_name operation_name n.it (kept_named m before) in
       subst (λ n. Contains (operation_faults m beside before p o n) f) (sym x.0)
-      (Contains-append_left (faults_if known (At p (OperationNameCollision n.it))) (root_faults m beside p o known (m.root o.operation_type)) f (told-if known (At p (OperationNameCollision n.it)) f x.1 x.2))
+      (Contains-append_left (faults_if known (typing_fault_at p (OperationNameCollision n.it))) (root_faults m beside p o known (m.root o.operation_type)) f (told-if known (typing_fault_at p (OperationNameCollision n.it)) f x.1 x.2))
   definition-told before (Operation p o) (rule.fragment_name_collision x) = absurd x
   definition-told before (Operation p o) (rule.undefined_root_operation x) = root-told before p o o.name x.0 x.1
   definition-told before (Operation p o) (rule.undefined_type_in_named_fragment_type_condition x) = absurd x
@@ -224,13 +224,13 @@ module _ {P : Type 0} (m : Meanings) (ds : List (DefinitionTree P)) (f : TypingF
   definition-told before (Fragment p g) (rule.operation_name_collision x) = absurd x
   definition-told before (Fragment p g) (rule.fragment_name_collision x) =
       let known : Bool = has_name fragment_name g.name.it (kept_fragments m before) in
-      Contains-append_left (faults_if known (At p (FragmentNameCollision g.name.it))) (condition_faults m beside p g known (m.has_type g.type_condition.it)) f (told-if known (At p (FragmentNameCollision g.name.it)) f x.0 x.1)
+      Contains-append_left (faults_if known (typing_fault_at p (FragmentNameCollision g.name.it))) (condition_faults m beside p g known (m.has_type g.type_condition.it)) f (told-if known (typing_fault_at p (FragmentNameCollision g.name.it)) f x.0 x.1)
   definition-told before (Fragment p g) (rule.undefined_root_operation x) = absurd x
   definition-told before (Fragment p g) (rule.undefined_type_in_named_fragment_type_condition x) =
       let known : Bool = has_name fragment_name g.name.it (kept_fragments m before) in
-      Contains-append_right (faults_if known (At p (FragmentNameCollision g.name.it))) (condition_faults m beside p g known (m.has_type g.type_condition.it)) f
-      (subst (λ b. Contains (condition_faults m beside p g known b) f) (sym x.0) (is_only (At p (UndefinedTypeInNamedFragmentTypeCondition g.type_condition.it)) f x.1))
-  definition-told before d (rule.type_system_definition x) = is_only (At (definition_place d) TypeSystemDefinition) f x.1
+      Contains-append_right (faults_if known (typing_fault_at p (FragmentNameCollision g.name.it))) (condition_faults m beside p g known (m.has_type g.type_condition.it)) f
+      (subst (λ b. Contains (condition_faults m beside p g known b) f) (sym x.0) (is_only (typing_fault_at p (UndefinedTypeInNamedFragmentTypeCondition g.type_condition.it)) f x.1))
+  definition-told before d (rule.type_system_definition x) = is_only (typing_fault_at (definition_place d) TypeSystemDefinition) f x.1
   definition-told before d (rule.ambiguous_anonymous_operation x) = absurd x
   definition-told before d (rule.operation_name_collision x) = absurd x
   definition-told before d (rule.fragment_name_collision x) = absurd x
@@ -247,7 +247,7 @@ module _ {P : Type 0} (m : Meanings) (ds : List (DefinitionTree P)) (f : TypingF
         by : (r : Option (List ℕ)) → m.root o.operation_type ≡ r → Contains (option_to_list (option_map (λ t. based p t o) r)) b → Contains (operation_faults m beside before p o None) f
         by None re c = absurd (not_in_nil b c)
         by (Some t) re c =
-            Contains-append_right (faults_if beside (At p AmbiguousAnonymousOperation)) (root_faults m beside p o (is_some (kept_anonymous m before)) (m.root o.operation_type)) f
+            Contains-append_right (faults_if beside (typing_fault_at p AmbiguousAnonymousOperation)) (root_faults m beside p o (is_some (kept_anonymous m before)) (m.root o.operation_type)) f
             (subst (λ r. Contains (root_faults m beside p o (is_some (kept_anonymous m before)) r) f) (sym re)
             (subst (λ q. Contains (if q then [] else set_faults m o.selections t) f) (sym k)
             (subst (λ y. Contains (set_faults m y.it.selections y.base) f) (only (based p t o) b c) s)))
@@ -262,7 +262,7 @@ module _ {P : Type 0} (m : Meanings) (ds : List (DefinitionTree P)) (f : TypingF
         by (Some t) re c =
             let same : b ≡ based p t o = only (based p t o) b c in
             let new : has_name operation_name n.it (kept_named m before) ≡ false = ap (λ x. has_name operation_name x (kept_named m before)) (sym (ap text_of e) ∙ sym (ap operation_name same)) ∙ k in
-            Contains-append_right (faults_if (has_name operation_name n.it (kept_named m before)) (At p (OperationNameCollision n.it))) (root_faults m beside p o (has_name operation_name n.it (kept_named m before)) (m.root o.operation_type)) f
+            Contains-append_right (faults_if (has_name operation_name n.it (kept_named m before)) (typing_fault_at p (OperationNameCollision n.it))) (root_faults m beside p o (has_name operation_name n.it (kept_named m before)) (m.root o.operation_type)) f
             (subst (λ r. Contains (root_faults m beside p o (has_name operation_name n.it (kept_named m before)) r) f) (sym re)
             (subst (λ q. Contains (if q then [] else set_faults m o.selections t) f) (sym new)
             (subst (λ y. Contains (set_faults m y.it.selections y.base) f) same s)))
@@ -279,7 +279,7 @@ module _ {P : Type 0} (m : Meanings) (ds : List (DefinitionTree P)) (f : TypingF
     at-fragment (Fragment p g) b c k s =
         let x = if-told (m.has_type g.type_condition.it) (record { place = p; base = g.type_condition.it; it = g }) b c in
         let new : has_name fragment_name g.name.it (kept_fragments m before) ≡ false = ap (λ y. has_name fragment_name y (kept_fragments m before)) (sym (ap fragment_name x.1)) ∙ k in
-        Contains-append_right (faults_if (has_name fragment_name g.name.it (kept_fragments m before)) (At p (FragmentNameCollision g.name.it))) (condition_faults m beside p g (has_name fragment_name g.name.it (kept_fragments m before)) (m.has_type g.type_condition.it)) f
+        Contains-append_right (faults_if (has_name fragment_name g.name.it (kept_fragments m before)) (typing_fault_at p (FragmentNameCollision g.name.it))) (condition_faults m beside p g (has_name fragment_name g.name.it (kept_fragments m before)) (m.has_type g.type_condition.it)) f
         (subst (λ q. Contains (condition_faults m beside p g (has_name fragment_name g.name.it (kept_fragments m before)) q) f) (sym x.0)
         (subst (λ q. Contains (if q then [] else set_faults m g.selections g.type_condition.it) f) (sym new)
         (subst (λ y. Contains (set_faults m y.it.selections y.base) f) x.1 s)))

@@ -16,7 +16,7 @@ use Rattle.document_typing.specs.Meanings.{Meanings, inner_type}
 use Rattle.document_typing.specs.KeptSelections.{is_leaf, may_select, kept, kept_all}
 use Rattle.document_typing.specs.KeptDocument.{anonymous_here, text_of, operation_name, fragment_name, kept_anonymous, kept_named, kept_fragments}
 use Rattle.document_typing.specs.TypingFaults as rule
-use Rattle.document_typing.specs.TypingFaults.{TypingFault, At, is_operation, TypeSystemDefinition, AmbiguousAnonymousOperation, OperationNameCollision, FragmentNameCollision, UndefinedRootOperation, UndefinedTypeInNamedFragmentTypeCondition, UndefinedField, SubselectionOnScalarType, SubselectionOnEnumType, UndefinedTypeInInlineFragmentTypeCondition, SelectionBreaks, SetFails, DefinitionBreaks, TypingFails}
+use Rattle.document_typing.specs.TypingFaults.{TypingFault, typing_fault_at, is_operation, TypeSystemDefinition, AmbiguousAnonymousOperation, OperationNameCollision, FragmentNameCollision, UndefinedRootOperation, UndefinedTypeInNamedFragmentTypeCondition, UndefinedField, SubselectionOnScalarType, SubselectionOnEnumType, UndefinedTypeInInlineFragmentTypeCondition, SelectionBreaks, SetFails, DefinitionBreaks, TypingFails}
 use Rattle.document_typing.specs.FullList.{is_kept, TellsSet, TellsAll}
 use Rattle.document_typing.proofs.SetFailures.{both-so}
 
@@ -35,8 +35,8 @@ not-so false h = absurd (true≢false h)
 module _ {P : Type 0} (m : Meanings) where
   leaf-out : (p : P) (h : FieldHead P) (ts : SelectionTrees P) (u : List ℕ) (d : Definition) → m.field u h.name.it ≡ Some d → has_selection ts ≡ true
       → (b : Bool) → m.is_scalar (inner_type d) ≡ b → (b || m.is_enum (inner_type d)) ≡ true → (f : TypingFault P) × SelectionBreaks m u (FieldTree p h ts) f
-  leaf-out p h ts u d e has true so leaf = (At p (SubselectionOnScalarType (inner_type d)), rule.subselection_on_scalar_type (d, (e, so, has, refl)))
-  leaf-out p h ts u d e has false so leaf = (At p (SubselectionOnEnumType (inner_type d)), rule.subselection_on_enum_type (d, (e, leaf, has, refl)))
+  leaf-out p h ts u d e has true so leaf = (typing_fault_at p (SubselectionOnScalarType (inner_type d)), rule.subselection_on_scalar_type (d, (e, so, has, refl)))
+  leaf-out p h ts u d e has false so leaf = (typing_fault_at p (SubselectionOnEnumType (inner_type d)), rule.subselection_on_enum_type (d, (e, leaf, has, refl)))
 
   -- a selection that is left out breaks a rule
   pub left-out : (s : SelectionTree P) (u : List ℕ) → kept m s u ≡ [] → (f : TypingFault P) × SelectionBreaks m u s f
@@ -52,7 +52,7 @@ module _ {P : Type 0} (m : Meanings) where
       by : (o : Option Definition) → m.field u h.name.it ≡ o
           → option_map_or (λ d. if may_select m (inner_type d) ts then MeantField p d h (set_on (inner_type d) (kept_all m ts (inner_type d))) ∷ [] else []) o [] ≡ []
           → (f : TypingFault P) × SelectionBreaks m u (FieldTree p h ts) f
-      by None is e = (At p (UndefinedField u h.name.it), rule.undefined_field (is, refl))
+      by None is e = (typing_fault_at p (UndefinedField u h.name.it), rule.undefined_field (is, refl))
       by (Some d) is e = by_test d is (may_select m (inner_type d) ts) refl e
   left-out (SpreadTree p n ds) u e = absurd (not-nil _ [] e)
   left-out (InlineTree p None ds ts) u e = absurd (not-nil _ [] e)
@@ -60,7 +60,7 @@ module _ {P : Type 0} (m : Meanings) where
     where
       by : (b : Bool) → m.has_type c.it ≡ b → (if b then MeantInline p (Some c) ds (set_on c.it (kept_all m ts c.it)) ∷ [] else []) ≡ [] → (f : TypingFault P) × SelectionBreaks m u (InlineTree p (Some c) ds ts) f
       by true is e = absurd (not-nil (MeantInline p (Some c) ds (set_on c.it (kept_all m ts c.it))) [] e)
-      by false is e = (At p (UndefinedTypeInInlineFragmentTypeCondition c.it), rule.undefined_type_in_inline_fragment_type_condition (is, refl))
+      by false is e = (typing_fault_at p (UndefinedTypeInInlineFragmentTypeCondition c.it), rule.undefined_type_in_inline_fragment_type_condition (is, refl))
 
   pub tells-set : (ts : SelectionTrees P) (t : List ℕ) (faults : List (TypingFault P)) → ((f : TypingFault P) → SetFails m t ts f → Contains faults f) → TellsSet m t ts faults
   tells-set ts t faults all u s at e = let x = left-out s u e in (x.0, (all x.0 (u, (s, (at, x.1))), x.1))
@@ -90,24 +90,24 @@ module _ {P : Type 0} (m : Meanings) (ds : List (DefinitionTree P)) where
       by_name : (x : Option (Text P)) → o.name ≡ x → (if is_none x then is_some (kept_anonymous m before) else has_name operation_name (text_of x) (kept_named m before)) ≡ true
           → (f : TypingFault P) × DefinitionBreaks m ds before (Operation p o) f
       by_name None e k =
-          (At p AmbiguousAnonymousOperation, rule.ambiguous_anonymous_operation (e, subst (λ l. 1 < length (filter is_operation l)) (sym at) (count-two before after p o (some-operation m before k)), refl))
-      by_name (Some n) e k = (At p (OperationNameCollision n.it), rule.operation_name_collision (n, (e, k, refl)))
+          (typing_fault_at p AmbiguousAnonymousOperation, rule.ambiguous_anonymous_operation (e, subst (λ l. 1 < length (filter is_operation l)) (sym at) (count-two before after p o (some-operation m before k)), refl))
+      by_name (Some n) e k = (typing_fault_at p (OperationNameCollision n.it), rule.operation_name_collision (n, (e, k, refl)))
 
       by : (r : Option (List ℕ)) → m.root o.operation_type ≡ r → (is_some r && not (if is_none o.name then is_some (kept_anonymous m before) else has_name operation_name (text_of o.name) (kept_named m before))) ≡ false
           → (f : TypingFault P) × DefinitionBreaks m ds before (Operation p o) f
-      by None re h = (At p (UndefinedRootOperation o.operation_type), rule.undefined_root_operation (re, refl))
+      by None re h = (typing_fault_at p (UndefinedRootOperation o.operation_type), rule.undefined_root_operation (re, refl))
       by (Some t) re h = by_name o.name refl (not-so (if is_none o.name then is_some (kept_anonymous m before) else has_name operation_name (text_of o.name) (kept_named m before)) h)
   not-kept before (Fragment p g) at h = by (m.has_type g.type_condition.it) refl h
     where
       by : (b : Bool) → m.has_type g.type_condition.it ≡ b → (b && not (has_name fragment_name g.name.it (kept_fragments m before))) ≡ false → (f : TypingFault P) × DefinitionBreaks m ds before (Fragment p g) f
-      by false e h = (At p (UndefinedTypeInNamedFragmentTypeCondition g.type_condition.it), rule.undefined_type_in_named_fragment_type_condition (e, refl))
-      by true e h = (At p (FragmentNameCollision g.name.it), rule.fragment_name_collision (not-so (has_name fragment_name g.name.it (kept_fragments m before)) h, refl))
-  not-kept before d at h = (At (definition_place d) TypeSystemDefinition, rule.type_system_definition (refl, refl))
+      by false e h = (typing_fault_at p (UndefinedTypeInNamedFragmentTypeCondition g.type_condition.it), rule.undefined_type_in_named_fragment_type_condition (e, refl))
+      by true e h = (typing_fault_at p (FragmentNameCollision g.name.it), rule.fragment_name_collision (not-so (has_name fragment_name g.name.it (kept_fragments m before)) h, refl))
+  not-kept before d at h = (typing_fault_at (definition_place d) TypeSystemDefinition, rule.type_system_definition (refl, refl))
 
   pub tells-all : (faults : List (TypingFault P)) → ((f : TypingFault P) → TypingFails m ds f → Contains faults f) → TellsAll m ds faults
   tells-all faults all = record {
     definitions = λ before d at h. let x = not-kept before d at h in (x.0, (all x.0 (rule.in_definition (before, (d, (at, x.1)))), x.1));
-    anonymous = λ before p o at e lt. all (At p AmbiguousAnonymousOperation) (rule.in_definition (before, (Operation p o, (at, rule.ambiguous_anonymous_operation (e, lt, refl)))));
+    anonymous = λ before p o at e lt. all (typing_fault_at p AmbiguousAnonymousOperation) (rule.in_definition (before, (Operation p o, (at, rule.ambiguous_anonymous_operation (e, lt, refl)))));
     operations = λ o c. tells-set m o.it.selections o.base faults (λ f x. all f (rule.in_operation o c x));
     fragments = λ g c. tells-set m g.it.selections g.base faults (λ f x. all f (rule.in_named_fragment g c x));
   }

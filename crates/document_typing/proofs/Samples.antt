@@ -12,7 +12,7 @@ use Rattle.schema_types.specs.in_components.Lists.{is_among}
 use Rattle.schema_types.specs.Looks.{Looks, TypeLooks}
 use Rattle.schema_types.specs.declared.type_kind.TypeKind.{TypeKind}
 use Rattle.document_typing.specs.MeantTree.{MeantSelection, MeantField, MeantSpread, MeantInline}
-use Rattle.document_typing.specs.Meanings.{bare, plain_field, inner_type}
+use Rattle.document_typing.specs.Meanings.{bare_name, plain_field, inner_type}
 
 -- ---- schemas
 
@@ -21,7 +21,7 @@ abbrev pub type_with : TypeKind → List ℕ → List (List ℕ × TypeTree (Uni
 type_with k n fields members = record {
   kind = k;
   description = None;
-  name = bare n;
+  name = bare_name n;
   directives = [];
   implements = λ i. false;
   field = λ m. option_map (λ f. plain_field m [] f.1) (find (λ f. bytes_eq m f.0) fields);

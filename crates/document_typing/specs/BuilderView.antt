@@ -22,8 +22,8 @@ pub record DocumentBuilder : Type 0 where
   pub sources : Sources
   pub failed : Bool
 
-abbrev pub builder_value : ExecutableDocumentBuilder → DocumentBuilder
-builder_value b = record {
+abbrev pub document_builder : ExecutableDocumentBuilder → DocumentBuilder
+document_builder b = record {
   schema = schema_under b.schema;
   meanings = meanings_under b.schema;
   definitions = map definition_tree b.definitions.items;
@@ -50,11 +50,11 @@ abbrev pub built_document : DocumentBuilder → MeantDocument Place
 built_document b = kept_document b.meanings b.definitions
 
 -- definitions are not added: from then on the builder has failed
-abbrev pub IsAddRefusal : DocumentBuilder → DocumentBuilder → BuilderRefusal → Type 0
-IsAddRefusal old new Memory = (old.failed ≡ false) × (new.failed ≡ true)
-IsAddRefusal old new Failed = (old.failed ≡ true) × (new ≡ old)
+abbrev pub IsDocumentAddRefusal : DocumentBuilder → DocumentBuilder → BuilderRefusal → Type 0
+IsDocumentAddRefusal old new Memory = (old.failed ≡ false) × (new.failed ≡ true)
+IsDocumentAddRefusal old new Failed = (old.failed ≡ true) × (new ≡ old)
 
 -- nothing is built
-abbrev pub IsBuildRefusal : DocumentBuilder → BuilderRefusal → Type 0
-IsBuildRefusal b Memory = b.failed ≡ false
-IsBuildRefusal b Failed = b.failed ≡ true
+abbrev pub IsDocumentBuildRefusal : DocumentBuilder → BuilderRefusal → Type 0
+IsDocumentBuildRefusal b Memory = b.failed ≡ false
+IsDocumentBuildRefusal b Failed = b.failed ≡ true

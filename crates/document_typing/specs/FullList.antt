@@ -9,7 +9,7 @@ use Rattle.schema_types.specs.in_components.Lists.{StandsAfter, has_name}
 use Rattle.document_typing.specs.Meanings.{Meanings}
 use Rattle.document_typing.specs.KeptSelections.{kept}
 use Rattle.document_typing.specs.KeptDocument.{text_of, operation_name, fragment_name, kept_anonymous, kept_named, kept_operations, kept_fragments}
-use Rattle.document_typing.specs.TypingFaults.{TypingFault, At, StandsIn, SelectionBreaks, DefinitionBreaks, is_operation, AmbiguousAnonymousOperation}
+use Rattle.document_typing.specs.TypingFaults.{TypingFault, typing_fault_at, StandsIn, SelectionBreaks, DefinitionBreaks, is_operation, AmbiguousAnonymousOperation}
 
 module _ {P : Type 0} where
   -- the definition, which stands behind these, is kept: its root or type condition is there, and no kept one before it has its name
@@ -33,6 +33,6 @@ module _ {P : Type 0} where
     pub definitions : (before : List (DefinitionTree P)) (d : DefinitionTree P) → StandsAfter ds before d → is_kept m before d ≡ false
         → HasFault faults (DefinitionBreaks m ds before d)
     pub anonymous : (before : List (DefinitionTree P)) (p : P) (o : OperationTree P) → StandsAfter ds before (Operation p o)
-        → o.name ≡ None → 1 < length (filter is_operation ds) → Contains faults (At p AmbiguousAnonymousOperation)
+        → o.name ≡ None → 1 < length (filter is_operation ds) → Contains faults (typing_fault_at p AmbiguousAnonymousOperation)
     pub operations : (o : _) → Contains (kept_operations m ds) o → TellsSet m o.base o.it.selections faults
     pub fragments : (f : _) → Contains (kept_fragments m ds) f → TellsSet m f.base f.it.selections faults

@@ -28,12 +28,12 @@ pub record Meanings : Type 0 where
 
 -- ---- fields by name alone
 
-abbrev pub bare : List ℕ → Text (Unit {0})
-bare n = record { it = n; place = tt }
+abbrev pub bare_name : List ℕ → Text (Unit {0})
+bare_name n = record { it = n; place = tt }
 
 -- name(arguments): ty
 abbrev pub plain_field : List ℕ → InputValues (Unit {0}) → TypeTree (Unit {0}) → Definition
-plain_field n arguments ty = record { description = None; name = bare n; arguments = arguments; ty = ty; directives = [] }
+plain_field n arguments ty = record { description = None; name = bare_name n; arguments = arguments; ty = ty; directives = [] }
 
 -- the name inside a field's type
 abbrev pub inner_type : Definition → List ℕ
@@ -66,7 +66,7 @@ meanings s = meanings_in (looks s)
 
 -- a field of that name: it has no arguments, and its type is `UNKNOWN`
 abbrev pub unknown_definition : List ℕ → Definition
-unknown_definition m = plain_field m [] (NamedTree (bare (codes "UNKNOWN")))
+unknown_definition m = plain_field m [] (NamedTree (bare_name (codes "UNKNOWN")))
 
 -- each root has its default name, each type condition a type, and each field a definition
 abbrev pub meanings_without_schema : Meanings

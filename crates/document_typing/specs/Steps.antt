@@ -11,7 +11,7 @@ use Rattle.schema_types.specs.in_components.Names.{Entries}
 use Rattle.document_typing.specs.MeantTree.{MeantDocument}
 use Rattle.document_typing.specs.Meanings.{Meanings}
 use Rattle.document_typing.specs.KeptDocument.{Based, meant_operation, meant_fragment}
-use Rattle.document_typing.specs.TypingFaults.{TypingFault, At, is_operation, TypeSystemDefinition, AmbiguousAnonymousOperation, OperationNameCollision, FragmentNameCollision, UndefinedRootOperation, UndefinedTypeInNamedFragmentTypeCondition}
+use Rattle.document_typing.specs.TypingFaults.{TypingFault, typing_fault_at, is_operation, TypeSystemDefinition, AmbiguousAnonymousOperation, OperationNameCollision, FragmentNameCollision, UndefinedRootOperation, UndefinedTypeInNamedFragmentTypeCondition}
 use Rattle.document_typing.specs.SetFaults.{set_faults}
 
 -- what is kept, and what is told
@@ -43,7 +43,7 @@ module _ {P : Type 0} where
       record { document = record st.document { named = st.document.named ++ (n, meant_operation m (based p t o)) ∷ [] }; faults = st.faults ++ set_faults m o.selections t }
 
   abbrev pub on_root : Meanings → P → OperationTree P → (List ℕ → Typed P → Typed P) → Typed P → Typed P
-  on_root m p o f st = option_map_or (λ t. f t st) (m.root o.operation_type) (told (At p (UndefinedRootOperation o.operation_type) ∷ []) st)
+  on_root m p o f st = option_map_or (λ t. f t st) (m.root o.operation_type) (told (typing_fault_at p (UndefinedRootOperation o.operation_type) ∷ []) st)
 
   -- whether a kept operation has that name, or has none where none is asked
   abbrev pub is_known : Option (Text P) → Typed P → Bool
@@ -52,13 +52,13 @@ module _ {P : Type 0} where
 
   -- what is told of the name of an operation, which stands beside others or not
   abbrev pub name_faults : Bool → P → Option (Text P) → Typed P → List (TypingFault P)
-  name_faults beside p None st = faults_if beside (At p AmbiguousAnonymousOperation)
-  name_faults beside p (Some n) st = faults_if (is_under n.it st.document.named) (At p (OperationNameCollision n.it))
+  name_faults beside p None st = faults_if beside (typing_fault_at p AmbiguousAnonymousOperation)
+  name_faults beside p (Some n) st = faults_if (is_under n.it st.document.named) (typing_fault_at p (OperationNameCollision n.it))
 
   -- an operation, which stands beside others or not
   abbrev pub and_operation : Meanings → Bool → P → OperationTree P → Option (Text P) → Typed P → Typed P
-  and_operation m beside p o None st = on_root m p o (with_anonymous m p o) (told (faults_if beside (At p AmbiguousAnonymousOperation)) st)
-  and_operation m beside p o (Some n) st = on_root m p o (with_named m p o n.it) (told (faults_if (is_under n.it st.document.named) (At p (OperationNameCollision n.it))) st)
+  and_operation m beside p o None st = on_root m p o (with_anonymous m p o) (told (faults_if beside (typing_fault_at p AmbiguousAnonymousOperation)) st)
+  and_operation m beside p o (Some n) st = on_root m p o (with_named m p o n.it) (told (faults_if (is_under n.it st.document.named) (typing_fault_at p (OperationNameCollision n.it))) st)
 
   abbrev pub with_fragment : Meanings → P → FragmentTree P → Typed P → Typed P
   with_fragment m p f st = if is_under f.name.it st.document.fragments then st else
@@ -69,15 +69,15 @@ module _ {P : Type 0} where
 
   abbrev pub and_fragment : Meanings → P → FragmentTree P → Typed P → Typed P
   and_fragment m p f st =
-      let old : Typed P = told (faults_if (is_under f.name.it st.document.fragments) (At p (FragmentNameCollision f.name.it))) st in
+      let old : Typed P = told (faults_if (is_under f.name.it st.document.fragments) (typing_fault_at p (FragmentNameCollision f.name.it))) st in
       if m.has_type f.type_condition.it then with_fragment m p f old
-      else told (At p (UndefinedTypeInNamedFragmentTypeCondition f.type_condition.it) ∷ []) old
+      else told (typing_fault_at p (UndefinedTypeInNamedFragmentTypeCondition f.type_condition.it) ∷ []) old
 
   -- a definition of the document
   abbrev pub and_definition : Meanings → Bool → Typed P → DefinitionTree P → Typed P
   and_definition m beside st (Operation p o) = and_operation m beside p o o.name st
   and_definition m beside st (Fragment p f) = and_fragment m p f st
-  and_definition m beside st d = told (At (definition_place d) TypeSystemDefinition ∷ []) st
+  and_definition m beside st d = told (typing_fault_at (definition_place d) TypeSystemDefinition ∷ []) st
 
   abbrev pub nothing : Typed P
   nothing = record { document = record { anonymous = None; named = []; fragments = [] }; faults = [] }

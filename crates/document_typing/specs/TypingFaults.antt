@@ -19,33 +19,33 @@ pub record TypingFault (P : Type 0) : Type 0 where
   pub place : P
   pub breach : DocumentBreach P
 
-abbrev pub At : {P : Type 0} → P → DocumentBreach P → TypingFault P
-At p breach = record { place = p; breach = breach }
+abbrev pub typing_fault_at : {P : Type 0} → P → DocumentBreach P → TypingFault P
+typing_fault_at p breach = record { place = p; breach = breach }
 
 -- ---- rules on a selection that stands under the type t
 
 -- a field that is not defined on the type (section 5.3.1)
 abbrev pub UndefinedFieldAt : {P : Type 0} → Meanings → List ℕ → SelectionTree P → TypingFault P → Type 0
-UndefinedFieldAt m t (FieldTree p h ts) fault = (m.field t h.name.it ≡ None) × (fault ≡ At p (UndefinedField t h.name.it))
+UndefinedFieldAt m t (FieldTree p h ts) fault = (m.field t h.name.it ≡ None) × (fault ≡ typing_fault_at p (UndefinedField t h.name.it))
 UndefinedFieldAt m t _ fault = ⊥
 
 -- a field that selects from values of a scalar, of an enum (section 5.3.3)
 abbrev pub SubselectionOnScalarTypeAt : {P : Type 0} → Meanings → List ℕ → SelectionTree P → TypingFault P → Type 0
 SubselectionOnScalarTypeAt m t (FieldTree p h ts) fault = (d : Definition) × (
     (m.field t h.name.it ≡ Some d) × (m.is_scalar (inner_type d) ≡ true) × (has_selection ts ≡ true)
-    × (fault ≡ At p (SubselectionOnScalarType (inner_type d))))
+    × (fault ≡ typing_fault_at p (SubselectionOnScalarType (inner_type d))))
 SubselectionOnScalarTypeAt m t _ fault = ⊥
 
 abbrev pub SubselectionOnEnumTypeAt : {P : Type 0} → Meanings → List ℕ → SelectionTree P → TypingFault P → Type 0
 SubselectionOnEnumTypeAt m t (FieldTree p h ts) fault = (d : Definition) × (
     (m.field t h.name.it ≡ Some d) × (m.is_enum (inner_type d) ≡ true) × (has_selection ts ≡ true)
-    × (fault ≡ At p (SubselectionOnEnumType (inner_type d))))
+    × (fault ≡ typing_fault_at p (SubselectionOnEnumType (inner_type d))))
 SubselectionOnEnumTypeAt m t _ fault = ⊥
 
 -- an inline fragment on a type that is not there (section 5.5.1.2)
 abbrev pub UndefinedTypeInInlineFragmentTypeConditionAt : {P : Type 0} → Meanings → List ℕ → SelectionTree P → TypingFault P → Type 0
 UndefinedTypeInInlineFragmentTypeConditionAt m t (InlineTree p (Some c) ds ts) fault =
-    (m.has_type c.it ≡ false) × (fault ≡ At p (UndefinedTypeInInlineFragmentTypeCondition c.it))
+    (m.has_type c.it ≡ false) × (fault ≡ typing_fault_at p (UndefinedTypeInInlineFragmentTypeCondition c.it))
 UndefinedTypeInInlineFragmentTypeConditionAt m t _ fault = ⊥
 
 -- one of these rules is broken so by the selection
@@ -84,36 +84,36 @@ is_operation _ = false
 
 -- a document of operations and fragments alone (section 5.1.1)
 abbrev pub TypeSystemDefinitionAt : {P : Type 0} → DefinitionTree P → TypingFault P → Type 0
-TypeSystemDefinitionAt d fault = (is_executable d ≡ false) × (fault ≡ At (definition_place d) TypeSystemDefinition)
+TypeSystemDefinitionAt d fault = (is_executable d ≡ false) × (fault ≡ typing_fault_at (definition_place d) TypeSystemDefinition)
 
 -- an operation without a name beside any other operation of the document (section 5.2.2.1)
 abbrev pub AmbiguousAnonymousOperationAt : {P : Type 0} → List (DefinitionTree P) → DefinitionTree P → TypingFault P → Type 0
 AmbiguousAnonymousOperationAt ds (Operation p o) fault =
-    (o.name ≡ None) × (1 < length (filter is_operation ds)) × (fault ≡ At p AmbiguousAnonymousOperation)
+    (o.name ≡ None) × (1 < length (filter is_operation ds)) × (fault ≡ typing_fault_at p AmbiguousAnonymousOperation)
 AmbiguousAnonymousOperationAt ds _ fault = ⊥
 
 -- an operation whose name a kept one before it has (section 5.2.1.1)
 abbrev pub OperationNameCollisionAt : {P : Type 0} → Meanings → List (DefinitionTree P) → DefinitionTree P → TypingFault P → Type 0
 OperationNameCollisionAt {P} m before (Operation p o) fault = (n : Text P) × (
-    (o.name ≡ Some n) × (has_name operation_name n.it (kept_named m before) ≡ true) × (fault ≡ At p (OperationNameCollision n.it)))
+    (o.name ≡ Some n) × (has_name operation_name n.it (kept_named m before) ≡ true) × (fault ≡ typing_fault_at p (OperationNameCollision n.it)))
 OperationNameCollisionAt m before _ fault = ⊥
 
 -- a fragment whose name a kept one before it has (section 5.5.1.1)
 abbrev pub FragmentNameCollisionAt : {P : Type 0} → Meanings → List (DefinitionTree P) → DefinitionTree P → TypingFault P → Type 0
 FragmentNameCollisionAt m before (Fragment p f) fault =
-    (has_name fragment_name f.name.it (kept_fragments m before) ≡ true) × (fault ≡ At p (FragmentNameCollision f.name.it))
+    (has_name fragment_name f.name.it (kept_fragments m before) ≡ true) × (fault ≡ typing_fault_at p (FragmentNameCollision f.name.it))
 FragmentNameCollisionAt m before _ fault = ⊥
 
 -- an operation whose root the schema does not have (section 3.3.1)
 abbrev pub UndefinedRootOperationAt : {P : Type 0} → Meanings → DefinitionTree P → TypingFault P → Type 0
 UndefinedRootOperationAt m (Operation p o) fault =
-    (m.root o.operation_type ≡ None) × (fault ≡ At p (UndefinedRootOperation o.operation_type))
+    (m.root o.operation_type ≡ None) × (fault ≡ typing_fault_at p (UndefinedRootOperation o.operation_type))
 UndefinedRootOperationAt m _ fault = ⊥
 
 -- a fragment on a type that is not there (section 5.5.1.2)
 abbrev pub UndefinedTypeInNamedFragmentTypeConditionAt : {P : Type 0} → Meanings → DefinitionTree P → TypingFault P → Type 0
 UndefinedTypeInNamedFragmentTypeConditionAt m (Fragment p f) fault =
-    (m.has_type f.type_condition.it ≡ false) × (fault ≡ At p (UndefinedTypeInNamedFragmentTypeCondition f.type_condition.it))
+    (m.has_type f.type_condition.it ≡ false) × (fault ≡ typing_fault_at p (UndefinedTypeInNamedFragmentTypeCondition f.type_condition.it))
 UndefinedTypeInNamedFragmentTypeConditionAt m _ fault = ⊥
 
 -- one of these rules is broken so by the definition d, which stands in the document ds behind these

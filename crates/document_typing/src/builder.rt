@@ -11,7 +11,7 @@ ghost use Rattle.document_typing.specs.TypedByPlace.{IsTypedDocument};
 ghost use Rattle.document_typing.specs.DefinedByPlace.{IsDefinedDocument};
 ghost use Rattle.document_typing.specs.FaultView.{faults_of};
 ghost use Rattle.document_typing.specs.DocumentView.{meant_document};
-ghost use Rattle.document_typing.specs.BuilderView.{builder_value, empty_builder, and_document, built_document, IsAddRefusal, IsBuildRefusal};
+ghost use Rattle.document_typing.specs.BuilderView.{document_builder, empty_builder, and_document, built_document, IsDocumentAddRefusal, IsDocumentBuildRefusal};
 
 use crate::document::type_document;
 use crate::refusal::BuilderRefusal;
@@ -26,8 +26,8 @@ use tree_definitions::{Definition, Document, SourceFile};
 
 /// Takes the definitions of documents, and gives them all a meaning under a schema, or without one.
 ///
-/// Contracts see it by `builder_value` alone: the schema and what it says, the definitions and sources that were added, in
-/// order, and whether memory ran out.
+/// Contracts see it by `document_builder` alone: the schema and what it says, the definitions and sources that were added,
+/// in order, and whether memory ran out.
 #[derive(Drop)]
 pub struct ExecutableDocumentBuilder<'schema> {
     alloc: Global,
@@ -40,7 +40,7 @@ pub struct ExecutableDocumentBuilder<'schema> {
 impl<'schema> ExecutableDocumentBuilder<'schema> {
     /// A builder of no definitions, under this schema or without one. It takes no memory.
     pub fn new(alloc: Global, schema: Option<&'schema Schema>) -> ExecutableDocumentBuilder<'schema>
-        ensures { builder_value result ≡ empty_builder schema.entry }
+        ensures { document_builder result ≡ empty_builder schema.entry }
     {
         ExecutableDocumentBuilder {
             alloc,
@@ -55,9 +55,9 @@ impl<'schema> ExecutableDocumentBuilder<'schema> {
     ///
     /// Where memory runs out it answers so, and from then on [`BuilderRefusal::Failed`].
     pub fn add_ast_document(&mut self, document: &Document) -> Result<(), BuilderRefusal>
-        ensures running { OnOk result ((builder_value self.old).failed ≡ false) }
-        ensures added { OnOk result (builder_value self.new ≡ and_document (builder_value self.old) (document_tree document.now) (sources_of document.now)) }
-        ensures refused { IfErr result (IsAddRefusal (builder_value self.old) (builder_value self.new)) }
+        ensures running { OnOk result ((document_builder self.old).failed ≡ false) }
+        ensures added { OnOk result (document_builder self.new ≡ and_document (document_builder self.old) (document_tree document.now) (sources_of document.now)) }
+        ensures refused { IfErr result (IsDocumentAddRefusal (document_builder self.old) (document_builder self.new)) }
     {
         if self.failed {
             return Err(BuilderRefusal::Failed);
@@ -76,15 +76,15 @@ impl<'schema> ExecutableDocumentBuilder<'schema> {
     pub fn build(
         self,
     ) -> Result<(ExecutableDocument, Vec<(Option<SourceSpan>, BuildError)>), BuilderRefusal>
-        ensures running { OnOk result ((builder_value self.entry).failed ≡ false) }
-        ensures document { IfOk result (λ r. meant_document (typed_document_tree r.0) ≡ built_document (builder_value self.entry)) }
-        ensures typed { IfOk result (λ r. IsTypedDocument (builder_value self.entry).meanings (meant_document (typed_document_tree r.0))) }
-        ensures defined { IfOk result (λ r. IsDefinedDocument (builder_value self.entry).schema (typed_document_tree r.0)) }
-        ensures whole { IfOk result (λ r. IsWholeWithoutFaults (builder_value self.entry).definitions (meant_document (typed_document_tree r.0)) (faults_of r.1)) }
-        ensures sources { IfOk result (λ r. sources_view r.0.sources ≡ (builder_value self.entry).sources) }
-        ensures faults { IfOk result (λ r. AreTypingFaults (builder_value self.entry).meanings (builder_value self.entry).definitions (faults_of r.1)) }
-        ensures full { IfOk result (λ r. TellsAll (builder_value self.entry).meanings (builder_value self.entry).definitions (faults_of r.1)) }
-        ensures refused { IfErr result (IsBuildRefusal (builder_value self.entry)) }
+        ensures running { OnOk result ((document_builder self.entry).failed ≡ false) }
+        ensures document { IfOk result (λ r. meant_document (typed_document_tree r.0) ≡ built_document (document_builder self.entry)) }
+        ensures typed { IfOk result (λ r. IsTypedDocument (document_builder self.entry).meanings (meant_document (typed_document_tree r.0))) }
+        ensures defined { IfOk result (λ r. IsDefinedDocument (document_builder self.entry).schema (typed_document_tree r.0)) }
+        ensures whole { IfOk result (λ r. IsWholeWithoutFaults (document_builder self.entry).definitions (meant_document (typed_document_tree r.0)) (faults_of r.1)) }
+        ensures sources { IfOk result (λ r. sources_view r.0.sources ≡ (document_builder self.entry).sources) }
+        ensures faults { IfOk result (λ r. AreTypingFaults (document_builder self.entry).meanings (document_builder self.entry).definitions (faults_of r.1)) }
+        ensures full { IfOk result (λ r. TellsAll (document_builder self.entry).meanings (document_builder self.entry).definitions (faults_of r.1)) }
+        ensures refused { IfErr result (IsDocumentBuildRefusal (document_builder self.entry)) }
     {
         if self.failed {
             return Err(BuilderRefusal::Failed);

@@ -1,7 +1,7 @@
 //! Rules of typing on definitions: each tells where it is broken.
 ghost use Rattle.std.specs.Prelude.{◌≡◌, ◌++◌, [], ◌∷◌, OnOk};
 ghost use Rattle.fault_document_data.specs.DocumentBreaches as breach;
-ghost use Rattle.document_typing.specs.TypingFaults.{At};
+ghost use Rattle.document_typing.specs.TypingFaults.{typing_fault_at};
 ghost use Rattle.document_typing.specs.Steps.{faults_if};
 ghost use Rattle.document_typing.specs.FaultView.{faults_of};
 
@@ -16,7 +16,7 @@ pub(crate) fn type_system_definition(
     location: Option<SourceSpan>,
     faults: &mut Vec<(Option<SourceSpan>, BuildError)>,
 ) -> Result<(), AllocError>
-    ensures { OnOk result (faults_of faults.new ≡ faults_of faults.old ++ At location breach.TypeSystemDefinition ∷ []) }
+    ensures { OnOk result (faults_of faults.new ≡ faults_of faults.old ++ typing_fault_at location breach.TypeSystemDefinition ∷ []) }
 {
     tell(location, BuildError::TypeSystemDefinition, faults)
 }
@@ -26,7 +26,7 @@ pub(crate) fn ambiguous_anonymous_operation(
     location: Option<SourceSpan>,
     faults: &mut Vec<(Option<SourceSpan>, BuildError)>,
 ) -> Result<(), AllocError>
-    ensures { OnOk result (faults_of faults.new ≡ faults_of faults.old ++ At location breach.AmbiguousAnonymousOperation ∷ []) }
+    ensures { OnOk result (faults_of faults.new ≡ faults_of faults.old ++ typing_fault_at location breach.AmbiguousAnonymousOperation ∷ []) }
 {
     tell(location, BuildError::AmbiguousAnonymousOperation, faults)
 }
@@ -37,7 +37,7 @@ pub(crate) fn undefined_root_operation(
     operation_type: OperationType,
     faults: &mut Vec<(Option<SourceSpan>, BuildError)>,
 ) -> Result<(), AllocError>
-    ensures { OnOk result (faults_of faults.new ≡ faults_of faults.old ++ At location (breach.UndefinedRootOperation operation_type) ∷ []) }
+    ensures { OnOk result (faults_of faults.new ≡ faults_of faults.old ++ typing_fault_at location (breach.UndefinedRootOperation operation_type) ∷ []) }
 {
     tell(
         location,
@@ -53,7 +53,7 @@ pub(crate) fn operation_name_collision(
     name: &Name,
     faults: &mut Vec<(Option<SourceSpan>, BuildError)>,
 ) -> Result<(), AllocError>
-    ensures { OnOk result (faults_of faults.new ≡ faults_of faults.old ++ faults_if is_known (At location (breach.OperationNameCollision name.now.text))) }
+    ensures { OnOk result (faults_of faults.new ≡ faults_of faults.old ++ faults_if is_known (typing_fault_at location (breach.OperationNameCollision name.now.text))) }
 {
     if !is_known {
         return Ok(());
@@ -73,7 +73,7 @@ pub(crate) fn fragment_name_collision(
     name: &Name,
     faults: &mut Vec<(Option<SourceSpan>, BuildError)>,
 ) -> Result<(), AllocError>
-    ensures { OnOk result (faults_of faults.new ≡ faults_of faults.old ++ faults_if is_known (At location (breach.FragmentNameCollision name.now.text))) }
+    ensures { OnOk result (faults_of faults.new ≡ faults_of faults.old ++ faults_if is_known (typing_fault_at location (breach.FragmentNameCollision name.now.text))) }
 {
     if !is_known {
         return Ok(());
@@ -88,7 +88,7 @@ pub(crate) fn undefined_type_in_named_fragment_type_condition(
     type_name: &Name,
     faults: &mut Vec<(Option<SourceSpan>, BuildError)>,
 ) -> Result<(), AllocError>
-    ensures { OnOk result (faults_of faults.new ≡ faults_of faults.old ++ At location (breach.UndefinedTypeInNamedFragmentTypeCondition type_name.now.text) ∷ []) }
+    ensures { OnOk result (faults_of faults.new ≡ faults_of faults.old ++ typing_fault_at location (breach.UndefinedTypeInNamedFragmentTypeCondition type_name.now.text) ∷ []) }
 {
     let type_name = type_name.clone()?;
     tell(

@@ -6,7 +6,7 @@ use Rattle.std.proofs.lemmas.List.Elements.{Contains-append_left, Contains-appen
 use Rattle.graphql_names.specs.Placed.{Text}
 use Rattle.document_typed_selections.specs.TypedTree.{TypedSelection, TypedField, TypedSpread, TypedInline, TypedSet, typed_set, TypedSelections, no_typed, typed_then, set_type, typed_selections_list}
 use Rattle.document_walks.specs.Reached.{NamedSet, Fragments, Member, members_of, members_in, members_along, selections_in, own_selections, inner_sets, spread_names, Spreads, fragment_named, Reached, by_start, by_fragment, ReachedSet, from_start, from_inner, from_spread, IsReached, IsMemberWalk}
-use Rattle.document_walks.specs.Left.{bare}
+use Rattle.document_walks.specs.Left.{bare_selections}
 use Rattle.document_walks.proofs.Finding.{not_in_nil, Contains-cons, Contains-first, Contains-rest}
 use Rattle.document_walks.proofs.Passing.{bare_in}
 use Rattle.document_walks.proofs.WalkLaws.{from_one, to_all}

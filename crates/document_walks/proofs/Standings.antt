@@ -20,7 +20,7 @@ use Rattle.document_typed_selections.proofs.TypedTrees.{typed_tree_field, typed_
 use Rattle.document_typed_operations.specs.declared.operation.Fragment.{Fragment}
 use Rattle.indexmap.specs.IndexSet.{insert_key}
 use Rattle.document_walks.specs.Reached.{NamedSet, Member}
-use Rattle.document_walks.specs.Left.{Standing, at_start, own_members, note, with_more}
+use Rattle.document_walks.specs.Left.{WalkState, at_start, own_members, note, with_more}
 use Rattle.document_walks.specs.WalkView.{HasPassed, HasEntered, fragment_set, members_on, waiting_in}
 use Rattle.document_walks.proofs.Finding.{length-map, position-map}
 use Rattle.document_walks.proofs.Passing.{has_passed, has_entered, own_at}
@@ -47,18 +47,18 @@ fold-last f z [] x = refl
 fold-last f z (y ∷ xs) x = fold-last f (f z y) xs x
 
 -- a walk that goes on with the members of a set, before those that were at the front
-pub descended : (s : SelectionSet) (members : List Selection) (below : List (Bor NameValue × Bor (List Selection))) (front : Bor NameValue × Bor (List Selection)) (w : Standing Place)
+pub descended : (s : SelectionSet) (members : List Selection) (below : List (Bor NameValue × Bor (List Selection))) (front : Bor NameValue × Bor (List Selection)) (w : WalkState Place)
     → members ≡ s.selections.items → w.pending ≡ waiting_in (fold waiting_in [] below) front
     → record w { pending = members_on s.ty members ++ fold waiting_in [] (below ++ front ∷ []) } ≡ with_more (own_members (typed_set_tree s)) w
 descended s members below front w of pending = λ i. record w { pending = (ap (members_on s.ty) of ∙ set_members s) i ++ (fold-last waiting_in [] below front ∙ sym pending) i }
 
-pub field_passed : (ty : NameValue) (n : Node Field) (s : Selection) (old new : Standing Place) → s ≡ Field' n
+pub field_passed : (ty : NameValue) (n : Node Field) (s : Selection) (old new : WalkState Place) → s ≡ Field' n
     → new ≡ with_more (if old.nested then own_members (typed_set_tree (content n).selection_set) else []) old
     → HasPassed (name_tree ty, typed_selection_tree s) old new
 field_passed ty n s old new is went =
     subst (λ t. HasPassed (name_tree ty, t) old new) (sym (ap typed_selection_tree is ∙ typed_tree_field n)) (has_passed _ old new went)
 
-pub inline_passed : (ty : NameValue) (n : Node InlineFragment) (f : InlineFragment) (s : Selection) (old new : Standing Place) → s ≡ InlineFragment' n → f ≡ content n
+pub inline_passed : (ty : NameValue) (n : Node InlineFragment) (f : InlineFragment) (s : Selection) (old new : WalkState Place) → s ≡ InlineFragment' n → f ≡ content n
     → new ≡ with_more (own_members (typed_set_tree f.selection_set)) old
     → HasPassed (name_tree ty, typed_selection_tree s) old new
 inline_passed ty n f s old new is of went =
@@ -74,7 +74,7 @@ place_named es n =
     ∙ position-map named_set (λ f. bytes_eq n f.0) es
     ∙ sym (position-map (λ (e : NameValue × Node Fragment). e.0) (λ k. bytes_eq n k.text) es)
 
-pub noted_as : (w : Standing Place) (ks ls : List ℕ) → ks ≡ ls → record w { noted = ks } ≡ record w { noted = ls }
+pub noted_as : (w : WalkState Place) (ks ls : List ℕ) → ks ≡ ls → record w { noted = ks } ≡ record w { noted = ls }
 noted_as w ks ls is = ap (λ ns. record w { noted = ns }) is
 
 pub noted_some : (es : List (NameValue × Node Fragment)) (n : List ℕ) (old new : List ℕ) (place : ℕ) → Some place ≡ position (λ (k : NameValue). bytes_eq n k.text) (map (λ (e : NameValue × Node Fragment). e.0) es)
@@ -95,7 +95,7 @@ within_all es entered count within is = subst (λ n. entered < n) (is ∙ sym (l
 abbrev members_if : Option (NamedSet Place) → List (Member Place)
 members_if o = option_map_or (λ f. own_members f.1) o []
 
-module _ (old : Standing Place) (es : List (NameValue × Node Fragment)) (front below : List (Member Place)) (place count : ℕ)
+module _ (old : WalkState Place) (es : List (NameValue × Node Fragment)) (front below : List (Member Place)) (place count : ℕ)
     (is : old.fragments ≡ map named_set es) (pending : old.pending ≡ front ++ below) (none : old.pending ≡ [])
     (within : old.entered < count) (all : count ≡ length es) (noted : Some place ≡ slice_get old.noted old.entered) where
   in_reach : old.entered < length old.fragments

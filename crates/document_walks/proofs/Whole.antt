@@ -16,7 +16,7 @@ use Rattle.std.proofs.lemmas.Option.{slice_get_past, slice_get_within}
 use Rattle.std.proofs.lemmas.Slice.Eq.{bytes_eq-Decides}
 use Rattle.document_typed_selections.specs.TypedTree.{TypedSet}
 use Rattle.document_walks.specs.Reached.{NamedSet, Fragments, Member, members_in, selections_in, is_field, fields_in, spread_names, Spreads, fragment_named, Reached, by_start, by_fragment, IsWalk, IsMemberWalk}
-use Rattle.document_walks.specs.Left.{note, note_all, selections_at, members_at, left_after, bare, fields_among, left_members, at_start}
+use Rattle.document_walks.specs.Left.{note, note_all, selections_at, members_at, left_after, bare_selections, fields_among, left_members, at_start}
 use Rattle.document_walks.proofs.Finding.{position-map, none_is_some, some_is, FoundAt, found_at, place_of_found, not_in_nil, Contains-cons, Contains-first}
 use Rattle.document_walks.proofs.Passing.{map-append, members_in-list, bare_in}
 
@@ -366,7 +366,7 @@ module _ {P : Type 0} (nested : Bool) (fs : Fragments P) (start : TypedSet P) wh
   left_of_start : left_members (at_start nested fs start) ≡ members_in nested start ++ flat_map (λ (f : NamedSet P). members_in nested f.1) (flat_map (λ i. entry_if (slice_get fs i)) entered_all)
   left_of_start =
       let room : length fs - 0 ≡ length fs = omega arith in
-      ap (λ l. l ++ left_after nested fs (length fs - 0) (note_all fs [] (bare l)) 0) (sym (members_in-list nested start))
+      ap (λ l. l ++ left_after nested fs (length fs - 0) (note_all fs [] (bare_selections l)) 0) (sym (members_in-list nested start))
       ∙ ap (λ l. members_in nested start ++ left_after nested fs (length fs - 0) (note_all fs [] l) 0) (bare_in nested start)
       ∙ ap (λ r. members_in nested start ++ left_after nested fs r first_noted 0) room
       ∙ ap (λ l. members_in nested start ++ l) (left_entering (length fs) first_noted 0 ∙ members_order entered_all)
@@ -388,7 +388,7 @@ module _ {P : Type 0} (nested : Bool) (fs : Fragments P) (start : TypedSet P) wh
   among_in s = ap (filter is_field) (bare_in nested s)
 
   among-append : (xs ys : List (Member P)) → fields_among (xs ++ ys) ≡ fields_among xs ++ fields_among ys
-  among-append xs ys = ap (filter is_field) (map-append (λ (e : Member P). e.1) xs ys) ∙ filter-append is_field (bare xs) (bare ys)
+  among-append xs ys = ap (filter is_field) (map-append (λ (e : Member P). e.1) xs ys) ∙ filter-append is_field (bare_selections xs) (bare_selections ys)
 
   among_each : (gs : List (NamedSet P)) → fields_among (flat_map (λ (f : NamedSet P). members_in nested f.1) gs) ≡ flat_map (λ (f : NamedSet P). fields_in nested f.1) gs
   among_each [] = refl

@@ -9,7 +9,7 @@ use Rattle.document_walks.specs.Reached.{Fragments, Member, members_of, members_
 
 -- where a walk stands: the selections that it has come to and not yet passed, the next one first; the places of the
 -- fragments whose spreads it has passed, in the order of their first spreads; and how many of these it has entered
-pub record Standing (P : Type 0) : Type 0 where
+pub record WalkState (P : Type 0) : Type 0 where
   pub nested : Bool
   pub fragments : Fragments P
   pub pending : List (Member P)
@@ -46,33 +46,33 @@ module _ {P : Type 0} where
   all_in nested e = members_of nested e.0 e.1
 
   -- selections without the types of their sets
-  abbrev pub bare : List (Member P) → List (TypedSelection P)
-  bare = map (λ e. e.1)
+  abbrev pub bare_selections : List (Member P) → List (TypedSelection P)
+  bare_selections = map (λ e. e.1)
 
   -- the fields among them
   abbrev pub fields_among : List (Member P) → List (TypedSelection P)
-  fields_among es = filter is_field (bare es)
+  fields_among es = filter is_field (bare_selections es)
 
   -- the selections of a set itself, each with its type
   abbrev pub own_members : TypedSet P → List (Member P)
   own_members s = map (λ x. (set_type s, x)) (own_selections s)
 
   -- the pending selections and what stands in them
-  abbrev pub standing_in : Standing P → List (Member P)
+  abbrev pub standing_in : WalkState P → List (Member P)
   standing_in w = flat_map (all_in w.nested) w.pending
 
   -- the selections that are left
-  abbrev pub left_members : Standing P → List (Member P)
-  left_members w = standing_in w ++ left_after w.nested w.fragments (length w.fragments - w.entered) (note_all w.fragments w.noted (bare (standing_in w))) w.entered
+  abbrev pub left_members : WalkState P → List (Member P)
+  left_members w = standing_in w ++ left_after w.nested w.fragments (length w.fragments - w.entered) (note_all w.fragments w.noted (bare_selections (standing_in w))) w.entered
 
   -- the same, with one more selection to come first, with more of them, or with a name noted
-  abbrev pub with_next : Member P → Standing P → Standing P
+  abbrev pub with_next : Member P → WalkState P → WalkState P
   with_next e w = record w { pending = e ∷ w.pending }
 
-  abbrev pub with_more : List (Member P) → Standing P → Standing P
+  abbrev pub with_more : List (Member P) → WalkState P → WalkState P
   with_more es w = record w { pending = es ++ w.pending }
 
-  abbrev pub with_name : List ℕ → Standing P → Standing P
+  abbrev pub with_name : List ℕ → WalkState P → WalkState P
   with_name n w = record w { noted = note w.fragments w.noted n }
 
   -- names, with those that the selection spreads and that fragments have
@@ -83,7 +83,7 @@ module _ {P : Type 0} where
   with_spread fragments names s = fold (with_known fragments) names (spread_names s)
 
 -- a walk at the start of a set
-abbrev pub at_start : {P : Type 0} → Bool → Fragments P → TypedSet P → Standing P
+abbrev pub at_start : {P : Type 0} → Bool → Fragments P → TypedSet P → WalkState P
 at_start nested fragments start = record {
   nested = nested;
   fragments = fragments;

@@ -12,7 +12,7 @@ use Rattle.document_typed_selections.specs.declared.selection.Field.{Field}
 use Rattle.document_typed_selections.specs.declared.selection.Selection.{Selection}
 use Rattle.document_walks.specs.Reached.{Member}
 use Rattle.document_walks.specs.Left.{left_members, fields_among}
-use Rattle.document_walks.specs.WalkView.{standing, lent_member}
+use Rattle.document_walks.specs.WalkView.{walk_state, lent_member}
 use Rattle.document_walks.specs.declared.selections.ReachedSelections.{ReachedSelections}
 use Rattle.document_walks.specs.declared.fields.AllFields.{AllFields}
 use Rattle.document_walks.specs.declared.fields.RootFields.{RootFields}
@@ -44,7 +44,7 @@ abbrev pub selections_are_over : ReachedSelections → Bool
 selections_are_over w = w.is_over
 
 abbrev pub selections_left : ReachedSelections → List (Member Place)
-selections_left w = if w.is_over then [] else left_members (standing w.walk)
+selections_left w = if w.is_over then [] else left_members (walk_state w.walk)
 
 -- the same of selections
 abbrev pub LendsNextSelection : ReachedSelections → Option (Result (Bor NameValue × Bor Selection) AllocError) → ReachedSelections → Type 0

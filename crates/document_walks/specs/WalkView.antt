@@ -10,7 +10,7 @@ use Rattle.document_typed_selections.specs.declared.selection.Selection.{Selecti
 use Rattle.document_typed_operations.specs.declared.operation.Fragment.{Fragment}
 use Rattle.document_walks.specs.declared.walk.Walk.{Walk}
 use Rattle.document_walks.specs.Reached.{Fragments, Member}
-use Rattle.document_walks.specs.Left.{Standing, with_next, left_members}
+use Rattle.document_walks.specs.Left.{WalkState, with_next, left_members}
 use Rattle.indexmap.specs.IndexMap.{IndexMap}
 use Rattle.indexmap.specs.IndexSet.{IndexSet}
 
@@ -34,8 +34,8 @@ lent_member e = (name_tree e.0.now, typed_selection_tree e.1.now)
 abbrev pub waiting_in : List (Member Place) → Bor NameValue × Bor (List Selection) → List (Member Place)
 waiting_in below set = members_on set.0.now set.1.now ++ below
 
-abbrev pub standing : Walk → Standing Place
-standing w = record {
+abbrev pub walk_state : Walk → WalkState Place
+walk_state w = record {
   nested = w.nested;
   fragments = fragments_tree w.fragments.now;
   pending = members_on w.ty.now w.front.now ++ fold waiting_in [] w.outer.items;
@@ -44,17 +44,17 @@ standing w = record {
 }
 
 -- how many steps a walk takes at most
-abbrev pub steps_left : {P : Type 0} → Standing P → ℕ
+abbrev pub steps_left : {P : Type 0} → WalkState P → ℕ
 steps_left w = length (left_members w) + (length w.fragments - w.entered)
 
 -- the walk has passed the selection, which came next
-pub record HasPassed {P : Type 0} (e : Member P) (old new : Standing P) : Type 0 where
+pub record HasPassed {P : Type 0} (e : Member P) (old new : WalkState P) : Type 0 where
   pub passed : left_members (with_next e old) ≡ e ∷ left_members new
   pub fragments : new.fragments ≡ old.fragments
   pub entered : new.entered ≡ old.entered
 
 -- the walk has entered a fragment, and the same selections are left
-pub record HasEntered {P : Type 0} (old new : Standing P) : Type 0 where
+pub record HasEntered {P : Type 0} (old new : WalkState P) : Type 0 where
   pub left : left_members new ≡ left_members old
   pub fewer : length new.fragments - new.entered < length old.fragments - old.entered
 

@@ -5,7 +5,7 @@ ghost use Rattle.graphql_names.specs.Node.{content};
 ghost use Rattle.graphql_names.specs.Placed.{name_tree};
 ghost use Rattle.document_typed_selections.specs.TypedTree.{typed_selection_tree, typed_set_tree};
 ghost use Rattle.document_walks.specs.Left.{at_start, own_members, with_next, with_more, with_name, left_members};
-ghost use Rattle.document_walks.specs.WalkView.{standing, fragments_tree, lent_member, HasPassed, HasEntered};
+ghost use Rattle.document_walks.specs.WalkView.{walk_state, fragments_tree, lent_member, HasPassed, HasEntered};
 
 use document_typed_operations::FragmentMap;
 use document_typed_selections::{Field, Selection, SelectionSet};
@@ -35,7 +35,7 @@ impl<'doc> Walk<'doc> {
         start: &'doc SelectionSet,
         fragments: &'doc FragmentMap,
     ) -> Walk<'doc>
-        ensures { standing result ≡ at_start nested (fragments_tree fragments.now) (typed_set_tree start.now) }
+        ensures { walk_state result ≡ at_start nested (fragments_tree fragments.now) (typed_set_tree start.now) }
     {
         Walk {
             nested,
@@ -50,7 +50,7 @@ impl<'doc> Walk<'doc> {
 
     /// Takes the next selection of the sets that are not passed to their ends.
     fn take_first(&mut self) -> Option<(&'doc NamedType, &'doc Selection)>
-        ensures { MatchOption result ((standing self.new ≡ standing self.old) × ((standing self.old).pending ≡ [])) (λ e. standing self.old ≡ with_next (lent_member e) (standing self.new)) }
+        ensures { MatchOption result ((walk_state self.new ≡ walk_state self.old) × ((walk_state self.old).pending ≡ [])) (λ e. walk_state self.old ≡ with_next (lent_member e) (walk_state self.new)) }
     {
         loop {
             if let Some((first, others)) = self.front.split_first() {
@@ -65,7 +65,7 @@ impl<'doc> Walk<'doc> {
 
     /// Goes on with the selections of this set, before all others.
     fn descend(&mut self, set: &'doc SelectionSet) -> Result<(), AllocError>
-        ensures { OnOk result (standing self.new ≡ with_more (own_members (typed_set_tree set.now)) (standing self.old)) }
+        ensures { OnOk result (walk_state self.new ≡ with_more (own_members (typed_set_tree set.now)) (walk_state self.old)) }
     {
         self.outer.push((self.ty, self.front))?;
         self.ty = &set.ty;
@@ -75,7 +75,7 @@ impl<'doc> Walk<'doc> {
 
     /// Notes the fragment of this name, if there is one and it is not noted yet.
     fn note(&mut self, name: &Name) -> Result<(), AllocError>
-        ensures { OnOk result (standing self.new ≡ with_name name.now.text (standing self.old)) }
+        ensures { OnOk result (walk_state self.new ≡ with_name name.now.text (walk_state self.old)) }
     {
         if let Some(place) = self.fragments.get_index_of(name) {
             self.noted.insert(place)?;
@@ -85,7 +85,7 @@ impl<'doc> Walk<'doc> {
 
     /// Goes on with what stands in a field, if that is walked over.
     fn enter_field(&mut self, field: &'doc Node<Field>) -> Result<(), AllocError>
-        ensures { OnOk result (standing self.new ≡ with_more (if (standing self.old).nested then own_members (typed_set_tree (content field.now).selection_set) else []) (standing self.old)) }
+        ensures { OnOk result (walk_state self.new ≡ with_more (if (walk_state self.old).nested then own_members (typed_set_tree (content field.now).selection_set) else []) (walk_state self.old)) }
     {
         if !self.nested {
             return Ok(());
@@ -95,7 +95,7 @@ impl<'doc> Walk<'doc> {
 
     /// Passes a selection: goes on with what stands in it, or notes what it spreads.
     fn pass(&mut self, ty: &NamedType, selection: &'doc Selection) -> Result<(), AllocError>
-        ensures { OnOk result (HasPassed (name_tree ty.now, typed_selection_tree selection.now) (standing self.old) (standing self.new)) }
+        ensures { OnOk result (HasPassed (name_tree ty.now, typed_selection_tree selection.now) (walk_state self.old) (walk_state self.new)) }
     {
         match selection {
             Selection::Field(field) => self.enter_field(field),
@@ -110,8 +110,8 @@ impl<'doc> Walk<'doc> {
     /// Goes on with the next fragment that is noted and not entered, if there is one. No more are entered than the
     /// document has.
     fn enter_fragment(&mut self) -> bool
-        requires { (standing self.old).pending ≡ [] }
-        ensures { MatchBool result (HasEntered (standing self.old) (standing self.new)) (left_members (standing self.old) ≡ []) }
+        requires { (walk_state self.old).pending ≡ [] }
+        ensures { MatchBool result (HasEntered (walk_state self.old) (walk_state self.new)) (left_members (walk_state self.old) ≡ []) }
     {
         if self.entered >= self.fragments.len() {
             return false;
@@ -132,7 +132,7 @@ impl<'doc> Walk<'doc> {
     pub(crate) fn next_member(
         &mut self,
     ) -> Result<Option<(&'doc NamedType, &'doc Selection)>, AllocError>
-        ensures { IfOk result (λ member. MatchOption member (left_members (standing self.old) ≡ []) (λ e. left_members (standing self.old) ≡ lent_member e ∷ left_members (standing self.new))) }
+        ensures { IfOk result (λ member. MatchOption member (left_members (walk_state self.old) ≡ []) (λ e. left_members (walk_state self.old) ≡ lent_member e ∷ left_members (walk_state self.new))) }
     {
         loop {
             match self.take_first() {

@@ -15,11 +15,11 @@ use Rattle.tree_directives.specs.declared.input_value.InputValueDefinition.{Inpu
 use Rattle.schema_coordinates.specs.CoordinateView.{schema_coordinate, attribute_coordinate}
 use Rattle.document_typed_selections.specs.declared.selection.FragmentSpread.{FragmentSpread}
 use Rattle.rule_definitions.specs.Diagnostics as tree
-use Rattle.rule_definitions.specs.Diagnostics.{Diagnostic, PlainType, SpreadTree}
+use Rattle.rule_definitions.specs.Diagnostics.{Diagnostic, UnplacedType, SpreadTree}
 use Rattle.fault_data.specs.declared.diagnostic_data.DiagnosticData.{DiagnosticData}
 use Rattle.fault_data.specs.declared.diagnostic_data.DiagnosticData.TheVariants as rust
 
-abbrev pub plain_type : «Type» → PlainType
+abbrev pub plain_type : «Type» → UnplacedType
 plain_type t = unplaced_type (type_tree t)
 
 abbrev pub plain_directive : Directive → DirectiveTree (Unit {0})

@@ -2,14 +2,14 @@
 ghost use Rattle.std.specs.Prelude.{◌≡◌, Some};
 ghost use Rattle.fault_data.specs.DiagnosticView.{diagnostic_of};
 ghost use Rattle.fault_data.specs.FilledTemplate.{filled};
-ghost use Rattle.fault_data.specs.Messages.{message};
+ghost use Rattle.fault_data.specs.Messages.{diagnostic_message};
 
 use crate::diagnostic_data::DiagnosticData;
 use crate::template::{Gap, Template};
 use std::fmt;
 
 impl fmt::Display for DiagnosticData {
-    ghost output = { λ d. Some (message (diagnostic_of d)) };
+    ghost output = { λ d. Some (diagnostic_message (diagnostic_of d)) };
 
     fn fmt<W: fmt::Write>(&self, f: &mut fmt::Formatter<W>) -> fmt::Result {
         fmt::Display::fmt(&template_of(self), f)
@@ -18,7 +18,7 @@ impl fmt::Display for DiagnosticData {
 
 /// The template of each variant, with what fills its gaps.
 fn template_of(diagnostic: &DiagnosticData) -> Template<'_>
-    ensures { filled result ≡ message (diagnostic_of diagnostic.now) }
+    ensures { filled result ≡ diagnostic_message (diagnostic_of diagnostic.now) }
 {
     match diagnostic {
         DiagnosticData::QueryRootOperationType => Template::Whole(

@@ -16,8 +16,8 @@ use Rattle.fault_document_data.specs.declared.build_error.ConflictingFieldName.{
 use Rattle.fault_document_data.specs.declared.build_error.ConflictingFieldArgument.{ConflictingFieldArgument}
 use Rattle.fault_document_data.specs.declared.build_error.ConflictingFieldType.{ConflictingFieldType}
 
-abbrev pub name_text : NameValue → List ℕ
-name_text n = n.text
+abbrev pub text_of_name : NameValue → List ℕ
+text_of_name n = n.text
 
 abbrev pub given_value : Option Value → Option (ValueTree (Unit {0}))
 given_value = option_map (λ v. unplaced_value (value_tree v))
@@ -51,9 +51,9 @@ document_breach_of (rust.UndefinedField t f) = breach.UndefinedField t.text f.te
 document_breach_of (rust.ConflictingFieldName c) = name_conflict c.value
 document_breach_of (rust.ConflictingFieldArgument c) = argument_conflict c.value
 document_breach_of (rust.ConflictingFieldType c) = type_conflict c.value
-document_breach_of (rust.SubscriptionUsesMultipleFields n fs) = breach.SubscriptionUsesMultipleFields (option_map name_text n) (map name_text fs.items)
-document_breach_of (rust.SubscriptionUsesIntrospection n f) = breach.SubscriptionUsesIntrospection (option_map name_text n) f.text
-document_breach_of (rust.SubscriptionUsesConditionalSelection n) = breach.SubscriptionUsesConditionalSelection (option_map name_text n)
+document_breach_of (rust.SubscriptionUsesMultipleFields n fs) = breach.SubscriptionUsesMultipleFields (option_map text_of_name n) (map text_of_name fs.items)
+document_breach_of (rust.SubscriptionUsesIntrospection n f) = breach.SubscriptionUsesIntrospection (option_map text_of_name n) f.text
+document_breach_of (rust.SubscriptionUsesConditionalSelection n) = breach.SubscriptionUsesConditionalSelection (option_map text_of_name n)
 document_breach_of rust.DeferLabelMustNotBeVariable = breach.DeferLabelMustNotBeVariable
 document_breach_of (rust.DuplicateDeferLabel l p) = breach.DuplicateDeferLabel (string_bytes l) p
 document_breach_of (rust.DeferOnRootMutationOrSubscriptionField o) = breach.DeferOnRootMutationOrSubscriptionField o

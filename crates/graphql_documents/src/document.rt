@@ -1,6 +1,6 @@
 //! Making documents.
 ghost use Rattle.std.specs.Prelude.{◌≡◌};
-ghost use Rattle.document_typing.specs.BuilderView.{builder_value, empty_builder};
+ghost use Rattle.document_typing.specs.BuilderView.{document_builder, empty_builder};
 
 use document_typed_operations::ExecutableDocument;
 use document_typing::{ExecutableDocumentBuilder, Schema};
@@ -20,7 +20,7 @@ impl ExecutableDocumentExt for ExecutableDocument {
         alloc: Global,
         schema: Option<&'schema Schema>,
     ) -> ExecutableDocumentBuilder<'schema>
-        ensures { builder_value result ≡ empty_builder schema.entry }
+        ensures { document_builder result ≡ empty_builder schema.entry }
     {
         ExecutableDocumentBuilder::new(alloc, schema)
     }

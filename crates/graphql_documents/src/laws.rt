@@ -7,7 +7,7 @@ ghost use Rattle.tree_definitions.specs.DefinitionTree.{document_tree};
 ghost use Rattle.document_typing.specs.TypingFaults.{AreTypingFaults};
 ghost use Rattle.document_typing.specs.OutDoc.{out_doc, written_document};
 ghost use Rattle.document_typing.specs.FaultView.{faults_of};
-ghost use Rattle.document_typing.specs.BuilderView.{builder_value, built_document};
+ghost use Rattle.document_typing.specs.BuilderView.{document_builder, built_document};
 
 use document_typing::{BuildError, BuilderRefusal, ExecutableDocumentBuilder};
 use graphql_names::SourceSpan;
@@ -21,9 +21,9 @@ pub fn written_and_told(
     alloc: Global,
     builder: ExecutableDocumentBuilder<'_>,
 ) -> Result<(Document, Vec<(Option<SourceSpan>, BuildError)>), BuilderRefusal>
-    ensures written { IfOk result (λ r. document_tree r.0 ≡ written_document (built_document (builder_value builder.entry))) }
-    ensures whole { IfOk result (λ r. faults_of r.1 ≡ [] → document_tree r.0 ≡ out_doc (builder_value builder.entry).definitions) }
-    ensures told { IfOk result (λ r. AreTypingFaults (builder_value builder.entry).meanings (builder_value builder.entry).definitions (faults_of r.1)) }
+    ensures written { IfOk result (λ r. document_tree r.0 ≡ written_document (built_document (document_builder builder.entry))) }
+    ensures whole { IfOk result (λ r. faults_of r.1 ≡ [] → document_tree r.0 ≡ out_doc (document_builder builder.entry).definitions) }
+    ensures told { IfOk result (λ r. AreTypingFaults (document_builder builder.entry).meanings (document_builder builder.entry).definitions (faults_of r.1)) }
 {
     let (document, faults) = builder.build()?;
     let written = document.to_ast(alloc)?;

@@ -4,7 +4,7 @@ use Rattle.graphql_read.specs.declared.fault.SyntaxFaultKind.{SyntaxFaultKind}
 use Rattle.graphql_read.specs.declared.fault.SyntaxFaultKind.TheVariants.{NoToken, Unexpected, End}
 use Rattle.schema_fold.specs.Messages as folding
 use Rattle.fault_document_data.specs.DocumentMessages.{document_message}
-use Rattle.fault_data.specs.Messages.{message}
+use Rattle.fault_data.specs.Messages.{diagnostic_message}
 use Rattle.graphql_faults.specs.DetailsTree.{DetailsTree, Syntax, Nesting, Spent, SchemaBuild, DocumentBuild, Data, RecursionLimitError}
 
 abbrev pub syntax_message : SyntaxFaultKind → List ℕ
@@ -19,5 +19,5 @@ module _ {P E : Type 0} where
   details_message Spent = codes "numbers are spent"
   details_message (SchemaBuild breach) = folding.message breach
   details_message (DocumentBuild breach) = document_message breach
-  details_message (Data diagnostic) = message diagnostic
+  details_message (Data diagnostic) = diagnostic_message diagnostic
   details_message RecursionLimitError = codes "too much recursion"

@@ -11,7 +11,7 @@ use Rattle.rule_document_definitions.specs.DocumentRules.{DeferredBreaks}
 use Rattle.rule_document_definitions.specs.Fragments.{ReachesItself}
 use Rattle.rule_document_definitions.specs.Limits.{PassesPathBound}
 use Rattle.rule_document_definitions.specs.Verdict.{WithinBounds}
-use Rattle.rule_document_definitions.specs.Named.{AreNamed}
+use Rattle.rule_document_definitions.specs.Named.{FragmentsFoundByName}
 use Rattle.rule_document_definitions.specs.Told.{PlacedDocumentFault, DocumentFailsAlone, DocumentBoundFails, IsValidAlone}
 use Rattle.rule_document_definitions.proofs.Verdicts.{valid_alone_where_nothing_is_told, within_bounds_where_nothing_is_told}
 use Rattle.rule_fragments.specs.Used.{IsUsed}
@@ -51,11 +51,11 @@ module _ (d : MeantDocument Place) where
   never tells (OfDocument b) h = not_in_nil (OfDocument b) (tells.full (OfDocument b) h)
   never tells (OfLimit place) h = h
 
-  pub silent_is_valid : AreNamed d → TellsAlone d [] → IsValidAlone d
+  pub silent_is_valid : FragmentsFoundByName d → TellsAlone d [] → IsValidAlone d
   silent_is_valid named tells = (valid_alone_where_nothing_is_told d named).1 (never tells)
 
   -- nothing is told of what is valid and within the bounds
-  pub valid_is_silent : AreNamed d → (told : List PlacedDocumentFault) → TellsAlone d told → IsValidAlone d → WithinBounds (unplaced_document d) → told ≡ []
+  pub valid_is_silent : FragmentsFoundByName d → (told : List PlacedDocumentFault) → TellsAlone d told → IsValidAlone d → WithinBounds (unplaced_document d) → told ≡ []
   valid_is_silent named [] tells valid within = refl
   valid_is_silent named (f ∷ fs) tells valid within = elim (tells.right f (Contains-first f fs f refl)) [
     | inl h ↦ absurd ((valid_alone_where_nothing_is_told d named).0 valid f h)

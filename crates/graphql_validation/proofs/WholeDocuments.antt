@@ -14,7 +14,7 @@ use Rattle.rule_document_definitions.specs.DocumentFaults.{Broken, OfData, OfDoc
 use Rattle.rule_document_definitions.specs.Fragments.{ReachesItself}
 use Rattle.rule_document_definitions.specs.Limits.{PassesPathBound}
 use Rattle.rule_document_definitions.specs.Merging.{FieldsMerge}
-use Rattle.rule_document_definitions.specs.Named.{AreNamed}
+use Rattle.rule_document_definitions.specs.Named.{FragmentsFoundByName}
 use Rattle.rule_document_definitions.specs.Reached.{AtOperation}
 use Rattle.rule_document_definitions.specs.Selected.{operations}
 use Rattle.rule_document_definitions.specs.Subscriptions.{SubscriptionBreaks}
@@ -125,11 +125,11 @@ module _ (s : SchemaTree Place) (d : MeantDocument Place) where
   no_conflict merge (OfDocument b) (o, (among, breaks)) = merging_breaks_nothing (judged s) d o (merge o among) b breaks
   no_conflict merge (OfLimit place) h = h
 
-  pub silent_is_valid : AreNamed d → TellsDocument s d [] → ((o : MeantOperation Place) → Contains (operations d) o → FieldsMerge (judged s) d o) → IsValidDocument s d
+  pub silent_is_valid : FragmentsFoundByName d → TellsDocument s d [] → ((o : MeantOperation Place) → Contains (operations d) o → FieldsMerge (judged s) d o) → IsValidDocument s d
   silent_is_valid named tells merge = (valid_where_nothing_is_told s d named).1 (λ f q. elim q [ inl h ↦ no_rule tells f h | inr h ↦ no_conflict merge f h ])
 
   -- nothing is told of what is valid and within the bounds
-  pub valid_is_silent : AreNamed d → (told : List PlacedDocumentFault) → TellsDocument s d told → IsValidDocument s d → WithinBounds (unplaced_document d) → told ≡ []
+  pub valid_is_silent : FragmentsFoundByName d → (told : List PlacedDocumentFault) → TellsDocument s d told → IsValidDocument s d → WithinBounds (unplaced_document d) → told ≡ []
   valid_is_silent named [] tells valid within = refl
   valid_is_silent named (f ∷ fs) tells valid within = elim (tells.right f (Contains-first f fs f refl)) [
     | inl h ↦ absurd ((valid_where_nothing_is_told s d named).0 valid f (inl h))

@@ -12,7 +12,7 @@ use Rattle.fault_data.specs.in_rule_definitions.Diagnostics.{Diagnostic, Recursi
 use Rattle.fault_data.specs.in_rule_definitions.Faults.{wrong}
 use Rattle.fault_data.specs.in_rule_definitions.Spots.{HeadAt, StandsAt, spot_place}
 use Rattle.fault_data.specs.in_rule_definitions.Judged.{judged}
-use Rattle.fault_data.specs.in_rule_definitions.Cycles.{Thing, ADirective, Refers, trace_of, reference_bound}
+use Rattle.fault_data.specs.in_rule_definitions.Cycles.{Thing, ADirective, Refers, trace_of_way, reference_bound}
 use Rattle.rule_cycle_search.specs.Paths.{Leads, IsWay, HasNoRepeat}
 use Rattle.fault_data.specs.in_rule_definitions.Cycles as cycles
 use Rattle.schema_types.specs.Distinct.{AreAllDistinct}
@@ -76,12 +76,12 @@ module _ (s : SchemaTree Place) (distinct : AreAllDistinct s) (g : Graph) (graph
       Leads-named-on (uses_at s) (thing_at s) (number_in s) (Refers (judged s)) (tells_use s) says_use (use_sound s distinct)
       root way.0 way.1.0 root (ADirective n) (here root n e.1.0 e.1.1.0) (Leads-same (RefersTo g) Walks to_walk root (way.0 ∷ way.1.0) root way.1.1.1) in
       let same : w.0 ≡ ADirective n = same_Some w.0 (ADirective n) (sym w.1.1.1.0 ∙ here root n e.1.0 e.1.1.0) in
-      let told : map plain_use (use_trace s root path) ≡ map (map_place (spot_place s)) (trace_of (w.1.0 ∷ w.1.1.0)) =
+      let told : map plain_use (use_trace s root path) ≡ map (map_place (spot_place s)) (trace_of_way (w.1.0 ∷ w.1.1.0)) =
       map-reverse plain_use (directives_of (labels (uses_at s) root path))
       ∙ ap (λ (p : List ℕ). reverse (map plain_use (directives_of (labels (uses_at s) root p)))) way.1.1.0
       ∙ ap reverse (sym (mapped_there plain_use (labels (uses_at s) root (way.0 ∷ way.1.0))) ∙ ap (filter_map (λ o. o)) (sym w.1.1.1.1.1) ∙ mapped_there (map_place (spot_place s)) (w.1.0 ∷ w.1.1.0))
       ∙ sym (map-reverse (map_place (spot_place s)) (filter_map (λ o. o) (w.1.0 ∷ w.1.1.0))) in (
-        wrong (HeadAt n) (RecursiveDirectiveDefinition n (trace_of (w.1.0 ∷ w.1.1.0))),
+        wrong (HeadAt n) (RecursiveDirectiveDefinition n (trace_of_way (w.1.0 ∷ w.1.1.0))),
         (
           inl (inr (n, (w.1.0, (w.1.1.0, (subst (Leads (Refers (judged s)) (ADirective n) (w.1.0 ∷ w.1.1.0)) same w.1.1.1.1.0, refl))))),
           (
@@ -101,13 +101,13 @@ module _ (s : SchemaTree Place) (distinct : AreAllDistinct s) (g : Graph) (graph
       root deep.0 (ADirective n) at (IsWay-same (RefersTo g) Walks to_walk (root ∷ deep.0) deep.1.0) in
       let apart : HasNoRepeat (ADirective n ∷ w.0) =
       HasNoRepeat-named (uses_at s) (thing_at s) (number_in s) (Refers (judged s)) (tells_use s) says_use (use_one s distinct) (root ∷ deep.0) (ADirective n ∷ w.0) (at, w.1.0) deep.1.1.0 in
-      let directives : count_by (is_first g) (root ∷ deep.0) ≡ count_by cycles.is_directive (ADirective n ∷ w.0) =
-      count-named (uses_at s) (thing_at s) (number_in s) (Refers (judged s)) (tells_use s) says_use (is_first g) cycles.is_directive
+      let directives : count_by (is_first g) (root ∷ deep.0) ≡ count_by cycles.is_a_directive (ADirective n ∷ w.0) =
+      count-named (uses_at s) (thing_at s) (number_in s) (Refers (judged s)) (tells_use s) says_use (is_first g) cycles.is_a_directive
       (λ i x h. ap (nat_lt i) graph.directives ∙ same_directive s i x h) (root ∷ deep.0) (ADirective n ∷ w.0) (at, w.1.0) in
-      let types : count_by (is_other g) (root ∷ deep.0) ≡ count_by cycles.is_type (ADirective n ∷ w.0) =
-      count-named (uses_at s) (thing_at s) (number_in s) (Refers (judged s)) (tells_use s) says_use (is_other g) cycles.is_type
+      let types : count_by (is_other g) (root ∷ deep.0) ≡ count_by cycles.is_a_type (ADirective n ∷ w.0) =
+      count-named (uses_at s) (thing_at s) (number_in s) (Refers (judged s)) (tells_use s) says_use (is_other g) cycles.is_a_type
       (λ i x h. ap (λ k. not (nat_lt i k)) graph.directives ∙ same_type s i x h) (root ∷ deep.0) (ADirective n ∷ w.0) (at, w.1.0) in
-      let long : (reference_bound < count_by cycles.is_directive (ADirective n ∷ w.0)) ⊎ (reference_bound < count_by cycles.is_type (ADirective n ∷ w.0)) = elim deep.1.1.1 [
+      let long : (reference_bound < count_by cycles.is_a_directive (ADirective n ∷ w.0)) ⊎ (reference_bound < count_by cycles.is_a_type (ADirective n ∷ w.0)) = elim deep.1.1.1 [
         | inl many ↦ inl (omega (arith, many, directives, graph.bound))
         | inr many ↦ inr (omega (arith, many, types, graph.bound))
       ] in (

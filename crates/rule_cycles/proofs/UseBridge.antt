@@ -20,10 +20,10 @@ use Rattle.schema_types.specs.Addresses.{Address, TypeAt, ValueAt, InputAt, Argu
 use Rattle.fault_data.specs.in_rule_definitions.Diagnostics.{map_place}
 use Rattle.fault_data.specs.in_rule_definitions.Spots.{At, spot_place}
 use Rattle.fault_data.specs.in_rule_definitions.Words.{Present, Somewhere, AtSomeIndex}
-use Rattle.fault_data.specs.in_rule_definitions.Judged.{judged, bare}
+use Rattle.fault_data.specs.in_rule_definitions.Judged.{judged, applied_directives}
 use Rattle.schema_types.specs.Distinct.{AreUnder, ArePartsDistinct, AreAllDistinct}
 use Rattle.fault_data.specs.in_rule_definitions.TypesUsed.{named_in}
-use Rattle.fault_data.specs.in_rule_definitions.Cycles.{Referring, Thing, ADirective, AType, is_directive, is_type, RefersByUse, RefersByInput, Refers}
+use Rattle.fault_data.specs.in_rule_definitions.Cycles.{Referring, Thing, ADirective, AType, is_a_directive, is_a_type, RefersByUse, RefersByInput, Refers}
 use Rattle.rule_cycle_search.proofs.Lists.{found_in, given_in, index_found, index_given, mapped_some, slice_get-map, only, Contains-cons, Contains-first, not_in_nil}
 use Rattle.fault_data.proofs.in_rule_definitions.Lookups.{itself, under_found, under_given}
 use Rattle.fault_data.proofs.Judgings.{type_seen, type_look, directive_look, value_look, input_look, named_unplaced, value_there, input_there}
@@ -41,7 +41,7 @@ By = Option (Referring (DirectiveTree (Unit {0})))
 abbrev pub says_use : Use → Option (Placed Place (DirectiveTree (Unit {0})))
 says_use by = option_map plain_use by
 
-bare_same : (ds : Directives Place) → map (λ (d : Placed Place (DirectiveTree Place)). unplaced_directive d.it) ds ≡ bare (unplaced_directives ds)
+bare_same : (ds : Directives Place) → map (λ (d : Placed Place (DirectiveTree Place)). unplaced_directive d.it) ds ≡ applied_directives (unplaced_directives ds)
 bare_same [] = refl
 bare_same (d ∷ ds) = ap (λ l. unplaced_directive d.it ∷ l) (bare_same ds)
 
@@ -256,13 +256,13 @@ module _ (s : SchemaTree Place) where
   module _ (at : Address) (v : InputValueTree Place) (here : directives_at s at ≡ v.directives) where
     sound_input : IsSoundPart (RefersByInput (judged s) at (unplaced_input_value v)) (input_uses s v)
     sound_input =
-        sound_both (RefersByUse (judged s) at (bare (unplaced_directives v.directives))) (IsTyped v.ty.it) (uses_references s v.directives) (type_reference s v.ty.it)
-        (sound_uses at v.directives here (bare (unplaced_directives v.directives)) (bare_same v.directives)) (sound_type v.ty.it)
+        sound_both (RefersByUse (judged s) at (applied_directives (unplaced_directives v.directives))) (IsTyped v.ty.it) (uses_references s v.directives) (type_reference s v.ty.it)
+        (sound_uses at v.directives here (applied_directives (unplaced_directives v.directives)) (bare_same v.directives)) (sound_type v.ty.it)
 
     full_input : IsFullPart (RefersByInput (judged s) at (unplaced_input_value v)) (input_uses s v)
     full_input =
-        full_both (RefersByUse (judged s) at (bare (unplaced_directives v.directives))) (IsTyped v.ty.it) (uses_references s v.directives) (type_reference s v.ty.it)
-        (full_uses at v.directives here (bare (unplaced_directives v.directives)) (bare_same v.directives)) (full_type v.ty.it)
+        full_both (RefersByUse (judged s) at (applied_directives (unplaced_directives v.directives))) (IsTyped v.ty.it) (uses_references s v.directives) (type_reference s v.ty.it)
+        (full_uses at v.directives here (applied_directives (unplaced_directives v.directives)) (bare_same v.directives)) (full_type v.ty.it)
 
   -- ---- a directive's definition
 
@@ -295,7 +295,7 @@ module _ (s : SchemaTree Place) where
 
   module _ (n : List ℕ) (t : SchemaType Place) (has : under n s.types ≡ Some t) where
     abbrev ByValue : List ℕ → EnumValueTree (Unit {0}) → By → Thing → Type 0
-    ByValue m v by y = RefersByUse (judged s) (ValueAt n m) (bare v.directives) by y
+    ByValue m v by y = RefersByUse (judged s) (ValueAt n m) (applied_directives v.directives) by y
 
     abbrev ByField : List ℕ → InputValueTree (Unit {0}) → By → Thing → Type 0
     ByField m v by y = RefersByInput (judged s) (InputAt n m) v by y
@@ -339,7 +339,7 @@ module _ (s : SchemaTree Place) where
         (
         sound_both (ByValues (type_seen t)) (ByFields (type_seen t)) (each_value value_uses t.values) (each_value field_uses t.inputs)
         (sound_under t.values (plain_given unplaced_enum_value) (type_seen t).value (value_look t) value_uses ByValue parts.values
-        (λ m g at. sound_uses (ValueAt n m) g.it.it.directives (value_here m g at) (bare (unplaced_directives g.it.it.directives)) (bare_same g.it.it.directives)))
+        (λ m g at. sound_uses (ValueAt n m) g.it.it.directives (value_here m g at) (applied_directives (unplaced_directives g.it.it.directives)) (bare_same g.it.it.directives)))
         (sound_under t.inputs (plain_given unplaced_input_value) (type_seen t).input (input_look t) field_uses ByField parts.inputs (λ m g at. sound_input (InputAt n m) g.it.it (field_here m g at)))
         )
         )
@@ -353,7 +353,7 @@ module _ (s : SchemaTree Place) where
         (
         full_both (ByValues (type_seen t)) (ByFields (type_seen t)) (each_value value_uses t.values) (each_value field_uses t.inputs)
         (full_under t.values (plain_given unplaced_enum_value) (type_seen t).value (value_look t) value_uses ByValue
-        (λ m g at. full_uses (ValueAt n m) g.it.it.directives (value_here m g at) (bare (unplaced_directives g.it.it.directives)) (bare_same g.it.it.directives)))
+        (λ m g at. full_uses (ValueAt n m) g.it.it.directives (value_here m g at) (applied_directives (unplaced_directives g.it.it.directives)) (bare_same g.it.it.directives)))
         (full_under t.inputs (plain_given unplaced_input_value) (type_seen t).input (input_look t) field_uses ByField (λ m g at. full_input (InputAt n m) g.it.it (field_here m g at)))
         )
         )
@@ -396,16 +396,16 @@ module _ (s : SchemaTree Place) where
         chosen e = ap (λ (b : Bool). if b then option_map (λ (e : List ℕ × Placed Place (DirectiveDefinitionTree Place)). ADirective e.0) (slice_get s.directives i) else option_map (λ (e : List ℕ × SchemaType Place). AType e.0) (slice_get s.types (i - length s.directives))) e
 
   -- the kind of a thing is that of its number
-  pub same_directive : (i : ℕ) (x : Thing) → thing_at i ≡ Some x → nat_lt i (length s.directives) ≡ is_directive x
+  pub same_directive : (i : ℕ) (x : Thing) → thing_at i ≡ Some x → nat_lt i (length s.directives) ≡ is_a_directive x
   same_directive i x h = elim (which i x h) [
-    | inl d ↦ lt-ltb i (length s.directives) (slice_get_within s.directives i d.0 d.1.0) ∙ sym (ap is_directive d.1.1)
-    | inr t ↦ le-ltb i (length s.directives) (omega (arith, t.1.0)) ∙ sym (ap is_directive t.1.1.1)
+    | inl d ↦ lt-ltb i (length s.directives) (slice_get_within s.directives i d.0 d.1.0) ∙ sym (ap is_a_directive d.1.1)
+    | inr t ↦ le-ltb i (length s.directives) (omega (arith, t.1.0)) ∙ sym (ap is_a_directive t.1.1.1)
   ]
 
-  pub same_type : (i : ℕ) (x : Thing) → thing_at i ≡ Some x → not (nat_lt i (length s.directives)) ≡ is_type x
+  pub same_type : (i : ℕ) (x : Thing) → thing_at i ≡ Some x → not (nat_lt i (length s.directives)) ≡ is_a_type x
   same_type i x h = elim (which i x h) [
-    | inl d ↦ ap not (lt-ltb i (length s.directives) (slice_get_within s.directives i d.0 d.1.0)) ∙ sym (ap is_type d.1.1)
-    | inr t ↦ ap not (le-ltb i (length s.directives) (omega (arith, t.1.0))) ∙ sym (ap is_type t.1.1.1)
+    | inl d ↦ ap not (lt-ltb i (length s.directives) (slice_get_within s.directives i d.0 d.1.0)) ∙ sym (ap is_a_type d.1.1)
+    | inr t ↦ ap not (le-ltb i (length s.directives) (omega (arith, t.1.0))) ∙ sym (ap is_a_type t.1.1.1)
   ]
 
   module _ (distinct : AreAllDistinct s) where

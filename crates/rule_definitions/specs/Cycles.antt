@@ -11,7 +11,7 @@ use Rattle.rule_definitions.specs.Diagnostics.{RecursiveInputObjectDefinition, R
 use Rattle.rule_definitions.specs.Words.{Present, Somewhere, AtSomeIndex}
 use Rattle.rule_definitions.specs.Spots.{Spot, At, HeadAt}
 use Rattle.rule_definitions.specs.Faults.{SchemaFault, wrong}
-use Rattle.rule_definitions.specs.Judged.{Judged, bare}
+use Rattle.rule_definitions.specs.Judged.{Judged, applied_directives}
 use Rattle.rule_definitions.specs.TypesUsed.{named_in}
 
 -- the greatest number of directives, or of types, on a way
@@ -27,13 +27,13 @@ pub data Thing : Type 0 where
   ADirective : (name : List ℕ) → Thing
   AType : (name : List ℕ) → Thing
 
-abbrev pub is_directive : Thing → Bool
-is_directive (ADirective n) = true
-is_directive (AType n) = false
+abbrev pub is_a_directive : Thing → Bool
+is_a_directive (ADirective n) = true
+is_a_directive (AType n) = false
 
-abbrev pub is_type : Thing → Bool
-is_type (ADirective n) = false
-is_type (AType n) = true
+abbrev pub is_a_type : Thing → Bool
+is_a_type (ADirective n) = false
+is_a_type (AType n) = true
 
 module _ (s : Judged) where
   -- ---- input objects
@@ -53,7 +53,7 @@ module _ (s : Judged) where
 
   -- an argument definition or input field refers by its directives, and to its type, if that is there
   abbrev pub RefersByInput : Address → InputValueTree (Unit {0}) → Option (Referring (DirectiveTree (Unit {0}))) → Thing → Type 0
-  RefersByInput at v by to = RefersByUse at (bare v.directives) by to ⊎ ((by ≡ None) × ((to ≡ AType (named_in v.ty.it)) × (is_some (s.type_named (named_in v.ty.it)) ≡ true)))
+  RefersByInput at v by to = RefersByUse at (applied_directives v.directives) by to ⊎ ((by ≡ None) × ((to ≡ AType (named_in v.ty.it)) × (is_some (s.type_named (named_in v.ty.it)) ≡ true)))
 
   -- a directive refers by its arguments; a type by its directives, its enum values and its input fields
   abbrev pub Refers : Thing → Option (Referring (DirectiveTree (Unit {0}))) → Thing → Type 0
@@ -61,12 +61,12 @@ module _ (s : Judged) where
       RefersByInput (ArgumentAt (DirectiveDefinitionAt n) i) v.it by to))
   Refers (AType n) by to = Present (s.type_named n) (λ t.
       RefersByUse (TypeAt n) t.directives by to
-      ⊎ (Somewhere t.value (λ m v. RefersByUse (ValueAt n m) (bare v.directives) by to)
+      ⊎ (Somewhere t.value (λ m v. RefersByUse (ValueAt n m) (applied_directives v.directives) by to)
       ⊎ Somewhere t.input (λ m v. RefersByInput (InputAt n m) v by to)))
 
 -- the directives by which a way refers, from the last to the first
-abbrev pub trace_of : List (Option (Referring (DirectiveTree (Unit {0})))) → List (Referring (DirectiveTree (Unit {0})))
-trace_of bys = reverse (filter_map (λ by. by) bys)
+abbrev pub trace_of_way : List (Option (Referring (DirectiveTree (Unit {0})))) → List (Referring (DirectiveTree (Unit {0})))
+trace_of_way bys = reverse (filter_map (λ by. by) bys)
 
 module _ (s : Judged) (fault : SchemaFault) where
   -- RecursiveInputObjectDefinition: no fields of type `Name!` lead from an input object back to it (section 3.10)
@@ -79,7 +79,7 @@ module _ (s : Judged) (fault : SchemaFault) where
   abbrev pub RecursiveDirectiveDefinitionAt : Type 0
   RecursiveDirectiveDefinitionAt = (n : List ℕ) × ((by : Option (Referring (DirectiveTree (Unit {0})))) × ((rest : List (Option (Referring (DirectiveTree (Unit {0}))))) × (
       Leads (Refers s) (ADirective n) (by ∷ rest) (ADirective n)
-      × (fault ≡ wrong (HeadAt n) (RecursiveDirectiveDefinition n (trace_of (by ∷ rest)))))))
+      × (fault ≡ wrong (HeadAt n) (RecursiveDirectiveDefinition n (trace_of_way (by ∷ rest)))))))
 
   -- ---- the bound: not a rule, but what may be answered where it is passed
 
@@ -93,7 +93,7 @@ module _ (s : Judged) (fault : SchemaFault) where
   abbrev pub DeeplyNestedDirectiveAt : Type 0
   DeeplyNestedDirectiveAt = (n : List ℕ) × ((rest : List Thing) × (
       IsWay (Refers s) (ADirective n ∷ rest) × (HasNoRepeat (ADirective n ∷ rest)
-      × (((reference_bound < count_by is_directive (ADirective n ∷ rest)) ⊎ (reference_bound < count_by is_type (ADirective n ∷ rest)))
+      × (((reference_bound < count_by is_a_directive (ADirective n ∷ rest)) ⊎ (reference_bound < count_by is_a_type (ADirective n ∷ rest)))
       × (fault ≡ wrong (HeadAt n) (DeeplyNestedType n (codes "directive")))))))
 
   -- ReferenceBound is passed, and this tells it

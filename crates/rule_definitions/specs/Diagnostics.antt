@@ -10,8 +10,8 @@ use Rattle.tree_directives.specs.declared.operation_type.OperationType.{Operatio
 use Rattle.schema_coordinates.specs.Coordinate.{Coordinate}
 
 -- a reference to a type, without places
-abbrev pub PlainType : Type 0
-PlainType = TypeTree (Unit {0})
+abbrev pub UnplacedType : Type 0
+UnplacedType = TypeTree (Unit {0})
 
 -- ...name @directives, without places
 pub record SpreadTree : Type 0 where
@@ -36,9 +36,9 @@ pub data Diagnostic (P E : Type 0) : Type 0 where
   RecursiveInterfaceDefinition : (name : List ℕ) → Diagnostic P E
   TransitiveImplementedInterfaces : (interface via_interface : List ℕ) (transitive_interface_location : P) (missing_interface : List ℕ) → Diagnostic P E
   MissingInterfaceField : (name : List ℕ) (implements_location : P) (interface field : List ℕ) (field_location : P) → Diagnostic P E
-  InvalidImplementationFieldType : (name interface field : List ℕ) (interface_type actual_type : PlainType) (field_location interface_field_location : P) → Diagnostic P E
+  InvalidImplementationFieldType : (name interface field : List ℕ) (interface_type actual_type : UnplacedType) (field_location interface_field_location : P) → Diagnostic P E
   MissingInterfaceFieldArgument : (name interface field argument : List ℕ) (field_location interface_argument_location : P) → Diagnostic P E
-  InvalidImplementationFieldArgumentType : (name interface field argument : List ℕ) (interface_type actual_type : PlainType) (argument_location interface_argument_location : P) → Diagnostic P E
+  InvalidImplementationFieldArgumentType : (name interface field argument : List ℕ) (interface_type actual_type : UnplacedType) (argument_location interface_argument_location : P) → Diagnostic P E
   ExtraRequiredImplementationFieldArgument : (name interface field argument : List ℕ) (argument_location interface_field_location : P) → Diagnostic P E
   UniqueInputValue : (name : List ℕ) (original_definition redefined_definition : P) → Diagnostic P E
   RecursiveInputObjectDefinition : (name : List ℕ) (trace : List (Placed P (InputValueTree (Unit {0})))) → Diagnostic P E
@@ -50,19 +50,19 @@ pub data Diagnostic (P E : Type 0) : Type 0 where
   UnsupportedLocation : (name : List ℕ) (location : DirectiveLocation) (valid_locations : List DirectiveLocation) (definition_location : P) → Diagnostic P E
   UniqueArgument : (name : List ℕ) (original_definition redefined_definition : P) → Diagnostic P E
   UndefinedArgument : (name : List ℕ) (coordinate : Coordinate) (definition_location : P) → Diagnostic P E
-  RequiredArgument : (name : List ℕ) (coordinate : Coordinate) (expected_type : PlainType) (definition_location : P) → Diagnostic P E
-  DisallowedVariableUsage : (variable : List ℕ) (variable_type : PlainType) (variable_location : P) (argument : List ℕ) (argument_type : PlainType) (argument_location : P) → Diagnostic P E
+  RequiredArgument : (name : List ℕ) (coordinate : Coordinate) (expected_type : UnplacedType) (definition_location : P) → Diagnostic P E
+  DisallowedVariableUsage : (variable : List ℕ) (variable_type : UnplacedType) (variable_location : P) (argument : List ℕ) (argument_type : UnplacedType) (argument_location : P) → Diagnostic P E
   -- ---- values
-  UnsupportedValueType : (value : ValueTree (Unit {0})) (ty : PlainType) (definition_location : P) → Diagnostic P E
+  UnsupportedValueType : (value : ValueTree (Unit {0})) (ty : UnplacedType) (definition_location : P) → Diagnostic P E
   IntCoercionError : (value : List ℕ) → Diagnostic P E
   FloatCoercionError : (value : List ℕ) → Diagnostic P E
   UndefinedVariable : (name : List ℕ) → Diagnostic P E
   UndefinedEnumValue : (value definition : List ℕ) (definition_location : P) → Diagnostic P E
   UndefinedInputValue : (value definition : List ℕ) (definition_location : P) → Diagnostic P E
-  RequiredField : (name : List ℕ) (coordinate : Coordinate) (expected_type : PlainType) (definition_location : P) → Diagnostic P E
+  RequiredField : (name : List ℕ) (coordinate : Coordinate) (expected_type : UnplacedType) (definition_location : P) → Diagnostic P E
   -- ---- documents
   UniqueVariable : (name : List ℕ) (original_definition redefined_definition : P) → Diagnostic P E
-  VariableInputType : (name : List ℕ) (ty : PlainType) (describe_type : List ℕ) → Diagnostic P E
+  VariableInputType : (name : List ℕ) (ty : UnplacedType) (describe_type : List ℕ) → Diagnostic P E
   UnusedVariable : (name : List ℕ) → Diagnostic P E
   MissingSubselection : (coordinate : Coordinate) (output_type describe_type : List ℕ) → Diagnostic P E
   UndefinedFragment : (name : List ℕ) → Diagnostic P E

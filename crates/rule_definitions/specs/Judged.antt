@@ -25,8 +25,8 @@ abbrev pub judged : SchemaTree Place → Judged
 judged s = judged_by (looks (plain s)) (is_marked s)
 
 -- directives that are applied, in order
-abbrev pub bare : Directives (Unit {0}) → List (DirectiveTree (Unit {0}))
-bare ds = map (λ d. d.it) ds
+abbrev pub applied_directives : Directives (Unit {0}) → List (DirectiveTree (Unit {0}))
+applied_directives ds = map (λ d. d.it) ds
 
 -- ---- scalars
 

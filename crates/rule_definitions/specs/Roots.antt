@@ -11,14 +11,14 @@ use Rattle.rule_definitions.specs.Words.{Present, Repeats}
 use Rattle.rule_definitions.specs.Faults.{SchemaFault, told}
 use Rattle.rule_definitions.specs.Judged.{Judged}
 
-abbrev pub root_of : PlainRoots → OperationType → Option (List ℕ)
-root_of roots operation.Query = roots.query
-root_of roots operation.Mutation = roots.mutation
-root_of roots operation.Subscription = roots.subscription
+abbrev pub root_type_of : PlainRoots → OperationType → Option (List ℕ)
+root_type_of roots operation.Query = roots.query
+root_type_of roots operation.Mutation = roots.mutation
+root_type_of roots operation.Subscription = roots.subscription
 
 -- the roots that are there, in the order query, mutation, subscription
-abbrev pub roots_in : PlainRoots → List (OperationType × List ℕ)
-roots_in roots = flat_map (λ o. map (λ n. (o, n)) (option_to_list (root_of roots o))) (operation.Query ∷ operation.Mutation ∷ operation.Subscription ∷ [])
+abbrev pub root_types_in : PlainRoots → List (OperationType × List ℕ)
+root_types_in roots = flat_map (λ o. map (λ n. (o, n)) (option_to_list (root_type_of roots o))) (operation.Query ∷ operation.Mutation ∷ operation.Subscription ∷ [])
 
 module _ (s : Judged) (fault : SchemaFault) where
   -- QueryRootOperationType: the query root must be given
@@ -27,15 +27,15 @@ module _ (s : Judged) (fault : SchemaFault) where
 
   -- UndefinedDefinition: the type of a root is there
   abbrev pub UndefinedRootAt : Type 0
-  UndefinedRootAt = (o : OperationType) × Present (root_of s.definition o) (λ n.
+  UndefinedRootAt = (o : OperationType) × Present (root_type_of s.definition o) (λ n.
       (s.type_named n ≡ None) × (fault ≡ told (RootAt o) (UndefinedDefinition n)))
 
   -- RootOperationObjectType: the type of a root must be an object type
   abbrev pub RootOperationObjectTypeAt : Type 0
-  RootOperationObjectTypeAt = (o : OperationType) × Present (root_of s.definition o) (λ n. Present (s.type_named n) (λ t.
+  RootOperationObjectTypeAt = (o : OperationType) × Present (root_type_of s.definition o) (λ n. Present (s.type_named n) (λ t.
       (t.kind ≢ kind.Object) × (fault ≡ told (RootAt o) (RootOperationObjectType n (kind_words t.kind)))))
 
   -- DuplicateRootOperationType: the types of the roots must all be different
   abbrev pub DuplicateRootOperationTypeAt : Type 0
-  DuplicateRootOperationTypeAt = Repeats (λ r. r.1) (roots_in s.definition) (λ i first j later.
+  DuplicateRootOperationTypeAt = Repeats (λ r. r.1) (root_types_in s.definition) (λ i first j later.
       fault ≡ told (RootAt later.0) (DuplicateRootOperationType later.1 first.0 (RootAt first.0) later.0 (RootAt later.0)))

@@ -14,7 +14,7 @@ use Rattle.schema_types.specs.declared.type_kind.TypeKind.TheVariants as kind
 use Rattle.rule_definitions.specs.Diagnostics.{map_places}
 use Rattle.rule_definitions.specs.Spots.{At, spotted_directives, spot_place, StandsAt}
 use Rattle.rule_definitions.specs.Faults.{FaultAt, SchemaFault}
-use Rattle.rule_definitions.specs.Judged.{Judged, judged, bare, IsBuiltInScalar, AtType, AtField, AtValue, AtInputField, AtArgument}
+use Rattle.rule_definitions.specs.Judged.{Judged, judged, applied_directives, IsBuiltInScalar, AtType, AtField, AtValue, AtInputField, AtArgument}
 use Rattle.rule_definitions.specs.Roots.{QueryRootOperationTypeAt, UndefinedRootAt, RootOperationObjectTypeAt, DuplicateRootOperationTypeAt}
 use Rattle.rule_definitions.specs.ReservedNames.{ReservedNameAt}
 use Rattle.rule_definitions.specs.TypesUsed.{UndefinedFieldTypeAt, UndefinedInputTypeAt, UndefinedMemberAt, OutputTypeAt, InputTypeAt, UnionMemberObjectTypeAt, UniqueArgumentDefinitionAt}
@@ -38,10 +38,10 @@ module _ (s : Judged) where
   AtDirectives P =
       P SchemaAt location.Schema s.definition.directives
       ⊎ (AtType s (λ n t. (IsBuiltInScalar s n t → ⊥) × P (TypeAt n) (type_location t.kind) t.directives)
-      ⊎ (AtField s (λ n m f. P (FieldAt n m) location.FieldDefinition (bare f.directives))
-      ⊎ (AtArgument s (λ at v. P at location.ArgumentDefinition (bare v.directives))
-      ⊎ (AtValue s (λ n m v. P (ValueAt n m) location.EnumValue (bare v.directives))
-      ⊎ AtInputField s (λ n m v. P (InputAt n m) location.InputFieldDefinition (bare v.directives))))))
+      ⊎ (AtField s (λ n m f. P (FieldAt n m) location.FieldDefinition (applied_directives f.directives))
+      ⊎ (AtArgument s (λ at v. P at location.ArgumentDefinition (applied_directives v.directives))
+      ⊎ (AtValue s (λ n m v. P (ValueAt n m) location.EnumValue (applied_directives v.directives))
+      ⊎ AtInputField s (λ n m v. P (InputAt n m) location.InputFieldDefinition (applied_directives v.directives))))))
 
   -- a rule on the use of a directive fails so: there are no variables
   abbrev pub SchemaUsesBreak : SchemaFault → Type 0

@@ -15,7 +15,7 @@ use Rattle.rule_document_definitions.specs.Reached.{first, next}
 use Rattle.rule_document_definitions.specs.Selections.{MissingSubselectionAt}
 use Rattle.rule_document_definitions.specs.Fragments.{UndefinedFragmentAt, UnusedFragmentAt}
 use Rattle.rule_document_definitions.specs.DocumentRules.{RulesFail}
-use Rattle.rule_document_definitions.specs.Named.{AreNamed}
+use Rattle.rule_document_definitions.specs.Named.{FragmentsFoundByName}
 use Rattle.rule_document_definitions.proofs.RowWords.{not_present, none_reached}
 use Rattle.rule_document_definitions.proofs.RowParts.{by_numbers, at, small, query_name, a_name, f_name, p_type, leaf, p_field, spread, query_of, fragment_of, alone, at_root, stand_at, root}
 
@@ -93,5 +93,5 @@ none_is_unused fault (f, (c, (unreached, is))) =
     one : (g : MeantFragment (Unit {0})) → Contains (fragments (unplaced_document two_fragments)) g → unplaced_fragment (fragment_at 5) ≡ g
     one g k = elim (Contains-cons (unplaced_fragment (fragment_at 5)) (unplaced_fragment (fragment_at 6) ∷ []) g k) [ inl e ↦ e | inr r ↦ sym (only (unplaced_fragment (fragment_at 6)) g r) ]
 
-not_named : AreNamed two_fragments → ⊥
+not_named : FragmentsFoundByName two_fragments → ⊥
 not_named named = not_found f_name (named (fragment_at 6) (1, omega arith, refl))

@@ -6,7 +6,7 @@ use Rattle.rule_definitions.specs.Words.{Present}
 use Rattle.rule_definitions.proofs.Lists.{not_in_nil, Contains-cons}
 use Rattle.rule_document_definitions.specs.Selected.{Position, InOperation, InFragment, SelectionAt, Standing, StandingField, stand, standing_in, in_inline, field_there, as_field, fragment_named, operation_name}
 use Rattle.rule_document_definitions.specs.Reached.{first, next, AtRoot, InFragmentOf, IsFieldOf}
-use Rattle.rule_document_definitions.specs.Named.{AreNamed}
+use Rattle.rule_document_definitions.specs.Named.{FragmentsFoundByName}
 use Rattle.rule_document_definitions.proofs.UnplacedFragments.{held_if_named}
 
 -- ---- parts of a position
@@ -92,7 +92,7 @@ module _ {P : Type 0} (d : MeantDocument P) (o : MeantOperation P) where
   abbrev StandsThere : Standing P → Type 0
   StandsThere x = (h : Position) × ((s : MeantSet P) × (HoldsSet h s × Contains (standing_in h s) x))
 
-  root_stands : AreNamed d → (x : Standing P) → AtRoot d o x → StandsThere x
+  root_stands : FragmentsFoundByName d → (x : Standing P) → AtRoot d o x → StandsThere x
   root_stands named x (first c) = (InOperation (operation_name o), (o.set, (refl, c)))
   root_stands named y (next {x = x} r l) = further (root_stands named x r) l
     where
@@ -104,7 +104,7 @@ module _ {P : Type 0} (d : MeantDocument P) (o : MeantOperation P) where
       further there (inr (n, (e, (f, (k, i))))) = (InFragment f.name.it, (f.set, ((f, (named f (held_if_named d n f k), refl)), i)))
 
   -- one that is reached is where its position says
-  pub one_at_position : AreNamed d → (x y : Standing P) → AtRoot d o x → AtRoot d o y → x.position ≡ y.position → x ≡ y
+  pub one_at_position : FragmentsFoundByName d → (x y : Standing P) → AtRoot d o x → AtRoot d o y → x.position ≡ y.position → x ≡ y
   one_at_position named x y r q e = by (root_stands named x r) (root_stands named y q)
     where
       by : StandsThere x → StandsThere y → x ≡ y
@@ -116,7 +116,7 @@ module _ {P : Type 0} (d : MeantDocument P) (o : MeantOperation P) where
           one_in_set k t x y (subst (λ (w : MeantSet P). Contains (standing_in k w) x) one (subst (λ p. Contains (standing_in p s) x) here c)) m e
 
   -- and so are the fields at the root
-  pub one_field : AreNamed d → (f g : StandingField P) → IsFieldOf d (InOperation (operation_name o)) o.set f → IsFieldOf d (InOperation (operation_name o)) o.set g → f.position ≡ g.position → f ≡ g
+  pub one_field : FragmentsFoundByName d → (f g : StandingField P) → IsFieldOf d (InOperation (operation_name o)) o.set f → IsFieldOf d (InOperation (operation_name o)) o.set g → f.position ≡ g.position → f ≡ g
   one_field named f g (x, (r, e)) (y, (q, k)) same =
       let a = field_at_position x.position x.parent x.it f e in
       let b = field_at_position y.position y.parent y.it g k in

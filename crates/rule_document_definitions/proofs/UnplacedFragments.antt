@@ -19,7 +19,7 @@ use Rattle.rule_cycle_search.specs.Paths.{Leads}
 use Rattle.rule_document_definitions.specs.Places.{Places}
 use Rattle.rule_document_definitions.specs.Verdict.{no_places}
 use Rattle.rule_document_definitions.specs.FaultsUnplaced.{unplaced_wrong}
-use Rattle.rule_document_definitions.specs.Named.{AreNamed}
+use Rattle.rule_document_definitions.specs.Named.{FragmentsFoundByName}
 use Rattle.rule_document_definitions.specs.Selected.{InFragment, Standing, all_in, spread_name, inline_condition, selection_place, operations, fragments, fragment_named}
 use Rattle.rule_document_definitions.specs.Reached.{ReachesFragment, AtOperation}
 use Rattle.rule_document_definitions.specs.Fragments.{as_spread, RefersBySpread, UndefinedFragmentAt, RecursiveFragmentDefinitionAt, UnusedFragmentAt, InvalidFragmentTargetAt, InvalidFragmentSpreadAt, FragmentsBreak}
@@ -127,17 +127,17 @@ module _ {P : Type 0} (d : MeantDocument P) where
   held_if_named n f e = contains_map (λ (x : List ℕ × MeantFragment P). x.1) d.fragments (n, f) (under_given n d.fragments f e)
 
   -- fragments that stand under their own names, no two under one, are found under them
-  pub named_if_own : IsDistinct bytes_eq (keys_of d.fragments) → ((e : List ℕ × MeantFragment P) → Contains d.fragments e → e.0 ≡ e.1.name.it) → AreNamed d
+  pub named_if_own : IsDistinct bytes_eq (keys_of d.fragments) → ((e : List ℕ × MeantFragment P) → Contains d.fragments e → e.0 ≡ e.1.name.it) → FragmentsFoundByName d
   named_if_own distinct own f c =
       let e = contains_unmap (λ (x : List ℕ × MeantFragment P). x.1) d.fragments f c in
       let found = under_found d.fragments distinct e.0 e.1.0 in
       subst (λ (g : MeantFragment P). fragment_named d g.name.it ≡ Some g) e.1.1 (subst (λ n. fragment_named d n ≡ Some e.0.1) (own e.0 e.1.0) found)
 
   -- two that are equal without places are one
-  pub one_of_name : AreNamed d → (f g : MeantFragment P) → Contains (fragments d) f → Contains (fragments d) g → f.name.it ≡ g.name.it → f ≡ g
+  pub one_of_name : FragmentsFoundByName d → (f g : MeantFragment P) → Contains (fragments d) f → Contains (fragments d) g → f.name.it ≡ g.name.it → f ≡ g
   one_of_name named f g c k e = same_Some _ _ (sym (named f c) ∙ ap (fragment_named d) e ∙ named g k)
 
-  reached_same : AreNamed d → (f : MeantFragment P) → Contains (fragments d) f → AtOperation d (λ o. ReachesFragment d o f) ↔ AtOperation (unplaced_document d) (λ o. ReachesFragment (unplaced_document d) o (unplaced_fragment f))
+  reached_same : FragmentsFoundByName d → (f : MeantFragment P) → Contains (fragments d) f → AtOperation d (λ o. ReachesFragment d o f) ↔ AtOperation (unplaced_document d) (λ o. ReachesFragment (unplaced_document d) o (unplaced_fragment f))
   reached_same named f c = (
     λ h. (unplaced_operation h.0, (subst (λ l. Contains l (unplaced_operation h.0)) (sym (operations_same d)) (contains_map unplaced_operation (operations d) h.0 h.1.0), reaches_without_places d h.0 f h.1.1)),
     λ h.
@@ -151,7 +151,7 @@ module _ {P : Type 0} (d : MeantDocument P) where
 -- ---- rules
 
 module _ {P E : Type 0} (places : Places P) (d : MeantDocument P) where
-  pub unused_fragment_bared : AreNamed d → Moved {E = E} (UnusedFragmentAt d) (UnusedFragmentAt (unplaced_document d))
+  pub unused_fragment_bared : FragmentsFoundByName d → Moved {E = E} (UnusedFragmentAt d) (UnusedFragmentAt (unplaced_document d))
   unused_fragment_bared named =
       moves_among Bared unplaced_fragment (Contains (fragments d)) (Contains (fragments (unplaced_document d)))
       (λ f c. subst (λ l. Contains l (unplaced_fragment f)) (sym (fragments_same d)) (contains_map unplaced_fragment (fragments d) f c))

@@ -18,7 +18,7 @@ use Rattle.rule_definitions.specs.Uses.{directive_name}
 use Rattle.rule_definitions.proofs.Lists.{not_in_nil, Contains-cons, Contains-first, mapped_some, mapped_none, slice_get-map, index_given}
 use Rattle.rule_document_definitions.specs.DocumentFaults.{Broken, broken}
 use Rattle.rule_document_definitions.specs.FaultsUnplaced.{unplaced_breach, unplaced_broken}
-use Rattle.rule_document_definitions.specs.Named.{AreNamed}
+use Rattle.rule_document_definitions.specs.Named.{FragmentsFoundByName}
 use Rattle.rule_document_definitions.specs.Selected.{Standing, StandingField, as_field, own, field_name, operation_name, selection_directives, all_selections}
 use Rattle.rule_document_definitions.specs.Subscriptions.{IsRootField, AreRootFields, SubscriptionUsesMultipleFieldsAt, SubscriptionUsesIntrospectionAt, SubscriptionUsesConditionalSelectionAt, SubscriptionBreaks}
 use Rattle.rule_document_definitions.specs.Defer.{defers, given_if, literal_if, MayBeLeftOut, labels, string_labels, DeferLabelMustNotBeVariableAt, DuplicateDeferLabelAt, IsConditional, ReachedAlways, DeferOnRootMutationOrSubscriptionFieldAt, DeferInSubscriptionMustBeConditionalAt, DeferBreaks}
@@ -84,7 +84,7 @@ module _ {P : Type 0} where
   names_of (f ∷ fs) = ap (λ l. field_name f ∷ l) (names_of fs)
 
 module _ {P : Type 0} (d : MeantDocument P) (o : MeantOperation P) where
-  module _ (named : AreNamed d) where
+  module _ (named : FragmentsFoundByName d) where
     -- root fields that are equal without places are one
     apart : (f g : StandingField P) → IsRootField d o f → IsRootField d o g → unplaced_field f ≡ unplaced_field g → f ≡ g
     apart f g a b e = one_field d o named f g a b (ap (λ (v : StandingField (Unit {0})). v.position) e)
@@ -141,7 +141,7 @@ module _ {P : Type 0} (d : MeantDocument P) (o : MeantOperation P) where
       (moves_broken e.place (SubscriptionUsesConditionalSelection (operation_name o)) (SubscriptionUsesConditionalSelection (operation_name (unplaced_operation o)))
       (ap SubscriptionUsesConditionalSelection (sym (name_of o))))))
 
-  pub subscription_bared : AreNamed d → Moves Told (SubscriptionBreaks d o) (SubscriptionBreaks (unplaced_document d) (unplaced_operation o))
+  pub subscription_bared : FragmentsFoundByName d → Moves Told (SubscriptionBreaks d o) (SubscriptionBreaks (unplaced_document d) (unplaced_operation o))
   subscription_bared named =
       moves_where Told same
       (moves_either Told (multiple_fields_bared named) (moves_either Told introspection_bared conditional_selection_bared))

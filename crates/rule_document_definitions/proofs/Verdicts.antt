@@ -11,7 +11,7 @@ use Rattle.rule_definitions.proofs.Lists.{not_in_nil}
 use Rattle.rule_document_definitions.specs.Places.{Places}
 use Rattle.rule_document_definitions.specs.DocumentFaults.{Broken, DocumentFault, OfData, OfDocument, OfLimit}
 use Rattle.rule_document_definitions.specs.FaultsUnplaced.{unplaced_fault}
-use Rattle.rule_document_definitions.specs.Named.{AreNamed}
+use Rattle.rule_document_definitions.specs.Named.{FragmentsFoundByName}
 use Rattle.rule_document_definitions.specs.Selected.{operations}
 use Rattle.rule_document_definitions.specs.Merging.{FieldsMerge, MergingBreaks}
 use Rattle.rule_document_definitions.specs.Variables.{VariablesBreak}
@@ -91,7 +91,7 @@ module _ {P E : Type 0} (R : DocumentFault P E → Type 0) (S : UnplacedFault �
 -- ---- the rules of a document, of a field set, without a schema
 
 module _ {P E : Type 0} (places : Places P) (spans : HasSpans places) where
-  module _ (s : Judged) (d : MeantDocument P) (named : AreNamed d) where
+  module _ (s : Judged) (d : MeantDocument P) (named : FragmentsFoundByName d) where
     data_bared : Moved {E = E} (DataBreaks places s d) (DataBreaks no_places s (unplaced_document d))
     data_bared =
         moves_either Bared
@@ -114,7 +114,7 @@ module _ {P E : Type 0} (places : Places P) (spans : HasSpans places) where
       moves_kinds (FieldSetFails places s set) (FieldSetFails no_places s (unplaced_set set)) (data_bared s (document_of_set places.nowhere set) (λ f c. not_in_nil f c))
       (λ f. (λ h. absurd h, λ q. absurd q.1.0)) (λ p h. h) (λ p h. h)
 
-  pub alone_bared : (d : MeantDocument P) → AreNamed d → Moves (Told {E = E}) (StandaloneFails places d) (StandaloneFails no_places (unplaced_document d))
+  pub alone_bared : (d : MeantDocument P) → FragmentsFoundByName d → Moves (Told {E = E}) (StandaloneFails places d) (StandaloneFails no_places (unplaced_document d))
   alone_bared d named =
       moves_kinds (StandaloneFails places d) (StandaloneFails no_places (unplaced_document d))
       (moves_either Bared

@@ -16,7 +16,7 @@ use Rattle.rule_document_definitions.specs.FieldSets.{FieldSetFails, FieldSetBou
 use Rattle.rule_document_definitions.specs.Standalone.{StandaloneFails}
 use Rattle.rule_document_definitions.specs.Verdict.{no_places, UnplacedFault, Merging, WithinBounds, FieldSetWithinBounds}
 use Rattle.rule_document_definitions.specs.FaultsUnplaced.{unplaced_fault}
-use Rattle.rule_document_definitions.specs.Named.{AreNamed}
+use Rattle.rule_document_definitions.specs.Named.{FragmentsFoundByName}
 use Rattle.rule_document_definitions.specs.Told.{PlacedDocumentFault, DocumentFails, DocumentMergingFails, SetRulesFail, DocumentBoundFails, SetBoundFails, DocumentFailsAlone, IsValidDocument, IsValidFieldSet, IsValidAlone}
 
 abbrev pub SameDocumentVerdict : Type 0
@@ -42,7 +42,7 @@ abbrev pub TellsWithoutPlaces : (PlacedDocumentFault → Type 0) → (UnplacedFa
 TellsWithoutPlaces Fails FailsUnplaced = (fault : UnplacedFault) → FailsUnplaced fault ↔ ((told : PlacedDocumentFault) × (Fails told × (fault ≡ unplaced_fault told)))
 
 abbrev pub RulesWithoutPlaces : Type 0
-RulesWithoutPlaces = (s : SchemaTree Place) (d : MeantDocument Place) → AreNamed d
+RulesWithoutPlaces = (s : SchemaTree Place) (d : MeantDocument Place) → FragmentsFoundByName d
     → TellsWithoutPlaces (DocumentFails s d) (RulesFail no_places (judged s) (unplaced_document d))
 
 abbrev pub MergingWithoutPlaces : Type 0
@@ -52,7 +52,7 @@ abbrev pub SetRulesWithoutPlaces : Type 0
 SetRulesWithoutPlaces = (s : SchemaTree Place) (set : MeantSet Place) → TellsWithoutPlaces (SetRulesFail s set) (FieldSetFails no_places (judged s) (unplaced_set set))
 
 abbrev pub RulesAloneWithoutPlaces : Type 0
-RulesAloneWithoutPlaces = (d : MeantDocument Place) → AreNamed d → TellsWithoutPlaces (DocumentFailsAlone d) (StandaloneFails no_places (unplaced_document d))
+RulesAloneWithoutPlaces = (d : MeantDocument Place) → FragmentsFoundByName d → TellsWithoutPlaces (DocumentFailsAlone d) (StandaloneFails no_places (unplaced_document d))
 
 abbrev pub BoundsWithoutPlaces : Type 0
 BoundsWithoutPlaces = (d : MeantDocument Place) → TellsWithoutPlaces (DocumentBoundFails d) (BoundFails no_places (unplaced_document d))
@@ -67,14 +67,14 @@ MergesWhereNothingIsTold = (s : SchemaTree Place) (d : MeantDocument Place) →
     Merging (judged s) (unplaced_document d) ↔ ((fault : PlacedDocumentFault) → DocumentMergingFails s d fault → ⊥)
 
 abbrev pub ValidWhereNothingIsTold : Type 0
-ValidWhereNothingIsTold = (s : SchemaTree Place) (d : MeantDocument Place) → AreNamed d
+ValidWhereNothingIsTold = (s : SchemaTree Place) (d : MeantDocument Place) → FragmentsFoundByName d
     → IsValidDocument s d ↔ ((fault : PlacedDocumentFault) → DocumentFails s d fault ⊎ DocumentMergingFails s d fault → ⊥)
 
 abbrev pub SetValidWhereNothingIsTold : Type 0
 SetValidWhereNothingIsTold = (s : SchemaTree Place) (set : MeantSet Place) → IsValidFieldSet s set ↔ ((fault : PlacedDocumentFault) → SetRulesFail s set fault → ⊥)
 
 abbrev pub ValidAloneWhereNothingIsTold : Type 0
-ValidAloneWhereNothingIsTold = (d : MeantDocument Place) → AreNamed d → IsValidAlone d ↔ ((fault : PlacedDocumentFault) → DocumentFailsAlone d fault → ⊥)
+ValidAloneWhereNothingIsTold = (d : MeantDocument Place) → FragmentsFoundByName d → IsValidAlone d ↔ ((fault : PlacedDocumentFault) → DocumentFailsAlone d fault → ⊥)
 
 abbrev pub WithinBoundsWhereNothingIsTold : Type 0
 WithinBoundsWhereNothingIsTold = (d : MeantDocument Place) → WithinBounds (unplaced_document d) ↔ ((fault : PlacedDocumentFault) → DocumentBoundFails d fault → ⊥)

@@ -4,5 +4,5 @@ use Rattle.document_meaning.specs.MeantTree.{MeantFragment, MeantDocument}
 use Rattle.rule_document_definitions.specs.Selected.{fragments, fragment_named}
 
 -- each fragment of the document is the one that its name finds
-abbrev pub AreNamed : {P : Type 0} → MeantDocument P → Type 0
-AreNamed {P} d = (f : MeantFragment P) → Contains (fragments d) f → fragment_named d f.name.it ≡ Some f
+abbrev pub FragmentsFoundByName : {P : Type 0} → MeantDocument P → Type 0
+FragmentsFoundByName {P} d = (f : MeantFragment P) → Contains (fragments d) f → fragment_named d f.name.it ≡ Some f

@@ -16,7 +16,7 @@ use Rattle.document_typed_operations.specs.TypedDocument.{TypedFragment, typed_f
 use Rattle.document_typed_operations.specs.declared.operation.Fragment.{Fragment}
 use Rattle.document_meaning.specs.MeantTree.{MeantFragment, MeantDocument}
 use Rattle.document_typing.specs.DocumentView.{meant_by_fragment}
-use Rattle.rule_document_definitions.specs.Named.{AreNamed}
+use Rattle.rule_document_definitions.specs.Named.{FragmentsFoundByName}
 use Rattle.rule_document_definitions.specs.Selected.{fragments, fragment_named}
 use Rattle.rule_document_ground.specs.Reach.{meant_fragments}
 use Rattle.rule_cycle_search.proofs.Lists.{not_in_nil, Contains-cons, Contains-first}
@@ -112,7 +112,7 @@ module _ {P : Type 0} (d : MeantDocument P) where
         let name : e.0.0 ≡ f.name.it = own e.0 e.1.0 ∙ ap (λ (g : MeantFragment P). g.name.it) e.1.1 in
         (i.0, i.1 ∙ (λ z. Some (name z, e.1.1 z)))
 
-    pub are_named : AreNamed d
+    pub are_named : FragmentsFoundByName d
     are_named f c = let i = own_number f c in under_at d.fragments distinct i.0 f.name.it f i.1
 
     -- fragments of one name are one

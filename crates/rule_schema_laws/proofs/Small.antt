@@ -20,13 +20,13 @@ use Rattle.rule_definitions.specs.in_schema_types.declared.type_kind.TypeKind.Th
 use Rattle.rule_definitions.specs.Words.{Present}
 use Rattle.rule_definitions.specs.Spots.{At, spotted_directives}
 use Rattle.rule_definitions.specs.Faults.{SchemaFault, told}
-use Rattle.rule_definitions.specs.Judged.{Judged, judged, AtArgument, bare, AtInputField, AtInputValue, AtValue}
+use Rattle.rule_definitions.specs.Judged.{Judged, judged, AtArgument, applied_directives, AtInputField, AtInputValue, AtValue}
 use Rattle.rule_definitions.specs.Uses.{UsesBreak}
 use Rattle.rule_definitions.specs.Rules.{SchemaRules, type_location, ReferencesBreak, EmptyBreaks, InterfacesBreak, CyclesBreak, SchemaUsesBreak}
 use Rattle.rule_definitions.specs.TypesUsed.{scalar_names, named_in, IsUndefinedAt}
 use Rattle.rule_definitions.specs.ReservedNames.{is_reserved, IsReservedAt}
 use Rattle.rule_definitions.specs.Diagnostics.{InputType}
-use Rattle.rule_definitions.specs.Roots.{roots_in}
+use Rattle.rule_definitions.specs.Roots.{root_types_in}
 use Rattle.rule_definitions.proofs.Lookups.{text_found}
 use Rattle.rule_schema_laws.specs.Small.{small, type_q, type_foo, field_a, IsWithout}
 use Rattle.schema_types.proofs.UnderNames.{get_under}
@@ -136,7 +136,7 @@ references fault (inr (inr (inl (operation.Mutation, (n, (e, p)))))) = cc
 references fault (inr (inr (inl (operation.Subscription, (n, (e, p)))))) = cc
 references fault (inr (inr (inr (inl (j, (later, (at, (i, (first, (at', (same, (is_first, (less, told))))))))))))) = one i j first later less at' at
   where
-    one : (i j : ℕ) (a b : _) → i < j → slice_get (roots_in s.definition) i ≡ Some a → slice_get (roots_in s.definition) j ≡ Some b → ⊥
+    one : (i j : ℕ) (a b : _) → i < j → slice_get (root_types_in s.definition) i ≡ Some a → slice_get (root_types_in s.definition) j ≡ Some b → ⊥
     one i zero a b less e f = absurd (omega (arith, less))
     one i (suc j) a b less e f = no_some refl f
 references fault (inr (inr (inr (inr (inl (inl (n, (t, (e, (mark, (reserved, told))))))))))) = elim (type_there n t e) [
@@ -184,8 +184,8 @@ cycles fault (inr (n, (by, (rest, ((z, ((d, (e, p)), leads)), told))))) = no_dir
 uses : (fault : SchemaFault) → SchemaUsesBreak s fault → ⊥
 uses fault (inl a) = no_uses _ fault a
 uses fault (inr (inl (n, (t, (e, (scalar, a)))))) = no_uses _ fault (subst (λ ds. UsesBreak At s [] (type_location t.kind) (spotted_directives (TypeAt n) ds) fault) (quiet n t e).directives a)
-uses fault (inr (inr (inl (n, (t, (e, (m, (f, (h, a))))))))) = no_uses _ fault (subst (λ (g : FieldDefinitionTree (Unit {0})). UsesBreak At s [] location.FieldDefinition (spotted_directives (FieldAt n m) (bare g.directives)) fault) ((quiet n t e).fields m f h).1 a)
-uses fault (inr (inr (inr (inl a)))) = no_argument (λ x v. UsesBreak At s [] location.ArgumentDefinition (spotted_directives x (bare v.directives)) fault) a
+uses fault (inr (inr (inl (n, (t, (e, (m, (f, (h, a))))))))) = no_uses _ fault (subst (λ (g : FieldDefinitionTree (Unit {0})). UsesBreak At s [] location.FieldDefinition (spotted_directives (FieldAt n m) (applied_directives g.directives)) fault) ((quiet n t e).fields m f h).1 a)
+uses fault (inr (inr (inr (inl a)))) = no_argument (λ x v. UsesBreak At s [] location.ArgumentDefinition (spotted_directives x (applied_directives v.directives)) fault) a
 uses fault (inr (inr (inr (inr (inl a))))) = no_value _ a
 uses fault (inr (inr (inr (inr (inr a))))) = no_input_field _ a
 

@@ -16,7 +16,7 @@ use Rattle.document_typed_operations.specs.TypedDocument.{TypedDocumentTree}
 use Rattle.document_meaning.specs.MeantTree.{MeantSelection, MeantSet, MeantOperation, MeantFragment, MeantDocument, meant, meant_of_set, meant_of_all}
 use Rattle.document_typing.specs.DocumentView.{meant_document}
 use Rattle.document_walks.specs.Reached.{NamedSet, Fragments, Member, document_fragments, selections_of, selections_in, selections_along, members_in, spread_names, Spreads, Reached, by_start, by_fragment, IsMemberWalk, fragment_named as named_set_of}
-use Rattle.document_walks.specs.Left.{bare}
+use Rattle.document_walks.specs.Left.{bare_selections}
 use Rattle.document_walks.proofs.Passing.{bare_in}
 use Rattle.rule_document_definitions.specs.Selected.{Position, InOperation, InFragment, Standing, spread_name, operation_name, fragment_named, own}
 use Rattle.rule_document_definitions.specs.Reached.{Closed, first, next, InFragmentOf, AtRoot}

@@ -11,7 +11,7 @@ use Rattle.fault_data.specs.in_rule_definitions.Diagnostics.{UndefinedDefinition
 use Rattle.fault_data.specs.in_rule_definitions.Words.{Present, Somewhere, Among, AtSomeIndex, IsEmpty, Repeats}
 use Rattle.fault_data.specs.in_rule_definitions.Faults.{SchemaFault, told}
 use Rattle.fault_data.specs.in_rule_definitions.Judged.{Judged, AtType, AtField, AtValue, AtInputField, AtDirectiveDefinition, AtArguments, AtArgument}
-use Rattle.fault_data.specs.in_rule_definitions.Roots.{root_of, QueryRootOperationTypeAt, DuplicateRootOperationTypeAt}
+use Rattle.fault_data.specs.in_rule_definitions.Roots.{root_type_of, QueryRootOperationTypeAt, DuplicateRootOperationTypeAt}
 use Rattle.fault_data.specs.in_rule_definitions.ReservedNames.{IsReservedAt, ReservedNameAt}
 use Rattle.fault_data.specs.in_rule_definitions.TypesUsed.{named_in, IsUndefinedAt, UndefinedFieldTypeAt, UndefinedInputTypeAt, UndefinedMemberAt, OutputTypeAt, InputTypeAt, UnionMemberObjectTypeAt, UniqueArgumentDefinitionAt}
 use Rattle.rule_types.specs.TypesBreak.{TypesBreak}
@@ -98,7 +98,7 @@ module _ (s : Judged) (fault : SchemaFault) where
   DirectiveBreaks n d = IsReservedAt s fault (DirectiveDefinitionAt n) n (codes "a directive definition") ⊎ ArgumentsBreak (DirectiveDefinitionAt n) d.arguments
 
   abbrev pub RootBreaks : OperationType → Type 0
-  RootBreaks o = Present (root_of s.definition o) (λ n. IsMissingAt (RootAt o) n ⊎ IsNoObjectRootAt o n)
+  RootBreaks o = Present (root_type_of s.definition o) (λ n. IsMissingAt (RootAt o) n ⊎ IsNoObjectRootAt o n)
 
   abbrev pub RootsBreak : Type 0
   RootsBreak = QueryRootOperationTypeAt s fault ⊎ (((o : OperationType) × RootBreaks o) ⊎ DuplicateRootOperationTypeAt s fault)

@@ -22,7 +22,7 @@ use Rattle.fault_data.specs.in_rule_definitions.Diagnostics.{Diagnostic, map_pla
 use Rattle.fault_data.specs.in_rule_definitions.Spots.{At, spot_place}
 use Rattle.fault_data.specs.in_rule_definitions.Faults.{SchemaFault, wrong, told}
 use Rattle.fault_data.specs.in_rule_definitions.Judged.{judged}
-use Rattle.fault_data.specs.in_rule_definitions.Roots.{root_of}
+use Rattle.fault_data.specs.in_rule_definitions.Roots.{root_type_of}
 use Rattle.fault_data.specs.in_rule_definitions.ReservedNames.{is_reserved, IsReservedAt}
 use Rattle.fault_data.specs.in_rule_definitions.Rules.{IsToldAs, extension_places, extension_places_at}
 use Rattle.fault_data.specs.in_rule_definitions.TypesUsed.{scalar_names, named_in, IsUndefinedAt}
@@ -356,8 +356,8 @@ module _ (s : SchemaTree Place) where
       (says_reserved at n (codes "a directive definition") (is_built_in d.place) d.it.name.place (ap (λ o. is_built_in (place_of o)) there) (sym (ap (λ o. or_nothing (option_map (λ (x : Placed Place (DirectiveDefinitionTree Place)). x.it.name.place) o)) there)))
       (says_arguments at d.it.arguments (ap (λ o. option_map_or (λ (x : Placed Place (DirectiveDefinitionTree Place)). x.it.arguments) o []) there))
 
-  pub says_root : (o : OperationType) (root : Option (Given Place (Text Place))) → root_at s o ≡ option_map (λ g. g.it) root → root_of (judged s).definition o ≡ option_map given_name root → Tells Is (root_faults s root) (λ g. RootBreaks (judged s) g o)
+  pub says_root : (o : OperationType) (root : Option (Given Place (Text Place))) → root_at s o ≡ option_map (λ g. g.it) root → root_type_of (judged s).definition o ≡ option_map given_name root → Tells Is (root_faults s root) (λ g. RootBreaks (judged s) g o)
   says_root o root stands seen =
-      tells_present Is given_name root (root_of (judged s).definition o) seen (λ g. undefined_name g.it (kind_named s g.it.it) ++ root_operation_object_type g.it (kind_named s g.it.it)) (λ n g. IsMissingAt (judged s) g (RootAt o) n ⊎ IsNoObjectRootAt (judged s) g o n) (λ g there.
+      tells_present Is given_name root (root_type_of (judged s).definition o) seen (λ g. undefined_name g.it (kind_named s g.it.it) ++ root_operation_object_type g.it (kind_named s g.it.it)) (λ n g. IsMissingAt (judged s) g (RootAt o) n ⊎ IsNoObjectRootAt (judged s) g o n) (λ g there.
       let here : g.it.place ≡ place_at s (RootAt o) = sym (ap place_of (stands ∙ ap (option_map (λ (y : Given Place (Text Place)). y.it)) there)) in
       tells_both Is (undefined_name g.it (kind_named s g.it.it)) (root_operation_object_type g.it (kind_named s g.it.it)) _ _ (says_missing (RootAt o) g.it here) (says_object_root o g.it here))

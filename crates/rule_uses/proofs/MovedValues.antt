@@ -12,7 +12,7 @@ use Rattle.schema_coordinates.specs.Coordinate.{Coordinate, OfAttribute}
 use Rattle.tree_directives.specs.declared.directive_location.DirectiveLocation.{DirectiveLocation}
 use Rattle.schema_types.specs.Looks.{TypeLooks}
 use Rattle.schema_types.specs.Addresses.{Address, TypeAt, InputAt, TypeReferenceAt}
-use Rattle.rule_values.specs.in_rule_definitions.Diagnostics.{Diagnostic, PlainType, UnsupportedValueType, IntCoercionError, UndefinedVariable, UndefinedEnumValue, UndefinedInputValue, RequiredField, UniqueInputValue, UniqueArgument, UndefinedArgument, RequiredArgument, UndefinedDirective, UnsupportedLocation, UniqueDirective}
+use Rattle.rule_values.specs.in_rule_definitions.Diagnostics.{Diagnostic, UnplacedType, UnsupportedValueType, IntCoercionError, UndefinedVariable, UndefinedEnumValue, UndefinedInputValue, RequiredField, UniqueInputValue, UniqueArgument, UndefinedArgument, RequiredArgument, UndefinedDirective, UnsupportedLocation, UniqueDirective}
 use Rattle.rule_values.specs.in_rule_definitions.Words.{Present, Somewhere, AtSomeIndex, Lacks, Repeats}
 use Rattle.rule_values.specs.in_rule_definitions.Spots.{entry_list}
 use Rattle.rule_values.specs.in_rule_definitions.Faults.{FaultAt, wrong}
@@ -25,14 +25,14 @@ use Rattle.rule_uses.proofs.Moves.{Moves, moves_no, moves_fault, moves_either, m
 pub record Carries {P E Q F : Type 0} (p : P → Q) (m : Diagnostic P E → Diagnostic Q F) : Type 0 where
   pub unique_input_value : (n : List ℕ) (a b : P) → m (UniqueInputValue n a b) ≡ UniqueInputValue n (p a) (p b)
   pub undefined_variable : (n : List ℕ) → m (UndefinedVariable n) ≡ UndefinedVariable n
-  pub unsupported_value_type : (v : ValueTree (Unit {0})) (ty : PlainType) (a : P) → m (UnsupportedValueType v ty a) ≡ UnsupportedValueType v ty (p a)
+  pub unsupported_value_type : (v : ValueTree (Unit {0})) (ty : UnplacedType) (a : P) → m (UnsupportedValueType v ty a) ≡ UnsupportedValueType v ty (p a)
   pub int_coercion_error : (digits : List ℕ) → m (IntCoercionError digits) ≡ IntCoercionError digits
   pub undefined_enum_value : (v n : List ℕ) (a : P) → m (UndefinedEnumValue v n a) ≡ UndefinedEnumValue v n (p a)
   pub undefined_input_value : (v n : List ℕ) (a : P) → m (UndefinedInputValue v n a) ≡ UndefinedInputValue v n (p a)
-  pub required_field : (n : List ℕ) (c : Coordinate) (ty : PlainType) (a : P) → m (RequiredField n c ty a) ≡ RequiredField n c ty (p a)
+  pub required_field : (n : List ℕ) (c : Coordinate) (ty : UnplacedType) (a : P) → m (RequiredField n c ty a) ≡ RequiredField n c ty (p a)
   pub unique_argument : (n : List ℕ) (a b : P) → m (UniqueArgument n a b) ≡ UniqueArgument n (p a) (p b)
   pub undefined_argument : (n : List ℕ) (c : Coordinate) (a : P) → m (UndefinedArgument n c a) ≡ UndefinedArgument n c (p a)
-  pub required_argument : (n : List ℕ) (c : Coordinate) (ty : PlainType) (a : P) → m (RequiredArgument n c ty a) ≡ RequiredArgument n c ty (p a)
+  pub required_argument : (n : List ℕ) (c : Coordinate) (ty : UnplacedType) (a : P) → m (RequiredArgument n c ty a) ≡ RequiredArgument n c ty (p a)
   pub undefined_directive : (n : List ℕ) → m (UndefinedDirective n) ≡ UndefinedDirective n
   pub unsupported_location : (n : List ℕ) (l : DirectiveLocation) (ls : List DirectiveLocation) (a : P) → m (UnsupportedLocation n l ls a) ≡ UnsupportedLocation n l ls (p a)
   pub unique_directive : (n : List ℕ) (a : P) → m (UniqueDirective n a) ≡ UniqueDirective n (p a)

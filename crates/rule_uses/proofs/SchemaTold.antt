@@ -21,7 +21,7 @@ use Rattle.schema_types.specs.Addresses.{Address, SchemaAt, TypeAt, FieldAt, Val
 use Rattle.rule_values.specs.in_rule_definitions.Words.{Somewhere, AtSomeIndex}
 use Rattle.rule_values.specs.in_rule_definitions.Spots.{At, spotted_directives}
 use Rattle.rule_values.specs.in_rule_definitions.Faults.{SchemaFault}
-use Rattle.rule_values.specs.in_rule_definitions.Judged.{judged, bare, IsBuiltInScalar}
+use Rattle.rule_values.specs.in_rule_definitions.Judged.{judged, applied_directives, IsBuiltInScalar}
 use Rattle.rule_values.specs.in_rule_definitions.Uses.{UsesBreak}
 use Rattle.rule_values.specs.in_rule_definitions.Rules.{type_location, SchemaUsesBreak, IsToldAs, extension_places_at}
 use Rattle.rule_values.specs.in_rule_definitions.Told.{PlacedFault, Told}
@@ -64,7 +64,7 @@ module _ {A B : Type 0} (Is : A → B → Type 0) {X Y : Type 0} (u : X → Y) w
 
 -- ---- directives without places
 
-bare_directives : (ds : Directives Place) → bare (map (unplaced_node unplaced_directive) ds) ≡ map (λ d. unplaced_directive d.it) ds
+bare_directives : (ds : Directives Place) → applied_directives (map (unplaced_node unplaced_directive) ds) ≡ map (λ d. unplaced_directive d.it) ds
 bare_directives [] = refl
 bare_directives (d ∷ ds) = ap (λ l. unplaced_directive d.it ∷ l) (bare_directives ds)
 
@@ -88,9 +88,9 @@ module _ (s : SchemaTree Place) (distinct : AreAllDistinct s) where
 
   -- at the argument definitions of a holder
   told_arguments : (holder : Address) (vs : InputValues Place) → arguments_at s holder ≡ vs
-      → T (λ g. AtSomeIndex (map (unplaced_node unplaced_input_value) vs) (λ i v. By (ArgumentAt holder i) location.ArgumentDefinition (bare v.it.directives) g)) (ArgumentUses s vs)
+      → T (λ g. AtSomeIndex (map (unplaced_node unplaced_input_value) vs) (λ i v. By (ArgumentAt holder i) location.ArgumentDefinition (applied_directives v.it.directives) g)) (ArgumentUses s vs)
   told_arguments holder vs same =
-      told_index (IsToldAs s) (unplaced_node unplaced_input_value) vs (λ i v g. By (ArgumentAt holder i) location.ArgumentDefinition (bare v.it.directives) g) (λ v f. UsesAt s location.ArgumentDefinition v.it.directives f)
+      told_index (IsToldAs s) (unplaced_node unplaced_input_value) vs (λ i v g. By (ArgumentAt holder i) location.ArgumentDefinition (applied_directives v.it.directives) g) (λ v f. UsesAt s location.ArgumentDefinition v.it.directives f)
       (λ i v there. told_at (ArgumentAt holder i) location.ArgumentDefinition v.it.directives _
       (ap (λ o. option_map_or (λ (x : Placed Place (InputValueTree Place)). x.it.directives) o []) (ap (λ l. slice_get l i) same ∙ there))
       (bare_directives v.it.directives))
@@ -134,11 +134,11 @@ module _ (s : SchemaTree Place) (distinct : AreAllDistinct s) where
     in_type_found : {V : Type 0} (of : SchemaType Place → Entries (Given Place V)) (m : List ℕ) (x : Given Place V) → under m (of t) ≡ Some x → or_nothing (option_map (λ t'. option_map (λ g. g.it) (under m (of t'))) (type_at s n)) ≡ Some x.it
     in_type_found of m x there = ap (λ o. or_nothing (option_map (λ t'. option_map (λ g. g.it) (under m (of t'))) o)) here ∙ ap (option_map (λ g. g.it)) there
 
-    told_fields : T (λ g. Somewhere L.field (λ m f. By (FieldAt n m) location.FieldDefinition (bare f.directives) g
-        ⊎ AtSomeIndex f.arguments (λ i v. By (ArgumentAt (FieldAt n m) i) location.ArgumentDefinition (bare v.it.directives) g))) (FieldsUses s t.fields)
+    told_fields : T (λ g. Somewhere L.field (λ m f. By (FieldAt n m) location.FieldDefinition (applied_directives f.directives) g
+        ⊎ AtSomeIndex f.arguments (λ i v. By (ArgumentAt (FieldAt n m) i) location.ArgumentDefinition (applied_directives v.it.directives) g))) (FieldsUses s t.fields)
     told_fields =
         told_entries (IsToldAs s) (plain_given unplaced_field_definition) t.fields fields L.field (field_look t)
-        (λ m f g. By (FieldAt n m) location.FieldDefinition (bare f.directives) g ⊎ AtSomeIndex f.arguments (λ i v. By (ArgumentAt (FieldAt n m) i) location.ArgumentDefinition (bare v.it.directives) g))
+        (λ m f g. By (FieldAt n m) location.FieldDefinition (applied_directives f.directives) g ⊎ AtSomeIndex f.arguments (λ i v. By (ArgumentAt (FieldAt n m) i) location.ArgumentDefinition (applied_directives v.it.directives) g))
         (λ x f. FieldUses s x.it.it f)
         (λ i e at there.
         let f = in_type_found (λ t'. t'.fields) e.0 e.1 there in
@@ -146,23 +146,23 @@ module _ (s : SchemaTree Place) (distinct : AreAllDistinct s) where
         (told_at (FieldAt n e.0) location.FieldDefinition e.1.it.it.directives _ (ap (λ o. option_map_or (λ (x : Placed Place (FieldDefinitionTree Place)). x.it.directives) o []) f) (bare_directives e.1.it.it.directives))
         (told_arguments (FieldAt n e.0) e.1.it.it.arguments (ap (λ o. option_map_or (λ (x : Placed Place (FieldDefinitionTree Place)). x.it.arguments) o []) f)))
 
-    told_values : T (λ g. Somewhere L.value (λ m v. By (ValueAt n m) location.EnumValue (bare v.directives) g)) (ValuesUses s t.values)
+    told_values : T (λ g. Somewhere L.value (λ m v. By (ValueAt n m) location.EnumValue (applied_directives v.directives) g)) (ValuesUses s t.values)
     told_values =
         told_entries (IsToldAs s) (plain_given unplaced_enum_value) t.values values L.value (value_look t)
-        (λ m v g. By (ValueAt n m) location.EnumValue (bare v.directives) g) (λ x f. UsesAt s location.EnumValue x.it.it.directives f)
+        (λ m v g. By (ValueAt n m) location.EnumValue (applied_directives v.directives) g) (λ x f. UsesAt s location.EnumValue x.it.it.directives f)
         (λ i e at there. told_at (ValueAt n e.0) location.EnumValue e.1.it.it.directives _ (ap (λ o. option_map_or (λ (x : Placed Place (EnumValueTree Place)). x.it.directives) o []) (in_type_found (λ t'. t'.values) e.0 e.1 there)) (bare_directives e.1.it.it.directives))
 
-    told_inputs : T (λ g. Somewhere L.input (λ m v. By (InputAt n m) location.InputFieldDefinition (bare v.directives) g)) (InputsUses s t.inputs)
+    told_inputs : T (λ g. Somewhere L.input (λ m v. By (InputAt n m) location.InputFieldDefinition (applied_directives v.directives) g)) (InputsUses s t.inputs)
     told_inputs =
         told_entries (IsToldAs s) (plain_given unplaced_input_value) t.inputs inputs L.input (input_look t)
-        (λ m v g. By (InputAt n m) location.InputFieldDefinition (bare v.directives) g) (λ x f. UsesAt s location.InputFieldDefinition x.it.it.directives f)
+        (λ m v g. By (InputAt n m) location.InputFieldDefinition (applied_directives v.directives) g) (λ x f. UsesAt s location.InputFieldDefinition x.it.it.directives f)
         (λ i e at there. told_at (InputAt n e.0) location.InputFieldDefinition e.1.it.it.directives _ (ap (λ o. option_map_or (λ (x : Placed Place (InputValueTree Place)). x.it.directives) o []) (in_type_found (λ t'. t'.inputs) e.0 e.1 there)) (bare_directives e.1.it.it.directives))
 
     abbrev TypeBroken : SchemaFault → Type 0
     TypeBroken g =
         ((IsBuiltInScalar (judged s) n L → ⊥) × By (TypeAt n) (type_location t.kind) L.directives g)
-        ⊎ (Somewhere L.field (λ m f. By (FieldAt n m) location.FieldDefinition (bare f.directives) g ⊎ AtSomeIndex f.arguments (λ i v. By (ArgumentAt (FieldAt n m) i) location.ArgumentDefinition (bare v.it.directives) g))
-        ⊎ (Somewhere L.value (λ m v. By (ValueAt n m) location.EnumValue (bare v.directives) g) ⊎ Somewhere L.input (λ m v. By (InputAt n m) location.InputFieldDefinition (bare v.directives) g)))
+        ⊎ (Somewhere L.field (λ m f. By (FieldAt n m) location.FieldDefinition (applied_directives f.directives) g ⊎ AtSomeIndex f.arguments (λ i v. By (ArgumentAt (FieldAt n m) i) location.ArgumentDefinition (applied_directives v.it.directives) g))
+        ⊎ (Somewhere L.value (λ m v. By (ValueAt n m) location.EnumValue (applied_directives v.directives) g) ⊎ Somewhere L.input (λ m v. By (InputAt n m) location.InputFieldDefinition (applied_directives v.directives) g)))
 
     told_type : T TypeBroken (TypeUses s t)
     told_type = moves_either (IsToldAs s) told_own (moves_either (IsToldAs s) told_fields (moves_either (IsToldAs s) told_values told_inputs))
@@ -171,8 +171,8 @@ module _ (s : SchemaTree Place) (distinct : AreAllDistinct s) where
   abbrev OfType : List ℕ → TypeLooks → SchemaFault → Type 0
   OfType n l g =
       ((IsBuiltInScalar (judged s) n l → ⊥) × By (TypeAt n) (type_location l.kind) l.directives g)
-      ⊎ (Somewhere l.field (λ m f. By (FieldAt n m) location.FieldDefinition (bare f.directives) g ⊎ AtSomeIndex f.arguments (λ i v. By (ArgumentAt (FieldAt n m) i) location.ArgumentDefinition (bare v.it.directives) g))
-      ⊎ (Somewhere l.value (λ m v. By (ValueAt n m) location.EnumValue (bare v.directives) g) ⊎ Somewhere l.input (λ m v. By (InputAt n m) location.InputFieldDefinition (bare v.directives) g)))
+      ⊎ (Somewhere l.field (λ m f. By (FieldAt n m) location.FieldDefinition (applied_directives f.directives) g ⊎ AtSomeIndex f.arguments (λ i v. By (ArgumentAt (FieldAt n m) i) location.ArgumentDefinition (applied_directives v.it.directives) g))
+      ⊎ (Somewhere l.value (λ m v. By (ValueAt n m) location.EnumValue (applied_directives v.directives) g) ⊎ Somewhere l.input (λ m v. By (InputAt n m) location.InputFieldDefinition (applied_directives v.directives) g)))
 
   told_types : T (λ g. Somewhere (judged s).type_named (λ n l. OfType n l g)) (λ f. AtSomeIndex s.types (λ i e. TypeUses s e.1 f))
   told_types =
@@ -180,15 +180,15 @@ module _ (s : SchemaTree Place) (distinct : AreAllDistinct s) where
       (λ i e at there. let parts = distinct.parts e (index_given s.types i e at) in told_type e.0 e.1 there parts.fields parts.values parts.inputs)
 
   -- all definitions of directives
-  told_definitions : T (λ g. Somewhere (judged s).directive (λ n d. AtSomeIndex d.arguments (λ i v. By (ArgumentAt (DirectiveDefinitionAt n) i) location.ArgumentDefinition (bare v.it.directives) g))) (DefinitionUses s s.directives)
+  told_definitions : T (λ g. Somewhere (judged s).directive (λ n d. AtSomeIndex d.arguments (λ i v. By (ArgumentAt (DirectiveDefinitionAt n) i) location.ArgumentDefinition (applied_directives v.it.directives) g))) (DefinitionUses s s.directives)
   told_definitions =
       told_entries (IsToldAs s) plain_directive_definition s.directives distinct.directives (judged s).directive (directive_look s)
-      (λ n d g. AtSomeIndex d.arguments (λ i v. By (ArgumentAt (DirectiveDefinitionAt n) i) location.ArgumentDefinition (bare v.it.directives) g)) (λ d f. ArgumentUses s d.it.arguments f)
+      (λ n d g. AtSomeIndex d.arguments (λ i v. By (ArgumentAt (DirectiveDefinitionAt n) i) location.ArgumentDefinition (applied_directives v.it.directives) g)) (λ d f. ArgumentUses s d.it.arguments f)
       (λ i e at there. told_arguments (DirectiveDefinitionAt e.0) e.1.it.arguments (ap (λ o. option_map_or (λ (x : Placed Place (DirectiveDefinitionTree Place)). x.it.arguments) o []) there))
 
   abbrev Broken : SchemaFault → Type 0
   Broken g = By SchemaAt location.Schema (judged s).definition.directives g
-      ⊎ (Somewhere (judged s).type_named (λ n l. OfType n l g) ⊎ Somewhere (judged s).directive (λ n d. AtSomeIndex d.arguments (λ i v. By (ArgumentAt (DirectiveDefinitionAt n) i) location.ArgumentDefinition (bare v.it.directives) g)))
+      ⊎ (Somewhere (judged s).type_named (λ n l. OfType n l g) ⊎ Somewhere (judged s).directive (λ n d. AtSomeIndex d.arguments (λ i v. By (ArgumentAt (DirectiveDefinitionAt n) i) location.ArgumentDefinition (applied_directives v.it.directives) g)))
 
   told_schema : T Broken (SchemaUses s)
   told_schema =

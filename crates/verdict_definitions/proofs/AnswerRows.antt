@@ -75,7 +75,7 @@ unfolding place_in digits
 collision_line = refl
 
 -- S `type Query { field: Int }`, D `{ missing }`
-undefined_field_line : fault_line (of_typing (typing.At (place_in 2 2 9) (typing.UndefinedField (codes "Query") (codes "missing")))) ≡ codes "2:2: `Query` has no field `missing`\n"
+undefined_field_line : fault_line (of_typing (typing.typing_fault_at (place_in 2 2 9) (typing.UndefinedField (codes "Query") (codes "missing")))) ≡ codes "2:2: `Query` has no field `missing`\n"
 unfolding place_in digits
 undefined_field_line = refl
 

@@ -158,7 +158,7 @@ unfolding reader
 type_reads = reads 500 2 no_query type_tree refl
 
 abbrev type_fault : typing.TypingFault Place
-type_fault = typing.At (place_in 2 0 17) typing.TypeSystemDefinition
+type_fault = typing.typing_fault_at (place_in 2 0 17) typing.TypeSystemDefinition
 
 type_fails : TypingFailsOver (schema_at_hand terms (query_field_tree ∷ [])) type_tree type_fault
 type_fails = typing.in_definition ([], (_, (([], refl), typing.type_system_definition (refl, refl))))

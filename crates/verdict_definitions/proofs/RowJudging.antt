@@ -12,7 +12,7 @@ use Rattle.rule_definitions.specs.Rules.{Breaks, SchemaRules}
 use Rattle.document_typing.specs.TypingFaults as typing
 use Rattle.document_typing.specs.TypingFaults.{TypingRules}
 use Rattle.rule_document_definitions.specs.Told.{PlacedDocumentFault, DocumentFails, DocumentMergingFails, IsValidDocument}
-use Rattle.rule_document_definitions.specs.Named.{AreNamed}
+use Rattle.rule_document_definitions.specs.Named.{FragmentsFoundByName}
 use Rattle.rule_document_definitions.proofs.Verdicts.{valid_where_nothing_is_told}
 use Rattle.verdict_definitions.specs.Texts.{SourceText, Tree, Terms, DerivesIn, ReadsText, ReadsAll, PassesNumbers, document_number}
 use Rattle.verdict_definitions.specs.Judge.{all_definitions, Folds, schema_of, schema_at_hand, meanings_over, document_over, IsAccepted}
@@ -74,7 +74,7 @@ module _ (terms : Terms) (schema document : SourceText) (tree : Tree) (read_sche
         subst (λ (t : Tree). IsValidDocument (schema_at_hand terms (tree ∷ [])) (document_over (schema_at_hand terms (tree ∷ [])) t)) (tree_is accepted)
         (subst (λ (ts : List Tree). IsValidDocument (schema_at_hand terms ts) (document_over (schema_at_hand terms ts) accepted.over.judged.tree)) (trees_are accepted) accepted.over.judged.holds)
 
-    module _ (are_named : AreNamed (document_over (schema_at_hand terms (tree ∷ [])) document_tree)) (fault : PlacedDocumentFault) where
+    module _ (are_named : FragmentsFoundByName (document_over (schema_at_hand terms (tree ∷ [])) document_tree)) (fault : PlacedDocumentFault) where
       -- a rule on documents is broken
       pub document_refused : DocumentFails (schema_at_hand terms (tree ∷ [])) (document_over (schema_at_hand terms (tree ∷ [])) document_tree) fault → IsAccepted terms (schema ∷ []) document → ⊥
       document_refused fails accepted =

@@ -18,14 +18,14 @@ use Rattle.schema_types.specs.Looks.{TypeLooks}
 use Rattle.schema_types.specs.declared.type_kind.TypeKind.{TypeKind}
 use Rattle.schema_types.specs.declared.type_kind.TypeKind.TheVariants as kind
 use Rattle.rule_definitions.specs.Faults.{SchemaFault, told}
-use Rattle.rule_definitions.specs.Judged.{Judged, judged, bare}
+use Rattle.rule_definitions.specs.Judged.{Judged, judged, applied_directives}
 use Rattle.rule_definitions.specs.Diagnostics.{InputType, UniqueInputValue}
 use Rattle.rule_definitions.specs.ReservedNames.{is_reserved, IsReservedAt, ReservedNameAt}
 use Rattle.rule_definitions.specs.Rules.{SchemaRules, ReferencesBreak, EmptyBreaks, InterfacesBreak, CyclesBreak, SchemaUsesBreak, type_location}
 use Rattle.rule_definitions.specs.Spots.{At, spotted_directives}
 use Rattle.rule_definitions.specs.Uses.{UsesBreak}
 use Rattle.rule_definitions.specs.TypesUsed.{named_in, IsUndefinedAt}
-use Rattle.rule_definitions.specs.Cycles.{Thing, ADirective, AType, is_type, Referring, Refers, RefersByUse, RefersByInput}
+use Rattle.rule_definitions.specs.Cycles.{Thing, ADirective, AType, is_a_type, Referring, Refers, RefersByUse, RefersByInput}
 use Rattle.rule_definitions.specs.Words.{Present, AtSomeIndex, Repeats}
 use Rattle.rule_definitions.proofs.Lookups.{no_entries}
 use Rattle.rule_document_definitions.proofs.RowWords.{of_present, not_present, not_at_index, none_repeats, one_repeats}
@@ -205,7 +205,7 @@ no_interface fault (inr (inr (inr (inr (inr (inr (inr p))))))) = no_type schema 
 
 -- ---- references and uses of directives: there are no directives
 
-no_bare : (ds : Directives (Unit {0})) → is_empty ds ≡ true → {Q : ℕ → DirectiveTree (Unit {0}) → Type 0} → AtSomeIndex (bare ds) Q → ⊥
+no_bare : (ds : Directives (Unit {0})) → is_empty ds ≡ true → {Q : ℕ → DirectiveTree (Unit {0}) → Type 0} → AtSomeIndex (applied_directives ds) Q → ⊥
 no_bare [] none h = not_at_index h
 no_bare (d ∷ ds) none h = true≢false (sym none)
 
@@ -224,7 +224,7 @@ type_refers : (n : List ℕ) (by : By) (to : Thing) → Refers found (AType n) b
 unfolding built_in_definitions place_in
 type_refers n by to (t, (there, inl p)) = no_type schema is_plain plain_types (λ m u. RefersByUse found (TypeAt m) u.directives by to) (n, (t, (there, p)))
     (λ m u h q. no_index (unplaced_applied u.directives) (applied_none u.directives (no_directives m u h)) q)
-type_refers n by to (t, (there, inr (inl p))) = no_value schema (λ m k v. is_empty v.directives) refl (λ m k v. RefersByUse found (ValueAt m k) (bare v.directives) by to) (n, (t, (there, p)))
+type_refers n by to (t, (there, inr (inl p))) = no_value schema (λ m k v. is_empty v.directives) refl (λ m k v. RefersByUse found (ValueAt m k) (applied_directives v.directives) by to) (n, (t, (there, p)))
     (λ m k v h q. no_bare v.directives h q)
 type_refers n by to (t, (there, inr (inr p))) = no_input_field schema no_input_objects (λ m k v. RefersByInput found (InputAt m k) v by to) (n, (t, (there, p)))
 
@@ -238,17 +238,17 @@ directive_refers n by to none p = no_definition schema (λ m d. list_all (λ v. 
 
 no_cycle : (fault : SchemaFault) → CyclesBreak found fault → ⊥
 no_cycle fault (inl (n, (by, (rest, ((z, ((t, (there, (is, more))), back)), told))))) = no_type schema is_plain plain_types (λ m u. u.kind ≡ kind.InputObject) (n, (t, (there, is))) (λ m u h k. no_input_object m u h k)
-no_cycle fault (inr (n, (by, ([], ((z, (refers, back)), told))))) = directive_refers n by z (λ m e. true≢false (ap is_type (sym e ∙ back))) refers
+no_cycle fault (inr (n, (by, ([], ((z, (refers, back)), told))))) = directive_refers n by z (λ m e. true≢false (ap is_a_type (sym e ∙ back))) refers
 no_cycle fault (inr (n, (by, (next ∷ rest, ((z, (refers, (to, (again, back)))), told))))) = directive_refers n by z (λ m e. type_refers m next to (subst (λ w. Refers found w next to) e again)) refers
 
 no_uses : (fault : SchemaFault) → SchemaUsesBreak found fault → ⊥
 unfolding built_in_definitions place_in
 no_uses fault (inl p) = no_use schema fault SchemaAt location.Schema [] refl p
 no_uses fault (inr (inl p)) = no_type schema is_plain plain_types _ p (λ n t h q. no_use schema fault (TypeAt n) (type_location t.kind) (unplaced_applied t.directives) (applied_none t.directives (no_directives n t h)) q.1)
-no_uses fault (inr (inr (inl p))) = no_field schema (λ n m f. is_empty (bare f.directives)) refl _ p (λ n m f h q. no_use schema fault (FieldAt n m) location.FieldDefinition (bare f.directives) h q)
-no_uses fault (inr (inr (inr (inl p)))) = no_argument schema (λ v. is_empty (bare v.directives)) refl refl (λ at v. UsesBreak At found [] location.ArgumentDefinition (spotted_directives at (bare v.directives)) fault) p
-    (λ at v h q. no_use schema fault at location.ArgumentDefinition (bare v.directives) h q)
-no_uses fault (inr (inr (inr (inr (inl p))))) = no_value schema (λ n m v. is_empty (bare v.directives)) refl _ p (λ n m v h q. no_use schema fault (ValueAt n m) location.EnumValue (bare v.directives) h q)
+no_uses fault (inr (inr (inl p))) = no_field schema (λ n m f. is_empty (applied_directives f.directives)) refl _ p (λ n m f h q. no_use schema fault (FieldAt n m) location.FieldDefinition (applied_directives f.directives) h q)
+no_uses fault (inr (inr (inr (inl p)))) = no_argument schema (λ v. is_empty (applied_directives v.directives)) refl refl (λ at v. UsesBreak At found [] location.ArgumentDefinition (spotted_directives at (applied_directives v.directives)) fault) p
+    (λ at v h q. no_use schema fault at location.ArgumentDefinition (applied_directives v.directives) h q)
+no_uses fault (inr (inr (inr (inr (inl p))))) = no_value schema (λ n m v. is_empty (applied_directives v.directives)) refl _ p (λ n m v h q. no_use schema fault (ValueAt n m) location.EnumValue (applied_directives v.directives) h q)
 no_uses fault (inr (inr (inr (inr (inr p))))) = no_input_field schema no_input_objects _ p
 
 -- ---- every rule holds

@@ -48,7 +48,7 @@ abbrev pub query_field_schema : SchemaTree Place
 query_field_schema = schema_at_hand terms (query_field_tree ∷ [])
 
 abbrev pub missing_fault : typing.TypingFault Place
-missing_fault = typing.At (place_in 2 2 9) (typing.UndefinedField (codes "Query") (codes "missing"))
+missing_fault = typing.typing_fault_at (place_in 2 2 9) (typing.UndefinedField (codes "Query") (codes "missing"))
 
 pub missing_fails : TypingFailsOver query_field_schema missing_tree missing_fault
 unfolding built_in_definitions place_in

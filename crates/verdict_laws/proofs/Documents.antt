@@ -8,7 +8,7 @@ use Rattle.tree_definitions.specs.DefinitionTree.{DefinitionTree}
 use Rattle.tree_definitions.specs.Queries.{is_executable, definition_place}
 use Rattle.tree_definitions.specs.Writable.{has_some, definition_writable, document_writable}
 use Rattle.document_typing.specs.OutDoc.{is_anonymous, is_named_operation, is_fragment, out_doc}
-use Rattle.document_typing.specs.TypingFaults.{At, TypeSystemDefinition, in_definition, type_system_definition}
+use Rattle.document_typing.specs.TypingFaults.{typing_fault_at, TypeSystemDefinition, in_definition, type_system_definition}
 use Rattle.graphql_read.proofs.Soundness.{document_sound}
 use Rattle.verdict_laws.specs.Written.{TypedDocumentsCanBeWritten}
 use Rattle.verdict_laws.proofs.Sound.{both, all_append}
@@ -50,7 +50,7 @@ documents schema number text ds read rules =
   where
     executable : (d : DefinitionTree Place) (rest : List (DefinitionTree Place)) → ds ≡ d ∷ rest → (b : Bool) → is_executable d ≡ b → b ≡ true
     executable d rest e true k = refl
-    executable d rest e false k = absurd (rules (At (definition_place d) TypeSystemDefinition) (in_definition ([], (d, ((rest, e), type_system_definition (k, refl))))))
+    executable d rest e false k = absurd (rules (typing_fault_at (definition_place d) TypeSystemDefinition) (in_definition ([], (d, ((rest, e), type_system_definition (k, refl))))))
 
     by : (xs : List (DefinitionTree Place)) → ds ≡ xs → has_some ds ≡ true → list_all definition_writable ds ≡ true → document_writable (out_doc ds) ≡ true
     by [] e some all = absurd (true≢false (sym some ∙ ap has_some e))

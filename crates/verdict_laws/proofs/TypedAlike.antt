@@ -20,7 +20,7 @@ use Rattle.document_typing.specs.Meanings.{Meanings, inner_type}
 use Rattle.document_typing.specs.KeptSelections.{may_select, is_leaf, kept, kept_all}
 use Rattle.document_typing.specs.KeptDocument.{meant_operation, meant_fragment, kept_document}
 use Rattle.document_typing.specs.TypingFaults as typing
-use Rattle.document_typing.specs.TypingFaults.{TypingFault, At, TypingRules, is_operation}
+use Rattle.document_typing.specs.TypingFaults.{TypingFault, typing_fault_at, TypingRules, is_operation}
 use Rattle.document_typing.specs.SetFaults.{leaf_faults, selection_faults, set_faults}
 use Rattle.document_typing.specs.Steps.{Typed, told, faults_if, based, is_under, on_root, with_anonymous, with_named, with_fragment, and_operation, and_fragment, and_definition, nothing, typed_in}
 use Rattle.document_typing.proofs.KeptFirsts.{under-made, is_some-made}
@@ -28,7 +28,7 @@ use Rattle.document_typing.proofs.Turns.{typed-is}
 use Rattle.document_typing.proofs.DocumentFailures.{document-fails}
 
 abbrev unplaced_fault : {P : Type 0} → TypingFault P → TypingFault (Unit {0})
-unplaced_fault f = At tt (unplaced_breach f.breach)
+unplaced_fault f = typing_fault_at tt (unplaced_breach f.breach)
 
 -- ---- selections
 
@@ -60,7 +60,7 @@ module _ (m : Meanings) where
   told_if p ts d b = if b then set_faults m ts (inner_type d) else leaf_faults m p (inner_type d)
 
   abbrev told_by : {Q : Type 0} → Q → FieldHead Q → SelectionTrees Q → List ℕ → Option Definition → List (TypingFault Q)
-  told_by p h ts t o = option_map_or (λ d. told_if p ts d (may_select m (inner_type d) ts)) o (At p (typing.UndefinedField t h.name.it) ∷ [])
+  told_by p h ts t o = option_map_or (λ d. told_if p ts d (may_select m (inner_type d) ts)) o (typing_fault_at p (typing.UndefinedField t h.name.it) ∷ [])
 
 module _ {P : Type 0} (m : Meanings) where
   may_same : (t : List ℕ) (ts : SelectionTrees P) → may_select m t ts ≡ may_select m t (unplaced_selections ts)
@@ -109,8 +109,8 @@ module _ {P : Type 0} (m : Meanings) where
 
   leaf_same : (p : P) (t : List ℕ) → map unplaced_fault (leaf_faults m p t) ≡ leaf_faults m tt t
   leaf_same p t =
-      map-append unplaced_fault (if m.is_scalar t then At p (typing.SubselectionOnScalarType t) ∷ [] else []) (if m.is_enum t then At p (typing.SubselectionOnEnumType t) ∷ [] else [])
-      ∙ (λ i. if_same (m.is_scalar t) (At p (typing.SubselectionOnScalarType t)) i ++ if_same (m.is_enum t) (At p (typing.SubselectionOnEnumType t)) i)
+      map-append unplaced_fault (if m.is_scalar t then typing_fault_at p (typing.SubselectionOnScalarType t) ∷ [] else []) (if m.is_enum t then typing_fault_at p (typing.SubselectionOnEnumType t) ∷ [] else [])
+      ∙ (λ i. if_same (m.is_scalar t) (typing_fault_at p (typing.SubselectionOnScalarType t)) i ++ if_same (m.is_enum t) (typing_fault_at p (typing.SubselectionOnEnumType t)) i)
 
   field_told : (p : P) (h : FieldHead P) (ts : SelectionTrees P) (t : List ℕ) → ToldSame ts → (o : Option Definition) → map unplaced_fault (told_by m p h ts t o) ≡ told_by m tt (unplaced_head h) (unplaced_selections ts) t o
   field_told p h ts t same None = refl
@@ -121,8 +121,8 @@ module _ {P : Type 0} (m : Meanings) where
       by false = leaf_same p (inner_type d)
 
   inline_told : (p : P) (n : List ℕ) (ts : SelectionTrees P) → ToldSame ts → (b : Bool)
-      → map unplaced_fault (if b then set_faults m ts n else At p (typing.UndefinedTypeInInlineFragmentTypeCondition n) ∷ [])
-      ≡ (if b then set_faults m (unplaced_selections ts) n else At tt (typing.UndefinedTypeInInlineFragmentTypeCondition n) ∷ [])
+      → map unplaced_fault (if b then set_faults m ts n else typing_fault_at p (typing.UndefinedTypeInInlineFragmentTypeCondition n) ∷ [])
+      ≡ (if b then set_faults m (unplaced_selections ts) n else typing_fault_at tt (typing.UndefinedTypeInInlineFragmentTypeCondition n) ∷ [])
   inline_told p n ts same true = same n
   inline_told p n ts same false = refl
 
@@ -217,52 +217,52 @@ module _ {P : Type 0} (m : Meanings) where
       → (st : Typed P) → bare (on_root m p o f st) ≡ on_root m tt (operations.unplaced_operation o) g (bare st)
   root_same p o f g same st = by (m.root o.operation_type)
     where
-      by : (r : Option (List ℕ)) → bare (option_map_or (λ t. f t st) r (told (At p (typing.UndefinedRootOperation o.operation_type) ∷ []) st)) ≡ option_map_or (λ t. g t (bare st)) r (told (At tt (typing.UndefinedRootOperation o.operation_type) ∷ []) (bare st))
-      by None = told_same (At p (typing.UndefinedRootOperation o.operation_type) ∷ []) st
+      by : (r : Option (List ℕ)) → bare (option_map_or (λ t. f t st) r (told (typing_fault_at p (typing.UndefinedRootOperation o.operation_type) ∷ []) st)) ≡ option_map_or (λ t. g t (bare st)) r (told (typing_fault_at tt (typing.UndefinedRootOperation o.operation_type) ∷ []) (bare st))
+      by None = told_same (typing_fault_at p (typing.UndefinedRootOperation o.operation_type) ∷ []) st
       by (Some t) = same t st
 
   and_operation_same : (beside : Bool) (p : P) (o : OperationTree P) (n : Option (Text P)) (st : Typed P) → bare (and_operation m beside p o n st) ≡ and_operation m beside tt (operations.unplaced_operation o) (option_map unplaced_text n) (bare st)
   and_operation_same beside p o None st =
-      root_same p o (with_anonymous m p o) (with_anonymous m tt (operations.unplaced_operation o)) (anonymous_same p o) (told (faults_if beside (At p typing.AmbiguousAnonymousOperation)) st)
-      ∙ ap (on_root m tt (operations.unplaced_operation o) (with_anonymous m tt (operations.unplaced_operation o))) (told_if_same beside (At p typing.AmbiguousAnonymousOperation) st)
+      root_same p o (with_anonymous m p o) (with_anonymous m tt (operations.unplaced_operation o)) (anonymous_same p o) (told (faults_if beside (typing_fault_at p typing.AmbiguousAnonymousOperation)) st)
+      ∙ ap (on_root m tt (operations.unplaced_operation o) (with_anonymous m tt (operations.unplaced_operation o))) (told_if_same beside (typing_fault_at p typing.AmbiguousAnonymousOperation) st)
   and_operation_same beside p o (Some n) st =
-      root_same p o (with_named m p o n.it) (with_named m tt (operations.unplaced_operation o) n.it) (named_same p o n.it) (told (faults_if (is_under n.it st.document.named) (At p (typing.OperationNameCollision n.it))) st)
+      root_same p o (with_named m p o n.it) (with_named m tt (operations.unplaced_operation o) n.it) (named_same p o n.it) (told (faults_if (is_under n.it st.document.named) (typing_fault_at p (typing.OperationNameCollision n.it))) st)
       ∙ ap (on_root m tt (operations.unplaced_operation o) (with_named m tt (operations.unplaced_operation o) n.it))
-      (told_if_same (is_under n.it st.document.named) (At p (typing.OperationNameCollision n.it)) st
-      ∙ ap (λ b. told (faults_if b (At tt (typing.OperationNameCollision n.it))) (bare st)) (sym (under-made (λ (e : List ℕ × MeantOperation P). e.0) (λ e. unplaced_operation e.1) n.it st.document.named)))
+      (told_if_same (is_under n.it st.document.named) (typing_fault_at p (typing.OperationNameCollision n.it)) st
+      ∙ ap (λ b. told (faults_if b (typing_fault_at tt (typing.OperationNameCollision n.it))) (bare st)) (sym (under-made (λ (e : List ℕ × MeantOperation P). e.0) (λ e. unplaced_operation e.1) n.it st.document.named)))
 
   and_fragment_same : (p : P) (f : FragmentTree P) (st : Typed P) → bare (and_fragment m p f st) ≡ and_fragment m tt (operations.unplaced_fragment f) (bare st)
   and_fragment_same p f st =
-      by (m.has_type f.type_condition.it) (told (faults_if (is_under f.name.it st.document.fragments) (At p (typing.FragmentNameCollision f.name.it))) st)
+      by (m.has_type f.type_condition.it) (told (faults_if (is_under f.name.it st.document.fragments) (typing_fault_at p (typing.FragmentNameCollision f.name.it))) st)
       ∙ ap (after (m.has_type f.type_condition.it))
-      (told_if_same (is_under f.name.it st.document.fragments) (At p (typing.FragmentNameCollision f.name.it)) st
-      ∙ ap (λ b. told (faults_if b (At tt (typing.FragmentNameCollision f.name.it))) (bare st)) (sym (under-made (λ (e : List ℕ × MeantFragment P). e.0) (λ e. unplaced_fragment e.1) f.name.it st.document.fragments)))
+      (told_if_same (is_under f.name.it st.document.fragments) (typing_fault_at p (typing.FragmentNameCollision f.name.it)) st
+      ∙ ap (λ b. told (faults_if b (typing_fault_at tt (typing.FragmentNameCollision f.name.it))) (bare st)) (sym (under-made (λ (e : List ℕ × MeantFragment P). e.0) (λ e. unplaced_fragment e.1) f.name.it st.document.fragments)))
     where
       after : Bool → Typed (Unit {0}) → Typed (Unit {0})
-      after b st' = if b then with_fragment m tt (operations.unplaced_fragment f) st' else told (At tt (typing.UndefinedTypeInNamedFragmentTypeCondition f.type_condition.it) ∷ []) st'
+      after b st' = if b then with_fragment m tt (operations.unplaced_fragment f) st' else told (typing_fault_at tt (typing.UndefinedTypeInNamedFragmentTypeCondition f.type_condition.it) ∷ []) st'
 
-      by : (b : Bool) (old : Typed P) → bare (if b then with_fragment m p f old else told (At p (typing.UndefinedTypeInNamedFragmentTypeCondition f.type_condition.it) ∷ []) old) ≡ after b (bare old)
+      by : (b : Bool) (old : Typed P) → bare (if b then with_fragment m p f old else told (typing_fault_at p (typing.UndefinedTypeInNamedFragmentTypeCondition f.type_condition.it) ∷ []) old) ≡ after b (bare old)
       by true old = with_fragment_same p f old
-      by false old = told_same (At p (typing.UndefinedTypeInNamedFragmentTypeCondition f.type_condition.it) ∷ []) old
+      by false old = told_same (typing_fault_at p (typing.UndefinedTypeInNamedFragmentTypeCondition f.type_condition.it) ∷ []) old
 
   definition_same : (beside : Bool) (st : Typed P) (d : DefinitionTree P) → bare (and_definition m beside st d) ≡ and_definition m beside (bare st) (unplaced_definition d)
   definition_same beside st (tree.Operation p o) = and_operation_same beside p o o.name st
   definition_same beside st (tree.Fragment p f) = and_fragment_same p f st
-  definition_same beside st (tree.DirectiveDefinition p x) = told_same (At p typing.TypeSystemDefinition ∷ []) st
-  definition_same beside st (tree.Schema p d x) = told_same (At p typing.TypeSystemDefinition ∷ []) st
-  definition_same beside st (tree.ScalarType p d x) = told_same (At p typing.TypeSystemDefinition ∷ []) st
-  definition_same beside st (tree.ObjectType p d x) = told_same (At p typing.TypeSystemDefinition ∷ []) st
-  definition_same beside st (tree.InterfaceType p d x) = told_same (At p typing.TypeSystemDefinition ∷ []) st
-  definition_same beside st (tree.UnionType p d x) = told_same (At p typing.TypeSystemDefinition ∷ []) st
-  definition_same beside st (tree.EnumType p d x) = told_same (At p typing.TypeSystemDefinition ∷ []) st
-  definition_same beside st (tree.InputObjectType p d x) = told_same (At p typing.TypeSystemDefinition ∷ []) st
-  definition_same beside st (tree.ExtendSchema p x) = told_same (At p typing.TypeSystemDefinition ∷ []) st
-  definition_same beside st (tree.ExtendScalar p x) = told_same (At p typing.TypeSystemDefinition ∷ []) st
-  definition_same beside st (tree.ExtendObject p x) = told_same (At p typing.TypeSystemDefinition ∷ []) st
-  definition_same beside st (tree.ExtendInterface p x) = told_same (At p typing.TypeSystemDefinition ∷ []) st
-  definition_same beside st (tree.ExtendUnion p x) = told_same (At p typing.TypeSystemDefinition ∷ []) st
-  definition_same beside st (tree.ExtendEnum p x) = told_same (At p typing.TypeSystemDefinition ∷ []) st
-  definition_same beside st (tree.ExtendInputObject p x) = told_same (At p typing.TypeSystemDefinition ∷ []) st
+  definition_same beside st (tree.DirectiveDefinition p x) = told_same (typing_fault_at p typing.TypeSystemDefinition ∷ []) st
+  definition_same beside st (tree.Schema p d x) = told_same (typing_fault_at p typing.TypeSystemDefinition ∷ []) st
+  definition_same beside st (tree.ScalarType p d x) = told_same (typing_fault_at p typing.TypeSystemDefinition ∷ []) st
+  definition_same beside st (tree.ObjectType p d x) = told_same (typing_fault_at p typing.TypeSystemDefinition ∷ []) st
+  definition_same beside st (tree.InterfaceType p d x) = told_same (typing_fault_at p typing.TypeSystemDefinition ∷ []) st
+  definition_same beside st (tree.UnionType p d x) = told_same (typing_fault_at p typing.TypeSystemDefinition ∷ []) st
+  definition_same beside st (tree.EnumType p d x) = told_same (typing_fault_at p typing.TypeSystemDefinition ∷ []) st
+  definition_same beside st (tree.InputObjectType p d x) = told_same (typing_fault_at p typing.TypeSystemDefinition ∷ []) st
+  definition_same beside st (tree.ExtendSchema p x) = told_same (typing_fault_at p typing.TypeSystemDefinition ∷ []) st
+  definition_same beside st (tree.ExtendScalar p x) = told_same (typing_fault_at p typing.TypeSystemDefinition ∷ []) st
+  definition_same beside st (tree.ExtendObject p x) = told_same (typing_fault_at p typing.TypeSystemDefinition ∷ []) st
+  definition_same beside st (tree.ExtendInterface p x) = told_same (typing_fault_at p typing.TypeSystemDefinition ∷ []) st
+  definition_same beside st (tree.ExtendUnion p x) = told_same (typing_fault_at p typing.TypeSystemDefinition ∷ []) st
+  definition_same beside st (tree.ExtendEnum p x) = told_same (typing_fault_at p typing.TypeSystemDefinition ∷ []) st
+  definition_same beside st (tree.ExtendInputObject p x) = told_same (typing_fault_at p typing.TypeSystemDefinition ∷ []) st
 
   -- ---- documents
 

@@ -8,7 +8,7 @@ use Rattle.document_typing.specs.MeaningView.{schema_under, meanings_under}
 use Rattle.document_typing.specs.SetFaults.{set_faults}
 use Rattle.document_typing.specs.Steps.{is_under}
 use Rattle.document_typing.specs.StepsView.{fragment_meaning, typed_view}
-use Rattle.document_typing.specs.TypingFaults.{At, UndefinedTypeInNamedFragmentTypeCondition}
+use Rattle.document_typing.specs.TypingFaults.{typing_fault_at, UndefinedTypeInNamedFragmentTypeCondition}
 use Rattle.document_typing.proofs.KnownNames.{known-under}
 use Rattle.document_typing.proofs.AddedFragments.{named_fragment, absent_condition, without-condition, fragment-known, fragment-kept, fragment-put}
 use Rattle.document_typing.proofs.DefinedPlaces.{insert-defined}
@@ -26,8 +26,8 @@ returns-then-not-has_type-clause-view c =
     ∙ ap (λ x. is_under x.name.text st.document.fragments) c.content.ensures in
     let told : faults_of c.fragment_name_collision.new.faults ≡ (named_fragment m p f st).faults = search (rules, known) in
     let absent : m.has_type f.type_condition.it ≡ false = search rules in
-    let ended : faults_of c.fragment_name_collision.new.faults ++ At c.location-location.result (UndefinedTypeInNamedFragmentTypeCondition c.content-2.result.now.type_condition.text) ∷ [] ≡ (absent_condition m p f st).faults =
-    λ i. told i ++ At (c.location-location.ensures i) (UndefinedTypeInNamedFragmentTypeCondition (c.content-2.ensures i).type_condition.text) ∷ [] in
+    let ended : faults_of c.fragment_name_collision.new.faults ++ typing_fault_at c.location-location.result (UndefinedTypeInNamedFragmentTypeCondition c.content-2.result.now.type_condition.text) ∷ [] ≡ (absent_condition m p f st).faults =
+    λ i. told i ++ typing_fault_at (c.location-location.ensures i) (UndefinedTypeInNamedFragmentTypeCondition (c.content-2.ensures i).type_condition.text) ∷ [] in
     on-ok c.undefined_type_in_named_fragment_type_condition.result
     (λ h. (λ i. record { document = st.document; faults = (h ∙ ended) i }) ∙ without-condition m p f st absent)
     c.undefined_type_in_named_fragment_type_condition.ensures
