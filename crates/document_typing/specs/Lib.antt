@@ -7,7 +7,7 @@ pub mod FullList
 pub mod OutDoc
 pub mod TypedByPlace
 pub mod DefinedByPlace
-pub mod FaultView
+pub use Rattle.fault_document_data.specs.FaultView
 pub mod MeaningView
 pub mod SetView
 pub mod SetFaults

@@ -8,17 +8,13 @@ use Rattle.tree_directives.specs.DirectiveTree.{Directives}
 use Rattle.tree_definitions.specs.DefinitionTree.{DefinitionTree, Operation, Fragment}
 use Rattle.tree_definitions.specs.Queries.{is_executable, definition_place}
 use Rattle.schema_types.specs.in_components.Lists.{AtSomePlace, has_name}
-pub use Rattle.fault_document_data.specs.DocumentBreaches.{DocumentBreach, TypeSystemDefinition, AmbiguousAnonymousOperation, OperationNameCollision, FragmentNameCollision, UndefinedRootOperation, UndefinedTypeInNamedFragmentTypeCondition, UndefinedTypeInInlineFragmentTypeCondition, SubselectionOnScalarType, SubselectionOnEnumType, UndefinedField}
+pub use Rattle.fault_document_data.specs.DocumentBreaches.{TypingFault, DocumentBreach, TypeSystemDefinition, AmbiguousAnonymousOperation, OperationNameCollision, FragmentNameCollision, UndefinedRootOperation, UndefinedTypeInNamedFragmentTypeCondition, UndefinedTypeInInlineFragmentTypeCondition, SubselectionOnScalarType, SubselectionOnEnumType, UndefinedField}
 use Rattle.document_typing.specs.MeantTree.{Definition}
 use Rattle.document_typing.specs.Meanings.{Meanings, inner_type}
 use Rattle.document_typing.specs.KeptSelections.{may_select}
 use Rattle.document_typing.specs.KeptDocument.{operation_name, fragment_name, kept_named, kept_operations, kept_fragments}
 
--- what is wrong, and where
-pub record TypingFault (P : Type 0) : Type 0 where
-  pub place : P
-  pub breach : DocumentBreach P
-
+-- what is wrong at a place
 abbrev pub typing_fault_at : {P : Type 0} → P → DocumentBreach P → TypingFault P
 typing_fault_at p breach = record { place = p; breach = breach }
 

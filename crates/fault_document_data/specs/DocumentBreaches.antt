@@ -34,3 +34,8 @@ pub data DocumentBreach (P : Type 0) : Type 0 where
   DuplicateDeferLabel : (label : List ℕ) (original_location : P) → DocumentBreach P
   DeferOnRootMutationOrSubscriptionField : (operation_type : OperationType) → DocumentBreach P
   DeferInSubscriptionMustBeConditional : DocumentBreach P
+
+-- what is wrong, and where
+pub record TypingFault (P : Type 0) : Type 0 where
+  pub place : P
+  pub breach : DocumentBreach P

@@ -1,4 +1,5 @@
 pub mod DocumentBreaches
 pub mod DocumentBreachView
+pub mod FaultView
 pub mod DocumentMessages
 pub mod DocumentWords

@@ -12,11 +12,12 @@ use Rattle.rule_definitions.proofs.Lists.{not_in_nil, only}
 use Rattle.document_meaning.specs.Unplaced.{unplaced_document}
 use Rattle.rule_document_definitions.specs.Told.{IsValidDocument}
 use Rattle.rule_document_definitions.specs.Verdict.{WithinBounds}
+use Rattle.graphql_faults.specs.DetailsTree.{of_typing}
 use Rattle.graphql_faults.specs.DetailsView.{diagnostics_of}
 use Rattle.graphql_validation.specs.TellsDocument.{SomeFails}
 use Rattle.verdict_definitions.specs.Texts.{SourceText, Tree}
 use Rattle.verdict_definitions.specs.Judge.{document_over, IsDocumentCertain}
-use Rattle.verdict_definitions.specs.Says.{AnyFault, of_typing, UnreadFault, TypingFailsOver}
+use Rattle.verdict_definitions.specs.Says.{AnyFault, UnreadFault, TypingFailsOver}
 use Rattle.verdict_definitions.specs.Out.{Layout, layout_text}
 use Rattle.verdict_definitions.specs.Answer.{UnreadAlone, RefusesDocument, WritesDocument}
 use Rattle.graphql_checked.specs.CheckerValue.{CheckedSchemaValue, IsCheckedDocumentOf}

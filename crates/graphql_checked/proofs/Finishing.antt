@@ -14,10 +14,10 @@ use Rattle.rule_definitions.specs.Judged as rules
 use Rattle.rule_definitions.specs.Kept.{validated}
 use Rattle.rule_definitions.specs.Rules.{SchemaRules, RulesFail, BoundFails}
 use Rattle.rule_definitions.specs.Told.{PlacedFault}
-use Rattle.graphql_faults.specs.DetailsTree.{of_rule}
+use Rattle.graphql_faults.specs.DetailsTree.{of_rule, of_folding}
 use Rattle.verdict_definitions.specs.Texts.{SourceText, Tree, Terms, ReadsAll, document_number, AreRead}
 use Rattle.verdict_definitions.specs.Judge.{all_definitions, schema_of}
-use Rattle.verdict_definitions.specs.Says.{AnyFault, of_folding, spent, FoldingFails, SchemaFails}
+use Rattle.verdict_definitions.specs.Says.{AnyFault, spent, FoldingFails, SchemaFails}
 use Rattle.verdict_definitions.specs.Answer.{UnreadFaults, RefusesSchemas}
 use Rattle.graphql_checked.specs.Added.{IsNextNumber, AreAdded}
 use Rattle.graphql_checked.specs.CheckerValue.{IsCheckedSchemaOf}

@@ -19,8 +19,9 @@ use Rattle.rule_document_definitions.specs.Verdict.{WithinBounds}
 use Rattle.rule_document_definitions.proofs.Unplaced.{contains_map, contains_unmap}
 use Rattle.graphql_validation.specs.Told as told
 use Rattle.graphql_validation.specs.TellsDocument.{DocumentTold}
+use Rattle.graphql_faults.specs.DetailsTree.{of_typing}
 use Rattle.verdict_definitions.specs.Texts.{Tree}
-use Rattle.verdict_definitions.specs.Says.{AnyFault, of_typing, of_document, TypingFailsOver}
+use Rattle.verdict_definitions.specs.Says.{AnyFault, of_document, TypingFailsOver}
 use Rattle.graphql_checked.specs.Checking.{TypesDocument, RefusesTyping, RefusesRules}
 
 -- ---- lists

@@ -3,8 +3,8 @@
 ghost use Rattle.std.specs.Prelude.{◌≡◌, map, IfOk};
 ghost use Rattle.schema_fold.specs.FaultView.{faults_of};
 ghost use Rattle.document_typing.specs.FaultView as typing;
+ghost use Rattle.graphql_faults.specs.DetailsTree.{of_folding, of_typing};
 ghost use Rattle.graphql_faults.specs.DetailsView.{diagnostics_of};
-ghost use Rattle.verdict_definitions.specs.Says.{of_folding, of_typing};
 
 use fault_document_data::BuildError as DocumentError;
 use graphql_faults::DiagnosticList;

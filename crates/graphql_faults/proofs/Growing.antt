@@ -21,15 +21,3 @@ grown_all f g old new all xs rest grown split none =
 pub grown_kept : {A B C T E : Type 0} (f : A → B) (g : B → C) (r : Result T E) (old mid new : List C) (xs : List A) → mid ≡ old ++ map g (map f xs) → new ≡ mid → OnErr r (BeginsAs old new)
 grown_kept f g (Ok v) old mid new xs begun kept = tt
 grown_kept f g (Err e) old mid new xs begun kept = (map g (map f xs), kept ∙ begun)
-
--- ---- the same of what is made in one step
-
-pub more_of : {A C : Type 0} (f : A → C) (old mid new : List C) (xs : List A) (x : A) → mid ≡ old ++ map f xs → new ≡ mid ++ f x ∷ [] → new ≡ old ++ map f (xs ++ x ∷ [])
-more_of f old mid new xs x begun more = more ∙ ap (λ m. m ++ f x ∷ []) begun ∙ append_assoc old (map f xs) (f x ∷ []) ∙ ap (λ l. old ++ l) (sym (map_push f xs x))
-
-pub all_of : {A C : Type 0} (f : A → C) (old new : List C) (all xs rest : List A) → new ≡ old ++ map f xs → all ≡ xs ++ rest → length rest ≡ 0 → new ≡ old ++ map f all
-all_of f old new all xs rest grown split none = grown ∙ ap (λ l. old ++ map f l) (sym (split ∙ ap (λ r. xs ++ r) (nil_from_length rest none) ∙ append-nil xs))
-
-pub kept_of : {A C T E : Type 0} (f : A → C) (r : Result T E) (old mid new : List C) (xs : List A) → mid ≡ old ++ map f xs → new ≡ mid → OnErr r (BeginsAs old new)
-kept_of f (Ok v) old mid new xs begun kept = tt
-kept_of f (Err e) old mid new xs begun kept = (map f xs, kept ∙ begun)

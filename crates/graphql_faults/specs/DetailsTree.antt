@@ -1,7 +1,10 @@
 -- What is wrong with texts, schemas and documents, with its data.
+use Rattle.std.specs.Prelude.{List}
+use Rattle.graphql_names.specs.Placed.{Place}
 use Rattle.graphql_read.specs.declared.fault.SyntaxFaultKind.{SyntaxFaultKind}
+use Rattle.schema_fold.specs.BuildErrors as folding
 use Rattle.schema_fold.specs.BuildErrors.{Breach}
-use Rattle.fault_document_data.specs.DocumentBreaches.{DocumentBreach}
+use Rattle.fault_document_data.specs.DocumentBreaches.{DocumentBreach, TypingFault}
 use Rattle.fault_data.specs.in_rule_definitions.Diagnostics.{Diagnostic}
 use Rattle.fault_data.specs.in_rule_definitions.Faults.{FaultAt}
 
@@ -23,3 +26,11 @@ pub record DetailsAt (P E : Type 0) : Type 0 where
 -- what breaks a rule, among all that can be wrong
 abbrev pub of_rule : {P E : Type 0} → FaultAt P E → DetailsAt P E
 of_rule f = record { place = f.place; details = Data f.breach }
+
+-- what breaks a rule of folding
+abbrev pub of_folding : folding.BuildFault → DetailsAt Place (List Place)
+of_folding f = record { place = f.place; details = SchemaBuild f.breach }
+
+-- what breaks a rule of typing
+abbrev pub of_typing : TypingFault Place → DetailsAt Place (List Place)
+of_typing f = record { place = f.place; details = DocumentBuild f.breach }

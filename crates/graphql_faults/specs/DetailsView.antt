@@ -2,9 +2,7 @@
 use Rattle.std.specs.Prelude.{◌≡◌, List, ◌++◌, map}
 use Rattle.graphql_names.specs.Placed.{Place}
 use Rattle.schema_fold.specs.FaultView.{breach_of}
-use Rattle.schema_fold.specs.declared.build_error.BuildError.{BuildError as SchemaError}
 use Rattle.fault_document_data.specs.DocumentBreachView.{document_breach_of}
-use Rattle.fault_document_data.specs.declared.build_error.BuildError.{BuildError as DocumentError}
 use Rattle.fault_data.specs.DiagnosticView.{diagnostic_of}
 use Rattle.graphql_faults.specs.DetailsTree as tree
 use Rattle.graphql_faults.specs.DetailsTree.{DetailsTree, DetailsAt}
@@ -20,13 +18,6 @@ details_of (rust.SchemaBuild e) = tree.SchemaBuild (breach_of e)
 details_of (rust.DocumentBuild e) = tree.DocumentBuild (document_breach_of e)
 details_of (rust.Data d) = tree.Data (diagnostic_of d)
 details_of rust.RecursionLimitError = tree.RecursionLimitError
-
--- what breaks a rule of folding, among all that can be wrong; and what breaks a rule of typing, of merging, of subscriptions or of @defer
-abbrev pub schema_error_at : Place × SchemaError → DetailsAt Place (List Place)
-schema_error_at e = record { place = e.0; details = tree.SchemaBuild (breach_of e.1) }
-
-abbrev pub document_error_at : Place × DocumentError → DetailsAt Place (List Place)
-document_error_at e = record { place = e.0; details = tree.DocumentBuild (document_breach_of e.1) }
 
 abbrev pub details_at : Place × Details → DetailsAt Place (List Place)
 details_at d = record { place = d.0; details = details_of d.1 }

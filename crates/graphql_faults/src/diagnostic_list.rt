@@ -1,9 +1,11 @@
 //! Lists of what is wrong.
 ghost use Rattle.std.specs.Prelude.{◌≡◌, [], ◌∷◌, ◌++◌, length, map, OnOk, OnErr, IsTrue, ◌↔◌};
 ghost use Rattle.std.specs.Slice.Iter.{iter_rest};
+ghost use Rattle.schema_fold.specs.FaultView as folding;
+ghost use Rattle.fault_document_data.specs.FaultView as typing;
 ghost use Rattle.fault_data.specs.FaultView.{fault_of, faults_of};
-ghost use Rattle.graphql_faults.specs.DetailsTree.{of_rule};
-ghost use Rattle.graphql_faults.specs.DetailsView.{details_at, schema_error_at, document_error_at, diagnostics_of, BeginsAs};
+ghost use Rattle.graphql_faults.specs.DetailsTree.{of_rule, of_folding, of_typing};
+ghost use Rattle.graphql_faults.specs.DetailsView.{details_at, diagnostics_of, BeginsAs};
 
 use crate::details::Details;
 use fault_data::Fault;
@@ -79,7 +81,7 @@ impl DiagnosticList {
         &mut self,
         errors: Vec<(Option<SourceSpan>, SchemaError)>,
     ) -> Result<(), AllocError>
-        ensures added { OnOk result (diagnostics_of self.new ≡ diagnostics_of self.old ++ map schema_error_at errors.items) }
+        ensures added { OnOk result (diagnostics_of self.new ≡ diagnostics_of self.old ++ map of_folding (folding.faults_of errors)) }
         ensures begins { OnErr result (BeginsAs (diagnostics_of self.old) (diagnostics_of self.new)) }
     {
         for (place, error) in errors {
@@ -93,7 +95,7 @@ impl DiagnosticList {
         &mut self,
         errors: Vec<(Option<SourceSpan>, DocumentError)>,
     ) -> Result<(), AllocError>
-        ensures added { OnOk result (diagnostics_of self.new ≡ diagnostics_of self.old ++ map document_error_at errors.items) }
+        ensures added { OnOk result (diagnostics_of self.new ≡ diagnostics_of self.old ++ map of_typing (typing.faults_of errors)) }
         ensures begins { OnErr result (BeginsAs (diagnostics_of self.old) (diagnostics_of self.new)) }
     {
         for (place, error) in errors {

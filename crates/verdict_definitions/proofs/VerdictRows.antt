@@ -11,9 +11,10 @@ use Rattle.graphql_read.specs.in_operations.SelectionTree.{FieldTree, no_selecti
 use Rattle.schema_types.specs.TypeParts.{with_fields}
 use Rattle.schema_types.specs.SchemaTree.{SchemaTree}
 use Rattle.schema_types.specs.declared.type_kind.TypeKind.TheVariants as kind
+use Rattle.graphql_faults.specs.DetailsTree.{of_folding, of_typing}
 use Rattle.verdict_definitions.specs.Texts.{SourceText}
 use Rattle.verdict_definitions.specs.Judge.{schema_at_hand, IsAccepted}
-use Rattle.verdict_definitions.specs.Says.{of_folding, of_typing, FoldingFails, TypingFailsOver, SaysSchema, SaysDocument}
+use Rattle.verdict_definitions.specs.Says.{FoldingFails, TypingFailsOver, SaysSchema, SaysDocument}
 use Rattle.verdict_definitions.proofs.RowTrees.{terms, named, field_definition, fields_of, field}
 use Rattle.verdict_definitions.proofs.RowJudging.{folding_refused, typing_refused}
 use Rattle.verdict_definitions.proofs.TextRows.{query_field, query_field_tree, query_field_reads, missing, missing_tree, missing_reads, orphan, orphan_query, orphan_extension, orphan_reads}

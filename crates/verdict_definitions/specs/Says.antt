@@ -16,7 +16,7 @@ use Rattle.document_typing.specs.TypingFaults as typing
 use Rattle.document_typing.specs.TypingFaults.{TypingFails}
 use Rattle.rule_document_definitions.specs.DocumentFaults.{OfData, OfDocument, OfLimit}
 use Rattle.rule_document_definitions.specs.Told.{PlacedDocumentFault, DocumentFails, DocumentMergingFails, DocumentBoundFails}
-use Rattle.graphql_faults.specs.DetailsTree.{DetailsAt, Syntax, Nesting, Spent, SchemaBuild, DocumentBuild, RecursionLimitError, of_rule}
+use Rattle.graphql_faults.specs.DetailsTree.{DetailsAt, Syntax, Nesting, Spent, DocumentBuild, RecursionLimitError, of_rule, of_folding, of_typing}
 use Rattle.verdict_definitions.specs.Texts.{SourceText, Tree, Terms, DerivesIn, ReadsText, ReadsAll, PassesNumbers}
 use Rattle.verdict_definitions.specs.Judge.{all_definitions, schema_of, meanings_over, document_over}
 
@@ -24,13 +24,7 @@ use Rattle.verdict_definitions.specs.Judge.{all_definitions, schema_of, meanings
 abbrev pub AnyFault : Type 0
 AnyFault = DetailsAt Place (List Place)
 
--- what breaks a rule of folding, of typing or of documents, among all that can be wrong
-abbrev pub of_folding : folding.BuildFault → AnyFault
-of_folding f = record { place = f.place; details = SchemaBuild f.breach }
-
-abbrev pub of_typing : typing.TypingFault Place → AnyFault
-of_typing f = record { place = f.place; details = DocumentBuild f.breach }
-
+-- what breaks a rule on documents, among all that can be wrong
 abbrev pub of_document : PlacedDocumentFault → AnyFault
 of_document (OfData fault) = of_rule fault
 of_document (OfDocument broken) = record { place = broken.place; details = DocumentBuild broken.it }

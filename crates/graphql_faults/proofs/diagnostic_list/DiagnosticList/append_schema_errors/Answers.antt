@@ -1,9 +1,10 @@
 use Rattle.std.proofs.Common.{◌≡◌, ◌∷◌, [], ◌++◌, length, sym, ap, ◌∙◌, append_assoc, arith}
 use Rattle.std.specs.Vec.Iter.{into_iter_items}
 use Rattle.graphql_names.specs.Placed.{Place}
+use Rattle.schema_fold.specs.FaultView.{fault_of}
 use Rattle.schema_fold.specs.declared.build_error.BuildError.{BuildError}
-use Rattle.graphql_faults.specs.DetailsView.{schema_error_at}
-use Rattle.graphql_faults.proofs.Growing.{more_of, all_of, kept_of}
+use Rattle.graphql_faults.specs.DetailsTree.{of_folding}
+use Rattle.graphql_faults.proofs.Growing.{grown_more, grown_all, grown_kept}
 use Rattle.graphql_faults.proofs.diagnostic_list.DiagnosticList.append_schema_errors.Goals as goal
 
 pub loop-place-preserved : goal.loop-place-preserved
@@ -11,7 +12,7 @@ loop-place-preserved c =
     let at = c.loop-place in
     let x : Place × BuildError = (c.in-Some.place, c.in-Some.error) in
     let steps : into_iter_items at.place-iterator ≡ x ∷ into_iter_items c.next.new.self = c.in-Some.ensures.steps.0 in (
-      more_of schema_error_at _ _ _ at.yielded x at.invariant.0 c.in_ok-push.ensures.added,
+      grown_more fault_of of_folding _ _ _ at.yielded x at.invariant.0 c.in_ok-push.ensures.added,
       at.invariant.1 ∙ ap (λ r. at.yielded ++ r) steps ∙ sym (append_assoc at.yielded (x ∷ []) (into_iter_items c.next.new.self)),
       let was = at.invariant.2 in
           let gone = c.in-Some.ensures.steps.1 in
@@ -20,9 +21,9 @@ loop-place-preserved c =
     )
 
 pub returns-in_err-push-clause-begins : goal.returns-in_err-push-clause-begins
-returns-in_err-push-clause-begins c = kept_of schema_error_at _ _ _ _ c.loop-place.yielded c.loop-place.invariant.0 c.in_err-push.ensures.kept
+returns-in_err-push-clause-begins c = grown_kept fault_of of_folding _ _ _ _ c.loop-place.yielded c.loop-place.invariant.0 c.in_err-push.ensures.kept
 
 pub returns-clause-added : goal.returns-clause-added
 returns-clause-added c =
     let at = c.loop-place in
-    all_of schema_error_at _ _ c.args.errors.items at.yielded _ at.invariant.0 at.invariant.1 (sym at.invariant.2 ∙ c.in-None.ensures.steps.0)
+    grown_all fault_of of_folding _ _ c.args.errors.items at.yielded _ at.invariant.0 at.invariant.1 (sym at.invariant.2 ∙ c.in-None.ensures.steps.0)

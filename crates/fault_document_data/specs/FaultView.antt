@@ -2,9 +2,9 @@
 use Rattle.std.specs.Prelude.{List, map, Vec}
 use Rattle.std.specs.declared.alloc.Global.{Global}
 use Rattle.graphql_names.specs.Placed.{Place}
+use Rattle.fault_document_data.specs.DocumentBreaches.{TypingFault}
 use Rattle.fault_document_data.specs.DocumentBreachView.{document_breach_of}
 use Rattle.fault_document_data.specs.declared.build_error.BuildError.{BuildError}
-use Rattle.document_typing.specs.TypingFaults.{TypingFault}
 
 abbrev pub fault_of : Place × BuildError → TypingFault Place
 fault_of f = record { place = f.0; breach = document_breach_of f.1 }
