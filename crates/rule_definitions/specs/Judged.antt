@@ -1,10 +1,11 @@
 -- What rules read of a schema: look-ups by name, without places and order, and what is built in. Of equal schemas with equal
 -- marks it is the same.
-use Rattle.std.specs.Prelude.{◌≡◌, ℕ, Bool, true, false, List, map, Option, ◌⊎◌}
+use Rattle.std.specs.Prelude.{◌≡◌, ℕ, Bool, true, false, ◌&&◌, List, map, Option, ◌⊎◌}
 use Rattle.graphql_names.specs.Placed.{Place}
+use Rattle.graphql_names.specs.Places.{is_built_in}
 use Rattle.tree_directives.specs.DirectiveTree.{DirectiveTree, Directives, InputValueTree, InputValues, DirectiveDefinitionTree}
 use Rattle.tree_type_members.specs.TypeSystemTree.{FieldDefinitionTree, EnumValueTree}
-use Rattle.schema_types.specs.SchemaTree.{SchemaTree}
+use Rattle.schema_types.specs.SchemaTree.{SchemaTree, SchemaType, same_kind}
 use Rattle.schema_types.specs.Plain.{PlainRoots, plain}
 use Rattle.schema_types.specs.Looks.{TypeLooks, Looks, looks}
 use Rattle.schema_types.specs.Addresses.{Address, TypeAt, FieldAt, InputAt, DirectiveDefinitionAt, ArgumentAt, is_marked}
@@ -29,6 +30,10 @@ abbrev pub applied_directives : Directives (Unit {0}) → List (DirectiveTree (U
 applied_directives ds = map (λ d. d.it) ds
 
 -- ---- scalars
+
+-- a type of a schema is one that is built in
+abbrev pub is_built_in_scalar : SchemaType Place → Bool
+is_built_in_scalar t = same_kind t.kind kind.Scalar && is_built_in t.place
 
 module _ (s : Judged) where
   abbrev pub IsBuiltInScalar : List ℕ → TypeLooks → Type 0

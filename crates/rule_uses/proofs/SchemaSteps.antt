@@ -5,9 +5,10 @@ use Rattle.graphql_names.specs.Placed.{Place}
 use Rattle.rule_values.specs.in_schema.in_schema_types.SchemaTree.{SchemaType, SchemaTree}
 use Rattle.rule_values.specs.in_schema.in_schema_types.Addresses.{applied}
 use Rattle.rule_values.specs.in_rule_definitions.Words.{AtSomeIndex}
+use Rattle.rule_values.specs.in_rule_definitions.Judged.{is_built_in_scalar}
 use Rattle.rule_values.specs.in_rule_definitions.Rules.{type_location}
 use Rattle.rule_values.specs.in_rule_definitions.Told.{PlacedFault}
-use Rattle.rule_uses.specs.SchemaUses.{FieldsUses, ValuesUses, InputsUses, OwnUses, PartsUses, UsesAt, is_built_in_scalar}
+use Rattle.rule_uses.specs.SchemaUses.{FieldsUses, ValuesUses, InputsUses, OwnUses, PartsUses, UsesAt}
 
 nowhere : {X A : Type 0} (xs : List X) (R : ℕ → X → Type 0) → xs ≡ [] → AtSomeIndex xs R → A
 nowhere xs R e h = absurd (true≢false (sym (ap is_some (ap (λ l. slice_get l h.0) (sym e) ∙ h.1.1.0))))

@@ -21,7 +21,7 @@ use Rattle.schema_types.specs.Addresses.{Address, SchemaAt, TypeAt, FieldAt, Val
 use Rattle.rule_values.specs.in_rule_definitions.Words.{Somewhere, AtSomeIndex}
 use Rattle.rule_values.specs.in_rule_definitions.Spots.{At, spotted_directives}
 use Rattle.rule_values.specs.in_rule_definitions.Faults.{SchemaFault}
-use Rattle.rule_values.specs.in_rule_definitions.Judged.{judged, applied_directives, IsBuiltInScalar}
+use Rattle.rule_values.specs.in_rule_definitions.Judged.{judged, applied_directives, is_built_in_scalar, IsBuiltInScalar}
 use Rattle.rule_values.specs.in_rule_definitions.Uses.{UsesBreak}
 use Rattle.rule_values.specs.in_rule_definitions.Rules.{type_location, SchemaUsesBreak, IsToldAs, extension_places_at}
 use Rattle.rule_values.specs.in_rule_definitions.Told.{PlacedFault, Told}
@@ -29,7 +29,7 @@ use Rattle.schema_types.specs.Distinct.{AreAllDistinct}
 use Rattle.rule_values.proofs.in_rule_definitions.Lists.{index_found, index_given, mapped_some, slice_get-map}
 use Rattle.rule_values.proofs.in_rule_definitions.Lookups.{under_found, under_given}
 use Rattle.rule_values.proofs.in_fault_data.Judgings.{type_look, directive_look, field_look, value_look, input_look}
-use Rattle.rule_uses.specs.SchemaUses.{is_built_in_scalar, UsesAt, ArgumentUses, FieldUses, FieldsUses, ValuesUses, InputsUses, OwnUses, TypeUses, DefinitionUses, SchemaUses}
+use Rattle.rule_uses.specs.SchemaUses.{UsesAt, ArgumentUses, FieldUses, FieldsUses, ValuesUses, InputsUses, OwnUses, TypeUses, DefinitionUses, SchemaUses}
 use Rattle.rule_uses.proofs.Moves.{Moves, moves_either, moves_where}
 use Rattle.rule_uses.proofs.SpottedUses.{uses_told}
 

@@ -1,24 +1,19 @@
 -- The rules on uses at each place of a schema, entry by entry, and what they tell of it.
-use Rattle.std.specs.Prelude.{◌≡◌, Bool, false, ◌&&◌, [], ◌⊎◌}
+use Rattle.std.specs.Prelude.{◌≡◌, false, [], ◌⊎◌}
 use Rattle.graphql_names.specs.Placed.{Placed, Place}
-use Rattle.graphql_names.specs.Places.{is_built_in}
 use Rattle.tree_directives.specs.DirectiveTree.{Directives, InputValueTree, InputValues, DirectiveDefinitionTree}
 use Rattle.tree_directives.specs.declared.directive_location.DirectiveLocation.{DirectiveLocation}
 use Rattle.tree_directives.specs.declared.directive_location.DirectiveLocation.TheVariants as location
 use Rattle.tree_type_members.specs.TypeSystemTree.{FieldDefinitionTree, EnumValueTree}
 use Rattle.schema_components.specs.Names.{Entries}
 use Rattle.schema_components.specs.Given.{Given}
-use Rattle.schema_types.specs.SchemaTree.{SchemaType, SchemaTree, same_kind}
+use Rattle.schema_types.specs.SchemaTree.{SchemaType, SchemaTree}
 use Rattle.schema_types.specs.Addresses.{place_at, applied}
-use Rattle.schema_types.specs.declared.type_kind.TypeKind.TheVariants as kind
 use Rattle.rule_values.specs.in_rule_definitions.Words.{AtSomeIndex}
-use Rattle.rule_values.specs.in_rule_definitions.Judged.{judged}
+use Rattle.rule_values.specs.in_rule_definitions.Judged.{judged, is_built_in_scalar}
 use Rattle.rule_values.specs.in_rule_definitions.Uses.{UsesBreak}
 use Rattle.rule_values.specs.in_rule_definitions.Rules.{type_location}
 use Rattle.rule_values.specs.in_rule_definitions.Told.{PlacedFault}
-
-abbrev pub is_built_in_scalar : SchemaType Place → Bool
-is_built_in_scalar t = same_kind t.kind kind.Scalar && is_built_in t.place
 
 module _ (s : SchemaTree Place) where
   -- at one place

@@ -27,11 +27,11 @@ use Rattle.fault_data.specs.in_rule_definitions.Diagnostics.{UnsupportedValueTyp
 use Rattle.fault_data.specs.in_rule_definitions.Words.{Present, Somewhere, AtSomeIndex}
 use Rattle.fault_data.specs.in_rule_definitions.Spots.{entry_list}
 use Rattle.fault_data.specs.in_rule_definitions.Faults.{wrong}
-use Rattle.fault_data.specs.in_rule_definitions.Judged.{Judged, judged, IsBuiltInScalar, IsCustomScalar}
+use Rattle.fault_data.specs.in_rule_definitions.Judged.{Judged, judged, is_built_in_scalar, IsBuiltInScalar, IsCustomScalar}
 use Rattle.fault_data.specs.in_rule_definitions.Values.{Wanted, Variables, defined_name, wanted_name, entry_named, is_absent_or_null, IsScalarAmong, FitsForm, UnsupportedValueTypeAt, IntCoercionErrorAt, UndefinedEnumValueAt, UndefinedInputValueAt, RequiredFieldAt, FormBreaks}
 use Rattle.fault_data.specs.in_rule_definitions.Told.{PlacedFault}
 use Rattle.rule_values.specs.Wanting.{wanted}
-use Rattle.rule_values.specs.ValueFaults.{is_key, fits_32_bits, is_built_in_scalar, is_custom_scalar, is_scalar_so, takes_integers, takes_floats, takes_strings, takes_booleans, given_entry, is_missing_entry, each_first, fits_form, unsupported_value_type, int_coercion_error, undefined_enum_value, undefined_key, undefined_input_value, required_field, required_fields, form_faults}
+use Rattle.rule_values.specs.ValueFaults.{is_key, fits_32_bits, is_custom_scalar, is_scalar_so, takes_integers, takes_floats, takes_strings, takes_booleans, given_entry, is_missing_entry, each_first, fits_form, unsupported_value_type, int_coercion_error, undefined_enum_value, undefined_key, undefined_input_value, required_field, required_fields, form_faults}
 use Rattle.rule_values.proofs.Tells.{no_true, no_some, Tells, tells_same, tells_both, tells_nothing, tells_one, tells_one_as, tells_when, tells_unless, tells_present, first_told, tells_first}
 use Rattle.rule_values.proofs.Looking.{kind_decides, inner_unplaced, mark_unplaced, list_unplaced, input_under, no_input_decides, no_value_decides, type_present, place_of_type, mark_of_type, place_of_input}
 

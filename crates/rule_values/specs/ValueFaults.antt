@@ -20,6 +20,7 @@ use Rattle.graphql_schema.specs.in_schema_types.declared.type_kind.TypeKind.TheV
 use Rattle.schema_coordinates.specs.Coordinate.{OfAttribute}
 use Rattle.fault_data.specs.in_rule_definitions.Diagnostics.{UnsupportedValueType, IntCoercionError, UndefinedEnumValue, UndefinedInputValue, RequiredField}
 use Rattle.fault_data.specs.in_rule_definitions.Faults.{wrong}
+use Rattle.fault_data.specs.in_rule_definitions.Judged.{is_built_in_scalar}
 use Rattle.fault_data.specs.in_rule_definitions.Values.{Variables, defined_name}
 use Rattle.fault_data.specs.in_rule_definitions.Told.{PlacedFault}
 
@@ -33,9 +34,6 @@ fits_32_bits (pos n) = ltb n (2 ^ 31)
 fits_32_bits (negsuc n) = ltb n (2 ^ 31)
 
 -- ---- scalars
-
-abbrev pub is_built_in_scalar : SchemaType Place → Bool
-is_built_in_scalar t = same_kind t.kind kind.Scalar && is_built_in t.place
 
 abbrev pub is_custom_scalar : SchemaType Place → Bool
 is_custom_scalar t = same_kind t.kind kind.Scalar && not (is_built_in t.place)

@@ -9,8 +9,9 @@ ghost use Rattle.tree_literals.specs.ValueTree.{value_tree};
 ghost use Rattle.tree_literals.specs.ValueQueries.{integer_text};
 ghost use Rattle.graphql_schema.specs.in_schema_types.TypeView.{extended_type};
 ghost use Rattle.fault_data.specs.FaultView.{faults_of};
+ghost use Rattle.fault_data.specs.in_rule_definitions.Judged.{is_built_in_scalar};
 ghost use Rattle.rule_values.specs.Wanting.{variables_of};
-ghost use Rattle.rule_values.specs.ValueFaults.{fits_32_bits, is_built_in_scalar, is_custom_scalar, is_scalar_so, takes_integers, takes_floats, takes_strings, takes_booleans, variable_fits, fits_form, unsupported_value_type, int_coercion_error, undefined_enum_value};
+ghost use Rattle.rule_values.specs.ValueFaults.{fits_32_bits, is_custom_scalar, is_scalar_so, takes_integers, takes_floats, takes_strings, takes_booleans, variable_fits, fits_form, unsupported_value_type, int_coercion_error, undefined_enum_value};
 
 use crate::defined::DefinedVariables;
 use crate::find::find_value;
