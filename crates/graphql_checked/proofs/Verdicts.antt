@@ -11,7 +11,7 @@ use Rattle.verdict_definitions.specs.Judge.{schema_at_hand, IsDocumentAccepted, 
 use Rattle.verdict_definitions.specs.Says.{AnyFault}
 use Rattle.verdict_definitions.specs.Answer.{RefusesDocument, Refuses}
 use Rattle.graphql_checked.specs.CheckerValue.{CheckerValue, CheckedSchemaValue, IsCheckedSchemaOf, IsCheckedDocumentOf}
-use Rattle.graphql_checked.specs.CheckerAnswers.{IsAddRefusal, IsFinishRefusal}
+use Rattle.graphql_checked.specs.CheckerAnswers.{IsCheckerAddRefusal, IsFinishRefusal}
 use Rattle.graphql_checked.specs.Refusals.{RefusalOfSchemas, RefusalOfDocument}
 use Rattle.graphql_checked.specs.Verdicts.{IsVerdict, refusal_verdict}
 use Rattle.graphql_checked.specs.declared.refusal.Refusal.{Refusal}
@@ -42,7 +42,7 @@ pub texts_all : {T : Type 0} (f : T → List ℕ) (xs : List T) (i : ℕ) (terms
 texts_all f xs i terms checker outside before = before ∙ ap (λ l. given terms (map f l)) (take_all i xs outside)
 
 -- a checker that runs refuses a text for want of memory alone
-pub add_refusal : (old new : CheckerValue) (refusal : Refusal) → old.failed ≡ false → IsAddRefusal old new refusal → refusal ≡ Memory
+pub add_refusal : (old new : CheckerValue) (refusal : Refusal) → old.failed ≡ false → IsCheckerAddRefusal old new refusal → refusal ≡ Memory
 add_refusal old new (Faults list) runs h = absurd h
 add_refusal old new Memory runs h = refl
 add_refusal old new Failed runs h = let e : true ≡ false = sym h.0 ∙ runs in absurd cc

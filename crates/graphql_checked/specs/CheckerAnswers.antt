@@ -6,10 +6,10 @@ use Rattle.graphql_checked.specs.declared.refusal.Refusal.{Refusal}
 use Rattle.graphql_checked.specs.declared.refusal.Refusal.TheVariants.{Faults, Memory, Failed}
 
 -- Want of memory as a text is added: the texts stay, and the checker has failed from then on.
-abbrev pub IsAddRefusal : CheckerValue → CheckerValue → Refusal → Type 0
-IsAddRefusal old new Memory = (old.failed ≡ false) × ((new.failed ≡ true) × (new.texts ≡ old.texts))
-IsAddRefusal old new Failed = (old.failed ≡ true) × (new ≡ old)
-IsAddRefusal old new (Faults list) = ⊥
+abbrev pub IsCheckerAddRefusal : CheckerValue → CheckerValue → Refusal → Type 0
+IsCheckerAddRefusal old new Memory = (old.failed ≡ false) × ((new.failed ≡ true) × (new.texts ≡ old.texts))
+IsCheckerAddRefusal old new Failed = (old.failed ≡ true) × (new ≡ old)
+IsCheckerAddRefusal old new (Faults list) = ⊥
 
 -- The checker gives no schema: it has failed, or the texts that it was given are refused so.
 abbrev pub IsFinishRefusal : CheckerValue → Refusal → Type 0

@@ -4,7 +4,7 @@ ghost use Rattle.std.specs.Prelude.{◌≡◌, ◌++◌, ◌∷◌, [], true, fa
 ghost use Rattle.verdict_definitions.specs.Judge.{AreSchemasCertain};
 ghost use Rattle.graphql_checked.specs.CheckedView.{schema_value};
 ghost use Rattle.graphql_checked.specs.CheckerValue.{IsCheckedSchemaOf};
-ghost use Rattle.graphql_checked.specs.CheckerAnswers.{IsAddRefusal, IsFinishRefusal};
+ghost use Rattle.graphql_checked.specs.CheckerAnswers.{IsCheckerAddRefusal, IsFinishRefusal};
 ghost use Rattle.graphql_checked.specs.declared.refusal.Refusal.TheVariants.{Memory};
 
 use crate::checked_schema::CheckedSchema;
@@ -73,7 +73,7 @@ impl Checker {
     pub fn add_schema(&mut self, text: &str) -> Result<(), Refusal>
         ensures running { OnOk result (self.old.failed ≡ false) }
         ensures added { OnOk result (self.new ≡ record self.old { texts = self.old.texts ++ text.now ∷ [] }) }
-        ensures refused { IfErr result (IsAddRefusal self.old self.new) }
+        ensures refused { IfErr result (IsCheckerAddRefusal self.old self.new) }
     {
         if self.failed {
             return Err(Refusal::Failed);

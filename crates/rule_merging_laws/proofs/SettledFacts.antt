@@ -5,7 +5,7 @@ use Rattle.std.proofs.lemmas.List.Elements.{All-contains, All-from_recursion, Co
 use Rattle.rule_definitions.proofs.Lists.{not_in_nil, Contains-cons, Contains-first, only}
 use Rattle.rule_document_definitions.specs.Chains.{Chain, GoTogether, Merge}
 use Rattle.rule_document_definitions.specs.Groups.{AgreeWithHead}
-use Rattle.rule_merging_laws.specs.Settled.{HasAllOf, HasStart, IsSettledBy, IsSettled, IsKept, IsSettledBut, IsUnderWay, IsExaminedInto}
+use Rattle.rule_merging_laws.specs.Settled.{HasAllOf, HasStart, IsSettledBy, IsSettled, IsExaminedOrLeft, IsSettledBut, IsUnderWay, IsExaminedInto}
 
 -- a chain may start elsewhere
 chain_from : {F : Type 0} (Below : F → F → Type 0) (Old New : F → Type 0) → ((f : F) → Old f → New f) → (c : List F) → Chain Below Old c → Chain Below New c
@@ -67,7 +67,7 @@ module _ {F : Type 0} (Below Together Agree : F → F → Type 0) where
   start_kept Old New Starts keeps start = let m = keeps start.0 start.1.0 in (m.0, (m.1.0, λ x s. m.1.1 x (start.1.1 x s)))
 
   -- where a list that was examined has all of it, a list needs no examination
-  keeps_dropped : (left lists : List (List F)) (list larger : List F) → Contains lists larger → HasAllOf list larger → KeepsAll (IsKept (list ∷ left) lists) (IsKept left lists)
+  keeps_dropped : (left lists : List (List F)) (list larger : List F) → Contains lists larger → HasAllOf list larger → KeepsAll (IsExaminedOrLeft (list ∷ left) lists) (IsExaminedOrLeft left lists)
   keeps_dropped left lists list larger there all l (inl h) = (l, (inl h, λ x c. c))
   keeps_dropped left lists list larger there all l (inr h) = elim (Contains-cons list left l h) [
     | inl e ↦ (larger, (inl there, λ x c. all x (subst (λ m. Contains m x) (sym e) c)))
@@ -76,7 +76,7 @@ module _ {F : Type 0} (Below Together Agree : F → F → Type 0) where
 
   -- where it is examined, or another that has all of it, that one is kept, and the lists below its groups
   keeps_examined : (left later lists : List (List F)) (list examined : List F) → HasAllOf list examined → ((l : List F) → Contains left l → Contains later l)
-      → KeepsAll (IsKept (list ∷ left) lists) (IsKept later (lists ++ examined ∷ []))
+      → KeepsAll (IsExaminedOrLeft (list ∷ left) lists) (IsExaminedOrLeft later (lists ++ examined ∷ []))
   keeps_examined left later lists list examined all on l (inl h) = (l, (inl (Contains-append_left lists (examined ∷ []) l h), λ x c. c))
   keeps_examined left later lists list examined all on l (inr h) = elim (Contains-cons list left l h) [
     | inl e ↦ (
@@ -101,13 +101,13 @@ module _ {F : Type 0} (Below Together Agree : F → F → Type 0) where
 
   -- what is settled is so whatever is left
   pub settled_begun : (left lists : List (List F)) → IsSettled Below Together Agree lists → IsSettledBut Below Together Agree left lists
-  settled_begun left lists ok = settled_kept (Contains lists) (IsKept left lists) lists (λ l h. (l, (inl h, λ x c. c))) ok
+  settled_begun left lists ok = settled_kept (Contains lists) (IsExaminedOrLeft left lists) lists (λ l h. (l, (inl h, λ x c. c))) ok
 
   -- where nothing is left, all is settled
   pub settled_ended : (lists : List (List F)) → IsSettledBut Below Together Agree [] lists → IsSettled Below Together Agree lists
-  settled_ended lists ok = settled_kept (IsKept [] lists) (Contains lists) lists nothing_left ok
+  settled_ended lists ok = settled_kept (IsExaminedOrLeft [] lists) (Contains lists) lists nothing_left ok
     where
-      nothing_left : KeepsAll (IsKept [] lists) (Contains lists)
+      nothing_left : KeepsAll (IsExaminedOrLeft [] lists) (Contains lists)
       nothing_left l (inl h) = (l, (h, λ x c. c))
       nothing_left l (inr h) = not_in_nil l h
 
@@ -115,7 +115,7 @@ module _ {F : Type 0} (Below Together Agree : F → F → Type 0) where
   pub settled_dropped : (left lists : List (List F)) (list larger : List F) → Contains lists larger → HasAllOf list larger
       → IsSettledBut Below Together Agree (list ∷ left) lists → IsSettledBut Below Together Agree left lists
   settled_dropped left lists list larger there all ok =
-      settled_kept (IsKept (list ∷ left) lists) (IsKept left lists) lists (keeps_dropped left lists list larger there all) ok
+      settled_kept (IsExaminedOrLeft (list ∷ left) lists) (IsExaminedOrLeft left lists) lists (keeps_dropped left lists list larger there all) ok
 
   module _ (agree_sym : (f g : F) → Agree f g → Agree g f) (agree_trans : (f g h : F) → Agree f g → Agree g h → Agree f h) where
     -- two fields that agree with one head agree
@@ -148,8 +148,8 @@ module _ {F : Type 0} (Below Together Agree : F → F → Type 0) where
       ];
     }
       where
-        before : IsSettledBy Below Together Agree (IsKept later (lists ++ examined ∷ [])) lists
-        before = settled_kept (IsKept (list ∷ left) lists) (IsKept later (lists ++ examined ∷ [])) lists (keeps_examined left later lists list examined all on) ok
+        before : IsSettledBy Below Together Agree (IsExaminedOrLeft later (lists ++ examined ∷ [])) lists
+        before = settled_kept (IsExaminedOrLeft (list ∷ left) lists) (IsExaminedOrLeft later (lists ++ examined ∷ [])) lists (keeps_examined left later lists list examined all on) ok
 
         has : (group : List F) (f g : F) (n : List F) → ((y x : F) → Contains group y → Below y x → Contains n x) → Contains group f → Contains group g
             → (x : F) → Below f x ⊎ Below g x → Contains n x
@@ -168,7 +168,7 @@ module _ {F : Type 0} (Below Together Agree : F → F → Type 0) where
     pub dropped : (left lists : List (List F)) (list larger : List F) → Contains lists larger → HasAllOf list larger
         → IsUnderWay Below Together Agree Starts (list ∷ left) lists → IsUnderWay Below Together Agree Starts left lists
     dropped left lists list larger there all ok = record {
-      start = start_kept (IsKept (list ∷ left) lists) (IsKept left lists) Starts (keeps_dropped left lists list larger there all) ok.start;
+      start = start_kept (IsExaminedOrLeft (list ∷ left) lists) (IsExaminedOrLeft left lists) Starts (keeps_dropped left lists list larger there all) ok.start;
       settled = settled_dropped left lists list larger there all ok.settled;
     }
 
@@ -176,7 +176,7 @@ module _ {F : Type 0} (Below Together Agree : F → F → Type 0) where
     pub ended : (lists : List (List F)) → IsUnderWay Below Together Agree Starts [] lists → IsSettled Below Together Agree lists × HasStart Starts (Contains lists)
     ended lists ok = (settled_ended lists ok.settled, start_at ok.start.0 ok.start.1.0 ok.start.1.1)
       where
-        start_at : (list : List F) → IsKept [] lists list → ((f : F) → Starts f → Contains list f) → HasStart Starts (Contains lists)
+        start_at : (list : List F) → IsExaminedOrLeft [] lists list → ((f : F) → Starts f → Contains list f) → HasStart Starts (Contains lists)
         start_at list (inl h) all = (list, (h, all))
         start_at list (inr h) all = not_in_nil list h
 
@@ -187,7 +187,7 @@ module _ {F : Type 0} (Below Together Agree : F → F → Type 0) where
           → ((l : List F) → Contains left l → Contains later l) → ((l : List F) → Contains next l → Contains later l)
           → IsUnderWay Below Together Agree Starts (list ∷ left) lists → IsUnderWay Below Together Agree Starts later (lists ++ examined ∷ [])
       examined_anyhow left later lists list examined groups next all is on onto ok = record {
-        start = start_kept (IsKept (list ∷ left) lists) (IsKept later (lists ++ examined ∷ [])) Starts (keeps_examined left later lists list examined all on) ok.start;
+        start = start_kept (IsExaminedOrLeft (list ∷ left) lists) (IsExaminedOrLeft later (lists ++ examined ∷ [])) Starts (keeps_examined left later lists list examined all on) ok.start;
         settled = settled_examined agree_sym agree_trans left later lists list examined groups next all is on onto ok.settled;
       }
 

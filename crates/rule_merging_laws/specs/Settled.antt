@@ -28,17 +28,17 @@ module _ {F : Type 0} (Below Together Agree : F → F → Type 0) where
   IsSettled lists = IsSettledBy (Contains lists) lists
 
 -- a list that was examined, or one that is left to examine
-abbrev pub IsKept : {F : Type 0} → List (List F) → List (List F) → List F → Type 0
-IsKept left lists list = Contains lists list ⊎ Contains left list
+abbrev pub IsExaminedOrLeft : {F : Type 0} → List (List F) → List (List F) → List F → Type 0
+IsExaminedOrLeft left lists list = Contains lists list ⊎ Contains left list
 
 module _ {F : Type 0} (Below Together Agree : F → F → Type 0) where
   -- settled but for the lists that are left
   abbrev pub IsSettledBut : List (List F) → List (List F) → Type 0
-  IsSettledBut left lists = IsSettledBy Below Together Agree (IsKept left lists) lists
+  IsSettledBut left lists = IsSettledBy Below Together Agree (IsExaminedOrLeft left lists) lists
 
   -- the same, with what Starts in a list that was examined or is left
   pub record IsUnderWay (Starts : F → Type 0) (left lists : List (List F)) : Type 0 where
-    pub start : HasStart Starts (IsKept left lists)
+    pub start : HasStart Starts (IsExaminedOrLeft left lists)
     pub settled : IsSettledBut left lists
 
   -- a list is examined: in each of its groups all agree with the head, and one of the next lists has what lies below the group

@@ -14,31 +14,31 @@ use Rattle.rule_definitions.specs.Judged.{judged}
 use Rattle.rule_definitions.specs.Rules.{SchemaRules}
 use Rattle.rule_schema_laws.specs.Literals.{IsInputType, IsLiteral}
 
-abbrev pub named : List ℕ → Text Place
-named n = record { it = n; place = None }
+abbrev pub name_without_place : List ℕ → Text Place
+name_without_place n = record { it = n; place = None }
 
 abbrev pub foo : TypeTree Place
-foo = NamedTree (named (codes "Foo"))
+foo = NamedTree (name_without_place (codes "Foo"))
 
 -- a: Foo
 abbrev pub field_a : FieldDefinitionTree Place
-field_a = record { description = None; name = named (codes "a"); arguments = []; ty = foo; directives = [] }
+field_a = record { description = None; name = name_without_place (codes "a"); arguments = []; ty = foo; directives = [] }
 
-abbrev pub nothing : TypeKind → Place → List ℕ → SchemaType Place
-nothing k place n = record { kind = k; place = place; description = None; name = named n; directives = []; interfaces = []; fields = []; members = []; values = []; inputs = [] }
+abbrev pub type_without_parts : TypeKind → Place → List ℕ → SchemaType Place
+type_without_parts k place n = record { kind = k; place = place; description = None; name = name_without_place n; directives = []; interfaces = []; fields = []; members = []; values = []; inputs = [] }
 
 -- type Q { a: Foo }
 abbrev pub type_q : SchemaType Place
-type_q = record (nothing kind.Object None (codes "Q")) { fields = (codes "a", record { extension = None; it = record { it = field_a; place = None } }) ∷ [] }
+type_q = record (type_without_parts kind.Object None (codes "Q")) { fields = (codes "a", record { extension = None; it = record { it = field_a; place = None } }) ∷ [] }
 
 -- scalar Foo
 abbrev pub type_foo : SchemaType Place
-type_foo = nothing kind.Scalar built_in (codes "Foo")
+type_foo = type_without_parts kind.Scalar built_in (codes "Foo")
 
 -- schema { query: Q } type Q { a: Foo } scalar Foo
 abbrev pub small : SchemaTree Place
 small = record {
-  definition = record { place = None; description = None; directives = []; query = Some (record { extension = None; it = named (codes "Q") }); mutation = None; subscription = None };
+  definition = record { place = None; description = None; directives = []; query = Some (record { extension = None; it = name_without_place (codes "Q") }); mutation = None; subscription = None };
   directives = [];
   types = (codes "Q", type_q) ∷ (codes "Foo", type_foo) ∷ [];
 }

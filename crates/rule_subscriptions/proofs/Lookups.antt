@@ -12,7 +12,7 @@ use Rattle.document_typed_operations.specs.TypedDocument.{TypedFragment, TypedDo
 use Rattle.document_typing.specs.DocumentView.{meant_by_fragment, meant_document}
 use Rattle.document_walks.specs.Reached.{NamedSet, Fragments, document_fragments, fragment_named as named_set_of}
 use Rattle.rule_document_definitions.specs.Selected.{fragment_named}
-use Rattle.rule_subscriptions.specs.Told.{HasOwnNames}
+use Rattle.rule_subscriptions.specs.Told.{FragmentsUnderOwnNames}
 
 find-map : {A B : Type 0} (p : B → Bool) (g : A → B) (es : List A) → find p (map g es) ≡ option_map g (find (λ e. p (g e)) es)
 find-map p g [] = refl
@@ -84,7 +84,7 @@ module _ {P : Type 0} (t : TypedDocumentTree P) where
       (meant_by_fragment e.0.1, (in_rules n ∙ ap (option_map (λ (e : Entry). meant_by_fragment e.1)) e.1.0, sym (ap (λ (g : NamedSet P). meant_of_set g.1) e.1.1)))
 
 -- a fragment that stands under its own name
-pub own_name : {P : Type 0} (d : MeantDocument P) (n : List ℕ) (f : MeantFragment P) → HasOwnNames d → fragment_named d n ≡ Some f → n ≡ f.name.it
+pub own_name : {P : Type 0} (d : MeantDocument P) (n : List ℕ) (f : MeantFragment P) → FragmentsUnderOwnNames d → fragment_named d n ≡ Some f → n ≡ f.name.it
 own_name {P} d n f own h =
     let e = mapped_some (λ (e : List ℕ × MeantFragment P). e.1) (find (λ (e : List ℕ × MeantFragment P). bytes_eq n e.0) d.fragments) f h in
     is_name n e.0.0 (find_passes (λ (x : List ℕ × MeantFragment P). bytes_eq n x.0) d.fragments e.0 e.1.0)

@@ -20,7 +20,7 @@ use Rattle.document_walks.specs.Left.{bare_selections}
 use Rattle.document_walks.proofs.Passing.{bare_in}
 use Rattle.rule_document_definitions.specs.Selected.{Position, InOperation, InFragment, Standing, spread_name, operation_name, fragment_named, own}
 use Rattle.rule_document_definitions.specs.Reached.{Closed, first, next, InFragmentOf, AtRoot}
-use Rattle.rule_subscriptions.specs.Told.{HasOwnNames}
+use Rattle.rule_subscriptions.specs.Told.{FragmentsUnderOwnNames}
 use Rattle.rule_subscriptions.specs.Inside.{contents_in, contents_along, contents_of, inside, inside_fragment, located, ReachesBy}
 use Rattle.rule_subscriptions.specs.Listed.{all_stay}
 use Rattle.rule_subscriptions.specs.Rooted.{Apart, AreRoots}
@@ -193,7 +193,7 @@ module _ {P : Type 0} (t : TypedDocumentTree P) (o : MeantOperation P) (start : 
   abbrev places : List (Standing P) → List Position
   places xs = map (λ x. x.position) xs
 
-  module _ (own : HasOwnNames d) where
+  module _ (own : FragmentsUnderOwnNames d) where
     top_named : (n : List ℕ) (x : Standing P) → Contains (inside_fragment false all_stay d o n) x → top x.position ≡ InFragment n
     top_named n x c = by (fragment_named d n) refl c
       where

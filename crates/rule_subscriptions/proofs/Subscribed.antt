@@ -20,7 +20,7 @@ use Rattle.rule_document_definitions.specs.DocumentFaults.{Broken, broken}
 use Rattle.rule_document_definitions.specs.Selected.{Position, Standing, StandingField, as_field, field_there, field_name, operation_name, selection_directives}
 use Rattle.rule_document_definitions.specs.Reached.{AtRoot}
 use Rattle.rule_document_definitions.specs.Subscriptions.{meta_field_names, IsRootField, AreRootFields, SubscriptionUsesMultipleFieldsAt, SubscriptionUsesIntrospectionAt, SubscriptionUsesConditionalSelectionAt, SubscriptionBreaks}
-use Rattle.rule_subscriptions.specs.Told.{HasOwnNames, AreAlike, TellsSubscription}
+use Rattle.rule_subscriptions.specs.Told.{FragmentsUnderOwnNames, AreAlike, TellsSubscription}
 use Rattle.rule_subscriptions.specs.Listed.{is_directive, root_names, multiple_fields, introspection, conditional, at_root}
 use Rattle.rule_subscriptions.specs.Rooted.{Apart, AreRoots}
 use Rattle.rule_subscriptions.proofs.Positions.{in_mapped}
@@ -235,7 +235,7 @@ module _ {P : Type 0} (d : MeantDocument P) (o : MeantOperation P) (xs : List (S
   }
 
 -- of selections that are those at the root
-pub tells_roots : {P : Type 0} (d : MeantDocument P) (o : MeantOperation P) (ss : List (MeantSelection P)) → AreRoots d o ss → o.operation_type ≡ operation.Subscription → HasOwnNames d
+pub tells_roots : {P : Type 0} (d : MeantDocument P) (o : MeantOperation P) (ss : List (MeantSelection P)) → AreRoots d o ss → o.operation_type ≡ operation.Subscription → FragmentsUnderOwnNames d
     → TellsSubscription d o (multiple_fields o (flat_map root_names ss) ++ flat_map (at_root o) ss)
 tells_roots d o ss (xs, (is, (roots, apart))) kind own =
     subst (λ l. TellsSubscription d o (multiple_fields o (flat_map root_names l) ++ flat_map (at_root o) l)) is (tells d o xs roots kind (apart own))

@@ -12,7 +12,7 @@ use Rattle.document_typed_operations.specs.declared.operation.Fragment.{Fragment
 use Rattle.document_meaning.specs.MeantTree.{MeantSelection, MeantSet, MeantOperation, MeantDocument, meant, meant_of_set}
 use Rattle.rule_document_definitions.specs.Selected.{Standing}
 use Rattle.rule_document_definitions.specs.Reached.{AtRoot}
-use Rattle.rule_subscriptions.specs.Told.{HasOwnNames}
+use Rattle.rule_subscriptions.specs.Told.{FragmentsUnderOwnNames}
 
 -- what a selection means
 abbrev pub lent : Selection → MeantSelection Place
@@ -44,4 +44,4 @@ Apart (x ∷ xs) = (Contains xs x → ⊥) × Apart xs
 -- these are the selections at the root of the operation, each once
 abbrev pub AreRoots : {P : Type 0} → MeantDocument P → MeantOperation P → List (MeantSelection P) → Type 0
 AreRoots {P} d o ss = (xs : List (Standing P)) × ((map (λ x. x.it) xs ≡ ss)
-    × (((x : Standing P) → Contains xs x ↔ AtRoot d o x) × (HasOwnNames d → Apart (map (λ x. x.position) xs))))
+    × (((x : Standing P) → Contains xs x ↔ AtRoot d o x) × (FragmentsUnderOwnNames d → Apart (map (λ x. x.position) xs))))

@@ -21,8 +21,8 @@ abbrev pub operation_meant : Node Operation → MeantOperation Place
 operation_meant o = meant_by_operation (node_tree typed_operation_tree o)
 
 -- each fragment stands under its own name, as in every document that is typed
-abbrev pub HasOwnNames : {P : Type 0} → MeantDocument P → Type 0
-HasOwnNames {P} d = (e : List ℕ × MeantFragment P) → Contains d.fragments e → e.0 ≡ e.1.name.it
+abbrev pub FragmentsUnderOwnNames : {P : Type 0} → MeantDocument P → Type 0
+FragmentsUnderOwnNames {P} d = (e : List ℕ × MeantFragment P) → Contains d.fragments e → e.0 ≡ e.1.name.it
 
 module _ {P : Type 0} (d : MeantDocument P) (o : MeantOperation P) where
   -- they are one, or both tell the root fields of the operation

@@ -8,7 +8,7 @@ ghost use Rattle.rule_document_definitions.specs.Subscriptions.{meta_field_names
 ghost use Rattle.rule_subscriptions.specs.Broken.{brokens_of, told_by};
 ghost use Rattle.rule_subscriptions.specs.Listed.{root_names, multiple_fields, introspection, conditional, at_root};
 ghost use Rattle.rule_subscriptions.specs.Rooted.{lent, lent_all};
-ghost use Rattle.rule_subscriptions.specs.Told.{document_meant, operation_meant, HasOwnNames, AddsSubscription};
+ghost use Rattle.rule_subscriptions.specs.Told.{document_meant, operation_meant, FragmentsUnderOwnNames, AddsSubscription};
 
 use crate::breach::{Breach, tell};
 use crate::roots::root_selections;
@@ -139,7 +139,7 @@ pub fn check_subscription(
     operation: &Node<Operation>,
     breaches: &mut Vec<Breach>,
 ) -> Result<(), AllocError>
-    ensures { OnOk result (HasOwnNames (document_meant document.now) → AddsSubscription breaches.old breaches.new (document_meant document.now) (operation_meant operation.now)) }
+    ensures { OnOk result (FragmentsUnderOwnNames (document_meant document.now) → AddsSubscription breaches.old breaches.new (document_meant document.now) (operation_meant operation.now)) }
 {
     if !operation.content().is_subscription() {
         return Ok(());

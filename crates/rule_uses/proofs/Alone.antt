@@ -9,7 +9,7 @@ use Rattle.rule_values.specs.in_rule_definitions.Values.{Variables}
 use Rattle.rule_values.specs.in_rule_definitions.Uses.{GivenBreaks, UseBreaks}
 use Rattle.rule_values.specs.in_rule_definitions.Told.{PlacedFault}
 use Rattle.rule_values.proofs.in_fault_data.Judgings.{directive_look}
-use Rattle.rule_uses.specs.Trees.{no_schema}
+use Rattle.rule_uses.specs.Trees.{no_schema_tree}
 use Rattle.rule_uses.specs.Alone.{ArgumentsBreak, DirectiveAloneBreaks}
 use Rattle.rule_uses.specs.Steps.{VariablesGivenBreak}
 use Rattle.rule_uses.proofs.Uses.{use_undefined}
@@ -29,10 +29,10 @@ given_apart at s variables given f = (
 
 -- a use where nothing is defined
 pub use_apart : (variables : Variables Place) (location : DirectiveLocation) (d : Placed Place (DirectiveTree Place)) (f : PlacedFault)
-    → (DirectiveAloneBreaks d f ⊎ VariablesGivenBreak variables d.it.arguments f) ↔ UseBreaks (place_at no_schema) (judged no_schema) variables location d f
+    → (DirectiveAloneBreaks d f ⊎ VariablesGivenBreak variables d.it.arguments f) ↔ UseBreaks (place_at no_schema_tree) (judged no_schema_tree) variables location d f
 use_apart variables location d f =
-    let given = given_apart (place_at no_schema) (judged no_schema) variables d.it.arguments f in
-    let undefined = use_undefined no_schema variables (directive_look no_schema) location d refl f in (
+    let given = given_apart (place_at no_schema_tree) (judged no_schema_tree) variables d.it.arguments f in
+    let undefined = use_undefined no_schema_tree variables (directive_look no_schema_tree) location d refl f in (
       λ h. elim h [
         | inl a ↦ elim a [ inl g ↦ undefined.0 (inl (given.0 (inl g))) | inr e ↦ undefined.0 (inr e) ]
         | inr v ↦ undefined.0 (inl (given.0 (inr v)))

@@ -67,8 +67,8 @@ pub record TellsPlaces (at : Address → Place) (s : SchemaTree Place) (t : Rust
       → (at (ArgumentAt (holder_of t.name) i) ≡ v.place) × (at (TypeReferenceAt (ArgumentAt (holder_of t.name) i)) ≡ v.it.ty.place)
 
 -- a schema that has nothing
-abbrev pub no_schema : SchemaTree Place
-no_schema = record {
+abbrev pub no_schema_tree : SchemaTree Place
+no_schema_tree = record {
   definition = record { place = None; description = None; directives = []; query = None; mutation = None; subscription = None };
   directives = [];
   types = [];
@@ -76,5 +76,5 @@ no_schema = record {
 
 -- the schema, or one that has nothing
 abbrev pub tree_of : Option (Bor Schema) → SchemaTree Place
-tree_of None = no_schema
+tree_of None = no_schema_tree
 tree_of (Some s) = schema_tree s.now

@@ -15,7 +15,7 @@ ghost use Rattle.rule_values.specs.in_rule_definitions.Uses.{directive_name, Use
 ghost use Rattle.rule_values.specs.in_fault_data.Adds.{Adds};
 ghost use Rattle.rule_values.specs.Wanting.{variables_of};
 ghost use Rattle.rule_uses.specs.AddedFaults.{AddsUsesFaults};
-ghost use Rattle.rule_uses.specs.Trees.{directives_of, inputs_of, no_schema, tree_of};
+ghost use Rattle.rule_uses.specs.Trees.{directives_of, inputs_of, no_schema_tree, tree_of};
 ghost use Rattle.rule_uses.specs.UseFaults.{undefined_directive, unsupported_location, directive_again, repeated_directive};
 ghost use Rattle.rule_uses.specs.Alone.{DirectiveAloneBreaks, DirectivesAloneBreak};
 ghost use Rattle.rule_uses.specs.Steps.{DefinedUseBreaks};
@@ -237,7 +237,7 @@ fn check_undefined_use(
     variables: &DefinedVariables<'_>,
     faults: &mut Vec<Fault>,
 ) -> Result<(), AllocError>
-    ensures { OnOk result ((location : DirectiveLocation) → Adds faults.old faults.new (UseBreaks (place_at no_schema) (judged no_schema) (variables_of variables.now) location (node_tree directive_tree directive.now))) }
+    ensures { OnOk result ((location : DirectiveLocation) → Adds faults.old faults.new (UseBreaks (place_at no_schema_tree) (judged no_schema_tree) (variables_of variables.now) location (node_tree directive_tree directive.now))) }
 {
     check_directive_alone(directive, faults)?;
     check_variables_given(&directive.content().arguments, variables, faults)
@@ -249,7 +249,7 @@ fn check_undefined_uses(
     variables: &DefinedVariables<'_>,
     faults: &mut Vec<Fault>,
 ) -> Result<(), AllocError>
-    ensures { OnOk result ((location : DirectiveLocation) → AddsUsesFaults no_schema (variables_of variables.now) location (directives_of directives.now) faults.old faults.new) }
+    ensures { OnOk result ((location : DirectiveLocation) → AddsUsesFaults no_schema_tree (variables_of variables.now) location (directives_of directives.now) faults.old faults.new) }
 {
     for directive in directives {
         check_undefined_use(directive, variables, faults)?;

@@ -43,8 +43,8 @@ abbrev pub nulls_of : List (Name × Node Value) → List (List ℕ × Bool)
 nulls_of entries = map (λ e. (e.0.text, is_null_value (value_tree (content e.1)))) entries
 
 -- the map has nothing under the name, or that what is given is null
-abbrev pub is_missing : {S : Type 0} → IndexMap NameValue Bool S → NameValue → Bool
-is_missing nulls n = option_map_or (λ is_null. is_null) (get (same_text name_text) nulls n) true
+abbrev pub is_not_provided : {S : Type 0} → IndexMap NameValue Bool S → NameValue → Bool
+is_not_provided nulls n = option_map_or (λ is_null. is_null) (get (same_text name_text) nulls n) true
 
 -- the faults of the fields of a map, by the test which are missing
 abbrev pub required_among : (NameValue → Bool) → List ℕ → Place → List (NameValue × Component InputValueDefinition) → List PlacedFault

@@ -13,7 +13,7 @@ ghost use Rattle.fault_data.specs.in_rule_definitions.Faults.{wrong};
 ghost use Rattle.fault_data.specs.FaultView.{faults_of};
 ghost use Rattle.rule_values.specs.ValueFaults.{undefined_key, undefined_input_value, required_if, required_field, required_fields, each_first};
 ghost use Rattle.rule_values.specs.Firsts.{AreFirsts};
-ghost use Rattle.rule_values.specs.Wanting.{is_missing, nulls_of, required_among};
+ghost use Rattle.rule_values.specs.Wanting.{is_not_provided, nulls_of, required_among};
 
 use crate::find::find_input;
 use crate::firsts::note_first;
@@ -101,7 +101,7 @@ fn nulls_by_key(
 
 /// Whether there is no entry of that name, or it is null.
 fn is_missing_entry(nulls: &IndexMap<Name, bool>, name: &Name) -> bool
-    ensures { result ≡ is_missing nulls.now name.now }
+    ensures { result ≡ is_not_provided nulls.now name.now }
 {
     match nulls.get(name) {
         None => true,
@@ -119,7 +119,7 @@ fn required_field(
     field: &Component<InputValueDefinition>,
     faults: &mut Vec<Fault>,
 ) -> Result<(), AllocError>
-    ensures { OnOk result (faults_of faults.new ≡ faults_of faults.old ++ required_if (is_missing nulls.now field_name.now) name.now.text location field_name.now.text (component_tree input_value_tree field.now)) }
+    ensures { OnOk result (faults_of faults.new ≡ faults_of faults.old ++ required_if (is_not_provided nulls.now field_name.now) name.now.text location field_name.now.text (component_tree input_value_tree field.now)) }
 {
     let definition = field.node.content();
     if !(definition.is_required() && is_missing_entry(nulls, field_name)) {
@@ -191,7 +191,7 @@ fn tell_each_required(
     fields: &IndexMap<Name, Component<InputValueDefinition>>,
     faults: &mut Vec<Fault>,
 ) -> Result<(), AllocError>
-    ensures { OnOk result (faults_of faults.new ≡ faults_of faults.old ++ required_among (is_missing nulls.now) name.now.text location fields.now.entries) }
+    ensures { OnOk result (faults_of faults.new ≡ faults_of faults.old ++ required_among (is_not_provided nulls.now) name.now.text location fields.now.entries) }
 {
     for (field_name, field) in fields {
         required_field(name, location, nulls, field_name, field, faults)?;

@@ -6,7 +6,7 @@ use Rattle.verdict_rearranging_laws.specs.Permuting.{IsPermuted}
 use Rattle.verdict_definitions.specs.Texts.{SourceText, Terms}
 use Rattle.verdict_definitions.specs.Judge.{schema_at_hand, AreSchemasCertain, IsAccepted, IsCertain, IsDocumentAccepted}
 use Rattle.verdict_definitions.specs.Out.{Out, layout_text}
-use Rattle.verdict_laws.specs.Rearranged.{AreRearranged, AreCut, AreNumbered, AreAcceptedAlike}
+use Rattle.verdict_laws.specs.Rearranged.{AreRearranged, AreCut, TextsHaveNumbers, AreAcceptedAlike}
 use Rattle.verdict_laws.proofs.AnyNumber.{equal_accept}
 use Rattle.verdict_laws.proofs.Rearranged.{all_one, rearranging, cutting}
 use Rattle.graphql_checked.specs.CheckerValue.{CheckerValue, CheckedSchemaValue, IsCheckedSchemaOf}
@@ -87,7 +87,7 @@ module _ (one other : CheckerValue) (terms : one.terms ≡ other.terms) where
   both_certain : AreAcceptedAlike one.terms one.texts other.texts → FirstIsCertain one other → AreSchemasCertain other.terms other.texts
   both_certain same bounds =
       subst (λ t. AreSchemasCertain t other.texts) terms
-      ((same.schemas_for_sure bounds.numbered (subst (λ t. AreNumbered t other.texts) (sym terms) bounds.other_numbered)).0 bounds.certain)
+      ((same.schemas_for_sure bounds.numbered (subst (λ t. TextsHaveNumbers t other.texts) (sym terms) bounds.other_numbered)).0 bounds.certain)
 
   module _ (Same : CheckedSchemaValue → CheckedSchemaValue → Type 0) (accepted : AreAcceptedAlike one.terms one.texts other.texts)
       (same : (a b : CheckedSchemaValue) → IsCheckedSchemaOf one.terms one.texts a → IsCheckedSchemaOf one.terms other.texts b → Same a b) where

@@ -9,7 +9,7 @@ use Rattle.verdict_definitions.specs.Texts.{SourceText, Terms}
 use Rattle.verdict_definitions.specs.Judge.{IsAccepted, IsCertain, AreSchemasCertain, IsDocumentAccepted, IsDocumentCertain}
 use Rattle.verdict_definitions.specs.Out.{Layout, layout_text}
 use Rattle.verdict_laws.specs.AnyNumber.{IsNumber}
-use Rattle.verdict_laws.specs.Rearranged.{AreRearranged, AreCut, AreNumbered, LeaveNumber}
+use Rattle.verdict_laws.specs.Rearranged.{AreRearranged, AreCut, TextsHaveNumbers, LeaveNumber}
 use Rattle.graphql_checked.specs.CheckerValue.{CheckerValue, CheckedSchemaValue}
 use Rattle.graphql_checked.specs.declared.refusal.Refusal.{Refusal}
 use Rattle.graphql_checked.specs.declared.refusal.Refusal.TheVariants as refusal
@@ -67,8 +67,8 @@ pub record AreOfTexts (Same : Terms → List SourceText → List SourceText → 
 pub record FirstIsCertain (one other : CheckerValue) : Type 0 where
   pub runs : one.failed ≡ false
   pub other_runs : other.failed ≡ false
-  pub numbered : AreNumbered one.terms one.texts
-  pub other_numbered : AreNumbered other.terms other.texts
+  pub numbered : TextsHaveNumbers one.terms one.texts
+  pub other_numbered : TextsHaveNumbers other.terms other.texts
   pub certain : AreSchemasCertain one.terms one.texts
 
 -- their schemas are the same; and where the texts of one are accepted for sure, memory alone can keep the other from its schema

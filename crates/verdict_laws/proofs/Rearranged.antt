@@ -44,7 +44,7 @@ use Rattle.verdict_definitions.specs.Texts.{SourceText, Tree, Terms, ReadsText, 
 use Rattle.verdict_definitions.specs.Judge.{all_definitions, Folds, schema_of, schema_at_hand, JudgeSchemas, Judge, AreSchemasAccepted, IsAccepted, PassesNoReferenceBound, AreSchemasCertain, IsCertain}
 use Rattle.verdict_definitions.specs.Out.{Out, Layout}
 use Rattle.verdict_definitions.specs.Answer.{WritesSchema, AcceptedBytes}
-use Rattle.verdict_laws.specs.Rearranged.{AreBothRead, AreRearranged, AreCut, AreNumbered, LeaveNumber, AreJudgedAlike, AreAcceptedAlike, LawOfRearranging, LawOfCutting}
+use Rattle.verdict_laws.specs.Rearranged.{AreBothRead, AreRearranged, AreCut, TextsHaveNumbers, LeaveNumber, AreJudgedAlike, AreAcceptedAlike, LawOfRearranging, LawOfCutting}
 use Rattle.verdict_laws.proofs.AnyNumber.{one_tree, text_same, written_too, judged_too, accepted_too, certain_too}
 
 -- ---- the texts
@@ -195,7 +195,7 @@ texts_within nesting first (text ∷ texts) (t ∷ ts) read room deep =
     )
 
 -- where a number is left behind all texts, each has one
-room_for_all : (terms : Terms) (texts : List SourceText) → LeaveNumber terms texts → AreNumbered terms texts
+room_for_all : (terms : Terms) (texts : List SourceText) → LeaveNumber terms texts → TextsHaveNumbers terms texts
 room_for_all terms texts left = let k = no_less (document_number terms texts + 1) (2 ^ 64) left in omega (arith, k)
 
 -- ---- two lists of texts
@@ -259,7 +259,7 @@ module _ (terms : Terms) (texts others : List SourceText) (r : AreRearranged ter
     over = (judged_too (schema_at_hand terms j.schema.trees) (schema_at_hand terms r.other_trees) (at_hand j.schema.trees r.other_trees j.schema.read r.other_read) (document_number terms texts) (document_number terms others) document j.over).judged;
   }
 
-  module _ (room : AreNumbered terms others) where
+  module _ (room : TextsHaveNumbers terms others) where
     -- the brackets of the others nest no deeper
     within_too : (a : AreSchemasAccepted terms texts) → AreWithin terms.nesting terms.first_text others
     within_too a =
@@ -282,7 +282,7 @@ module _ (terms : Terms) (texts others : List SourceText) (r : AreRearranged ter
     certain_schemas_too c = (accepted_schemas_too c.0, references c.0 c.1)
 
   module _ (left : LeaveNumber terms others) where
-    room_behind : AreNumbered terms others
+    room_behind : TextsHaveNumbers terms others
     room_behind = room_for_all terms others left
 
     abbrev accepted_pair_too : (document : SourceText) → IsAccepted terms texts document → IsAccepted terms others document

@@ -32,8 +32,8 @@ abbrev pub AreCut : Terms → List SourceText → List SourceText → Type 0
 AreCut = AreBothRead (λ ds es. unplaced_document ds ≡ unplaced_document es)
 
 -- each text of the list has a number: the greatest of 64 bits is given to none
-abbrev pub AreNumbered : Terms → List SourceText → Type 0
-AreNumbered terms texts = document_number terms texts < 2 ^ 64
+abbrev pub TextsHaveNumbers : Terms → List SourceText → Type 0
+TextsHaveNumbers terms texts = document_number terms texts < 2 ^ 64
 
 -- and behind it a number is left for a document
 abbrev pub LeaveNumber : Terms → List SourceText → Type 0
@@ -50,8 +50,8 @@ module _ (terms : Terms) (texts others : List SourceText) where
 
   -- Which schema texts, and which pairs, are accepted, and which are for sure, where there are numbers.
   pub record AreAcceptedAlike : Type 0 where
-    pub schemas : AreNumbered terms texts → AreNumbered terms others → AreSchemasAccepted terms texts ↔ AreSchemasAccepted terms others
-    pub schemas_for_sure : AreNumbered terms texts → AreNumbered terms others → AreSchemasCertain terms texts ↔ AreSchemasCertain terms others
+    pub schemas : TextsHaveNumbers terms texts → TextsHaveNumbers terms others → AreSchemasAccepted terms texts ↔ AreSchemasAccepted terms others
+    pub schemas_for_sure : TextsHaveNumbers terms texts → TextsHaveNumbers terms others → AreSchemasCertain terms texts ↔ AreSchemasCertain terms others
     pub pairs : LeaveNumber terms texts → LeaveNumber terms others → (document : SourceText) → IsAccepted terms texts document ↔ IsAccepted terms others document
     pub pairs_for_sure : LeaveNumber terms texts → LeaveNumber terms others → (document : SourceText) → IsCertain terms texts document ↔ IsCertain terms others document
 

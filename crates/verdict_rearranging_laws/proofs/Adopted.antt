@@ -13,7 +13,7 @@ use Rattle.schema_fold.specs.in_components.Lists.{firsts}
 use Rattle.schema_fold.specs.in_schema_types.TypeParts.{TypeParts, TypeDefinition, type_here, type_extension_here, bare, definition_by}
 use Rattle.schema_fold.specs.Listed.{Definitions, type_name, type_named}
 use Rattle.schema_fold.specs.Adoption.{is_redefinition, without_redefinitions, parts_name, orphans, empty_type, with_types, empty_schema, has_orphan_schema, with_schema, settled}
-use Rattle.verdict_rearranging_laws.specs.Rearranged.{defines_type, extends_type, defines_directive, defines_schema, extends_schema, AgreeOn, IsRearranged}
+use Rattle.verdict_rearranging_laws.specs.Rearranged.{defines_type, extends_type, defines_directive, defines_schema, is_schema_extension, AgreeOn, IsRearranged}
 use Rattle.verdict_rearranging_laws.specs.Adopting.{SettledIsRearranged, CutSettlesAlike}
 use Rattle.verdict_rearranging_laws.proofs.Gathered.{map-filter, all_gathered}
 use Rattle.verdict_rearranging_laws.proofs.Parts.{unplaced_parts, unplaced_type_definition, type_unplaced, type_extension_unplaced, extensions_in, extensions_of, extends_called, types_of, named_unplaced}
@@ -97,7 +97,7 @@ module _ (built_in : Definitions) where
     extensions = λ n. agree_left (extends_type n) ds es (r.extensions n);
     directives = λ n. agree_left (defines_directive n) ds es (r.directives n);
     schemas = agree_left defines_schema ds es r.schemas;
-    schema_extensions = agree_left extends_schema ds es r.schema_extensions;
+    schema_extensions = agree_left is_schema_extension ds es r.schema_extensions;
     executables = any_left is_executable is_left executable_left ds ∙ r.executables ∙ sym (any_left is_executable is_left executable_left es);
   }
 
@@ -166,7 +166,7 @@ module _ (built_in : Definitions) where
 
     orphan_schema_same : has_orphan_schema built_in ds ≡ has_orphan_schema built_in es
     orphan_schema_same =
-        let extended = any-filter extends_schema unplaced_definition ds ∙ ap (λ l. is_some (slice_get l 0)) r.schema_extensions ∙ sym (any-filter extends_schema unplaced_definition es) in
+        let extended = any-filter is_schema_extension unplaced_definition ds ∙ ap (λ l. is_some (slice_get l 0)) r.schema_extensions ∙ sym (any-filter is_schema_extension unplaced_definition es) in
         let defined = schema_defined 0 0 (built_in ++ ds) (built_in ++ es) (types_same (built_in ++ ds) (built_in ++ es) all_rearranged)
         (schemas_same (built_in ++ ds) (built_in ++ es) all_rearranged) (schema_extensions_same (built_in ++ ds) (built_in ++ es) all_rearranged) in
         λ i. extended i && not (defined i)

@@ -21,7 +21,7 @@ use Rattle.schema_fold.specs.Components.{go_together, extension_here, parts_of}
 use Rattle.schema_fold.specs.Fold.{folded_type, folded_types, folded_directives}
 use Rattle.verdict_written_laws.specs.Table.{AreOwn}
 use Rattle.verdict_written_laws.specs.Twice.{WrittenOf}
-use Rattle.verdict_rearranging_laws.specs.Cutting.{unplaced_type, unplaced_types, CutKeepsTypes, CutWritesAlike, NumbersAreNotWritten}
+use Rattle.verdict_rearranging_laws.specs.Cutting.{unplaced_schema_type, unplaced_types, CutKeepsTypes, CutWritesAlike, NumbersAreNotWritten}
 use Rattle.verdict_rearranging_laws.proofs.Gathered.{map-filter, all_gathered}
 use Rattle.verdict_rearranging_laws.proofs.Parts.{unplaced_parts, unplaced_type_definition, type_unplaced, type_extension_unplaced}
 use Rattle.verdict_rearranging_laws.proofs.Roots.{directive_unplaced_here, directive_unplaced}
@@ -105,7 +105,7 @@ keeps_types first ds es same = at ds ∙ (λ i. map (entry_by (numbers_kept firs
   where
     at : (fs : Definitions) → unplaced_types (folded_types first fs) ≡ map (entry_by (map unplaced_listed (numbered first fs))) (firsts (λ t. t.parts.name.it) (flat_map (λ d. option_to_list (type_here d)) (unplaced_document fs)))
     at fs =
-        map-map (λ e. (e.0, unplaced_type e.1)) (λ t. (type_name t, folded_type (numbered first fs) t)) (firsts type_name (types_in fs))
+        map-map (λ e. (e.0, unplaced_schema_type e.1)) (λ t. (type_name t, folded_type (numbered first fs) t)) (firsts type_name (types_in fs))
         ∙ (λ i. map (λ t. (
           type_name t,
           (type_made forget t (parts_of (numbered first fs) t)

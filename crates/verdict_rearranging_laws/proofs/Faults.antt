@@ -25,7 +25,7 @@ use Rattle.schema_fold.specs.SchemaFold.{Root, schema_definition_in, schema_is_d
 use Rattle.schema_fold.specs.BuildErrors as rule
 use Rattle.schema_fold.specs.BuildErrors.{Breach, BuildFault, Fails, RepeatedIn, At, is_built_in_scalar}
 use Rattle.rule_definitions.proofs.Lookups.{find_given}
-use Rattle.verdict_rearranging_laws.specs.Rearranged.{defines_type, extends_type, defines_directive, defines_schema, extends_schema, AgreeOn, IsRearranged}
+use Rattle.verdict_rearranging_laws.specs.Rearranged.{defines_type, extends_type, defines_directive, defines_schema, is_schema_extension, AgreeOn, IsRearranged}
 use Rattle.verdict_rearranging_laws.specs.Folding.{RearrangedFailAlike, RearrangedKeepTheRules}
 use Rattle.verdict_rearranging_laws.proofs.Gathered.{find-firsts}
 use Rattle.verdict_rearranging_laws.proofs.Parts.{unplaced_type_definition, unplaced_parts, type_unplaced, type_extension_unplaced, types_of, extensions_of, named_unplaced, all_parts, components_seen}
@@ -148,7 +148,7 @@ module _ (built_in : Definitions) (i j : ℕ) (ds es : Definitions) (r : IsRearr
 
   schema_extension_too : (fault : BuildFault) → rule.Somewhere built_in ds (rule.OrphanSchemaExtensionAt built_in ds) fault → ToldToo There fault
   schema_extension_too fault (before, (d, (stands, (is, none, told)))) =
-      let p = to_there extends_schema r.schema_extensions before d stands is in
+      let p = to_there is_schema_extension r.schema_extensions before d stands is in
       (At p.it rule.OrphanSchemaExtension, (rule.orphan_schema_extension (p.front, (p.it, (p.stands, (p.sorted, sym schema_defined ∙ none, refl)))), told_of told))
 
   -- an extension of a type, moved

@@ -13,7 +13,7 @@ use Rattle.schema_fold.specs.in_definitions.Queries.{is_executable}
 use Rattle.schema_fold.specs.in_schema_types.TypeParts.{TypeParts, TypeDefinition, type_here, type_extension_here}
 use Rattle.schema_fold.specs.Listed.{Definitions, type_name, directive_here, directive_name}
 use Rattle.schema_fold.specs.SchemaFold.{schema_here, schema_extension_here}
-use Rattle.verdict_rearranging_laws.specs.Rearranged.{defines_type, extends_type, defines_directive, defines_schema, extends_schema, AgreeOn, IsRearranged}
+use Rattle.verdict_rearranging_laws.specs.Rearranged.{defines_type, extends_type, defines_directive, defines_schema, is_schema_extension, AgreeOn, IsRearranged}
 use Rattle.verdict_rearranging_laws.specs.Permuting.{CanPass, IsPermuted, nothing, next, PermutedIsRearranged, RearrangedIsPermuted, RearrangingIsAnEquivalence}
 use Rattle.verdict_rearranging_laws.proofs.Moved.{found}
 use Rattle.verdict_rearranging_laws.proofs.Rearranged.{itself, turned, rearranged_joined, cut}
@@ -58,7 +58,7 @@ module _ (d : DefinitionTree Place) (back : Definitions) where
     extensions = λ n. agree_taken (extends_type n) (λ f p. p.extensions n) front pass;
     directives = λ n. agree_taken (defines_directive n) (λ f p. p.directives n) front pass;
     schemas = agree_taken defines_schema (λ f p. p.schemas) front pass;
-    schema_extensions = agree_taken extends_schema (λ f p. p.schema_extensions) front pass;
+    schema_extensions = agree_taken is_schema_extension (λ f p. p.schema_extensions) front pass;
     executables = list_any-append is_executable front (d ∷ back) ∙ by (list_any is_executable front) (is_executable d) ∙ sym (ap (λ b. is_executable d || b) (list_any-append is_executable front back));
   }
     where
@@ -114,7 +114,7 @@ module _ (d : DefinitionTree Place) where
       extensions = λ n. not_here (λ e. bytes_eq n e.name.it) (type_extension_here d) extends (extends_type n f);
       directives = λ n. not_here (λ x. bytes_eq n (directive_name x)) (directive_here d) directs (defines_directive n f);
       schemas = not_some (schema_here d) schema (defines_schema f);
-      schema_extensions = not_some (schema_extension_here d) extends_it (extends_schema f);
+      schema_extensions = not_some (schema_extension_here d) extends_it (is_schema_extension f);
     };
   }
 
@@ -128,7 +128,7 @@ module _ (d : DefinitionTree Place) where
       extensions = named_apart (λ x. x.name.it) (type_extension_here f) (type_extension_here d) e is other;
       directives = λ n. not_here (λ x. bytes_eq n (directive_name x)) (directive_here d) directs (defines_directive n f);
       schemas = not_some (schema_here d) schema (defines_schema f);
-      schema_extensions = not_some (schema_extension_here d) extends_it (extends_schema f);
+      schema_extensions = not_some (schema_extension_here d) extends_it (is_schema_extension f);
     };
   }
 
@@ -142,7 +142,7 @@ module _ (d : DefinitionTree Place) where
       extensions = λ n. not_here (λ e. bytes_eq n e.name.it) (type_extension_here d) extends (extends_type n f);
       directives = named_apart directive_name (directive_here f) (directive_here d) x is other;
       schemas = not_some (schema_here d) schema (defines_schema f);
-      schema_extensions = not_some (schema_extension_here d) extends_it (extends_schema f);
+      schema_extensions = not_some (schema_extension_here d) extends_it (is_schema_extension f);
     };
   }
 
@@ -159,11 +159,11 @@ has_sort (tree.Schema p d s) h = record {
     extensions = λ n. and_false (extends_type n f) false refl;
     directives = λ n. and_false (defines_directive n f) false refl;
     schemas = ap (λ b. b && true) other;
-    schema_extensions = and_false (extends_schema f) false refl;
+    schema_extensions = and_false (is_schema_extension f) false refl;
   };
 }
 has_sort (tree.ExtendSchema p s) h = record {
-  sort = extends_schema;
+  sort = is_schema_extension;
   holds = refl;
   agree = λ ds es r. r.schema_extensions;
   pass = λ f other. record {
@@ -208,7 +208,7 @@ module _ (d e : DefinitionTree Place) (same : unplaced_definition d ≡ unplaced
     extensions = λ n. ap (λ b. extends_type n f && b) (sort_same (extends_type n) (both.extensions n)) ∙ p.extensions n;
     directives = λ n. ap (λ b. defines_directive n f && b) (sort_same (defines_directive n) (both.directives n)) ∙ p.directives n;
     schemas = ap (λ b. defines_schema f && b) (sort_same defines_schema both.schemas) ∙ p.schemas;
-    schema_extensions = ap (λ b. extends_schema f && b) (sort_same extends_schema both.schema_extensions) ∙ p.schema_extensions;
+    schema_extensions = ap (λ b. is_schema_extension f && b) (sort_same is_schema_extension both.schema_extensions) ∙ p.schema_extensions;
   }
 
   abbrev rest_of : List (DefinitionTree (Unit {0})) → List (DefinitionTree (Unit {0}))
@@ -230,7 +230,7 @@ module _ (d e : DefinitionTree Place) (same : unplaced_definition d ≡ unplaced
     extensions = λ n. agree_behind (extends_type n) ds es (both.extensions n) (r.extensions n);
     directives = λ n. agree_behind (defines_directive n) ds es (both.directives n) (r.directives n);
     schemas = agree_behind defines_schema ds es both.schemas r.schemas;
-    schema_extensions = agree_behind extends_schema ds es both.schema_extensions r.schema_extensions;
+    schema_extensions = agree_behind is_schema_extension ds es both.schema_extensions r.schema_extensions;
     executables = executables;
   }
 

@@ -15,7 +15,7 @@ use Rattle.schema_fold.specs.in_schema_types.TypeParts.{TypeParts, TypeDefinitio
 use Rattle.schema_fold.specs.in_schema_types.Plain.{plain_directive_definition}
 use Rattle.schema_fold.specs.Listed.{Definitions, type_name, directive_here, directive_name}
 use Rattle.schema_fold.specs.SchemaFold.{schema_here, schema_extension_here}
-use Rattle.verdict_rearranging_laws.specs.Rearranged.{defines_type, extends_type, defines_directive, defines_schema, extends_schema, AgreeOn, IsRearranged}
+use Rattle.verdict_rearranging_laws.specs.Rearranged.{defines_type, extends_type, defines_directive, defines_schema, is_schema_extension, AgreeOn, IsRearranged}
 use Rattle.verdict_rearranging_laws.specs.Folding.{RearrangedFoldsAlike}
 use Rattle.verdict_rearranging_laws.specs.Cutting.{CutIsRearranged}
 use Rattle.verdict_rearranging_laws.proofs.Gathered.{every, gathered, map-filter}
@@ -36,7 +36,7 @@ rearranged_joined ds es ds' es' r q = record {
   extensions = λ n. agree_joined (extends_type n) ds es ds' es' (r.extensions n) (q.extensions n);
   directives = λ n. agree_joined (defines_directive n) ds es ds' es' (r.directives n) (q.directives n);
   schemas = agree_joined defines_schema ds es ds' es' r.schemas q.schemas;
-  schema_extensions = agree_joined extends_schema ds es ds' es' r.schema_extensions q.schema_extensions;
+  schema_extensions = agree_joined is_schema_extension ds es ds' es' r.schema_extensions q.schema_extensions;
   executables = list_any-append is_executable ds ds' ∙ (λ i. r.executables i || q.executables i) ∙ sym (list_any-append is_executable es es');
 }
 
@@ -89,11 +89,11 @@ schemas_agree ds es r = at ds ∙ ap (λ us. flat_map (λ d. option_to_list (sch
     at : (fs : Definitions) → map told (schemas_in fs) ≡ flat_map (λ d. option_to_list (schema_unplaced_here d)) (unplaced_document (filter defines_schema fs))
     at fs = ap (map told) (sym (every (schemas_in fs))) ∙ gathered schema_here schema_unplaced_here told schema_unplaced (λ g. true) defines_schema (λ d. some_is (schema_here d)) fs
 
-pub schema_extensions_agree : (ds es : Definitions) → AgreeOn extends_schema ds es → map unplaced_schema (schema_extensions_in ds) ≡ map unplaced_schema (schema_extensions_in es)
+pub schema_extensions_agree : (ds es : Definitions) → AgreeOn is_schema_extension ds es → map unplaced_schema (schema_extensions_in ds) ≡ map unplaced_schema (schema_extensions_in es)
 schema_extensions_agree ds es r = at ds ∙ ap (λ us. flat_map (λ d. option_to_list (schema_extension_unplaced_here d)) us) r ∙ sym (at es)
   where
-    at : (fs : Definitions) → map unplaced_schema (schema_extensions_in fs) ≡ flat_map (λ d. option_to_list (schema_extension_unplaced_here d)) (unplaced_document (filter extends_schema fs))
-    at fs = ap (map unplaced_schema) (sym (every (schema_extensions_in fs))) ∙ gathered schema_extension_here schema_extension_unplaced_here unplaced_schema schema_extension_unplaced (λ g. true) extends_schema (λ d. some_is (schema_extension_here d)) fs
+    at : (fs : Definitions) → map unplaced_schema (schema_extensions_in fs) ≡ flat_map (λ d. option_to_list (schema_extension_unplaced_here d)) (unplaced_document (filter is_schema_extension fs))
+    at fs = ap (map unplaced_schema) (sym (every (schema_extensions_in fs))) ∙ gathered schema_extension_here schema_extension_unplaced_here unplaced_schema schema_extension_unplaced (λ g. true) is_schema_extension (λ d. some_is (schema_extension_here d)) fs
 
 module _ (ds es : Definitions) (r : IsRearranged ds es) where
   pub types_same : (n : List ℕ) → types_of ds n ≡ types_of es n

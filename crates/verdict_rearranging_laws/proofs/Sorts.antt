@@ -19,7 +19,7 @@ use Rattle.schema_fold.specs.in_schema_types.declared.type_kind.TypeKind.TheVari
 use Rattle.schema_fold.specs.in_schema_types.Plain.{plain_directive_definition}
 use Rattle.schema_fold.specs.Listed.{Definitions, type_name, directive_here, directive_name}
 use Rattle.schema_fold.specs.SchemaFold.{schema_here, schema_extension_here}
-use Rattle.verdict_rearranging_laws.specs.Rearranged.{defines_type, extends_type, defines_directive, defines_schema, extends_schema, AgreeOn, IsRearranged}
+use Rattle.verdict_rearranging_laws.specs.Rearranged.{defines_type, extends_type, defines_directive, defines_schema, is_schema_extension, AgreeOn, IsRearranged}
 use Rattle.verdict_rearranging_laws.proofs.Gathered.{map-filter, find-filter}
 use Rattle.verdict_rearranging_laws.proofs.Parts.{unplaced_type_definition, unplaced_parts, type_unplaced, type_extension_unplaced}
 use Rattle.verdict_rearranging_laws.proofs.Roots.{directive_unplaced_here, directive_unplaced, told, schema_unplaced_here, schema_unplaced, schema_extension_unplaced_here, schema_extension_unplaced}
@@ -163,7 +163,7 @@ module _ (ds es : Definitions) (same : (n : List ℕ) (test : Sort → Bool) →
     directives = λ n. agree n (λ s. option_map_or (λ m. bytes_eq n m) s.directive false) (record { types = λ m h. refl; extensions = λ m h. refl; directives = λ m h. h }) (defines_directive n)
         (λ d. ap (λ o. option_map_or (λ m. bytes_eq n m) (option_map (λ (x : DirectiveDefinitionTree (Unit {0})). x.name.it) o) false) (directive_unplaced d) ∙ named_blind n plain_directive_definition directive_name (λ x. x.name.it) (λ x. refl) (directive_here d));
     schemas = agree [] (λ s. s.schema) (record { types = λ m h. refl; extensions = λ m h. refl; directives = λ m h. refl }) defines_schema (λ d. ap is_some (schema_unplaced d) ∙ some_blind told (schema_here d));
-    schema_extensions = agree [] (λ s. s.schema_extension) (record { types = λ m h. refl; extensions = λ m h. refl; directives = λ m h. refl }) extends_schema (λ d. ap is_some (schema_extension_unplaced d) ∙ some_blind unplaced_schema (schema_extension_here d));
+    schema_extensions = agree [] (λ s. s.schema_extension) (record { types = λ m h. refl; extensions = λ m h. refl; directives = λ m h. refl }) is_schema_extension (λ d. ap is_some (schema_extension_unplaced d) ∙ some_blind unplaced_schema (schema_extension_here d));
     executables =
         any-filter is_executable unplaced_definition ds
         ∙ ap (λ l. is_some (slice_get l 0)) (agree [] (λ s. s.executable) (record { types = λ m h. refl; extensions = λ m h. refl; directives = λ m h. refl }) is_executable executable_unplaced)

@@ -27,8 +27,8 @@ abbrev pub unplaced_entry : {A B : Type 0} → (A → B) → List ℕ × Given P
 unplaced_entry f e = (e.0, unplaced_given f e.1)
 
 -- a type of a schema, without places
-abbrev pub unplaced_type : SchemaType Place → SchemaType (Unit {0})
-unplaced_type t = record {
+abbrev pub unplaced_schema_type : SchemaType Place → SchemaType (Unit {0})
+unplaced_schema_type t = record {
   kind = t.kind;
   place = tt;
   description = option_map unplaced_text t.description;
@@ -42,7 +42,7 @@ unplaced_type t = record {
 }
 
 abbrev pub unplaced_types : Entries (SchemaType Place) → Entries (SchemaType (Unit {0}))
-unplaced_types es = map (λ e. (e.0, unplaced_type e.1)) es
+unplaced_types es = map (λ e. (e.0, unplaced_schema_type e.1)) es
 
 -- the same types in the same order, each with the same components in the same order, from extensions of the same numbers
 abbrev pub CutKeepsTypes : Type 0

@@ -6,7 +6,7 @@ use Rattle.graphql_names.specs.Placed.{Place}
 use Rattle.schema_fold.specs.in_definitions.DefinitionTree.{DefinitionTree, unplaced_definition}
 use Rattle.schema_fold.specs.in_definitions.Queries.{is_executable}
 use Rattle.schema_fold.specs.Listed.{Definitions}
-use Rattle.verdict_rearranging_laws.specs.Rearranged.{defines_type, extends_type, defines_directive, defines_schema, extends_schema, IsRearranged}
+use Rattle.verdict_rearranging_laws.specs.Rearranged.{defines_type, extends_type, defines_directive, defines_schema, is_schema_extension, IsRearranged}
 
 -- two definitions that do not define, or extend, the same
 pub record CanPass (d e : DefinitionTree Place) : Type 0 where
@@ -14,7 +14,7 @@ pub record CanPass (d e : DefinitionTree Place) : Type 0 where
   pub extensions : (n : List ℕ) → (extends_type n d && extends_type n e) ≡ false
   pub directives : (n : List ℕ) → (defines_directive n d && defines_directive n e) ≡ false
   pub schemas : (defines_schema d && defines_schema e) ≡ false
-  pub schema_extensions : (extends_schema d && extends_schema e) ≡ false
+  pub schema_extensions : (is_schema_extension d && is_schema_extension e) ≡ false
 
 -- The definitions of the second list are taken out of the first one, one after the other: each time one that may pass all that still
 -- stand before it. Places aside.

@@ -28,8 +28,8 @@ module _ (n : List ℕ) where
 abbrev pub defines_schema : DefinitionTree Place → Bool
 defines_schema d = is_some (schema_here d)
 
-abbrev pub extends_schema : DefinitionTree Place → Bool
-extends_schema d = is_some (schema_extension_here d)
+abbrev pub is_schema_extension : DefinitionTree Place → Bool
+is_schema_extension d = is_some (schema_extension_here d)
 
 -- ---- rearranged
 
@@ -44,5 +44,5 @@ pub record IsRearranged (ds es : Definitions) : Type 0 where
   pub extensions : (n : List ℕ) → AgreeOn (extends_type n) ds es
   pub directives : (n : List ℕ) → AgreeOn (defines_directive n) ds es
   pub schemas : AgreeOn defines_schema ds es
-  pub schema_extensions : AgreeOn extends_schema ds es
+  pub schema_extensions : AgreeOn is_schema_extension ds es
   pub executables : list_any is_executable ds ≡ list_any is_executable es

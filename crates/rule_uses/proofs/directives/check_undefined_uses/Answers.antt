@@ -9,7 +9,7 @@ use Rattle.rule_values.specs.in_rule_definitions.Judged.{judged}
 use Rattle.rule_values.specs.in_rule_definitions.Uses.{UseBreaks}
 use Rattle.rule_values.specs.in_fault_data.Adds.{Adds}
 use Rattle.rule_values.specs.Wanting.{variables_of}
-use Rattle.rule_uses.specs.Trees.{directives_of, no_schema}
+use Rattle.rule_uses.specs.Trees.{directives_of, no_schema_tree}
 use Rattle.rule_values.proofs.in_rule_definitions.Listing.{gains_none, gains_more, gains_same, mapped_more}
 use Rattle.rule_values.proofs.in_fault_data.Judgings.{directive_look}
 use Rattle.rule_uses.proofs.Uses.{uses_undefined}
@@ -17,7 +17,7 @@ use Rattle.rule_uses.proofs.directives.check_undefined_uses.Goals as goal
 
 pub loop-directive-init : goal.loop-directive-init
 loop-directive-init c = λ location.
-    gains_none {X = Placed Place (DirectiveTree Place)} (faults_of c.args.faults.now) (λ k d f. UseBreaks (place_at no_schema) (judged no_schema) (variables_of c.args.variables.now) location d f)
+    gains_none {X = Placed Place (DirectiveTree Place)} (faults_of c.args.faults.now) (λ k d f. UseBreaks (place_at no_schema_tree) (judged no_schema_tree) (variables_of c.args.variables.now) location d f)
 
 pub loop-directive-preserved : goal.loop-directive-preserved
 loop-directive-preserved c = λ location.
@@ -26,13 +26,13 @@ loop-directive-preserved c = λ location.
     let x = c.directive-item.result in
     let h : i < length xs = omega arith in
     gains_more (faults_of c.args.faults.now) (faults_of c.loop-directive.faults) (faults_of c.check_undefined_use.new.faults) (directives_of (take i xs)) (directives_of (take (i + 1) xs)) (node_tree directive_tree x)
-    (λ k d f. UseBreaks (place_at no_schema) (judged no_schema) (variables_of c.args.variables.now) location d f) (mapped_more (node_tree directive_tree) xs i x h c.directive-item.is)
+    (λ k d f. UseBreaks (place_at no_schema_tree) (judged no_schema_tree) (variables_of c.args.variables.now) location d f) (mapped_more (node_tree directive_tree) xs i x h c.directive-item.is)
     (c.loop-directive.invariant location) (c.in_ok-check_undefined_use.ensures location)
 
 pub returns : goal.returns
 returns c = λ location.
     let vs = variables_of c.args.variables.now in
     let ds = c.args.directives.now in
-    gains_same (faults_of c.args.faults.now) (faults_of c.loop-directive.faults) (uses_undefined no_schema vs (directive_look no_schema) (λ n. refl) location (directives_of ds))
-    (subst (λ l. Adds c.args.faults.now c.loop-directive.faults (λ f. AtSomeIndex (directives_of l) (λ i d. UseBreaks (place_at no_schema) (judged no_schema) vs location d f)))
+    gains_same (faults_of c.args.faults.now) (faults_of c.loop-directive.faults) (uses_undefined no_schema_tree vs (directive_look no_schema_tree) (λ n. refl) location (directives_of ds))
+    (subst (λ l. Adds c.args.faults.now c.loop-directive.faults (λ f. AtSomeIndex (directives_of l) (λ i d. UseBreaks (place_at no_schema_tree) (judged no_schema_tree) vs location d f)))
     (take_all c.loop-directive.directive-index ds c.loop-directive-test.false) (c.loop-directive.invariant location))

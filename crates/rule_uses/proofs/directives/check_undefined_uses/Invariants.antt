@@ -6,8 +6,8 @@ use Rattle.rule_values.specs.in_rule_definitions.Judged.{judged}
 use Rattle.rule_values.specs.in_rule_definitions.Uses.{UseBreaks}
 use Rattle.rule_values.specs.in_fault_data.Adds.{Adds}
 use Rattle.rule_values.specs.Wanting.{variables_of}
-use Rattle.rule_uses.specs.Trees.{directives_of, no_schema}
+use Rattle.rule_uses.specs.Trees.{directives_of, no_schema_tree}
 use Rattle.rule_uses.proofs.directives.check_undefined_uses.Given as goal
 
 abbrev pub invariant-loop-directive : goal.invariant-loop-directive
-invariant-loop-directive l = (location : DirectiveLocation) → Adds l.fn.faults l.faults (λ f. AtSomeIndex (directives_of (take l.directive-index l.directives)) (λ i d. UseBreaks (place_at no_schema) (judged no_schema) (variables_of l.variables) location d f))
+invariant-loop-directive l = (location : DirectiveLocation) → Adds l.fn.faults l.faults (λ f. AtSomeIndex (directives_of (take l.directive-index l.directives)) (λ i d. UseBreaks (place_at no_schema_tree) (judged no_schema_tree) (variables_of l.variables) location d f))

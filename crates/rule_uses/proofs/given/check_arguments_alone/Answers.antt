@@ -3,7 +3,7 @@ use Rattle.std.proofs.lemmas.Result.{on_ok_weaker}
 use Rattle.schema_components.specs.Lists.{each_place}
 use Rattle.rule_values.specs.in_fault_data.FaultView.{faults_of}
 use Rattle.rule_values.specs.in_rule_definitions.Judged.{judged}
-use Rattle.rule_uses.specs.Trees.{arguments_of, no_schema}
+use Rattle.rule_uses.specs.Trees.{arguments_of, no_schema_tree}
 use Rattle.rule_uses.specs.UseFaults.{repeated_argument}
 use Rattle.rule_values.proofs.in_rule_definitions.Listing.{gains_both, gains_list}
 use Rattle.rule_uses.proofs.Uses.{lists_repeated_arguments}
@@ -16,5 +16,5 @@ returns c =
     let b = faults_of c.tell_repeated_arguments.new.faults in
     on_ok_weaker c.check_keys_given.result
     (gains_both a b (faults_of c.check_keys_given.new.faults)
-    (gains_list a b (each_place repeated_argument given) c.in_ok-tell_repeated_arguments.ensures (lists_repeated_arguments (λ x. None) (judged no_schema) [] given)))
+    (gains_list a b (each_place repeated_argument given) c.in_ok-tell_repeated_arguments.ensures (lists_repeated_arguments (λ x. None) (judged no_schema_tree) [] given)))
     c.check_keys_given.ensures

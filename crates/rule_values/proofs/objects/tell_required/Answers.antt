@@ -7,7 +7,7 @@ use Rattle.tree_directives.specs.DirectiveTree.{input_value_tree}
 use Rattle.schema_components.specs.Given.{component_tree}
 use Rattle.fault_data.specs.FaultView.{faults_of}
 use Rattle.rule_values.specs.ValueFaults.{is_missing_entry, required_field}
-use Rattle.rule_values.specs.Wanting.{is_missing, required_among}
+use Rattle.rule_values.specs.Wanting.{is_not_provided, required_among}
 use Rattle.rule_values.proofs.NotedKeys.{nulls_are}
 use Rattle.rule_values.proofs.Looping.{each_first_all}
 use Rattle.rule_values.proofs.objects.tell_required.Goals as goal
@@ -18,7 +18,7 @@ returns c =
     let n = c.args.name.now.text in
     let p = c.args.location in
     let told = faults_of c.args.faults.now in
-    let missing : (k : NameValue) → is_missing c.in_ok-nulls.nulls k ≡ is_missing_entry k.text es = λ k. ap (λ o. option_map_or (λ is_null. is_null) o true) (c.in_ok-nulls.ensures k) ∙ nulls_are c.args.entries.now k.text in
+    let missing : (k : NameValue) → is_not_provided c.in_ok-nulls.nulls k ≡ is_missing_entry k.text es = λ k. ap (λ o. option_map_or (λ is_null. is_null) o true) (c.in_ok-nulls.ensures k) ∙ nulls_are c.args.entries.now k.text in
     on_ok_weaker c.tell_each_required.result
     (λ e. e ∙ (λ i. told ++ required_among (λ k. missing k i) n p c.args.fields.now.entries)
     ∙ ap (λ l. told ++ l) (sym (each_first_all (required_field n p es) (component_tree input_value_tree) c.args.fields.now.entries c.len.ensures.unique)))
