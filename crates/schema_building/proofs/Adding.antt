@@ -5,7 +5,7 @@ use Rattle.graphql_names.specs.Placed.{Place}
 use Rattle.schema_fold.specs.in_definitions.DefinitionTree.{DefinitionTree}
 use Rattle.schema_fold.specs.in_definitions.Queries.{is_extension, definition_place}
 use Rattle.schema_components.proofs.Places.{each_place-push}
-use Rattle.schema_fold.specs.Listed.{Definitions, Listed, listed}
+use Rattle.schema_fold.specs.Listed.{Definitions, Listed, listed_after}
 use Rattle.schema_building.specs.Numbers.{extension_count, HaveNumbers}
 use Rattle.schema_building.specs.TextsView.{TextsView}
 use Rattle.schema_building.specs.TextsList.{IsListOf, AddsDefinitions, IsListRefusal}
@@ -36,7 +36,7 @@ module _ (d : DefinitionTree Place) (old new : TextsView) where
       let numbers = numbers_more (is_extension d) first old.next new.next ds refl is.next is.numbers within next in
       record {
         list = list ∙ (λ i. is.list i ++ record { definition = d; extension = if is_extension d then Some (record { number = is.next i; place = definition_place d }) else None } ∷ [])
-            ∙ sym (each_place-push (λ before x. listed first before x ∷ []) ds d);
+            ∙ sym (each_place-push (λ before x. listed_after first before x ∷ []) ds d);
         next = numbers.0;
         numbers = numbers.1;
       }

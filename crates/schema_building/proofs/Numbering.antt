@@ -6,12 +6,12 @@ use Rattle.graphql_names.specs.Placed.{Place}
 use Rattle.schema_fold.specs.in_definitions.DefinitionTree.{DefinitionTree}
 use Rattle.schema_fold.specs.in_definitions.Queries.{is_extension, definition_place}
 use Rattle.schema_components.specs.Lists.{each_place_after}
-use Rattle.schema_fold.specs.Listed.{Definitions, Listed, listed, numbered, definitions_of}
+use Rattle.schema_fold.specs.Listed.{Definitions, Listed, listed_after, numbered, definitions_of}
 use Rattle.schema_building.specs.Numbers.{extension_count}
 use Rattle.schema_building.specs.Settling.{unnumbered}
 
 -- numbers change no definition
-definitions_after : (first : ℕ) (before ds : Definitions) → definitions_of (each_place_after (λ b d. listed first b d ∷ []) before ds) ≡ ds
+definitions_after : (first : ℕ) (before ds : Definitions) → definitions_of (each_place_after (λ b d. listed_after first b d ∷ []) before ds) ≡ ds
 definitions_after first before [] = refl
 definitions_after first before (d ∷ ds) = ap (λ l. d ∷ l) (definitions_after first (before ++ d ∷ []) ds)
 
@@ -36,12 +36,12 @@ count_none d h = ap (λ b. length (cond b (d ∷ []) [])) h
 
 -- numbers of definitions behind others
 abbrev pub numbered_after : ℕ → Definitions → Definitions → List Listed
-numbered_after first = each_place_after (λ b d. listed first b d ∷ [])
+numbered_after first = each_place_after (λ b d. listed_after first b d ∷ [])
 
 pub after_append : (first : ℕ) (before xs ys : Definitions) → numbered_after first before (xs ++ ys) ≡ numbered_after first before xs ++ numbered_after first (before ++ xs) ys
 after_append first before [] ys = ap (λ b. numbered_after first b ys) (sym (append-nil before))
 after_append first before (x ∷ xs) ys =
-    ap (λ l. listed first before x ∷ l) (after_append first (before ++ x ∷ []) xs ys
+    ap (λ l. listed_after first before x ∷ l) (after_append first (before ++ x ∷ []) xs ys
     ∙ ap (λ b. numbered_after first (before ++ x ∷ []) xs ++ numbered_after first b ys) (append_assoc before (x ∷ []) xs))
 
 -- they depend on how many extensions stand before
@@ -55,7 +55,7 @@ pub after_same : (first : ℕ) (b c ds : Definitions) → extension_count b ≡ 
 after_same first b c [] h = refl
 after_same first b c (d ∷ ds) h =
     ap (λ n. listed_at (first + n) d ∷ numbered_after first (b ++ d ∷ []) ds) h
-    ∙ ap (λ l. listed first c d ∷ l) (after_same first (b ++ d ∷ []) (c ++ d ∷ []) ds (same_more b c d h))
+    ∙ ap (λ l. listed_after first c d ∷ l) (after_same first (b ++ d ∷ []) (c ++ d ∷ []) ds (same_more b c d h))
 
 or_left : (a b : Bool) → (a || b) ≡ false → a ≡ false
 or_left true b h = h
@@ -89,8 +89,8 @@ module _ (keep : DefinitionTree Place → Bool) (no_extension : (d : DefinitionT
     where
       by : (k : Bool) → keep d ≡ k
           → ((b' c' : Definitions) → extension_count b' ≡ extension_count c' → numbered_after first b' (filter keep ds) ≡ filter (λ l. keep l.definition) (numbered_after first c' ds))
-          → numbered_after first b (cond k (d ∷ filter keep ds) (filter keep ds)) ≡ cond k (listed first c d ∷ filter (λ l. keep l.definition) (numbered_after first (c ++ d ∷ []) ds)) (filter (λ l. keep l.definition) (numbered_after first (c ++ d ∷ []) ds))
+          → numbered_after first b (cond k (d ∷ filter keep ds) (filter keep ds)) ≡ cond k (listed_after first c d ∷ filter (λ l. keep l.definition) (numbered_after first (c ++ d ∷ []) ds)) (filter (λ l. keep l.definition) (numbered_after first (c ++ d ∷ []) ds))
       by true e rest =
           ap (λ n. listed_at (first + n) d ∷ numbered_after first (b ++ d ∷ []) (filter keep ds)) h
-          ∙ ap (λ l. listed first c d ∷ l) (rest (b ++ d ∷ []) (c ++ d ∷ []) (same_more b c d h))
+          ∙ ap (λ l. listed_after first c d ∷ l) (rest (b ++ d ∷ []) (c ++ d ∷ []) (same_more b c d h))
       by false e rest = rest b (c ++ d ∷ []) (h ∙ sym (count_append c (d ∷ []) ∙ ap (λ n. extension_count c + n) (count_none d (no_extension d e)) ∙ omega arith))

@@ -65,8 +65,8 @@ DirectiveDefinitionCollisionAt before d fault = (own : Placed Place (DirectiveDe
     × (fault ≡ At d (DirectiveDefinitionCollision (directive_name own))))
 
 module _ (built_in texts : Definitions) where
-  abbrev pub all : Definitions
-  all = built_in ++ texts
+  abbrev pub with_built_in : Definitions
+  with_built_in = built_in ++ texts
 
   -- a scalar of that name is built in
   abbrev pub is_built_in_scalar : List ℕ → Bool
@@ -89,34 +89,34 @@ module _ (built_in texts : Definitions) where
   -- an extension of a schema that is not defined anywhere
   abbrev pub OrphanSchemaExtensionAt : RuleAt
   OrphanSchemaExtensionAt before d fault =
-      (is_some (schema_extension_here d) ≡ true) × (schema_is_defined all ≡ false) × (fault ≡ At d OrphanSchemaExtension)
+      (is_some (schema_extension_here d) ≡ true) × (schema_is_defined with_built_in ≡ false) × (fault ≡ At d OrphanSchemaExtension)
 
   -- an extension of a type that is not defined anywhere
   abbrev pub OrphanTypeExtensionAt : RuleAt
   OrphanTypeExtensionAt before d fault = (e : TypeParts Place) × (
-      (type_extension_here d ≡ Some e) × (type_named e.name.it all ≡ None) × (fault ≡ At d (OrphanTypeExtension e.name.it)))
+      (type_extension_here d ≡ Some e) × (type_named e.name.it with_built_in ≡ None) × (fault ≡ At d (OrphanTypeExtension e.name.it)))
 
   -- an extension of another kind than its type's definition
   abbrev pub TypeExtensionKindMismatchAt : RuleAt
   TypeExtensionKindMismatchAt before d fault = (e : TypeParts Place) × ((t : TypeDefinition Place) × (
-      (type_extension_here d ≡ Some e) × (type_named e.name.it all ≡ Some t) × (same_kind t.parts.kind e.kind ≡ false)
+      (type_extension_here d ≡ Some e) × (type_named e.name.it with_built_in ≡ Some t) × (same_kind t.parts.kind e.kind ≡ false)
       × (fault ≡ At d (TypeExtensionKindMismatch e.name.it))))
 
   -- a rule is broken so by what stands at some position
-  abbrev pub Somewhere : RuleAt → BuildFault → Type 0
-  Somewhere rule fault = AtSomePlace (λ before d. rule before d fault) texts
+  abbrev pub BreaksSomewhere : RuleAt → BuildFault → Type 0
+  BreaksSomewhere rule fault = AtSomePlace (λ before d. rule before d fault) texts
 
   -- ---- rules on the components of the schema definition and of the types
 
   -- a root behind another one of its operation
   abbrev pub DuplicateRootOperationIn : ℕ → BuildFault → Type 0
   DuplicateRootOperationIn first fault = (g : Given Place Root) × (
-      IsRepeated root_key (roots_given first all) g × (fault ≡ record { place = g.it.place; breach = DuplicateRootOperation g.it.it.operation_type }))
+      IsRepeated root_key (roots_given first with_built_in) g × (fault ≡ record { place = g.it.place; breach = DuplicateRootOperation g.it.it.operation_type }))
 
   -- in a type of that kind a component of some class stands behind another one of its name
   abbrev pub RepeatedIn : {A : Type 0} → TypeKind → (TypeParts Place → List A) → (Given Place A → List ℕ) → (A → Place) → (List ℕ → List ℕ → Breach) → ℕ → BuildFault → Type 0
   RepeatedIn {A} kind of key place breach first fault = (t : TypeDefinition Place) × ((g : Given Place A) × (
-      Contains (firsts type_name (types_in all)) t × (same_kind t.parts.kind kind ≡ true) × IsRepeated key (components of (numbered first all) t) g
+      Contains (firsts type_name (types_in with_built_in)) t × (same_kind t.parts.kind kind ≡ true) × IsRepeated key (components of (numbered first with_built_in) t) g
       × (fault ≡ record { place = place g.it; breach = breach (type_name t) (key g) })))
 
   abbrev pub DuplicateImplementsInterfaceInObjectIn : ℕ → BuildFault → Type 0
@@ -142,14 +142,14 @@ module _ (built_in texts : Definitions) where
 
 -- a folding rule is broken so
 pub data Fails (built_in : Definitions) (first : ℕ) (texts : Definitions) (fault : BuildFault) : Type 0 where
-  executable_definition : Somewhere built_in texts ExecutableDefinitionAt fault → Fails built_in first texts fault
-  schema_definition_collision : Somewhere built_in texts SchemaDefinitionCollisionAt fault → Fails built_in first texts fault
-  directive_definition_collision : Somewhere built_in texts DirectiveDefinitionCollisionAt fault → Fails built_in first texts fault
-  type_definition_collision : Somewhere built_in texts (TypeDefinitionCollisionAt built_in texts) fault → Fails built_in first texts fault
-  built_in_scalar_type_redefinition : Somewhere built_in texts (BuiltInScalarTypeRedefinitionAt built_in texts) fault → Fails built_in first texts fault
-  orphan_schema_extension : Somewhere built_in texts (OrphanSchemaExtensionAt built_in texts) fault → Fails built_in first texts fault
-  orphan_type_extension : Somewhere built_in texts (OrphanTypeExtensionAt built_in texts) fault → Fails built_in first texts fault
-  type_extension_kind_mismatch : Somewhere built_in texts (TypeExtensionKindMismatchAt built_in texts) fault → Fails built_in first texts fault
+  executable_definition : BreaksSomewhere built_in texts ExecutableDefinitionAt fault → Fails built_in first texts fault
+  schema_definition_collision : BreaksSomewhere built_in texts SchemaDefinitionCollisionAt fault → Fails built_in first texts fault
+  directive_definition_collision : BreaksSomewhere built_in texts DirectiveDefinitionCollisionAt fault → Fails built_in first texts fault
+  type_definition_collision : BreaksSomewhere built_in texts (TypeDefinitionCollisionAt built_in texts) fault → Fails built_in first texts fault
+  built_in_scalar_type_redefinition : BreaksSomewhere built_in texts (BuiltInScalarTypeRedefinitionAt built_in texts) fault → Fails built_in first texts fault
+  orphan_schema_extension : BreaksSomewhere built_in texts (OrphanSchemaExtensionAt built_in texts) fault → Fails built_in first texts fault
+  orphan_type_extension : BreaksSomewhere built_in texts (OrphanTypeExtensionAt built_in texts) fault → Fails built_in first texts fault
+  type_extension_kind_mismatch : BreaksSomewhere built_in texts (TypeExtensionKindMismatchAt built_in texts) fault → Fails built_in first texts fault
   duplicate_root_operation : DuplicateRootOperationIn built_in texts first fault → Fails built_in first texts fault
   duplicate_implements_interface_in_object : DuplicateImplementsInterfaceInObjectIn built_in texts first fault → Fails built_in first texts fault
   duplicate_implements_interface_in_interface : DuplicateImplementsInterfaceInInterfaceIn built_in texts first fault → Fails built_in first texts fault

@@ -24,15 +24,15 @@ pub record Listed : Type 0 where
 abbrev pub extension_number : ℕ → Definitions → ℕ
 extension_number first before = first + length (filter is_extension before)
 
-abbrev pub listed : ℕ → Definitions → DefinitionTree Place → Listed
-listed first before d = record {
+abbrev pub listed_after : ℕ → Definitions → DefinitionTree Place → Listed
+listed_after first before d = record {
   definition = d;
   extension = if is_extension d then Some (record { number = extension_number first before; place = definition_place d }) else None;
 }
 
 -- the definitions in order, each extension with its number, folded or not
 abbrev pub numbered : ℕ → Definitions → List Listed
-numbered first ds = each_place (λ before d. listed first before d ∷ []) ds
+numbered first ds = each_place (λ before d. listed_after first before d ∷ []) ds
 
 -- the definitions of a list, without its numbers
 abbrev pub definitions_of : List Listed → Definitions

@@ -11,7 +11,7 @@ use Rattle.schema_fold.specs.in_components.Lists.{each_place_after, firsts, has_
 use Rattle.schema_fold.specs.in_schema_types.TypeParts.{TypeParts, TypeDefinition, type_here}
 use Rattle.schema_fold.specs.Listed.{Definitions, type_name, types_in}
 use Rattle.schema_fold.specs.in_schema_types.declared.type_kind.TypeKind.{TypeKind}
-use Rattle.schema_fold_index.specs.Index.{StandingParts, standing_name, parts_here, standing_after, standing, first_of, first_filed, FiledEntries, AreFiled, NamedKind, filed_kind, text_kind}
+use Rattle.schema_fold_index.specs.Index.{StandingParts, standing_name, parts_here, standing_after, standing_in_list, first_of, first_filed, FiledEntries, AreFiled, NamedKind, filed_kind, text_kind}
 
 -- the firsts of what is made of each
 module _ {X Y : Type 0} (f : X → Y) (key : Y → List ℕ) where
@@ -64,8 +64,8 @@ module _ (here : DefinitionTree Place → Option (TypeParts Place)) where
       by None rest = rest
       by (Some p) rest = ap (λ l. p ∷ l) rest
 
-  first_parts : (ds : Definitions) → map (λ s. s.parts) (firsts standing_name (standing here ds)) ≡ firsts parts_name (parts_in ds)
-  first_parts ds = sym (firsts-map (λ s. s.parts) parts_name (standing here ds)) ∙ ap (firsts parts_name) (standing_parts [] ds)
+  first_parts : (ds : Definitions) → map (λ s. s.parts) (firsts standing_name (standing_in_list here ds)) ≡ firsts parts_name (parts_in ds)
+  first_parts ds = sym (firsts-map (λ s. s.parts) parts_name (standing_in_list here ds)) ∙ ap (firsts parts_name) (standing_parts [] ds)
 
   kinds_filed : (es : FiledEntries) → map filed_kind es ≡ map (λ f. (f.name, f.kind)) (map first_filed es)
   kinds_filed [] = refl
@@ -75,9 +75,9 @@ module _ (here : DefinitionTree Place → Option (TypeParts Place)) where
   kinds_standing [] = refl
   kinds_standing (s ∷ ss) = ap (λ l. kind_of s.parts ∷ l) (kinds_standing ss)
 
-  pub kinds_are : (ds : Definitions) (es : FiledEntries) → AreFiled (standing here ds) es → map filed_kind es ≡ map kind_of (firsts parts_name (parts_in ds))
+  pub kinds_are : (ds : Definitions) (es : FiledEntries) → AreFiled (standing_in_list here ds) es → map filed_kind es ≡ map kind_of (firsts parts_name (parts_in ds))
   kinds_are ds es filed =
-      kinds_filed es ∙ ap (map (λ f. (f.name, f.kind))) filed.0 ∙ kinds_standing (firsts standing_name (standing here ds)) ∙ ap (map kind_of) (first_parts ds)
+      kinds_filed es ∙ ap (map (λ f. (f.name, f.kind))) filed.0 ∙ kinds_standing (firsts standing_name (standing_in_list here ds)) ∙ ap (map kind_of) (first_parts ds)
 
 -- ---- of definitions
 
@@ -102,7 +102,7 @@ types_kinds [] = refl
 types_kinds (t ∷ ts) = ap (λ l. (type_name t, t.parts.kind) ∷ l) (types_kinds ts)
 
 -- the names and kinds of the first definitions
-pub defined_kinds : (ds : Definitions) (es : FiledEntries) → AreFiled (standing parts_here ds) es → map text_kind es ≡ map (λ t. (type_name t, t.parts.kind)) (firsts type_name (types_in ds))
+pub defined_kinds : (ds : Definitions) (es : FiledEntries) → AreFiled (standing_in_list parts_here ds) es → map text_kind es ≡ map (λ t. (type_name t, t.parts.kind)) (firsts type_name (types_in ds))
 defined_kinds ds es filed =
     texts_kinds es ∙ ap (map kind_text) (kinds_are parts_here ds es filed
     ∙ ap (λ ps. map kind_of (firsts parts_name ps)) (defined_parts ds)

@@ -17,7 +17,7 @@ use Rattle.schema_fold.specs.Listed.{Definitions, Listed, type_name, types_in, d
 use Rattle.schema_fold.specs.PartsView.{parts_view}
 use Rattle.schema_fold.specs.declared.parts.Parts.{Parts}
 use Rattle.schema_fold_index.specs.declared.index.Filed.{Filed}
-use Rattle.schema_fold_index.specs.Index.{StandingParts, standing_name, parts_here, standing_after, standing, positions_named, first_of, first_filed, positions_of, FiledEntries, AreFiled, FilesUnder, listed_at, defined_at, extensions_under, extensions_named}
+use Rattle.schema_fold_index.specs.Index.{StandingParts, standing_name, parts_here, standing_after, standing_in_list, positions_named, first_of, first_filed, positions_of, FiledEntries, AreFiled, FilesUnder, listed_at, defined_at, extensions_under, extensions_named}
 use Rattle.schema_fold_index.proofs.Under.{added_behind, added_new}
 
 abbrev test : List ℕ → NameValue → Bool
@@ -32,18 +32,18 @@ module _ (here : DefinitionTree Place → Option (TypeParts Place)) where
   abbrev stand_here : ℕ → Option (TypeParts Place) → List StandingParts
   stand_here position o = map (λ parts. stands position parts) (option_to_list o)
 
-  standing-push : (ds : Definitions) (d : DefinitionTree Place) → standing here (ds ++ d ∷ []) ≡ standing here ds ++ stand_here (length ds) (here d)
+  standing-push : (ds : Definitions) (d : DefinitionTree Place) → standing_in_list here (ds ++ d ∷ []) ≡ standing_in_list here ds ++ stand_here (length ds) (here d)
   standing-push ds d = each_place-push (λ before e. stand_here (length before) (here e)) ds d
 
   -- one that gives nothing, and one that does
-  pub filed_none : (ds : Definitions) (d : DefinitionTree Place) (es : FiledEntries) → here d ≡ None → AreFiled (standing here ds) es → AreFiled (standing here (ds ++ d ∷ [])) es
+  pub filed_none : (ds : Definitions) (d : DefinitionTree Place) (es : FiledEntries) → here d ≡ None → AreFiled (standing_in_list here ds) es → AreFiled (standing_in_list here (ds ++ d ∷ [])) es
   filed_none ds d es none filed =
-      subst (λ ss. AreFiled ss es) (sym (standing-push ds d ∙ ap (λ o. standing here ds ++ stand_here (length ds) o) none ∙ append-nil (standing here ds))) filed
+      subst (λ ss. AreFiled ss es) (sym (standing-push ds d ∙ ap (λ o. standing_in_list here ds ++ stand_here (length ds) o) none ∙ append-nil (standing_in_list here ds))) filed
 
   pub filed_one : (ds : Definitions) (d : DefinitionTree Place) (position : ℕ) (parts : TypeParts Place) (es new : FiledEntries) → here d ≡ Some parts → length ds ≡ position
-      → FilesUnder position parts es new → AreFiled (standing here ds) es → AreFiled (standing here (ds ++ d ∷ [])) new
+      → FilesUnder position parts es new → AreFiled (standing_in_list here ds) es → AreFiled (standing_in_list here (ds ++ d ∷ [])) new
   filed_one ds d position parts es new some at files filed =
-      subst (λ ss. AreFiled ss new) (sym (standing-push ds d ∙ (λ i. standing here ds ++ stand_here (at i) (some i)))) (files (standing here ds) filed)
+      subst (λ ss. AreFiled ss new) (sym (standing-push ds d ∙ (λ i. standing_in_list here ds ++ stand_here (at i) (some i)))) (files (standing_in_list here ds) filed)
 
 -- ---- a position more under a name
 
@@ -134,7 +134,7 @@ extensions_after n before (l ∷ ls) =
     (subst (λ ds. Finds n (before ++ l ∷ ls) (extending ds ls) found) (map-append (λ x. x.definition) before (l ∷ [])) same)
 
 -- under each name are the extensions of the name
-pub extensions_filed : (list : List Listed) (es : FiledEntries) → AreFiled (standing type_extension_here (definitions_of list)) es → (n : List ℕ) → extensions_under list es n ≡ extensions_named n list
+pub extensions_filed : (list : List Listed) (es : FiledEntries) → AreFiled (standing_in_list type_extension_here (definitions_of list)) es → (n : List ℕ) → extensions_under list es n ≡ extensions_named n list
 extensions_filed list es filed n = ap (flat_map (listed_at list)) (filed.1 n) ∙ extensions_after n [] list
 
 -- ---- the first definitions
@@ -194,8 +194,8 @@ defined_of ds [] = refl
 defined_of ds (f ∷ fs) = ap (λ l. defined_at ds f.first ++ l) (defined_of ds fs)
 
 -- at the first positions are the first definitions of each name
-pub types_filed : (ds : Definitions) (es : FiledEntries) → AreFiled (standing parts_here ds) es → flat_map (λ f. defined_at ds f.first) (values_of es) ≡ firsts type_name (types_in ds)
+pub types_filed : (ds : Definitions) (es : FiledEntries) → AreFiled (standing_in_list parts_here ds) es → flat_map (λ f. defined_at ds f.first) (values_of es) ≡ firsts type_name (types_in ds)
 types_filed ds es filed =
     defined_of ds (values_of es)
-    ∙ ap (flat_map (defined_at ds)) (first_places es ∙ ap (map (λ f. f.position)) filed.0 ∙ places_of (firsts standing_name (standing parts_here ds)))
+    ∙ ap (flat_map (defined_at ds)) (first_places es ∙ ap (map (λ f. f.position)) filed.0 ∙ places_of (firsts standing_name (standing_in_list parts_here ds)))
     ∙ types_after [] ds [] [] refl

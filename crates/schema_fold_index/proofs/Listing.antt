@@ -4,11 +4,11 @@ use Rattle.std.specs.List.{flat_map}
 use Rattle.std.proofs.lemmas.List.{append_assoc, append-nil, map-append, map_more, take-map}
 use Rattle.schema_fold.specs.in_components.Lists.{each_place_after}
 use Rattle.schema_fold.specs.in_definitions.DefinitionTree.{definition_tree}
-use Rattle.schema_fold.specs.Listed.{Definitions, listed, numbered, definitions_of}
+use Rattle.schema_fold.specs.Listed.{Definitions, listed_after, numbered, definitions_of}
 use Rattle.schema_fold.specs.ListedView.{listed_view}
 use Rattle.schema_fold.specs.declared.listed.Listed.{Listed as RustListed}
 
-numbered_after : (first : ℕ) (before ds : Definitions) → definitions_of (each_place_after (λ b d. listed first b d ∷ []) before ds) ≡ ds
+numbered_after : (first : ℕ) (before ds : Definitions) → definitions_of (each_place_after (λ b d. listed_after first b d ∷ []) before ds) ≡ ds
 numbered_after first before [] = refl
 numbered_after first before (d ∷ ds) = ap (λ l. d ∷ l) (numbered_after first (before ++ d ∷ []) ds)
 

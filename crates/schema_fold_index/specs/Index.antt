@@ -33,8 +33,8 @@ module _ (here : DefinitionTree Place → Option (TypeParts Place)) where
   abbrev pub standing_after : Definitions → Definitions → List StandingParts
   standing_after = each_place_after (λ before d. map (λ parts. record { position = length before; parts = parts }) (option_to_list (here d)))
 
-  abbrev pub standing : Definitions → List StandingParts
-  standing ds = standing_after [] ds
+  abbrev pub standing_in_list : Definitions → List StandingParts
+  standing_in_list ds = standing_after [] ds
 
 -- the positions of those of that name, in order
 abbrev pub positions_named : List ℕ → List StandingParts → List ℕ
@@ -85,7 +85,7 @@ AreFiled ss es = (map first_filed es ≡ map first_of (firsts standing_name ss))
 
 -- the index has the definitions of types of the list, and the extensions of types
 abbrev pub IsIndexOf : Definitions → Index → Type 0
-IsIndexOf ds index = AreFiled (standing parts_here ds) index.defined.entries × AreFiled (standing type_extension_here ds) index.extended.entries
+IsIndexOf ds index = AreFiled (standing_in_list parts_here ds) index.defined.entries × AreFiled (standing_in_list type_extension_here ds) index.extended.entries
 
 -- ---- filing
 

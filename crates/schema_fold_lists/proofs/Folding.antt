@@ -9,7 +9,7 @@ use Rattle.schema_fold.specs.in_schema_types.SchemaTree.{SchemaTree}
 use Rattle.schema_fold.specs.in_schema_types.TypeParts.{type_extension_here}
 use Rattle.schema_fold.specs.Listed.{Definitions, Listed, definitions_of}
 use Rattle.schema_built_in.specs.Table.{built_in_definitions}
-use Rattle.schema_fold.specs.BuildErrors.{BuildFault, Fails, FoldingRules, Somewhere, DirectiveDefinitionCollisionAt, DuplicateRootOperationIn}
+use Rattle.schema_fold.specs.BuildErrors.{BuildFault, Fails, FoldingRules, BreaksSomewhere, DirectiveDefinitionCollisionAt, DuplicateRootOperationIn}
 use Rattle.schema_fold.specs.Fold.{folded_directives}
 use Rattle.schema_fold_roots.specs.ListFold.{IsFoldOf, TellsRoots}
 use Rattle.schema_fold_roots.proofs.Listing.{definitions_numbered}
@@ -24,7 +24,7 @@ use Rattle.schema_fold_lists.specs.ListBuilt.{FoldsParts, FoldsList}
 module _ (built_in : Definitions) (first : ℕ) (texts : Definitions) (f : BuildFault) (one two three four : List BuildFault)
     (misplaced : Contains one f ↔ (Contains [] f ⊎ Misplaced built_in texts f))
     (roots : Contains two f ↔ (Contains one f ⊎ DuplicateRootOperationIn built_in texts first f))
-    (directives : Contains three f ↔ (Contains two f ⊎ Somewhere built_in texts DirectiveDefinitionCollisionAt f))
+    (directives : Contains three f ↔ (Contains two f ⊎ BreaksSomewhere built_in texts DirectiveDefinitionCollisionAt f))
     (types : Contains four f ↔ (Contains three f ⊎ FailsInType built_in texts first f)) where
   abbrev Parts : Type 0
   Parts = FailsInParts built_in first texts f
@@ -37,7 +37,7 @@ module _ (built_in : Definitions) (first : ℕ) (texts : Definitions) (f : Build
   from_two (inl h) = from_one (misplaced.0 h)
   from_two (inr h) = inr (inr (inl h))
 
-  from_three : Contains two f ⊎ Somewhere built_in texts DirectiveDefinitionCollisionAt f → Parts
+  from_three : Contains two f ⊎ BreaksSomewhere built_in texts DirectiveDefinitionCollisionAt f → Parts
   from_three (inl h) = from_two (roots.0 h)
   from_three (inr h) = inr (inl h)
 

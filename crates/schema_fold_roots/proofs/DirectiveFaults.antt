@@ -10,7 +10,7 @@ use Rattle.schema_fold.specs.in_definitions.Queries.{definition_place}
 use Rattle.schema_components.specs.Lists.{each_place, each_place_after, has_name}
 use Rattle.schema_components.proofs.Places.{not_in_nil, found_at, given_at, AtSomePlace-map, only, is_only}
 use Rattle.schema_fold.specs.Listed.{Definitions, directive_here, directive_name, directives_in}
-use Rattle.schema_fold.specs.BuildErrors.{BuildFault, DirectiveDefinitionCollision, DirectiveDefinitionCollisionAt, Somewhere}
+use Rattle.schema_fold.specs.BuildErrors.{BuildFault, DirectiveDefinitionCollision, DirectiveDefinitionCollisionAt, BreaksSomewhere}
 use Rattle.schema_fold_roots.specs.DirectiveFold.{Directive, directive_fault, directive_faults, TellsDirectives}
 use Rattle.schema_fold_roots.proofs.Gathering.{flat_map-push}
 use Rattle.schema_fold_roots.proofs.Telling.{told_more}
@@ -63,7 +63,7 @@ given_here before d f (own, (e, seen, is)) =
     (is_only (directive_fault own) f (is ∙ ap (λ p. record { place = p; breach = DirectiveDefinitionCollision (directive_name own) }) (place_here d own e))))
 
 pub tells_directives : (built_in texts : Definitions) (old new : List BuildFault) → new ≡ old ++ directive_faults (directives_in texts) → TellsDirectives built_in texts old new
-tells_directives built_in texts old new is f = told_more old (each_place told_at texts) new f (Somewhere built_in texts DirectiveDefinitionCollisionAt f) (is ∙ ap (λ l. old ++ l) (told_after [] texts)) (
+tells_directives built_in texts old new is f = told_more old (each_place told_at texts) new f (BreaksSomewhere built_in texts DirectiveDefinitionCollisionAt f) (is ∙ ap (λ l. old ++ l) (told_after [] texts)) (
   λ h. AtSomePlace-map texts (λ b d k. found_here b d f k) (found_at told_at texts f h),
   λ h. given_at told_at texts f (AtSomePlace-map texts (λ b d k. given_here b d f k) h),
 )

@@ -8,7 +8,7 @@ use Rattle.tree_directives.specs.DirectiveTree.{DirectiveDefinitionTree}
 use Rattle.schema_components.specs.Lists.{firsts, repeats}
 use Rattle.schema_components.specs.Names.{Entries}
 use Rattle.schema_fold.specs.Listed.{Definitions, directive_name}
-use Rattle.schema_fold.specs.BuildErrors.{BuildFault, DirectiveDefinitionCollision, DirectiveDefinitionCollisionAt, Somewhere}
+use Rattle.schema_fold.specs.BuildErrors.{BuildFault, DirectiveDefinitionCollision, DirectiveDefinitionCollisionAt, BreaksSomewhere}
 
 abbrev pub Directive : Type 0
 Directive = Placed Place (DirectiveDefinitionTree Place)
@@ -22,7 +22,7 @@ directive_faults ds = map directive_fault (repeats directive_name ds)
 
 -- the faults that are told more are those of the texts' second definitions of directives
 abbrev pub TellsDirectives : Definitions → Definitions → List BuildFault → List BuildFault → Type 0
-TellsDirectives built_in texts old new = (f : BuildFault) → Contains new f ↔ (Contains old f ⊎ Somewhere built_in texts DirectiveDefinitionCollisionAt f)
+TellsDirectives built_in texts old new = (f : BuildFault) → Contains new f ↔ (Contains old f ⊎ BreaksSomewhere built_in texts DirectiveDefinitionCollisionAt f)
 
 -- ---- steps
 

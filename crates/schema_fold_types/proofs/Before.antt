@@ -13,7 +13,7 @@ use Rattle.schema_fold.specs.in_components.Lists.{has_name}
 use Rattle.schema_fold.specs.in_schema_types.TypeParts.{TypeDefinition, type_here}
 use Rattle.schema_fold.specs.Listed.{Definitions, type_name, types_in}
 use Rattle.schema_fold_index.specs.declared.index.Filed.{Filed}
-use Rattle.schema_fold_index.specs.Index.{StandingParts, standing_name, parts_here, standing_after, standing, positions_named, positions_of, FiledEntries, AreFiled, is_filed_before}
+use Rattle.schema_fold_index.specs.Index.{StandingParts, standing_name, parts_here, standing_after, standing_in_list, positions_named, positions_of, FiledEntries, AreFiled, is_filed_before}
 
 module _ (n : List ℕ) (i : ℕ) where
   -- the first of these positions is before i
@@ -66,6 +66,6 @@ module _ (n : List ℕ) (i : ℕ) where
       let m = more before d in
       first_here (length before) (type_here d) (standing_after parts_here (before ++ d ∷ []) ds) (types_in (take k ds)) (omega (arith, e)) (stands_after (before ++ d ∷ []) ds k (omega (arith, m, e)))
 
-  pub stands_before : (ds : Definitions) (es : FiledEntries) → AreFiled (standing parts_here ds) es → is_filed_before i es n ≡ has_name type_name n (types_in (take i ds))
+  pub stands_before : (ds : Definitions) (es : FiledEntries) → AreFiled (standing_in_list parts_here ds) es → is_filed_before i es n ≡ has_name type_name n (types_in (take i ds))
   stands_before ds es filed =
       filed_starts (lookup (λ k. bytes_eq n k.text) es) ∙ ap starts_before (filed.1 n) ∙ stands_after [] ds i (omega arith)

@@ -3,7 +3,7 @@ use Rattle.std.proofs.Common.{◌⊎◌, ℕ, inl, inr}
 use Rattle.std.specs.Prelude.{◌↔◌}
 use Rattle.schema_fold.specs.Listed.{Definitions}
 use Rattle.schema_fold.specs.BuildErrors as fails
-use Rattle.schema_fold.specs.BuildErrors.{BuildFault, Fails, Somewhere, DirectiveDefinitionCollisionAt, DuplicateRootOperationIn}
+use Rattle.schema_fold.specs.BuildErrors.{BuildFault, Fails, BreaksSomewhere, DirectiveDefinitionCollisionAt, DuplicateRootOperationIn}
 use Rattle.schema_fold_types.specs.TypeFaults as of_type
 use Rattle.schema_fold_types.specs.TypeFaults.{FailsInType}
 use Rattle.schema_fold_types.specs.Misplaced as placed
@@ -12,7 +12,7 @@ use Rattle.schema_fold_types.specs.Misplaced.{Misplaced}
 module _ (built_in : Definitions) (first : ℕ) (texts : Definitions) (f : BuildFault) where
   -- the four parts of the rules, each told by one call
   abbrev pub FailsInParts : Type 0
-  FailsInParts = Misplaced built_in texts f ⊎ (Somewhere built_in texts DirectiveDefinitionCollisionAt f ⊎ (DuplicateRootOperationIn built_in texts first f ⊎ FailsInType built_in texts first f))
+  FailsInParts = Misplaced built_in texts f ⊎ (BreaksSomewhere built_in texts DirectiveDefinitionCollisionAt f ⊎ (DuplicateRootOperationIn built_in texts first f ⊎ FailsInType built_in texts first f))
 
   abbrev type_part : FailsInType built_in texts first f → FailsInParts
   type_part h = inr (inr (inr h))

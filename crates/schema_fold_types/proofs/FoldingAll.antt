@@ -17,7 +17,7 @@ use Rattle.schema_fold.specs.BuildErrors.{BuildFault}
 use Rattle.schema_fold.specs.declared.listed.Listed.{Listed as Rust}
 use Rattle.schema_fold_index.specs.declared.index.Filed.{Filed}
 use Rattle.schema_fold_types.specs.Filing.{type_by, FoldsOn}
-use Rattle.schema_fold_index.specs.Index.{FiledEntries, AreFiled, standing, parts_here, defined_at, extensions_under}
+use Rattle.schema_fold_index.specs.Index.{FiledEntries, AreFiled, standing_in_list, parts_here, defined_at, extensions_under}
 use Rattle.schema_fold_types.specs.ListTypes.{types_from, faults_from}
 use Rattle.schema_fold_types.specs.TypeFaults.{faults_of_type}
 use Rattle.schema_fold_types.proofs.Filing.{types_enough, faults_enough}
@@ -57,7 +57,7 @@ module _ (extensions : List ℕ → List Listed) where
 -- ---- all types
 
 module _ (built_in texts : List Listed) (defined extended : FiledEntries)
-    (is_defined : AreFiled (standing parts_here (definitions_of texts)) defined) (is_extended : AreFiled (standing type_extension_here (definitions_of texts)) extended) where
+    (is_defined : AreFiled (standing_in_list parts_here (definitions_of texts)) defined) (is_extended : AreFiled (standing_in_list type_extension_here (definitions_of texts)) extended) where
   abbrev extensions : List ℕ → List Listed
   extensions = extensions_under texts extended
 

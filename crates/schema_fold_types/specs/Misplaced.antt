@@ -1,17 +1,17 @@
 -- Private: leads to `Fails` of `schema_fold`. The folding rules that are judged by what stands at a position of the list, together (GraphQL, October 2021, section 3).
 use Rattle.std.specs.Prelude.{◌↔◌, ◌⊎◌, List, Contains}
 use Rattle.schema_fold.specs.Listed.{Definitions}
-use Rattle.schema_fold.specs.BuildErrors.{BuildFault, Somewhere, ExecutableDefinitionAt, SchemaDefinitionCollisionAt, TypeDefinitionCollisionAt, BuiltInScalarTypeRedefinitionAt, OrphanSchemaExtensionAt, OrphanTypeExtensionAt, TypeExtensionKindMismatchAt}
+use Rattle.schema_fold.specs.BuildErrors.{BuildFault, BreaksSomewhere, ExecutableDefinitionAt, SchemaDefinitionCollisionAt, TypeDefinitionCollisionAt, BuiltInScalarTypeRedefinitionAt, OrphanSchemaExtensionAt, OrphanTypeExtensionAt, TypeExtensionKindMismatchAt}
 
 -- one of these rules is broken so at some position of the texts
 pub data Misplaced (built_in texts : Definitions) (fault : BuildFault) : Type 0 where
-  executable_definition : Somewhere built_in texts ExecutableDefinitionAt fault → Misplaced built_in texts fault
-  schema_definition_collision : Somewhere built_in texts SchemaDefinitionCollisionAt fault → Misplaced built_in texts fault
-  type_definition_collision : Somewhere built_in texts (TypeDefinitionCollisionAt built_in texts) fault → Misplaced built_in texts fault
-  built_in_scalar_type_redefinition : Somewhere built_in texts (BuiltInScalarTypeRedefinitionAt built_in texts) fault → Misplaced built_in texts fault
-  orphan_schema_extension : Somewhere built_in texts (OrphanSchemaExtensionAt built_in texts) fault → Misplaced built_in texts fault
-  orphan_type_extension : Somewhere built_in texts (OrphanTypeExtensionAt built_in texts) fault → Misplaced built_in texts fault
-  type_extension_kind_mismatch : Somewhere built_in texts (TypeExtensionKindMismatchAt built_in texts) fault → Misplaced built_in texts fault
+  executable_definition : BreaksSomewhere built_in texts ExecutableDefinitionAt fault → Misplaced built_in texts fault
+  schema_definition_collision : BreaksSomewhere built_in texts SchemaDefinitionCollisionAt fault → Misplaced built_in texts fault
+  type_definition_collision : BreaksSomewhere built_in texts (TypeDefinitionCollisionAt built_in texts) fault → Misplaced built_in texts fault
+  built_in_scalar_type_redefinition : BreaksSomewhere built_in texts (BuiltInScalarTypeRedefinitionAt built_in texts) fault → Misplaced built_in texts fault
+  orphan_schema_extension : BreaksSomewhere built_in texts (OrphanSchemaExtensionAt built_in texts) fault → Misplaced built_in texts fault
+  orphan_type_extension : BreaksSomewhere built_in texts (OrphanTypeExtensionAt built_in texts) fault → Misplaced built_in texts fault
+  type_extension_kind_mismatch : BreaksSomewhere built_in texts (TypeExtensionKindMismatchAt built_in texts) fault → Misplaced built_in texts fault
 
 -- the faults that are told more are those that break one of these rules
 abbrev pub TellsMisplaced : Definitions → Definitions → List BuildFault → List BuildFault → Type 0

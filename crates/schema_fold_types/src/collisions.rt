@@ -6,7 +6,7 @@ ghost use Rattle.schema_fold.specs.FaultView.{faults_of};
 ghost use Rattle.schema_fold.specs.Listed.{definitions_of};
 ghost use Rattle.schema_fold.specs.ListedView.{listed_view};
 ghost use Rattle.schema_fold.specs.SchemaFold.{schema_definition_in};
-ghost use Rattle.schema_fold_index.specs.Index.{AreFiled, standing, parts_here};
+ghost use Rattle.schema_fold_index.specs.Index.{AreFiled, standing_in_list, parts_here};
 ghost use Rattle.schema_fold_types.specs.Seen.{kind_in, type_faults, faults_behind, collision_faults};
 ghost use Rattle.schema_fold_types.specs.SeenView.{seen_view};
 ghost use Rattle.schema_fold_types.specs.OwnView.{is_defined_before};
@@ -46,7 +46,7 @@ pub(crate) fn tell_collisions(
     defined: &IndexMap<Name, Filed>,
     faults: &mut Vec<(Option<SourceSpan>, BuildError)>,
 ) -> Result<bool, AllocError>
-    requires { AreFiled (standing parts_here (definitions_of (map listed_view texts.now))) defined.now.entries }
+    requires { AreFiled (standing_in_list parts_here (definitions_of (map listed_view texts.now))) defined.now.entries }
     ensures schema { IfOk result (λ schema. schema ≡ is_some (schema_definition_in (definitions_of (map listed_view texts.now)))) }
     ensures faults { OnOk result (faults_of faults.new ≡ faults_of faults.old ++ collision_faults (seen_view built_in.now) (definitions_of (map listed_view texts.now))) }
 {

@@ -16,7 +16,7 @@ use Rattle.schema_fold.specs.in_schema_types.SchemaTree.{SchemaType, same_kind}
 use Rattle.schema_fold.specs.in_schema_types.TypeParts.{TypeParts, TypeDefinition, type_here, type_extension_here}
 use Rattle.schema_fold.specs.in_schema_types.Plain.{plain_directive_definition}
 use Rattle.schema_fold.specs.in_schema_types.Out.{written_directive, written_type}
-use Rattle.schema_fold.specs.Listed.{Definitions, Listed, listed, numbered, type_name, types_in, directive_here, directive_name, directives_in}
+use Rattle.schema_fold.specs.Listed.{Definitions, Listed, listed_after, numbered, type_name, types_in, directive_here, directive_name, directives_in}
 use Rattle.schema_fold.specs.Components.{go_together, extension_here, parts_of}
 use Rattle.schema_fold.specs.Fold.{folded_type, folded_types, folded_directives}
 use Rattle.verdict_written_laws.specs.Table.{AreOwn}
@@ -57,7 +57,7 @@ module _ (first : ℕ) where
   counted : (ds : Definitions) → length (filter is_extension (unplaced_document ds)) ≡ length (filter is_extension ds)
   counted ds = ap length (map-filter unplaced_definition is_extension is_extension extension_unplaced ds) ∙ length-map (filter is_extension ds) unplaced_definition
 
-  one : (before : Definitions) (d : DefinitionTree Place) → unplaced_listed (listed first before d) ∷ [] ≡ number_here (unplaced_document before) (unplaced_definition d)
+  one : (before : Definitions) (d : DefinitionTree Place) → unplaced_listed (listed_after first before d) ∷ [] ≡ number_here (unplaced_document before) (unplaced_definition d)
   one before d = by (is_extension d) ∙ (λ i. (unplaced_definition d, if sym (extension_unplaced d) i then Some (record { number = first + sym (counted before) i; place = tt }) else None) ∷ [])
     where
       by : (b : Bool) → ◌≡◌ {A = List Numbered} ((unplaced_definition d, option_map forget.extension (if b then Some (record { number = first + length (filter is_extension before); place = definition_place d }) else None)) ∷ [])
@@ -65,7 +65,7 @@ module _ (first : ℕ) where
       by true = refl
       by false = refl
 
-  numbers_after : (before ds : Definitions) → map unplaced_listed (each_place_after (λ b d. listed first b d ∷ []) before ds) ≡ each_place_after number_here (unplaced_document before) (unplaced_document ds)
+  numbers_after : (before ds : Definitions) → map unplaced_listed (each_place_after (λ b d. listed_after first b d ∷ []) before ds) ≡ each_place_after number_here (unplaced_document before) (unplaced_document ds)
   numbers_after before [] = refl
   numbers_after before (d ∷ ds) = λ i. one before d i ++ (numbers_after (before ++ d ∷ []) ds ∙ ap (λ us. each_place_after number_here us (unplaced_document ds)) (map-append unplaced_definition before (d ∷ []))) i
 

@@ -86,18 +86,18 @@ module _ (built_in : Definitions) (i j : ℕ) (ds es : Definitions) (r : IsRearr
   to_there : (sort : DefinitionTree Place → Bool) → AgreeOn sort ds es → (before : Definitions) (d : DefinitionTree Place) → StandsAfter ds before d → sort d ≡ true → Moved sort before d
   to_there sort agree before d stands is = moved unplaced_definition sort ds es agree before d stands is
 
-  executable_too : (fault : BuildFault) → rule.Somewhere built_in ds rule.ExecutableDefinitionAt fault → ToldToo There fault
+  executable_too : (fault : BuildFault) → rule.BreaksSomewhere built_in ds rule.ExecutableDefinitionAt fault → ToldToo There fault
   executable_too fault (before, (d, ((after, stands), (is, says)))) =
       let any : list_any is_executable ds ≡ true = ap (list_any is_executable) stands ∙ list_any-append is_executable before (d ∷ after) ∙ ap (λ b. list_any is_executable before || (b || list_any is_executable after)) is ∙ or_true (list_any is_executable before) in
       let (front, (e, (stands', is'))) = any_stands is_executable es (sym r.executables ∙ any) in
       (At e rule.ExecutableDefinition, (rule.executable_definition (front, (e, (stands', (is', refl)))), told_of says))
 
-  schema_too : (fault : BuildFault) → rule.Somewhere built_in ds rule.SchemaDefinitionCollisionAt fault → ToldToo There fault
+  schema_too : (fault : BuildFault) → rule.BreaksSomewhere built_in ds rule.SchemaDefinitionCollisionAt fault → ToldToo There fault
   schema_too fault (before, (d, (stands, (is, seen, says)))) =
       let p = to_there defines_schema r.schemas before d stands is in
       (At p.it rule.SchemaDefinitionCollision, (rule.schema_definition_collision (p.front, (p.it, (p.stands, (p.sorted, first_too p.front before p.front_same ∙ seen, refl)))), told_of says))
 
-  directive_too : (fault : BuildFault) → rule.Somewhere built_in ds rule.DirectiveDefinitionCollisionAt fault → ToldToo There fault
+  directive_too : (fault : BuildFault) → rule.BreaksSomewhere built_in ds rule.DirectiveDefinitionCollisionAt fault → ToldToo There fault
   directive_too fault (before, (d, (stands, (own, (here, seen, told))))) =
       let n = directive_name own in
       let p = to_there (defines_directive n) (r.directives n) before d stands (ap (λ o. option_map_or (λ x. bytes_eq n (directive_name x)) o false) here ∙ (bytes_eq-Decides n n).1 refl) in
@@ -123,13 +123,13 @@ module _ (built_in : Definitions) (i j : ℕ) (ds es : Definitions) (r : IsRearr
       ∙ sym (has_name-filter type_name unplaced_type_definition n (types_in (built_in ++ before))) ∙ seen in
       (p.front, (p.it, (u, (p.stands, ((here', seen'), names)))))
 
-  type_too : (fault : BuildFault) → rule.Somewhere built_in ds (rule.TypeDefinitionCollisionAt built_in ds) fault → ToldToo There fault
+  type_too : (fault : BuildFault) → rule.BreaksSomewhere built_in ds (rule.TypeDefinitionCollisionAt built_in ds) fault → ToldToo There fault
   type_too fault (before, (d, (stands, (t, (second, scalar, told))))) =
       let (front, (e, (u, (stands', (second', names))))) = type_moved before d t stands second in
       let fails : There (At e (rule.TypeDefinitionCollision (type_name u))) = rule.type_definition_collision (front, (e, (stands', (u, (second', ap (is_built_in_scalar built_in ds) names ∙ scalar, refl))))) in
       (At e (rule.TypeDefinitionCollision (type_name u)), (fails, ap rule.TypeDefinitionCollision names ∙ told_of told))
 
-  scalar_too : (fault : BuildFault) → rule.Somewhere built_in ds (rule.BuiltInScalarTypeRedefinitionAt built_in ds) fault → ToldToo There fault
+  scalar_too : (fault : BuildFault) → rule.BreaksSomewhere built_in ds (rule.BuiltInScalarTypeRedefinitionAt built_in ds) fault → ToldToo There fault
   scalar_too fault (before, (d, (stands, (t, (second, scalar, told))))) =
       let (front, (e, (u, (stands', (second', names))))) = type_moved before d t stands second in
       let fails : There (At e (rule.BuiltInScalarTypeRedefinition (type_name u))) = rule.built_in_scalar_type_redefinition (front, (e, (stands', (u, (second', ap (is_built_in_scalar built_in ds) names ∙ scalar, refl))))) in
@@ -146,7 +146,7 @@ module _ (built_in : Definitions) (i j : ℕ) (ds es : Definitions) (r : IsRearr
   schema_defined : schema_is_defined (built_in ++ ds) ≡ schema_is_defined (built_in ++ es)
   schema_defined = defined i j (built_in ++ ds) (built_in ++ es) types (schemas_same (built_in ++ ds) (built_in ++ es) all) (schema_extensions_same (built_in ++ ds) (built_in ++ es) all)
 
-  schema_extension_too : (fault : BuildFault) → rule.Somewhere built_in ds (rule.OrphanSchemaExtensionAt built_in ds) fault → ToldToo There fault
+  schema_extension_too : (fault : BuildFault) → rule.BreaksSomewhere built_in ds (rule.OrphanSchemaExtensionAt built_in ds) fault → ToldToo There fault
   schema_extension_too fault (before, (d, (stands, (is, none, told)))) =
       let p = to_there is_schema_extension r.schema_extensions before d stands is in
       (At p.it rule.OrphanSchemaExtension, (rule.orphan_schema_extension (p.front, (p.it, (p.stands, (p.sorted, sym schema_defined ∙ none, refl)))), told_of told))
@@ -160,7 +160,7 @@ module _ (built_in : Definitions) (i j : ℕ) (ds es : Definitions) (r : IsRearr
       let (e', (here', same)) = given_too type_extension_here type_extension_here unplaced_parts type_extension_unplaced d p.it p.same e here in
       (p.front, (p.it, (e', (p.stands, (here', same)))))
 
-  orphan_too : (fault : BuildFault) → rule.Somewhere built_in ds (rule.OrphanTypeExtensionAt built_in ds) fault → ToldToo There fault
+  orphan_too : (fault : BuildFault) → rule.BreaksSomewhere built_in ds (rule.OrphanTypeExtensionAt built_in ds) fault → ToldToo There fault
   orphan_too fault (before, (d, (stands, (e, (here, none, told))))) =
       let (front, (d', (e', (stands', (here', same))))) = extension_moved before d e stands here in
       let names : e'.name.it ≡ e.name.it = ap (λ (x : TypeParts (Unit {0})). x.name.it) same in
@@ -169,7 +169,7 @@ module _ (built_in : Definitions) (i j : ℕ) (ds es : Definitions) (r : IsRearr
       let fails : There (At d' (rule.OrphanTypeExtension e'.name.it)) = rule.orphan_type_extension (front, (d', (stands', (e', (here', none', refl))))) in
       (At d' (rule.OrphanTypeExtension e'.name.it), (fails, ap rule.OrphanTypeExtension names ∙ told_of told))
 
-  mismatch_too : (fault : BuildFault) → rule.Somewhere built_in ds (rule.TypeExtensionKindMismatchAt built_in ds) fault → ToldToo There fault
+  mismatch_too : (fault : BuildFault) → rule.BreaksSomewhere built_in ds (rule.TypeExtensionKindMismatchAt built_in ds) fault → ToldToo There fault
   mismatch_too fault (before, (d, (stands, (e, (t, (here, is, differ, told)))))) =
       let (front, (d', (e', (stands', (here', same))))) = extension_moved before d e stands here in
       let names : e'.name.it ≡ e.name.it = ap (λ (x : TypeParts (Unit {0})). x.name.it) same in

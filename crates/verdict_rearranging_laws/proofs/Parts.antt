@@ -19,7 +19,7 @@ use Rattle.schema_fold.proofs.in_components.NamedEquality.{by_bytes-IsAntisymmet
 use Rattle.schema_fold.specs.in_schema_types.SchemaTree.{SchemaType, same_kind}
 use Rattle.schema_fold.specs.in_schema_types.TypeParts.{TypeParts, TypeDefinition, type_here, type_extension_here}
 use Rattle.schema_fold.specs.in_schema_types.Plain.{PlainType, plain_type}
-use Rattle.schema_fold.specs.Listed.{Definitions, listed, numbered, type_name, types_in, type_named}
+use Rattle.schema_fold.specs.Listed.{Definitions, listed_after, numbered, type_name, types_in, type_named}
 use Rattle.schema_fold.specs.Components.{all_given, go_together, extension_here, parts_of, components, field_key, value_key, input_key, keyed_firsts}
 use Rattle.schema_fold.specs.Fold.{folded_type, folded_types}
 use Rattle.verdict_rearranging_laws.proofs.Gathered.{map-filter, find-filter, get-of_firsts, map_of_firsts, set_of_firsts}
@@ -79,15 +79,15 @@ module _ (defined : TypeParts Place) (first : ℕ) where
   abbrev extends : List (TypeParts Place) → List (TypeParts Place)
   extends es = filter (of_kind defined) (filter (extends_called defined.name.it) es)
 
-  pub parts_after : (before ds : Definitions) → map (λ (g : Given Place (TypeParts Place)). g.it) (flat_map (extension_here defined) (each_place_after (λ b d. listed first b d ∷ []) before ds)) ≡ extends (extensions_in ds)
+  pub parts_after : (before ds : Definitions) → map (λ (g : Given Place (TypeParts Place)). g.it) (flat_map (extension_here defined) (each_place_after (λ b d. listed_after first b d ∷ []) before ds)) ≡ extends (extensions_in ds)
   parts_after before [] = refl
   parts_after before (d ∷ ds) =
-      map-append (λ (g : Given Place (TypeParts Place)). g.it) (extension_here defined (listed first before d)) (flat_map (extension_here defined) (each_place_after (λ b e. listed first b e ∷ []) (before ++ d ∷ []) ds))
-      ∙ ap (λ l. map (λ (g : Given Place (TypeParts Place)). g.it) (extension_here defined (listed first before d)) ++ l) (parts_after (before ++ d ∷ []) ds)
+      map-append (λ (g : Given Place (TypeParts Place)). g.it) (extension_here defined (listed_after first before d)) (flat_map (extension_here defined) (each_place_after (λ b e. listed_after first b e ∷ []) (before ++ d ∷ []) ds))
+      ∙ ap (λ l. map (λ (g : Given Place (TypeParts Place)). g.it) (extension_here defined (listed_after first before d)) ++ l) (parts_after (before ++ d ∷ []) ds)
       ∙ by (type_extension_here d)
     where
       by_tests : (e : TypeParts Place) (a b : Bool)
-          → map (λ (g : Given Place (TypeParts Place)). g.it) (if a && b then record { extension = (listed first before d).extension; it = e } ∷ [] else []) ++ extends (extensions_in ds)
+          → map (λ (g : Given Place (TypeParts Place)). g.it) (if a && b then record { extension = (listed_after first before d).extension; it = e } ∷ [] else []) ++ extends (extensions_in ds)
           ≡ cond a (cond b (e ∷ extends (extensions_in ds)) (extends (extensions_in ds))) (extends (extensions_in ds))
       by_tests e true true = refl
       by_tests e true false = refl
@@ -98,7 +98,7 @@ module _ (defined : TypeParts Place) (first : ℕ) where
       filtered e false l = refl
 
       by : (o : Option (TypeParts Place))
-          → map (λ (g : Given Place (TypeParts Place)). g.it) (option_map_or (λ parts. if go_together defined parts then record { extension = (listed first before d).extension; it = parts } ∷ [] else []) o []) ++ extends (extensions_in ds)
+          → map (λ (g : Given Place (TypeParts Place)). g.it) (option_map_or (λ parts. if go_together defined parts then record { extension = (listed_after first before d).extension; it = parts } ∷ [] else []) o []) ++ extends (extensions_in ds)
           ≡ extends (option_to_list o ++ extensions_in ds)
       by None = refl
       by (Some e) = by_tests e (extends_called defined.name.it e) (of_kind defined e) ∙ filtered e (extends_called defined.name.it e) (filter (extends_called defined.name.it) (extensions_in ds))

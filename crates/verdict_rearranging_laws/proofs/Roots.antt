@@ -22,7 +22,7 @@ use Rattle.schema_fold.specs.in_schema_types.SchemaTree.{same_kind}
 use Rattle.schema_fold.specs.in_schema_types.declared.type_kind.TypeKind.TheVariants as kind
 use Rattle.schema_fold.specs.in_schema_types.TypeParts.{TypeDefinition}
 use Rattle.schema_fold.specs.in_schema_types.Plain.{plain_roots, plain_directive_definition}
-use Rattle.schema_fold.specs.Listed.{Definitions, listed, numbered, type_named, directive_here, directive_name, directives_in}
+use Rattle.schema_fold.specs.Listed.{Definitions, listed_after, numbered, type_named, directive_here, directive_name, directives_in}
 use Rattle.schema_fold.specs.Components.{all_given}
 use Rattle.schema_fold.specs.SchemaFold.{Root, SchemaGiver, schema_here, schema_extension_here, schema_definition_in, is_object_in, implicit_roots, schema_is_defined, schema_base, extends_schema, schema_parts_given, roots_given, root_key, root_in, folded_schema}
 use Rattle.schema_fold.specs.Fold.{chosen_directive, folded_directives}
@@ -115,14 +115,14 @@ abbrev it_of : Part → SchemaParts (Unit {0})
 it_of g = unplaced_schema g.it
 
 -- the parts of schema extensions
-extended_after : (first : ℕ) (before ds : Definitions) → map it_of (flat_map extends_schema (each_place_after (λ b d. listed first b d ∷ []) before ds)) ≡ map unplaced_schema (schema_extensions_in ds)
+extended_after : (first : ℕ) (before ds : Definitions) → map it_of (flat_map extends_schema (each_place_after (λ b d. listed_after first b d ∷ []) before ds)) ≡ map unplaced_schema (schema_extensions_in ds)
 extended_after first before [] = refl
 extended_after first before (d ∷ ds) =
-    map-append it_of (extends_schema (listed first before d)) (flat_map extends_schema (each_place_after (λ b e. listed first b e ∷ []) (before ++ d ∷ []) ds))
+    map-append it_of (extends_schema (listed_after first before d)) (flat_map extends_schema (each_place_after (λ b e. listed_after first b e ∷ []) (before ++ d ∷ []) ds))
     ∙ (λ i. by (schema_extension_here d) i ++ extended_after first (before ++ d ∷ []) ds i)
     ∙ sym (map-append unplaced_schema (option_to_list (schema_extension_here d)) (schema_extensions_in ds))
   where
-    by : (o : Option (SchemaParts Place)) → map it_of (all_given (listed first before d).extension (option_to_list o)) ≡ map unplaced_schema (option_to_list o)
+    by : (o : Option (SchemaParts Place)) → map it_of (all_given (listed_after first before d).extension (option_to_list o)) ≡ map unplaced_schema (option_to_list o)
     by None = refl
     by (Some s) = refl
 

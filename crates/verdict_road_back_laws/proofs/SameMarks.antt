@@ -13,7 +13,7 @@ use Rattle.schema_fold.proofs.in_components.Places.{Contains-first, Contains-res
 use Rattle.schema_types.specs.SchemaTree.{SchemaType}
 use Rattle.schema_types.specs.TypeParts.{TypeParts, TypeDefinition, type_extension_here}
 use Rattle.schema_types.specs.Addresses.{Address, TypeAt, DirectiveDefinitionAt, FieldAt, ValueAt, InputAt, ArgumentAt, under, or_nothing, place_of, in_type, is_marked}
-use Rattle.schema_fold.specs.Listed.{Definitions, listed, numbered, type_name, types_in}
+use Rattle.schema_fold.specs.Listed.{Definitions, listed_after, numbered, type_name, types_in}
 use Rattle.schema_fold.specs.Components.{all_given, go_together, extension_here, components, field_key, value_key, input_key, keyed_firsts}
 use Rattle.schema_fold.specs.Fold.{folded_type, folded_directives, fold}
 use Rattle.schema_fold.specs.BuildErrors.{FoldingRules}
@@ -40,18 +40,18 @@ table_extends (d ∷ ds) h = ((λ e is. absurd (let bad = sym h.0 ∙ is in cc))
 
 -- what extensions give to a type stands elsewhere
 given_elsewhere : (defined : TypeParts Place) (first : ℕ) (before ds : Definitions) → Each ExtendsElsewhere ds
-    → Each (λ (g : Given Place (TypeParts Place)). ArePartsElsewhere g.it) (flat_map (extension_here defined) (each_place_after (λ b d. listed first b d ∷ []) before ds))
+    → Each (λ (g : Given Place (TypeParts Place)). ArePartsElsewhere g.it) (flat_map (extension_here defined) (each_place_after (λ b d. listed_after first b d ∷ []) before ds))
 given_elsewhere defined first before [] h = tt
 given_elsewhere defined first before (d ∷ ds) h =
-    Each-append (λ (g : Given Place (TypeParts Place)). ArePartsElsewhere g.it) (extension_here defined (listed first before d)) (flat_map (extension_here defined) (each_place_after (λ b e. listed first b e ∷ []) (before ++ d ∷ []) ds))
+    Each-append (λ (g : Given Place (TypeParts Place)). ArePartsElsewhere g.it) (extension_here defined (listed_after first before d)) (flat_map (extension_here defined) (each_place_after (λ b e. listed_after first b e ∷ []) (before ++ d ∷ []) ds))
     (one (type_extension_here d) h.0) (given_elsewhere defined first (before ++ d ∷ []) ds h.1)
   where
-    by : (e : TypeParts Place) (b : Bool) → ArePartsElsewhere e → Each (λ (g : Given Place (TypeParts Place)). ArePartsElsewhere g.it) (if b then record { extension = (listed first before d).extension; it = e } ∷ [] else [])
+    by : (e : TypeParts Place) (b : Bool) → ArePartsElsewhere e → Each (λ (g : Given Place (TypeParts Place)). ArePartsElsewhere g.it) (if b then record { extension = (listed_after first before d).extension; it = e } ∷ [] else [])
     by e true k = (k, tt)
     by e false k = tt
 
     one : (o : Option (TypeParts Place)) → ((e : TypeParts Place) → o ≡ Some e → ArePartsElsewhere e)
-        → Each (λ (g : Given Place (TypeParts Place)). ArePartsElsewhere g.it) (option_map_or (λ parts. if go_together defined parts then record { extension = (listed first before d).extension; it = parts } ∷ [] else []) o [])
+        → Each (λ (g : Given Place (TypeParts Place)). ArePartsElsewhere g.it) (option_map_or (λ parts. if go_together defined parts then record { extension = (listed_after first before d).extension; it = parts } ∷ [] else []) o [])
     one None k = tt
     one (Some e) k = by e (go_together defined e) (k e refl)
 

@@ -11,7 +11,7 @@ use Rattle.tree_definitions.specs.Queries.{is_extension, definition_place}
 use Rattle.schema_components.specs.Lists.{each_place_after}
 use Rattle.schema_components.specs.Given.{Given, ExtensionTree}
 use Rattle.schema_types.specs.TypeParts.{TypeParts, type_extension_here}
-use Rattle.schema_fold.specs.Listed.{Definitions, Listed, listed, numbered, extension_number}
+use Rattle.schema_fold.specs.Listed.{Definitions, Listed, listed_after, numbered, extension_number}
 use Rattle.schema_fold.specs.Components.{go_together, extension_here}
 use Rattle.verdict_written_laws.specs.Whole.{Extension, extensions_in}
 use Rattle.verdict_written_laws.proofs.Whole.{Numbered, NumberedOf, as_given, AscendFrom, lower}
@@ -26,7 +26,7 @@ extension_is (tree.ExtendInputObject q t) p e = refl
 extension_is _ p e = cc
 
 abbrev numbered_after : ℕ → Definitions → Definitions → List Listed
-numbered_after first before ds = each_place_after (λ before d. listed first before d ∷ []) before ds
+numbered_after first before ds = each_place_after (λ before d. listed_after first before d ∷ []) before ds
 
 -- without its number
 abbrev pub unnumbered : {Q : Type 0} → NumberedOf Q → Placed Place Q
@@ -60,8 +60,8 @@ module _ {Q : Type 0} (here : DefinitionTree Place → Option Q) (pick : Q → B
   all_given_after : (first : ℕ) (before ds : Definitions) → flat_map (λ l. here_of l.extension (here l.definition)) (numbered_after first before ds) ≡ map as_given (pairs_by (numbered_after first before ds))
   all_given_after first before [] = refl
   all_given_after first before (d ∷ ds) =
-      (λ i. one_given (listed first before d).extension (extension_tree_of first before d) (here d) (λ p e. ap (λ b. if b then Some (extension_tree_of first before d) else None) (is d p e)) i ++ all_given_after first (before ++ d ∷ []) ds i)
-      ∙ sym (map-append as_given (pair_of (listed first before d).extension (here d)) (pairs_by (numbered_after first (before ++ d ∷ []) ds)))
+      (λ i. one_given (listed_after first before d).extension (extension_tree_of first before d) (here d) (λ p e. ap (λ b. if b then Some (extension_tree_of first before d) else None) (is d p e)) i ++ all_given_after first (before ++ d ∷ []) ds i)
+      ∙ sym (map-append as_given (pair_of (listed_after first before d).extension (here d)) (pairs_by (numbered_after first (before ++ d ∷ []) ds)))
 
   pub given_by_numbers : (first : ℕ) (ds : Definitions) → flat_map (λ l. here_of l.extension (here l.definition)) (numbered first ds) ≡ map as_given (pairs_by (numbered first ds))
   given_by_numbers first ds = all_given_after first [] ds
@@ -129,8 +129,8 @@ module _ {Q : Type 0} (here : DefinitionTree Place → Option Q) (pick : Q → B
   placed_after : (first : ℕ) (before ds : Definitions) → map unnumbered (pairs_by (numbered_after first before ds)) ≡ flat_map (λ d. option_map_or (λ parts. if pick parts then record { it = parts; place = definition_place d } ∷ [] else []) (here d) []) ds
   placed_after first before [] = refl
   placed_after first before (d ∷ ds) =
-      map-append unnumbered (pair_of (listed first before d).extension (here d)) (pairs_by (numbered_after first (before ++ d ∷ []) ds))
-      ∙ (λ i. one_placed (listed first before d).extension (extension_tree_of first before d) (here d) (λ p e. ap (λ b. if b then Some (extension_tree_of first before d) else None) (is d p e)) i ++ placed_after first (before ++ d ∷ []) ds i)
+      map-append unnumbered (pair_of (listed_after first before d).extension (here d)) (pairs_by (numbered_after first (before ++ d ∷ []) ds))
+      ∙ (λ i. one_placed (listed_after first before d).extension (extension_tree_of first before d) (here d) (λ p e. ap (λ b. if b then Some (extension_tree_of first before d) else None) (is d p e)) i ++ placed_after first (before ++ d ∷ []) ds i)
 
   pub unnumbered_by : (first : ℕ) (ds : Definitions) → map unnumbered (pairs_by (numbered first ds)) ≡ flat_map (λ d. option_map_or (λ parts. if pick parts then record { it = parts; place = definition_place d } ∷ [] else []) (here d) []) ds
   unnumbered_by first ds = placed_after first [] ds
