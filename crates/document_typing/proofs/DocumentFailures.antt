@@ -13,7 +13,7 @@ use Rattle.tree_definitions.specs.Queries.{definition_place}
 use Rattle.schema_types.specs.in_components.Lists.{each_place, StandsAfter, AtSomePlace, firsts, has_name}
 use Rattle.schema_types.proofs.in_components.Places.{not_in_nil, only, is_only, found_at, given_at}
 use Rattle.document_typing.specs.Meanings.{Meanings}
-use Rattle.document_typing.specs.KeptDocument.{Based, based_operation, anonymous_here, named_here, fragment_here, text_of, operation_name, fragment_name, kept_anonymous, kept_named, kept_operations, kept_fragments}
+use Rattle.document_typing.specs.KeptDocument.{Based, based_operation, anonymous_here, named_here, fragment_here, text_or_empty, operation_name, fragment_name, kept_anonymous, kept_named, kept_operations, kept_fragments}
 use Rattle.document_typing.specs.TypingFaults as rule
 use Rattle.document_typing.specs.TypingFaults.{TypingFault, typing_fault_at, is_operation, TypeSystemDefinition, AmbiguousAnonymousOperation, OperationNameCollision, FragmentNameCollision, UndefinedRootOperation, UndefinedTypeInNamedFragmentTypeCondition, SetFails, DefinitionBreaks, TypingFails}
 use Rattle.document_typing.specs.SetFaults.{set_faults}
@@ -167,7 +167,7 @@ module _ {P : Type 0} (m : Meanings) (ds : List (DefinitionTree P)) (f : TypingF
         | inr b ↦ at-root before p o at known (m.root o.operation_type) refl
             (λ t re k. Contains-append_right (option_to_list (kept_anonymous m ds)) (kept_named m ds) (based p t o)
             (kept-given (named_here m) operation_name (one-named m) ds before (Operation p o) (based p t o) at
-            (called-here m beside before p o n e (Some t) re) (ap (λ x. has_name operation_name x (kept_named m before)) (ap text_of e) ∙ k))) b
+            (called-here m beside before p o n e (Some t) re) (ap (λ x. has_name operation_name x (kept_named m before)) (ap text_or_empty e) ∙ k))) b
       ]
 
   from-condition : (before : List (DefinitionTree P)) (p : P) (g : FragmentTree P) → StandsAfter ds before (Fragment p g) → (known there : Bool) → has_name fragment_name g.name.it (kept_fragments m before) ≡ known → m.has_type g.type_condition.it ≡ there
@@ -261,7 +261,7 @@ module _ {P : Type 0} (m : Meanings) (ds : List (DefinitionTree P)) (f : TypingF
         by None re c = absurd (not_in_nil b c)
         by (Some t) re c =
             let same : b ≡ based p t o = only (based p t o) b c in
-            let new : has_name operation_name n.it (kept_named m before) ≡ false = ap (λ x. has_name operation_name x (kept_named m before)) (sym (ap text_of e) ∙ sym (ap operation_name same)) ∙ k in
+            let new : has_name operation_name n.it (kept_named m before) ≡ false = ap (λ x. has_name operation_name x (kept_named m before)) (sym (ap text_or_empty e) ∙ sym (ap operation_name same)) ∙ k in
             Contains-append_right (faults_if (has_name operation_name n.it (kept_named m before)) (typing_fault_at p (OperationNameCollision n.it))) (root_faults m beside p o (has_name operation_name n.it (kept_named m before)) (m.root o.operation_type)) f
             (subst (λ r. Contains (root_faults m beside p o (has_name operation_name n.it (kept_named m before)) r) f) (sym re)
             (subst (λ q. Contains (if q then [] else set_faults m o.selections t) f) (sym new)

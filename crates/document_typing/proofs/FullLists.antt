@@ -14,7 +14,7 @@ use Rattle.schema_types.specs.in_components.Lists.{StandsAfter, has_name}
 use Rattle.document_typing.specs.MeantTree.{Definition, MeantField, MeantInline, set_on}
 use Rattle.document_typing.specs.Meanings.{Meanings, inner_type}
 use Rattle.document_typing.specs.KeptSelections.{is_leaf, may_select, kept, kept_all}
-use Rattle.document_typing.specs.KeptDocument.{anonymous_here, text_of, operation_name, fragment_name, kept_anonymous, kept_named, kept_fragments}
+use Rattle.document_typing.specs.KeptDocument.{anonymous_here, text_or_empty, operation_name, fragment_name, kept_anonymous, kept_named, kept_fragments}
 use Rattle.document_typing.specs.TypingFaults as rule
 use Rattle.document_typing.specs.TypingFaults.{TypingFault, typing_fault_at, is_operation, TypeSystemDefinition, AmbiguousAnonymousOperation, OperationNameCollision, FragmentNameCollision, UndefinedRootOperation, UndefinedTypeInNamedFragmentTypeCondition, UndefinedField, SubselectionOnScalarType, SubselectionOnEnumType, UndefinedTypeInInlineFragmentTypeCondition, SelectionBreaks, SetFails, DefinitionBreaks, TypingFails}
 use Rattle.document_typing.specs.FullList.{is_kept, TellsSet, TellsAll}
@@ -87,16 +87,16 @@ module _ {P : Type 0} (m : Meanings) (ds : List (DefinitionTree P)) where
   pub not-kept : (before : List (DefinitionTree P)) (d : DefinitionTree P) → StandsAfter ds before d → is_kept m before d ≡ false → (f : TypingFault P) × DefinitionBreaks m ds before d f
   not-kept before (Operation p o) (after, at) h = by (m.root o.operation_type) refl h
     where
-      by_name : (x : Option (Text P)) → o.name ≡ x → (if is_none x then is_some (kept_anonymous m before) else has_name operation_name (text_of x) (kept_named m before)) ≡ true
+      by_name : (x : Option (Text P)) → o.name ≡ x → (if is_none x then is_some (kept_anonymous m before) else has_name operation_name (text_or_empty x) (kept_named m before)) ≡ true
           → (f : TypingFault P) × DefinitionBreaks m ds before (Operation p o) f
       by_name None e k =
           (typing_fault_at p AmbiguousAnonymousOperation, rule.ambiguous_anonymous_operation (e, subst (λ l. 1 < length (filter is_operation l)) (sym at) (count-two before after p o (some-operation m before k)), refl))
       by_name (Some n) e k = (typing_fault_at p (OperationNameCollision n.it), rule.operation_name_collision (n, (e, k, refl)))
 
-      by : (r : Option (List ℕ)) → m.root o.operation_type ≡ r → (is_some r && not (if is_none o.name then is_some (kept_anonymous m before) else has_name operation_name (text_of o.name) (kept_named m before))) ≡ false
+      by : (r : Option (List ℕ)) → m.root o.operation_type ≡ r → (is_some r && not (if is_none o.name then is_some (kept_anonymous m before) else has_name operation_name (text_or_empty o.name) (kept_named m before))) ≡ false
           → (f : TypingFault P) × DefinitionBreaks m ds before (Operation p o) f
       by None re h = (typing_fault_at p (UndefinedRootOperation o.operation_type), rule.undefined_root_operation (re, refl))
-      by (Some t) re h = by_name o.name refl (not-so (if is_none o.name then is_some (kept_anonymous m before) else has_name operation_name (text_of o.name) (kept_named m before)) h)
+      by (Some t) re h = by_name o.name refl (not-so (if is_none o.name then is_some (kept_anonymous m before) else has_name operation_name (text_or_empty o.name) (kept_named m before)) h)
   not-kept before (Fragment p g) at h = by (m.has_type g.type_condition.it) refl h
     where
       by : (b : Bool) → m.has_type g.type_condition.it ≡ b → (b && not (has_name fragment_name g.name.it (kept_fragments m before))) ≡ false → (f : TypingFault P) × DefinitionBreaks m ds before (Fragment p g) f

@@ -12,7 +12,7 @@ use Rattle.tree_definitions.specs.Queries.{definition_place}
 use Rattle.schema_types.specs.in_components.Lists.{each_place, has_name}
 use Rattle.schema_types.proofs.in_components.Places.{each_place-push}
 use Rattle.document_typing.specs.Meanings.{Meanings}
-use Rattle.document_typing.specs.KeptDocument.{Based, based_operation, anonymous_here, named_here, fragment_here, text_of, operation_name, fragment_name, kept_anonymous, kept_named, kept_fragments, meant_operation, meant_fragment, named_entry, fragment_entry, kept_document}
+use Rattle.document_typing.specs.KeptDocument.{Based, based_operation, anonymous_here, named_here, fragment_here, text_or_empty, operation_name, fragment_name, kept_anonymous, kept_named, kept_fragments, meant_operation, meant_fragment, named_entry, fragment_entry, kept_document}
 use Rattle.document_typing.specs.TypingFaults.{TypingFault, typing_fault_at, is_operation, TypeSystemDefinition, AmbiguousAnonymousOperation, OperationNameCollision, FragmentNameCollision, UndefinedRootOperation, UndefinedTypeInNamedFragmentTypeCondition}
 use Rattle.document_typing.specs.SetFaults.{set_faults}
 use Rattle.document_typing.specs.Steps.{Typed, told, faults_if, based, is_under, with_anonymous, with_named, with_fragment, and_operation, and_fragment, and_definition, typed_in}
@@ -135,7 +135,7 @@ module _ {P : Type 0} (m : Meanings) (beside : Bool) where
     called-anonymous = ap (λ x. if is_none x then based_operation m p o else []) e
 
     name-is : (t : List ℕ) → operation_name (based p t o) ≡ n.it
-    name-is t = ap text_of e
+    name-is t = ap text_or_empty e
 
     called-told : (b : Bool) (r : Option (List ℕ)) → known ≡ b → m.root o.operation_type ≡ r → faults_at before (Operation p o) ≡ collision ++ root_faults p o b r
     called-told b r k re = ap (operation_faults before p o) e ∙ (λ i. collision ++ root_faults p o (k i) (re i))

@@ -10,7 +10,7 @@ use Rattle.schema_types.proofs.in_components.Places.{not_in_nil, only, is_only, 
 use Rattle.document_typing.specs.MeantTree.{Definition, MeantSelection, MeantField, MeantInline, meant_set, no_meant, members, set_on}
 use Rattle.document_typing.specs.Meanings.{Meanings, inner_type}
 use Rattle.document_typing.specs.KeptSelections.{is_leaf, may_select, kept, kept_all}
-use Rattle.document_typing.specs.KeptDocument.{Based, anonymous_here, named_here, fragment_here, text_of, operation_name, fragment_name, kept_anonymous, kept_named, kept_fragments, meant_operation, meant_fragment, named_entry, fragment_entry, kept_document}
+use Rattle.document_typing.specs.KeptDocument.{Based, anonymous_here, named_here, fragment_here, text_or_empty, operation_name, fragment_name, kept_anonymous, kept_named, kept_fragments, meant_operation, meant_fragment, named_entry, fragment_entry, kept_document}
 use Rattle.document_typing.specs.TypedByPlace.{AreTyped, IsOnRoot, IsOnCondition, IsTypedDocument}
 use Rattle.document_typing.specs.Steps.{based}
 use Rattle.document_typing.proofs.SetFailures.{if-told}
@@ -129,7 +129,7 @@ module _ {P : Type 0} (m : Meanings) where
         let x = from_map (named_entry m) (kept_named m ds) e c in
         let y = kept-found (named_here m) operation_name (one-named m) ds x.0 x.1.0 in
         let r = named-rooted y.1.0 x.0 (subst (λ l. Contains l x.0) (sym y.1.1.1.0) (is_only x.0 x.0 refl)) in
-        subst (λ z. (is_none z.1.name ≡ false) × ((z.0 ≡ text_of z.1.name) × IsOnRoot m z.1)) (sym x.1.1) (r.0, (refl, on-root false x.0 r));
+        subst (λ z. (is_none z.1.name ≡ false) × ((z.0 ≡ text_or_empty z.1.name) × IsOnRoot m z.1)) (sym x.1.1) (r.0, (refl, on-root false x.0 r));
     fragments = λ e c.
         let x = from_map (fragment_entry m) (kept_fragments m ds) e c in
         let y = kept-found (fragment_here m) fragment_name (one-fragment m) ds x.0 x.1.0 in

@@ -15,11 +15,11 @@ use Rattle.schema_types.proofs.in_components.Places.{is_only}
 use Rattle.document_typing.specs.MeantTree.{Definition, MeantSelection, MeantField, MeantSpread, MeantInline, members, set_on}
 use Rattle.document_typing.specs.Meanings.{Meanings, inner_type}
 use Rattle.document_typing.specs.KeptSelections.{may_select, kept, kept_all}
-use Rattle.document_typing.specs.KeptDocument.{Based, anonymous_here, named_here, fragment_here, text_of, operation_name, fragment_name, kept_anonymous, kept_named, kept_operations, kept_fragments, meant_operation, meant_fragment, named_entry, fragment_entry, kept_document}
+use Rattle.document_typing.specs.KeptDocument.{Based, anonymous_here, named_here, fragment_here, text_or_empty, operation_name, fragment_name, kept_anonymous, kept_named, kept_operations, kept_fragments, meant_operation, meant_fragment, named_entry, fragment_entry, kept_document}
 use Rattle.document_typing.specs.TypingFaults as rule
 use Rattle.document_typing.specs.TypingFaults.{TypingFault, SelectionBreaks, StandsIn, SetFails, TypingFails, TypingRules}
 use Rattle.document_typing.specs.FullList.{is_kept}
-use Rattle.document_typing.specs.OutDoc.{is_anonymous, is_named_operation, is_fragment, out_doc, written_selection, written_selections, written_operation, written_fragment, written_document}
+use Rattle.document_typing.specs.OutDoc.{is_anonymous, is_named_operation, is_fragment_definition, out_doc, written_selection, written_selections, written_operation, written_fragment, written_document}
 use Rattle.document_typing.specs.Steps.{based}
 use Rattle.document_typing.proofs.FullLists.{left-out, not-kept}
 use Rattle.document_typing.proofs.DocumentFailures.{fresh, kept-places, kept-given, first-places, first-given, one-anonymous, one-named, one-fragment}
@@ -165,7 +165,7 @@ module _ {P : Type 0} (m : Meanings) (ds : List (DefinitionTree P)) (sound : Typ
   anonymous_at before d = if is_some (kept_anonymous m before) then [] else anonymous_here m d
 
   nameless-whole : (before : List (DefinitionTree P)) (p : P) (o : OperationTree P) → StandsAfter ds before (Operation p o) → (n : Bool) → is_none o.name ≡ n → (a : Bool) → is_some (kept_anonymous m before) ≡ a
-      → (r : Option (List ℕ)) → m.root o.operation_type ≡ r → (is_some r && not (if n then a else has_name operation_name (text_of o.name) (kept_named m before))) ≡ true
+      → (r : Option (List ℕ)) → m.root o.operation_type ≡ r → (is_some r && not (if n then a else has_name operation_name (text_or_empty o.name) (kept_named m before))) ≡ true
       → map written (if a then [] else (if n then option_to_list (option_map (λ t. based p t o) r) else [])) ≡ (if n then Operation p o ∷ [] else [])
   nameless-whole before p o at false kn true ka r kr k = refl
   nameless-whole before p o at false kn false ka r kr k = refl
@@ -186,7 +186,7 @@ module _ {P : Type 0} (m : Meanings) (ds : List (DefinitionTree P)) (sound : Typ
   abbrev named_at : List (DefinitionTree P) → DefinitionTree P → List (Based P (OperationTree P))
   named_at before d = fresh (named_here m) operation_name (one-named m) before (named_here m d)
 
-  called-whole : (before : List (DefinitionTree P)) (p : P) (o : OperationTree P) → StandsAfter ds before (Operation p o) → (n : Bool) → is_none o.name ≡ n → (c : Bool) → has_name operation_name (text_of o.name) (kept_named m before) ≡ c
+  called-whole : (before : List (DefinitionTree P)) (p : P) (o : OperationTree P) → StandsAfter ds before (Operation p o) → (n : Bool) → is_none o.name ≡ n → (c : Bool) → has_name operation_name (text_or_empty o.name) (kept_named m before) ≡ c
       → (r : Option (List ℕ)) → m.root o.operation_type ≡ r → (is_some r && not (if n then is_some (kept_anonymous m before) else c)) ≡ true
       → map written (fresh (named_here m) operation_name (one-named m) before (if n then [] else option_to_list (option_map (λ t. based p t o) r))) ≡ (if not n then Operation p o ∷ [] else [])
   called-whole before p o at true kn c kc r kr k = refl
@@ -200,7 +200,7 @@ module _ {P : Type 0} (m : Meanings) (ds : List (DefinitionTree P)) (sound : Typ
 
   named-whole : (before : List (DefinitionTree P)) (d : DefinitionTree P) → StandsAfter ds before d → map written (named_at before d) ≡ (if is_named_operation d then d ∷ [] else [])
   named-whole before (Operation p o) at =
-      called-whole before p o at (is_none o.name) refl (has_name operation_name (text_of o.name) (kept_named m before)) refl (m.root o.operation_type) refl (all-kept before (Operation p o) at)
+      called-whole before p o at (is_none o.name) refl (has_name operation_name (text_or_empty o.name) (kept_named m before)) refl (m.root o.operation_type) refl (all-kept before (Operation p o) at)
   named-whole before d at = refl
 
   -- ---- a fragment
@@ -222,7 +222,7 @@ module _ {P : Type 0} (m : Meanings) (ds : List (DefinitionTree P)) (sound : Typ
       ap (λ b. map fragment_written (if b then [] else on_condition p g ∷ [])) kc
       ∙ ap (λ ts. Fragment p (record g { selections = ts }) ∷ []) (whole-set m g.selections g.type_condition.it (λ f x. sound f (rule.in_named_fragment (on_condition p g) stands x)))
 
-  fragment-whole : (before : List (DefinitionTree P)) (d : DefinitionTree P) → StandsAfter ds before d → map fragment_written (fragment_at before d) ≡ (if is_fragment d then d ∷ [] else [])
+  fragment-whole : (before : List (DefinitionTree P)) (d : DefinitionTree P) → StandsAfter ds before d → map fragment_written (fragment_at before d) ≡ (if is_fragment_definition d then d ∷ [] else [])
   fragment-whole before (Fragment p g) at =
       conditioned-whole before p g at (m.has_type g.type_condition.it) refl (has_name fragment_name g.name.it (kept_fragments m before)) refl (all-kept before (Fragment p g) at)
   fragment-whole before d at = refl
@@ -238,8 +238,8 @@ module _ {P : Type 0} (m : Meanings) (ds : List (DefinitionTree P)) (sound : Typ
       map-map (λ e. written_operation e.1) (named_entry m) (kept_named m ds)
       ∙ ap (map written) (kept-places (named_here m) operation_name (one-named m) ds)
       ∙ places-filter named_at written is_named_operation ds named-whole in
-      let fragments : map (λ e. written_fragment e.1) (map (fragment_entry m) (kept_fragments m ds)) ≡ filter is_fragment ds =
+      let fragments : map (λ e. written_fragment e.1) (map (fragment_entry m) (kept_fragments m ds)) ≡ filter is_fragment_definition ds =
       map-map (λ e. written_fragment e.1) (fragment_entry m) (kept_fragments m ds)
       ∙ ap (map fragment_written) (kept-places (fragment_here m) fragment_name (one-fragment m) ds)
-      ∙ places-filter fragment_at fragment_written is_fragment ds fragment-whole in
+      ∙ places-filter fragment_at fragment_written is_fragment_definition ds fragment-whole in
       λ i. anonymous i ++ named i ++ fragments i

@@ -8,14 +8,14 @@ use Rattle.tree_definitions.specs.DefinitionTree.{DefinitionTree, Operation, Fra
 use Rattle.schema_types.specs.in_components.Lists.{StandsAfter, has_name}
 use Rattle.document_typing.specs.Meanings.{Meanings}
 use Rattle.document_typing.specs.KeptSelections.{kept}
-use Rattle.document_typing.specs.KeptDocument.{text_of, operation_name, fragment_name, kept_anonymous, kept_named, kept_operations, kept_fragments}
+use Rattle.document_typing.specs.KeptDocument.{text_or_empty, operation_name, fragment_name, kept_anonymous, kept_named, kept_operations, kept_fragments}
 use Rattle.document_typing.specs.TypingFaults.{TypingFault, typing_fault_at, StandsIn, SelectionBreaks, DefinitionBreaks, is_operation, AmbiguousAnonymousOperation}
 
 module _ {P : Type 0} where
   -- the definition, which stands behind these, is kept: its root or type condition is there, and no kept one before it has its name
   abbrev pub is_kept : Meanings → List (DefinitionTree P) → DefinitionTree P → Bool
   is_kept m before (Operation p o) = is_some (m.root o.operation_type)
-      && not (if is_none o.name then is_some (kept_anonymous m before) else has_name operation_name (text_of o.name) (kept_named m before))
+      && not (if is_none o.name then is_some (kept_anonymous m before) else has_name operation_name (text_or_empty o.name) (kept_named m before))
   is_kept m before (Fragment p f) = m.has_type f.type_condition.it && not (has_name fragment_name f.name.it (kept_fragments m before))
   is_kept m before _ = false
 

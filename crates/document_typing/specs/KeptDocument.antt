@@ -39,12 +39,12 @@ module _ {P : Type 0} where
   fragment_here m (Fragment p f) = based_fragment m p f
   fragment_here m _ = []
 
-  abbrev pub text_of : Option (Text P) → List ℕ
-  text_of None = []
-  text_of (Some n) = n.it
+  abbrev pub text_or_empty : Option (Text P) → List ℕ
+  text_or_empty None = []
+  text_or_empty (Some n) = n.it
 
   abbrev pub operation_name : Based P (OperationTree P) → List ℕ
-  operation_name o = text_of o.it.name
+  operation_name o = text_or_empty o.it.name
 
   abbrev pub fragment_name : Based P (FragmentTree P) → List ℕ
   fragment_name f = f.it.name.it
@@ -65,8 +65,8 @@ module _ {P : Type 0} where
 
   -- ---- and what it means
 
-  abbrev pub operation_with : P → OperationTree P → MeantSet P → MeantOperation P
-  operation_with p o set = record {
+  abbrev pub meant_operation_with : P → OperationTree P → MeantSet P → MeantOperation P
+  meant_operation_with p o set = record {
     place = p;
     operation_type = o.operation_type;
     name = o.name;
@@ -75,8 +75,8 @@ module _ {P : Type 0} where
     set = set;
   }
 
-  abbrev pub fragment_with : P → FragmentTree P → Text P → MeantSet P → MeantFragment P
-  fragment_with p f condition set = record {
+  abbrev pub meant_fragment_with : P → FragmentTree P → Text P → MeantSet P → MeantFragment P
+  meant_fragment_with p f condition set = record {
     place = p;
     name = f.name;
     type_condition = condition;
@@ -85,10 +85,10 @@ module _ {P : Type 0} where
   }
 
   abbrev pub meant_operation : Meanings → Based P (OperationTree P) → MeantOperation P
-  meant_operation m o = operation_with o.place o.it (set_on o.base (kept_all m o.it.selections o.base))
+  meant_operation m o = meant_operation_with o.place o.it (set_on o.base (kept_all m o.it.selections o.base))
 
   abbrev pub meant_fragment : Meanings → Based P (FragmentTree P) → MeantFragment P
-  meant_fragment m f = fragment_with f.place f.it f.it.type_condition (set_on f.base (kept_all m f.it.selections f.base))
+  meant_fragment m f = meant_fragment_with f.place f.it f.it.type_condition (set_on f.base (kept_all m f.it.selections f.base))
 
   abbrev pub named_entry : Meanings → Based P (OperationTree P) → List ℕ × MeantOperation P
   named_entry m o = (operation_name o, meant_operation m o)

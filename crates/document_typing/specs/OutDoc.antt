@@ -16,13 +16,13 @@ module _ {P : Type 0} where
   is_named_operation (Operation p o) = not (is_none o.name)
   is_named_operation _ = false
 
-  abbrev pub is_fragment : DefinitionTree P → Bool
-  is_fragment (Fragment p f) = true
-  is_fragment _ = false
+  abbrev pub is_fragment_definition : DefinitionTree P → Bool
+  is_fragment_definition (Fragment p f) = true
+  is_fragment_definition _ = false
 
   -- of a document as read
   abbrev pub out_doc : List (DefinitionTree P) → List (DefinitionTree P)
-  out_doc ds = filter is_anonymous ds ++ filter is_named_operation ds ++ filter is_fragment ds
+  out_doc ds = filter is_anonymous ds ++ filter is_named_operation ds ++ filter is_fragment_definition ds
 
 -- ---- of a document with its meaning: the same without definitions and types
 

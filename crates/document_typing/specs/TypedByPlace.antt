@@ -4,7 +4,7 @@ use Rattle.tree_operations.specs.OperationLayout.{is_none}
 use Rattle.document_typing.specs.MeantTree.{MeantSelection, MeantField, MeantSpread, MeantInline, MeantSet, meant_set, MeantSelections, no_meant, meant_then, MeantOperation, MeantFragment, MeantDocument}
 use Rattle.document_typing.specs.Meanings.{Meanings, inner_type}
 use Rattle.document_typing.specs.KeptSelections.{is_leaf}
-use Rattle.document_typing.specs.KeptDocument.{text_of}
+use Rattle.document_typing.specs.KeptDocument.{text_or_empty}
 
 abbrev mutual
   -- a selection that stands under the type t
@@ -34,5 +34,5 @@ module _ {P : Type 0} (m : Meanings) where
   -- a document of these, each with a name under its own
   pub record IsTypedDocument (d : MeantDocument P) : Type 0 where
     pub anonymous : (o : MeantOperation P) → d.anonymous ≡ Some o → (is_none o.name ≡ true) × IsOnRoot o
-    pub named : (e : List ℕ × MeantOperation P) → Contains d.named e → (is_none e.1.name ≡ false) × ((e.0 ≡ text_of e.1.name) × IsOnRoot e.1)
+    pub named : (e : List ℕ × MeantOperation P) → Contains d.named e → (is_none e.1.name ≡ false) × ((e.0 ≡ text_or_empty e.1.name) × IsOnRoot e.1)
     pub fragments : (e : List ℕ × MeantFragment P) → Contains d.fragments e → (e.0 ≡ e.1.name.it) × IsOnCondition e.1

@@ -5,7 +5,7 @@ use Rattle.std.specs.List.{flat_map}
 use Rattle.std.proofs.lemmas.List.Elements.{Contains-append_left, Contains-append_right, Contains-append_cases}
 use Rattle.graphql_names.specs.Placed.{Text}
 use Rattle.document_typed_selections.specs.TypedTree.{TypedSelection, TypedField, TypedSpread, TypedInline, TypedSet, typed_set, TypedSelections, no_typed, typed_then, set_type, typed_selections_list}
-use Rattle.document_walks.specs.Reached.{NamedSet, Fragments, Member, members_of, members_in, members_along, selections_in, own_selections, inner_sets, spread_names, Spreads, fragment_named, Reached, by_start, by_fragment, ReachedSet, from_start, from_inner, from_spread, IsReached, IsMemberWalk}
+use Rattle.document_walks.specs.Reached.{NamedSet, Fragments, Member, members_of, members_in, members_along, selections_in, own_selections, inner_sets, spread_names, Spreads, fragment_named, ReachedFragment, by_start, by_fragment, ReachedSet, from_start, from_inner, from_spread, IsReached, IsMemberWalk}
 use Rattle.document_walks.specs.Left.{bare_selections}
 use Rattle.document_walks.proofs.Finding.{not_in_nil, Contains-cons, Contains-first, Contains-rest}
 use Rattle.document_walks.proofs.Passing.{bare_in}
@@ -110,7 +110,7 @@ module _ {P : Type 0} (nested : Bool) where
         let at = inside_set t r m.0 m.1.0 in
         from_spread at.0 m.0.1 n f.0 at.1.0 at.1.1.1 m.1.1 is
 
-    fragment_set : (f : NamedSet P) → Reached nested fs start f → ReachedSet nested fs start f.1
+    fragment_set : (f : NamedSet P) → ReachedFragment nested fs start f → ReachedSet nested fs start f.1
     fragment_set f (by_start n h is) = spread_set start from_start n h f is
     fragment_set f (by_fragment g n r h is) = spread_set g.1 (fragment_set g r) n h f is
 
@@ -120,9 +120,9 @@ module _ {P : Type 0} (nested : Bool) where
       -- a set is lent, and what it spreads is reached
       record Covered (t : TypedSet P) : Type 0 where
         lent : (e : Member P) → Contains (members_in nested t) e → Contains given e
-        spread : (n : List ℕ) → Spreads nested t n → (f : NamedSet P) → fragment_named fs n ≡ Some f → Reached nested fs start f
+        spread : (n : List ℕ) → Spreads nested t n → (f : NamedSet P) → fragment_named fs n ≡ Some f → ReachedFragment nested fs start f
 
-      covered_fragment : (f : NamedSet P) → Reached nested fs start f → Covered f.1
+      covered_fragment : (f : NamedSet P) → ReachedFragment nested fs start f → Covered f.1
       covered_fragment f r = record {
         lent = λ e c. subst (λ l. Contains l e) (sym walk.members)
             (Contains-append_right (members_in nested start) (flat_map (λ (g : NamedSet P). members_in nested g.1) walk.order) e (to_all (λ (g : NamedSet P). members_in nested g.1) walk.order f e ((walk.reached f).1 r) c));

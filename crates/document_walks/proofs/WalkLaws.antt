@@ -12,7 +12,7 @@ use Rattle.document_typed_operations.specs.TypedDocument.{typed_document_tree}
 use Rattle.document_typed_operations.specs.declared.document.ExecutableDocument.{ExecutableDocument}
 use Rattle.document_typed_selections.specs.TypedTree.{TypedSet}
 use Rattle.document_typed_selections.specs.TypedParts.{typed_field_node, as_typed_field}
-use Rattle.document_walks.specs.Reached.{NamedSet, Fragments, Member, document_fragments, fields_in, IsWalk, IsReachedField}
+use Rattle.document_walks.specs.Reached.{NamedSet, Fragments, Member, document_fragments, fields_of_set, IsWalk, IsReachedField}
 use Rattle.document_walks.specs.Left.{fields_among}
 use Rattle.document_walks.specs.WalkView.{fragments_tree}
 use Rattle.document_walks.specs.Lending.{Lends, LendsNext, items_at_most}
@@ -89,12 +89,12 @@ pub lends_reached : {P : Type 0} (nested : Bool) (fragments : Fragments P) (star
 lends_reached {P} nested fragments start given walk x = (there, back)
   where
     there : Contains given x → IsReachedField nested fragments start x
-    there c = elim (Contains-append_cases (fields_in nested start) (flat_map (λ (f : NamedSet P). fields_in nested f.1) walk.order) x (subst (λ l. Contains l x) walk.fields c)) [
+    there c = elim (Contains-append_cases (fields_of_set nested start) (flat_map (λ (f : NamedSet P). fields_of_set nested f.1) walk.order) x (subst (λ l. Contains l x) walk.fields c)) [
       | inl a ↦ inl a
-      | inr b ↦ let y = from_one (λ (f : NamedSet P). fields_in nested f.1) walk.order x b in inr (y.0, ((walk.reached y.0).0 y.1.0, y.1.1))
+      | inr b ↦ let y = from_one (λ (f : NamedSet P). fields_of_set nested f.1) walk.order x b in inr (y.0, ((walk.reached y.0).0 y.1.0, y.1.1))
     ]
 
     back : IsReachedField nested fragments start x → Contains given x
-    back (inl a) = subst (λ l. Contains l x) (sym walk.fields) (Contains-append_left (fields_in nested start) (flat_map (λ (f : NamedSet P). fields_in nested f.1) walk.order) x a)
+    back (inl a) = subst (λ l. Contains l x) (sym walk.fields) (Contains-append_left (fields_of_set nested start) (flat_map (λ (f : NamedSet P). fields_of_set nested f.1) walk.order) x a)
     back (inr (f, (r, c))) = subst (λ l. Contains l x) (sym walk.fields)
-        (Contains-append_right (fields_in nested start) (flat_map (λ (f : NamedSet P). fields_in nested f.1) walk.order) x (to_all (λ (f : NamedSet P). fields_in nested f.1) walk.order f x ((walk.reached f).1 r) c))
+        (Contains-append_right (fields_of_set nested start) (flat_map (λ (f : NamedSet P). fields_of_set nested f.1) walk.order) x (to_all (λ (f : NamedSet P). fields_of_set nested f.1) walk.order f x ((walk.reached f).1 r) c))

@@ -15,8 +15,8 @@ use Rattle.std.proofs.lemmas.Map.Steps.{length-le_from_distinct_below}
 use Rattle.std.proofs.lemmas.Option.{slice_get_past, slice_get_within}
 use Rattle.std.proofs.lemmas.Slice.Eq.{bytes_eq-Decides}
 use Rattle.document_typed_selections.specs.TypedTree.{TypedSet}
-use Rattle.document_walks.specs.Reached.{NamedSet, Fragments, Member, members_in, selections_in, is_field, fields_in, spread_names, Spreads, fragment_named, Reached, by_start, by_fragment, IsWalk, IsMemberWalk}
-use Rattle.document_walks.specs.Left.{note, note_all, selections_at, members_at, left_after, bare_selections, fields_among, left_members, at_start}
+use Rattle.document_walks.specs.Reached.{NamedSet, Fragments, Member, members_in, selections_in, is_field, fields_of_set, spread_names, Spreads, fragment_named, ReachedFragment, by_start, by_fragment, IsWalk, IsMemberWalk}
+use Rattle.document_walks.specs.Left.{note, note_all, selections_at, members_at, left_in_fragments, bare_selections, fields_among, left_members, at_start}
 use Rattle.document_walks.proofs.Finding.{position-map, none_is_some, some_is, FoundAt, found_at, place_of_found, not_in_nil, Contains-cons, Contains-first}
 use Rattle.document_walks.proofs.Passing.{map-append, members_in-list, bare_in}
 
@@ -82,7 +82,7 @@ pub record Known {P : Type 0} (nested : Bool) (fs : Fragments P) (start : TypedS
   pub fragment : NamedSet P
   pub stands : slice_get fs i ≡ Some fragment
   pub place : place_in fs fragment.0 ≡ Some i
-  pub reached : Reached nested fs start fragment
+  pub reached : ReachedFragment nested fs start fragment
 
 -- reached fragments, each once
 pub record Good {P : Type 0} (nested : Bool) (fs : Fragments P) (start : TypedSet P) (is : List ℕ) : Type 0 where
@@ -116,12 +116,12 @@ abbrev pub entry_if : {P : Type 0} → Option (NamedSet P) → List (NamedSet P)
 entry_if o = option_map_or (λ f. f ∷ []) o []
 
 module _ {P : Type 0} (nested : Bool) (fs : Fragments P) (start : TypedSet P) where
-  left_entering : (room : ℕ) (noted : List ℕ) (e : ℕ) → left_after nested fs room noted e ≡ flat_map (members_at nested fs) (entering nested fs room noted e)
+  left_entering : (room : ℕ) (noted : List ℕ) (e : ℕ) → left_in_fragments nested fs room noted e ≡ flat_map (members_at nested fs) (entering nested fs room noted e)
   left_entering zero noted e = refl
   left_entering (suc room) noted e = by (slice_get noted e) (λ i. left_entering room (note_all fs noted (selections_at nested fs i)) (e + 1))
     where
-      by : (o : Option ℕ) → ((i : ℕ) → left_after nested fs room (note_all fs noted (selections_at nested fs i)) (e + 1) ≡ flat_map (members_at nested fs) (entering nested fs room (note_all fs noted (selections_at nested fs i)) (e + 1)))
-          → option_map_or (λ i. members_at nested fs i ++ left_after nested fs room (note_all fs noted (selections_at nested fs i)) (e + 1)) o []
+      by : (o : Option ℕ) → ((i : ℕ) → left_in_fragments nested fs room (note_all fs noted (selections_at nested fs i)) (e + 1) ≡ flat_map (members_at nested fs) (entering nested fs room (note_all fs noted (selections_at nested fs i)) (e + 1)))
+          → option_map_or (λ i. members_at nested fs i ++ left_in_fragments nested fs room (note_all fs noted (selections_at nested fs i)) (e + 1)) o []
           ≡ flat_map (members_at nested fs) (option_map_or (λ i. i ∷ entering nested fs room (note_all fs noted (selections_at nested fs i)) (e + 1)) o [])
       by None further = refl
       by (Some i) further = ap (λ l. members_at nested fs i ++ l) (further i)
@@ -129,7 +129,7 @@ module _ {P : Type 0} (nested : Bool) (fs : Fragments P) (start : TypedSet P) wh
   at_place : (n : List ℕ) (i : ℕ) → place_in fs n ≡ Some i → FoundAt (λ (f : NamedSet P). bytes_eq n f.0) fs i
   at_place n i h = found_at (λ (f : NamedSet P). bytes_eq n f.0) fs i (sym (position-map (λ (f : NamedSet P). f.0) (bytes_eq n) fs) ∙ h)
 
-  known_at : (n : List ℕ) (i : ℕ) → place_in fs n ≡ Some i → ((f : NamedSet P) → fragment_named fs n ≡ Some f → Reached nested fs start f) → Known nested fs start i
+  known_at : (n : List ℕ) (i : ℕ) → place_in fs n ≡ Some i → ((f : NamedSet P) → fragment_named fs n ≡ Some f → ReachedFragment nested fs start f) → Known nested fs start i
   known_at n i h reached = let at = at_place n i h in record {
     fragment = at.item;
     stands = at.stands;
@@ -148,7 +148,7 @@ module _ {P : Type 0} (nested : Bool) (fs : Fragments P) (start : TypedSet P) wh
   within_fragments : (is : List ℕ) → Good nested fs start is → length is ≤ length fs
   within_fragments is good = length-le_from_distinct_below is (length fs) good.distinct (λ i h. let k = known_of is i good.known h in slice_get_within fs i k.fragment k.stands)
 
-  note_one : (old : List ℕ) (n : List ℕ) → Good nested fs start old → ((f : NamedSet P) → fragment_named fs n ≡ Some f → Reached nested fs start f) → Notes nested fs start old (n ∷ []) (note fs old n)
+  note_one : (old : List ℕ) (n : List ℕ) → Good nested fs start old → ((f : NamedSet P) → fragment_named fs n ≡ Some f → ReachedFragment nested fs start f) → Notes nested fs start old (n ∷ []) (note fs old n)
   note_one old n good reached = by (place_in fs n) refl
     where
       only : (m : List ℕ) → Contains (n ∷ []) m → n ≡ m
@@ -183,7 +183,7 @@ module _ {P : Type 0} (nested : Bool) (fs : Fragments P) (start : TypedSet P) wh
       }
       by (Some i) is = placed i is (has i old) refl
 
-  note_names : (names : List (List ℕ)) (old : List ℕ) → Good nested fs start old → ((n : List ℕ) → Contains names n → (f : NamedSet P) → fragment_named fs n ≡ Some f → Reached nested fs start f) → Notes nested fs start old names (fold (note fs) old names)
+  note_names : (names : List (List ℕ)) (old : List ℕ) → Good nested fs start old → ((n : List ℕ) → Contains names n → (f : NamedSet P) → fragment_named fs n ≡ Some f → ReachedFragment nested fs start f) → Notes nested fs start old names (fold (note fs) old names)
   note_names [] old good reached = record {
     more = [];
     is = sym (append-nil old);
@@ -204,7 +204,7 @@ module _ {P : Type 0} (nested : Bool) (fs : Fragments P) (start : TypedSet P) wh
       }
 
   -- what a known fragment spreads is reached
-  spread_reached : (i : ℕ) → Known nested fs start i → (n : List ℕ) → Contains (flat_map spread_names (selections_at nested fs i)) n → (f : NamedSet P) → fragment_named fs n ≡ Some f → Reached nested fs start f
+  spread_reached : (i : ℕ) → Known nested fs start i → (n : List ℕ) → Contains (flat_map spread_names (selections_at nested fs i)) n → (f : NamedSet P) → fragment_named fs n ≡ Some f → ReachedFragment nested fs start f
   spread_reached i k n h f named = by_fragment k.fragment n k.reached
       (subst (λ (o : Option (NamedSet P)). Contains (flat_map spread_names (option_map_or (λ g. selections_in nested g.1) o [])) n) k.stands h) named
 
@@ -299,15 +299,15 @@ module _ {P : Type 0} (nested : Bool) (fs : Fragments P) (start : TypedSet P) wh
       (once is known.1 (IsDistinct-tail nat_eq i is apart)))
 
   -- what stands in the order is reached
-  order_reached : (is : List ℕ) → AllByRecursion (Known nested fs start) is → (f : NamedSet P) → Contains (flat_map (λ i. entry_if (slice_get fs i)) is) f → Reached nested fs start f
+  order_reached : (is : List ℕ) → AllByRecursion (Known nested fs start) is → (f : NamedSet P) → Contains (flat_map (λ i. entry_if (slice_get fs i)) is) f → ReachedFragment nested fs start f
   order_reached [] known f h = absurd (not_in_nil f h)
   order_reached (i ∷ is) known f h = by (Contains-append_cases (known.0.fragment ∷ []) (flat_map (λ j. entry_if (slice_get fs j)) is) f (subst (λ (o : Option (NamedSet P)). Contains (entry_if o ++ flat_map (λ j. entry_if (slice_get fs j)) is) f) known.0.stands h)) (order_reached is known.1 f)
     where
-      this : (known.0.fragment ≡ f) ⊎ Contains [] f → Reached nested fs start f
-      this (inl e) = subst (Reached nested fs start) e known.0.reached
+      this : (known.0.fragment ≡ f) ⊎ Contains [] f → ReachedFragment nested fs start f
+      this (inl e) = subst (ReachedFragment nested fs start) e known.0.reached
       this (inr e) = absurd (not_in_nil f e)
 
-      by : Contains (known.0.fragment ∷ []) f ⊎ Contains (flat_map (λ j. entry_if (slice_get fs j)) is) f → (Contains (flat_map (λ j. entry_if (slice_get fs j)) is) f → Reached nested fs start f) → Reached nested fs start f
+      by : Contains (known.0.fragment ∷ []) f ⊎ Contains (flat_map (λ j. entry_if (slice_get fs j)) is) f → (Contains (flat_map (λ j. entry_if (slice_get fs j)) is) f → ReachedFragment nested fs start f) → ReachedFragment nested fs start f
       by (inl e) further = this (Contains-cons known.0.fragment [] f e)
       by (inr e) further = further e
 
@@ -332,7 +332,7 @@ module _ {P : Type 0} (nested : Bool) (fs : Fragments P) (start : TypedSet P) wh
 
   -- what is reached stands among the places, if what the start spreads does, and what they spread does
   stands_in : (is : List ℕ) → ((n : List ℕ) → Spreads nested start n → (i : ℕ) → place_in fs n ≡ Some i → has i is ≡ true) → ((i : ℕ) → has i is ≡ true → SpreadsAmong nested fs is i)
-      → (f : NamedSet P) → Reached nested fs start f → StandsIn is f
+      → (f : NamedSet P) → ReachedFragment nested fs start f → StandsIn is f
   stands_in is from closed f (by_start n spread named) =
       let found = place_named n f named in
       (found.0, (from n spread found.0 found.1.0, found.1.1))
@@ -366,9 +366,9 @@ module _ {P : Type 0} (nested : Bool) (fs : Fragments P) (start : TypedSet P) wh
   left_of_start : left_members (at_start nested fs start) ≡ members_in nested start ++ flat_map (λ (f : NamedSet P). members_in nested f.1) (flat_map (λ i. entry_if (slice_get fs i)) entered_all)
   left_of_start =
       let room : length fs - 0 ≡ length fs = omega arith in
-      ap (λ l. l ++ left_after nested fs (length fs - 0) (note_all fs [] (bare_selections l)) 0) (sym (members_in-list nested start))
-      ∙ ap (λ l. members_in nested start ++ left_after nested fs (length fs - 0) (note_all fs [] l) 0) (bare_in nested start)
-      ∙ ap (λ r. members_in nested start ++ left_after nested fs r first_noted 0) room
+      ap (λ l. l ++ left_in_fragments nested fs (length fs - 0) (note_all fs [] (bare_selections l)) 0) (sym (members_in-list nested start))
+      ∙ ap (λ l. members_in nested start ++ left_in_fragments nested fs (length fs - 0) (note_all fs [] l) 0) (bare_in nested start)
+      ∙ ap (λ r. members_in nested start ++ left_in_fragments nested fs r first_noted 0) room
       ∙ ap (λ l. members_in nested start ++ l) (left_entering (length fs) first_noted 0 ∙ members_order entered_all)
 
   pub whole : IsMemberWalk nested fs start (left_members (at_start nested fs start))
@@ -384,13 +384,13 @@ module _ {P : Type 0} (nested : Bool) (fs : Fragments P) (start : TypedSet P) wh
 
   -- ---- the fields among them
 
-  among_in : (s : TypedSet P) → fields_among (members_in nested s) ≡ fields_in nested s
+  among_in : (s : TypedSet P) → fields_among (members_in nested s) ≡ fields_of_set nested s
   among_in s = ap (filter is_field) (bare_in nested s)
 
   among-append : (xs ys : List (Member P)) → fields_among (xs ++ ys) ≡ fields_among xs ++ fields_among ys
   among-append xs ys = ap (filter is_field) (map-append (λ (e : Member P). e.1) xs ys) ∙ filter-append is_field (bare_selections xs) (bare_selections ys)
 
-  among_each : (gs : List (NamedSet P)) → fields_among (flat_map (λ (f : NamedSet P). members_in nested f.1) gs) ≡ flat_map (λ (f : NamedSet P). fields_in nested f.1) gs
+  among_each : (gs : List (NamedSet P)) → fields_among (flat_map (λ (f : NamedSet P). members_in nested f.1) gs) ≡ flat_map (λ (f : NamedSet P). fields_of_set nested f.1) gs
   among_each [] = refl
   among_each (g ∷ gs) = among-append (members_in nested g.1) (flat_map (λ (f : NamedSet P). members_in nested f.1) gs) ∙ (λ i. among_in g.1 i ++ among_each gs i)
 

@@ -35,15 +35,15 @@ module _ {P : Type 0} where
 
   -- the selections in the fragments that are noted and not entered, and in those that are noted on the way, as long as
   -- no more than so many are entered
-  abbrev pub left_after : Bool → Fragments P → ℕ → List ℕ → ℕ → List (Member P)
-  left_after nested fragments zero noted entered = []
-  left_after nested fragments (suc room) noted entered = option_map_or
-      (λ place. members_at nested fragments place ++ left_after nested fragments room (note_all fragments noted (selections_at nested fragments place)) (entered + 1))
+  abbrev pub left_in_fragments : Bool → Fragments P → ℕ → List ℕ → ℕ → List (Member P)
+  left_in_fragments nested fragments zero noted entered = []
+  left_in_fragments nested fragments (suc room) noted entered = option_map_or
+      (λ place. members_at nested fragments place ++ left_in_fragments nested fragments room (note_all fragments noted (selections_at nested fragments place)) (entered + 1))
       (slice_get noted entered) []
 
   -- a selection and what stands in it
-  abbrev pub all_in : Bool → Member P → List (Member P)
-  all_in nested e = members_of nested e.0 e.1
+  abbrev pub members_from : Bool → Member P → List (Member P)
+  members_from nested e = members_of nested e.0 e.1
 
   -- selections without the types of their sets
   abbrev pub bare_selections : List (Member P) → List (TypedSelection P)
@@ -58,12 +58,12 @@ module _ {P : Type 0} where
   own_members s = map (λ x. (set_type s, x)) (own_selections s)
 
   -- the pending selections and what stands in them
-  abbrev pub standing_in : WalkState P → List (Member P)
-  standing_in w = flat_map (all_in w.nested) w.pending
+  abbrev pub pending_members : WalkState P → List (Member P)
+  pending_members w = flat_map (members_from w.nested) w.pending
 
   -- the selections that are left
   abbrev pub left_members : WalkState P → List (Member P)
-  left_members w = standing_in w ++ left_after w.nested w.fragments (length w.fragments - w.entered) (note_all w.fragments w.noted (bare_selections (standing_in w))) w.entered
+  left_members w = pending_members w ++ left_in_fragments w.nested w.fragments (length w.fragments - w.entered) (note_all w.fragments w.noted (bare_selections (pending_members w))) w.entered
 
   -- the same, with one more selection to come first, with more of them, or with a name noted
   abbrev pub with_next : Member P → WalkState P → WalkState P

@@ -47,8 +47,8 @@ module _ {P : Type 0} where
   spread_names (TypedInline p c ds s) = []
 
   -- the field occurrences of one set, in the order of the text
-  abbrev pub fields_in : Bool → TypedSet P → List (TypedSelection P)
-  fields_in nested s = filter is_field (selections_in nested s)
+  abbrev pub fields_of_set : Bool → TypedSet P → List (TypedSelection P)
+  fields_of_set nested s = filter is_field (selections_in nested s)
 
   -- a set spreads the fragment of that name
   abbrev pub Spreads : Bool → TypedSet P → List ℕ → Type 0
@@ -59,21 +59,21 @@ module _ {P : Type 0} where
   fragment_named fragments n = find (λ f. bytes_eq n f.0) fragments
 
 -- the least set of fragments that has each one that the start spreads, and each one that one of the set spreads
-pub data Reached {P : Type 0} (nested : Bool) (fragments : Fragments P) (start : TypedSet P) : NamedSet P → Type 0 where
-  by_start : {f : NamedSet P} (n : List ℕ) → Spreads nested start n → fragment_named fragments n ≡ Some f → Reached nested fragments start f
-  by_fragment : {f : NamedSet P} (g : NamedSet P) (n : List ℕ) → Reached nested fragments start g → Spreads nested g.1 n → fragment_named fragments n ≡ Some f → Reached nested fragments start f
+pub data ReachedFragment {P : Type 0} (nested : Bool) (fragments : Fragments P) (start : TypedSet P) : NamedSet P → Type 0 where
+  by_start : {f : NamedSet P} (n : List ℕ) → Spreads nested start n → fragment_named fragments n ≡ Some f → ReachedFragment nested fragments start f
+  by_fragment : {f : NamedSet P} (g : NamedSet P) (n : List ℕ) → ReachedFragment nested fragments start g → Spreads nested g.1 n → fragment_named fragments n ≡ Some f → ReachedFragment nested fragments start f
 
 -- each field occurrence of the start and of each reached fragment, once: those of the start, and then those of one
 -- reached fragment after the other, in some order of the fragments
 pub record IsWalk {P : Type 0} (nested : Bool) (fragments : Fragments P) (start : TypedSet P) (given : List (TypedSelection P)) : Type 0 where
   pub order : List (NamedSet P)
-  pub reached : (f : NamedSet P) → Contains order f ↔ Reached nested fragments start f
+  pub reached : (f : NamedSet P) → Contains order f ↔ ReachedFragment nested fragments start f
   pub once : IsDistinct bytes_eq (map (λ f. f.0) order)
-  pub fields : given ≡ fields_in nested start ++ flat_map (λ f. fields_in nested f.1) order
+  pub fields : given ≡ fields_of_set nested start ++ flat_map (λ f. fields_of_set nested f.1) order
 
 -- a field occurrence of the start or of a reached fragment
 abbrev pub IsReachedField : {P : Type 0} → Bool → Fragments P → TypedSet P → TypedSelection P → Type 0
-IsReachedField {P} nested fragments start x = Contains (fields_in nested start) x ⊎ ((f : NamedSet P) × (Reached nested fragments start f × Contains (fields_in nested f.1) x))
+IsReachedField {P} nested fragments start x = Contains (fields_of_set nested start) x ⊎ ((f : NamedSet P) × (ReachedFragment nested fragments start f × Contains (fields_of_set nested f.1) x))
 
 -- a selection, and before it the name of the type of the set in which it stands
 abbrev pub Member : Type 0 → Type 0
@@ -123,6 +123,6 @@ IsReachedFragment {P} nested fragments start n = IsSome (fragment_named fragment
 -- fragment after the other, in some order of the fragments
 pub record IsMemberWalk {P : Type 0} (nested : Bool) (fragments : Fragments P) (start : TypedSet P) (given : List (Member P)) : Type 0 where
   pub order : List (NamedSet P)
-  pub reached : (f : NamedSet P) → Contains order f ↔ Reached nested fragments start f
+  pub reached : (f : NamedSet P) → Contains order f ↔ ReachedFragment nested fragments start f
   pub once : IsDistinct bytes_eq (map (λ f. f.0) order)
   pub members : given ≡ members_in nested start ++ flat_map (λ f. members_in nested f.1) order

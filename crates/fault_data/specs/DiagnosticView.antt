@@ -19,8 +19,8 @@ use Rattle.rule_definitions.specs.Diagnostics.{Diagnostic, UnplacedType, SpreadT
 use Rattle.fault_data.specs.declared.diagnostic_data.DiagnosticData.{DiagnosticData}
 use Rattle.fault_data.specs.declared.diagnostic_data.DiagnosticData.TheVariants as rust
 
-abbrev pub plain_type : «Type» → UnplacedType
-plain_type t = unplaced_type (type_tree t)
+abbrev pub plain_reference : «Type» → UnplacedType
+plain_reference t = unplaced_type (type_tree t)
 
 abbrev pub plain_directive : Directive → DirectiveTree (Unit {0})
 plain_directive d = unplaced_directive (directive_tree d)
@@ -51,9 +51,9 @@ diagnostic_of (rust.UnionMemberObjectType name describe_type) = tree.UnionMember
 diagnostic_of (rust.RecursiveInterfaceDefinition name) = tree.RecursiveInterfaceDefinition name.text
 diagnostic_of (rust.TransitiveImplementedInterfaces interface via_interface transitive_interface_location missing_interface) = tree.TransitiveImplementedInterfaces interface.text via_interface.text transitive_interface_location missing_interface.text
 diagnostic_of (rust.MissingInterfaceField name implements_location interface field field_location) = tree.MissingInterfaceField name.text implements_location interface.text field.text field_location
-diagnostic_of (rust.InvalidImplementationFieldType name interface field interface_type actual_type field_location interface_field_location) = tree.InvalidImplementationFieldType name.text interface.text field.text (plain_type interface_type) (plain_type actual_type) field_location interface_field_location
+diagnostic_of (rust.InvalidImplementationFieldType name interface field interface_type actual_type field_location interface_field_location) = tree.InvalidImplementationFieldType name.text interface.text field.text (plain_reference interface_type) (plain_reference actual_type) field_location interface_field_location
 diagnostic_of (rust.MissingInterfaceFieldArgument name interface field argument field_location interface_argument_location) = tree.MissingInterfaceFieldArgument name.text interface.text field.text argument.text field_location interface_argument_location
-diagnostic_of (rust.InvalidImplementationFieldArgumentType name interface field argument interface_type actual_type argument_location interface_argument_location) = tree.InvalidImplementationFieldArgumentType name.text interface.text field.text argument.text (plain_type (content interface_type)) (plain_type (content actual_type)) argument_location interface_argument_location
+diagnostic_of (rust.InvalidImplementationFieldArgumentType name interface field argument interface_type actual_type argument_location interface_argument_location) = tree.InvalidImplementationFieldArgumentType name.text interface.text field.text argument.text (plain_reference (content interface_type)) (plain_reference (content actual_type)) argument_location interface_argument_location
 diagnostic_of (rust.ExtraRequiredImplementationFieldArgument name interface field argument argument_location interface_field_location) = tree.ExtraRequiredImplementationFieldArgument name.text interface.text field.text argument.text argument_location interface_field_location
 diagnostic_of (rust.UniqueInputValue name original_definition redefined_definition) = tree.UniqueInputValue name.text original_definition redefined_definition
 diagnostic_of (rust.RecursiveInputObjectDefinition name trace) = tree.RecursiveInputObjectDefinition name.text (trace_of plain_input trace)
@@ -64,17 +64,17 @@ diagnostic_of (rust.UniqueDirective name original_application) = tree.UniqueDire
 diagnostic_of (rust.UnsupportedLocation name location valid_locations definition_location) = tree.UnsupportedLocation name.text location valid_locations.items definition_location
 diagnostic_of (rust.UniqueArgument name original_definition redefined_definition) = tree.UniqueArgument name.text original_definition redefined_definition
 diagnostic_of (rust.UndefinedArgument name coordinate definition_location) = tree.UndefinedArgument name.text (schema_coordinate coordinate) definition_location
-diagnostic_of (rust.RequiredArgument name coordinate expected_type definition_location) = tree.RequiredArgument name.text (schema_coordinate coordinate) (plain_type (content expected_type)) definition_location
-diagnostic_of (rust.DisallowedVariableUsage variable variable_type variable_location argument argument_type argument_location) = tree.DisallowedVariableUsage variable.text (plain_type variable_type) variable_location argument.text (plain_type argument_type) argument_location
-diagnostic_of (rust.UnsupportedValueType value ty definition_location) = tree.UnsupportedValueType (unplaced_value (value_tree (content value))) (plain_type (content ty)) definition_location
+diagnostic_of (rust.RequiredArgument name coordinate expected_type definition_location) = tree.RequiredArgument name.text (schema_coordinate coordinate) (plain_reference (content expected_type)) definition_location
+diagnostic_of (rust.DisallowedVariableUsage variable variable_type variable_location argument argument_type argument_location) = tree.DisallowedVariableUsage variable.text (plain_reference variable_type) variable_location argument.text (plain_reference argument_type) argument_location
+diagnostic_of (rust.UnsupportedValueType value ty definition_location) = tree.UnsupportedValueType (unplaced_value (value_tree (content value))) (plain_reference (content ty)) definition_location
 diagnostic_of (rust.IntCoercionError value) = tree.IntCoercionError (string_bytes value)
 diagnostic_of (rust.FloatCoercionError value) = tree.FloatCoercionError (string_bytes value)
 diagnostic_of (rust.UndefinedVariable name) = tree.UndefinedVariable name.text
 diagnostic_of (rust.UndefinedEnumValue value definition definition_location) = tree.UndefinedEnumValue value.text definition.text definition_location
 diagnostic_of (rust.UndefinedInputValue value definition definition_location) = tree.UndefinedInputValue value.text definition.text definition_location
-diagnostic_of (rust.RequiredField name coordinate expected_type definition_location) = tree.RequiredField name.text (attribute_coordinate coordinate) (plain_type (content expected_type)) definition_location
+diagnostic_of (rust.RequiredField name coordinate expected_type definition_location) = tree.RequiredField name.text (attribute_coordinate coordinate) (plain_reference (content expected_type)) definition_location
 diagnostic_of (rust.UniqueVariable name original_definition redefined_definition) = tree.UniqueVariable name.text original_definition redefined_definition
-diagnostic_of (rust.VariableInputType name ty describe_type) = tree.VariableInputType name.text (plain_type (content ty)) describe_type.now
+diagnostic_of (rust.VariableInputType name ty describe_type) = tree.VariableInputType name.text (plain_reference (content ty)) describe_type.now
 diagnostic_of (rust.UnusedVariable name) = tree.UnusedVariable name.text
 diagnostic_of (rust.MissingSubselection coordinate output_type describe_type) = tree.MissingSubselection (attribute_coordinate coordinate) output_type.text describe_type.now
 diagnostic_of (rust.UndefinedFragment name) = tree.UndefinedFragment name.text

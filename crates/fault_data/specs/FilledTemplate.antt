@@ -8,7 +8,7 @@ use Rattle.tree_literals.specs.ValueQueries.{value_description}
 use Rattle.tree_directives.specs.DirectivePlaces.{location_keyword}
 use Rattle.schema_coordinates.specs.Coordinate.{printed}
 use Rattle.schema_coordinates.specs.CoordinateView.{schema_coordinate, attribute_coordinate}
-use Rattle.fault_data.specs.DiagnosticView.{plain_type}
+use Rattle.fault_data.specs.DiagnosticView.{plain_reference}
 use Rattle.fault_data.specs.Messages.{dotted, fragment_words}
 use Rattle.fault_data.specs.declared.template.Gap.{Gap}
 use Rattle.fault_data.specs.declared.template.Gap.TheVariants as gap
@@ -18,8 +18,8 @@ use Rattle.fault_data.specs.declared.template.Template.TheVariants.{Whole, One, 
 abbrev pub gap_text : Gap → List ℕ
 gap_text (gap.Name n) = n.now.text
 gap_text (gap.Words w) = w.now
-gap_text (gap.«Type» t) = type_text (plain_type t.now)
-gap_text (gap.TypeNode t) = type_text (plain_type (content t.now))
+gap_text (gap.«Type» t) = type_text (plain_reference t.now)
+gap_text (gap.TypeNode t) = type_text (plain_reference (content t.now))
 gap_text (gap.Kind v) = value_description (unplaced_value (value_tree (content v.now)))
 gap_text (gap.Location l) = location_keyword l
 gap_text (gap.Coordinate c) = printed (schema_coordinate c.now)

@@ -19,8 +19,8 @@ use Rattle.fault_document_data.specs.declared.build_error.ConflictingFieldType.{
 abbrev pub text_of_name : NameValue → List ℕ
 text_of_name n = n.text
 
-abbrev pub given_value : Option Value → Option (ValueTree (Unit {0}))
-given_value = option_map (λ v. unplaced_value (value_tree v))
+abbrev pub value_in_conflict : Option Value → Option (ValueTree (Unit {0}))
+value_in_conflict = option_map (λ v. unplaced_value (value_tree v))
 
 abbrev pub name_conflict : ConflictingFieldName → DocumentBreach Place
 name_conflict c = breach.ConflictingFieldName c.alias.text
@@ -29,8 +29,8 @@ name_conflict c = breach.ConflictingFieldName c.alias.text
 
 abbrev pub argument_conflict : ConflictingFieldArgument → DocumentBreach Place
 argument_conflict c = breach.ConflictingFieldArgument c.alias.text
-    (record { location = c.original_location; coordinate = argument_coordinate c.original_coordinate; what = given_value c.original_value })
-    (record { location = c.conflicting_location; coordinate = argument_coordinate c.conflicting_coordinate; what = given_value c.conflicting_value })
+    (record { location = c.original_location; coordinate = argument_coordinate c.original_coordinate; what = value_in_conflict c.original_value })
+    (record { location = c.conflicting_location; coordinate = argument_coordinate c.conflicting_coordinate; what = value_in_conflict c.conflicting_value })
 
 abbrev pub type_conflict : ConflictingFieldType → DocumentBreach Place
 type_conflict c = breach.ConflictingFieldType c.alias.text

@@ -6,7 +6,7 @@ use Rattle.graphql_names.specs.declared.span.FileId.{FileId}
 use Rattle.graphql_names.specs.declared.span.SourceSpan.{SourceSpan}
 use Rattle.rule_definitions.specs.in_schema_types.SchemaTree.{SchemaTree}
 use Rattle.rule_definitions.specs.in_schema_types.Addresses.{DirectiveDefinitionAt, NameAt, place_at}
-use Rattle.rule_definitions.specs.Spots.{Spot, At, HeadAt, ItemAt, KeyAt, EntryAt, spot_place, StandsAt}
+use Rattle.rule_definitions.specs.Spots.{Spot, At, HeadAt, ItemAt, KeyAt, EntryAt, spot_place, SpotIsAt}
 
 decide : (a b : ℕ) → (a ≡ b) ⊎ (a ≡ b → ⊥)
 decide zero zero = inl refl
@@ -52,7 +52,7 @@ recomposed (Some start) None = (Some start, refl)
 recomposed (Some start) (Some end) = let t = together start end in (Some t.0, t.1)
 
 -- each spot stands at some place
-pub stands : (s : SchemaTree Place) (at : Spot) → (place : Place) × StandsAt s at place
+pub stands : (s : SchemaTree Place) (at : Spot) → (place : Place) × SpotIsAt s at place
 stands s (At a) = (spot_place s (At a), refl)
 stands s (HeadAt n) = recomposed (place_at s (DirectiveDefinitionAt n)) (place_at s (NameAt (DirectiveDefinitionAt n)))
 stands s (ItemAt l i) = (spot_place s (ItemAt l i), refl)

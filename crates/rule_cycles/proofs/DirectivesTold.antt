@@ -10,7 +10,7 @@ use Rattle.schema_types.specs.SchemaTree.{SchemaTree}
 use Rattle.schema_types.specs.Addresses.{under, or_nothing, place_of}
 use Rattle.fault_data.specs.in_rule_definitions.Diagnostics.{Diagnostic, RecursiveDirectiveDefinition, DeeplyNestedType, map_place}
 use Rattle.fault_data.specs.in_rule_definitions.Faults.{wrong}
-use Rattle.fault_data.specs.in_rule_definitions.Spots.{HeadAt, StandsAt, spot_place}
+use Rattle.fault_data.specs.in_rule_definitions.Spots.{HeadAt, SpotIsAt, spot_place}
 use Rattle.fault_data.specs.in_rule_definitions.Judged.{judged}
 use Rattle.fault_data.specs.in_rule_definitions.Cycles.{Thing, ADirective, Refers, trace_of_way, reference_bound}
 use Rattle.rule_cycle_search.specs.Paths.{Leads, IsWay, HasNoRepeat}
@@ -62,7 +62,7 @@ module _ (s : SchemaTree Place) (distinct : AreAllDistinct s) (g : Graph) (graph
       by None e q = not_in_nil f (subst (λ (k : List PlacedFault). Contains k f) q c)
       by (Some x) e q = (x.0, (x.1, (e, (q.0, (q.1.0, only (wrong q.0 (breach x.0)) f (subst (λ (k : List PlacedFault). Contains k f) q.1.1 c))))))
 
-  head_stands : (n : List ℕ) (d : Placed Place (DirectiveDefinitionTree Place)) (place : Place) → under n s.directives ≡ Some d → Recomposes d.place d.it.name.place place → StandsAt s (HeadAt n) place
+  head_stands : (n : List ℕ) (d : Placed Place (DirectiveDefinitionTree Place)) (place : Place) → under n s.directives ≡ Some d → Recomposes d.place d.it.name.place place → SpotIsAt s (HeadAt n) place
   head_stands n d place has r = subst (λ (o : Option (Placed Place (DirectiveDefinitionTree Place))). Recomposes (place_of o) (or_nothing (option_map (λ (x : Placed Place (DirectiveDefinitionTree Place)). x.it.name.place) o)) place) (sym has) r
 
   here : (root : ℕ) (n : List ℕ) (d : Placed Place (DirectiveDefinitionTree Place)) → slice_get s.directives root ≡ Some (n, d) → thing_at s root ≡ Some (ADirective n)
@@ -85,7 +85,7 @@ module _ (s : SchemaTree Place) (distinct : AreAllDistinct s) (g : Graph) (graph
         (
           inl (inr (n, (w.1.0, (w.1.1.0, (subst (Leads (Refers (judged s)) (ADirective n) (w.1.0 ∷ w.1.1.0)) same w.1.1.1.1.0, refl))))),
           (
-            subst (StandsAt s (HeadAt n)) (sym (ap (λ (x : PlacedFault). x.place) e.1.1.1.1.1)) (head_stands n e.1.0 e.1.1.1.0 (directive_under s distinct n e.1.0 root e.1.1.0) e.1.1.1.1.0),
+            subst (SpotIsAt s (HeadAt n)) (sym (ap (λ (x : PlacedFault). x.place) e.1.1.1.1.1)) (head_stands n e.1.0 e.1.1.1.0 (directive_under s distinct n e.1.0 root e.1.1.0) e.1.1.1.1.0),
             ap (λ (x : PlacedFault). x.breach) e.1.1.1.1.1 ∙ ap (λ t. RecursiveDirectiveDefinition n t) told,
           ),
         ),
@@ -115,7 +115,7 @@ module _ (s : SchemaTree Place) (distinct : AreAllDistinct s) (g : Graph) (graph
         (
           inr (inr (n, (w.0, (w.1.1, (apart, (long, refl)))))),
           (
-            subst (StandsAt s (HeadAt n)) (sym (ap (λ (x : PlacedFault). x.place) e.1.1.1.1.1)) (head_stands n e.1.0 e.1.1.1.0 (directive_under s distinct n e.1.0 root e.1.1.0) e.1.1.1.1.0),
+            subst (SpotIsAt s (HeadAt n)) (sym (ap (λ (x : PlacedFault). x.place) e.1.1.1.1.1)) (head_stands n e.1.0 e.1.1.1.0 (directive_under s distinct n e.1.0 root e.1.1.0) e.1.1.1.1.0),
             ap (λ (x : PlacedFault). x.breach) e.1.1.1.1.1,
           ),
         ),

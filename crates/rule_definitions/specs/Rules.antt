@@ -12,7 +12,7 @@ use Rattle.schema_types.specs.Addresses.{Address, SchemaAt, TypeAt, FieldAt, Val
 use Rattle.schema_types.specs.declared.type_kind.TypeKind.{TypeKind}
 use Rattle.schema_types.specs.declared.type_kind.TypeKind.TheVariants as kind
 use Rattle.rule_definitions.specs.Diagnostics.{map_places}
-use Rattle.rule_definitions.specs.Spots.{At, spotted_directives, spot_place, StandsAt}
+use Rattle.rule_definitions.specs.Spots.{At, spotted_directives, spot_place, SpotIsAt}
 use Rattle.rule_definitions.specs.Faults.{FaultAt, SchemaFault}
 use Rattle.rule_definitions.specs.Judged.{Judged, judged, applied_directives, IsBuiltInScalar, AtType, AtField, AtValue, AtInputField, AtArgument}
 use Rattle.rule_definitions.specs.Roots.{QueryRootOperationTypeAt, UndefinedRootAt, RootOperationObjectTypeAt, DuplicateRootOperationTypeAt}
@@ -97,7 +97,7 @@ module _ (s : SchemaTree Place) where
 
   -- a fault at its place, with the places that belong to its data
   abbrev pub IsToldAs : SchemaFault → FaultAt Place (List Place) → Type 0
-  IsToldAs broken fault = StandsAt s broken.place fault.place × (fault.breach ≡ map_places (spot_place s) extension_places_at broken.breach)
+  IsToldAs broken fault = SpotIsAt s broken.place fault.place × (fault.breach ≡ map_places (spot_place s) extension_places_at broken.breach)
 
   -- a rule on schemas fails, and this tells it
   abbrev pub RulesFail : FaultAt Place (List Place) → Type 0

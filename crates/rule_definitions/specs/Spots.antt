@@ -90,6 +90,6 @@ module _ (s : SchemaTree Place) where
   spot_place at = option_and_then (λ v. v.place) (written_at at)
 
   -- what is at the spot is at this place of a text
-  abbrev pub StandsAt : Spot → Place → Type 0
-  StandsAt (HeadAt n) place = Recomposes (place_at s (DirectiveDefinitionAt n)) (place_at s (NameAt (DirectiveDefinitionAt n))) place
-  StandsAt at place = place ≡ spot_place at
+  abbrev pub SpotIsAt : Spot → Place → Type 0
+  SpotIsAt (HeadAt n) place = Recomposes (place_at s (DirectiveDefinitionAt n)) (place_at s (NameAt (DirectiveDefinitionAt n))) place
+  SpotIsAt at place = place ≡ spot_place at

@@ -1,7 +1,7 @@
 //! Conflicts of two fields.
 ghost use Rattle.std.specs.Prelude.{◌≡◌, ◌≤◌, ◌+◌, MatchOption, IfOk, OnOk};
 ghost use Rattle.schema_coordinates.specs.CoordinateView.{attribute_coordinate, argument_coordinate};
-ghost use Rattle.fault_document_data.specs.DocumentBreachView.{given_value};
+ghost use Rattle.fault_document_data.specs.DocumentBreachView.{value_in_conflict};
 ghost use Rattle.graphql_schema.specs.SchemaOf.{schema_tree};
 ghost use Rattle.rule_definitions.specs.Judged.{judged};
 ghost use Rattle.rule_document_definitions.specs.Merging.{SameShape, SameName, SameNameAndArguments};
@@ -158,7 +158,7 @@ fn argument_coordinates(
 
 /// What the field gives for the argument of that name, if anything.
 fn value_given(field: FieldSelection<'_>, name: &Name) -> Result<Option<Value>, AllocError>
-    ensures { IfOk result (λ v. given_value v ≡ plain_given name.now.text (field_of field.entry).head.arguments) }
+    ensures { IfOk result (λ v. value_in_conflict v ≡ plain_given name.now.text (field_of field.entry).head.arguments) }
 {
     match field
         .field
@@ -176,8 +176,8 @@ fn values_given(
     other: FieldSelection<'_>,
     name: &Name,
 ) -> Result<(Option<Value>, Option<Value>), AllocError>
-    ensures first { IfOk result (λ v. given_value v.0 ≡ plain_given name.now.text (field_of first.entry).head.arguments) }
-    ensures other { IfOk result (λ v. given_value v.1 ≡ plain_given name.now.text (field_of other.entry).head.arguments) }
+    ensures first { IfOk result (λ v. value_in_conflict v.0 ≡ plain_given name.now.text (field_of first.entry).head.arguments) }
+    ensures other { IfOk result (λ v. value_in_conflict v.1 ≡ plain_given name.now.text (field_of other.entry).head.arguments) }
 {
     let value = value_given(first, name)?;
     Ok((value, value_given(other, name)?))

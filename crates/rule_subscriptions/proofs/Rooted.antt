@@ -15,7 +15,7 @@ use Rattle.document_typed_selections.specs.TypedTree.{TypedSelection, TypedField
 use Rattle.document_typed_operations.specs.TypedDocument.{TypedDocumentTree}
 use Rattle.document_meaning.specs.MeantTree.{MeantSelection, MeantSet, MeantOperation, MeantFragment, MeantDocument, meant, meant_of_set, meant_of_all}
 use Rattle.document_typing.specs.DocumentView.{meant_document}
-use Rattle.document_walks.specs.Reached.{NamedSet, Fragments, Member, document_fragments, selections_of, selections_in, selections_along, members_in, spread_names, Spreads, Reached, by_start, by_fragment, IsMemberWalk, fragment_named as named_set_of}
+use Rattle.document_walks.specs.Reached.{NamedSet, Fragments, Member, document_fragments, selections_of, selections_in, selections_along, members_in, spread_names, Spreads, ReachedFragment, by_start, by_fragment, IsMemberWalk, fragment_named as named_set_of}
 use Rattle.document_walks.specs.Left.{bare_selections}
 use Rattle.document_walks.proofs.Passing.{bare_in}
 use Rattle.rule_document_definitions.specs.Selected.{Position, InOperation, InFragment, Standing, spread_name, operation_name, fragment_named, own}
@@ -102,11 +102,11 @@ module _ {P : Type 0} (t : TypedDocumentTree P) (o : MeantOperation P) (start : 
       (subst (λ l. Contains l x.it) (contents_inside false all_stay h m ∙ ap (contents_in false all_stay) e ∙ sym (selections_contents false u)) (in_mapped (λ (x : Standing P). x.it) (inside false all_stay h m) x c))
 
   -- a fragment that is reached is found under its name
-  found : (g : NamedSet P) → Reached false (document_fragments t) start g → named_set_of (document_fragments t) g.0 ≡ Some g
+  found : (g : NamedSet P) → ReachedFragment false (document_fragments t) start g → named_set_of (document_fragments t) g.0 ≡ Some g
   found g (by_start n sp e) = subst (λ m. named_set_of (document_fragments t) m ≡ Some g) (found_name (document_fragments t) n g e) e
   found g (by_fragment h n r sp e) = subst (λ m. named_set_of (document_fragments t) m ≡ Some g) (found_name (document_fragments t) n g e) e
 
-  spread_by : (g : NamedSet P) → Reached false (document_fragments t) start g → (z : Standing P) × (Reaches z × (spread_name z.it ≡ Some g.0))
+  spread_by : (g : NamedSet P) → ReachedFragment false (document_fragments t) start g → (z : Standing P) × (Reaches z × (spread_name z.it ≡ Some g.0))
   spread_by g (by_start n sp e) =
       let s = found_in spread_names n (selections_in false start) sp in
       let x = stands (InOperation (operation_name o)) o.set start is s.0 s.1.0 in
@@ -118,7 +118,7 @@ module _ {P : Type 0} (t : TypedDocumentTree P) (o : MeantOperation P) (start : 
       let x = stands (InFragment f.0.name.it) f.0.set h.1 f.1.1 s.0 s.1.0 in
       (x.0, ((held_reached false all_stay d o z.0 h.0 f.0 z.1.0 z.1.1 f.1.0 x.0 x.1.0).0, ap spread_name x.1.1 ∙ spreads_name s.0 n s.1.1 ∙ ap Some (found_name (document_fragments t) n g e)))
 
-  in_order : (n : List ℕ) → Contains names n → (g : NamedSet P) × (Reached false (document_fragments t) start g × (g.0 ≡ n))
+  in_order : (n : List ℕ) → Contains names n → (g : NamedSet P) × (ReachedFragment false (document_fragments t) start g × (g.0 ≡ n))
   in_order n c = let p = mapped_in (λ (f : NamedSet P). f.0) walk.order n c in (p.0, ((walk.reached p.0).0 p.1.0, p.1.1))
 
   are_spread : (n : List ℕ) → Contains names n → (z : Standing P) × (Reaches z × (spread_name z.it ≡ Some n))
@@ -127,7 +127,7 @@ module _ {P : Type 0} (t : TypedDocumentTree P) (o : MeantOperation P) (start : 
       let z = spread_by g.0 g.1.0 in
       (z.0, (z.1.0, z.1.1 ∙ ap Some g.1.1))
 
-  named : (g : NamedSet P) (n : List ℕ) → g.0 ≡ n → Reached false (document_fragments t) start g → Contains names n
+  named : (g : NamedSet P) (n : List ℕ) → g.0 ≡ n → ReachedFragment false (document_fragments t) start g → Contains names n
   named g n e r = subst (Contains names) e (in_mapped (λ (f : NamedSet P). f.0) walk.order g ((walk.reached g).1 r))
 
   are_closed : (x : Standing P) → Contains (located false all_stay d o names) x → (n : List ℕ) (f : MeantFragment P) → spread_name x.it ≡ Some n → fragment_named d n ≡ Some f → Contains names n
@@ -153,7 +153,7 @@ module _ {P : Type 0} (t : TypedDocumentTree P) (o : MeantOperation P) (start : 
   abbrev meant_all : List (Member P) → List (MeantSelection P)
   meant_all es = map (λ e. meant e.1) es
 
-  fragment_same : (g : NamedSet P) → Reached false (document_fragments t) start g → its (inside_fragment false all_stay d o g.0) ≡ meant_all (members_in false g.1)
+  fragment_same : (g : NamedSet P) → ReachedFragment false (document_fragments t) start g → its (inside_fragment false all_stay d o g.0) ≡ meant_all (members_in false g.1)
   fragment_same g r =
       let f = rules_find t g.0 g (found g r) in
       ap (λ q. its (option_map_or (λ (f : MeantFragment P). inside false all_stay (InFragment f.name.it) f.set) q [])) f.1.0
@@ -161,7 +161,7 @@ module _ {P : Type 0} (t : TypedDocumentTree P) (o : MeantOperation P) (start : 
       ∙ ap (contents_in false all_stay) f.1.1
       ∙ sym (members_contents false g.1)
 
-  fragments_same : (gs : List (NamedSet P)) → ((g : NamedSet P) → Contains gs g → Reached false (document_fragments t) start g)
+  fragments_same : (gs : List (NamedSet P)) → ((g : NamedSet P) → Contains gs g → ReachedFragment false (document_fragments t) start g)
       → its (flat_map (inside_fragment false all_stay d o) (map (λ g. g.0) gs)) ≡ meant_all (flat_map (λ (g : NamedSet P). members_in false g.1) gs)
   fragments_same [] reached = refl
   fragments_same (g ∷ gs) reached =

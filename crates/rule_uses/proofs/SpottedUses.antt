@@ -8,7 +8,7 @@ use Rattle.tree_directives.specs.declared.directive_location.DirectiveLocation.{
 use Rattle.schema_types.specs.SchemaTree.{SchemaTree}
 use Rattle.schema_types.specs.Addresses.{Address, SchemaAt, DirectiveAt, GivenAt, GivenValueAt, place_at, directives_at, given_at, or_nothing}
 use Rattle.rule_values.specs.in_rule_definitions.Diagnostics.{Diagnostic, map_places}
-use Rattle.rule_values.specs.in_rule_definitions.Spots.{Spot, At, HeadAt, ItemAt, KeyAt, EntryAt, each_from, spotted_value, spotted_items, spotted_entries, spotted_argument, spotted_directive, spotted_directives, item_of, entry_list, written_at, spot_place, StandsAt}
+use Rattle.rule_values.specs.in_rule_definitions.Spots.{Spot, At, HeadAt, ItemAt, KeyAt, EntryAt, each_from, spotted_value, spotted_items, spotted_entries, spotted_argument, spotted_directive, spotted_directives, item_of, entry_list, written_at, spot_place, SpotIsAt}
 use Rattle.rule_values.specs.in_rule_definitions.Faults.{FaultAt, SchemaFault, wrong}
 use Rattle.rule_values.specs.in_rule_definitions.Judged.{Judged}
 use Rattle.rule_values.specs.in_rule_definitions.Uses.{UsesBreak}
@@ -196,7 +196,7 @@ module _ (s : SchemaTree Place) where
       (λ i d e. placed_directive holder (behind i 0) d (ap (λ l. slice_get l (behind i 0)) same ∙ ap (slice_get ds) (behind_nothing i) ∙ e))
 
   -- a spot that is no head is where it is found
-  stands_settled : (at : Spot) (place : Place) → StandsAt s (settled at) place ↔ (place ≡ spot_place s (settled at))
+  stands_settled : (at : Spot) (place : Place) → SpotIsAt s (settled at) place ↔ (place ≡ spot_place s (settled at))
   stands_settled (HeadAt n) place = (λ h. h, λ h. h)
   stands_settled (At a) place = (λ h. h, λ h. h)
   stands_settled (ItemAt list i) place = (λ h. h, λ h. h)
@@ -236,14 +236,14 @@ module _ (s : SchemaTree Place) where
         let r = head.0 (subst (λ xs. UsesBreak At j [] location xs g) (sym (settled_directives holder (map (λ d. unplaced_directive d.it) ds))) (blur.1 (g, (h, refl)))) in
         (r.0.place, ap (λ (x : SchemaFault). x.place) r.1.1)
 
-    stands : (g : SchemaFault) → Broken g → (place : Place) → StandsAt s g.place place ↔ (place ≡ spot_place s g.place)
+    stands : (g : SchemaFault) → Broken g → (place : Place) → SpotIsAt s g.place place ↔ (place ≡ spot_place s g.place)
     stands g h place =
         let r = no_head g h in
-        subst (λ at. StandsAt s at place ↔ (place ≡ spot_place s at)) (sym r.1) (stands_settled r.0 place)
+        subst (λ at. SpotIsAt s at place ↔ (place ≡ spot_place s at)) (sym r.1) (stands_settled r.0 place)
 
     -- what the rules tell of the directives where they stand is what they tell of them by their addresses, told there
     pub uses_told : (f : FaultAt Place (List Place)) → UsesBreak (place_at s) j [] location ds f
-        ↔ ((g : SchemaFault) × (UsesBreak At j [] location there g × (StandsAt s g.place f.place × (f.breach ≡ map_places (spot_place s) e g.breach))))
+        ↔ ((g : SchemaFault) × (UsesBreak At j [] location there g × (SpotIsAt s g.place f.place × (f.breach ≡ map_places (spot_place s) e g.breach))))
     uses_told f = (
       λ h. let r = (placed f).0 ((blurred f).1 h) in
           (r.0, (r.1.0, ((stands r.0 r.1.0 f.place).1 (ap (λ (x : FaultAt Place (List Place)). x.place) r.1.1), ap (λ (x : FaultAt Place (List Place)). x.breach) r.1.1))),

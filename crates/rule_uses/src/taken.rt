@@ -12,7 +12,7 @@ ghost use Rattle.schema_components.specs.Names.{same_text};
 ghost use Rattle.rule_values.specs.in_schema.in_schema_types.TypeView.{name_text};
 ghost use Rattle.rule_values.specs.in_schema.SchemaOf.{schema_tree};
 ghost use Rattle.rule_values.specs.in_fault_data.FaultView.{fault_of, faults_of};
-ghost use Rattle.rule_values.specs.in_fault_data.DiagnosticView.{plain_type};
+ghost use Rattle.rule_values.specs.in_fault_data.DiagnosticView.{plain_reference};
 ghost use Rattle.rule_values.specs.in_rule_definitions.Diagnostics.{UndefinedArgument, RequiredArgument};
 ghost use Rattle.rule_values.specs.in_rule_definitions.Faults.{wrong};
 ghost use Rattle.rule_values.specs.in_rule_definitions.Words.{AtSomeIndex};
@@ -141,7 +141,7 @@ fn told_required(
     taker: &Taker<'_>,
     definition: &Node<InputValueDefinition>,
 ) -> Result<Fault, AllocError>
-    ensures { IfOk result (λ r. fault_of r ≡ wrong taker.now.location (RequiredArgument (content definition.now).name.text (argument_coordinate_of taker.now.name (content definition.now).name.text) (plain_type (content (content definition.now).ty)) (place definition.now))) }
+    ensures { IfOk result (λ r. fault_of r ≡ wrong taker.now.location (RequiredArgument (content definition.now).name.text (argument_coordinate_of taker.now.name (content definition.now).name.text) (plain_reference (content (content definition.now).ty)) (place definition.now))) }
 {
     let defined = definition.content();
     let expected_type = defined.ty.clone()?;

@@ -7,7 +7,7 @@ ghost use Rattle.tree_literals.specs.TypeQueries.{nullable_type, AreTypesCompati
 ghost use Rattle.tree_directives.specs.DirectiveTree.{argument_tree, input_value_tree, unplaced_input_value};
 ghost use Rattle.tree_operations.specs.OperationTree.{variable_definition_tree};
 ghost use Rattle.rule_values.specs.in_fault_data.FaultView.{fault_of};
-ghost use Rattle.rule_values.specs.in_fault_data.DiagnosticView.{plain_type};
+ghost use Rattle.rule_values.specs.in_fault_data.DiagnosticView.{plain_reference};
 ghost use Rattle.rule_values.specs.in_rule_definitions.Diagnostics.{DisallowedVariableUsage};
 ghost use Rattle.rule_values.specs.in_rule_definitions.Faults.{wrong};
 ghost use Rattle.rule_values.specs.in_rule_definitions.Uses.{IsVariableUsageAllowed};
@@ -69,8 +69,8 @@ fn is_variable_usage_allowed(
 
 /// Copies of two types.
 fn two_types(first: &Type, second: &Type) -> Result<(Type, Type), AllocError>
-    ensures first { IfOk result (λ r. plain_type r.0 ≡ plain_type first.now) }
-    ensures second { IfOk result (λ r. plain_type r.1 ≡ plain_type second.now) }
+    ensures first { IfOk result (λ r. plain_reference r.0 ≡ plain_reference first.now) }
+    ensures second { IfOk result (λ r. plain_reference r.1 ≡ plain_reference second.now) }
 {
     let first = first.clone()?;
     Ok((first, second.clone()?))
@@ -83,7 +83,7 @@ fn told_usage(
     variable: &Node<VariableDefinition>,
     definition: &InputValueDefinition,
 ) -> Result<Fault, AllocError>
-    ensures { IfOk result (λ r. fault_of r ≡ wrong (place argument.now) (DisallowedVariableUsage name.now.text (plain_type (content (content variable.now).ty)) (place variable.now) (content argument.now).name.text (plain_type (content definition.now.ty)) (place argument.now))) }
+    ensures { IfOk result (λ r. fault_of r ≡ wrong (place argument.now) (DisallowedVariableUsage name.now.text (plain_reference (content (content variable.now).ty)) (place variable.now) (content argument.now).name.text (plain_reference (content definition.now.ty)) (place argument.now))) }
 {
     let (variable_type, argument_type) = two_types(
         variable.content().ty.content(),

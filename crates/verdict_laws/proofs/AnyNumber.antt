@@ -20,7 +20,7 @@ use Rattle.document_meaning.specs.Unplaced.{unplaced_document}
 use Rattle.document_typing.specs.Meanings.{meanings}
 use Rattle.document_typing.specs.KeptDocument.{kept_document}
 use Rattle.document_typing.specs.TypingFaults.{TypingRules}
-use Rattle.document_typing.specs.OutDoc.{is_anonymous, is_named_operation, is_fragment, out_doc}
+use Rattle.document_typing.specs.OutDoc.{is_anonymous, is_named_operation, is_fragment_definition, out_doc}
 use Rattle.rule_document_definitions.proofs.Same.{same_document_verdict, same_bounds}
 use Rattle.verdict_definitions.specs.Texts.{SourceText, Tree, DerivesIn}
 use Rattle.verdict_definitions.specs.Judge.{document_over, JudgeDocument, IsDocumentAccepted, IsDocumentCertain}
@@ -65,15 +65,15 @@ named_same : (d : DefinitionTree Place) → is_named_operation d ≡ is_named_op
 named_same (tree.Operation p o) = ap not (none_same o.name)
 named_same _ = refl
 
-fragment_same : (d : DefinitionTree Place) → is_fragment d ≡ is_fragment (unplaced_definition d)
+fragment_same : (d : DefinitionTree Place) → is_fragment_definition d ≡ is_fragment_definition (unplaced_definition d)
 fragment_same (tree.Fragment p f) = refl
 fragment_same _ = refl
 
 pub out_same : (ds : Tree) → map unplaced_definition (out_doc ds) ≡ out_doc (map unplaced_definition ds)
 out_same ds =
-    map-append unplaced_definition (filter is_anonymous ds ++ filter is_named_operation ds) (filter is_fragment ds)
-    ∙ ap (λ l. l ++ map unplaced_definition (filter is_fragment ds)) (map-append unplaced_definition (filter is_anonymous ds) (filter is_named_operation ds))
-    ∙ (λ i. (passes_same is_anonymous is_anonymous anonymous_same ds i ++ passes_same is_named_operation is_named_operation named_same ds i) ++ passes_same is_fragment is_fragment fragment_same ds i)
+    map-append unplaced_definition (filter is_anonymous ds ++ filter is_named_operation ds) (filter is_fragment_definition ds)
+    ∙ ap (λ l. l ++ map unplaced_definition (filter is_fragment_definition ds)) (map-append unplaced_definition (filter is_anonymous ds) (filter is_named_operation ds))
+    ∙ (λ i. (passes_same is_anonymous is_anonymous anonymous_same ds i ++ passes_same is_named_operation is_named_operation named_same ds i) ++ passes_same is_fragment_definition is_fragment_definition fragment_same ds i)
 
 -- definitions that are the same, places aside, have the same text
 pub text_same : (layout : Layout) (ds es : Tree) → map unplaced_definition ds ≡ map unplaced_definition es → document_text layout 0 ds ≡ document_text layout 0 es

@@ -7,7 +7,7 @@ use Rattle.tree_definitions.specs.DefinitionTree as tree
 use Rattle.tree_definitions.specs.DefinitionTree.{DefinitionTree}
 use Rattle.tree_definitions.specs.Queries.{is_executable, definition_place}
 use Rattle.tree_definitions.specs.Writable.{has_some, definition_writable, document_writable}
-use Rattle.document_typing.specs.OutDoc.{is_anonymous, is_named_operation, is_fragment, out_doc}
+use Rattle.document_typing.specs.OutDoc.{is_anonymous, is_named_operation, is_fragment_definition, out_doc}
 use Rattle.document_typing.specs.TypingFaults.{typing_fault_at, TypeSystemDefinition, in_definition, type_system_definition}
 use Rattle.graphql_read.proofs.Soundness.{document_sound}
 use Rattle.verdict_laws.specs.Written.{TypedDocumentsCanBeWritten}
@@ -36,10 +36,10 @@ some_second (x ∷ xs) ys h = refl
 some_written : (d : DefinitionTree Place) (ds : List (DefinitionTree Place)) → is_executable d ≡ true → has_some (out_doc (d ∷ ds)) ≡ true
 some_written (tree.Operation p o) ds h = by (is_none o.name)
   where
-    by : (b : Bool) → has_some ((if b then tree.Operation p o ∷ filter is_anonymous ds else filter is_anonymous ds) ++ (if not b then tree.Operation p o ∷ filter is_named_operation ds else filter is_named_operation ds) ++ filter is_fragment ds) ≡ true
+    by : (b : Bool) → has_some ((if b then tree.Operation p o ∷ filter is_anonymous ds else filter is_anonymous ds) ++ (if not b then tree.Operation p o ∷ filter is_named_operation ds else filter is_named_operation ds) ++ filter is_fragment_definition ds) ≡ true
     by true = refl
-    by false = some_first (filter is_anonymous ds ++ tree.Operation p o ∷ filter is_named_operation ds) (filter is_fragment ds) (some_second (filter is_anonymous ds) (tree.Operation p o ∷ filter is_named_operation ds) refl)
-some_written (tree.Fragment p f) ds h = some_second (filter is_anonymous ds ++ filter is_named_operation ds) (tree.Fragment p f ∷ filter is_fragment ds) refl
+    by false = some_first (filter is_anonymous ds ++ tree.Operation p o ∷ filter is_named_operation ds) (filter is_fragment_definition ds) (some_second (filter is_anonymous ds) (tree.Operation p o ∷ filter is_named_operation ds) refl)
+some_written (tree.Fragment p f) ds h = some_second (filter is_anonymous ds ++ filter is_named_operation ds) (tree.Fragment p f ∷ filter is_fragment_definition ds) refl
 some_written _ ds h = cc
 
 pub documents : TypedDocumentsCanBeWritten
@@ -56,6 +56,6 @@ documents schema number text ds read rules =
     by [] e some all = absurd (true≢false (sym some ∙ ap has_some e))
     by (d ∷ rest) e some all =
         ap (λ b. b && list_all definition_writable (out_doc ds)) (subst (λ l. has_some (out_doc l) ≡ true) (sym e) (some_written d rest (executable d rest e (is_executable d) refl)))
-        ∙ all_append definition_writable (filter is_anonymous ds ++ filter is_named_operation ds) (filter is_fragment ds)
+        ∙ all_append definition_writable (filter is_anonymous ds ++ filter is_named_operation ds) (filter is_fragment_definition ds)
         (all_append definition_writable (filter is_anonymous ds) (filter is_named_operation ds) (kept is_anonymous ds all) (kept is_named_operation ds all))
-        (kept is_fragment ds all)
+        (kept is_fragment_definition ds all)

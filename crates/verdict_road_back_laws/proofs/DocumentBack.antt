@@ -12,7 +12,7 @@ use Rattle.document_meaning.specs.Unplaced as meant
 use Rattle.document_typing.specs.Meanings.{meanings}
 use Rattle.document_typing.specs.KeptDocument.{kept_document}
 use Rattle.document_typing.specs.TypingFaults.{TypingRules}
-use Rattle.document_typing.specs.OutDoc.{is_anonymous, is_named_operation, is_fragment, out_doc}
+use Rattle.document_typing.specs.OutDoc.{is_anonymous, is_named_operation, is_fragment_definition, out_doc}
 use Rattle.rule_document_definitions.proofs.Same.{same_document_verdict, same_bounds}
 use Rattle.verdict_definitions.specs.Texts.{SourceText, Tree}
 use Rattle.verdict_definitions.specs.Judge.{document_over, meanings_over, IsDocumentAccepted}
@@ -32,9 +32,9 @@ use Rattle.verdict_road_back_laws.proofs.ReadBack.{ReadsBack, reads_back, writte
 
 out_formed : (ds : Tree) → list_all definition_well_formed ds ≡ true → list_all definition_well_formed (out_doc ds) ≡ true
 out_formed ds h =
-    all_append definition_well_formed (filter is_anonymous ds ++ filter is_named_operation ds) (filter is_fragment ds)
+    all_append definition_well_formed (filter is_anonymous ds ++ filter is_named_operation ds) (filter is_fragment_definition ds)
     (all_append definition_well_formed (filter is_anonymous ds) (filter is_named_operation ds) (all_passing definition_well_formed is_anonymous ds h) (all_passing definition_well_formed is_named_operation ds h))
-    (all_passing definition_well_formed is_fragment ds h)
+    (all_passing definition_well_formed is_fragment_definition ds h)
 
 passing_depth : (f : DefinitionTree Place → Bool) (ds : Tree) → document_depth (filter f ds) ≤ document_depth ds
 passing_depth f [] = omega arith
@@ -46,11 +46,11 @@ passing_depth f (d ∷ ds) = by (f d) (passing_depth f ds)
 
 out_depth : (ds : Tree) → document_depth (out_doc ds) ≤ document_depth ds
 out_depth ds =
-    let whole = depth_append (filter is_anonymous ds ++ filter is_named_operation ds) (filter is_fragment ds) in
+    let whole = depth_append (filter is_anonymous ds ++ filter is_named_operation ds) (filter is_fragment_definition ds) in
     let operations = depth_append (filter is_anonymous ds) (filter is_named_operation ds) in
     let a = passing_depth is_anonymous ds in
     let b = passing_depth is_named_operation ds in
-    let c = passing_depth is_fragment ds in
+    let c = passing_depth is_fragment_definition ds in
     omega (arith, whole, operations, a, b, c)
 
 -- ---- the way back

@@ -8,7 +8,7 @@ use Rattle.tree_operations.specs.OperationLayout.{is_none}
 use Rattle.tree_definitions.specs.DefinitionTree as tree
 use Rattle.tree_definitions.specs.DefinitionTree.{DefinitionTree}
 use Rattle.schema_components.specs.Lists.{StandsAfter, firsts, has_name}
-use Rattle.document_typing.specs.OutDoc.{is_anonymous, is_named_operation, is_fragment, out_doc}
+use Rattle.document_typing.specs.OutDoc.{is_anonymous, is_named_operation, is_fragment_definition, out_doc}
 use Rattle.document_typing.specs.Meanings.{Meanings}
 use Rattle.document_typing.specs.KeptDocument.{based_operation, anonymous_here, named_here, fragment_here, operation_name, fragment_name, kept_named, kept_operations, kept_fragments, meant_operation, named_entry, fragment_entry, kept_document}
 use Rattle.document_typing.specs.TypingFaults as typing
@@ -27,19 +27,19 @@ module _ {P : Type 0} where
   anonymous_is_not_named (tree.Operation p o) h = ap not h
   anonymous_is_not_named _ h = refl
 
-  anonymous_is_no_fragment : (d : DefinitionTree P) → is_anonymous d ≡ true → is_fragment d ≡ false
+  anonymous_is_no_fragment : (d : DefinitionTree P) → is_anonymous d ≡ true → is_fragment_definition d ≡ false
   anonymous_is_no_fragment (tree.Fragment p f) h = sym h
   anonymous_is_no_fragment _ h = refl
 
-  named_is_no_fragment : (d : DefinitionTree P) → is_named_operation d ≡ true → is_fragment d ≡ false
+  named_is_no_fragment : (d : DefinitionTree P) → is_named_operation d ≡ true → is_fragment_definition d ≡ false
   named_is_no_fragment (tree.Fragment p f) h = sym h
   named_is_no_fragment _ h = refl
 
-  fragment_is_not_anonymous : (d : DefinitionTree P) → is_fragment d ≡ true → is_anonymous d ≡ false
+  fragment_is_not_anonymous : (d : DefinitionTree P) → is_fragment_definition d ≡ true → is_anonymous d ≡ false
   fragment_is_not_anonymous (tree.Operation p o) h = absurd (true≢false (sym h))
   fragment_is_not_anonymous _ h = refl
 
-  fragment_is_not_named : (d : DefinitionTree P) → is_fragment d ≡ true → is_named_operation d ≡ false
+  fragment_is_not_named : (d : DefinitionTree P) → is_fragment_definition d ≡ true → is_named_operation d ≡ false
   fragment_is_not_named (tree.Operation p o) h = absurd (true≢false (sym h))
   fragment_is_not_named _ h = refl
 
@@ -51,7 +51,7 @@ module _ {P : Type 0} where
   named_is_operation (tree.Operation p o) h = refl
   named_is_operation _ h = h
 
-  fragment_is_no_operation : (d : DefinitionTree P) → is_fragment d ≡ true → is_operation d ≡ false
+  fragment_is_no_operation : (d : DefinitionTree P) → is_fragment_definition d ≡ true → is_operation d ≡ false
   fragment_is_no_operation (tree.Operation p o) h = sym h
   fragment_is_no_operation _ h = refl
 
@@ -64,26 +64,26 @@ module _ {P : Type 0} (ds : List (DefinitionTree P)) where
   named = filter is_named_operation ds
 
   abbrev fragments : List (DefinitionTree P)
-  fragments = filter is_fragment ds
+  fragments = filter is_fragment_definition ds
 
   -- ---- written again it is the same
 
   anonymous_again : filter is_anonymous (out_doc ds) ≡ anonymous
   anonymous_again =
       three_passing is_anonymous anonymous named fragments
-      ∙ (λ i. all_pass is_anonymous is_anonymous (λ d h. h) ds i ++ none_passes is_named_operation is_anonymous named_is_not_anonymous ds i ++ none_passes is_fragment is_anonymous fragment_is_not_anonymous ds i)
+      ∙ (λ i. all_pass is_anonymous is_anonymous (λ d h. h) ds i ++ none_passes is_named_operation is_anonymous named_is_not_anonymous ds i ++ none_passes is_fragment_definition is_anonymous fragment_is_not_anonymous ds i)
       ∙ append-nil (anonymous ++ []) ∙ append-nil anonymous
 
   named_again : filter is_named_operation (out_doc ds) ≡ named
   named_again =
       three_passing is_named_operation anonymous named fragments
-      ∙ (λ i. none_passes is_anonymous is_named_operation anonymous_is_not_named ds i ++ all_pass is_named_operation is_named_operation (λ d h. h) ds i ++ none_passes is_fragment is_named_operation fragment_is_not_named ds i)
+      ∙ (λ i. none_passes is_anonymous is_named_operation anonymous_is_not_named ds i ++ all_pass is_named_operation is_named_operation (λ d h. h) ds i ++ none_passes is_fragment_definition is_named_operation fragment_is_not_named ds i)
       ∙ append-nil named
 
-  fragments_again : filter is_fragment (out_doc ds) ≡ fragments
+  fragments_again : filter is_fragment_definition (out_doc ds) ≡ fragments
   fragments_again =
-      three_passing is_fragment anonymous named fragments
-      ∙ (λ i. none_passes is_anonymous is_fragment anonymous_is_no_fragment ds i ++ none_passes is_named_operation is_fragment named_is_no_fragment ds i ++ all_pass is_fragment is_fragment (λ d h. h) ds i)
+      three_passing is_fragment_definition anonymous named fragments
+      ∙ (λ i. none_passes is_anonymous is_fragment_definition anonymous_is_no_fragment ds i ++ none_passes is_named_operation is_fragment_definition named_is_no_fragment ds i ++ all_pass is_fragment_definition is_fragment_definition (λ d h. h) ds i)
 
   pub out_twice : out_doc (out_doc ds) ≡ out_doc ds
   out_twice = λ i. anonymous_again i ++ named_again i ++ fragments_again i
@@ -107,7 +107,7 @@ module _ {P : Type 0} (ds : List (DefinitionTree P)) where
   operations_again : length (filter is_operation (out_doc ds)) ≡ length (filter is_operation ds)
   operations_again =
       ap length (three_passing is_operation anonymous named fragments
-      ∙ (λ i. all_pass is_anonymous is_operation anonymous_is_operation ds i ++ all_pass is_named_operation is_operation named_is_operation ds i ++ none_passes is_fragment is_operation fragment_is_no_operation ds i)
+      ∙ (λ i. all_pass is_anonymous is_operation anonymous_is_operation ds i ++ all_pass is_named_operation is_operation named_is_operation ds i ++ none_passes is_fragment_definition is_operation fragment_is_no_operation ds i)
       ∙ append-nil (anonymous ++ named))
       ∙ length-append anonymous named ∙ sym (operations_counted ds)
 
@@ -126,7 +126,7 @@ module _ {P : Type 0} (m : Meanings) where
       by false k = absurd (true≢false k)
   none_named _ h = refl
 
-  none_fragment : (d : DefinitionTree P) → is_fragment d ≡ false → fragment_here m d ≡ []
+  none_fragment : (d : DefinitionTree P) → is_fragment_definition d ≡ false → fragment_here m d ≡ []
   none_fragment (tree.Fragment p f) h = absurd (true≢false h)
   none_fragment _ h = refl
 
@@ -136,7 +136,7 @@ module _ {P : Type 0} (m : Meanings) (ds : List (DefinitionTree P)) where
       three_giving (anonymous_here m) (anonymous ds) (named ds) (fragments ds)
       ∙ (λ i. given_by_passing (anonymous_here m) is_anonymous (none_anonymous m) ds i
       ++ none_given (anonymous_here m) is_named_operation (λ d h. none_anonymous m d (named_is_not_anonymous d h)) ds i
-      ++ none_given (anonymous_here m) is_fragment (λ d h. none_anonymous m d (fragment_is_not_anonymous d h)) ds i)
+      ++ none_given (anonymous_here m) is_fragment_definition (λ d h. none_anonymous m d (fragment_is_not_anonymous d h)) ds i)
       ∙ append-nil (flat_map (anonymous_here m) ds ++ []) ∙ append-nil (flat_map (anonymous_here m) ds)
 
   named_given : flat_map (named_here m) (out_doc ds) ≡ flat_map (named_here m) ds
@@ -144,7 +144,7 @@ module _ {P : Type 0} (m : Meanings) (ds : List (DefinitionTree P)) where
       three_giving (named_here m) (anonymous ds) (named ds) (fragments ds)
       ∙ (λ i. none_given (named_here m) is_anonymous (λ d h. none_named m d (anonymous_is_not_named d h)) ds i
       ++ given_by_passing (named_here m) is_named_operation (none_named m) ds i
-      ++ none_given (named_here m) is_fragment (λ d h. none_named m d (fragment_is_not_named d h)) ds i)
+      ++ none_given (named_here m) is_fragment_definition (λ d h. none_named m d (fragment_is_not_named d h)) ds i)
       ∙ append-nil (flat_map (named_here m) ds)
 
   fragments_given : flat_map (fragment_here m) (out_doc ds) ≡ flat_map (fragment_here m) ds
@@ -152,7 +152,7 @@ module _ {P : Type 0} (m : Meanings) (ds : List (DefinitionTree P)) where
       three_giving (fragment_here m) (anonymous ds) (named ds) (fragments ds)
       ∙ (λ i. none_given (fragment_here m) is_anonymous (λ d h. none_fragment m d (anonymous_is_no_fragment d h)) ds i
       ++ none_given (fragment_here m) is_named_operation (λ d h. none_fragment m d (named_is_no_fragment d h)) ds i
-      ++ given_by_passing (fragment_here m) is_fragment (none_fragment m) ds i)
+      ++ given_by_passing (fragment_here m) is_fragment_definition (none_fragment m) ds i)
 
   -- places too
   pub kept_of_out : kept_document m (out_doc ds) ≡ kept_document m ds
@@ -174,7 +174,7 @@ module _ {P : Type 0} (m : Meanings) (ds : List (DefinitionTree P)) where
     front : List (DefinitionTree P)
     stands : StandsAfter ds front d
     names : is_named_operation d ≡ true → kept_named m before ≡ kept_named m front
-    fragment_names : is_fragment d ≡ true → kept_fragments m before ≡ kept_fragments m front
+    fragment_names : is_fragment_definition d ≡ true → kept_fragments m before ≡ kept_fragments m front
 
   anonymous_stood : (before : List (DefinitionTree P)) (d : DefinitionTree P) → StandsAfter (anonymous ds) before d → Stood before d
   anonymous_stood before d at =
@@ -204,8 +204,8 @@ module _ {P : Type 0} (m : Meanings) (ds : List (DefinitionTree P)) where
 
   fragment_stood : (before front : List (DefinitionTree P)) (d : DefinitionTree P) → before ≡ anonymous ds ++ named ds ++ front → StandsAfter (fragments ds) front d → Stood before d
   fragment_stood before front d e at =
-      let s = stands_passing is_fragment ds front d at in
-      let is : is_fragment d ≡ true = s.1.1.1 in
+      let s = stands_passing is_fragment_definition ds front d at in
+      let is : is_fragment_definition d ≡ true = s.1.1.1 in
       record {
         front = s.0;
         stands = s.1.0;
@@ -215,7 +215,7 @@ module _ {P : Type 0} (m : Meanings) (ds : List (DefinitionTree P)) where
             ∙ ap (firsts fragment_name) (three_giving (fragment_here m) (anonymous ds) (named ds) front
             ∙ (λ i. none_given (fragment_here m) is_anonymous (λ d h. none_fragment m d (anonymous_is_no_fragment d h)) ds i
             ++ none_given (fragment_here m) is_named_operation (λ d h. none_fragment m d (named_is_no_fragment d h)) ds i ++ flat_map (fragment_here m) (sym s.1.1.0 i))
-            ∙ given_by_passing (fragment_here m) is_fragment (none_fragment m) s.0);
+            ∙ given_by_passing (fragment_here m) is_fragment_definition (none_fragment m) s.0);
       }
 
   stood : (before : List (DefinitionTree P)) (d : DefinitionTree P) → StandsAfter (out_doc ds) before d → Stood before d
@@ -241,11 +241,11 @@ module _ {P : Type 0} (m : Meanings) (ds : List (DefinitionTree P)) where
         (n, (called, subst (λ os. has_name operation_name n.it os ≡ true) (same (ap (λ x. not (is_none x)) called)) has, is))
     name_too _ fault same h = absurd h
 
-    fragment_name_too : (d : DefinitionTree P) (fault : TypingFault P) → (is_fragment d ≡ true → kept_fragments m before ≡ kept_fragments m front) → FragmentNameCollisionAt m before d fault → FragmentNameCollisionAt m front d fault
+    fragment_name_too : (d : DefinitionTree P) (fault : TypingFault P) → (is_fragment_definition d ≡ true → kept_fragments m before ≡ kept_fragments m front) → FragmentNameCollisionAt m before d fault → FragmentNameCollisionAt m front d fault
     fragment_name_too (tree.Fragment p f) fault same (has, is) = (subst (λ fs. has_name fragment_name f.name.it fs ≡ true) (same refl) has, is)
     fragment_name_too _ fault same h = absurd h
 
-    breaks_too : (d : DefinitionTree P) (fault : TypingFault P) → (is_named_operation d ≡ true → kept_named m before ≡ kept_named m front) → (is_fragment d ≡ true → kept_fragments m before ≡ kept_fragments m front)
+    breaks_too : (d : DefinitionTree P) (fault : TypingFault P) → (is_named_operation d ≡ true → kept_named m before ≡ kept_named m front) → (is_fragment_definition d ≡ true → kept_fragments m before ≡ kept_fragments m front)
         → DefinitionBreaks m (out_doc ds) before d fault → DefinitionBreaks m ds front d fault
     breaks_too d fault same same' (typing.type_system_definition h) = typing.type_system_definition h
     breaks_too d fault same same' (typing.ambiguous_anonymous_operation h) = typing.ambiguous_anonymous_operation (ambiguous_too d fault h)
