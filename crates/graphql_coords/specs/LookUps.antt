@@ -74,8 +74,8 @@ argument_in f a (OfInputField g) = Err (InvalidArgumentAttribute f)
 argument_in f a (OfEnumValue g) = Err (InvalidArgumentAttribute f)
 
 -- the argument of a directive
-abbrev pub argument_of : List ℕ → DirectiveDefinitionTree Place → Result ArgumentOf LookupFault
-argument_of a d = ok_or (find (input_value_has_name a) d.arguments) (MissingArgument a)
+abbrev pub argument_of_directive : List ℕ → DirectiveDefinitionTree Place → Result ArgumentOf LookupFault
+argument_of_directive a d = ok_or (find (input_value_has_name a) d.arguments) (MissingArgument a)
 
 module _ (s : SchemaTree Place) where
   abbrev pub type_lookup : List ℕ → Result (SchemaType Place) LookupFault
@@ -100,4 +100,4 @@ module _ (s : SchemaTree Place) where
   directive_lookup d = ok_or (under d s.directives) (MissingType d)
 
   abbrev pub directive_argument_lookup : List ℕ → List ℕ → Result ArgumentOf LookupFault
-  directive_argument_lookup d a = found_then (λ x. argument_of a x.it) (directive_lookup d)
+  directive_argument_lookup d a = found_then (λ x. argument_of_directive a x.it) (directive_lookup d)

@@ -19,11 +19,11 @@ abbrev pub AreReadElsewhere : Texts → Type 0
 AreReadElsewhere texts = AllByRecursion (λ t. (t.0 ≢ 0) × IsSound t.0 t.1) texts
 
 -- what a builder with these settings folds them to, behind what is built in
-abbrev pub schema_of : Settings → ℕ → Texts → Judged
-schema_of settings first texts = judged (fold built_in_definitions first (settled built_in_definitions settings (flat_map (λ t. t.1) texts)))
+abbrev pub judged_schema_of : Settings → ℕ → Texts → Judged
+judged_schema_of settings first texts = judged (fold built_in_definitions first (settled built_in_definitions settings (flat_map (λ t. t.1) texts)))
 
 abbrev pub ReadTextsHaveTheFiveAlone : Type 0
-ReadTextsHaveTheFiveAlone = (settings : Settings) (first : ℕ) (texts : Texts) → AreReadElsewhere texts → HasTheFiveAlone (schema_of settings first texts)
+ReadTextsHaveTheFiveAlone = (settings : Settings) (first : ℕ) (texts : Texts) → AreReadElsewhere texts → HasTheFiveAlone (judged_schema_of settings first texts)
 
 abbrev pub ReadTextsHaveNoKeywordValue : Type 0
-ReadTextsHaveNoKeywordValue = (settings : Settings) (first : ℕ) (texts : Texts) → AreReadElsewhere texts → HasNoKeywordValue (schema_of settings first texts)
+ReadTextsHaveNoKeywordValue = (settings : Settings) (first : ℕ) (texts : Texts) → AreReadElsewhere texts → HasNoKeywordValue (judged_schema_of settings first texts)

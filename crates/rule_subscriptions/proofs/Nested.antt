@@ -11,7 +11,7 @@ use Rattle.rule_definitions.specs.Words.{Present}
 use Rattle.rule_document_definitions.specs.Selected.{Position, SelectionAt, Standing, StandingField, as_field, field_there, in_inline, stand, standing_in, spread_name}
 use Rattle.rule_document_definitions.specs.Reached.{InField}
 use Rattle.rule_document_definitions.specs.Limits.{entered, Enters}
-use Rattle.rule_subscriptions.specs.Nested.{StandsIn, deeper_in, deeper_along, deeper_of}
+use Rattle.rule_subscriptions.specs.Nested.{HasInside, deeper_in, deeper_along, deeper_of}
 use Rattle.rule_subscriptions.proofs.Staying.{or_cases, or_left, or_right}
 
 module _ {P : Type 0} (d : MeantDocument P) where
@@ -20,7 +20,7 @@ module _ {P : Type 0} (d : MeantDocument P) where
     pub first : Standing P
     pub others : List (Standing P)
     pub begun : begins first
-    pub way : IsWay (StandsIn d) (first ∷ others)
+    pub way : IsWay (HasInside d) (first ∷ others)
     pub long : bound < length (first ∷ others)
 
   -- ---- deeper: a path
@@ -46,7 +46,7 @@ module _ {P : Type 0} (d : MeantDocument P) where
     long = omega (arith, e);
   }
 
-  onto : (x : Standing P) (inner : Standing P → Type 0) (b : ℕ) → 0 < b → ((y : Standing P) → inner y → StandsIn d x tt y) → Path inner (b - 1) → Path (λ y. y ≡ x) b
+  onto : (x : Standing P) (inner : Standing P → Type 0) (b : ℕ) → 0 < b → ((y : Standing P) → inner y → HasInside d x tt y) → Path inner (b - 1) → Path (λ y. y ≡ x) b
   onto x inner b l leads p = record {
     first = x;
     others = p.first ∷ p.others;
@@ -126,7 +126,7 @@ module _ {P : Type 0} (d : MeantDocument P) where
   set_deeper h (meant_set t ss) x b c e = one_deeper h t 0 ss x b c e
 
   -- the first of a path
-  way_deeper : (x : Standing P) (path : List (Standing P)) (b : ℕ) → IsWay (StandsIn d) (x ∷ path) → b < length (x ∷ path) → deeper_of b x.it ≡ true
+  way_deeper : (x : Standing P) (path : List (Standing P)) (b : ℕ) → IsWay (HasInside d) (x ∷ path) → b < length (x ∷ path) → deeper_of b x.it ≡ true
   way_deeper x [] b w l = subst (λ n. deeper_of n x.it ≡ true) (zero_is b l) (at_none x.it)
     where
       zero_is : (b : ℕ) → b < 1 → 0 ≡ b
@@ -138,16 +138,16 @@ module _ {P : Type 0} (d : MeantDocument P) where
       shorter : (b : ℕ) → b < suc (suc (length path)) → b - 1 < suc (length path)
       shorter b l = omega (arith, l)
 
-  pub path_deeper : (h : Position) (s : MeantSet P) (x : Standing P) (path : List (Standing P)) (b : ℕ) → Contains (standing_in h s) x → IsWay (StandsIn d) (x ∷ path) → b < length (x ∷ path) → deeper_in b s ≡ true
+  pub path_deeper : (h : Position) (s : MeantSet P) (x : Standing P) (path : List (Standing P)) (b : ℕ) → Contains (standing_in h s) x → IsWay (HasInside d) (x ∷ path) → b < length (x ∷ path) → deeper_in b s ≡ true
   path_deeper h s x path b c w l = set_deeper h s x b c (way_deeper x path b w l)
 
   -- ---- such a path enters no fragment
 
-  enters : (x y : Standing P) → StandsIn d x tt y → Enters d x tt y
+  enters : (x y : Standing P) → HasInside d x tt y → Enters d x tt y
   enters x y (inl p) = inl p
   enters x y (inr c) = inr (inl c)
 
-  pub way_enters : (x : Standing P) (path : List (Standing P)) → IsWay (StandsIn d) (x ∷ path) → IsWay (Enters d) (x ∷ path)
+  pub way_enters : (x : Standing P) (path : List (Standing P)) → IsWay (HasInside d) (x ∷ path) → IsWay (Enters d) (x ∷ path)
   way_enters x [] w = tt
   way_enters x (y ∷ path) ((u, step), w) = ((tt, enters x y step), way_enters y path w)
 
@@ -157,7 +157,7 @@ module _ {P : Type 0} (d : MeantDocument P) where
   no_spread at t (MeantSpread p n ds) y (inr c) = not_in_nil y c
   no_spread at t (MeantInline p x ds s) y step = refl
 
-  pub enters_none : (x : Standing P) (path : List (Standing P)) → IsWay (StandsIn d) (x ∷ path) → entered (x ∷ path) ≡ []
+  pub enters_none : (x : Standing P) (path : List (Standing P)) → IsWay (HasInside d) (x ∷ path) → entered (x ∷ path) ≡ []
   enters_none x [] w = refl
   enters_none x (y ∷ path) ((u, step), w) = (λ i. option_to_list (no_spread x.position x.parent x.it y step i) ++ enters_none y path w i)
 

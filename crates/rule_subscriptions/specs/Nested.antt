@@ -9,8 +9,8 @@ use Rattle.rule_document_definitions.specs.Limits.{path_bound}
 
 module _ {P : Type 0} (d : MeantDocument P) where
   -- y stands in x
-  abbrev pub StandsIn : Standing P → Unit {0} → Standing P → Type 0
-  StandsIn x by y = InField d x y ⊎ Contains (in_inline x.position x.it) y
+  abbrev pub HasInside : Standing P → Unit {0} → Standing P → Type 0
+  HasInside x by y = InField d x y ⊎ Contains (in_inline x.position x.it) y
 
   -- it stands in the set of an operation or of a fragment itself
   abbrev pub IsOutermost : Standing P → Type 0
@@ -18,7 +18,7 @@ module _ {P : Type 0} (d : MeantDocument P) where
 
   -- such a path is longer than the bound
   abbrev pub NestsTooDeep : Type 0
-  NestsTooDeep = (x : Standing P) × ((path : List (Standing P)) × (IsOutermost x × (IsWay StandsIn (x ∷ path) × (path_bound < length (x ∷ path)))))
+  NestsTooDeep = (x : Standing P) × ((path : List (Standing P)) × (IsOutermost x × (IsWay HasInside (x ∷ path) × (path_bound < length (x ∷ path)))))
 
 -- private: such a path from a set holds more selections than that
 abbrev mutual

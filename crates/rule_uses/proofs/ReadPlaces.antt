@@ -9,7 +9,7 @@ use Rattle.rule_values.specs.in_rule_definitions.Judged.{Judged}
 use Rattle.rule_values.specs.in_rule_definitions.Values.{Wanted, Variables, wanted_name, wanted_item, FitsForm, FormBreaks, TypeBreaks, TypeBreaksItems, TypeBreaksEntries}
 use Rattle.rule_values.specs.in_rule_definitions.Told.{PlacedFault}
 use Rattle.schema_types.specs.declared.type_kind.TypeKind.TheVariants as kind
-use Rattle.rule_uses.specs.Trees.{AreAlike}
+use Rattle.rule_uses.specs.Trees.{TellSamePlaces}
 
 -- the places of types, of input fields and of what these refer to; nothing else has one
 abbrev reference_read : (Address → Place) → Address → Place
@@ -47,7 +47,7 @@ module _ (at : Address → Place) (s : Judged) (variables : Variables Place) (f 
         ((Contains before k.it → ⊥) × Present (t.input k.it) (λ x. only_read (record { it = x.ty.it; place = at (TypeReferenceAt (InputAt n k.it)) }) p v i))
         ⊎ only_read_entries n t (k.it ∷ before) es i
 
-module _ (at other : Address → Place) (alike : AreAlike at other) where
+module _ (at other : Address → Place) (alike : TellSamePlaces at other) where
   same_reference : (a : Address) → reference_read at a ≡ reference_read other a
   same_reference (InputAt n m) = alike.references n m
   same_reference _ = refl

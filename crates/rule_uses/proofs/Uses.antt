@@ -22,7 +22,7 @@ use Rattle.rule_values.specs.in_rule_definitions.Values.{Variables, defined_name
 use Rattle.rule_values.specs.in_rule_definitions.Uses.{Taker, argument_name, input_name, directive_name, directive_taker, IsVariableUsageAllowed, UniqueArgumentAt, GivenBreaks, UndefinedArgumentAt, RequiredArgumentAt, DisallowedVariableUsageAt, ArgumentValueBreaks, TakerBreaks, UnsupportedLocationAt, UniqueDirectiveAt, UseBreaks, UsesBreak}
 use Rattle.rule_values.specs.in_rule_definitions.Told.{PlacedFault}
 use Rattle.rule_values.specs.Wanting.{wanted}
-use Rattle.rule_uses.specs.Trees.{inputs_of, plain_inputs, holder_of, AreAlike, TellsPlaces}
+use Rattle.rule_uses.specs.Trees.{inputs_of, plain_inputs, holder_of, TellSamePlaces, TellsPlaces}
 use Rattle.rule_uses.specs.declared.taker.Taker.{Taker as Rust}
 use Rattle.rule_uses.specs.UseFaults.{undefined_directive, repeated_argument, undefined_argument, required_argument, unsupported_location, found_repeated, repeated_directive}
 use Rattle.rule_uses.specs.Steps.{DisallowedUsage, GivenArgumentBreaks, FirstGivenBreaks, DefinedUseBreaks}
@@ -67,7 +67,7 @@ both_true : (a b : Bool) → ((a && b) ≡ true) ↔ ((a ≡ true) × (b ≡ tru
 both_true true b = (λ h. (refl, h), λ h. h.1)
 both_true false b = (λ h. absurd (true≢false (sym h)), λ h. h.0)
 
-module _ (at : Address → Place) (s : SchemaTree Place) (variables : Variables Place) (taker : Taker Place) (definitions : InputValues Place) (alike : AreAlike at (place_at s))
+module _ (at : Address → Place) (s : SchemaTree Place) (variables : Variables Place) (taker : Taker Place) (definitions : InputValues Place) (alike : TellSamePlaces at (place_at s))
     (places : (i : ℕ) (v : Placed Place (InputValueTree Place)) → slice_get definitions i ≡ Some v → (at (ArgumentAt taker.holder i) ≡ v.place) × (at (TypeReferenceAt (ArgumentAt taker.holder i)) ≡ v.it.ty.place)) where
   abbrev T : Taker Place
   T = record taker { definitions = plain_inputs definitions }

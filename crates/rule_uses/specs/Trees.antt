@@ -55,14 +55,14 @@ taker_of t = record {
 }
 
 -- both tell the same places of types, of input fields and of their references to types
-pub record AreAlike (at other : Address → Place) : Type 0 where
+pub record TellSamePlaces (at other : Address → Place) : Type 0 where
   pub types : (n : List ℕ) → at (TypeAt n) ≡ other (TypeAt n)
   pub inputs : (n m : List ℕ) → at (InputAt n m) ≡ other (InputAt n m)
   pub references : (n m : List ℕ) → at (TypeReferenceAt (InputAt n m)) ≡ other (TypeReferenceAt (InputAt n m))
 
 -- the places of a schema, where the definitions of what takes arguments have their own: a meta-field's stand in no schema
 pub record TellsPlaces (at : Address → Place) (s : SchemaTree Place) (t : Rust) : Type 0 where
-  pub schema : AreAlike at (place_at s)
+  pub schema : TellSamePlaces at (place_at s)
   pub arguments : (i : ℕ) (v : Placed Place (InputValueTree Place)) → slice_get (inputs_of t.definitions.now) i ≡ Some v
       → (at (ArgumentAt (holder_of t.name) i) ≡ v.place) × (at (TypeReferenceAt (ArgumentAt (holder_of t.name) i)) ≡ v.it.ty.place)
 

@@ -12,11 +12,11 @@ use Rattle.rule_definitions.specs.Values.{Variables, Wanted, UndefinedVariableIn
 use Rattle.rule_definitions.specs.Uses.{directive_name, directive_taker, UniqueDirectiveAt, UndefinedDirectiveAt, UnsupportedLocationAt, GivenBreaks, UndefinedArgumentAt, RequiredArgumentAt, DisallowedVariableUsageAt, AtArgumentGiven, UsesBreak}
 use Rattle.rule_definitions.specs.Told.{PlacedFault}
 use Rattle.rule_document_definitions.specs.Told.{place_or_built_in}
-use Rattle.rule_uses.specs.Trees.{AreAlike}
+use Rattle.rule_uses.specs.Trees.{TellSamePlaces}
 use Rattle.rule_uses.proofs.ReadPlaces.{same_type_breaks}
 
 module _ (s : SchemaTree Place) (variables : Variables Place) where
-  alike : AreAlike (place_or_built_in s) (place_at s)
+  alike : TellSamePlaces (place_or_built_in s) (place_at s)
   alike = record { types = λ n. refl; inputs = λ n m. refl; references = λ n m. refl }
 
   pub same_value_breaks : (ty : Wanted Place) (p : Place) (v : ValueTree Place) (f : PlacedFault)

@@ -42,16 +42,16 @@ module _ (settings : Settings) where
   abbrev pub list_of : Texts → Definitions
   list_of texts = settled built_in_definitions settings (all_of texts)
 
-  abbrev pub schema_of : ℕ → Texts → SchemaTree Place
-  schema_of first texts = fold built_in_definitions first (list_of texts)
+  abbrev pub schema_of_texts : ℕ → Texts → SchemaTree Place
+  schema_of_texts first texts = fold built_in_definitions first (list_of texts)
 
   -- wherever extensions are numbered from: the same rules hold, the schemas are equal, and so are those that validation leaves, over
   -- which documents are judged; and the same definitions are written, in some order
   pub record MakesTheSame (i j : ℕ) (texts others : Texts) : Type 0 where
     pub folds : FoldingRules built_in_definitions i (list_of texts) ↔ FoldingRules built_in_definitions j (list_of others)
-    pub rules : SchemaRules (judged (schema_of i texts)) ↔ SchemaRules (judged (schema_of j others))
-    pub schema : AreEqual (schema_of i texts) (schema_of j others)
-    pub at_hand : AreEqual (validated (schema_of i texts)) (validated (schema_of j others))
+    pub rules : SchemaRules (judged (schema_of_texts i texts)) ↔ SchemaRules (judged (schema_of_texts j others))
+    pub schema : AreEqual (schema_of_texts i texts) (schema_of_texts j others)
+    pub at_hand : AreEqual (validated (schema_of_texts i texts)) (validated (schema_of_texts j others))
     pub writes : IsPermuted (WrittenOf built_in_definitions i (list_of texts)) (WrittenOf built_in_definitions j (list_of others))
 
 abbrev pub LawOfRearrangingReadTexts : Type 0
