@@ -5,6 +5,7 @@ use Rattle.graphql_names.specs.Node.{content, place}
 use Rattle.graphql_names.specs.NameValue.{NameValue}
 use Rattle.graphql_names.specs.Placed.{Place}
 use Rattle.graphql_names.specs.declared.node.Node.{Node}
+use Rattle.tree_directives.specs.DirectiveTree.{input_value_trees}
 use Rattle.schema_coordinates.specs.Coordinate.{OfAttribute, OfArgument}
 use Rattle.tree_directives.specs.declared.directive.Argument.{Argument}
 use Rattle.tree_directives.specs.declared.input_value.InputValueDefinition.{InputValueDefinition}
@@ -21,7 +22,7 @@ use Rattle.graphql_schema.proofs.FieldLooks.{fields_plain}
 use Rattle.document_typed_selections.specs.declared.selection.Field.{Field}
 use Rattle.rule_document_definitions.specs.Selections.{field_taker}
 use Rattle.rule_document_definitions.specs.Told.{place_or_built_in, places_in}
-use Rattle.rule_uses.specs.Trees.{arguments_of, inputs_of, plain_inputs, holder_of, TellsPlaces}
+use Rattle.rule_uses.specs.Trees.{arguments_of, plain_inputs, holder_of, TellsPlaces}
 use Rattle.rule_uses.specs.declared.taker.Taker.{Taker as Rust}
 use Rattle.rule_selections.specs.Steps.{standing_field, IsDefined}
 use Rattle.rule_selections.proofs.FieldPlaces.{stands, some_is}
@@ -40,13 +41,13 @@ module _ (s : SchemaTree Place) (parent : NameValue) (n : Node Field) (f : Field
       ∙ typed)
 
   module _ (location definition_location : Place) (given : List (Node Argument)) (definitions : List (Node InputValueDefinition))
-      (here : location ≡ place n) (there : definition_location ≡ place c.node) (same_given : arguments_of given ≡ arguments_of f.arguments.items) (same_inputs : inputs_of definitions ≡ inputs_of (content c.node).arguments.items) where
+      (here : location ≡ place n) (there : definition_location ≡ place c.node) (same_given : arguments_of given ≡ arguments_of f.arguments.items) (same_inputs : input_value_trees definitions ≡ input_value_trees (content c.node).arguments.items) where
     pub same_taker : IsDefined s (standing_field parent n)
         → record {
           place = location;
           given = arguments_of given;
           holder = FieldAt parent.text f.name.text;
-          definitions = plain_inputs (inputs_of definitions);
+          definitions = plain_inputs (input_value_trees definitions);
           definition_location = definition_location;
           coordinate = OfAttribute parent.text f.name.text;
           argument_coordinate = OfArgument parent.text f.name.text;
@@ -69,6 +70,6 @@ module _ (s : SchemaTree Place) (parent : NameValue) (n : Node Field) (f : Field
     tells_places t holder of = record {
       schema = alike s;
       arguments = λ i v at.
-          let e = (stands s parent.text f.name.text _ found).arguments i v (sym (ap (λ l. slice_get l i) (ap inputs_of of ∙ same_inputs)) ∙ at) in
+          let e = (stands s parent.text f.name.text _ found).arguments i v (sym (ap (λ l. slice_get l i) (ap input_value_trees of ∙ same_inputs)) ∙ at) in
           (ap (λ h. place_or_built_in s (ArgumentAt h i)) holder ∙ e.0, ap (λ h. place_or_built_in s (TypeReferenceAt (ArgumentAt h i))) holder ∙ e.1);
     }

@@ -7,7 +7,7 @@ use Rattle.tree_literals.specs.TypeTree.{TypeTree, NamedTree, NonNullNamedTree, 
 use Rattle.tree_literals.specs.TypeQueries.{has_mark}
 use Rattle.tree_literals.specs.ValueTree.{unplaced_value}
 use Rattle.tree_literals.specs.ValueQueries.{variable_name}
-use Rattle.tree_directives.specs.DirectiveTree.{ArgumentTree, Arguments, DirectiveTree, Directives, InputValueTree, InputValues, DirectiveDefinitionTree, unplaced_input_value, unplaced_directive_definition}
+use Rattle.tree_directives.specs.DirectiveTree.{ArgumentTree, Arguments, DirectiveTree, Directives, InputValueTree, InputValues, DirectiveDefinitionTree, unplaced_input_value, unplaced_directive_definition, input_value_trees}
 use Rattle.tree_directives.specs.DirectiveQueries.{is_required_input, given_value, argument_has_name, input_value_has_name, directive_has_name}
 use Rattle.tree_directives.specs.declared.directive_location.DirectiveLocation.{DirectiveLocation}
 use Rattle.schema_coordinates.specs.Coordinate.{OfDirective, OfDirectiveArgument}
@@ -22,7 +22,7 @@ use Rattle.rule_values.specs.in_rule_definitions.Values.{Variables, defined_name
 use Rattle.rule_values.specs.in_rule_definitions.Uses.{Taker, argument_name, input_name, directive_name, directive_taker, IsVariableUsageAllowed, UniqueArgumentAt, GivenBreaks, UndefinedArgumentAt, RequiredArgumentAt, DisallowedVariableUsageAt, ArgumentValueBreaks, TakerBreaks, UnsupportedLocationAt, UniqueDirectiveAt, UseBreaks, UsesBreak}
 use Rattle.rule_values.specs.in_rule_definitions.Told.{PlacedFault}
 use Rattle.rule_values.specs.Wanting.{wanted}
-use Rattle.rule_uses.specs.Trees.{inputs_of, plain_inputs, holder_of, TellSamePlaces, TellsPlaces}
+use Rattle.rule_uses.specs.Trees.{plain_inputs, holder_of, TellSamePlaces, TellsPlaces}
 use Rattle.rule_uses.specs.declared.taker.Taker.{Taker as Rust}
 use Rattle.rule_uses.specs.UseFaults.{undefined_directive, repeated_argument, undefined_argument, required_argument, unsupported_location, found_repeated, repeated_directive}
 use Rattle.rule_uses.specs.Steps.{DisallowedUsage, GivenArgumentBreaks, FirstGivenBreaks, DefinedUseBreaks}
@@ -169,7 +169,7 @@ module _ (at : Address → Place) (s : SchemaTree Place) (variables : Variables 
       joined (inr (j, (a, (there, (first, (i, (v, (here, (name, (first', t)))))))))) = (j, (a, (there, (first, (i, (v, (here, (name, (first', inr t)))))))))
 
 -- the places of a schema are those of the definitions that stand in it
-pub stands_in : (s : SchemaTree Place) (t : Rust) → arguments_at s (holder_of t.name) ≡ inputs_of t.definitions.now → TellsPlaces (place_at s) s t
+pub stands_in : (s : SchemaTree Place) (t : Rust) → arguments_at s (holder_of t.name) ≡ input_value_trees t.definitions.now → TellsPlaces (place_at s) s t
 stands_in s t stands = record {
   schema = record { types = λ n. refl; inputs = λ n m. refl; references = λ n m. refl };
   arguments = λ i v e. let there = ap (λ l. slice_get l i) stands ∙ e in (

@@ -3,10 +3,9 @@ use Rattle.std.specs.Prelude.{◌≡◌, ℕ, List, [], map, Option, None, Some,
 use Rattle.std.specs.Borrow.{Bor}
 use Rattle.graphql_names.specs.Placed.{Placed, Place, node_tree, unplaced_node}
 use Rattle.graphql_names.specs.declared.node.Node.{Node}
-use Rattle.tree_directives.specs.DirectiveTree.{Arguments, Directives, InputValueTree, InputValues, argument_tree, directive_tree, input_value_tree, unplaced_input_value}
+use Rattle.tree_directives.specs.DirectiveTree.{Arguments, Directives, InputValueTree, InputValues, argument_tree, directive_tree, input_value_trees, unplaced_input_value}
 use Rattle.tree_directives.specs.declared.directive.Argument.{Argument}
 use Rattle.tree_directives.specs.declared.directive.Directive.{Directive}
-use Rattle.tree_directives.specs.declared.input_value.InputValueDefinition.{InputValueDefinition}
 use Rattle.schema_coordinates.specs.Coordinate.{Coordinate, OfAttribute, OfArgument, OfDirective, OfDirectiveArgument}
 use Rattle.rule_values.specs.in_schema.in_schema_types.SchemaTree.{SchemaTree}
 use Rattle.rule_values.specs.in_schema.in_schema_types.Addresses.{Address, TypeAt, FieldAt, InputAt, ArgumentAt, TypeReferenceAt, DirectiveDefinitionAt, place_at}
@@ -20,13 +19,10 @@ use Rattle.rule_uses.specs.declared.taker.TakerName.TheVariants.{OfDirective as 
 abbrev pub arguments_of : List (Node Argument) → Arguments Place
 arguments_of given = map (node_tree argument_tree) given
 
-abbrev pub inputs_of : List (Node InputValueDefinition) → InputValues Place
-inputs_of definitions = map (node_tree input_value_tree) definitions
-
 abbrev pub directives_of : List (Node Directive) → Directives Place
 directives_of ds = map (node_tree directive_tree) ds
 
--- the same without places
+-- the definitions of arguments without places
 abbrev pub plain_inputs : InputValues Place → InputValues (Unit {0})
 plain_inputs vs = map (unplaced_node unplaced_input_value) vs
 
@@ -48,7 +44,7 @@ taker_of t = record {
   place = t.location;
   given = arguments_of t.given.now;
   holder = holder_of t.name;
-  definitions = plain_inputs (inputs_of t.definitions.now);
+  definitions = plain_inputs (input_value_trees t.definitions.now);
   definition_location = t.definition_location;
   coordinate = coordinate_of t.name;
   argument_coordinate = argument_coordinate_of t.name;
@@ -63,7 +59,7 @@ pub record TellSamePlaces (at other : Address → Place) : Type 0 where
 -- the places of a schema, where the definitions of what takes arguments have their own: a meta-field's stand in no schema
 pub record TellsPlaces (at : Address → Place) (s : SchemaTree Place) (t : Rust) : Type 0 where
   pub schema : TellSamePlaces at (place_at s)
-  pub arguments : (i : ℕ) (v : Placed Place (InputValueTree Place)) → slice_get (inputs_of t.definitions.now) i ≡ Some v
+  pub arguments : (i : ℕ) (v : Placed Place (InputValueTree Place)) → slice_get (input_value_trees t.definitions.now) i ≡ Some v
       → (at (ArgumentAt (holder_of t.name) i) ≡ v.place) × (at (TypeReferenceAt (ArgumentAt (holder_of t.name) i)) ≡ v.it.ty.place)
 
 -- a schema that has nothing

@@ -3,7 +3,7 @@ ghost use Rattle.std.specs.Prelude.{Bool, ◌≡◌, ◌++◌, ◌⊎◌, ◌↔
 ghost use Rattle.std.specs.Option.{option_map};
 ghost use Rattle.graphql_names.specs.Node.{content, place};
 ghost use Rattle.graphql_names.specs.Placed.{node_tree};
-ghost use Rattle.tree_directives.specs.DirectiveTree.{directive_tree, directive_definition_tree};
+ghost use Rattle.tree_directives.specs.DirectiveTree.{directive_tree, directive_definition_tree, input_value_trees};
 ghost use Rattle.tree_directives.specs.declared.directive_location.DirectiveLocation.{DirectiveLocation};
 ghost use Rattle.schema_components.specs.Lists.{each_place};
 ghost use Rattle.rule_values.specs.in_schema.in_schema_types.Addresses.{place_at, directive_definition_at};
@@ -15,7 +15,7 @@ ghost use Rattle.rule_values.specs.in_rule_definitions.Uses.{directive_name, Use
 ghost use Rattle.rule_values.specs.in_fault_data.Adds.{Adds};
 ghost use Rattle.rule_values.specs.Wanting.{variables_of};
 ghost use Rattle.rule_uses.specs.AddedFaults.{AddsUsesFaults};
-ghost use Rattle.rule_uses.specs.Trees.{directives_of, inputs_of, no_schema_tree, tree_of};
+ghost use Rattle.rule_uses.specs.Trees.{directives_of, no_schema_tree, tree_of};
 ghost use Rattle.rule_uses.specs.UseFaults.{undefined_directive, unsupported_location, directive_again, repeated_directive};
 ghost use Rattle.rule_uses.specs.Alone.{DirectiveAloneBreaks, DirectivesAloneBreak};
 ghost use Rattle.rule_uses.specs.Steps.{DefinedUseBreaks};
@@ -135,7 +135,7 @@ fn check_defined_use(
     faults: &mut Vec<Fault>,
 ) -> Result<(), AllocError>
     requires { directive_definition_at (schema_tree schema.now) (content directive.now).name.text ≡ Some (node_tree directive_definition_tree definition.now) }
-    ensures { OnOk result (Adds faults.old faults.new (DefinedUseBreaks (schema_tree schema.now) (variables_of variables.now) location (node_tree directive_tree directive.now) (inputs_of (content definition.now).arguments.items))) }
+    ensures { OnOk result (Adds faults.old faults.new (DefinedUseBreaks (schema_tree schema.now) (variables_of variables.now) location (node_tree directive_tree directive.now) (input_value_trees (content definition.now).arguments.items))) }
 {
     let fault = unsupported_location(directive, definition, location)?;
     tell(faults, fault)?;

@@ -2,7 +2,7 @@
 ghost use Rattle.std.specs.Prelude.{◌≡◌, [], map, IfOk, OnOk};
 ghost use Rattle.graphql_names.specs.Node.{content};
 ghost use Rattle.tree_type_members.specs.TypeSystemTree.{field_definition_tree, enum_value_tree};
-ghost use Rattle.tree_directives.specs.DirectiveTree.{input_value_tree, directive_definition_tree};
+ghost use Rattle.tree_directives.specs.DirectiveTree.{input_value_tree, directive_definition_tree, input_value_trees};
 ghost use Rattle.graphql_names.specs.Placed.{node_tree};
 ghost use Rattle.schema_components.specs.Names.{entries_of};
 ghost use Rattle.schema_components.specs.Given.{component_tree};
@@ -12,7 +12,7 @@ ghost use Rattle.rule_values.specs.in_schema.in_schema_types.Addresses.{applied}
 ghost use Rattle.rule_values.specs.in_schema.SchemaOf.{schema_tree};
 ghost use Rattle.rule_values.specs.in_rule_definitions.Rules.{type_location, SchemaUsesBreak};
 ghost use Rattle.rule_values.specs.in_fault_data.Adds.{Adds};
-ghost use Rattle.rule_uses.specs.Trees.{inputs_of, directives_of};
+ghost use Rattle.rule_uses.specs.Trees.{directives_of};
 ghost use Rattle.rule_values.specs.in_rule_definitions.Told.{Told};
 ghost use Rattle.schema_types.specs.Distinct.{AreAllDistinct};
 ghost use Rattle.rule_uses.specs.SchemaUses.{UsesAt, ArgumentUses, FieldUses, FieldsUses, ValuesUses, InputsUses, OwnUses, PartsUses, TypesUses, DefinitionUses};
@@ -84,7 +84,7 @@ fn check_arguments(
     definitions: &[Node<InputValueDefinition>],
     faults: &mut Vec<Fault>,
 ) -> Result<(), AllocError>
-    ensures { OnOk result (Adds faults.old faults.new (ArgumentUses (schema_tree schema.now) (inputs_of definitions.now))) }
+    ensures { OnOk result (Adds faults.old faults.new (ArgumentUses (schema_tree schema.now) (input_value_trees definitions.now))) }
 {
     for definition in definitions {
         check_at(

@@ -6,7 +6,7 @@ ghost use Rattle.indexmap.specs.IndexMap.{get};
 ghost use Rattle.graphql_names.specs.Node.{content, place};
 ghost use Rattle.graphql_names.specs.Placed.{node_tree};
 ghost use Rattle.tree_literals.specs.ValueTree.{value_tree};
-ghost use Rattle.tree_directives.specs.DirectiveTree.{argument_tree, input_value_tree};
+ghost use Rattle.tree_directives.specs.DirectiveTree.{argument_tree, input_value_tree, input_value_trees};
 ghost use Rattle.tree_directives.specs.DirectiveQueries.{input_value_has_name, given_value};
 ghost use Rattle.schema_components.specs.Names.{same_text};
 ghost use Rattle.rule_values.specs.in_schema.in_schema_types.TypeView.{name_text};
@@ -22,7 +22,7 @@ ghost use Rattle.rule_values.specs.in_fault_data.Adds.{Adds};
 ghost use Rattle.rule_values.specs.Firsts.{AreNumbers};
 ghost use Rattle.rule_values.specs.Wanting.{variables_of};
 ghost use Rattle.rule_uses.specs.AddedFaults.{AddsTakerFaults};
-ghost use Rattle.rule_uses.specs.Trees.{arguments_of, inputs_of, taker_of, coordinate_of, argument_coordinate_of};
+ghost use Rattle.rule_uses.specs.Trees.{arguments_of, taker_of, coordinate_of, argument_coordinate_of};
 ghost use Rattle.rule_uses.specs.UseFaults.{undefined_argument, required_argument};
 ghost use Rattle.rule_uses.specs.Steps.{GivenArgumentBreaks, DefinedArgumentBreaks, FirstGivenBreaks};
 
@@ -40,7 +40,7 @@ fn definition_numbers(
     alloc: Global,
     definitions: &[Node<InputValueDefinition>],
 ) -> Result<IndexMap<Name, usize>, AllocError>
-    ensures { IfOk result (λ numbers. AreNumbers input_name numbers (inputs_of definitions.now)) }
+    ensures { IfOk result (λ numbers. AreNumbers input_name numbers (input_value_trees definitions.now)) }
 {
     let mut numbers = IndexMap::new(alloc);
     for index in 0..definitions.len() {
@@ -55,8 +55,8 @@ fn find_definition<'a>(
     numbers: &IndexMap<Name, usize>,
     name: &Name,
 ) -> Option<&'a Node<InputValueDefinition>>
-    requires { AreNumbers input_name numbers.now (inputs_of definitions.now) }
-    ensures { option_map (λ v. node_tree input_value_tree v.now) result ≡ find (input_value_has_name name.now.text) (inputs_of definitions.now) }
+    requires { AreNumbers input_name numbers.now (input_value_trees definitions.now) }
+    ensures { option_map (λ v. node_tree input_value_tree v.now) result ≡ find (input_value_has_name name.now.text) (input_value_trees definitions.now) }
 {
     match numbers.get(name) {
         None => None,
@@ -70,8 +70,8 @@ fn undefined_argument(
     defined: &IndexMap<Name, usize>,
     argument: &Node<Argument>,
 ) -> Result<Option<Fault>, AllocError>
-    requires { AreNumbers input_name defined.now (inputs_of taker.now.definitions.now) }
-    ensures { IfOk result (λ r. map fault_of (option_to_list r) ≡ undefined_argument (taker_of taker.now) (inputs_of taker.now.definitions.now) (node_tree argument_tree argument.now)) }
+    requires { AreNumbers input_name defined.now (input_value_trees taker.now.definitions.now) }
+    ensures { IfOk result (λ r. map fault_of (option_to_list r) ≡ undefined_argument (taker_of taker.now) (input_value_trees taker.now.definitions.now) (node_tree argument_tree argument.now)) }
 {
     let name = &argument.content().name;
     match find_definition(taker.definitions, defined, name) {
@@ -100,8 +100,8 @@ fn tell_undefined_arguments(
     defined: &IndexMap<Name, usize>,
     faults: &mut Vec<Fault>,
 ) -> Result<(), AllocError>
-    requires { AreNumbers input_name defined.now (inputs_of taker.now.definitions.now) }
-    ensures { OnOk result (faults_of faults.new ≡ faults_of faults.old ++ flat_map (undefined_argument (taker_of taker.now) (inputs_of taker.now.definitions.now)) (arguments_of taker.now.given.now)) }
+    requires { AreNumbers input_name defined.now (input_value_trees taker.now.definitions.now) }
+    ensures { OnOk result (faults_of faults.new ≡ faults_of faults.old ++ flat_map (undefined_argument (taker_of taker.now) (input_value_trees taker.now.definitions.now)) (arguments_of taker.now.given.now)) }
 {
     for argument in taker.given {
         tell(faults, undefined_argument(taker, defined, argument)?)?;
@@ -163,7 +163,7 @@ fn tell_required_arguments(
     faults: &mut Vec<Fault>,
 ) -> Result<(), AllocError>
     requires { AreNumbers argument_name given.now (arguments_of taker.now.given.now) }
-    ensures { OnOk result (faults_of faults.new ≡ faults_of faults.old ++ flat_map (required_argument (taker_of taker.now)) (inputs_of taker.now.definitions.now)) }
+    ensures { OnOk result (faults_of faults.new ≡ faults_of faults.old ++ flat_map (required_argument (taker_of taker.now)) (input_value_trees taker.now.definitions.now)) }
 {
     for definition in taker.definitions {
         tell(faults, required_argument(taker, given, definition)?)?;
@@ -197,8 +197,8 @@ fn check_if_defined(
     variables: &DefinedVariables<'_>,
     faults: &mut Vec<Fault>,
 ) -> Result<(), AllocError>
-    requires { AreNumbers input_name defined.now (inputs_of taker.now.definitions.now) }
-    ensures { OnOk result (Adds faults.old faults.new (DefinedArgumentBreaks (schema_tree schema.now) (variables_of variables.now) (inputs_of taker.now.definitions.now) (node_tree argument_tree argument.now))) }
+    requires { AreNumbers input_name defined.now (input_value_trees taker.now.definitions.now) }
+    ensures { OnOk result (Adds faults.old faults.new (DefinedArgumentBreaks (schema_tree schema.now) (variables_of variables.now) (input_value_trees taker.now.definitions.now) (node_tree argument_tree argument.now))) }
 {
     let name = &argument.content().name;
     match find_definition(taker.definitions, defined, name) {
@@ -226,9 +226,9 @@ fn check_arguments(
     variables: &DefinedVariables<'_>,
     faults: &mut Vec<Fault>,
 ) -> Result<(), AllocError>
-    requires defined { AreNumbers input_name defined.now (inputs_of taker.now.definitions.now) }
+    requires defined { AreNumbers input_name defined.now (input_value_trees taker.now.definitions.now) }
     requires given { AreNumbers argument_name given.now (arguments_of taker.now.given.now) }
-    ensures { OnOk result (Adds faults.old faults.new (λ f. AtSomeIndex (arguments_of taker.now.given.now) (λ j a. FirstGivenBreaks (schema_tree schema.now) (variables_of variables.now) (inputs_of taker.now.definitions.now) (take j (arguments_of taker.now.given.now)) a f))) }
+    ensures { OnOk result (Adds faults.old faults.new (λ f. AtSomeIndex (arguments_of taker.now.given.now) (λ j a. FirstGivenBreaks (schema_tree schema.now) (variables_of variables.now) (input_value_trees taker.now.definitions.now) (take j (arguments_of taker.now.given.now)) a f))) }
 {
     for index in 0..taker.given.len() {
         let argument = &taker.given[index];

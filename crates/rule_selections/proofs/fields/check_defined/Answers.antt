@@ -1,6 +1,7 @@
 use Rattle.std.proofs.Common.{◌∙◌, refl, ap, sym, subst, true≢false, is_some}
 use Rattle.std.proofs.lemmas.Result.{on_ok_weaker}
 use Rattle.graphql_names.specs.Placed.{Place}
+use Rattle.tree_directives.specs.DirectiveTree.{input_value_trees}
 use Rattle.graphql_schema.specs.SchemaOf.{schema_tree}
 use Rattle.tree_type_members.specs.declared.field_definition.FieldDefinition.{FieldDefinition}
 use Rattle.document_typed_selections.specs.declared.selection.Field.{Field}
@@ -12,7 +13,7 @@ use Rattle.rule_definitions.specs.Judged.{judged}
 use Rattle.rule_definitions.specs.Uses.{Taker, TakerBreaks}
 use Rattle.rule_values.specs.Wanting.{variables_of}
 use Rattle.rule_document_definitions.specs.Told.{place_or_built_in}
-use Rattle.rule_uses.specs.Trees.{arguments_of, inputs_of}
+use Rattle.rule_uses.specs.Trees.{arguments_of}
 use Rattle.rule_selections.proofs.Takers.{same_taker, tells_places}
 use Rattle.rule_selections.proofs.fields.check_defined.Goals as goal
 
@@ -33,7 +34,7 @@ returns c =
     let found = c.in-Ok.ensures.found in
     let given = c.as_slice.result.now in
     let definitions = c.as_slice-2.result.now in
-    let same_inputs = ap inputs_of c.as_slice-2.ensures.value ∙ ap (λ (d : FieldDefinition). inputs_of d.arguments.items) c.content.ensures in
+    let same_inputs = ap input_value_trees c.as_slice-2.ensures.value ∙ ap (λ (d : FieldDefinition). input_value_trees d.arguments.items) c.content.ensures in
     on_ok_weaker c.check_taken.result
     (λ h defined. subst (λ (t : Taker Place). Adds c.args.faults.now c.check_taken.new.faults (TakerBreaks (place_or_built_in s) (judged s) vs t))
     (same_taker s c.args.parent.now c.args.field.now f c.content-selected.ensures component found c.location.result c.location-2.result given definitions c.location.ensures c.location-2.ensures (ap arguments_of c.as_slice.ensures.value) same_inputs defined)

@@ -3,7 +3,7 @@ use Rattle.std.specs.Option.{option_map_or}
 use Rattle.std.proofs.lemmas.Result.{on_ok_weaker}
 use Rattle.graphql_names.specs.Node.{content}
 use Rattle.graphql_names.specs.Placed.{Placed, Place, node_tree}
-use Rattle.tree_directives.specs.DirectiveTree.{DirectiveDefinitionTree, directive_tree, directive_definition_tree}
+use Rattle.tree_directives.specs.DirectiveTree.{DirectiveDefinitionTree, directive_tree, directive_definition_tree, input_value_trees}
 use Rattle.tree_directives.specs.declared.directive.Directive.{Directive}
 use Rattle.tree_directives.specs.declared.directive.DirectiveDefinition.{DirectiveDefinition}
 use Rattle.rule_values.specs.in_schema.in_schema_types.Addresses.{DirectiveDefinitionAt, arguments_at, place_at}
@@ -13,7 +13,7 @@ use Rattle.rule_values.specs.in_rule_definitions.Judged.{judged}
 use Rattle.rule_values.specs.in_rule_definitions.Uses.{Taker, TakerBreaks}
 use Rattle.rule_values.specs.in_fault_data.Adds.{Adds}
 use Rattle.rule_values.specs.Wanting.{variables_of}
-use Rattle.rule_uses.specs.Trees.{arguments_of, inputs_of}
+use Rattle.rule_uses.specs.Trees.{arguments_of}
 use Rattle.rule_uses.specs.UseFaults.{unsupported_location}
 use Rattle.rule_values.proofs.in_rule_definitions.Listing.{gains_both, gains_list}
 use Rattle.rule_values.proofs.in_fault_data.Judgings.{directive_look}
@@ -30,8 +30,8 @@ returns c =
     let b = faults_of c.tell.new.faults in
     let u = c.in_ok-fault.ensures in
     let given = ap arguments_of c.as_slice.ensures.value ∙ ap (λ (x : Directive). arguments_of x.arguments.items) c.content-used.ensures in
-    let definitions = ap inputs_of c.as_slice-2.ensures.value ∙ ap (λ (x : DirectiveDefinition). inputs_of x.arguments.items) c.content.ensures in
-    let taker = same_taker d c.location-place.result (arguments_of c.as_slice.result.now) c.content-used.result.now.name.text (inputs_of c.as_slice-2.result.now) (inputs_of (content c.args.definition.now).arguments.items)
+    let definitions = ap input_value_trees c.as_slice-2.ensures.value ∙ ap (λ (x : DirectiveDefinition). input_value_trees x.arguments.items) c.content.ensures in
+    let taker = same_taker d c.location-place.result (arguments_of c.as_slice.result.now) c.content-used.result.now.name.text (input_value_trees c.as_slice-2.result.now) (input_value_trees (content c.args.definition.now).arguments.items)
     c.location-place.ensures given (ap (λ (x : Directive). x.name.text) c.content-used.ensures) definitions in
     let stands = ap (λ (x : Directive). arguments_at s (DirectiveDefinitionAt x.name.text)) c.content-used.ensures ∙ ap (λ o. option_map_or (λ (x : Placed Place (DirectiveDefinitionTree Place)). x.it.arguments) o []) c.requires ∙ sym definitions in
     on_ok_weaker c.check_taken.result

@@ -5,12 +5,11 @@ use Rattle.graphql_names.specs.NameValue.{NameValue}
 use Rattle.graphql_names.specs.Placed.{Placed, Place, node_tree}
 use Rattle.graphql_names.specs.declared.node.Node.{Node}
 use Rattle.tree_directives.specs.declared.directive.DirectiveDefinition.{DirectiveDefinition}
-use Rattle.tree_directives.specs.DirectiveTree.{InputValues, DirectiveDefinitionTree, directive_definition_tree}
+use Rattle.tree_directives.specs.DirectiveTree.{InputValues, DirectiveDefinitionTree, directive_definition_tree, input_value_trees}
 use Rattle.rule_values.specs.in_schema.in_schema_types.TypeView.{name_text}
 use Rattle.rule_values.specs.in_schema.SchemaOf.{schema_tree}
 use Rattle.rule_values.specs.in_fault_data.FaultView.{faults_of}
 use Rattle.rule_values.specs.in_fault_data.Adds.{Adds}
-use Rattle.rule_uses.specs.Trees.{inputs_of}
 use Rattle.rule_uses.specs.SchemaUses.{ArgumentUses, DefinitionUses}
 use Rattle.rule_values.proofs.in_rule_definitions.Listing.{gains_none, gains_more}
 use Rattle.rule_uses.proofs.SchemaSteps.{pairs_more}
@@ -28,7 +27,7 @@ loop-definition-preserved c =
     let d : (Bor NameValue × Bor (Node DirectiveDefinition)) → NameValue × Node DirectiveDefinition = λ e. (e.0.now, e.1.now) in
     gains_more (faults_of c.args.faults.now) (faults_of c.loop-definition.faults) (faults_of c.check_arguments.new.faults) (map g (map d c.loop-definition.yielded)) _ _
     (λ k e f. ArgumentUses s e.1.it.arguments f) (pairs_more g d c.loop-definition.yielded _) c.loop-definition.invariant
-    (subst (λ (l : InputValues Place). Adds c.loop-definition.faults c.check_arguments.new.faults (ArgumentUses s l)) (ap inputs_of c.deref.ensures.value ∙ ap (λ (x : DirectiveDefinition). inputs_of x.arguments.items) c.content.ensures) c.in_ok-check_arguments.ensures)
+    (subst (λ (l : InputValues Place). Adds c.loop-definition.faults c.check_arguments.new.faults (ArgumentUses s l)) (ap input_value_trees c.deref.ensures.value ∙ ap (λ (x : DirectiveDefinition). input_value_trees x.arguments.items) c.content.ensures) c.in_ok-check_arguments.ensures)
 
 pub returns : goal.returns
 returns c =

@@ -3,14 +3,14 @@ use Rattle.std.proofs.lemmas.List.{take_all}
 use Rattle.graphql_names.specs.Node.{content}
 use Rattle.graphql_names.specs.Placed.{node_tree, Placed, Place}
 use Rattle.graphql_names.specs.declared.node.Node.{Node}
-use Rattle.tree_directives.specs.DirectiveTree.{argument_tree, ArgumentTree}
+use Rattle.tree_directives.specs.DirectiveTree.{argument_tree, ArgumentTree, input_value_trees}
 use Rattle.tree_directives.specs.declared.directive.Argument.{Argument}
 use Rattle.rule_values.specs.in_fault_data.FaultView.{faults_of}
 use Rattle.rule_values.specs.in_schema.SchemaOf.{schema_tree}
 use Rattle.rule_values.specs.in_rule_definitions.Words.{AtSomeIndex}
 use Rattle.rule_values.specs.in_fault_data.Adds.{Adds}
 use Rattle.rule_values.specs.Wanting.{variables_of}
-use Rattle.rule_uses.specs.Trees.{arguments_of, inputs_of}
+use Rattle.rule_uses.specs.Trees.{arguments_of}
 use Rattle.rule_uses.specs.Steps.{DefinedArgumentBreaks, FirstGivenBreaks}
 use Rattle.rule_values.proofs.in_rule_definitions.Listing.{Gains, gains_none, gains_more, mapped_more}
 use Rattle.rule_uses.proofs.Numbered.{first_gains, later_gains}
@@ -20,13 +20,13 @@ use Rattle.rule_uses.proofs.taken.check_arguments.Goals.{then-has_number+in_ok-c
 pub loop-index-init : goal.loop-index-init
 loop-index-init c =
     let s = schema_tree c.args.schema.now in
-    gains_none {X = Placed Place (ArgumentTree Place)} (faults_of c.args.faults.now) (λ j a f. FirstGivenBreaks s (variables_of c.args.variables.now) (inputs_of c.args.taker.now.definitions.now) (take j (arguments_of c.args.taker.now.given.now)) a f)
+    gains_none {X = Placed Place (ArgumentTree Place)} (faults_of c.args.faults.now) (λ j a f. FirstGivenBreaks s (variables_of c.args.variables.now) (input_value_trees c.args.taker.now.definitions.now) (take j (arguments_of c.args.taker.now.given.now)) a f)
 
 pub loop-index-preserved : goal.loop-index-preserved
 loop-index-preserved c =
     let s = schema_tree c.args.schema.now in
     let vs = variables_of c.args.variables.now in
-    let definitions = inputs_of c.args.taker.now.definitions.now in
+    let definitions = input_value_trees c.args.taker.now.definitions.now in
     let xs = c.args.taker.now.given.now in
     let i = c.loop-index.index in
     let x = c.index-taker-index.result in
@@ -51,7 +51,7 @@ pub returns : goal.returns
 returns c =
     let s = schema_tree c.args.schema.now in
     let vs = variables_of c.args.variables.now in
-    let definitions = inputs_of c.args.taker.now.definitions.now in
+    let definitions = input_value_trees c.args.taker.now.definitions.now in
     let xs = c.args.taker.now.given.now in
     subst (λ l. Adds c.args.faults.now c.loop-index.faults (λ f. AtSomeIndex (arguments_of l) (λ j a. FirstGivenBreaks s vs definitions (take j (arguments_of xs)) a f)))
     (take_all c.loop-index.index xs c.loop-index-test.false) c.loop-index.invariant

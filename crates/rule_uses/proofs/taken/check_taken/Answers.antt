@@ -2,10 +2,11 @@ use Rattle.std.proofs.Common.{◌≡◌, ◌++◌, [], take, sym, ap, ◌∙◌}
 use Rattle.std.specs.List.{flat_map}
 use Rattle.std.proofs.lemmas.List.{append-nil}
 use Rattle.std.proofs.lemmas.Result.{on_ok_weaker}
+use Rattle.tree_directives.specs.DirectiveTree.{input_value_trees}
 use Rattle.rule_values.specs.in_fault_data.FaultView.{faults_of}
 use Rattle.rule_values.specs.in_schema.SchemaOf.{schema_tree}
 use Rattle.rule_values.specs.Wanting.{variables_of}
-use Rattle.rule_uses.specs.Trees.{arguments_of, inputs_of, taker_of}
+use Rattle.rule_uses.specs.Trees.{arguments_of, taker_of}
 use Rattle.rule_uses.specs.UseFaults.{undefined_argument, required_argument}
 use Rattle.rule_values.specs.in_rule_definitions.Words.{AtSomeIndex}
 use Rattle.rule_uses.specs.Steps.{FirstGivenBreaks}
@@ -19,7 +20,7 @@ returns-then-is_empty c =
     let s = schema_tree c.args.schema.now in
     let vs = variables_of c.args.variables.now in
     let t = taker_of c.args.taker.now in
-    let ds = inputs_of c.args.taker.now.definitions.now in
+    let ds = input_value_trees c.args.taker.now.definitions.now in
     let a = faults_of c.args.faults.now in
     let d = faults_of c.tell_required_arguments.new.faults in
     let none : t.given ≡ [] = ap arguments_of (empty_is c.args.taker.now.given.now (sym c.is_empty.ensures ∙ c.if-is_empty.true)) in
@@ -37,7 +38,7 @@ returns c =
     let s = schema_tree c.args.schema.now in
     let vs = variables_of c.args.variables.now in
     let t = taker_of c.args.taker.now in
-    let ds = inputs_of c.args.taker.now.definitions.now in
+    let ds = input_value_trees c.args.taker.now.definitions.now in
     let a = faults_of c.args.faults.now in
     let b = faults_of c.tell_undefined_arguments.new.faults in
     let d = faults_of c.tell_required_arguments-2.new.faults in
