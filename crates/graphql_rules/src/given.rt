@@ -1,6 +1,6 @@
 //! Rules on directives, and on arguments and variables by themselves.
 ghost use Rattle.std.specs.Prelude.{◌≡◌, ◌↔◌, ⊤, List, IfOk, OnOk, OnErr, IsTrue};
-ghost use Rattle.std.specs.Iterator.{IsFinite, HoldsAlong, DrainsIf};
+ghost use Rattle.std.specs.Iterator.{DrainsIf};
 ghost use Rattle.tree_directives.specs.Iterators.{CanBeDrained};
 ghost use Rattle.rule_uses.specs.Alone.{ArgumentsBreak};
 ghost use Rattle.rule_uses.specs.Trees.{arguments_of, directives_of};
@@ -23,7 +23,7 @@ fn nodes_of<D: Deref<Target = Node<Directive>> + Drop, I: IntoIterator<Item = D>
     alloc: Global,
     directives: I,
 ) -> Result<Vec<Node<Directive>>, AllocError>
-    requires { (it : I.IntoIter) → I.into_iter_gives directives it → I.IntoIter.can_next it × IsFinite (I.IntoIter.remaining it) × HoldsAlong I.IntoIter.next_gives it (λ _. ⊤) }
+    requires { CanBeDrained I.into_iter_gives I.IntoIter.can_next I.IntoIter.remaining I.IntoIter.next_gives directives }
     ensures { IfOk result (λ nodes. (it : I.IntoIter) × (I.into_iter_gives directives it × ((all : List D) × (DrainsIf I.IntoIter.next_gives ⊤ it all × Each (LeadsToDirective D.deref_gives) all (directives_of nodes.items))))) }
 {
     let mut nodes = Vec::new(alloc);
