@@ -18,8 +18,8 @@ use Rattle.document_typing.specs.KeptDocument.{meant_operation}
 use Rattle.document_typing.specs.TypingFaults.{TypingFault, typing_fault_at, UndefinedRootOperation}
 use Rattle.document_typing.specs.SetFaults.{set_faults}
 use Rattle.document_typing.specs.Steps.{Typed, told, based, is_under, is_known, name_faults, with_anonymous, with_named, on_root, and_operation}
-use Rattle.document_typing.specs.StepsView.{operation_meaning, named_meanings}
-use Rattle.document_typing.specs.DocumentView.{meant_by_operation}
+use Rattle.document_typing.specs.StepsView.{named_meanings}
+use Rattle.document_typing.specs.DocumentView.{meant_by_operation, operation_meant}
 use Rattle.document_typing.proofs.DocumentMeant.{optional, entries}
 
 -- ---- where it stands
@@ -60,7 +60,7 @@ put-kept fragments faults (Some n) o t absent = ap (λ l. record (document_of fr
 
 -- what these operations mean
 abbrev pub meant_with : Entries (MeantFragment Place) → OperationMap NameValue (Node Operation) → MeantDocument Place
-meant_with fragments m = record { anonymous = option_map operation_meaning m.anonymous; named = named_meanings m.named; fragments = fragments }
+meant_with fragments m = record { anonymous = option_map operation_meant m.anonymous; named = named_meanings m.named; fragments = fragments }
 
 meant-with : (fragments : Entries (MeantFragment Place)) (m : OperationMap NameValue (Node Operation)) → document_of fragments (typed_operations_tree m) ≡ meant_with fragments m
 meant-with fragments m = λ i. record {
@@ -71,7 +71,7 @@ meant-with fragments m = λ i. record {
 
 -- an operation whose name is not known, put among the others
 pub operation-put : (fragments : Entries (MeantFragment Place)) (faults : List (TypingFault Place)) (n : Option (Text Place)) (old new : OperationMap NameValue (Node Operation)) (o : Node Operation) (x : MeantOperation Place)
-    → operation_meaning o ≡ x → x.name ≡ n
+    → operation_meant o ≡ x → x.name ≡ n
     → typed_operations_tree new ≡ with_operation (node_tree typed_operation_tree o) (typed_operations_tree old)
     → is_known n (record { document = meant_with fragments old; faults = faults }) ≡ false
     → meant_with fragments new ≡ and_kept n x (meant_with fragments old)

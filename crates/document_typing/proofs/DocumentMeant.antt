@@ -5,8 +5,8 @@ use Rattle.graphql_names.specs.Placed.{node_tree}
 use Rattle.schema_types.specs.TypeView.{name_text}
 use Rattle.document_typed_operations.specs.TypedDocument.{typed_operation_tree, typed_fragment_tree, typed_document_tree}
 use Rattle.document_typed_operations.specs.declared.document.ExecutableDocument.{ExecutableDocument}
-use Rattle.document_typing.specs.DocumentView.{meant_by_operation, meant_by_fragment, meant_document}
-use Rattle.document_typing.specs.StepsView.{operation_meaning, named_meanings, fragment_meanings}
+use Rattle.document_typing.specs.DocumentView.{meant_by_operation, meant_by_fragment, meant_document, operation_meant}
+use Rattle.document_typing.specs.StepsView.{named_meanings, fragment_meanings}
 
 module _ {V W X : Type 0} (meant : W → X) (view : V → W) where
   pub optional : (o : Option V) → option_map meant (option_map view o) ≡ option_map (λ v. meant (view v)) o
@@ -20,7 +20,7 @@ module _ {V W X : Type 0} (meant : W → X) (view : V → W) where
   entries key (e ∷ es) = let first : List ℕ × X = (key e.0, meant (view e.1)) in ap (λ l. first ∷ l) (entries key es)
 
 pub document-meant : (d : ExecutableDocument) → meant_document (typed_document_tree d) ≡ record {
-  anonymous = option_map operation_meaning d.operations.anonymous;
+  anonymous = option_map operation_meant d.operations.anonymous;
   named = named_meanings d.operations.named;
   fragments = fragment_meanings d.fragments;
 }

@@ -1,9 +1,12 @@
 -- What contracts see of typed documents: what they mean.
 use Rattle.std.specs.Prelude.{map}
 use Rattle.std.specs.Option.{option_map}
-use Rattle.graphql_names.specs.Placed.{Placed}
+use Rattle.graphql_names.specs.Placed.{Placed, Place, node_tree}
+use Rattle.graphql_names.specs.declared.node.Node.{Node}
 use Rattle.document_typed_selections.specs.TypedTree.{set_type}
-use Rattle.document_typed_operations.specs.TypedDocument.{TypedOperation, TypedFragment, TypedDocumentTree}
+use Rattle.document_typed_operations.specs.TypedDocument.{TypedOperation, TypedFragment, TypedDocumentTree, typed_operation_tree, typed_document_tree}
+use Rattle.document_typed_operations.specs.declared.operation.Operation.{Operation}
+use Rattle.document_typed_operations.specs.declared.document.ExecutableDocument.{ExecutableDocument}
 use Rattle.document_typing.specs.MeantTree.{MeantOperation, MeantFragment, MeantDocument, meant_of_set}
 
 module _ {P : Type 0} where
@@ -33,3 +36,10 @@ module _ {P : Type 0} where
     named = map (λ e. (e.0, meant_by_operation e.1)) d.named;
     fragments = map (λ e. (e.0, meant_by_fragment e.1)) d.fragments;
   }
+
+-- what a document, what an operation means
+abbrev pub document_meant : ExecutableDocument → MeantDocument Place
+document_meant d = meant_document (typed_document_tree d)
+
+abbrev pub operation_meant : Node Operation → MeantOperation Place
+operation_meant o = meant_by_operation (node_tree typed_operation_tree o)

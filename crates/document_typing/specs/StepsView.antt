@@ -11,18 +11,15 @@ use Rattle.document_typed_operations.specs.declared.operation.Operation.{Operati
 use Rattle.document_typed_operations.specs.declared.operation.Fragment.{Fragment}
 use Rattle.document_typing.specs.MeantTree.{MeantOperation, MeantFragment}
 use Rattle.document_typing.specs.Steps.{Typed}
-use Rattle.document_typing.specs.DocumentView.{meant_by_operation, meant_by_fragment}
+use Rattle.document_typing.specs.DocumentView.{meant_by_fragment, operation_meant}
 use Rattle.document_typing.specs.FaultView.{faults_of}
 use Rattle.document_typing.specs.declared.document.TypedDocument.{TypedDocument}
-
-abbrev pub operation_meaning : Node Operation → MeantOperation Place
-operation_meaning n = meant_by_operation (node_tree typed_operation_tree n)
 
 abbrev pub fragment_meaning : Node Fragment → MeantFragment Place
 fragment_meaning n = meant_by_fragment (node_tree typed_fragment_tree n)
 
 abbrev pub named_meanings : {S : Type 0} → IndexMap NameValue (Node Operation) S → Entries (MeantOperation Place)
-named_meanings m = entries_of name_text operation_meaning m
+named_meanings m = entries_of name_text operation_meant m
 
 abbrev pub fragment_meanings : {S : Type 0} → IndexMap NameValue (Node Fragment) S → Entries (MeantFragment Place)
 fragment_meanings m = entries_of name_text fragment_meaning m
@@ -30,7 +27,7 @@ fragment_meanings m = entries_of name_text fragment_meaning m
 abbrev pub typed_view : TypedDocument → Typed Place
 typed_view t = record {
   document = record {
-    anonymous = option_map operation_meaning t.operations.anonymous;
+    anonymous = option_map operation_meant t.operations.anonymous;
     named = named_meanings t.operations.named;
     fragments = fragment_meanings t.fragments;
   };

@@ -8,11 +8,12 @@ ghost use Rattle.tree_operations.specs.OperationTree.{operation_tree, fragment_t
 ghost use Rattle.tree_definitions.specs.DefinitionTree.{definition_tree};
 ghost use Rattle.schema_types.specs.SchemaTree.{SchemaTree};
 ghost use Rattle.document_typed_selections.specs.TypedTree.{typed_set_tree};
+ghost use Rattle.document_typing.specs.DocumentView.{operation_meant};
 ghost use Rattle.document_typing.specs.KeptDocument.{meant_operation, meant_fragment};
 ghost use Rattle.document_typing.specs.SetFaults.{set_faults};
 ghost use Rattle.document_typing.specs.TypingFaults.{is_operation};
 ghost use Rattle.document_typing.specs.Steps.{told, based, is_known, name_faults, and_operation, and_fragment, and_definition, typed_in};
-ghost use Rattle.document_typing.specs.StepsView.{operation_meaning, fragment_meaning, typed_view, kept_tree};
+ghost use Rattle.document_typing.specs.StepsView.{fragment_meaning, typed_view, kept_tree};
 ghost use Rattle.document_typing.specs.FaultView.{faults_of};
 ghost use Rattle.document_typing.specs.DefinedByPlace.{IsDefinedSet, IsDefinedDocument};
 ghost use Rattle.document_typing.specs.MeaningView.{schema_under, meanings_under};
@@ -71,7 +72,7 @@ fn typed_operation(
     operation: &Node<OperationDefinition>,
     faults: &mut Vec<(Option<SourceSpan>, BuildError)>,
 ) -> Result<Node<Operation>, AllocError>
-    ensures kept { IfOk result (λ n. operation_meaning n ≡ meant_operation (meanings_under schema.entry) (based (place operation.now) root.now.text (operation_tree (content operation.now)))) }
+    ensures kept { IfOk result (λ n. operation_meant n ≡ meant_operation (meanings_under schema.entry) (based (place operation.now) root.now.text (operation_tree (content operation.now)))) }
     ensures defined { IfOk result (λ n. IsDefinedSet (schema_under schema.entry) (typed_set_tree (content n).selection_set)) }
     ensures faults { OnOk result (faults_of faults.new ≡ faults_of faults.old ++ set_faults (meanings_under schema.entry) (operation_tree (content operation.now)).selections root.now.text) }
 {

@@ -1,6 +1,7 @@
 //! What is judged without a schema, operation by operation.
 ghost use Rattle.std.specs.Prelude.{◌↔◌, Contains, IfOk, OnOk};
 ghost use Rattle.graphql_names.specs.Placed.{Place};
+ghost use Rattle.document_typing.specs.DocumentView.{document_meant, operation_meant};
 ghost use Rattle.fault_data.specs.Adds.{Adds};
 ghost use Rattle.fault_data.specs.FaultView.{faults_of};
 ghost use Rattle.rule_document_definitions.specs.Defer.{DeferBreaks};
@@ -9,7 +10,6 @@ ghost use Rattle.rule_document_definitions.specs.DocumentRules.{DeferredBreaks};
 ghost use Rattle.rule_document_definitions.specs.Reached.{AtOperation};
 ghost use Rattle.rule_document_ground.specs.Broken.{brokens_of, AddsBroken};
 ghost use Rattle.rule_fragments.specs.Used.{AreUnderOwnNames, names_of};
-ghost use Rattle.rule_subscriptions.specs.Told.{document_meant, operation_meant};
 ghost use Rattle.graphql_validation.specs.Operations.{OperationFailsAlone, ReachesNamed, NotesNames, TellsData, AllAlone};
 
 use crate::found::{Found, check_fragments, note_fragments};

@@ -3,13 +3,13 @@ ghost use Rattle.std.specs.Prelude.{◌≡◌, ◌↔◌, [], false, Contains, I
 ghost use Rattle.graphql_names.specs.Placed.{Place};
 ghost use Rattle.graphql_schema.specs.SchemaOf.{schema_tree};
 ghost use Rattle.document_meaning.specs.MeantTree.{MeantOperation};
+ghost use Rattle.document_typing.specs.DocumentView.{document_meant};
 ghost use Rattle.rule_definitions.specs.Judged.{judged};
 ghost use Rattle.rule_document_definitions.specs.Merging.{FieldsMerge};
 ghost use Rattle.rule_document_definitions.specs.Selected.{operations};
 ghost use Rattle.fault_data.specs.FaultView.{faults_of};
 ghost use Rattle.graphql_faults.specs.DetailsView.{diagnostics_of, BeginsAs};
 ghost use Rattle.rule_document_ground.specs.Broken.{brokens_of};
-ghost use Rattle.rule_subscriptions.specs.Told.{document_meant};
 ghost use Rattle.rule_merging.specs.Merged.{DocumentMergingTold};
 ghost use Rattle.graphql_validation.specs.TellsDocument.{TypedDocumentTold, SilenceMeansValid, ValidMeansSilence};
 

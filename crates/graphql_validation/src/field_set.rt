@@ -4,9 +4,9 @@ ghost use Rattle.graphql_names.specs.Placed.{Place};
 ghost use Rattle.graphql_schema.specs.SchemaOf.{schema_tree};
 ghost use Rattle.rule_document_definitions.specs.FieldSets.{document_of_set};
 ghost use Rattle.graphql_faults.specs.DetailsView.{diagnostics_of, BeginsAs};
-ghost use Rattle.rule_subscriptions.specs.Told.{document_meant};
 ghost use Rattle.document_typed_operations.specs.TypedDocument.{typed_operation_tree};
 ghost use Rattle.document_typed_selections.specs.TypedTree.{typed_set_tree};
+ghost use Rattle.document_typing.specs.DocumentView.{document_meant};
 ghost use Rattle.graphql_validation.specs.Operations.{query_on};
 ghost use Rattle.graphql_validation.specs.Told.{set_meant, TypedFieldSetTold, SilenceMeansValidSet, ValidSetMeansSilence};
 

@@ -4,10 +4,10 @@ ghost use Rattle.std.specs.List.{IsDistinct};
 ghost use Rattle.std.specs.Map.{keys_of};
 ghost use Rattle.std.specs.Str.{bytes_eq};
 ghost use Rattle.indexmap.specs.IndexSet.{insert_key};
+ghost use Rattle.document_typing.specs.DocumentView.{document_meant};
 ghost use Rattle.rule_document_ground.specs.Reach.{reached_fragments_of};
 ghost use Rattle.fault_data.specs.FaultView.{faults_of};
 ghost use Rattle.rule_fragments.specs.Used.{AreUnderOwnNames, AreUsed, names_of};
-ghost use Rattle.rule_subscriptions.specs.Told.{document_meant};
 ghost use Rattle.graphql_validation.specs.Operations.{with_fragments, FragmentsTold};
 
 use document_typed_operations::ExecutableDocument;

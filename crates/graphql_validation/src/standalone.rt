@@ -1,7 +1,7 @@
 //! Every rule on a document without a schema.
 ghost use Rattle.std.specs.Prelude.{OnErr, OnOk};
+ghost use Rattle.document_typing.specs.DocumentView.{document_meant};
 ghost use Rattle.graphql_faults.specs.DetailsView.{diagnostics_of, BeginsAs};
-ghost use Rattle.rule_subscriptions.specs.Told.{document_meant};
 ghost use Rattle.graphql_validation.specs.Told.{NamedAloneTold, SilenceMeansValidAlone, ValidAloneMeansSilence};
 
 use crate::alone::{deferred_breaches, faults_alone};

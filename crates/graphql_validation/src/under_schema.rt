@@ -11,7 +11,7 @@ ghost use Rattle.rule_definitions.specs.Judged.{judged};
 ghost use Rattle.graphql_schema.specs.SchemaOf.{schema_tree};
 ghost use Rattle.schema_types.specs.Plain.{plain};
 ghost use Rattle.rule_selections.specs.Typed.{ReachesTyped};
-ghost use Rattle.rule_subscriptions.specs.Told.{document_meant, operation_meant};
+ghost use Rattle.document_typing.specs.DocumentView.{document_meant, operation_meant};
 ghost use Rattle.document_typing.specs.Meanings.{meanings};
 ghost use Rattle.graphql_validation.specs.Operations.{OperationFails, ReachesNamed, NotesNames, AreReachesTyped, TellsData, AllUnder, AddsSubscriptions, TellsBreaches};
 

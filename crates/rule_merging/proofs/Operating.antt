@@ -8,6 +8,7 @@ use Rattle.document_typed_selections.specs.TypedTree.{typed_set_tree}
 use Rattle.document_typed_operations.specs.declared.operation.Operation.{Operation}
 use Rattle.document_typed_operations.specs.declared.document.ExecutableDocument.{ExecutableDocument}
 use Rattle.document_meaning.specs.MeantTree.{MeantOperation, MeantDocument, meant_of_set}
+use Rattle.document_typing.specs.DocumentView.{document_meant, operation_meant}
 use Rattle.rule_definitions.specs.Judged.{Judged}
 use Rattle.rule_document_definitions.specs.DocumentFaults.{Broken}
 use Rattle.rule_field_groups.specs.in_ground.Fields.{meant_fragments}
@@ -18,7 +19,7 @@ use Rattle.rule_merging.specs.declared.operation.Examined.{Examined}
 use Rattle.rule_merging.specs.Remembered.{remembered}
 use Rattle.rule_field_groups.specs.Below.{AreStarting, AreStartingWith}
 use Rattle.rule_merging.specs.Examined.{AllExamined}
-use Rattle.rule_merging.specs.Verdict.{document_meant, operation_meant, OperationExamined}
+use Rattle.rule_merging.specs.Verdict.{OperationExamined}
 use Rattle.rule_merging.proofs.Examining.{left_empty, right_empty}
 
 left_false : (a b : Bool) → (a || b) ≡ false → a ≡ false

@@ -6,8 +6,7 @@ use Rattle.rule_cycle_search.specs.Paths.{HasNoRepeat}
 use Rattle.fault_document_data.specs.declared.build_error.BuildError.{BuildError}
 use Rattle.document_typing.specs.in_schema.SchemaOf.{schema_tree}
 use Rattle.document_meaning.specs.MeantTree.{MeantOperation, MeantDocument}
-use Rattle.document_typing.specs.DocumentView.{meant_document}
-use Rattle.document_typed_operations.specs.TypedDocument.{typed_document_tree}
+use Rattle.document_typing.specs.DocumentView.{document_meant}
 use Rattle.rule_definitions.specs.Judged.{Judged, judged}
 use Rattle.rule_document_definitions.specs.DocumentFaults.{Broken}
 use Rattle.rule_document_definitions.specs.Selected.{StandingField}
@@ -29,7 +28,7 @@ abbrev pub schema_of : Examination → Judged
 schema_of e = judged (schema_tree e.schema.now)
 
 abbrev pub document_of : Examination → MeantDocument Place
-document_of e = meant_document (typed_document_tree e.document.now)
+document_of e = document_meant e.document.now
 
 -- breaches
 abbrev pub Breaches : Type 0

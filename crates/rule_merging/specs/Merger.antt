@@ -3,12 +3,13 @@ use Rattle.std.specs.Prelude.{◌≡◌, ◌↔◌, ℕ, Bool, List, Contains, I
 use Rattle.graphql_names.specs.Placed.{Place}
 use Rattle.document_typing.specs.in_schema.SchemaOf.{schema_tree}
 use Rattle.document_meaning.specs.MeantTree.{MeantOperation, MeantDocument}
+use Rattle.document_typing.specs.DocumentView.{document_meant}
 use Rattle.rule_definitions.specs.Judged.{Judged, judged}
 use Rattle.rule_document_definitions.specs.Merging.{FieldsMerge}
 use Rattle.rule_document_definitions.specs.Selected.{operations}
 use Rattle.rule_merging_laws.specs.Contents.{PlainField}
 use Rattle.rule_merging.specs.Counted.{IsCountedBy}
-use Rattle.rule_merging.specs.Verdict.{document_meant, lists_examined, comparisons_of}
+use Rattle.rule_merging.specs.Verdict.{lists_examined, comparisons_of}
 use Rattle.rule_merging.specs.Telling.{Telling}
 use Rattle.rule_merging.specs.Merged.{MergingTold}
 use Rattle.rule_merging.specs.declared.merging.FieldsInSetCanMerge.{FieldsInSetCanMerge}

@@ -1,12 +1,7 @@
 -- What the examination of an operation comes to.
 use Rattle.std.specs.Prelude.{◌≡◌, ◌++◌, ℕ, Bool, true, false, List, [], Contains}
-use Rattle.graphql_names.specs.Placed.{Place, node_tree}
-use Rattle.graphql_names.specs.declared.node.Node.{Node}
-use Rattle.document_typed_operations.specs.TypedDocument.{typed_operation_tree, typed_document_tree}
-use Rattle.document_typed_operations.specs.declared.operation.Operation.{Operation}
-use Rattle.document_typed_operations.specs.declared.document.ExecutableDocument.{ExecutableDocument}
+use Rattle.graphql_names.specs.Placed.{Place}
 use Rattle.document_meaning.specs.MeantTree.{MeantOperation, MeantDocument}
-use Rattle.document_typing.specs.DocumentView.{meant_by_operation, meant_document}
 use Rattle.rule_definitions.specs.Judged.{Judged}
 use Rattle.rule_document_definitions.specs.DocumentFaults.{Broken}
 use Rattle.rule_document_definitions.specs.Merging.{FieldsMerge, MergingBreaks}
@@ -18,13 +13,6 @@ use Rattle.rule_merging.specs.Remembered.{remembered}
 use Rattle.rule_merging.specs.Examined.{Breaches, AreSettled}
 use Rattle.rule_merging.specs.declared.operation.Examined.{Examined}
 use Rattle.rule_field_groups.specs.declared.pass.Pass.TheVariants.{Shapes, Selections}
-
--- what a document, what an operation means
-abbrev pub document_meant : ExecutableDocument → MeantDocument Place
-document_meant d = meant_document (typed_document_tree d)
-
-abbrev pub operation_meant : Node Operation → MeantOperation Place
-operation_meant o = meant_by_operation (node_tree typed_operation_tree o)
 
 module _ (s : Judged) (d : MeantDocument Place) where
   -- the lists that were examined are settled, in both passes

@@ -4,7 +4,7 @@ ghost use Rattle.graphql_faults.specs.DetailsView.{diagnostics_of, BeginsAs};
 ghost use Rattle.rule_field_groups.specs.in_ground.Broken.{brokens_of};
 ghost use Rattle.rule_definitions.specs.Judged.{judged};
 ghost use Rattle.document_typing.specs.in_schema.SchemaOf.{schema_tree};
-ghost use Rattle.rule_merging.specs.Verdict.{document_meant, operation_meant};
+ghost use Rattle.document_typing.specs.DocumentView.{document_meant, operation_meant};
 ghost use Rattle.rule_merging.specs.Merged.{AreSettledIf, limit_told, conflicts_told};
 ghost use Rattle.rule_merging.specs.Telling.{of_document};
 

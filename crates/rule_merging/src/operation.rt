@@ -4,9 +4,10 @@ ghost use Rattle.document_typing.specs.in_schema.SchemaOf.{schema_tree};
 ghost use Rattle.rule_definitions.specs.Judged.{judged};
 ghost use Rattle.graphql_names.specs.Placed.{Place};
 ghost use Rattle.document_meaning.specs.MeantTree.{MeantDocument};
+ghost use Rattle.document_typing.specs.DocumentView.{document_meant, operation_meant};
 ghost use Rattle.rule_definitions.specs.Judged.{Judged};
 ghost use Rattle.rule_document_definitions.specs.Selected.{operations};
-ghost use Rattle.rule_merging.specs.Verdict.{document_meant, operation_meant, comparisons_of, AreBothSettled, IsCounted, ExaminesOperation};
+ghost use Rattle.rule_merging.specs.Verdict.{comparisons_of, AreBothSettled, IsCounted, ExaminesOperation};
 
 use crate::examination::Examination;
 use crate::remembered::Remembered;

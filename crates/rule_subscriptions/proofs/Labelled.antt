@@ -22,6 +22,7 @@ use Rattle.schema_components.specs.Lists.{each_place_after, each_place}
 use Rattle.schema_components.proofs.Places.{found_at, given_at, found_among, given_among}
 use Rattle.document_meaning.specs.MeantTree.{MeantSelection, MeantField, MeantSpread, MeantInline, MeantSet, meant_set, MeantSelections, no_meant, meant_then, MeantOperation, MeantFragment, MeantDocument}
 use Rattle.document_typed_operations.specs.declared.document.ExecutableDocument.{ExecutableDocument}
+use Rattle.document_typing.specs.DocumentView.{document_meant}
 use Rattle.fault_document_data.specs.DocumentBreaches.{DeferLabelMustNotBeVariable, DuplicateDeferLabel}
 use Rattle.rule_definitions.specs.Words.{Present, AtSomeIndex, FirstNamed, Repeats}
 use Rattle.rule_document_definitions.specs.DocumentFaults.{Broken, broken}
@@ -33,7 +34,6 @@ use Rattle.rule_subscriptions.specs.Inside.{contents_along, contents_below}
 use Rattle.rule_subscriptions.specs.Labels.{values_meant, label_of, labels_of, labels_in, text_label, string_label, variable_label, label_again, first_place, duplicate_label, label_breaks, AreFirstPlaces, NotesFirst, NotesLabel, told_again}
 use Rattle.rule_subscriptions.specs.Listed.{is_directive, all_stay}
 use Rattle.rule_subscriptions.specs.Rooted.{operation_set, fragment_set, alone_told}
-use Rattle.rule_subscriptions.specs.Told.{document_meant}
 use Rattle.rule_subscriptions.proofs.Sets.{flat_map-flat_map, document_told}
 
 -- what is given of some elements, piece by piece

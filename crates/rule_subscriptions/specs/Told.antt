@@ -1,24 +1,12 @@
 -- What a check of a subscription tells: its root fields have no order, so SubscriptionUsesMultipleFields is told with them in one of many.
-use Rattle.std.specs.Prelude.{◌≡◌, ◌++◌, ℕ, List, map, Vec, Contains, ◌⊎◌}
+use Rattle.std.specs.Prelude.{◌≡◌, ◌++◌, ℕ, List, Vec, Contains, ◌⊎◌}
 use Rattle.std.specs.declared.alloc.Global.{Global}
-use Rattle.graphql_names.specs.Placed.{Place, node_tree}
-use Rattle.graphql_names.specs.declared.node.Node.{Node}
+use Rattle.graphql_names.specs.Placed.{Place}
 use Rattle.fault_document_data.specs.declared.build_error.BuildError.{BuildError}
-use Rattle.document_typed_operations.specs.TypedDocument.{typed_operation_tree, typed_document_tree}
-use Rattle.document_typed_operations.specs.declared.operation.Operation.{Operation}
-use Rattle.document_typed_operations.specs.declared.document.ExecutableDocument.{ExecutableDocument}
 use Rattle.document_meaning.specs.MeantTree.{MeantOperation, MeantFragment, MeantDocument}
-use Rattle.document_typing.specs.DocumentView.{meant_by_operation, meant_document}
 use Rattle.rule_document_definitions.specs.DocumentFaults.{Broken}
 use Rattle.rule_document_definitions.specs.Subscriptions.{SubscriptionUsesMultipleFieldsAt, SubscriptionBreaks}
 use Rattle.rule_subscriptions.specs.Broken.{brokens_of}
-
--- what a document, what an operation means
-abbrev pub document_meant : ExecutableDocument → MeantDocument Place
-document_meant d = meant_document (typed_document_tree d)
-
-abbrev pub operation_meant : Node Operation → MeantOperation Place
-operation_meant o = meant_by_operation (node_tree typed_operation_tree o)
 
 -- each fragment stands under its own name, as in every document that is typed
 abbrev pub FragmentsUnderOwnNames : {P : Type 0} → MeantDocument P → Type 0

@@ -7,11 +7,11 @@ ghost use Rattle.rule_document_definitions.specs.Defer.{literal_if};
 ghost use Rattle.document_meaning.specs.MeantTree.{meant_of_set};
 ghost use Rattle.document_typed_selections.specs.TypedTree.{typed_set_tree};
 ghost use Rattle.document_walks.specs.WalkView.{fragments_tree};
+ghost use Rattle.document_typing.specs.DocumentView.{document_meant, operation_meant};
 ghost use Rattle.rule_subscriptions.specs.Always.{always_in, AreAlways, noted_names, to_enter};
 ghost use Rattle.rule_subscriptions.specs.Inside.{contents_of};
 ghost use Rattle.rule_subscriptions.specs.Listed.{leaves_out, stays};
 ghost use Rattle.rule_subscriptions.specs.Rooted.{lent, lent_all};
-ghost use Rattle.rule_subscriptions.specs.Told.{document_meant, operation_meant};
 
 use document_typed_operations::{ExecutableDocument, FragmentMap, Operation};
 use document_typed_selections::{Selection, SelectionSet};

@@ -3,11 +3,11 @@
 ghost use Rattle.std.specs.Prelude.{◌≡◌, ◌++◌, flat_map, option_to_list, IfOk, OnOk};
 ghost use Rattle.graphql_names.specs.Placed.{node_tree};
 ghost use Rattle.tree_directives.specs.DirectiveTree.{directive_tree};
+ghost use Rattle.document_typing.specs.DocumentView.{document_meant, operation_meant};
 ghost use Rattle.rule_document_definitions.specs.Defer.{DeferBreaks};
 ghost use Rattle.rule_subscriptions.specs.Broken.{brokens_of, told_by, AddsBroken};
 ghost use Rattle.rule_subscriptions.specs.Listed.{deferred_at_root, fragment_deferred, is_conditional, deferred_always, always_deferred};
 ghost use Rattle.rule_subscriptions.specs.Rooted.{lent, lent_all};
-ghost use Rattle.rule_subscriptions.specs.Told.{document_meant, operation_meant};
 
 use crate::always::always_reached;
 use crate::breach::{Breach, tell};

@@ -1,6 +1,6 @@
 //! The selections at the root of an operation.
 ghost use Rattle.std.specs.Prelude.{IfOk};
-ghost use Rattle.rule_subscriptions.specs.Told.{document_meant, operation_meant};
+ghost use Rattle.document_typing.specs.DocumentView.{document_meant, operation_meant};
 ghost use Rattle.rule_subscriptions.specs.Rooted.{AreRoots, lent_all};
 
 use document_typed_operations::{ExecutableDocument, Operation};

@@ -2,6 +2,7 @@ use Rattle.std.proofs.Common.{◌∙◌, ◌∷◌, [], ◌++◌, map, subst}
 use Rattle.graphql_names.specs.Placed.{Place}
 use Rattle.document_typed_operations.specs.OperationsByName.{left_operations}
 use Rattle.document_meaning.specs.MeantTree.{MeantOperation}
+use Rattle.document_typing.specs.DocumentView.{document_meant, operation_meant}
 use Rattle.rule_definitions.specs.Words.{AtSomeIndex}
 use Rattle.rule_document_definitions.specs.Selected.{operations}
 use Rattle.rule_document_definitions.specs.Reached.{AtOperation}
@@ -9,7 +10,6 @@ use Rattle.rule_document_definitions.specs.Defer.{DeferBreaks}
 use Rattle.rule_document_ground.specs.Broken.{AddsBroken}
 use Rattle.rule_document_ground.proofs.AddingBroken.{broken_none, broken_more, broken_same}
 use Rattle.rule_document_ground.proofs.AtReaches.{some_index}
-use Rattle.rule_subscriptions.specs.Told.{document_meant, operation_meant}
 use Rattle.graphql_validation.proofs.Operations.{lent_operation, lent_operations, all_operations, one_behind, lent_more, lent_all}
 use Rattle.graphql_validation.proofs.alone.check_defers.Goals as goal
 

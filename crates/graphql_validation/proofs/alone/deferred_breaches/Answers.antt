@@ -1,10 +1,10 @@
 use Rattle.std.proofs.Common.{◌↔◌, ◌∙◌, ◌++◌, map, sym, ap, subst, Contains}
+use Rattle.document_typing.specs.DocumentView.{document_meant}
 use Rattle.rule_document_definitions.specs.Defer.{DeferBreaks, LabelsBreak}
 use Rattle.rule_document_definitions.specs.DocumentRules.{DeferredBreaks}
 use Rattle.rule_document_definitions.specs.Reached.{AtOperation}
 use Rattle.rule_document_ground.specs.Broken.{broken_of}
 use Rattle.rule_document_ground.proofs.AddingBroken.{broken_both}
-use Rattle.rule_subscriptions.specs.Told.{document_meant}
 use Rattle.graphql_validation.proofs.alone.deferred_breaches.Goals as goal
 
 pub returns : goal.returns

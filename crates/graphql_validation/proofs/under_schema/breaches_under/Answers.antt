@@ -1,5 +1,5 @@
+use Rattle.document_typing.specs.DocumentView.{document_meant}
 use Rattle.rule_document_ground.specs.Broken.{brokens_of}
-use Rattle.rule_subscriptions.specs.Told.{document_meant}
 use Rattle.graphql_validation.proofs.Subscribed.{tells_breaches}
 use Rattle.graphql_validation.proofs.under_schema.breaches_under.Goals as goal
 

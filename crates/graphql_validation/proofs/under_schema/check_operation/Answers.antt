@@ -4,12 +4,12 @@ use Rattle.fault_data.specs.FaultView.{faults_of}
 use Rattle.graphql_schema.specs.SchemaOf.{schema_tree}
 use Rattle.document_typed_selections.specs.TypedTree.{typed_set_tree}
 use Rattle.document_typed_operations.specs.declared.operation.Operation.{Operation}
+use Rattle.document_typing.specs.DocumentView.{document_meant, operation_meant}
 use Rattle.rule_document_definitions.specs.Told.{place_or_built_in}
 use Rattle.rule_fragments.specs.Used.{names_of}
 use Rattle.rule_definitions.proofs.Listing.{gains_both, gains_same}
 use Rattle.rule_document_ground.specs.Reach.{reached_members, reached_fragments_of}
 use Rattle.rule_document_ground.proofs.OfDocuments.{ReachesFrom, operation_reaches}
-use Rattle.rule_subscriptions.specs.Told.{document_meant, operation_meant}
 use Rattle.graphql_validation.proofs.Noting.{fragments_noted}
 use Rattle.graphql_validation.proofs.Ordered.{ordered_under}
 use Rattle.graphql_validation.proofs.under_schema.check_operation.Goals as goal

@@ -2,11 +2,11 @@ use Rattle.std.proofs.Common.{◌≡◌, ◌++◌, map}
 use Rattle.fault_data.specs.Adds.{Adds}
 use Rattle.graphql_schema.specs.SchemaOf.{schema_tree}
 use Rattle.document_typed_operations.specs.OperationsByName.{left_operations}
+use Rattle.document_typing.specs.DocumentView.{document_meant, operation_meant}
 use Rattle.rule_definitions.specs.Words.{AtSomeIndex}
 use Rattle.rule_definitions.specs.Judged.{judged}
 use Rattle.rule_document_definitions.specs.Selected.{operations}
 use Rattle.rule_fragments.specs.Possible.{ArePossible}
-use Rattle.rule_subscriptions.specs.Told.{document_meant, operation_meant}
 use Rattle.rule_fragments.specs.Used.{names_of}
 use Rattle.graphql_validation.specs.Operations.{OperationFails, AreReachesTyped, ReachesNamed, NotesNames}
 use Rattle.graphql_validation.proofs.Operations.{lent_operations}

@@ -1,7 +1,7 @@
 use Rattle.std.proofs.Common.{◌∙◌, ◌∷◌, [], ◌++◌, map, subst}
 use Rattle.document_typed_operations.specs.OperationsByName.{left_operations}
+use Rattle.document_typing.specs.DocumentView.{document_meant, operation_meant}
 use Rattle.rule_document_definitions.specs.Selected.{operations}
-use Rattle.rule_subscriptions.specs.Told.{document_meant, operation_meant}
 use Rattle.graphql_validation.specs.Operations.{AddsSubscriptions}
 use Rattle.graphql_validation.proofs.Operations.{lent_operation, lent_operations, all_operations, one_behind, lent_more, lent_all}
 use Rattle.graphql_validation.proofs.Subscribed.{subscriptions_none, subscriptions_more}

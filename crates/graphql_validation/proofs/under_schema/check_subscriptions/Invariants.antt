@@ -1,8 +1,8 @@
 use Rattle.std.proofs.Common.{◌≡◌, ◌++◌, map}
 use Rattle.document_typed_operations.specs.OperationsByName.{left_operations}
+use Rattle.document_typing.specs.DocumentView.{document_meant, operation_meant}
 use Rattle.rule_document_definitions.specs.Selected.{operations}
 use Rattle.rule_fragments.specs.Used.{AreUnderOwnNames}
-use Rattle.rule_subscriptions.specs.Told.{document_meant, operation_meant}
 use Rattle.graphql_validation.specs.Operations.{AddsSubscriptions}
 use Rattle.graphql_validation.proofs.Operations.{lent_operations}
 use Rattle.graphql_validation.proofs.under_schema.check_subscriptions.Given as goal

@@ -1,10 +1,10 @@
 use Rattle.std.proofs.Common.{◌↔◌, ◌∙◌, ◌++◌, map, sym, ap, subst, Contains}
 use Rattle.std.proofs.lemmas.Result.{IfOk-weaker}
+use Rattle.document_typing.specs.DocumentView.{document_meant}
 use Rattle.fault_data.specs.FaultView.{fault_of, faults_of}
 use Rattle.graphql_schema.specs.SchemaOf.{schema_tree}
 use Rattle.rule_document_definitions.specs.Reached.{AtOperation}
 use Rattle.rule_fragments.specs.Used.{names_of}
-use Rattle.rule_subscriptions.specs.Told.{document_meant}
 use Rattle.graphql_validation.specs.Operations.{OperationFails, ReachesNamed, NotesNames, AllUnder}
 use Rattle.graphql_validation.proofs.Data.{are_used, tells_data}
 use Rattle.graphql_validation.proofs.Ordered.{all_under, recursive_under}

@@ -1,11 +1,11 @@
 use Rattle.std.proofs.Common.{◌||◌, sym, ap, subst, ◌∙◌}
 use Rattle.document_typing.specs.in_schema.SchemaOf.{schema_tree}
+use Rattle.document_typing.specs.DocumentView.{document_meant, operation_meant}
 use Rattle.rule_definitions.specs.Judged.{judged}
 use Rattle.rule_field_groups.specs.in_ground.Broken.{brokens_of}
 use Rattle.rule_merging.specs.Counted.{IsListed}
 use Rattle.rule_field_groups.specs.Below.{contents_of, AreStarting}
 use Rattle.rule_merging.specs.Remembered.{remembered}
-use Rattle.rule_merging.specs.Verdict.{document_meant, operation_meant}
 use Rattle.rule_merging.proofs.Counting.{starting_listed, shapes_counted, selections_counted}
 use Rattle.rule_merging.proofs.Operating.{starts, operation_step}
 use Rattle.rule_merging.proofs.operation.examine_operation.Goals as goal

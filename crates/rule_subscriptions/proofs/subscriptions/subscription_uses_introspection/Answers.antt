@@ -1,10 +1,10 @@
 use Rattle.std.proofs.Common.{◌≡◌, [], ◌∷◌, option_map, sym, ap, ◌∙◌, rules}
 use Rattle.graphql_names.specs.NameValue.{NameValue}
 use Rattle.document_typed_selections.specs.TypedTree.{typed_selection_tree}
+use Rattle.document_typing.specs.DocumentView.{operation_meant}
 use Rattle.fault_document_data.specs.DocumentBreaches.{SubscriptionUsesIntrospection}
 use Rattle.rule_document_definitions.specs.DocumentFaults.{broken}
 use Rattle.rule_document_definitions.specs.Selected.{operation_name}
-use Rattle.rule_subscriptions.specs.Told.{operation_meant}
 use Rattle.rule_subscriptions.proofs.Introspected.{introspected}
 use Rattle.rule_subscriptions.proofs.subscriptions.subscription_uses_introspection.Goals as goal
 

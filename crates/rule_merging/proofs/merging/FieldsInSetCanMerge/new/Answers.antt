@@ -1,6 +1,6 @@
 use Rattle.rule_definitions.specs.Judged.{judged}
 use Rattle.document_typing.specs.in_schema.SchemaOf.{schema_tree}
-use Rattle.rule_merging.specs.Verdict.{document_meant}
+use Rattle.document_typing.specs.DocumentView.{document_meant}
 use Rattle.rule_merging.proofs.merging.FieldsInSetCanMerge.new.Goals as goal
 
 pub invariant_of-result : goal.invariant_of-result
