@@ -13,15 +13,13 @@ use Rattle.document_typing.specs.TypingFaults as typing
 use Rattle.document_typing.specs.TypingFaults.{TypingFails}
 use Rattle.document_typing.specs.OutDoc.{written_document, out_doc}
 use Rattle.document_typing.specs.BuilderView.{DocumentBuilder}
-use Rattle.rule_document_definitions.specs.DocumentFaults.{OfData, OfDocument, OfLimit}
-use Rattle.rule_document_definitions.specs.Told.{PlacedDocumentFault, IsValidDocument}
+use Rattle.rule_document_definitions.specs.Told.{IsValidDocument}
 use Rattle.rule_document_definitions.specs.Verdict.{WithinBounds}
 use Rattle.rule_document_definitions.proofs.Unplaced.{contains_map, contains_unmap}
-use Rattle.graphql_validation.specs.Told as told
 use Rattle.graphql_validation.specs.TellsDocument.{DocumentTold}
-use Rattle.graphql_faults.specs.DetailsTree.{of_typing}
+use Rattle.graphql_faults.specs.DetailsTree.{of_typing, of_document}
 use Rattle.verdict_definitions.specs.Texts.{Tree}
-use Rattle.verdict_definitions.specs.Says.{AnyFault, of_document, TypingFailsOver}
+use Rattle.verdict_definitions.specs.Says.{AnyFault, TypingFailsOver}
 use Rattle.graphql_checked.specs.Checking.{TypesDocument, RefusesTyping, RefusesRules}
 
 -- ---- lists
@@ -68,20 +66,14 @@ refuses_typing schema tree document faults types some = record { some = some; ri
 
 -- ---- judging
 
--- the fault of a document, among all that can be wrong
-same_fault : (f : PlacedDocumentFault) → told.of_document f ≡ of_document f
-same_fault (OfData fault) = refl
-same_fault (OfDocument broken) = refl
-same_fault (OfLimit place) = refl
-
 -- some rule on documents or on merging is broken, or a bound is passed
 pub refuses_rules : (schema : SchemaTree Place) (document : MeantDocument Place) (old faults : List AnyFault) → old ≡ [] → DocumentTold schema document old faults
     → (IsValidDocument schema document → WithinBounds (unplaced_document document) → faults ≡ old) → faults ≢ [] → RefusesRules schema document faults
 refuses_rules schema document old faults none (added, (is, tells)) accepts some = record {
   some = some;
   right = λ fault c.
-      let e : faults ≡ map told.of_document added = is ∙ ap (λ l. l ++ map told.of_document added) none in
-      let p = contains_unmap told.of_document added fault (subst (λ l. Contains l fault) e c) in
-      (p.0, (sym p.1.1 ∙ same_fault p.0, tells.right p.0 p.1.0));
+      let e : faults ≡ map of_document added = is ∙ ap (λ l. l ++ map of_document added) none in
+      let p = contains_unmap of_document added fault (subst (λ l. Contains l fault) e c) in
+      (p.0, (sym p.1.1, tells.right p.0 p.1.0));
   bounds = λ valid within. some (accepts valid within ∙ none);
 }

@@ -8,12 +8,12 @@ use Rattle.document_typing.specs.OutDoc.{written_document, out_doc}
 use Rattle.rule_document_definitions.specs.Told.{PlacedDocumentFault, IsValidDocument}
 use Rattle.rule_document_definitions.specs.Verdict.{WithinBounds}
 use Rattle.document_meaning.specs.Unplaced.{unplaced_document}
-use Rattle.graphql_faults.specs.DetailsTree.{of_typing}
+use Rattle.graphql_faults.specs.DetailsTree.{of_typing, of_document}
 use Rattle.graphql_faults.specs.DetailsView.{diagnostics_of}
 use Rattle.graphql_validation.specs.TellsDocument.{IsTypedUnder, SomeFails}
 use Rattle.verdict_definitions.specs.Texts.{SourceText, Tree, ReadsText, IsWithin}
 use Rattle.verdict_definitions.specs.Judge.{document_over}
-use Rattle.verdict_definitions.specs.Says.{AnyFault, of_document, TypingFailsOver}
+use Rattle.verdict_definitions.specs.Says.{AnyFault, TypingFailsOver}
 use Rattle.verdict_definitions.specs.Answer.{UnreadAlone}
 use Rattle.graphql_checked.specs.CheckerValue.{CheckedSchemaValue}
 use Rattle.graphql_checked.specs.declared.refusal.Refusal.{Refusal}

@@ -7,6 +7,7 @@ use Rattle.schema_fold.specs.BuildErrors.{Breach}
 use Rattle.fault_document_data.specs.DocumentBreaches.{DocumentBreach, TypingFault}
 use Rattle.fault_data.specs.in_rule_definitions.Diagnostics.{Diagnostic}
 use Rattle.fault_data.specs.in_rule_definitions.Faults.{FaultAt}
+use Rattle.rule_document_definitions.specs.DocumentFaults.{DocumentFault, OfData, OfDocument, OfLimit}
 
 -- a P for each place that belongs to the data, an E for the places of a type's extensions
 pub data DetailsTree (P E : Type 0) : Type 0 where
@@ -34,3 +35,9 @@ of_folding f = record { place = f.place; details = SchemaBuild f.breach }
 -- what breaks a rule of typing
 abbrev pub of_typing : TypingFault Place → DetailsAt Place (List Place)
 of_typing f = record { place = f.place; details = DocumentBuild f.breach }
+
+-- what is told of a document
+abbrev pub of_document : DocumentFault Place (List Place) → DetailsAt Place (List Place)
+of_document (OfData fault) = of_rule fault
+of_document (OfDocument broken) = record { place = broken.place; details = DocumentBuild broken.it }
+of_document (OfLimit place) = record { place = place; details = RecursionLimitError }

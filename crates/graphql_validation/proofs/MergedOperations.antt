@@ -10,9 +10,10 @@ use Rattle.rule_definitions.specs.Judged.{Judged}
 use Rattle.rule_document_definitions.specs.Merging.{FieldsMerge}
 use Rattle.rule_document_definitions.specs.Selected.{operations}
 use Rattle.rule_document_definitions.specs.Told.{PlacedDocumentFault}
+use Rattle.graphql_faults.specs.DetailsTree.{of_document}
 use Rattle.graphql_faults.specs.DetailsView.{BeginsAs}
 use Rattle.rule_merging.specs.Merged.{MergingTold, DocumentMergingTold}
-use Rattle.graphql_validation.specs.Told.{Telling, of_document}
+use Rattle.graphql_validation.specs.Told.{Telling}
 use Rattle.rule_merging.proofs.Behind.{nothing_told, told_nothing, begins_behind}
 
 told_behind : (old mid new : Telling) (a b : List PlacedDocumentFault) → mid ≡ old ++ map of_document a → new ≡ mid ++ map of_document b → new ≡ old ++ map of_document (a ++ b)

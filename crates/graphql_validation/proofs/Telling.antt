@@ -5,14 +5,14 @@ use Rattle.std.specs.Prelude.{IsTrue}
 use Rattle.std.proofs.lemmas.List.Elements.{Contains-append_left, Contains-append_right, Contains-append_cases}
 use Rattle.graphql_names.specs.Placed.{Place}
 use Rattle.rule_definitions.specs.Told.{PlacedFault}
-use Rattle.graphql_faults.specs.DetailsTree.{of_rule}
+use Rattle.graphql_faults.specs.DetailsTree.{of_rule, of_document}
 use Rattle.rule_document_definitions.specs.DocumentFaults.{Broken, OfData, OfDocument, OfLimit}
 use Rattle.rule_document_definitions.specs.Told.{PlacedDocumentFault}
 use Rattle.rule_definitions.proofs.Lists.{not_in_nil, only}
 use Rattle.rule_document_ground.proofs.Bridge.{from_map, to_map}
 use Rattle.rule_merging.proofs.Behind.{breaches_told}
 use Rattle.graphql_validation.specs.Operations.{bound_told, all_told}
-use Rattle.graphql_validation.specs.Told.{Telling, of_document}
+use Rattle.graphql_validation.specs.Told.{Telling}
 
 data_told : (faults : List PlacedFault) → map of_document (map OfData faults) ≡ map of_rule faults
 data_told [] = refl

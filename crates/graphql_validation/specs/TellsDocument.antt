@@ -18,8 +18,9 @@ use Rattle.rule_document_definitions.specs.Verdict.{WithinBounds}
 use Rattle.rule_fragments.specs.Used.{IsUsed}
 use Rattle.rule_subscriptions.specs.Nested.{NestsTooDeep}
 use Rattle.rule_subscriptions.specs.Told.{AreAlike}
+use Rattle.graphql_faults.specs.DetailsTree.{of_document}
 use Rattle.graphql_validation.specs.Operations.{OperationFails}
-use Rattle.graphql_validation.specs.Told.{Telling, of_document, AnswersFragment}
+use Rattle.graphql_validation.specs.Told.{Telling, AnswersFragment}
 
 module _ (s : SchemaTree Place) (d : MeantDocument Place) where
   -- the document is typed under the schema, as each that is built

@@ -1,10 +1,10 @@
 //! Adding what is told to a list.
 ghost use Rattle.std.specs.Prelude.{◌≡◌, ◌++◌, map, OnErr, OnOk};
 ghost use Rattle.fault_data.specs.FaultView.{faults_of};
+ghost use Rattle.graphql_faults.specs.DetailsTree.{of_document};
 ghost use Rattle.graphql_faults.specs.DetailsView.{diagnostics_of, BeginsAs};
 ghost use Rattle.rule_document_ground.specs.Broken.{brokens_of};
 ghost use Rattle.graphql_validation.specs.Operations.{bound_told, all_told};
-ghost use Rattle.graphql_validation.specs.Told.{of_document};
 
 use fault_data::Fault;
 use graphql_faults::{Details, DiagnosticList};

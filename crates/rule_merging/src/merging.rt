@@ -1,12 +1,12 @@
 //! Whether the fields of operations merge.
 ghost use Rattle.std.specs.Prelude.{◌≡◌, ◌↔◌, ◌++◌, [], false, map, IsTrue, OnOk, OnErr};
+ghost use Rattle.graphql_faults.specs.DetailsTree.{of_document};
 ghost use Rattle.graphql_faults.specs.DetailsView.{diagnostics_of, BeginsAs};
 ghost use Rattle.rule_field_groups.specs.in_ground.Broken.{brokens_of};
 ghost use Rattle.rule_definitions.specs.Judged.{judged};
 ghost use Rattle.document_typing.specs.in_schema.SchemaOf.{schema_tree};
 ghost use Rattle.document_typing.specs.DocumentView.{document_meant, operation_meant};
 ghost use Rattle.rule_merging.specs.Merged.{AreSettledIf, limit_told, conflicts_told};
-ghost use Rattle.rule_merging.specs.Telling.{of_document};
 
 use crate::operation::{Examined, examine_operation};
 use crate::told::append_breaches;

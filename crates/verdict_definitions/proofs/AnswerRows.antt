@@ -11,8 +11,8 @@ use Rattle.document_typing.specs.TypingFaults as typing
 use Rattle.rule_definitions.specs.Diagnostics.{RecursiveInputObjectDefinition, UnusedVariable, UniqueInputValue, QueryRootOperationType}
 use Rattle.rule_definitions.specs.Faults.{wrong}
 use Rattle.graphql_faults.specs.in_document_data.DocumentBreaches.{Selected, ConflictingFieldName}
-use Rattle.graphql_faults.specs.DetailsTree.{Syntax, Nesting, of_rule, of_folding, of_typing}
-use Rattle.verdict_definitions.specs.Says.{of_document, spent}
+use Rattle.graphql_faults.specs.DetailsTree.{Syntax, Nesting, of_rule, of_folding, of_typing, of_document}
+use Rattle.verdict_definitions.specs.Says.{spent}
 use Rattle.verdict_definitions.specs.Answer.{place_text, fault_line}
 use Rattle.verdict_definitions.specs.Out.{as_lines}
 

@@ -22,9 +22,10 @@ use Rattle.rule_document_definitions.specs.Merging.{SameName, telling}
 use Rattle.rule_document_definitions.specs.Told.{PlacedDocumentFault, DocumentFails, DocumentMergingFails}
 use Rattle.rule_document_definitions.proofs.RowWords.{of_present, not_at_index, none_reached, no_fragment}
 use Rattle.graphql_faults.specs.in_document_data.DocumentBreaches.{ConflictingFieldName}
+use Rattle.graphql_faults.specs.DetailsTree.{of_document}
 use Rattle.verdict_definitions.specs.Texts.{SourceText, Tree, ReadsText}
 use Rattle.verdict_definitions.specs.Judge.{schema_at_hand, document_over, IsAccepted}
-use Rattle.verdict_definitions.specs.Says.{of_document, SaysDocument}
+use Rattle.verdict_definitions.specs.Says.{SaysDocument}
 use Rattle.verdict_definitions.proofs.RowReading.{reader, reads}
 use Rattle.verdict_definitions.proofs.RowTrees.{terms, named, node, field_definition, object, field}
 use Rattle.verdict_definitions.proofs.RowMeanings.{meanings_found, same_meanings}

@@ -9,9 +9,9 @@ use Rattle.rule_definitions.proofs.Lists.{not_in_nil, only, is_only}
 use Rattle.document_typing.specs.TypingFaults as typing
 use Rattle.document_typing.specs.TypingFaults.{TypingFails}
 use Rattle.document_typing.proofs.DocumentFailures.{document-fails}
-use Rattle.graphql_faults.specs.DetailsTree.{of_typing}
+use Rattle.graphql_faults.specs.DetailsTree.{of_typing, of_document}
 use Rattle.verdict_definitions.specs.Texts.{SourceText, Tree, ReadsText, IsWithin}
-use Rattle.verdict_definitions.specs.Says.{AnyFault, of_document, SaysDocument, TypingFailsOver}
+use Rattle.verdict_definitions.specs.Says.{AnyFault, SaysDocument, TypingFailsOver}
 use Rattle.verdict_definitions.specs.Answer.{RefusesDocument, Answer}
 use Rattle.verdict_definitions.proofs.RowReading.{reader, is_within, one_tree}
 use Rattle.verdict_definitions.proofs.RowTrees.{terms}

@@ -14,21 +14,14 @@ use Rattle.rule_definitions.specs.Rules as rules
 use Rattle.rule_definitions.specs.Told.{PlacedFault}
 use Rattle.document_typing.specs.TypingFaults as typing
 use Rattle.document_typing.specs.TypingFaults.{TypingFails}
-use Rattle.rule_document_definitions.specs.DocumentFaults.{OfData, OfDocument, OfLimit}
 use Rattle.rule_document_definitions.specs.Told.{PlacedDocumentFault, DocumentFails, DocumentMergingFails, DocumentBoundFails}
-use Rattle.graphql_faults.specs.DetailsTree.{DetailsAt, Syntax, Nesting, Spent, DocumentBuild, RecursionLimitError, of_rule, of_folding, of_typing}
+use Rattle.graphql_faults.specs.DetailsTree.{DetailsAt, Syntax, Nesting, Spent, of_rule, of_folding, of_typing, of_document}
 use Rattle.verdict_definitions.specs.Texts.{SourceText, Tree, Terms, DerivesIn, ReadsText, ReadsAll, PassesNumbers}
 use Rattle.verdict_definitions.specs.Judge.{all_definitions, schema_of, meanings_over, document_over}
 
 -- what is wrong, and where
 abbrev pub AnyFault : Type 0
 AnyFault = DetailsAt Place (List Place)
-
--- what breaks a rule on documents, among all that can be wrong
-abbrev pub of_document : PlacedDocumentFault → AnyFault
-of_document (OfData fault) = of_rule fault
-of_document (OfDocument broken) = record { place = broken.place; details = DocumentBuild broken.it }
-of_document (OfLimit place) = record { place = place; details = RecursionLimitError }
 
 -- ---- a text that is not read
 

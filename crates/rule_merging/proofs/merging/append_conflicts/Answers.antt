@@ -2,9 +2,9 @@ use Rattle.std.proofs.Common.{map}
 use Rattle.std.proofs.lemmas.Result.{on_ok_weaker}
 use Rattle.document_typing.specs.DocumentView.{operation_meant}
 use Rattle.rule_document_definitions.specs.DocumentFaults.{OfDocument}
+use Rattle.graphql_faults.specs.DetailsTree.{of_document}
 use Rattle.graphql_faults.specs.DetailsView.{diagnostics_of}
 use Rattle.rule_field_groups.specs.in_ground.Broken.{brokens_of}
-use Rattle.rule_merging.specs.Telling.{of_document}
 use Rattle.rule_merging.proofs.Conflicts.{conflicts_in_turn}
 use Rattle.rule_merging.proofs.Behind.{begins_kept}
 use Rattle.rule_merging.proofs.merging.append_conflicts.Goals as goal

@@ -5,7 +5,7 @@ use Rattle.fault_document_data.specs.declared.build_error.BuildError.{BuildError
 use Rattle.rule_document_definitions.specs.DocumentFaults.{OfDocument}
 use Rattle.graphql_faults.proofs.Growing.{grown_more, grown_all, grown_kept}
 use Rattle.rule_field_groups.specs.in_ground.Broken.{broken_of}
-use Rattle.rule_merging.specs.Telling.{of_document}
+use Rattle.graphql_faults.specs.DetailsTree.{of_document}
 use Rattle.rule_merging.proofs.told.append_breaches.Goals as goal
 
 pub loop-place-preserved : goal.loop-place-preserved
