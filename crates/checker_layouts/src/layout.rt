@@ -3,7 +3,8 @@
 ghost use Rattle.std.specs.Prelude.{◌≡◌, IfOk, string_bytes};
 ghost use Rattle.tree_definitions.specs.DefinitionTree.{document_tree};
 ghost use Rattle.tree_definitions.specs.DocumentLayout.{document_text};
-ghost use Rattle.checker_layouts.specs.Layouts.{is_white, prefix_of};
+ghost use Rattle.tree_printing.specs.StringLayout.{is_blank};
+ghost use Rattle.checker_layouts.specs.Layouts.{prefix_of};
 
 use std::alloc::{AllocError, Global};
 use tree_definitions::Document;
@@ -22,7 +23,7 @@ pub enum Layout<'p> {
 impl Layout<'_> {
     /// Whether lines may begin with it: it is of spaces and tabs alone. The empty one is too.
     pub fn is_prefix(prefix: &str) -> bool
-        ensures { result ≡ is_white prefix.now }
+        ensures { result ≡ is_blank prefix.now }
     {
         prefix.bytes().all(|byte| byte == b' ' || byte == b'\t')
     }

@@ -41,3 +41,7 @@ abbrev pub of_document : DocumentFault Place (List Place) → DetailsAt Place (L
 of_document (OfData fault) = of_rule fault
 of_document (OfDocument broken) = record { place = broken.place; details = DocumentBuild broken.it }
 of_document (OfLimit place) = record { place = place; details = RecursionLimitError }
+
+-- what a list tells, in order
+abbrev pub Telling : Type 0
+Telling = List (DetailsAt Place (List Place))

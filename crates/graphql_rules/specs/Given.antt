@@ -27,7 +27,8 @@ use Rattle.rule_values.specs.Wanting.{variables_of}
 use Rattle.rule_uses.specs.Trees.{tree_of}
 use Rattle.graphql_faults.specs.DetailsView.{diagnostics_of}
 use Rattle.graphql_faults.specs.declared.diagnostic_list.DiagnosticList.{DiagnosticList}
-use Rattle.graphql_rules.specs.Appends.{ToldDetails, Appends}
+use Rattle.graphql_faults.specs.DetailsTree.{Telling}
+use Rattle.graphql_rules.specs.Appends.{Appends}
 
 -- each of these gives that of those, in order
 abbrev pub Each : {A B : Type 0} → (A → B → Type 0) → List A → List B → Type 0
@@ -59,6 +60,6 @@ UsageBreaks variables v a fault = Present (variable_name a.it.value.it) (λ n. F
     × (fault ≡ wrong a.place (DisallowedVariableUsage n.it (unplaced_type x.it.ty.it) x.place (argument_name a) v.ty.it a.place))))
 
 -- behind what was told stands the fault of what is given for the argument of this definition, if it is such a variable
-abbrev pub UsageTold : List (Node VariableDefinition) → Node InputValueDefinition → Node Argument → ToldDetails → ToldDetails → Type 0
+abbrev pub UsageTold : List (Node VariableDefinition) → Node InputValueDefinition → Node Argument → Telling → Telling → Type 0
 UsageTold variables definition argument old new =
     Appends old new (UsageBreaks (variables_of variables) (unplaced_input_value (input_value_tree (content definition))) (node_tree argument_tree argument))

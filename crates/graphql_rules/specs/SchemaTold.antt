@@ -9,7 +9,8 @@ use Rattle.rule_definitions.specs.Rules.{ReferencesBreak, EmptyBreaks, Interface
 use Rattle.rule_definitions.specs.Told.{PlacedFault, Told}
 use Rattle.rule_schema_laws.specs.Literals.{HasTheFiveAlone, HasNoKeywordValue, InputTypesHaveLiterals}
 use Rattle.rule_cycles.specs.Told.{IsInputCycle, IsDirectiveCycle, AnswersInput, AnswersDirective}
-use Rattle.graphql_rules.specs.Appends.{ToldDetails, AppendsThese}
+use Rattle.graphql_faults.specs.DetailsTree.{Telling}
+use Rattle.graphql_rules.specs.Appends.{AppendsThese}
 
 -- a rule fails so, or the bound on references is passed
 abbrev pub RulesOrBoundFail : Judged → SchemaFault → Type 0
@@ -31,14 +32,14 @@ pub record TellsSchema (s : SchemaTree Place) (told : List PlacedFault) : Type 0
   pub directives : (n : List ℕ) → IsDirectiveCycle (judged s) n → (f : PlacedFault) × (Contains told f × AnswersDirective n f)
 
 -- behind what was told stands what is told of the schema
-abbrev pub SchemaTold : SchemaTree Place → ToldDetails → ToldDetails → Type 0
+abbrev pub SchemaTold : SchemaTree Place → Telling → Telling → Type 0
 SchemaTold s old new = (added : List PlacedFault) × (AppendsThese old new added × TellsSchema s added)
 
 -- of a schema of which every rule holds, and that passes the bound on references nowhere, nothing is told
-abbrev pub ValidSchemaMeansSilence : SchemaTree Place → ToldDetails → ToldDetails → Type 0
+abbrev pub ValidSchemaMeansSilence : SchemaTree Place → Telling → Telling → Type 0
 ValidSchemaMeansSilence s old new = SchemaRules (judged s) → IsWithinReferenceBound (judged s) → new ≡ old
 
 -- where nothing is told of a schema, each input type of what is left of it has a literal; this where its built-in scalars are among
 -- the five, and no enum value is `true`, `false` or `null`
-abbrev pub SilenceGivesLiterals : SchemaTree Place → SchemaTree Place → ToldDetails → ToldDetails → Type 0
+abbrev pub SilenceGivesLiterals : SchemaTree Place → SchemaTree Place → Telling → Telling → Type 0
 SilenceGivesLiterals s left old new = new ≡ old → HasTheFiveAlone (judged s) → HasNoKeywordValue (judged s) → InputTypesHaveLiterals (judged left)

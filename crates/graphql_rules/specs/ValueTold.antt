@@ -13,11 +13,12 @@ use Rattle.rule_definitions.specs.Judged.{judged}
 use Rattle.rule_definitions.specs.Accepts.{Accepts}
 use Rattle.rule_definitions.specs.Values.{ValueBreaks}
 use Rattle.rule_values.specs.Wanting.{wanted_type, variables_of}
-use Rattle.graphql_rules.specs.Appends.{ToldDetails, Appends}
+use Rattle.graphql_faults.specs.DetailsTree.{Telling}
+use Rattle.graphql_rules.specs.Appends.{Appends}
 
 module _ (s : SchemaTree Place) (variables : List (Node VariableDefinition)) (ty : Node «Type») (value : Node Value) where
   -- behind what was told stand the faults of the value, which is given for the type among these variables
-  abbrev pub ValueTold : ToldDetails → ToldDetails → Type 0
+  abbrev pub ValueTold : Telling → Telling → Type 0
   ValueTold old new =
       Appends old new (ValueBreaks (place_at s) (judged s) (variables_of variables) (wanted_type ty) (place value) (value_tree (content value)))
 

@@ -1,7 +1,9 @@
 -- Fields by their contents: what merging reads of a field, wherever it stands. Of a document without places the contents are all
 -- that equality of fields compares.
 use Rattle.std.specs.Prelude.{◌≡◌, None}
+use Rattle.tree_operations.specs.SelectionTree.{unplaced_head}
 use Rattle.document_meaning.specs.MeantTree.{MeantOperation, MeantDocument}
+use Rattle.document_meaning.specs.Unplaced.{unplaced_set}
 use Rattle.rule_definitions.specs.Judged.{Judged}
 use Rattle.rule_document_definitions.specs.Selected.{InOperation, StandingField}
 use Rattle.rule_document_definitions.specs.Reached.{IsFieldOf}
@@ -11,6 +13,17 @@ use Rattle.rule_document_definitions.specs.Merging.{SameKey, SameShape, MayShare
 -- the field, with nothing told of where it stands
 abbrev pub content : {P : Type 0} → StandingField P → StandingField P
 content f = record f { position = InOperation None }
+
+-- the field, without the places in it too
+abbrev pub unplaced_content : {P : Type 0} → StandingField P → StandingField (Unit {0})
+unplaced_content f = record {
+  position = InOperation None;
+  parent = f.parent;
+  place = tt;
+  definition = f.definition;
+  head = unplaced_head f.head;
+  set = unplaced_set f.set;
+}
 
 module _ {P : Type 0} (d : MeantDocument P) where
   -- a field of the second content is one of what the first selects, of the operation's own: through fragments

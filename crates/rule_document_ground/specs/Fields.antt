@@ -2,7 +2,6 @@
 use Rattle.std.specs.Prelude.{◌≡◌, ◌↔◌, ◌++◌, List, map, Contains, None}
 use Rattle.graphql_names.specs.Node.{content as content_of_node, place}
 use Rattle.graphql_names.specs.Placed.{Place, node_tree}
-use Rattle.tree_operations.specs.SelectionTree.{unplaced_head}
 use Rattle.tree_type_members.specs.TypeSystemTree.{field_definition_tree, unplaced_field_definition}
 use Rattle.graphql_names.specs.NameValue.{NameValue}
 use Rattle.graphql_names.specs.declared.node.Node.{Node}
@@ -13,11 +12,10 @@ use Rattle.document_typed_selections.specs.TypedParts.{typed_head}
 use Rattle.document_typed_operations.specs.TypedDocument.{typed_fragment_tree}
 use Rattle.document_typed_operations.specs.declared.operation.Fragment.{Fragment}
 use Rattle.document_meaning.specs.MeantTree.{MeantSet, MeantFragment, MeantDocument, meant_of_set}
-use Rattle.document_meaning.specs.Unplaced.{unplaced_set}
 use Rattle.document_typing.specs.DocumentView.{meant_by_fragment}
 use Rattle.rule_document_definitions.specs.Selected.{Position, InOperation, StandingField}
 use Rattle.rule_document_definitions.specs.Reached.{IsFieldOf}
-use Rattle.rule_document_definitions.specs.Contents.{content}
+use Rattle.rule_document_definitions.specs.Contents.{content, unplaced_content}
 use Rattle.indexmap.specs.IndexMap.{IndexMap}
 use Rattle.rule_document_ground.specs.declared.field_selection.FieldSelection.{FieldSelection}
 
@@ -34,17 +32,6 @@ field_of x = record {
 
 abbrev pub fields_of : List FieldSelection → List (StandingField Place)
 fields_of xs = map field_of xs
-
--- a field without its place and without the places in it
-abbrev pub unplaced_content : {P : Type 0} → StandingField P → StandingField (Unit {0})
-unplaced_content f = record {
-  position = InOperation None;
-  parent = f.parent;
-  place = tt;
-  definition = f.definition;
-  head = unplaced_head f.head;
-  set = unplaced_set f.set;
-}
 
 -- what it says: what equality and hash read
 abbrev pub content_of : FieldSelection → StandingField (Unit {0})

@@ -15,12 +15,12 @@ use Rattle.rule_definitions.proofs.Lists.{not_in_nil, only, Contains-cons, Conta
 use Rattle.rule_cycle_search.specs.Paths.{HasNoRepeat}
 use Rattle.document_meaning.specs.MeantTree.{MeantSet, MeantFragment, MeantOperation, MeantDocument}
 use Rattle.rule_document_definitions.specs.Selected.{StandingField, InOperation}
-use Rattle.rule_document_definitions.specs.Contents.{ContentBelow}
+use Rattle.rule_document_definitions.specs.Contents.{ContentBelow, unplaced_content}
 use Rattle.rule_document_definitions.proofs.Unplaced.{contains_map, contains_unmap}
 use Rattle.rule_document_ground.specs.Fields.{field_of, fields_of, content_of, AddsFieldsOf}
 use Rattle.rule_document_ground.specs.declared.field_selection.FieldSelection.{FieldSelection}
 use Rattle.rule_document_ground.proofs.ContentEquality.{selection_eq, selection_eq-Decides}
-use Rattle.rule_merging_laws.specs.Contents.{PlainField, unplaced_content}
+use Rattle.rule_merging_laws.specs.Contents.{PlainField}
 use Rattle.rule_field_groups.specs.Below.{contents_of, AreStarting, AreStartingWith, AreBelow, IsDistinctOf, IsMerged}
 
 pub any_among : {X : Type 0} (test : X → Bool) (xs : List X) → list_any test xs ≡ true → (y : X) × (Contains xs y × (test y ≡ true))

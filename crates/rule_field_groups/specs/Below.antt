@@ -4,9 +4,9 @@ use Rattle.graphql_names.specs.Placed.{Place}
 use Rattle.schema_components.specs.Names.{Entries}
 use Rattle.document_meaning.specs.MeantTree.{MeantSet, MeantOperation, MeantFragment, MeantDocument}
 use Rattle.rule_document_definitions.specs.Selected.{StandingField}
-use Rattle.rule_document_definitions.specs.Contents.{ContentBelow, ContentStarts}
+use Rattle.rule_document_definitions.specs.Contents.{ContentBelow, ContentStarts, unplaced_content}
 use Rattle.rule_document_ground.specs.Fields.{fields_of, content_of}
-use Rattle.rule_merging_laws.specs.Contents.{PlainField, unplaced_content}
+use Rattle.rule_merging_laws.specs.Contents.{PlainField}
 use Rattle.rule_cycle_search.specs.Paths.{HasNoRepeat}
 use Rattle.rule_document_ground.specs.declared.field_selection.FieldSelection.{FieldSelection}
 

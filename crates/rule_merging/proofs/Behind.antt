@@ -3,11 +3,10 @@ use Rattle.std.proofs.Common.{◌≡◌, ◌++◌, List, [], ◌∷◌, length, 
 use Rattle.std.proofs.lemmas.List.{length-append, length-map, nil_from_length}
 use Rattle.std.specs.Result.{OnErr}
 use Rattle.graphql_names.specs.Placed.{Place}
-use Rattle.graphql_faults.specs.DetailsTree.{of_document}
+use Rattle.graphql_faults.specs.DetailsTree.{of_document, Telling}
 use Rattle.graphql_faults.specs.DetailsView.{BeginsAs}
 use Rattle.rule_document_definitions.specs.DocumentFaults.{Broken, OfDocument}
 use Rattle.rule_document_definitions.specs.Told.{PlacedDocumentFault}
-use Rattle.rule_merging.specs.Telling.{Telling}
 
 pub breaches_told : (breaches : List (Broken Place)) → map of_document (map OfDocument breaches) ≡ map (λ b. of_document (OfDocument b)) breaches
 breaches_told [] = refl

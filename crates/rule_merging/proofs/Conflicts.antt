@@ -18,9 +18,8 @@ use Rattle.rule_merging.specs.Examined.{Breaches}
 use Rattle.rule_merging.specs.Verdict.{ExaminesOperation}
 use Rattle.rule_merging.specs.declared.operation.Examined.{Examined}
 use Rattle.rule_field_groups.specs.in_ground.Broken.{brokens_of}
-use Rattle.graphql_faults.specs.DetailsTree.{of_document}
+use Rattle.graphql_faults.specs.DetailsTree.{of_document, Telling}
 use Rattle.rule_merging.specs.Merged.{MergingFailsAt, AreSettledIf, limit_told, conflicts_told}
-use Rattle.rule_merging.specs.Telling.{Telling}
 use Rattle.rule_merging.proofs.Behind.{breaches_told, nothing_told, told_nothing}
 
 -- ---- what is told, as one list

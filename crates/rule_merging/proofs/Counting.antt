@@ -13,12 +13,12 @@ use Rattle.rule_definitions.specs.Judged.{Judged}
 use Rattle.rule_document_definitions.specs.DocumentFaults.{Broken}
 use Rattle.rule_document_definitions.specs.Selected.{StandingField, operations}
 use Rattle.rule_document_definitions.specs.Chains.{Chain}
-use Rattle.rule_document_definitions.specs.Contents.{ContentBelow}
+use Rattle.rule_document_definitions.specs.Contents.{ContentBelow, unplaced_content}
 use Rattle.rule_document_definitions.specs.Merging.{Below, Starts}
 use Rattle.rule_document_definitions.proofs.Unplaced.{contains_map, contains_unmap}
 use Rattle.rule_field_groups.specs.in_ground.Fields.{field_of, fields_of}
 use Rattle.rule_field_groups.specs.in_ground.declared.field_selection.FieldSelection.{FieldSelection}
-use Rattle.rule_merging_laws.specs.Contents.{PlainField, PlainBelow, unplaced_content}
+use Rattle.rule_merging_laws.specs.Contents.{PlainField, PlainBelow}
 use Rattle.rule_merging_laws.proofs.Elsewhere.{content_starts}
 use Rattle.rule_merging_laws.proofs.PlainFacts.{plain_below, below_standing}
 use Rattle.rule_field_groups.specs.declared.pass.Pass.{Pass}

@@ -13,13 +13,13 @@ use Rattle.rule_definitions.specs.Judged.{Judged}
 use Rattle.rule_document_definitions.specs.DocumentFaults.{Broken}
 use Rattle.rule_document_definitions.specs.Selected.{StandingField}
 use Rattle.rule_document_definitions.specs.Groups.{AgreeWithHead}
-use Rattle.rule_document_definitions.specs.Contents.{ContentBelow, ContentStarts}
+use Rattle.rule_document_definitions.specs.Contents.{ContentBelow, ContentStarts, unplaced_content}
 use Rattle.rule_document_definitions.specs.Merging.{MergingBreaks}
 use Rattle.rule_document_definitions.specs.Limits.{chain_bound}
 use Rattle.rule_document_definitions.proofs.Equivalences.{shape_sym, shape_trans, selection_sym, selection_trans}
 use Rattle.rule_field_groups.specs.in_ground.Fields.{field_of, fields_of}
 use Rattle.rule_field_groups.specs.in_ground.declared.field_selection.FieldSelection.{FieldSelection}
-use Rattle.rule_merging_laws.specs.Contents.{PlainField, PlainBelow, PlainStarts, unplaced_content}
+use Rattle.rule_merging_laws.specs.Contents.{PlainField, PlainBelow, PlainStarts}
 use Rattle.rule_merging_laws.specs.Settled.{HasStart, IsUnderWay, IsExaminedInto, IsExaminedBy}
 use Rattle.rule_merging_laws.specs.Going.{IsEndOf, IsGoing}
 use Rattle.rule_merging_laws.proofs.SettledFacts.{settled_empty, begun, dropped, ended, examined_anyhow}

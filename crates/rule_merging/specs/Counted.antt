@@ -8,7 +8,8 @@ use Rattle.rule_document_definitions.specs.Selected.{StandingField, operations}
 use Rattle.rule_document_definitions.specs.Chains.{Chain}
 use Rattle.rule_document_definitions.specs.Merging.{Below, Starts}
 use Rattle.rule_field_groups.specs.in_ground.declared.field_selection.FieldSelection.{FieldSelection}
-use Rattle.rule_merging_laws.specs.Contents.{PlainField, unplaced_content}
+use Rattle.rule_document_definitions.specs.Contents.{unplaced_content}
+use Rattle.rule_merging_laws.specs.Contents.{PlainField}
 use Rattle.rule_field_groups.specs.Below.{contents_of}
 use Rattle.rule_field_groups.specs.Compared.{compared}
 use Rattle.rule_field_groups.specs.declared.pass.Pass.{Pass}

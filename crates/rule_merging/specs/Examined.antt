@@ -11,13 +11,13 @@ use Rattle.rule_definitions.specs.Judged.{Judged, judged}
 use Rattle.rule_document_definitions.specs.DocumentFaults.{Broken}
 use Rattle.rule_document_definitions.specs.Selected.{StandingField}
 use Rattle.rule_document_definitions.specs.Groups.{AgreeWithHead, AreGroups}
-use Rattle.rule_document_definitions.specs.Contents.{ContentBelow}
+use Rattle.rule_document_definitions.specs.Contents.{ContentBelow, unplaced_content}
 use Rattle.rule_document_definitions.specs.Merging.{MergingBreaks}
 use Rattle.rule_document_definitions.specs.Limits.{PassesChainBound}
 use Rattle.rule_field_groups.specs.in_ground.Broken.{brokens_of}
 use Rattle.rule_field_groups.specs.in_ground.Fields.{fields_of}
 use Rattle.rule_field_groups.specs.in_ground.declared.field_selection.FieldSelection.{FieldSelection}
-use Rattle.rule_merging_laws.specs.Contents.{PlainField, PlainBelow, PlainStarts, unplaced_content}
+use Rattle.rule_merging_laws.specs.Contents.{PlainField, PlainBelow, PlainStarts}
 use Rattle.rule_merging_laws.specs.Settled.{HasStart, IsSettled, IsUnderWay}
 use Rattle.rule_field_groups.specs.Passes.{Together, Agree, Conflict, TellsGroup}
 use Rattle.rule_field_groups.specs.Below.{contents_of, AreStarting, IsMergedIn}

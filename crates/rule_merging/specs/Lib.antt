@@ -2,6 +2,5 @@ pub mod Remembered
 pub mod Examined
 pub mod Counted
 pub mod Verdict
-pub mod Telling
 pub mod Merged
 pub mod Merger

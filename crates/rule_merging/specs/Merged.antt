@@ -8,10 +8,9 @@ use Rattle.rule_document_definitions.specs.Merging.{MergingBreaks}
 use Rattle.rule_document_definitions.specs.Limits.{PassesChainBound}
 use Rattle.rule_document_definitions.specs.Reached.{AtOperation}
 use Rattle.rule_document_definitions.specs.Told.{PlacedDocumentFault}
-use Rattle.graphql_faults.specs.DetailsTree.{of_document}
+use Rattle.graphql_faults.specs.DetailsTree.{of_document, Telling}
 use Rattle.rule_merging.specs.Verdict.{AreBothSettled}
 use Rattle.rule_merging.specs.declared.operation.Examined.{Examined}
-use Rattle.rule_merging.specs.Telling.{Telling}
 
 module _ (s : Judged) (d : MeantDocument Place) where
   -- a rule on merging fails so in the operation, or the bound on its chains of fields is passed

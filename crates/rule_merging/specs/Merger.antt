@@ -10,7 +10,7 @@ use Rattle.rule_document_definitions.specs.Selected.{operations}
 use Rattle.rule_merging_laws.specs.Contents.{PlainField}
 use Rattle.rule_merging.specs.Counted.{IsCountedBy}
 use Rattle.rule_merging.specs.Verdict.{lists_examined, comparisons_of}
-use Rattle.rule_merging.specs.Telling.{Telling}
+use Rattle.graphql_faults.specs.DetailsTree.{Telling}
 use Rattle.rule_merging.specs.Merged.{MergingTold}
 use Rattle.rule_merging.specs.declared.merging.FieldsInSetCanMerge.{FieldsInSetCanMerge}
 

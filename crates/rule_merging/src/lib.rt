@@ -8,7 +8,7 @@
 //! `specs/Merger.antt`, over `specs/Merged.antt`), and is clean where the fields of all operations merge so far. It stands on
 //! `examine_operation`, which adds what does not merge in an operation, and keeps in an `Examined` what was examined
 //! (`ExaminesOperation` of `specs/Verdict.antt`) and how often shapes were compared (`IsCounted` of `specs/Counted.antt`).
-//! `append_breaches` adds breaches to a list of faults (`specs/Telling.antt`).
+//! `append_breaches` adds breaches to a list of faults.
 //!
 //! Begin with `merging.rt`, then `operation.rt`, `examination.rt` and `remembered.rt`.
 #![tactic(auto)]

@@ -6,11 +6,11 @@ use Rattle.rule_definitions.specs.Judged.{Judged}
 use Rattle.rule_document_definitions.specs.Selected.{InOperation, StandingField}
 use Rattle.rule_document_definitions.specs.SameValues.{plain_given, SameGiven, SameArguments}
 use Rattle.rule_document_definitions.specs.Merging.{Below, Starts, SameKey, SameShape, MayShare, SameNameAndArguments}
-use Rattle.rule_document_definitions.specs.Contents.{content, ContentBelow, ContentStarts}
+use Rattle.rule_document_definitions.specs.Contents.{content, ContentBelow, ContentStarts, unplaced_content}
 use Rattle.rule_document_definitions.proofs.Unplaced.{unplaced_field, field_of_map, field_of_unmap}
 use Rattle.rule_document_definitions.proofs.MergingUnplaced.{key_down, key_up, given_same}
 use Rattle.rule_merging_laws.specs.Settled.{IsExaminedInto}
-use Rattle.rule_merging_laws.specs.Contents.{PlainField, unplaced_content, PlainBelow, PlainStarts, AreShapesExamined, AreSelectionsExamined}
+use Rattle.rule_merging_laws.specs.Contents.{PlainField, PlainBelow, PlainStarts, AreShapesExamined, AreSelectionsExamined}
 use Rattle.rule_merging_laws.proofs.Elsewhere.{below_content, content_below, starts_content, content_starts}
 use Rattle.rule_merging_laws.proofs.MappedFacts.{mapped_examined}
 

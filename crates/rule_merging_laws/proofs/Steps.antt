@@ -4,13 +4,13 @@ use Rattle.document_meaning.specs.MeantTree.{MeantOperation, MeantDocument}
 use Rattle.rule_definitions.specs.Judged.{Judged}
 use Rattle.rule_document_definitions.specs.Selected.{StandingField}
 use Rattle.rule_document_definitions.specs.Merging.{SameKey, SameShape, MayShare, SameNameAndArguments}
-use Rattle.rule_document_definitions.specs.Contents.{ContentBelow, ContentStarts}
+use Rattle.rule_document_definitions.specs.Contents.{ContentBelow, ContentStarts, unplaced_content}
 use Rattle.rule_document_definitions.specs.Groups.{AgreeWithHead}
 use Rattle.rule_document_definitions.proofs.Equivalences.{shape_sym, shape_trans, selection_sym, selection_trans}
 use Rattle.rule_merging_laws.specs.Settled.{HasAllOf, HasStart}
 use Rattle.rule_merging_laws.specs.Going.{LiesBelow}
 use Rattle.rule_merging_laws.specs.Sharing.{AreKeyGroups, AreShareGroups}
-use Rattle.rule_merging_laws.specs.Contents.{PlainField, unplaced_content, PlainBelow, PlainStarts, AreShapesSettled, AreSelectionsSettled, AreShapesUnderWay, AreSelectionsUnderWay, AreShapesExamined, AreSelectionsExamined, IsGoingByKeys, IsGoingByParents}
+use Rattle.rule_merging_laws.specs.Contents.{PlainField, PlainBelow, PlainStarts, AreShapesSettled, AreSelectionsSettled, AreShapesUnderWay, AreSelectionsUnderWay, AreShapesExamined, AreSelectionsExamined, IsGoingByKeys, IsGoingByParents}
 use Rattle.rule_merging_laws.proofs.SettledFacts.{settled_nothing, begun, dropped, examined_here, ended}
 use Rattle.rule_merging_laws.proofs.GoingFacts.{going_start, going_below}
 use Rattle.rule_merging_laws.proofs.SharingFacts.{key_groups, share_groups}

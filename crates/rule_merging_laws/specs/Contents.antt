@@ -1,22 +1,17 @@
 -- Contents of fields without places: what an examination of merging compares lists by, and settles.
-use Rattle.std.specs.Prelude.{List, None}
-use Rattle.tree_operations.specs.SelectionTree.{unplaced_head}
+use Rattle.std.specs.Prelude.{List}
 use Rattle.document_meaning.specs.MeantTree.{MeantOperation, MeantDocument}
-use Rattle.document_meaning.specs.Unplaced.{unplaced_set, unplaced_operation, unplaced_document}
+use Rattle.document_meaning.specs.Unplaced.{unplaced_operation, unplaced_document}
 use Rattle.rule_definitions.specs.Judged.{Judged}
-use Rattle.rule_document_definitions.specs.Selected.{InOperation, StandingField}
+use Rattle.rule_document_definitions.specs.Selected.{StandingField}
 use Rattle.rule_document_definitions.specs.Merging.{SameKey, SameShape, MayShare, SameNameAndArguments}
-use Rattle.rule_document_definitions.specs.Contents.{ContentBelow, ContentStarts}
+use Rattle.rule_document_definitions.specs.Contents.{unplaced_content, ContentBelow, ContentStarts}
 use Rattle.rule_merging_laws.specs.Settled.{IsSettled, IsUnderWay, IsExaminedBy}
 use Rattle.rule_merging_laws.specs.Going.{IsGoing}
 
 -- a field, with nothing told of where it stands
 abbrev pub PlainField : Type 0
 PlainField = StandingField (Unit {0})
-
--- its content, without the places in it
-abbrev pub unplaced_content : {P : Type 0} → StandingField P → PlainField
-unplaced_content f = record { position = InOperation None; parent = f.parent; place = tt; definition = f.definition; head = unplaced_head f.head; set = unplaced_set f.set }
 
 module _ {P : Type 0} (d : MeantDocument P) where
   -- the same as `ContentBelow` and `ContentStarts`, without places
