@@ -16,6 +16,7 @@ use Rattle.rule_document_definitions.specs.Fragments.{ReachesItself, UnusedFragm
 use Rattle.rule_document_definitions.specs.DocumentRules.{DeferredBreaks}
 use Rattle.rule_document_definitions.specs.Told.{PlacedDocumentFault, SetRulesFail, SetBoundFails, DocumentBoundFails, DocumentFailsAlone, IsValidFieldSet, IsValidAlone}
 use Rattle.rule_document_definitions.specs.Verdict.{WithinBounds, FieldSetWithinBounds}
+use Rattle.graphql_faults.specs.DetailsTree.{of_document}
 pub use Rattle.graphql_faults.specs.DetailsTree.{Telling}
 use Rattle.rule_fragments.specs.Used.{IsUsed, AreUnderOwnNames}
 use Rattle.rule_fragments.specs.Told.{Answers}
