@@ -5,7 +5,6 @@ ghost use Rattle.read_tokens.specs.Input as input;
 ghost use Rattle.graphql_names.specs.Placed.{node_tree};
 ghost use Rattle.read_grammar.specs.in_input_types.InputTypeTree.{root_tree};
 ghost use Rattle.read_grammar.specs.Kinds as kinds;
-ghost use Rattle.read_grammar.specs.OperationReading as operations;
 ghost use Rattle.read_grammar.specs.Reading as read;
 ghost use Rattle.read_grammar.specs.Reading.{Reads};
 ghost use Rattle.read_grammar.specs.TypeSystemReading as reading;
@@ -14,7 +13,7 @@ ghost use Rattle.read_values.specs.Meanings.{in_file};
 use graphql_names::{FileId, Node};
 use read_grammar::Stop;
 use read_tokens::{Source, Terminal};
-use read_values::{begin, expect, name, next_is, open, since};
+use read_values::{begin, expect, name, next_is, open, operation_type, since};
 use std::alloc::Global;
 use tree_literals::NamedType;
 use tree_operations::OperationType;
@@ -27,26 +26,6 @@ fn next_is_operation_type(tokens: &Source<'_>) -> bool
         tokens.peek(),
         Some(Terminal::Query | Terminal::Mutation | Terminal::Subscription),
     )
-}
-
-/// OperationType: `query`, `mutation` or `subscription`.
-#[tactic(auto, using(read_grammar::proofs::Moves::mark_yes), unfolding(read_grammar::specs::OperationReading::operation_type))]
-fn operation_type(tokens: &mut Source<'_>) -> Result<OperationType, Stop>
-    ensures { Reads (λ x. x) (operations.operation_type tokens.old) result tokens.new }
-{
-    if next_is(tokens, Terminal::Query) {
-        tokens.skip();
-        return Ok(OperationType::Query);
-    }
-    if next_is(tokens, Terminal::Mutation) {
-        tokens.skip();
-        return Ok(OperationType::Mutation);
-    }
-    if next_is(tokens, Terminal::Subscription) {
-        tokens.skip();
-        return Ok(OperationType::Subscription);
-    }
-    Err(Stop::Unexpected)
 }
 
 /// RootOperationTypeDefinition: `OperationType ":" NamedType`.

@@ -1,4 +1,4 @@
-//! Operation types, names of fragments and type conditions (sections 2.3 and 2.8).
+//! Names of fragments and type conditions (section 2.8).
 ghost use Rattle.std.specs.Prelude.{◌≡◌};
 ghost use Rattle.read_tokens.specs.Input as input;
 ghost use Rattle.graphql_names.specs.Placed.{name_tree};
@@ -11,27 +11,6 @@ use graphql_names::{FileId, Name};
 use read_grammar::Stop;
 use read_tokens::{Source, Terminal};
 use read_values::{expect, name, next_is, next_is_name};
-use tree_operations::OperationType;
-
-/// OperationType: `query`, `mutation` or `subscription`.
-#[tactic(auto, using(read_grammar::proofs::Moves::mark_yes), unfolding(read_grammar::specs::OperationReading::operation_type))]
-pub fn operation_type(tokens: &mut Source<'_>) -> Result<OperationType, Stop>
-    ensures { Reads (λ x. x) (reading.operation_type tokens.old) result tokens.new }
-{
-    if next_is(tokens, Terminal::Query) {
-        tokens.skip();
-        return Ok(OperationType::Query);
-    }
-    if next_is(tokens, Terminal::Mutation) {
-        tokens.skip();
-        return Ok(OperationType::Mutation);
-    }
-    if next_is(tokens, Terminal::Subscription) {
-        tokens.skip();
-        return Ok(OperationType::Subscription);
-    }
-    Err(Stop::Unexpected)
-}
 
 /// Whether the next token is a Name but `on`.
 pub fn next_is_fragment_name(tokens: &Source<'_>) -> bool

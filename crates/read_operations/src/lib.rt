@@ -8,7 +8,7 @@ mod selection_list;
 mod selection_parts;
 mod variable_list;
 
-pub use condition::{fragment_name, operation_type, type_condition};
+pub use condition::{fragment_name, type_condition};
 pub use fragment::{fragment_definition, placed_fragment};
 pub use operation::{operation_definition, placed_operation};
 pub use selection_list::{selection_set, selections};

@@ -13,13 +13,12 @@ ghost use Rattle.read_grammar.specs.ValueReading as values;
 ghost use Rattle.read_values.specs.Meanings.{in_file};
 ghost use Rattle.read_operations.specs.OperationSteps as steps;
 
-use crate::condition::operation_type;
 use crate::selection_list::{directives_and_set, selection_set};
 use crate::variable_list::variable_definitions;
 use graphql_names::{FileId, Name, Node};
 use read_grammar::Stop;
 use read_tokens::{Source, Terminal};
-use read_values::{begin, directives_or_none, name, next_is, next_is_name, since};
+use read_values::{begin, directives_or_none, name, next_is, next_is_name, operation_type, since};
 use std::alloc::Global;
 use tree_directives::DirectiveList;
 use tree_operations::{OperationDefinition, OperationType, Selection, VariableDefinition};
