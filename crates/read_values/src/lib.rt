@@ -5,7 +5,7 @@ mod argument_list;
 mod directive_list;
 mod name_token;
 mod number_token;
-mod operation_type;
+mod operation_types;
 mod optional;
 mod steps;
 mod string_token;
@@ -16,7 +16,7 @@ mod value_token;
 pub use argument_list::arguments;
 pub use directive_list::directives;
 pub use name_token::name;
-pub use operation_type::operation_type;
+pub use operation_types::operation_type;
 pub use optional::{
     arguments_or_none, directives_or_none, optional_arguments, optional_default,
     optional_description, optional_directives,

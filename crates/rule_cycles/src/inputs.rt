@@ -10,7 +10,7 @@ ghost use Rattle.rule_cycles.specs.InputGraph.{AreInputReferences};
 ghost use Rattle.rule_cycles.specs.ReferenceViews.{field_tree, input_reference_view};
 
 use crate::numbers::input_object_number;
-use crate::references::{Reference, References};
+use crate::references::{BOUND, Reference, References};
 use graphql_names::{Name, Node};
 use graphql_schema::Schema;
 use indexmap::IndexMap;
@@ -109,7 +109,7 @@ pub(crate) fn references_of_types(
     ensures { IfOk result (λ r. AreInputReferences (schema_tree schema.now) r) }
 {
     let roots = schema.types.len();
-    let mut all = References::new(alloc, 0, roots);
+    let mut all = References::new(alloc, 0, roots, BOUND);
     for number in 0..roots {
         all.push(alloc, input_references(alloc, schema, number)?)?;
     }

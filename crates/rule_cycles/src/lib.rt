@@ -6,6 +6,8 @@
 //! Nodes are numbers, and `rule_cycle_search` finds the ways from each root back to it, in a graph of directives and types.
 //! Input objects are roots in `check_inputs.rt`, directives in `check_directives.rt`.
 //!
+//! `References` keeps what nodes refer to and by what first: fragments are nodes too, in `rule_fragments`.
+//!
 //! Begin with `check.rt` and `check_inputs.rt`.
 #![tactic(auto)]
 
@@ -20,3 +22,4 @@ mod references;
 mod uses;
 
 pub use check::check_cycles;
+pub use references::{Reference, References};

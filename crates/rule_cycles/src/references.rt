@@ -1,7 +1,6 @@
 //! What nodes refer to, and by what they refer to another first.
 ghost use Rattle.std.specs.Prelude.{◌≡◌, ◌++◌, [], ◌∷◌, map, IfOk, OnOk};
 ghost use Rattle.std.specs.Option.{option_copied};
-ghost use Rattle.fault_data.specs.in_rule_definitions.Cycles.{reference_bound};
 ghost use Rattle.rule_cycles.specs.Labels.{targets};
 ghost use Rattle.rule_cycles.specs.References.{reference_view, AreFirsts, AddsNode, between};
 
@@ -10,19 +9,19 @@ use rule_cycle_search::Graph;
 use std::alloc::{AllocError, Global};
 
 /// The most directives, or types, on a way.
-const BOUND: u32 = 32;
+pub(crate) const BOUND: u32 = 32;
 
 /// A reference to a node by its number, and by what it is one.
 #[derive(Drop)]
-pub(crate) struct Reference<L> {
-    pub(crate) to: usize,
-    pub(crate) by: L,
+pub struct Reference<L> {
+    pub to: usize,
+    pub by: L,
 }
 
 /// What nodes refer to, and for each node by what it first refers to another.
 #[derive(Drop)]
-pub(crate) struct References<L> {
-    pub(crate) graph: Graph,
+pub struct References<L> {
+    pub graph: Graph,
     firsts: Vec<IndexMap<usize, L>>,
 }
 
@@ -66,31 +65,27 @@ fn firsts_of<L: Drop>(
 }
 
 impl<L: Drop> References<L> {
-    /// No node yet, in a graph with so many nodes of the first kind, and so many roots.
-    pub(crate) fn new(alloc: Global, first_kind: usize, roots: usize) -> Self
+    /// No node yet, in a graph with so many nodes of the first kind and so many roots, and this bound on ways.
+    pub fn new(alloc: Global, first_kind: usize, roots: usize, bound: u32) -> Self
         ensures references { result.graph.references.items ≡ [] }
         ensures firsts { result.firsts.items ≡ [] }
         ensures first_kind { result.graph.first_kind ≡ first_kind }
         ensures roots { result.graph.roots ≡ roots }
-        ensures bound { result.graph.bound ≡ reference_bound }
+        ensures bound { result.graph.bound ≡ bound }
     {
         References {
             graph: Graph {
                 references: Vec::new(alloc),
                 first_kind,
                 roots,
-                bound: BOUND,
+                bound,
             },
             firsts: Vec::new(alloc),
         }
     }
 
     /// Adds the next node, which has these references.
-    pub(crate) fn push(
-        &mut self,
-        alloc: Global,
-        references: Vec<Reference<L>>,
-    ) -> Result<(), AllocError>
+    pub fn push(&mut self, alloc: Global, references: Vec<Reference<L>>) -> Result<(), AllocError>
         ensures { OnOk result (AddsNode self.old self.new (map reference_view references.items)) }
     {
         let targets = targets_of(alloc, &references)?;
@@ -101,7 +96,7 @@ impl<L: Drop> References<L> {
     }
 
     /// By what a node first refers to another, if it does.
-    pub(crate) fn first(&self, from: usize, to: usize) -> Option<&L>
+    pub fn first(&self, from: usize, to: usize) -> Option<&L>
         ensures { option_copied result ≡ between self.now from to }
     {
         self.firsts.get(from)?.get(&to)

@@ -13,7 +13,7 @@ ghost use Rattle.rule_cycles.specs.UseGraph.{AreUseReferences};
 ghost use Rattle.rule_cycles.specs.UseViews.{use_view, value_uses, field_uses};
 
 use crate::numbers::type_node;
-use crate::references::{Reference, References};
+use crate::references::{BOUND, Reference, References};
 use graphql_names::{Name, Node};
 use graphql_schema::Schema;
 use indexmap::IndexMap;
@@ -236,7 +236,7 @@ pub(crate) fn references_of_definitions(
 {
     let roots = schema.directive_definitions.len();
     let nodes = roots + schema.types.len();
-    let mut all = References::new(alloc, roots, roots);
+    let mut all = References::new(alloc, roots, roots, BOUND);
     for node in 0..nodes {
         all.push(alloc, use_references(alloc, schema, node)?)?;
     }

@@ -28,13 +28,13 @@ use Rattle.rule_cycles.specs.Telling.{TellsFound, IsOfRoot, TellsRoots}
 use Rattle.rule_cycles.proofs.Entries.{number_given, under_at, one_number}
 use Rattle.rule_cycles.proofs.Transport.{Goes, AreNamed, Leads-named-on, IsWay-named, HasNoRepeat-named, Leads-numbered, Leads-same, IsWay-same, count_by-none}
 use Rattle.rule_fragments.specs.Used.{AreUnderOwnNames, IsUsed, AreUsed}
-use Rattle.rule_fragments.specs.References.{between}
+use Rattle.rule_cycles.specs.References.{between}
 use Rattle.rule_fragments.specs.SpreadNumbers.{Spread, references_at}
 use Rattle.rule_fragments.specs.SpreadViews.{spread_between}
 use Rattle.rule_fragments.specs.SpreadGraph.{AreSpreadReferences}
 use Rattle.rule_fragments.specs.CycleFaults.{spread_trace, IsRecursiveFault, IsDeepFault, Tells, used_at, TellsRecursive, TellsDeep}
 use Rattle.rule_fragments.specs.Told.{FragmentCyclesFail, Answers, TellsFragmentCycles}
-use Rattle.rule_fragments.specs.declared.references.References.{References}
+use Rattle.rule_cycles.specs.declared.references.References.{References}
 use Rattle.rule_fragments.proofs.Named.{any_among, fragment_there, used_there, own_number, one_fragment, used_by_name}
 use Rattle.rule_fragments.proofs.SpreadBridge.{name_at, number_at, said, spread_sound, spread_full, spread_defined, spread_one}
 

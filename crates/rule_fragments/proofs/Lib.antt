@@ -9,7 +9,6 @@ pub mod Applying
 pub mod Spread
 pub mod Named
 pub mod UnusedTold
-pub mod ReferenceFacts
 pub mod Sets
 pub mod SpreadBridge
 pub mod CyclesTold

@@ -13,7 +13,7 @@ use Rattle.rule_definitions.specs.Told.{PlacedFault}
 use Rattle.rule_cycles.specs.Labels.{along}
 use Rattle.rule_fragments.specs.SpreadNumbers.{Spread}
 use Rattle.rule_fragments.specs.SpreadViews.{spread_between}
-use Rattle.rule_fragments.specs.declared.references.References.{References}
+use Rattle.rule_cycles.specs.declared.references.References.{References}
 
 -- the spreads along a path from the root, from the last to the first
 abbrev pub spread_trace : References (Node FragmentSpread) → ℕ → List ℕ → List Spread

@@ -4,7 +4,6 @@ pub mod Noting
 pub mod Applied
 pub mod Used
 pub mod Unused
-pub mod References
 pub mod SpreadNumbers
 pub mod SpreadViews
 pub mod SpreadGraph

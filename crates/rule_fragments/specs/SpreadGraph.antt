@@ -13,7 +13,7 @@ use Rattle.rule_document_definitions.specs.Limits.{spread_bound}
 use Rattle.rule_cycles.specs.Labels.{targets, label}
 use Rattle.rule_fragments.specs.SpreadNumbers.{references_at}
 use Rattle.rule_fragments.specs.SpreadViews.{spread_between}
-use Rattle.rule_fragments.specs.declared.references.References.{References}
+use Rattle.rule_cycles.specs.declared.references.References.{References}
 
 pub record IsSpreadGraph (es : Entries (MeantFragment Place)) (g : Graph) : Type 0 where
   pub none_first : g.first_kind ≡ 0

@@ -14,10 +14,10 @@ use Rattle.document_meaning.specs.MeantTree.{MeantFragment}
 use Rattle.document_typing.specs.DocumentView.{meant_by_fragment}
 use Rattle.fault_data.specs.DiagnosticView.{plain_spread}
 use Rattle.indexmap.specs.IndexMap.{IndexMap}
-use Rattle.rule_fragments.specs.References.{between}
+use Rattle.rule_cycles.specs.References.{between}
 use Rattle.rule_fragments.specs.SpreadNumbers.{Spread}
-use Rattle.rule_fragments.specs.declared.references.Reference.{Reference}
-use Rattle.rule_fragments.specs.declared.references.References.{References}
+use Rattle.rule_cycles.specs.declared.references.Reference.{Reference}
+use Rattle.rule_cycles.specs.declared.references.References.{References}
 
 -- what a fragment means; what those of a document mean, each under its name
 abbrev pub fragment_meant : Node Fragment → MeantFragment Place

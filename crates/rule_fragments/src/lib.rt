@@ -18,7 +18,6 @@ mod cycle_faults;
 mod cycles;
 mod names;
 mod possible_types;
-mod references;
 mod spread_graph;
 mod spreads;
 mod targets;

@@ -7,11 +7,14 @@ ghost use Rattle.rule_fragments.specs.SpreadNumbers.{spread_references, referenc
 ghost use Rattle.rule_fragments.specs.SpreadViews.{fragment_entries, spread_tree, spread_view};
 ghost use Rattle.rule_fragments.specs.SpreadGraph.{AreSpreadReferences};
 
-use crate::references::{Reference, References};
 use document_typed_operations::FragmentMap;
 use document_typed_selections::{FragmentSpread, Selection, SelectionSet};
 use graphql_names::{Name, Node};
+use rule_cycles::{Reference, References};
 use std::alloc::{AllocError, Global};
+
+/// The most fragments on a way of spreads.
+const BOUND: u32 = 100;
 
 /// A spread by which a fragment refers to another, and the number of that one.
 pub(crate) type SpreadReference = Reference<Node<FragmentSpread>>;
@@ -116,7 +119,7 @@ pub(crate) fn references_of_fragments(
     ensures { IfOk result (λ r. AreSpreadReferences (fragment_entries fragments.now) r) }
 {
     let roots = fragments.len();
-    let mut all = References::new(alloc, roots);
+    let mut all = References::new(alloc, 0, roots, BOUND);
     for number in 0..roots {
         all.push(alloc, spread_references(alloc, fragments, number)?)?;
     }

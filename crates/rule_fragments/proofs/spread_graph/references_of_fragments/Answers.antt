@@ -5,7 +5,7 @@ use Rattle.rule_cycles.proofs.InputGraphs.{past_the_last}
 use Rattle.rule_fragments.specs.SpreadNumbers.{references_in, references_at}
 use Rattle.rule_fragments.specs.SpreadViews.{fragment_meant, fragment_entries, spread_tree}
 use Rattle.rule_fragments.proofs.Named.{names_differ}
-use Rattle.rule_fragments.proofs.ReferenceFacts.{AreNoted-none, AreNoted-more, AreNoted-refers, AreNoted-labels}
+use Rattle.rule_cycles.proofs.ReferenceFacts.{AreNoted-none, AreNoted-more, AreNoted-refers, AreNoted-labels}
 use Rattle.rule_fragments.proofs.spread_graph.references_of_fragments.Goals as goal
 
 pub loop-number-init : goal.loop-number-init

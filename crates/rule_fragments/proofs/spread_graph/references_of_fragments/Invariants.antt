@@ -1,6 +1,6 @@
 use Rattle.std.proofs.Common.{◌≡◌}
 use Rattle.rule_document_definitions.specs.Limits.{spread_bound}
-use Rattle.rule_fragments.specs.References.{AreNoted}
+use Rattle.rule_cycles.specs.References.{AreNoted}
 use Rattle.rule_fragments.specs.SpreadNumbers.{references_at}
 use Rattle.rule_fragments.specs.SpreadViews.{fragment_entries, spread_tree}
 use Rattle.rule_fragments.proofs.spread_graph.references_of_fragments.Given as goal
