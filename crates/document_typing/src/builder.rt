@@ -15,12 +15,12 @@ ghost use Rattle.document_typing.specs.BuilderView.{document_builder, empty_buil
 
 use crate::document::type_document;
 use crate::refusal::BuilderRefusal;
-use crate::sources::add_sources;
 use document_typed_operations::ExecutableDocument;
 use fault_document_data::BuildError;
 use graphql_names::{FileId, SourceSpan};
 use graphql_schema::Schema;
 use indexmap::IndexMap;
+use schema_building::add_sources;
 use std::alloc::{AllocError, Global};
 use tree_definitions::{Definition, Document, SourceFile};
 

@@ -17,7 +17,6 @@ mod look_ups;
 mod refusal;
 mod rules;
 mod selections;
-mod sources;
 
 pub use builder::ExecutableDocumentBuilder;
 pub use fault_document_data::{

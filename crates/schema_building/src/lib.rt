@@ -21,5 +21,6 @@ mod texts;
 mod waiting;
 
 pub use refusal::BuilderRefusal;
+pub use sources::add_sources;
 pub use state::{Building, SettledList};
 pub use waiting::OrphanExtensionTypes;

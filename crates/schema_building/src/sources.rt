@@ -10,7 +10,7 @@ use schema_fold::SourceFile;
 use std::alloc::AllocError;
 
 /// Adds the sources of a document. One that has the number of an earlier one stands in its place.
-pub(crate) fn add_sources(
+pub fn add_sources(
     sources: &mut IndexMap<FileId, SourceFile>,
     more: &IndexMap<FileId, SourceFile>,
 ) -> Result<(), AllocError>
