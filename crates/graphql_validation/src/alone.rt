@@ -9,7 +9,8 @@ ghost use Rattle.rule_document_definitions.specs.DocumentFaults.{Broken};
 ghost use Rattle.rule_document_definitions.specs.DocumentRules.{DeferredBreaks};
 ghost use Rattle.rule_document_definitions.specs.Reached.{AtOperation};
 ghost use Rattle.rule_document_ground.specs.Broken.{brokens_of, AddsBroken};
-ghost use Rattle.rule_fragments.specs.Used.{AreUnderOwnNames, names_of};
+ghost use Rattle.rule_document_ground.specs.NotedNames.{noted_names};
+ghost use Rattle.rule_fragments.specs.Used.{AreUnderOwnNames};
 ghost use Rattle.graphql_validation.specs.Operations.{OperationFailsAlone, ReachesNamed, NotesNames, TellsData, AllAlone};
 
 use crate::found::{Found, check_fragments, note_fragments};
@@ -31,7 +32,7 @@ fn check_operation(
     found: &mut Found,
 ) -> Result<(), AllocError>
     ensures told { OnOk result (Adds found.old.faults found.new.faults (OperationFailsAlone (document_meant document.now) (operation_meant operation.now))) }
-    ensures noted { OnOk result (NotesNames (names_of found.old.used) (names_of found.new.used) (ReachesNamed (document_meant document.now) (operation_meant operation.now))) }
+    ensures noted { OnOk result (NotesNames (noted_names found.old.used) (noted_names found.new.used) (ReachesNamed (document_meant document.now) (operation_meant operation.now))) }
 {
     let alloc = *found.faults.allocator();
     let fragments = &document.fragments;
@@ -45,7 +46,7 @@ fn check_operation(
 /// Adds the faults of each operation without a schema, and notes the fragments that one of them reaches.
 fn check_operations(document: &ExecutableDocument, found: &mut Found) -> Result<(), AllocError>
     ensures told { OnOk result (Adds found.old.faults found.new.faults (λ f. AtOperation (document_meant document.now) (λ o. OperationFailsAlone (document_meant document.now) o f))) }
-    ensures noted { OnOk result (NotesNames (names_of found.old.used) (names_of found.new.used) (λ n. AtOperation (document_meant document.now) (λ o. ReachesNamed (document_meant document.now) o n))) }
+    ensures noted { OnOk result (NotesNames (noted_names found.old.used) (noted_names found.new.used) (λ n. AtOperation (document_meant document.now) (λ o. ReachesNamed (document_meant document.now) o n))) }
 {
     for operation in document.operations.iter() {
         check_operation(document, operation, found)?;

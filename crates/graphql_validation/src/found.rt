@@ -6,8 +6,9 @@ ghost use Rattle.std.specs.Str.{bytes_eq};
 ghost use Rattle.indexmap.specs.IndexSet.{insert_key};
 ghost use Rattle.document_typing.specs.DocumentView.{document_meant};
 ghost use Rattle.rule_document_ground.specs.Reach.{reached_fragments_of};
+ghost use Rattle.rule_document_ground.specs.NotedNames.{noted_names};
 ghost use Rattle.fault_data.specs.FaultView.{faults_of};
-ghost use Rattle.rule_fragments.specs.Used.{AreUnderOwnNames, AreUsed, names_of};
+ghost use Rattle.rule_fragments.specs.Used.{AreUnderOwnNames, AreUsed};
 ghost use Rattle.graphql_validation.specs.Operations.{with_fragments, FragmentsTold};
 
 use document_typed_operations::ExecutableDocument;
@@ -40,7 +41,7 @@ impl Found {
 
 /// Adds a name, unless it is there.
 fn note(name: &Name, names: &mut IndexSet<Name>) -> Result<(), AllocError>
-    ensures { OnOk result (names_of names.new ≡ insert_key bytes_eq (names_of names.old) name.now.text) }
+    ensures { OnOk result (noted_names names.new ≡ insert_key bytes_eq (noted_names names.old) name.now.text) }
 {
     let name = name.clone()?;
     names.insert(name)?;
@@ -52,7 +53,7 @@ pub(crate) fn note_fragments(
     reach: &Reach<'_>,
     names: &mut IndexSet<Name>,
 ) -> Result<(), AllocError>
-    ensures { OnOk result (names_of names.new ≡ with_fragments (names_of names.old) (reached_fragments_of reach.now)) }
+    ensures { OnOk result (noted_names names.new ≡ with_fragments (noted_names names.old) (reached_fragments_of reach.now)) }
 {
     for index in 0..reach.fragments.len() {
         note(&reach.fragments[index].content().name, names)?;
@@ -73,7 +74,7 @@ pub(crate) fn check_fragments(
     document: &ExecutableDocument,
     found: Found,
 ) -> Result<Vec<Fault>, AllocError>
-    ensures { IfOk result (λ r. AreUnderOwnNames (document_meant document.now) → AreUsed (document_meant document.now) (names_of found.used) → FragmentsTold (document_meant document.now) (faults_of found.faults) (faults_of r)) }
+    ensures { IfOk result (λ r. AreUnderOwnNames (document_meant document.now) → AreUsed (document_meant document.now) (noted_names found.used) → FragmentsTold (document_meant document.now) (faults_of found.faults) (faults_of r)) }
 {
     let Found { mut faults, used } = found;
     let alloc = *faults.allocator();

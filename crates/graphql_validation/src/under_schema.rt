@@ -4,7 +4,8 @@ ghost use Rattle.rule_document_definitions.specs.Reached.{AtOperation};
 ghost use Rattle.rule_document_definitions.specs.Selected.{operations};
 ghost use Rattle.fault_data.specs.Adds.{Adds};
 ghost use Rattle.fault_data.specs.FaultView.{faults_of};
-ghost use Rattle.rule_fragments.specs.Used.{AreUnderOwnNames, names_of};
+ghost use Rattle.rule_document_ground.specs.NotedNames.{noted_names};
+ghost use Rattle.rule_fragments.specs.Used.{AreUnderOwnNames};
 ghost use Rattle.rule_fragments.specs.Possible.{ArePossible};
 ghost use Rattle.rule_document_ground.specs.Broken.{brokens_of};
 ghost use Rattle.rule_definitions.specs.Judged.{judged};
@@ -38,7 +39,7 @@ fn check_operation(
     found: &mut Found,
 ) -> Result<(), AllocError>
     ensures told { OnOk result (ReachesTyped (meanings (plain (schema_tree schema.now))) (document_meant document.now) (operation_meant operation.now) → ArePossible (judged (schema_tree schema.now)) possible.now → Adds found.old.faults found.new.faults (OperationFails (document_meant document.now) (operation_meant operation.now) (schema_tree schema.now))) }
-    ensures noted { OnOk result (NotesNames (names_of found.old.used) (names_of found.new.used) (ReachesNamed (document_meant document.now) (operation_meant operation.now))) }
+    ensures noted { OnOk result (NotesNames (noted_names found.old.used) (noted_names found.new.used) (ReachesNamed (document_meant document.now) (operation_meant operation.now))) }
 {
     let alloc = *found.faults.allocator();
     let fragments = &document.fragments;
@@ -59,7 +60,7 @@ fn check_operations(
     found: &mut Found,
 ) -> Result<(), AllocError>
     ensures told { OnOk result (AreReachesTyped (schema_tree schema.now) (document_meant document.now) → ArePossible (judged (schema_tree schema.now)) possible.now → Adds found.old.faults found.new.faults (λ f. AtOperation (document_meant document.now) (λ o. OperationFails (document_meant document.now) o (schema_tree schema.now) f))) }
-    ensures noted { OnOk result (NotesNames (names_of found.old.used) (names_of found.new.used) (λ n. AtOperation (document_meant document.now) (λ o. ReachesNamed (document_meant document.now) o n))) }
+    ensures noted { OnOk result (NotesNames (noted_names found.old.used) (noted_names found.new.used) (λ n. AtOperation (document_meant document.now) (λ o. ReachesNamed (document_meant document.now) o n))) }
 {
     for operation in document.operations.iter() {
         check_operation(schema, possible, document, operation, found)?;

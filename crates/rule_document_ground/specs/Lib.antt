@@ -3,3 +3,4 @@ pub mod Broken
 pub mod Gathered
 pub mod Fields
 pub mod Lent
+pub mod NotedNames

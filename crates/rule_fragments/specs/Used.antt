@@ -1,13 +1,7 @@
 -- What is known of a document before its fragments are judged.
-use Rattle.std.specs.Prelude.{◌≡◌, ◌↔◌, ℕ, List, map, Contains}
-use Rattle.indexmap.specs.IndexSet.{IndexSet}
-use Rattle.graphql_names.specs.NameValue.{NameValue}
+use Rattle.std.specs.Prelude.{◌≡◌, ◌↔◌, ℕ, List, Contains}
 use Rattle.document_meaning.specs.MeantTree.{MeantFragment, MeantDocument}
 use Rattle.rule_document_definitions.specs.Reached.{AtOperation, ReachesFragment}
-
--- the names of a set
-abbrev pub names_of : {S : Type 0} → IndexSet NameValue S → List (List ℕ)
-names_of names = map (λ k. k.text) names.keys
 
 module _ {P : Type 0} (d : MeantDocument P) where
   -- each fragment stands under its own name, as in every document that is typed

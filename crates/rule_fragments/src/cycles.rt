@@ -5,7 +5,8 @@ ghost use Rattle.document_meaning.specs.MeantTree.{MeantDocument};
 ghost use Rattle.fault_data.specs.FaultView.{fault_of, faults_of};
 ghost use Rattle.rule_cycles.specs.Telling.{TellsFound};
 ghost use Rattle.rule_document_ground.specs.Reach.{meant_fragments};
-ghost use Rattle.rule_fragments.specs.Used.{names_of, AreUnderOwnNames, AreUsed};
+ghost use Rattle.rule_document_ground.specs.NotedNames.{noted_names};
+ghost use Rattle.rule_fragments.specs.Used.{AreUnderOwnNames, AreUsed};
 ghost use Rattle.rule_fragments.specs.SpreadViews.{fragment_entries, lent_at};
 ghost use Rattle.rule_fragments.specs.CycleFaults.{used_at, TellsRecursive, TellsDeep};
 ghost use Rattle.rule_fragments.specs.Told.{TellsFragmentCycles};
@@ -26,7 +27,7 @@ fn used_fragment<'doc>(
     used: &IndexSet<Name>,
     number: usize,
 ) -> Option<&'doc Node<Fragment>>
-    ensures { lent_at result number ≡ used_at (fragment_entries fragments.now) (names_of used.now) number }
+    ensures { lent_at result number ≡ used_at (fragment_entries fragments.now) (noted_names used.now) number }
 {
     let (name, fragment) = fragments.get_index(number)?;
     if has_name(used, name) {
@@ -68,7 +69,7 @@ pub fn check_cycles(
     used: &IndexSet<Name>,
     faults: &mut Vec<Fault>,
 ) -> Result<(), AllocError>
-    ensures { OnOk result ((d : MeantDocument Place) → d.fragments ≡ meant_fragments fragments.now → AreUnderOwnNames d → AreUsed d (names_of used.now) → TellsFragmentCycles d (faults_of faults.old) (faults_of faults.new)) }
+    ensures { OnOk result ((d : MeantDocument Place) → d.fragments ≡ meant_fragments fragments.now → AreUnderOwnNames d → AreUsed d (noted_names used.now) → TellsFragmentCycles d (faults_of faults.old) (faults_of faults.new)) }
 {
     let references = references_of_fragments(alloc, fragments)?;
     let all = ways_back(alloc, &references.graph)?;

@@ -7,8 +7,9 @@ ghost use Rattle.fault_data.specs.FaultView.{fault_of, faults_of};
 ghost use Rattle.fault_data.specs.Adds.{Adds};
 ghost use Rattle.rule_document_definitions.specs.Fragments.{UnusedFragmentAt};
 ghost use Rattle.rule_document_ground.specs.Reach.{meant_fragments};
+ghost use Rattle.rule_document_ground.specs.NotedNames.{noted_names};
 ghost use Rattle.rule_cycles.specs.Numbers.{each_value};
-ghost use Rattle.rule_fragments.specs.Used.{names_of, AreUnderOwnNames, AreUsed};
+ghost use Rattle.rule_fragments.specs.Used.{AreUnderOwnNames, AreUsed};
 ghost use Rattle.rule_fragments.specs.Unused.{unused_fragment};
 ghost use Rattle.rule_fragments.specs.SpreadViews.{fragment_meant};
 
@@ -20,7 +21,7 @@ use std::alloc::AllocError;
 
 /// Whether the name is among these.
 pub(crate) fn has_name(names: &IndexSet<Name>, name: &Name) -> bool
-    ensures { result ≡ list_any (bytes_eq name.now.text) (names_of names.now) }
+    ensures { result ≡ list_any (bytes_eq name.now.text) (noted_names names.now) }
 {
     names.contains(name)
 }
@@ -30,7 +31,7 @@ fn unused_fragment(
     used: &IndexSet<Name>,
     fragment: &Node<Fragment>,
 ) -> Result<Option<Fault>, AllocError>
-    ensures { IfOk result (λ r. map fault_of (option_to_list r) ≡ unused_fragment (names_of used.now) (fragment_meant fragment.now)) }
+    ensures { IfOk result (λ r. map fault_of (option_to_list r) ≡ unused_fragment (noted_names used.now) (fragment_meant fragment.now)) }
 {
     let name = &fragment.content().name;
     if has_name(used, name) {
@@ -49,7 +50,7 @@ fn tell_unused(
     used: &IndexSet<Name>,
     faults: &mut Vec<Fault>,
 ) -> Result<(), AllocError>
-    ensures { OnOk result (faults_of faults.new ≡ faults_of faults.old ++ each_value (λ n. unused_fragment (names_of used.now) (fragment_meant n)) fragments.now.entries) }
+    ensures { OnOk result (faults_of faults.new ≡ faults_of faults.old ++ each_value (λ n. unused_fragment (noted_names used.now) (fragment_meant n)) fragments.now.entries) }
 {
     for (_, fragment) in fragments {
         tell(faults, unused_fragment(used, fragment)?)?;
@@ -64,7 +65,7 @@ pub fn check_unused(
     used: &IndexSet<Name>,
     faults: &mut Vec<Fault>,
 ) -> Result<(), AllocError>
-    ensures { OnOk result ((d : MeantDocument Place) → d.fragments ≡ meant_fragments fragments.now → AreUnderOwnNames d → AreUsed d (names_of used.now) → Adds faults.old faults.new (λ f. UnusedFragmentAt d f)) }
+    ensures { OnOk result ((d : MeantDocument Place) → d.fragments ≡ meant_fragments fragments.now → AreUnderOwnNames d → AreUsed d (noted_names used.now) → Adds faults.old faults.new (λ f. UnusedFragmentAt d f)) }
 {
     // A map that is asked for its length says that its names differ, which the rule takes for granted.
     let _distinct = fragments.len();

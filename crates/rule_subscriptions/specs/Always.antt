@@ -1,20 +1,14 @@
 -- Private: leads to `Defer.antt` of the rules' definitions.
 -- What the walk over selections that are always reached has found, and what it has still to do.
-use Rattle.std.specs.Prelude.{◌≡◌, ◌↔◌, ℕ, ◌+◌, ◌-◌, ◌<◌, true, List, [], ◌∷◌, ◌++◌, length, map, slice_get, bytes_eq, Contains, Option, None, Some, if◌then◌else◌, ◌⊎◌}
+use Rattle.std.specs.Prelude.{◌≡◌, ◌↔◌, ℕ, ◌+◌, ◌-◌, ◌<◌, true, List, [], ◌∷◌, ◌++◌, length, slice_get, bytes_eq, Contains, Option, None, Some, if◌then◌else◌, ◌⊎◌}
 use Rattle.std.specs.List.{list_any}
 use Rattle.std.specs.Option.{option_map, option_and_then}
-use Rattle.indexmap.specs.IndexSet.{IndexSet}
-use Rattle.graphql_names.specs.NameValue.{NameValue}
 use Rattle.document_meaning.specs.MeantTree.{MeantSelection, MeantOperation, MeantDocument, MeantSet, meant_of_set}
 use Rattle.document_walks.specs.Reached.{Fragments, NamedSet, fragment_named}
 use Rattle.rule_document_definitions.specs.Selected.{Standing, spread_name}
 use Rattle.rule_document_definitions.specs.Defer.{ReachedAlways}
 use Rattle.rule_subscriptions.specs.Inside.{contents_in, ReachesBy}
 use Rattle.rule_subscriptions.specs.Listed.{stays}
-
--- the names that are noted
-abbrev pub noted_names : {S : Type 0} → IndexSet NameValue S → List (List ℕ)
-noted_names names = map (λ k. k.text) names.keys
 
 module _ {P : Type 0} where
   -- what always stands in a set

@@ -1,16 +1,11 @@
 -- Private: leads to `IsUsedIn` of the definitions of the rules of documents. Names, with those of the variables that stand somewhere.
-use Rattle.std.specs.Prelude.{ℕ, List, map, fold}
+use Rattle.std.specs.Prelude.{ℕ, List, fold}
 use Rattle.std.specs.Str.{bytes_eq}
-use Rattle.indexmap.specs.IndexSet.{IndexSet, insert_key}
-use Rattle.graphql_names.specs.NameValue.{NameValue}
+use Rattle.indexmap.specs.IndexSet.{insert_key}
 use Rattle.graphql_names.specs.Placed.{Place}
 use Rattle.tree_literals.specs.ValueTree.{ValueTree, ItemTrees, EntryTrees, VariableTree, ListTree, ObjectTree, no_items, item_then, no_entries, entry_then}
 use Rattle.tree_directives.specs.DirectiveTree.{Arguments, Directives}
 use Rattle.document_meaning.specs.MeantTree.{MeantSelection, MeantField, MeantSpread, MeantInline, MeantFragment}
-
--- names that were noted
-abbrev pub noted_names : {S : Type 0} → IndexSet NameValue S → List (List ℕ)
-noted_names names = map (λ k. k.text) names.keys
 
 -- of a value, at any depth
 abbrev mutual

@@ -9,8 +9,8 @@ ghost use Rattle.rule_values.specs.Wanting.{variables_of};
 ghost use Rattle.schema_types.specs.Addresses.{Address};
 ghost use Rattle.document_meaning.specs.MeantTree.{MeantDocument};
 ghost use Rattle.rule_document_ground.specs.Reach.{IsReachOf};
+ghost use Rattle.rule_document_ground.specs.NotedNames.{noted_names};
 ghost use Rattle.rule_variables.specs.Parts.{VariablesBreakAlone, VariablesBreakUnder};
-ghost use Rattle.rule_variables.specs.UsedNames.{noted_names};
 ghost use Rattle.rule_variables.specs.VariableFaults.{AloneBreaks};
 
 use crate::reached::used_names;

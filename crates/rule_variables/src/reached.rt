@@ -2,7 +2,8 @@
 ghost use Rattle.std.specs.Prelude.{◌≡◌, [], IfOk, OnOk};
 ghost use Rattle.document_typed_operations.specs.TypedDocument.{typed_operation_tree};
 ghost use Rattle.rule_document_ground.specs.Reach.{reached_members, reached_fragments_of};
-ghost use Rattle.rule_variables.specs.UsedNames.{noted_names, with_members, with_fragments, with_used};
+ghost use Rattle.rule_document_ground.specs.NotedNames.{noted_names};
+ghost use Rattle.rule_variables.specs.UsedNames.{with_members, with_fragments, with_used};
 
 use crate::used::{note_in_directives, note_in_selection};
 use document_typed_operations::Operation;

@@ -8,7 +8,7 @@ ghost use Rattle.rule_values.specs.in_fault_data.FaultView.{fault_of};
 ghost use Rattle.rule_values.specs.in_fault_data.Adds.{Adds};
 ghost use Rattle.rule_values.specs.Wanting.{variables_of};
 ghost use Rattle.rule_uses.specs.Steps.{Lists};
-ghost use Rattle.rule_variables.specs.UsedNames.{noted_names};
+ghost use Rattle.rule_document_ground.specs.NotedNames.{noted_names};
 ghost use Rattle.rule_variables.specs.VariableFaults.{UnusedAmong};
 
 use graphql_names::{Name, Node, SourceSpan, recompose};

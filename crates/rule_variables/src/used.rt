@@ -7,7 +7,8 @@ ghost use Rattle.graphql_names.specs.Placed.{node_tree};
 ghost use Rattle.tree_directives.specs.DirectiveTree.{argument_tree, directives_tree};
 ghost use Rattle.document_typed_selections.specs.TypedTree.{typed_selection_tree};
 ghost use Rattle.document_meaning.specs.MeantTree.{meant};
-ghost use Rattle.rule_variables.specs.UsedNames.{noted_names, with_value, with_items, with_entries, with_arguments, with_directives, with_selection};
+ghost use Rattle.rule_document_ground.specs.NotedNames.{noted_names};
+ghost use Rattle.rule_variables.specs.UsedNames.{with_value, with_items, with_entries, with_arguments, with_directives, with_selection};
 
 use document_typed_selections::Selection;
 use graphql_names::{Name, Node};

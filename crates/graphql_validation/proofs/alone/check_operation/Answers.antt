@@ -5,7 +5,7 @@ use Rattle.document_typed_selections.specs.TypedTree.{typed_set_tree}
 use Rattle.document_typed_operations.specs.declared.operation.Operation.{Operation}
 use Rattle.document_typing.specs.DocumentView.{document_meant, operation_meant}
 use Rattle.rule_document_definitions.specs.Told.{places_alone}
-use Rattle.rule_fragments.specs.Used.{names_of}
+use Rattle.rule_document_ground.specs.NotedNames.{noted_names}
 use Rattle.rule_definitions.proofs.Listing.{gains_both, gains_same}
 use Rattle.rule_document_ground.specs.Reach.{reached_members, reached_fragments_of}
 use Rattle.rule_document_ground.proofs.OfDocuments.{ReachesFrom, operation_reaches}
@@ -36,5 +36,5 @@ returns-clause-noted c =
     let r = c.in_ok-reach.reach in
     let reaches = operation_reaches c.args.document.now c.args.operation.now r (subst (λ (x : Operation). ReachesFrom (typed_set_tree x.selection_set) c.args.document.now.fragments r) c.content.ensures c.in_ok-reach.ensures) in
     on_ok_weaker c.note_fragments.result
-    (λ h. fragments_noted d o (reached_members r) (reached_fragments_of r) reaches (names_of c.args.found.now.used) (names_of c.note_fragments.new.names) h)
+    (λ h. fragments_noted d o (reached_members r) (reached_fragments_of r) reaches (noted_names c.args.found.now.used) (noted_names c.note_fragments.new.names) h)
     c.note_fragments.ensures

@@ -7,7 +7,7 @@ use Rattle.document_meaning.specs.MeantTree.{MeantOperation}
 use Rattle.document_typing.specs.DocumentView.{document_meant, operation_meant}
 use Rattle.rule_definitions.specs.Words.{AtSomeIndex}
 use Rattle.rule_document_definitions.specs.Selected.{operations}
-use Rattle.rule_fragments.specs.Used.{names_of}
+use Rattle.rule_document_ground.specs.NotedNames.{noted_names}
 use Rattle.rule_definitions.proofs.Listing.{gains_none, gains_more, gains_same}
 use Rattle.rule_document_ground.proofs.AtReaches.{some_index}
 use Rattle.graphql_validation.specs.Operations.{OperationFailsAlone, ReachesNamed, NotesNames}
@@ -19,7 +19,7 @@ pub loop-operation-init : goal.loop-operation-init
 loop-operation-init c =
     let d = document_meant c.args.document.now in (
       gains_none {X = MeantOperation Place} (faults_of c.args.found.now.faults) (λ k o f. OperationFailsAlone d o f),
-      notes_none (λ o n. ReachesNamed d o n) (names_of c.args.found.now.used),
+      notes_none (λ o n. ReachesNamed d o n) (noted_names c.args.found.now.used),
       (λ i. map operation_meant (left_operations (c.into_iter-operation-iterator.ensures.into_iter_gives i)))
           ∙ all_operations c.args.document.now (left_operations c.iter-operation-items.result) c.iter-operation-items.ensures,
     )
@@ -33,7 +33,7 @@ loop-operation-preserved c =
     let behind = lent_operations (at.yielded ++ x ∷ []) in (
       gains_more (faults_of c.args.found.now.faults) (faults_of at.found.faults) (faults_of c.check_operation.new.found.faults) before behind (lent_operation x) (λ k o f. OperationFailsAlone d o f)
           (one_behind at.yielded x) at.invariant.0 c.in_ok-check_operation.ensures.told,
-      notes_more (λ o n. ReachesNamed d o n) (names_of c.args.found.now.used) (names_of at.found.used) (names_of c.check_operation.new.found.used) before behind (lent_operation x)
+      notes_more (λ o n. ReachesNamed d o n) (noted_names c.args.found.now.used) (noted_names at.found.used) (noted_names c.check_operation.new.found.used) before behind (lent_operation x)
           (one_behind at.yielded x) at.invariant.1 c.in_ok-check_operation.ensures.noted,
       lent_more at.yielded x (operations d) (left_operations at.operation-iterator) (left_operations c.next.new.self) c.in-Some.ensures.steps at.invariant.2,
     )
@@ -51,6 +51,6 @@ returns-clause-noted c =
     let d = document_meant c.args.document.now in
     let at = c.loop-operation in
     let all = lent_all at.yielded (operations d) (left_operations at.operation-iterator) c.in-None.ensures.steps.0 at.invariant.2 in
-    notes_same (λ (o : MeantOperation Place) n. ReachesNamed d o n) (names_of c.args.found.now.used) (names_of at.found.used)
+    notes_same (λ (o : MeantOperation Place) n. ReachesNamed d o n) (noted_names c.args.found.now.used) (noted_names at.found.used)
     (λ n. AtSomeIndex (operations d) (λ k o. ReachesNamed d o n)) _ (λ n. some_index (operations d) (λ o. ReachesNamed d o n))
-    (subst (λ l. NotesNames (names_of c.args.found.now.used) (names_of at.found.used) (λ n. AtSomeIndex l (λ k o. ReachesNamed d o n))) all at.invariant.1)
+    (subst (λ l. NotesNames (noted_names c.args.found.now.used) (noted_names at.found.used) (λ n. AtSomeIndex l (λ k o. ReachesNamed d o n))) all at.invariant.1)

@@ -4,12 +4,12 @@ use Rattle.document_typed_operations.specs.OperationsByName.{left_operations}
 use Rattle.document_typing.specs.DocumentView.{document_meant, operation_meant}
 use Rattle.rule_definitions.specs.Words.{AtSomeIndex}
 use Rattle.rule_document_definitions.specs.Selected.{operations}
-use Rattle.rule_fragments.specs.Used.{names_of}
+use Rattle.rule_document_ground.specs.NotedNames.{noted_names}
 use Rattle.graphql_validation.specs.Operations.{OperationFailsAlone, ReachesNamed, NotesNames}
 use Rattle.graphql_validation.proofs.Operations.{lent_operations}
 use Rattle.graphql_validation.proofs.alone.check_operations.Given as goal
 
 abbrev pub invariant-loop-operation : goal.invariant-loop-operation
 invariant-loop-operation l = Adds l.fn.found.faults l.found.faults (λ f. AtSomeIndex (lent_operations l.yielded) (λ k o. OperationFailsAlone (document_meant l.document) o f))
-    × (NotesNames (names_of l.fn.found.used) (names_of l.found.used) (λ n. AtSomeIndex (lent_operations l.yielded) (λ k o. ReachesNamed (document_meant l.document) o n)))
+    × (NotesNames (noted_names l.fn.found.used) (noted_names l.found.used) (λ n. AtSomeIndex (lent_operations l.yielded) (λ k o. ReachesNamed (document_meant l.document) o n)))
     × (lent_operations l.yielded ++ map operation_meant (left_operations l.operation-iterator) ≡ operations (document_meant l.document))

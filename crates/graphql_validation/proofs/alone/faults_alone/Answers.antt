@@ -3,7 +3,7 @@ use Rattle.std.proofs.lemmas.Result.{IfOk-weaker}
 use Rattle.document_typing.specs.DocumentView.{document_meant}
 use Rattle.fault_data.specs.FaultView.{fault_of, faults_of}
 use Rattle.rule_document_definitions.specs.Reached.{AtOperation}
-use Rattle.rule_fragments.specs.Used.{names_of}
+use Rattle.rule_document_ground.specs.NotedNames.{noted_names}
 use Rattle.graphql_validation.specs.Operations.{OperationFailsAlone, ReachesNamed, NotesNames, AllAlone}
 use Rattle.graphql_validation.proofs.Data.{are_used, tells_data}
 use Rattle.graphql_validation.proofs.Ordered.{all_alone, recursive_alone}
@@ -15,7 +15,7 @@ returns c =
     let new = c.check_operations.new.found in
     let t = c.in_ok-check_operations.ensures.told in
     let is = t.1.0 ∙ ap (λ l. map fault_of l ++ t.0) c.new-found.ensures.faults in
-    let used = are_used d (names_of new.used) (subst (λ l. NotesNames l (names_of new.used) (λ n. AtOperation d (λ o. ReachesNamed d o n))) (ap (map (λ k. k.text)) c.new-found.ensures.used) c.in_ok-check_operations.ensures.noted) in
+    let used = are_used d (noted_names new.used) (subst (λ l. NotesNames l (noted_names new.used) (λ n. AtOperation d (λ o. ReachesNamed d o n))) (ap (map (λ k. k.text)) c.new-found.ensures.used) c.in_ok-check_operations.ensures.noted) in
     IfOk-weaker c.check_fragments.result _ _
     (λ r h own. tells_data d (AllAlone d) (OperationFailsAlone d) (all_alone d) (recursive_alone d) (faults_of new.faults) (faults_of r)
     (λ f. subst (λ l. Contains l f ↔ AtOperation d (λ o. OperationFailsAlone d o f)) (sym is) (t.1.1 f)) (h own used))

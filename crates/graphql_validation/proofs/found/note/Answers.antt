@@ -2,7 +2,7 @@ use Rattle.std.proofs.Common.{map, ap, ◌∙◌}
 use Rattle.std.specs.Str.{bytes_eq}
 use Rattle.indexmap.specs.IndexSet.{insert_key}
 use Rattle.graphql_names.specs.NameValue.{NameValue}
-use Rattle.rule_fragments.specs.Used.{names_of}
+use Rattle.rule_document_ground.specs.NotedNames.{noted_names}
 use Rattle.rule_variables.proofs.Names.{inserted}
 use Rattle.graphql_validation.proofs.found.note.Goals as goal
 
@@ -10,4 +10,4 @@ pub returns : goal.returns
 returns c =
     ap (map (λ k. k.text)) c.in_ok-insert.ensures.keys
     ∙ inserted c.args.names.now.keys c.in_ok-name.name
-    ∙ ap (λ (n : NameValue). insert_key bytes_eq (names_of c.args.names.now) n.text) c.in_ok-name.ensures.same
+    ∙ ap (λ (n : NameValue). insert_key bytes_eq (noted_names c.args.names.now) n.text) c.in_ok-name.ensures.same

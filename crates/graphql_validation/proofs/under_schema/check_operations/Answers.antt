@@ -8,7 +8,7 @@ use Rattle.document_meaning.specs.MeantTree.{MeantOperation}
 use Rattle.document_typing.specs.DocumentView.{document_meant, operation_meant}
 use Rattle.rule_definitions.specs.Words.{AtSomeIndex}
 use Rattle.rule_document_definitions.specs.Selected.{operations}
-use Rattle.rule_fragments.specs.Used.{names_of}
+use Rattle.rule_document_ground.specs.NotedNames.{noted_names}
 use Rattle.rule_definitions.proofs.Listing.{gains_none, gains_more, gains_same}
 use Rattle.rule_document_ground.proofs.AtReaches.{some_index}
 use Rattle.graphql_validation.specs.Operations.{OperationFails, ReachesNamed, NotesNames}
@@ -21,7 +21,7 @@ loop-operation-init c =
     let s = schema_tree c.args.schema.now in
     let d = document_meant c.args.document.now in (
       λ typed possible. gains_none {X = MeantOperation Place} (faults_of c.args.found.now.faults) (λ k o f. OperationFails d o s f),
-      notes_none (λ o n. ReachesNamed d o n) (names_of c.args.found.now.used),
+      notes_none (λ o n. ReachesNamed d o n) (noted_names c.args.found.now.used),
       (λ i. map operation_meant (left_operations (c.into_iter-operation-iterator.ensures.into_iter_gives i)))
           ∙ all_operations c.args.document.now (left_operations c.iter-operation-items.result) c.iter-operation-items.ensures,
     )
@@ -39,7 +39,7 @@ loop-operation-preserved c =
     let among = lent_among at.yielded x (operations d) left rest c.in-Some.ensures.steps at.invariant.2 in (
       λ typed possible. gains_more (faults_of c.args.found.now.faults) (faults_of at.found.faults) (faults_of c.check_operation.new.found.faults) before behind (lent_operation x) (λ k o f. OperationFails d o s f)
           (one_behind at.yielded x) (at.invariant.0 typed possible) (c.in_ok-check_operation.ensures.told (typed (lent_operation x) among) possible),
-      notes_more (λ o n. ReachesNamed d o n) (names_of c.args.found.now.used) (names_of at.found.used) (names_of c.check_operation.new.found.used) before behind (lent_operation x)
+      notes_more (λ o n. ReachesNamed d o n) (noted_names c.args.found.now.used) (noted_names at.found.used) (noted_names c.check_operation.new.found.used) before behind (lent_operation x)
           (one_behind at.yielded x) at.invariant.1 c.in_ok-check_operation.ensures.noted,
       lent_more at.yielded x (operations d) left rest c.in-Some.ensures.steps at.invariant.2,
     )
@@ -58,6 +58,6 @@ returns-clause-noted c =
     let d = document_meant c.args.document.now in
     let at = c.loop-operation in
     let all = lent_all at.yielded (operations d) (left_operations at.operation-iterator) c.in-None.ensures.steps.0 at.invariant.2 in
-    notes_same (λ (o : MeantOperation Place) n. ReachesNamed d o n) (names_of c.args.found.now.used) (names_of at.found.used)
+    notes_same (λ (o : MeantOperation Place) n. ReachesNamed d o n) (noted_names c.args.found.now.used) (noted_names at.found.used)
     (λ n. AtSomeIndex (operations d) (λ k o. ReachesNamed d o n)) _ (λ n. some_index (operations d) (λ o. ReachesNamed d o n))
-    (subst (λ l. NotesNames (names_of c.args.found.now.used) (names_of at.found.used) (λ n. AtSomeIndex l (λ k o. ReachesNamed d o n))) all at.invariant.1)
+    (subst (λ l. NotesNames (noted_names c.args.found.now.used) (noted_names at.found.used) (λ n. AtSomeIndex l (λ k o. ReachesNamed d o n))) all at.invariant.1)

@@ -7,7 +7,7 @@ use Rattle.rule_definitions.specs.Words.{AtSomeIndex}
 use Rattle.rule_definitions.specs.Judged.{judged}
 use Rattle.rule_document_definitions.specs.Selected.{operations}
 use Rattle.rule_fragments.specs.Possible.{ArePossible}
-use Rattle.rule_fragments.specs.Used.{names_of}
+use Rattle.rule_document_ground.specs.NotedNames.{noted_names}
 use Rattle.graphql_validation.specs.Operations.{OperationFails, AreReachesTyped, ReachesNamed, NotesNames}
 use Rattle.graphql_validation.proofs.Operations.{lent_operations}
 use Rattle.graphql_validation.proofs.under_schema.check_operations.Given as goal
@@ -15,5 +15,5 @@ use Rattle.graphql_validation.proofs.under_schema.check_operations.Given as goal
 abbrev pub invariant-loop-operation : goal.invariant-loop-operation
 invariant-loop-operation l = (AreReachesTyped (schema_tree l.schema) (document_meant l.document) → ArePossible (judged (schema_tree l.schema)) l.possible
     → Adds l.fn.found.faults l.found.faults (λ f. AtSomeIndex (lent_operations l.yielded) (λ k o. OperationFails (document_meant l.document) o (schema_tree l.schema) f)))
-    × (NotesNames (names_of l.fn.found.used) (names_of l.found.used) (λ n. AtSomeIndex (lent_operations l.yielded) (λ k o. ReachesNamed (document_meant l.document) o n)))
+    × (NotesNames (noted_names l.fn.found.used) (noted_names l.found.used) (λ n. AtSomeIndex (lent_operations l.yielded) (λ k o. ReachesNamed (document_meant l.document) o n)))
     × (lent_operations l.yielded ++ map operation_meant (left_operations l.operation-iterator) ≡ operations (document_meant l.document))

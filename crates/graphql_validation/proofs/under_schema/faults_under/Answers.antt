@@ -4,7 +4,7 @@ use Rattle.document_typing.specs.DocumentView.{document_meant}
 use Rattle.fault_data.specs.FaultView.{fault_of, faults_of}
 use Rattle.graphql_schema.specs.SchemaOf.{schema_tree}
 use Rattle.rule_document_definitions.specs.Reached.{AtOperation}
-use Rattle.rule_fragments.specs.Used.{names_of}
+use Rattle.rule_document_ground.specs.NotedNames.{noted_names}
 use Rattle.graphql_validation.specs.Operations.{OperationFails, ReachesNamed, NotesNames, AllUnder}
 use Rattle.graphql_validation.proofs.Data.{are_used, tells_data}
 use Rattle.graphql_validation.proofs.Ordered.{all_under, recursive_under}
@@ -15,7 +15,7 @@ returns c =
     let s = schema_tree c.args.schema.now in
     let d = document_meant c.args.document.now in
     let new = c.check_operations.new.found in
-    let used = are_used d (names_of new.used) (subst (λ l. NotesNames l (names_of new.used) (λ n. AtOperation d (λ o. ReachesNamed d o n))) (ap (map (λ k. k.text)) c.new-found.ensures.used) c.in_ok-check_operations.ensures.noted) in
+    let used = are_used d (noted_names new.used) (subst (λ l. NotesNames l (noted_names new.used) (λ n. AtOperation d (λ o. ReachesNamed d o n))) (ap (map (λ k. k.text)) c.new-found.ensures.used) c.in_ok-check_operations.ensures.noted) in
     IfOk-weaker c.check_fragments.result _ _
     (λ r h typed own.
     let t = c.in_ok-check_operations.ensures.told typed c.in_ok-possible.ensures in

@@ -4,19 +4,19 @@ use Rattle.graphql_names.specs.NameValue.{NameValue}
 use Rattle.document_typed_operations.specs.declared.operation.Fragment.{Fragment}
 use Rattle.rule_definitions.specs.Diagnostics.{UnusedFragment}
 use Rattle.rule_definitions.specs.Faults.{wrong}
-use Rattle.rule_fragments.specs.Used.{names_of}
+use Rattle.rule_document_ground.specs.NotedNames.{noted_names}
 use Rattle.rule_fragments.specs.SpreadViews.{fragment_meant}
 use Rattle.rule_fragments.proofs.UnusedTold.{nothing_told, fault_told}
 use Rattle.rule_fragments.proofs.unused.unused_fragment.Goals as goal
 
 pub returns-then-has_name : goal.returns-then-has_name
 returns-then-has_name c =
-    let names = names_of c.args.used.now in
+    let names = noted_names c.args.used.now in
     nothing_told names (fragment_meant c.args.fragment.now) (ap (λ (f : Fragment). list_any (bytes_eq f.name.text) names) (sym c.content.ensures) ∙ sym c.has_name.ensures ∙ c.if-has_name.true)
 
 pub returns : goal.returns
 returns c =
-    let names = names_of c.args.used.now in
+    let names = noted_names c.args.used.now in
     let text = ap (λ (n : NameValue). n.text) c.in_ok-name.ensures.same ∙ ap (λ (f : Fragment). f.name.text) c.content.ensures in
     (λ i. wrong (c.location.ensures i) (UnusedFragment (text i)) ∷ [])
     ∙ fault_told names (fragment_meant c.args.fragment.now) (ap (λ (f : Fragment). list_any (bytes_eq f.name.text) names) (sym c.content.ensures) ∙ sym c.has_name.ensures ∙ c.if-has_name.false)

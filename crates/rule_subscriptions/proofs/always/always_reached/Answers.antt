@@ -14,7 +14,8 @@ use Rattle.document_walks.specs.Reached.{document_fragments}
 use Rattle.document_walks.specs.WalkView.{fragments_tree}
 use Rattle.document_walks.proofs.WalkLaws.{fragments_tree-document}
 use Rattle.document_typing.specs.DocumentView.{document_meant, operation_meant}
-use Rattle.rule_subscriptions.specs.Always.{Found, always_in, noted_names, to_enter, to_come}
+use Rattle.rule_document_ground.specs.NotedNames.{noted_names}
+use Rattle.rule_subscriptions.specs.Always.{Found, always_in, to_enter, to_come}
 use Rattle.rule_subscriptions.specs.Rooted.{lent, lent_all}
 use Rattle.rule_subscriptions.proofs.Lent.{length-lent}
 use Rattle.rule_subscriptions.proofs.Found.{found_first, found_all, walk_step, walk_less}

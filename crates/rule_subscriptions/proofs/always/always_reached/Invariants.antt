@@ -2,7 +2,8 @@ use Rattle.std.proofs.Common.{◌+◌, ◌-◌, length}
 use Rattle.document_typed_operations.specs.TypedDocument.{typed_document_tree}
 use Rattle.document_walks.specs.Reached.{document_fragments}
 use Rattle.document_typing.specs.DocumentView.{document_meant, operation_meant}
-use Rattle.rule_subscriptions.specs.Always.{Found, noted_names, to_come}
+use Rattle.rule_document_ground.specs.NotedNames.{noted_names}
+use Rattle.rule_subscriptions.specs.Always.{Found, to_come}
 use Rattle.rule_subscriptions.specs.Rooted.{lent_all}
 use Rattle.rule_subscriptions.proofs.always.always_reached.Given as goal
 

@@ -7,7 +7,7 @@ use Rattle.document_typed_selections.specs.TypedTree.{typed_selection_tree, type
 use Rattle.document_typed_selections.specs.declared.selection.FragmentSpread.{FragmentSpread}
 use Rattle.document_walks.specs.WalkView.{fragments_tree}
 use Rattle.rule_document_definitions.specs.Selected.{spread_name}
-use Rattle.rule_subscriptions.specs.Always.{noted_names}
+use Rattle.rule_document_ground.specs.NotedNames.{noted_names}
 use Rattle.rule_subscriptions.specs.Rooted.{lent}
 use Rattle.rule_subscriptions.proofs.Staying.{not_true}
 use Rattle.rule_subscriptions.proofs.Found.{enter_known, enter_missing}

@@ -10,7 +10,8 @@ use Rattle.rule_values.specs.in_fault_data.Adds.{Adds}
 use Rattle.rule_values.specs.Wanting.{variables_of}
 use Rattle.rule_definitions.proofs.Listing.{gains_same}
 use Rattle.rule_document_ground.specs.Reach.{reached_members, reached_fragments_of}
-use Rattle.rule_variables.specs.UsedNames.{noted_names, with_used}
+use Rattle.rule_document_ground.specs.NotedNames.{noted_names}
+use Rattle.rule_variables.specs.UsedNames.{with_used}
 use Rattle.rule_variables.specs.VariableFaults.{AloneBreaks}
 use Rattle.rule_variables.proofs.Gathered.{alone_is}
 use Rattle.rule_variables.proofs.check.check_variables_alone.Goals as goal

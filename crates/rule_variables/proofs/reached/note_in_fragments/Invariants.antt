@@ -1,6 +1,7 @@
 use Rattle.std.proofs.Common.{◌≡◌, drop, map}
 use Rattle.rule_document_ground.specs.Reach.{fragment_of}
-use Rattle.rule_variables.specs.UsedNames.{noted_names, with_fragments}
+use Rattle.rule_document_ground.specs.NotedNames.{noted_names}
+use Rattle.rule_variables.specs.UsedNames.{with_fragments}
 use Rattle.rule_variables.proofs.reached.note_in_fragments.Given as goal
 
 abbrev pub invariant-loop-index : goal.invariant-loop-index

@@ -1,6 +1,7 @@
 use Rattle.std.proofs.Common.{◌≡◌, drop, map}
 use Rattle.rule_document_ground.specs.Reach.{member_of}
-use Rattle.rule_variables.specs.UsedNames.{noted_names, with_members}
+use Rattle.rule_document_ground.specs.NotedNames.{noted_names}
+use Rattle.rule_variables.specs.UsedNames.{with_members}
 use Rattle.rule_variables.proofs.reached.note_in_members.Given as goal
 
 abbrev pub invariant-loop-selection : goal.invariant-loop-selection

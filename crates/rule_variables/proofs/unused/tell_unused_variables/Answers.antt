@@ -7,7 +7,7 @@ use Rattle.rule_values.specs.in_fault_data.FaultView.{faults_of}
 use Rattle.rule_values.specs.in_fault_data.Adds.{Adds}
 use Rattle.rule_values.specs.Wanting.{variables_of}
 use Rattle.rule_definitions.proofs.Listing.{gains_none, gains_more, gains_list, mapped_more}
-use Rattle.rule_variables.specs.UsedNames.{noted_names}
+use Rattle.rule_document_ground.specs.NotedNames.{noted_names}
 use Rattle.rule_variables.specs.VariableFaults.{Defined, UnusedAmong}
 use Rattle.rule_variables.proofs.unused.tell_unused_variables.Goals as goal
 

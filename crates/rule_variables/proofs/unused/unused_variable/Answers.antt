@@ -6,7 +6,7 @@ use Rattle.tree_operations.specs.declared.operation.VariableDefinition.{Variable
 use Rattle.rule_definitions.specs.Diagnostics.{UnusedVariable}
 use Rattle.rule_definitions.specs.Faults.{wrong}
 use Rattle.rule_uses.specs.Steps.{Lists}
-use Rattle.rule_variables.specs.UsedNames.{noted_names}
+use Rattle.rule_document_ground.specs.NotedNames.{noted_names}
 use Rattle.rule_variables.specs.VariableFaults.{UnusedAmong}
 use Rattle.rule_variables.proofs.Told.{lists_unused}
 use Rattle.rule_variables.proofs.unused.unused_variable.Goals as goal

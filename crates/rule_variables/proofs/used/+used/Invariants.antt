@@ -1,6 +1,7 @@
 use Rattle.std.proofs.Common.{◌≡◌, drop}
 use Rattle.tree_literals.specs.ValueTree.{value_tree, item_trees, entry_trees}
-use Rattle.rule_variables.specs.UsedNames.{noted_names, with_items, with_entries}
+use Rattle.rule_document_ground.specs.NotedNames.{noted_names}
+use Rattle.rule_variables.specs.UsedNames.{with_items, with_entries}
 use Rattle.rule_variables.proofs.used.+used.Given as goal
 
 abbrev pub invariant-note_in_items-loop-item : goal.invariant-note_in_items-loop-item

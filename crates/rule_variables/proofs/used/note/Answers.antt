@@ -2,7 +2,7 @@ use Rattle.std.proofs.Common.{map, ap, ◌∙◌}
 use Rattle.std.specs.Str.{bytes_eq}
 use Rattle.indexmap.specs.IndexSet.{insert_key}
 use Rattle.graphql_names.specs.NameValue.{NameValue}
-use Rattle.rule_variables.specs.UsedNames.{noted_names}
+use Rattle.rule_document_ground.specs.NotedNames.{noted_names}
 use Rattle.rule_variables.proofs.Names.{inserted}
 use Rattle.rule_variables.proofs.used.note.Goals as goal
 

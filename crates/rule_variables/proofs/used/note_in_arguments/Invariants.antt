@@ -1,7 +1,8 @@
 use Rattle.std.proofs.Common.{◌≡◌, drop, map}
 use Rattle.graphql_names.specs.Placed.{node_tree}
 use Rattle.tree_directives.specs.DirectiveTree.{argument_tree}
-use Rattle.rule_variables.specs.UsedNames.{noted_names, with_arguments}
+use Rattle.rule_document_ground.specs.NotedNames.{noted_names}
+use Rattle.rule_variables.specs.UsedNames.{with_arguments}
 use Rattle.rule_variables.proofs.used.note_in_arguments.Given as goal
 
 abbrev pub invariant-loop-argument : goal.invariant-loop-argument

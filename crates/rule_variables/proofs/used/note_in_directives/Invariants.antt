@@ -1,7 +1,8 @@
 use Rattle.std.proofs.Common.{◌≡◌, drop, map}
 use Rattle.graphql_names.specs.Placed.{node_tree}
 use Rattle.tree_directives.specs.DirectiveTree.{directive_tree, directives_tree}
-use Rattle.rule_variables.specs.UsedNames.{noted_names, with_directives}
+use Rattle.rule_document_ground.specs.NotedNames.{noted_names}
+use Rattle.rule_variables.specs.UsedNames.{with_directives}
 use Rattle.rule_variables.proofs.used.note_in_directives.Given as goal
 
 abbrev pub invariant-loop-directive : goal.invariant-loop-directive
