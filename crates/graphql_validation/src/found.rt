@@ -3,7 +3,6 @@ ghost use Rattle.std.specs.Prelude.{◌≡◌, [], IfOk, OnOk};
 ghost use Rattle.std.specs.List.{IsDistinct};
 ghost use Rattle.std.specs.Map.{keys_of};
 ghost use Rattle.std.specs.Str.{bytes_eq};
-ghost use Rattle.indexmap.specs.IndexSet.{insert_key};
 ghost use Rattle.document_typing.specs.DocumentView.{document_meant};
 ghost use Rattle.rule_document_ground.specs.Reach.{reached_fragments_of};
 ghost use Rattle.rule_document_ground.specs.NotedNames.{noted_names};
@@ -15,7 +14,7 @@ use document_typed_operations::ExecutableDocument;
 use fault_data::Fault;
 use graphql_names::Name;
 use indexmap::IndexSet;
-use rule_document_ground::Reach;
+use rule_document_ground::{Reach, note_name};
 use rule_fragments::{check_cycles, check_unused};
 use std::alloc::{AllocError, Global};
 
@@ -39,15 +38,6 @@ impl Found {
     }
 }
 
-/// Adds a name, unless it is there.
-fn note(name: &Name, names: &mut IndexSet<Name>) -> Result<(), AllocError>
-    ensures { OnOk result (noted_names names.new ≡ insert_key bytes_eq (noted_names names.old) name.now.text) }
-{
-    let name = name.clone()?;
-    names.insert(name)?;
-    Ok(())
-}
-
 /// Adds the name of each fragment that is reached.
 pub(crate) fn note_fragments(
     reach: &Reach<'_>,
@@ -56,7 +46,7 @@ pub(crate) fn note_fragments(
     ensures { OnOk result (noted_names names.new ≡ with_fragments (noted_names names.old) (reached_fragments_of reach.now)) }
 {
     for index in 0..reach.fragments.len() {
-        note(&reach.fragments[index].content().name, names)?;
+        note_name(&reach.fragments[index].content().name, names)?;
     }
     Ok(())
 }

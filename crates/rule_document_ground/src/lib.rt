@@ -12,6 +12,7 @@
 //!   same. `push_fields` gives the fields that a selection set has through fragments (`AreFieldsOf`).
 //! - What a check adds to a list of breaches of documents is `AddsBroken` of `specs/Broken.antt`, with its lemmas in
 //!   `proofs/AddingBroken.antt`; those on lists of any faults are `rule_definitions`' `Listing`, handed on.
+//! - The names in a set are `noted_names` of `specs/NotedNames.antt`; `note_name` adds one.
 //!
 //! Begin with `specs/Reach.antt` and `reaching.rt`; and with `field_selection.rt` and `fields.rt`.
 #![tactic(auto)]
@@ -21,10 +22,12 @@ mod field_selection;
 mod fields;
 pub mod laws;
 mod lists;
+mod noted_names;
 mod reaching;
 
 pub use breaches::tell_breach;
 pub use field_selection::FieldSelection;
 pub use fields::push_fields;
 pub use lists::Reach;
+pub use noted_names::note_name;
 pub use reaching::reach;

@@ -38,21 +38,6 @@ any_among n (k ∷ ks) = by (bytes_eq n k.text) refl (any_among n ks)
 
 -- ---- one name more
 
-map_append : (ks : List NameValue) (k : NameValue) → map text_of (ks ++ k ∷ []) ≡ map text_of ks ++ k.text ∷ []
-map_append [] k = refl
-map_append (a ∷ ks) k = ap (λ l. a.text ∷ l) (map_append ks k)
-
-any_text : (k : NameValue) (ks : List NameValue) → list_any (λ (a : NameValue). bytes_eq k.text a.text) ks ≡ list_any (bytes_eq k.text) (map text_of ks)
-any_text k [] = refl
-any_text k (a ∷ ks) = ap (λ b. bytes_eq k.text a.text || b) (any_text k ks)
-
-pub inserted : (ks : List NameValue) (k : NameValue) → map text_of (insert_key (λ (a b : NameValue). bytes_eq a.text b.text) ks k) ≡ insert_key bytes_eq (map text_of ks) k.text
-inserted ks k = by (list_any (λ (a : NameValue). bytes_eq k.text a.text) ks) refl
-  where
-    by : (b : Bool) → list_any (λ (a : NameValue). bytes_eq k.text a.text) ks ≡ b → map text_of (if b then ks else ks ++ k ∷ []) ≡ insert_key bytes_eq (map text_of ks) k.text
-    by true is = ap (λ b. if b then map text_of ks else map text_of ks ++ k.text ∷ []) (sym is ∙ any_text k ks)
-    by false is = map_append ks k ∙ ap (λ b. if b then map text_of ks else map text_of ks ++ k.text ∷ []) (sym is ∙ any_text k ks)
-
 in_name : (n : List ℕ) (ns : List (List ℕ)) (m : List ℕ) → Contains (insert_key bytes_eq ns m) n ↔ (Contains ns n ⊎ (m ≡ n))
 in_name n ns m = by (list_any (bytes_eq m) ns) refl
   where

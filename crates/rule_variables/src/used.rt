@@ -1,7 +1,5 @@
 //! The names of the variables that stand in values, in what is given, and in selections.
 ghost use Rattle.std.specs.Prelude.{◌≡◌, map, OnOk};
-ghost use Rattle.std.specs.Str.{bytes_eq};
-ghost use Rattle.indexmap.specs.IndexSet.{insert_key};
 ghost use Rattle.tree_literals.specs.ValueTree.{value_tree, item_trees, entry_trees};
 ghost use Rattle.graphql_names.specs.Placed.{node_tree};
 ghost use Rattle.tree_directives.specs.DirectiveTree.{argument_tree, directives_tree};
@@ -13,18 +11,10 @@ ghost use Rattle.rule_variables.specs.UsedNames.{with_value, with_items, with_en
 use document_typed_selections::Selection;
 use graphql_names::{Name, Node};
 use indexmap::IndexSet;
+use rule_document_ground::note_name;
 use std::alloc::AllocError;
 use tree_directives::{Argument, DirectiveList};
 use tree_literals::Value;
-
-/// Adds a name.
-fn note(name: &Name, names: &mut IndexSet<Name>) -> Result<(), AllocError>
-    ensures { OnOk result (noted_names names.new ≡ insert_key bytes_eq (noted_names names.old) name.now.text) }
-{
-    let name = name.clone()?;
-    names.insert(name)?;
-    Ok(())
-}
 
 /// Adds the names of the variables in a value, at any depth.
 #[cycle(used)]
@@ -33,7 +23,7 @@ fn note_in_value(value: &Value, names: &mut IndexSet<Name>) -> Result<(), AllocE
     ensures { OnOk result (noted_names names.new ≡ with_value (noted_names names.old) (value_tree value.now)) }
 {
     match value {
-        Value::Variable(name) => note(name, names),
+        Value::Variable(name) => note_name(name, names),
         Value::List(items) => note_in_items(items, names),
         Value::Object(entries) => note_in_entries(entries, names),
         Value::Null

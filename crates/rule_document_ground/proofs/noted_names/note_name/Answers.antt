@@ -3,8 +3,8 @@ use Rattle.std.specs.Str.{bytes_eq}
 use Rattle.indexmap.specs.IndexSet.{insert_key}
 use Rattle.graphql_names.specs.NameValue.{NameValue}
 use Rattle.rule_document_ground.specs.NotedNames.{noted_names}
-use Rattle.rule_variables.proofs.Names.{inserted}
-use Rattle.rule_variables.proofs.used.note.Goals as goal
+use Rattle.rule_document_ground.proofs.NotedNames.{inserted}
+use Rattle.rule_document_ground.proofs.noted_names.note_name.Goals as goal
 
 pub returns : goal.returns
 returns c =

@@ -1,0 +1,18 @@
+//! Names in a set of names.
+ghost use Rattle.std.specs.Prelude.{◌≡◌, OnOk};
+ghost use Rattle.std.specs.Str.{bytes_eq};
+ghost use Rattle.indexmap.specs.IndexSet.{insert_key};
+ghost use Rattle.rule_document_ground.specs.NotedNames.{noted_names};
+
+use graphql_names::Name;
+use indexmap::IndexSet;
+use std::alloc::AllocError;
+
+/// Adds a name, unless it is there.
+pub fn note_name(name: &Name, names: &mut IndexSet<Name>) -> Result<(), AllocError>
+    ensures { OnOk result (noted_names names.new ≡ insert_key bytes_eq (noted_names names.old) name.now.text) }
+{
+    let name = name.clone()?;
+    names.insert(name)?;
+    Ok(())
+}
