@@ -12,7 +12,7 @@
 //!   same. `push_fields` gives the fields that a selection set has through fragments (`AreFieldsOf`).
 //! - What a check adds to a list of breaches of documents is `AddsBroken` of `specs/Broken.antt`, with its lemmas in
 //!   `proofs/AddingBroken.antt`; those on lists of any faults are `rule_definitions`' `Listing`, handed on.
-//! - The names in a set are `noted_names` of `specs/NotedNames.antt`; `note_name` adds one.
+//! - The names in a set are `noted_names` of `specs/NotedNames.antt`; `has_name` asks for one, `note_name` adds one.
 //!
 //! Begin with `specs/Reach.antt` and `reaching.rt`; and with `field_selection.rt` and `fields.rt`.
 #![tactic(auto)]
@@ -29,5 +29,5 @@ pub use breaches::tell_breach;
 pub use field_selection::FieldSelection;
 pub use fields::push_fields;
 pub use lists::Reach;
-pub use noted_names::note_name;
+pub use noted_names::{has_name, note_name};
 pub use reaching::reach;

@@ -1,5 +1,6 @@
 //! Names in a set of names.
 ghost use Rattle.std.specs.Prelude.{◌≡◌, OnOk};
+ghost use Rattle.std.specs.List.{list_any};
 ghost use Rattle.std.specs.Str.{bytes_eq};
 ghost use Rattle.indexmap.specs.IndexSet.{insert_key};
 ghost use Rattle.rule_document_ground.specs.NotedNames.{noted_names};
@@ -7,6 +8,13 @@ ghost use Rattle.rule_document_ground.specs.NotedNames.{noted_names};
 use graphql_names::Name;
 use indexmap::IndexSet;
 use std::alloc::AllocError;
+
+/// Whether the name is among these.
+pub fn has_name(names: &IndexSet<Name>, name: &Name) -> bool
+    ensures { result ≡ list_any (bytes_eq name.now.text) (noted_names names.now) }
+{
+    names.contains(name)
+}
 
 /// Adds a name, unless it is there.
 pub fn note_name(name: &Name, names: &mut IndexSet<Name>) -> Result<(), AllocError>

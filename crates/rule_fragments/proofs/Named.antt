@@ -27,13 +27,6 @@ use Rattle.rule_fragments.specs.SpreadViews.{fragment_meant, fragment_entries}
 
 -- ---- a name among others
 
-abbrev text_of : NameValue → List ℕ
-text_of k = k.text
-
-pub any_text : (n : List ℕ) (ks : List NameValue) → list_any (λ (k : NameValue). bytes_eq n k.text) ks ≡ list_any (bytes_eq n) (map text_of ks)
-any_text n [] = refl
-any_text n (k ∷ ks) = ap (λ b. bytes_eq n k.text || b) (any_text n ks)
-
 pub any_among : (n : List ℕ) (ns : List (List ℕ)) → (list_any (bytes_eq n) ns ≡ true) ↔ Contains ns n
 any_among n [] = (λ h. absurd (true≢false (sym h)), λ c. not_in_nil n c)
 any_among n (m ∷ ns) = by (bytes_eq n m) refl (any_among n ns)
@@ -49,6 +42,9 @@ any_among n (m ∷ ns) = by (bytes_eq n m) refl (any_among n ns)
     )
 
 -- ---- the names of a map
+
+abbrev text_of : NameValue → List ℕ
+text_of k = k.text
 
 all_differ : (k : NameValue) (ks : List NameValue) → AllByRecursion (λ y. same_text name_text k y ≡ false) ks → AllByRecursion (λ n. bytes_eq k.text n ≡ false) (map text_of ks)
 all_differ k [] h = h

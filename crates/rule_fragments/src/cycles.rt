@@ -13,12 +13,12 @@ ghost use Rattle.rule_fragments.specs.Told.{TellsFragmentCycles};
 
 use crate::cycle_faults::{deeply_nested_fragment, recursive_fragment_definition};
 use crate::spread_graph::{SpreadReferences, references_of_fragments};
-use crate::unused::has_name;
 use document_typed_operations::{Fragment, FragmentMap};
 use fault_data::{Fault, tell};
 use graphql_names::{Name, Node};
 use indexmap::IndexSet;
 use rule_cycle_search::{Found, ways_back};
+use rule_document_ground::has_name;
 use std::alloc::{AllocError, Global};
 
 /// The fragment of that number, if its name is among those that are used.

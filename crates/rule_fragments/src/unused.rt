@@ -1,6 +1,5 @@
 //! Fragments that no operation reaches.
-ghost use Rattle.std.specs.Prelude.{◌≡◌, ◌++◌, map, bytes_eq, IfOk, OnOk, option_to_list};
-ghost use Rattle.std.specs.List.{list_any};
+ghost use Rattle.std.specs.Prelude.{◌≡◌, ◌++◌, map, IfOk, OnOk, option_to_list};
 ghost use Rattle.graphql_names.specs.Placed.{Place};
 ghost use Rattle.document_meaning.specs.MeantTree.{MeantDocument};
 ghost use Rattle.fault_data.specs.FaultView.{fault_of, faults_of};
@@ -17,14 +16,8 @@ use document_typed_operations::{Fragment, FragmentMap};
 use fault_data::{DiagnosticData, Fault, tell};
 use graphql_names::{Name, Node};
 use indexmap::IndexSet;
+use rule_document_ground::has_name;
 use std::alloc::AllocError;
-
-/// Whether the name is among these.
-pub(crate) fn has_name(names: &IndexSet<Name>, name: &Name) -> bool
-    ensures { result ≡ list_any (bytes_eq name.now.text) (noted_names names.now) }
-{
-    names.contains(name)
-}
 
 /// UnusedFragment: each fragment is used in an operation (section 5.5.1.4). `used` has the names of those that are.
 fn unused_fragment(
