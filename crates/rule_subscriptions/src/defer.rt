@@ -10,12 +10,13 @@ ghost use Rattle.rule_subscriptions.specs.Listed.{deferred_at_root, fragment_def
 ghost use Rattle.rule_subscriptions.specs.Rooted.{lent, lent_all};
 
 use crate::always::always_reached;
-use crate::breach::{Breach, tell};
+use crate::breach::Breach;
 use crate::roots::root_selections;
 use document_typed_operations::{ExecutableDocument, Operation};
 use document_typed_selections::Selection;
 use fault_document_data::BuildError;
 use graphql_names::Node;
+use rule_document_ground::tell_breach;
 use std::alloc::AllocError;
 use tree_directives::Directive;
 
@@ -48,7 +49,7 @@ fn check_root_selection(
     let directives = selection.directives().as_slice();
     for directive in directives {
         let breach = defer_on_root_mutation_or_subscription_field(operation, directive);
-        tell(breaches, breach)?;
+        tell_breach(breaches, breach)?;
     }
     Ok(())
 }
@@ -97,7 +98,7 @@ fn check_always_reached(selection: &Selection, breaches: &mut Vec<Breach>) -> Re
 {
     let directives = selection.directives().as_slice();
     for directive in directives {
-        tell(
+        tell_breach(
             breaches,
             defer_in_subscription_must_be_conditional(directive),
         )?;

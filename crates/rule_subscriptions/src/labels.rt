@@ -14,12 +14,13 @@ ghost use Rattle.rule_subscriptions.specs.Broken.{brokens_of, told_by, AddsBroke
 ghost use Rattle.rule_subscriptions.specs.Labels.{values_meant, label_of, labels_of, labels_at, labels_in, variable_label, label_again, label_breaks, told_again, NotesFirst, NotesLabel};
 ghost use Rattle.rule_subscriptions.specs.Rooted.{lent, operation_set, fragment_set, alone_told};
 
-use crate::breach::{Breach, tell};
+use crate::breach::Breach;
 use document_typed_operations::{ExecutableDocument, Fragment, Operation};
 use document_typed_selections::{Selection, SelectionSet};
 use fault_document_data::BuildError;
 use graphql_names::{Node, SourceSpan};
 use indexmap::IndexMap;
+use rule_document_ground::tell_breach;
 use std::alloc::{AllocError, Global};
 use tree_directives::Directive;
 use tree_literals::Value;
@@ -194,7 +195,7 @@ fn check_string_label(
     let alloc = *breaches.allocator();
     let place = label.location();
     let first = note_first(alloc, places, text, place)?;
-    tell(breaches, duplicate_defer_label(alloc, text, place, first)?)
+    tell_breach(breaches, duplicate_defer_label(alloc, text, place, first)?)
 }
 
 /// Adds what breaks the rules at each of the labels.
@@ -203,7 +204,7 @@ fn check_each_label(labels: &[Node<Value>], breaches: &mut Vec<Breach>) -> Resul
 {
     let mut places = IndexMap::new(*breaches.allocator());
     for label in labels {
-        tell(breaches, defer_label_must_not_be_variable(label))?;
+        tell_breach(breaches, defer_label_must_not_be_variable(label))?;
         check_string_label(label, &mut places, breaches)?;
     }
     Ok(())

@@ -11,12 +11,13 @@ ghost use Rattle.rule_subscriptions.specs.Listed.{root_names, multiple_fields, i
 ghost use Rattle.rule_subscriptions.specs.Rooted.{lent, lent_all};
 ghost use Rattle.rule_subscriptions.specs.Told.{FragmentsUnderOwnNames, AddsSubscription};
 
-use crate::breach::{Breach, tell};
+use crate::breach::Breach;
 use crate::roots::root_selections;
 use document_typed_operations::{ExecutableDocument, Operation};
 use document_typed_selections::Selection;
 use fault_document_data::BuildError;
 use graphql_names::{Name, Node};
+use rule_document_ground::tell_breach;
 use std::alloc::{AllocError, Global};
 use tree_directives::Directive;
 
@@ -110,11 +111,11 @@ fn check_root_selection(
     ensures { OnOk result (brokens_of breaches.new ≡ brokens_of breaches.old ++ at_root (operation_meant operation.now) (lent selection.now)) }
 {
     let field = subscription_uses_introspection(operation, selection)?;
-    tell(breaches, field)?;
+    tell_breach(breaches, field)?;
     let directives = selection.directives().as_slice();
     for directive in directives {
         let condition = subscription_uses_conditional_selection(operation, directive)?;
-        tell(breaches, condition)?;
+        tell_breach(breaches, condition)?;
     }
     Ok(())
 }
@@ -149,6 +150,6 @@ pub fn check_subscription(
     let roots = root_selections(alloc, document, operation)?;
     let fields = field_names(alloc, &roots)?;
     let several = subscription_uses_multiple_fields(operation, fields)?;
-    tell(breaches, several)?;
+    tell_breach(breaches, several)?;
     check_root_selections(operation, &roots, breaches)
 }

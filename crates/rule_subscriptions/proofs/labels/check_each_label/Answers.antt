@@ -12,7 +12,7 @@ loop-label-preserved c =
     let places = c.loop-label.places in
     let before = brokens_of c.loop-label.breaches in
     record {
-      told = told_next xs i x h c.label-item.is places (brokens_of c.args.breaches.now) before (brokens_of c.tell.new.breaches) (brokens_of c.check_string_label.new.breaches) c.loop-label.invariant.told c.loop-label.invariant.noted
-          (c.in_ok-tell.ensures ∙ ap (λ l. before ++ l) c.defer_label_must_not_be_variable.ensures) c.in_ok-check_string_label.ensures.told;
+      told = told_next xs i x h c.label-item.is places (brokens_of c.args.breaches.now) before (brokens_of c.tell_breach.new.breaches) (brokens_of c.check_string_label.new.breaches) c.loop-label.invariant.told c.loop-label.invariant.noted
+          (c.in_ok-tell_breach.ensures.told ∙ ap (λ l. before ++ l) c.defer_label_must_not_be_variable.ensures) c.in_ok-check_string_label.ensures.told;
       noted = noted_next xs i x h c.label-item.is places c.check_string_label.new.places c.loop-label.invariant.noted c.in_ok-check_string_label.ensures.noted;
     }
