@@ -1,7 +1,6 @@
 -- The fragment that a selection spreads, by a look-up among those of a document.
-use Rattle.std.proofs.Common.{◌≡◌, ◌++◌, Bool, true, false, ◌||◌, ℕ, List, [], ◌∷◌, Option, None, Some, map, bytes_eq, option_to_list, refl, sym, ap, ◌∙◌, append-nil}
+use Rattle.std.proofs.Common.{◌≡◌, ◌++◌, Bool, true, false, ℕ, List, [], ◌∷◌, Option, None, Some, map, bytes_eq, option_to_list, refl, sym, ap, ◌∙◌, append-nil}
 use Rattle.std.specs.Prelude.{if◌then◌else◌, not}
-use Rattle.std.proofs.lemmas.List.{map-append}
 use Rattle.std.specs.List.{list_any}
 use Rattle.std.specs.Map.{lookup}
 use Rattle.std.specs.Option.{option_map}
@@ -74,18 +73,6 @@ module _ (fs : Fragments Place) (names : List (List ℕ)) (s : MeantSelection Pl
       let f = mapped_some (λ (f : NamedSet Place). f.1) (fragment_named fs n) u (sym e) in
       put ∙ ap (λ b. if b then names else names ++ n ∷ []) k
       ∙ sym (ap (λ o. names ++ option_to_list (option_map (λ (f : NamedSet Place). f.0) o)) (enter_new fs names s n is f.0 k f.1.0))
-
--- names of keys, with a further key
-pub any_text : (k : NameValue) (ks : List NameValue) → list_any (λ (a : NameValue). bytes_eq k.text a.text) ks ≡ list_any (bytes_eq k.text) (map (λ a. a.text) ks)
-any_text k [] = refl
-any_text k (a ∷ ks) = ap (λ b. bytes_eq k.text a.text || b) (any_text k ks)
-
-pub inserted_text : (ks : List NameValue) (k : NameValue) → map (λ a. a.text) (insert_key (λ (a b : NameValue). bytes_eq a.text b.text) ks k) ≡ insert_key bytes_eq (map (λ a. a.text) ks) k.text
-inserted_text ks k = by (list_any (λ (a : NameValue). bytes_eq k.text a.text) ks) refl
-  where
-    by : (b : Bool) → list_any (λ (a : NameValue). bytes_eq k.text a.text) ks ≡ b → map (λ a. a.text) (if b then ks else ks ++ k ∷ []) ≡ insert_key bytes_eq (map (λ a. a.text) ks) k.text
-    by true is = ap (λ b. if b then map (λ a. a.text) ks else map (λ a. a.text) ks ++ k.text ∷ []) (sym is ∙ any_text k ks)
-    by false is = map-append (λ (a : NameValue). a.text) ks (k ∷ []) ∙ ap (λ b. if b then map (λ a. a.text) ks else map (λ a. a.text) ks ++ k.text ∷ []) (sym is ∙ any_text k ks)
 
 pub is_missing : (n : List ℕ) (es : List (NameValue × Node Fragment)) → None ≡ lookup (λ (a : NameValue). bytes_eq n a.text) es → fragment_named (map named_set es) n ≡ None
 is_missing n es e = mapped_none (λ (f : NamedSet Place). f.1) (fragment_named (map named_set es) n) (sym (looked_up n es) ∙ sym (ap (option_map set_of) e))
