@@ -15,6 +15,7 @@ ghost use Rattle.rule_values.specs.ValueFaults.{fits_32_bits, is_custom_scalar, 
 
 use crate::defined::DefinedVariables;
 use crate::find::find_value;
+use crate::wanted::Wanted;
 use fault_data::{DiagnosticData, Fault, tell};
 use graphql_names::{Name, Node, SourceSpan};
 use schema_types::ExtendedType;
@@ -111,16 +112,12 @@ fn fits_form(
     }
 }
 
-/// A node of a copy of the type, with this place.
-fn type_node(
-    alloc: Global,
-    ty: &Type,
-    location: Option<SourceSpan>,
-) -> Result<Node<Type>, AllocError>
-    ensures { IfOk result (λ n. type_tree (content n) ≡ type_tree ty.now) }
+/// A node of a copy of the type, with the place of the reference to it.
+fn type_node(alloc: Global, wanted: &Wanted<'_>) -> Result<Node<Type>, AllocError>
+    ensures { IfOk result (λ n. type_tree (content n) ≡ type_tree wanted.now.ty.now) }
 {
-    let ty = ty.clone()?;
-    match location {
+    let ty = wanted.ty.clone()?;
+    match wanted.location {
         None => Ok(Node::new(alloc, ty)?),
         Some(location) => Ok(Node::new_parsed(alloc, ty, location)?),
     }
@@ -143,25 +140,24 @@ fn value_node(
 
 /// UnsupportedValueType: the form of a value fits its type (section 5.6.1).
 pub(crate) fn unsupported_value_type(
-    alloc: Global,
-    ty: &Type,
-    type_location: Option<SourceSpan>,
+    wanted: &Wanted<'_>,
     found: &ExtendedType,
     value: &Value,
     location: Option<SourceSpan>,
     variables: &DefinedVariables<'_>,
     faults: &mut Vec<Fault>,
 ) -> Result<(), AllocError>
-    ensures { OnOk result (faults_of faults.new ≡ faults_of faults.old ++ unsupported_value_type (variables_of variables.now) (type_tree ty.now) type_location (extended_type found.now) location (value_tree value.now)) }
+    ensures { OnOk result (faults_of faults.new ≡ faults_of faults.old ++ unsupported_value_type (variables_of variables.now) (type_tree wanted.now.ty.now) wanted.now.location (extended_type found.now) location (value_tree value.now)) }
 {
-    if fits_form(ty, found, value, variables) {
+    if fits_form(wanted.ty, found, value, variables) {
         return Ok(());
     }
-    let ty = type_node(alloc, ty, type_location)?;
+    let alloc = *faults.allocator();
+    let ty = type_node(alloc, wanted)?;
     let data = DiagnosticData::UnsupportedValueType {
         value: value_node(alloc, value, location)?,
         ty,
-        definition_location: type_location,
+        definition_location: wanted.location,
     };
     tell(faults, Some(Fault { location, data }))
 }
@@ -186,7 +182,6 @@ fn as_integer(value: &Value) -> Option<&IntValue>
 
 /// IntCoercionError: an integer for Int fits 32 bits (section 3.5.1).
 pub(crate) fn int_coercion_error(
-    alloc: Global,
     name: &Name,
     found: &ExtendedType,
     value: &Value,
@@ -204,7 +199,7 @@ pub(crate) fn int_coercion_error(
     if fits_32_bits(number) {
         return Ok(());
     }
-    let digits = String::from_str(alloc, number.as_str())?;
+    let digits = String::from_str(*faults.allocator(), number.as_str())?;
     let data = DiagnosticData::IntCoercionError { value: digits };
     tell(faults, Some(Fault { location, data }))
 }

@@ -16,6 +16,7 @@ mod keys;
 mod objects;
 mod types;
 mod variables;
+mod wanted;
 
 pub use checks::{check_value, type_breaks, undefined_variables, unique_input_values};
 pub use defined::DefinedVariables;

@@ -109,23 +109,30 @@ fn is_missing_entry(nulls: &IndexMap<Name, bool>, name: &Name) -> bool
     }
 }
 
-/// RequiredField: a required field of an input object is given, and not as null (section 5.6.4). `field` stands under the
-/// name `field_name` in the type of that name; `nulls` has whether what is given is null.
-fn required_field(
-    name: &Name,
+/// An object that is given for an input object: the name of that type, the place of the object, and of each key whether the
+/// value of its first entry is null.
+#[derive(Clone, Copy)]
+struct GivenObject<'a> {
+    name: &'a Name,
     location: Option<SourceSpan>,
-    nulls: &IndexMap<Name, bool>,
+    nulls: &'a IndexMap<Name, bool>,
+}
+
+/// RequiredField: a required field of an input object is given, and not as null (section 5.6.4). `field` stands under the
+/// name `field_name` in the type that `given` is given for.
+fn required_field(
+    given: &GivenObject<'_>,
     field_name: &Name,
     field: &Component<InputValueDefinition>,
     faults: &mut Vec<Fault>,
 ) -> Result<(), AllocError>
-    ensures { OnOk result (faults_of faults.new ≡ faults_of faults.old ++ required_if (is_not_provided nulls.now field_name.now) name.now.text location field_name.now.text (component_tree input_value_tree field.now)) }
+    ensures { OnOk result (faults_of faults.new ≡ faults_of faults.old ++ required_if (is_not_provided given.now.nulls.now field_name.now) given.now.name.now.text given.now.location field_name.now.text (component_tree input_value_tree field.now)) }
 {
     let definition = field.node.content();
-    if !(definition.is_required() && is_missing_entry(nulls, field_name)) {
+    if !(definition.is_required() && is_missing_entry(given.nulls, field_name)) {
         return Ok(());
     }
-    let coordinate = attribute_coordinate(name, field_name)?;
+    let coordinate = attribute_coordinate(given.name, field_name)?;
     let expected_type = definition.ty.clone()?;
     let data = DiagnosticData::RequiredField {
         name: field_name.clone()?,
@@ -133,6 +140,7 @@ fn required_field(
         expected_type,
         definition_location: field.node.location(),
     };
+    let location = given.location;
     tell(faults, Some(Fault { location, data }))
 }
 
@@ -180,21 +188,24 @@ fn tell_required(
         return Ok(());
     }
     let nulls = nulls_by_key(*faults.allocator(), entries)?;
-    tell_each_required(name, location, &nulls, fields, faults)
+    let given = GivenObject {
+        name,
+        location,
+        nulls: &nulls,
+    };
+    tell_each_required(&given, fields, faults)
 }
 
-/// Adds the faults of the required ones of these fields, where `nulls` has whether what is given is null.
+/// Adds the faults of the required ones of these fields that `given` does not have.
 fn tell_each_required(
-    name: &Name,
-    location: Option<SourceSpan>,
-    nulls: &IndexMap<Name, bool>,
+    given: &GivenObject<'_>,
     fields: &IndexMap<Name, Component<InputValueDefinition>>,
     faults: &mut Vec<Fault>,
 ) -> Result<(), AllocError>
-    ensures { OnOk result (faults_of faults.new ≡ faults_of faults.old ++ required_among (is_not_provided nulls.now) name.now.text location fields.now.entries) }
+    ensures { OnOk result (faults_of faults.new ≡ faults_of faults.old ++ required_among (is_not_provided given.now.nulls.now) given.now.name.now.text given.now.location fields.now.entries) }
 {
     for (field_name, field) in fields {
-        required_field(name, location, nulls, field_name, field, faults)?;
+        required_field(given, field_name, field, faults)?;
     }
     Ok(())
 }

@@ -16,6 +16,7 @@ use crate::forms::{
     int_coercion_error, is_custom_scalar, undefined_enum_value, unsupported_value_type,
 };
 use crate::objects::{tell_required_fields, undefined_input_value};
+use crate::wanted::Wanted;
 use fault_data::Fault;
 use graphql_names::{Name, Node, SourceSpan};
 use graphql_schema::Schema;
@@ -34,68 +35,58 @@ pub(crate) fn tell_type_faults(
 ) -> Result<(), AllocError>
     ensures { OnOk result (faults_of faults.new ≡ faults_of faults.old ++ type_faults (schema_tree schema.now) (variables_of variables.now) (type_tree (content ty.now)) (place ty.now) (place value.now) (value_tree (content value.now))) }
 {
+    let wanted = Wanted {
+        ty: ty.content(),
+        location: ty.location(),
+    };
     let location = value.location();
     tell_type(
         schema,
         value.content(),
         location,
-        ty.content(),
-        ty.location(),
+        &wanted,
         variables,
         faults,
     )
 }
 
-/// Adds the faults of one value against `ty`, inside all brackets of which stands `found`, what is inside a list or an object
-/// aside.
+/// Adds the faults of one value against the type that is wanted, inside all brackets of which stands `found`, what is inside
+/// a list or an object aside.
 fn tell_form(
-    ty: &Type,
-    type_location: Option<SourceSpan>,
+    wanted: &Wanted<'_>,
     found: &ExtendedType,
     value: &Value,
     location: Option<SourceSpan>,
     variables: &DefinedVariables<'_>,
     faults: &mut Vec<Fault>,
 ) -> Result<(), AllocError>
-    ensures { OnOk result (faults_of faults.new ≡ faults_of faults.old ++ form_faults (variables_of variables.now) (type_tree ty.now) type_location (extended_type found.now) location (value_tree value.now)) }
+    ensures { OnOk result (faults_of faults.new ≡ faults_of faults.old ++ form_faults (variables_of variables.now) (type_tree wanted.now.ty.now) wanted.now.location (extended_type found.now) location (value_tree value.now)) }
 {
-    let alloc = *faults.allocator();
-    let name = ty.inner_named_type();
-    unsupported_value_type(
-        alloc,
-        ty,
-        type_location,
-        found,
-        value,
-        location,
-        variables,
-        faults,
-    )?;
-    int_coercion_error(alloc, name, found, value, location, faults)?;
+    let name = wanted.ty.inner_named_type();
+    unsupported_value_type(wanted, found, value, location, variables, faults)?;
+    int_coercion_error(name, found, value, location, faults)?;
     undefined_enum_value(name, found, value, location, faults)?;
     undefined_input_value(name, found, value, faults)?;
     tell_required_fields(name, found, value, location, faults)
 }
 
-/// Adds the faults of a value against a type; `type_location` is the place of the reference to the type. A type that is not
-/// there takes every value.
+/// Adds the faults of a value against the type that is wanted. A type that is not there takes every value.
 #[cycle(types)]
 fn tell_type(
     schema: &Schema,
     value: &Value,
     location: Option<SourceSpan>,
-    ty: &Type,
-    type_location: Option<SourceSpan>,
+    wanted: &Wanted<'_>,
     variables: &DefinedVariables<'_>,
     faults: &mut Vec<Fault>,
 ) -> Result<(), AllocError>
-    ensures { OnOk result (faults_of faults.new ≡ faults_of faults.old ++ type_faults (schema_tree schema.now) (variables_of variables.now) (type_tree ty.now) type_location location (value_tree value.now)) }
+    ensures { OnOk result (faults_of faults.new ≡ faults_of faults.old ++ type_faults (schema_tree schema.now) (variables_of variables.now) (type_tree wanted.now.ty.now) wanted.now.location location (value_tree value.now)) }
 {
-    match schema.type_named(ty.inner_named_type()) {
+    match schema.type_named(wanted.ty.inner_named_type()) {
         None => Ok(()),
         Some(found) => {
-            tell_form(ty, type_location, found, value, location, variables, faults)?;
-            tell_inside(schema, value, ty, type_location, found, variables, faults)
+            tell_form(wanted, found, value, location, variables, faults)?;
+            tell_inside(schema, value, wanted, found, variables, faults)
         }
     }
 }
@@ -106,27 +97,23 @@ fn tell_type(
 fn tell_inside(
     schema: &Schema,
     value: &Value,
-    ty: &Type,
-    type_location: Option<SourceSpan>,
+    wanted: &Wanted<'_>,
     found: &ExtendedType,
     variables: &DefinedVariables<'_>,
     faults: &mut Vec<Fault>,
 ) -> Result<(), AllocError>
-    ensures { OnOk result (faults_of faults.new ≡ faults_of faults.old ++ inner_faults (schema_tree schema.now) (variables_of variables.now) (type_tree ty.now) type_location (extended_type found.now) (value_tree value.now)) }
+    ensures { OnOk result (faults_of faults.new ≡ faults_of faults.old ++ inner_faults (schema_tree schema.now) (variables_of variables.now) (type_tree wanted.now.ty.now) wanted.now.location (extended_type found.now) (value_tree value.now)) }
 {
     match value {
         Value::List(items) => {
-            if !(ty.is_list() || is_custom_scalar(found)) {
+            if !(wanted.ty.is_list() || is_custom_scalar(found)) {
                 return Ok(());
             }
-            tell_items(
-                schema,
-                items,
-                ty.item_type(),
-                type_location,
-                variables,
-                faults,
-            )
+            let of_items = Wanted {
+                ty: wanted.ty.item_type(),
+                location: wanted.location,
+            };
+            tell_items(schema, items, &of_items, variables, faults)
         }
         Value::Object(entries) => {
             if !found.is_input_object() {
@@ -149,24 +136,15 @@ fn tell_inside(
 fn tell_items(
     schema: &Schema,
     items: &[Node<Value>],
-    ty: &Type,
-    type_location: Option<SourceSpan>,
+    wanted: &Wanted<'_>,
     variables: &DefinedVariables<'_>,
     faults: &mut Vec<Fault>,
 ) -> Result<(), AllocError>
-    ensures { OnOk result (faults_of faults.new ≡ faults_of faults.old ++ item_faults (schema_tree schema.now) (variables_of variables.now) (type_tree ty.now) type_location (item_trees value_tree items.now)) }
+    ensures { OnOk result (faults_of faults.new ≡ faults_of faults.old ++ item_faults (schema_tree schema.now) (variables_of variables.now) (type_tree wanted.now.ty.now) wanted.now.location (item_trees value_tree items.now)) }
 {
     for item in items {
         let location = item.location();
-        tell_type(
-            schema,
-            item.content(),
-            location,
-            ty,
-            type_location,
-            variables,
-            faults,
-        )?;
+        tell_type(schema, item.content(), location, wanted, variables, faults)?;
     }
     Ok(())
 }
@@ -217,15 +195,11 @@ fn tell_entry(
         None => Ok(()),
         Some(field) => {
             let ty = &field.node.content().ty;
-            tell_type(
-                schema,
-                value,
-                location,
-                ty.content(),
-                ty.location(),
-                variables,
-                faults,
-            )
+            let wanted = Wanted {
+                ty: ty.content(),
+                location: ty.location(),
+            };
+            tell_type(schema, value, location, &wanted, variables, faults)
         }
     }
 }

@@ -17,8 +17,8 @@ pub tell_items-loop-item-preserved : goal.tell_items-loop-item-preserved
 tell_items-loop-item-preserved t c =
     let s = schema_tree c.args.schema.now in
     let vs = variables_of c.args.variables.now in
-    let ty = type_tree c.args.ty.now in
-    let q = c.args.type_location in
+    let ty = type_tree c.args.wanted.now.ty.now in
+    let q = c.args.wanted.now.location in
     let h : c.loop-item.item-index < length c.args.items.now = omega arith in
     items_more s vs ty q c.args.items.now c.loop-item.item-index c.item-item.result h c.item-item.is
     (faults_of c.args.faults.now ++ item_faults s vs ty q (item_trees value_tree c.args.items.now)) (faults_of c.loop-item.faults) (faults_of c.tell_type.new.faults)

@@ -11,8 +11,8 @@ use Rattle.rule_values.proofs.types.+types.Given as goal
 
 abbrev pub invariant-tell_items-loop-item : goal.invariant-tell_items-loop-item
 invariant-tell_items-loop-item l =
-    faults_of l.fn.faults ++ item_faults (schema_tree l.schema) (variables_of l.variables) (type_tree l.ty) l.type_location (item_trees value_tree l.items)
-    ≡ faults_of l.faults ++ item_faults (schema_tree l.schema) (variables_of l.variables) (type_tree l.ty) l.type_location (item_trees value_tree (drop l.item-index l.items))
+    faults_of l.fn.faults ++ item_faults (schema_tree l.schema) (variables_of l.variables) (type_tree l.wanted.ty.now) l.wanted.location (item_trees value_tree l.items)
+    ≡ faults_of l.faults ++ item_faults (schema_tree l.schema) (variables_of l.variables) (type_tree l.wanted.ty.now) l.wanted.location (item_trees value_tree (drop l.item-index l.items))
 
 abbrev pub invariant-tell_entries-loop-entry : goal.invariant-tell_entries-loop-entry
 invariant-tell_entries-loop-entry l = record {
