@@ -3,3 +3,4 @@ pub mod Turns
 pub mod Deciding
 pub mod ArgumentsTold
 pub mod Equivalences
+pub mod Leaves

@@ -1,7 +1,7 @@
 -- How the tests go on over items and entries, one after the other.
-use Rattle.std.proofs.Common.{◌≡◌, ℕ, ◌+◌, ◌<◌, ◌≤◌, ◌==◌, Bool, true, false, not, ◌||◌, List, [], ◌∷◌, suc, arith, drop, length, get_or, Option, Some, refl, ap, sym, ◌∙◌, true≢false, bytes_eq, if◌then◌else◌}
+use Rattle.std.proofs.Common.{◌≡◌, ℕ, ◌+◌, ◌<◌, ◌≤◌, ◌==◌, Bool, true, false, ◌||◌, List, [], ◌∷◌, suc, arith, drop, length, get_or, Option, Some, refl, ap, sym, ◌∙◌, bytes_eq, if◌then◌else◌}
 use Rattle.std.specs.List.{list_any}
-use Rattle.std.specs.Option.{option_map, option_map_or}
+use Rattle.std.specs.Option.{option_map_or}
 use Rattle.std.proofs.lemmas.Bool.{eqb-true}
 use Rattle.std.proofs.lemmas.List.{drop_more, drop_all}
 use Rattle.indexmap.specs.IndexSet.{insert_key}
@@ -13,14 +13,6 @@ use Rattle.rule_same_values.specs.Tests.{Plain, PlainEntries, plain, plain_items
 
 abbrev Entry : Type 0
 Entry = NameValue × Node Value
-
-not_false : (b : Bool) → not b ≡ false → b ≡ true
-not_false true h = refl
-not_false false h = absurd (true≢false h)
-
-not_true : (b : Bool) → not b ≡ true → b ≡ false
-not_true true h = absurd (true≢false (sym h))
-not_true false h = refl
 
 module _ (es : List Entry) (i : ℕ) (e : Entry) (h : i < length es) (is : e ≡ get_or es i e) where
   next : drop i es ≡ e ∷ drop (i + 1) es
@@ -37,38 +29,21 @@ module _ (es : List Entry) (i : ℕ) (e : Entry) (h : i < length es) (is : e ≡
     unseen_here f = sym (unseen_turn ∙ ap (λ b. if b then unseen_key seen (plain_entries (drop (i + 1) es)) else Some e.0.text) f)
 
   module _ (fs : PlainEntries) (seen : List (List ℕ)) (all : Option (List ℕ)) (so : all ≡ differing_key seen (plain_entries (drop i es)) fs) (other : Option Plain) (first : other ≡ first_under e.0.text fs)
-      (new : Bool) (d : new ≡ not (list_any (bytes_eq e.0.text) seen)) where
+      (r : Bool) (d : r ≡ (list_any (bytes_eq e.0.text) seen || option_map_or (same (plain (content e.1))) other false)) where
     abbrev rest : Option (List ℕ)
     rest = differing_key (insert_key bytes_eq seen e.0.text) (plain_entries (drop (i + 1) es)) fs
 
-    key_turn : all ≡ (if list_any (bytes_eq e.0.text) seen || option_map_or (same (plain (content e.1))) other false then rest else Some e.0.text)
+    key_turn : all ≡ (if r then rest else Some e.0.text)
     key_turn =
         so ∙ ap (λ l. differing_key seen (plain_entries l) fs) next
         ∙ ap (λ o. if list_any (bytes_eq e.0.text) seen || option_map_or (same (plain (content e.1))) o false then rest else Some e.0.text) (sym first)
+        ∙ ap (λ b. if b then rest else Some e.0.text) (sym d)
 
-    key_by : (a r : Bool) → list_any (bytes_eq e.0.text) seen ≡ a → option_map_or (same (plain (content e.1))) other false ≡ r → all ≡ (if a || r then rest else Some e.0.text)
-    key_by a r h k =
-        key_turn ∙ ap (λ b. if b || option_map_or (same (plain (content e.1))) other false then rest else Some e.0.text) h
-        ∙ ap (λ b. if a || b then rest else Some e.0.text) k
+    pub key_on : (names : List (List ℕ)) → names ≡ insert_key bytes_eq seen e.0.text → r ≡ true → all ≡ differing_key names (plain_entries (drop (i + 1) es)) fs
+    key_on names n t = key_turn ∙ ap (λ b. if b then rest else Some e.0.text) t ∙ ap (λ l. differing_key l (plain_entries (drop (i + 1) es)) fs) (sym n)
 
-    after : (names : List (List ℕ)) → names ≡ insert_key bytes_eq seen e.0.text → rest ≡ differing_key names (plain_entries (drop (i + 1) es)) fs
-    after names n = ap (λ l. differing_key l (plain_entries (drop (i + 1) es)) fs) (sym n)
-
-    -- the key was seen before
-    pub key_seen : (names : List (List ℕ)) → names ≡ insert_key bytes_eq seen e.0.text → new ≡ false → all ≡ differing_key names (plain_entries (drop (i + 1) es)) fs
-    key_seen names n f = key_by true (option_map_or (same (plain (content e.1))) other false) (not_false (list_any (bytes_eq e.0.text) seen) (sym d ∙ f)) refl ∙ after names n
-
-    -- the key is new: its value is the same, or not
-    module _ (t : new ≡ true) (r : Bool) (s : r ≡ option_map_or (same (plain (content e.1))) other false) where
-      pub key_same : (names : List (List ℕ)) → names ≡ insert_key bytes_eq seen e.0.text → r ≡ true → all ≡ differing_key names (plain_entries (drop (i + 1) es)) fs
-      key_same names n h = key_by false true (not_true (list_any (bytes_eq e.0.text) seen) (sym d ∙ t)) (sym s ∙ h) ∙ after names n
-
-      pub key_differs : r ≡ false → Some e.0.text ≡ all
-      key_differs h = sym (key_by false false (not_true (list_any (bytes_eq e.0.text) seen) (sym d ∙ t)) (sym s ∙ h))
-
--- the test of a value by what a map has under a name
-abbrev pub by_first : Value → Option (Node Value) → Bool
-by_first v o = option_map_or (same (plain v)) (option_map (λ (w : Node Value). plain (content w)) o) false
+    pub key_here : r ≡ false → Some e.0.text ≡ all
+    key_here f = sym (key_turn ∙ ap (λ b. if b then rest else Some e.0.text) f)
 
 -- at the end
 pub keys_end : (es : List Entry) (i : ℕ) (fs : PlainEntries) (seen : List (List ℕ)) → length es ≤ i → differing_key seen (plain_entries (drop i es)) fs ≡ unseen_key seen fs

@@ -1,14 +1,15 @@
 //! Values.
-ghost use Rattle.std.specs.Prelude.{◌≡◌, ◌↔◌, [], not, IsTrue, IfOk, OnOk, bytes_eq, if◌then◌else◌, Some, None};
+ghost use Rattle.std.specs.Prelude.{◌≡◌, ◌↔◌, ◌||◌, [], not, IsTrue, IfOk, OnOk, bytes_eq, if◌then◌else◌, false, Some, None};
 ghost use Rattle.std.specs.List.{list_any};
-ghost use Rattle.std.specs.Option.{option_map, option_or};
+ghost use Rattle.std.specs.Option.{option_map, option_map_or, option_or};
 ghost use Rattle.indexmap.specs.IndexSet.{insert_key};
 ghost use Rattle.graphql_names.specs.Node.{content};
 ghost use Rattle.tree_literals.specs.ValueTree.{value_tree, unplaced_value};
 ghost use Rattle.rule_document_definitions.specs.SameValues.{SameValue};
-ghost use Rattle.rule_same_values.specs.Tests.{plain, plain_items, plain_entries, noted_names, value_under, AreFirsts, unseen_key, same_leaf, same, same_items, differing_key};
+ghost use Rattle.rule_same_values.specs.Tests.{plain, plain_items, plain_entries, noted_names, value_under, AreFirsts, unseen_key, same, same_items, differing_key};
 
 use graphql_names::{Name, Node};
+use graphql_values::laws::equal_values;
 use indexmap::{IndexMap, IndexSet};
 use std::alloc::{AllocError, Global};
 use tree_literals::Value;
@@ -36,13 +37,7 @@ fn is_same(alloc: Global, a: &Value, b: &Value) -> Result<bool, AllocError>
             Value::Object(others) => Ok(differing_key(alloc, entries, others)?.is_none()),
             _ => Ok(false),
         },
-        Value::Null
-        | Value::Enum(_)
-        | Value::Variable(_)
-        | Value::String(_)
-        | Value::Float(_)
-        | Value::Int(_)
-        | Value::Boolean(_) => Ok(same_leaf(a, b)),
+        _ => Ok(equal_values(a, b)),
     }
 }
 
@@ -75,18 +70,48 @@ pub(crate) fn differing_key(
 {
     let firsts = first_values(alloc, b)?;
     let mut seen = IndexSet::new(alloc);
+    differing_among(alloc, a, b, &firsts, &mut seen)
+}
+
+/// The same by the first values of the second object, those keys aside that were seen before.
+#[cycle(same)]
+fn differing_among(
+    alloc: Global,
+    a: &[(Name, Node<Value>)],
+    b: &[(Name, Node<Value>)],
+    firsts: &IndexMap<Name, Node<Value>>,
+    seen: &mut IndexSet<Name>,
+) -> Result<Option<Name>, AllocError>
+    requires { AreFirsts firsts.now (plain_entries b.now) }
+    ensures { IfOk result (λ r. option_map (λ n. n.text) r ≡ differing_key (noted_names seen.old) (plain_entries a.now) (plain_entries b.now)) }
+{
     for entry in a {
-        if note(&mut seen, &entry.0)? {
-            let same = match firsts.get(&entry.0) {
-                Some(first) => is_same(alloc, entry.1.content(), first.content())?,
-                None => false,
-            };
-            if !same {
-                return Ok(Some(entry.0.clone()?));
-            }
+        if !passes(alloc, &entry.0, entry.1.content(), firsts, seen)? {
+            return Ok(Some(entry.0.clone()?));
         }
     }
-    unseen_key(&seen, b)
+    unseen_key(seen, b)
+}
+
+/// Notes a key. Whether it was seen before, or the value is the same as the first under it.
+#[cycle(same)]
+fn passes(
+    alloc: Global,
+    key: &Name,
+    value: &Value,
+    firsts: &IndexMap<Name, Node<Value>>,
+    seen: &mut IndexSet<Name>,
+) -> Result<bool, AllocError>
+    ensures passes { IfOk result (λ r. r ≡ (list_any (bytes_eq key.now.text) (noted_names seen.old) || option_map_or (same (plain value.now)) (value_under key.now firsts.now) false)) }
+    ensures noted { OnOk result (noted_names seen.new ≡ insert_key bytes_eq (noted_names seen.old) key.now.text) }
+{
+    if !note(seen, key)? {
+        return Ok(true);
+    }
+    match firsts.get(key) {
+        Some(first) => is_same(alloc, value, first.content()),
+        None => Ok(false),
+    }
 }
 
 /// Notes a name. Whether it was not there is given.
@@ -140,39 +165,4 @@ fn note_value(
     let value = entry.1.clone()?;
     firsts.insert(entry.0.clone()?, value)?;
     Ok(())
-}
-
-/// Whether two values are the same, of which the first has no values inside.
-#[tactic(auto, using(tree_literals::proofs::Trees::value_tree_rules))]
-fn same_leaf(a: &Value, b: &Value) -> bool
-    ensures { result ≡ same_leaf (plain a.now) (plain b.now) }
-{
-    match a {
-        Value::Null => b.is_null(),
-        Value::Enum(name) => match b {
-            Value::Enum(other) => name.as_str() == other.as_str(),
-            _ => false,
-        },
-        Value::Variable(name) => match b {
-            Value::Variable(other) => name.as_str() == other.as_str(),
-            _ => false,
-        },
-        Value::String(text) => match b {
-            Value::String(other) => text.as_str() == other.as_str(),
-            _ => false,
-        },
-        Value::Float(number) => match b {
-            Value::Float(other) => number.as_str() == other.as_str(),
-            _ => false,
-        },
-        Value::Int(number) => match b {
-            Value::Int(other) => number.as_str() == other.as_str(),
-            _ => false,
-        },
-        Value::Boolean(truth) => match b {
-            Value::Boolean(other) => *truth == *other,
-            _ => false,
-        },
-        Value::List(_) | Value::Object(_) => false,
-    }
 }
