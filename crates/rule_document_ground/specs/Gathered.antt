@@ -1,5 +1,5 @@
 -- Private: leads to `Reached` of `rule_document_definitions`. What the two lists of `Reach.antt` are made of.
-use Rattle.std.specs.Prelude.{ℕ, List, map, option_to_list, Vec}
+use Rattle.std.specs.Prelude.{◌≡◌, ◌↔◌, ℕ, true, List, map, option_to_list, Contains, Vec}
 use Rattle.std.specs.Borrow.{Bor}
 use Rattle.std.specs.List.{flat_map}
 use Rattle.std.specs.declared.alloc.Global.{Global}
@@ -8,10 +8,11 @@ use Rattle.graphql_names.specs.Placed.{Place}
 use Rattle.graphql_names.specs.declared.node.Node.{Node}
 use Rattle.schema_components.specs.Names.{Entries}
 use Rattle.schema_types.specs.Addresses.{under}
+use Rattle.document_typed_selections.specs.TypedTree.{TypedSet}
 use Rattle.document_typed_selections.specs.declared.selection.Selection.{Selection}
 use Rattle.document_typed_operations.specs.declared.operation.Fragment.{Fragment}
 use Rattle.document_meaning.specs.MeantTree.{MeantFragment}
-use Rattle.document_walks.specs.Reached.{Member as TypedMember}
+use Rattle.document_walks.specs.Reached.{Member as TypedMember, Fragments, IsReachedFragment}
 use Rattle.document_walks.specs.WalkView.{lent_member}
 use Rattle.rule_document_ground.specs.Reach.{fragment_of}
 
@@ -24,3 +25,8 @@ lent_fragments v = map fragment_of v.items
 -- what stands first under each of these names
 abbrev pub fragments_under : {P : Type 0} → Entries (MeantFragment P) → List (List ℕ) → List (MeantFragment P)
 fragments_under fragments names = flat_map (λ n. option_to_list (under n fragments)) names
+
+-- what stands under the names of the fragments that the set reaches
+abbrev pub AreSpreadFrom : Fragments Place → Entries (MeantFragment Place) → TypedSet Place → List (MeantFragment Place) → Type 0
+AreSpreadFrom sets fragments start found =
+    (names : List (List ℕ)) × (((n : List ℕ) → Contains names n ↔ IsReachedFragment true sets start n) × (found ≡ fragments_under fragments names))

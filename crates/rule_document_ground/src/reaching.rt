@@ -7,7 +7,7 @@ ghost use Rattle.document_walks.specs.WalkView.{fragments_tree, gathered_names};
 ghost use Rattle.document_meaning.specs.MeantTree.{MeantDocument, meant_of_set};
 ghost use Rattle.rule_document_definitions.specs.Selected.{Position, standing_in};
 ghost use Rattle.rule_document_ground.specs.Reach.{IsReach, meant_fragments, reached_fragments_of, reached_members};
-ghost use Rattle.rule_document_ground.specs.Gathered.{lent_members, lent_fragments, fragments_under};
+ghost use Rattle.rule_document_ground.specs.Gathered.{lent_members, lent_fragments, fragments_under, AreSpreadFrom};
 
 use crate::lists::Reach;
 use document_typed_operations::{Fragment, FragmentMap};
@@ -28,8 +28,7 @@ pub fn reach<'doc>(
     ensures { IfOk result (λ r. (d : MeantDocument Place) (holder : Position) → d.fragments ≡ meant_fragments fragments.now → IsReach d (standing_in holder (meant_of_set (typed_set_tree start.now))) (reached_members r) (reached_fragments_of r)) }
 {
     let selections = reached_selections(alloc, start, fragments)?;
-    let names = reached_fragments(alloc, true, start, fragments)?;
-    let fragments = fragments_named(alloc, &names, fragments)?;
+    let fragments = spread_fragments(alloc, start, fragments)?;
     Ok(Reach {
         selections,
         fragments,
@@ -49,6 +48,18 @@ fn reached_selections<'doc>(
         selections.push(selection?)?;
     }
     Ok(selections)
+}
+
+/// The fragments that are spread in what the set reaches, each once.
+fn spread_fragments<'doc>(
+    alloc: Global,
+    start: &'doc SelectionSet,
+    fragments: &'doc FragmentMap,
+) -> Result<Vec<&'doc Node<Fragment>>, AllocError>
+    ensures { IfOk result (λ r. AreSpreadFrom (fragments_tree fragments.now) (meant_fragments fragments.now) (typed_set_tree start.now) (lent_fragments r)) }
+{
+    let names = reached_fragments(alloc, true, start, fragments)?;
+    fragments_named(alloc, &names, fragments)
 }
 
 /// The fragments of these names, in their order.

@@ -11,6 +11,7 @@ use Rattle.rule_definitions.specs.Diagnostics.{RecursiveFragmentDefinition, Deep
 use Rattle.rule_definitions.specs.Faults.{wrong}
 use Rattle.rule_definitions.specs.Told.{PlacedFault}
 use Rattle.rule_cycles.specs.Labels.{along}
+use Rattle.rule_cycles.specs.Telling.{TellsRoots}
 use Rattle.rule_fragments.specs.SpreadNumbers.{Spread}
 use Rattle.rule_fragments.specs.SpreadViews.{spread_between}
 use Rattle.rule_cycles.specs.declared.references.References.{References}
@@ -44,3 +45,7 @@ module _ (r : References (Node FragmentSpread)) (o : ℕ → Option (MeantFragme
 
   abbrev pub TellsDeep : ℕ → List PlacedFault → Type 0
   TellsDeep root l = Tells IsDeepFault (o root) l
+
+-- what is told of all fragments that are used, in order
+abbrev pub TellsSpreads : References (Node FragmentSpread) → Entries (MeantFragment Place) → List (List ℕ) → List PlacedFault → List PlacedFault → Type 0
+TellsSpreads r es names old new = TellsRoots (TellsRecursive r (used_at es names)) (TellsDeep r (used_at es names)) r.graph r.graph.roots old new

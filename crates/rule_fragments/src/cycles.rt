@@ -3,12 +3,13 @@ ghost use Rattle.std.specs.Prelude.{◌≡◌, map, IfOk, OnOk, option_to_list};
 ghost use Rattle.graphql_names.specs.Placed.{Place};
 ghost use Rattle.document_meaning.specs.MeantTree.{MeantDocument};
 ghost use Rattle.fault_data.specs.FaultView.{fault_of, faults_of};
+ghost use Rattle.rule_cycle_search.specs.Found.{AreFound};
 ghost use Rattle.rule_cycles.specs.Telling.{TellsFound};
 ghost use Rattle.rule_document_ground.specs.Reach.{meant_fragments};
 ghost use Rattle.rule_document_ground.specs.NotedNames.{noted_names};
 ghost use Rattle.rule_fragments.specs.Used.{AreUnderOwnNames, AreUsed};
 ghost use Rattle.rule_fragments.specs.SpreadViews.{fragment_entries, lent_at};
-ghost use Rattle.rule_fragments.specs.CycleFaults.{used_at, TellsRecursive, TellsDeep};
+ghost use Rattle.rule_fragments.specs.CycleFaults.{used_at, TellsRecursive, TellsDeep, TellsSpreads};
 ghost use Rattle.rule_fragments.specs.Told.{TellsFragmentCycles};
 
 use crate::cycle_faults::{deeply_nested_fragment, recursive_fragment_definition};
@@ -60,6 +61,26 @@ fn fragment_fault(
     }
 }
 
+/// Adds what was found of each fragment whose name is among those that are used. `all` has what was found of each, by number.
+fn tell_cycles(
+    fragments: &FragmentMap,
+    used: &IndexSet<Name>,
+    references: &SpreadReferences,
+    all: &[Found],
+    faults: &mut Vec<Fault>,
+) -> Result<(), AllocError>
+    requires { AreFound references.now.graph all.now }
+    ensures { OnOk result (TellsSpreads references.now (fragment_entries fragments.now) (noted_names used.now) (faults_of faults.old) (faults_of faults.new)) }
+{
+    let alloc = *faults.allocator();
+    for (root, found) in all.iter().enumerate() {
+        let fragment = used_fragment(fragments, used, root);
+        let fault = fragment_fault(alloc, fragment, references, root, found)?;
+        tell(faults, fault)?;
+    }
+    Ok(())
+}
+
 /// Adds RecursiveFragmentDefinition for each fragment that an operation reaches and that reaches itself by spreads, with the
 /// spreads that lead back to it (section 5.5.2.2), or that ways of spreads from there hold more than 100 fragments. `used` has
 /// the names of the fragments that an operation reaches. Where memory is refused some may be told.
@@ -73,10 +94,5 @@ pub fn check_cycles(
 {
     let references = references_of_fragments(alloc, fragments)?;
     let all = ways_back(alloc, &references.graph)?;
-    for (root, found) in all.iter().enumerate() {
-        let fragment = used_fragment(fragments, used, root);
-        let fault = fragment_fault(alloc, fragment, &references, root, found)?;
-        tell(faults, fault)?;
-    }
-    Ok(())
+    tell_cycles(fragments, used, &references, &all, faults)
 }

@@ -3,7 +3,7 @@ use Rattle.rule_cycles.specs.Telling.{TellsRoots}
 use Rattle.rule_document_ground.specs.NotedNames.{noted_names}
 use Rattle.rule_fragments.specs.SpreadViews.{fragment_entries}
 use Rattle.rule_fragments.specs.CycleFaults.{used_at, TellsRecursive, TellsDeep}
-use Rattle.rule_fragments.proofs.cycles.check_cycles.Given as goal
+use Rattle.rule_fragments.proofs.cycles.tell_cycles.Given as goal
 
 abbrev pub invariant-loop-root : goal.invariant-loop-root
 invariant-loop-root l =
