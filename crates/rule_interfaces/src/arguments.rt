@@ -9,14 +9,14 @@ ghost use Rattle.fault_data.specs.FaultView.{fault_of, faults_of};
 ghost use Rattle.rule_interfaces.specs.InterfaceFaults.{first_named, same_type, missing_interface_field_argument, invalid_implementation_field_argument_type, extra_required_argument, wanted_argument_faults, own_argument_faults, arguments_faults};
 ghost use Rattle.rule_interfaces.specs.Firsts.{AreFirsts};
 
-use crate::copies::{copy_arguments, copy_names};
+use crate::copies::copy_arguments;
+use crate::implementation::Implementation;
 use fault_data::{DiagnosticData, Fault, tell};
 use graphql_names::{Name, Node};
 use indexmap::IndexMap;
 use std::alloc::{AllocError, Global};
 use tree_directives::InputValueDefinition;
 use tree_literals::Type;
-use tree_type_members::FieldDefinition;
 
 /// The first argument definition of each name.
 type Firsts = IndexMap<Name, Node<InputValueDefinition>>;
@@ -24,57 +24,37 @@ type Firsts = IndexMap<Name, Node<InputValueDefinition>>;
 /// Tells the faults of a field's arguments over those of an interface's field.
 pub(crate) fn check_arguments(
     alloc: Global,
-    name: &Name,
-    interface: &Name,
-    field_name: &Name,
-    wanted: &Node<FieldDefinition>,
-    field: &Node<FieldDefinition>,
+    implementation: &Implementation<'_>,
     faults: &mut Vec<Fault>,
 ) -> Result<(), AllocError>
-    ensures { OnOk result (faults_of faults.new ≡ faults_of faults.old ++ arguments_faults name.now.text interface.now.text field_name.now.text (node_tree field_definition_tree wanted.now) (node_tree field_definition_tree field.now)) }
+    ensures { OnOk result (faults_of faults.new ≡ faults_of faults.old ++ arguments_faults implementation.now.name.now.text implementation.now.interface.now.text implementation.now.field_name.now.text (node_tree field_definition_tree implementation.now.wanted.now) (node_tree field_definition_tree implementation.now.field.now)) }
 {
-    check_wanted(alloc, name, interface, field_name, wanted, field, faults)?;
-    check_own(alloc, name, interface, field_name, wanted, field, faults)
+    check_wanted(alloc, implementation, faults)?;
+    check_own(alloc, implementation, faults)
 }
 
 /// Tells the faults of the arguments of an interface's field.
 fn check_wanted(
     alloc: Global,
-    name: &Name,
-    interface: &Name,
-    field_name: &Name,
-    wanted: &Node<FieldDefinition>,
-    field: &Node<FieldDefinition>,
+    implementation: &Implementation<'_>,
     faults: &mut Vec<Fault>,
 ) -> Result<(), AllocError>
-    ensures { OnOk result (faults_of faults.new ≡ faults_of faults.old ++ flat_map (wanted_argument_faults name.now.text interface.now.text field_name.now.text (node_tree field_definition_tree wanted.now) (node_tree field_definition_tree field.now) (node_tree field_definition_tree field.now).it.arguments) (node_tree field_definition_tree wanted.now).it.arguments) }
+    ensures { OnOk result (faults_of faults.new ≡ faults_of faults.old ++ flat_map (wanted_argument_faults implementation.now.name.now.text implementation.now.interface.now.text implementation.now.field_name.now.text (node_tree field_definition_tree implementation.now.wanted.now) (node_tree field_definition_tree implementation.now.field.now) (node_tree field_definition_tree implementation.now.field.now).it.arguments) (node_tree field_definition_tree implementation.now.wanted.now).it.arguments) }
 {
-    let own = firsts(alloc, &field.content().arguments)?;
-    check_wanted_arguments(name, interface, field_name, wanted, field, &own, faults)
+    let own = firsts(alloc, &implementation.field.content().arguments)?;
+    check_wanted_arguments(implementation, &own, faults)
 }
 
 /// Tells the faults of the arguments of a type's field that the interface's field lacks.
 fn check_own(
     alloc: Global,
-    name: &Name,
-    interface: &Name,
-    field_name: &Name,
-    wanted: &Node<FieldDefinition>,
-    field: &Node<FieldDefinition>,
+    implementation: &Implementation<'_>,
     faults: &mut Vec<Fault>,
 ) -> Result<(), AllocError>
-    ensures { OnOk result (faults_of faults.new ≡ faults_of faults.old ++ flat_map (own_argument_faults name.now.text interface.now.text field_name.now.text (node_tree field_definition_tree wanted.now) (node_tree field_definition_tree field.now) (node_tree field_definition_tree wanted.now).it.arguments) (node_tree field_definition_tree field.now).it.arguments) }
+    ensures { OnOk result (faults_of faults.new ≡ faults_of faults.old ++ flat_map (own_argument_faults implementation.now.name.now.text implementation.now.interface.now.text implementation.now.field_name.now.text (node_tree field_definition_tree implementation.now.wanted.now) (node_tree field_definition_tree implementation.now.field.now) (node_tree field_definition_tree implementation.now.wanted.now).it.arguments) (node_tree field_definition_tree implementation.now.field.now).it.arguments) }
 {
-    let of_interface = firsts(alloc, &wanted.content().arguments)?;
-    check_own_arguments(
-        name,
-        interface,
-        field_name,
-        wanted,
-        field,
-        &of_interface,
-        faults,
-    )
+    let of_interface = firsts(alloc, &implementation.wanted.content().arguments)?;
+    check_own_arguments(implementation, &of_interface, faults)
 }
 
 /// The first argument definition of each name.
@@ -111,20 +91,16 @@ fn first_like<'a>(
 
 /// Tells the faults of each argument of an interface's field.
 fn check_wanted_arguments(
-    name: &Name,
-    interface: &Name,
-    field_name: &Name,
-    wanted: &Node<FieldDefinition>,
-    field: &Node<FieldDefinition>,
+    implementation: &Implementation<'_>,
     own: &Firsts,
     faults: &mut Vec<Fault>,
 ) -> Result<(), AllocError>
-    ensures { (vs : _) → AreFirsts own.now vs → OnOk result (faults_of faults.new ≡ faults_of faults.old ++ flat_map (wanted_argument_faults name.now.text interface.now.text field_name.now.text (node_tree field_definition_tree wanted.now) (node_tree field_definition_tree field.now) vs) (node_tree field_definition_tree wanted.now).it.arguments) }
+    ensures { (vs : _) → AreFirsts own.now vs → OnOk result (faults_of faults.new ≡ faults_of faults.old ++ flat_map (wanted_argument_faults implementation.now.name.now.text implementation.now.interface.now.text implementation.now.field_name.now.text (node_tree field_definition_tree implementation.now.wanted.now) (node_tree field_definition_tree implementation.now.field.now) vs) (node_tree field_definition_tree implementation.now.wanted.now).it.arguments) }
 {
-    for argument in &wanted.content().arguments {
+    for argument in &implementation.wanted.content().arguments {
         tell(
             faults,
-            wanted_argument_fault(name, interface, field_name, field, own, argument)?,
+            wanted_argument_fault(implementation, own, argument)?,
         )?;
     }
     Ok(())
@@ -132,39 +108,32 @@ fn check_wanted_arguments(
 
 /// The fault of an argument of an interface's field, where `own` has the arguments of the type's field.
 fn wanted_argument_fault(
-    name: &Name,
-    interface: &Name,
-    field_name: &Name,
-    field: &Node<FieldDefinition>,
+    implementation: &Implementation<'_>,
     own: &Firsts,
     argument: &Node<InputValueDefinition>,
 ) -> Result<Option<Fault>, AllocError>
-    ensures { (vs : _) → (wanted : _) → AreFirsts own.now vs → IfOk result (λ r. map fault_of (option_to_list r) ≡ wanted_argument_faults name.now.text interface.now.text field_name.now.text wanted (node_tree field_definition_tree field.now) vs (node_tree input_value_tree argument.now)) }
+    ensures { (vs : _) → AreFirsts own.now vs → IfOk result (λ r. map fault_of (option_to_list r) ≡ wanted_argument_faults implementation.now.name.now.text implementation.now.interface.now.text implementation.now.field_name.now.text (node_tree field_definition_tree implementation.now.wanted.now) (node_tree field_definition_tree implementation.now.field.now) vs (node_tree input_value_tree argument.now)) }
 {
     match first_like(own, argument) {
-        None => missing_interface_field_argument(name, interface, field_name, field, argument),
-        Some(given) => invalid_implementation_field_argument_type(
-            name, interface, field_name, argument, given,
-        ),
+        None => missing_interface_field_argument(implementation, argument),
+        Some(given) => {
+            invalid_implementation_field_argument_type(implementation, argument, given)
+        }
     }
 }
 
 /// Tells each required argument of a field that the interface's field lacks.
 fn check_own_arguments(
-    name: &Name,
-    interface: &Name,
-    field_name: &Name,
-    wanted: &Node<FieldDefinition>,
-    field: &Node<FieldDefinition>,
+    implementation: &Implementation<'_>,
     of_interface: &Firsts,
     faults: &mut Vec<Fault>,
 ) -> Result<(), AllocError>
-    ensures { (vs : _) → AreFirsts of_interface.now vs → OnOk result (faults_of faults.new ≡ faults_of faults.old ++ flat_map (own_argument_faults name.now.text interface.now.text field_name.now.text (node_tree field_definition_tree wanted.now) (node_tree field_definition_tree field.now) vs) (node_tree field_definition_tree field.now).it.arguments) }
+    ensures { (vs : _) → AreFirsts of_interface.now vs → OnOk result (faults_of faults.new ≡ faults_of faults.old ++ flat_map (own_argument_faults implementation.now.name.now.text implementation.now.interface.now.text implementation.now.field_name.now.text (node_tree field_definition_tree implementation.now.wanted.now) (node_tree field_definition_tree implementation.now.field.now) vs) (node_tree field_definition_tree implementation.now.field.now).it.arguments) }
 {
-    for argument in &field.content().arguments {
+    for argument in &implementation.field.content().arguments {
         tell(
             faults,
-            own_argument_fault(name, interface, field_name, wanted, of_interface, argument)?,
+            own_argument_fault(implementation, of_interface, argument)?,
         )?;
     }
     Ok(())
@@ -172,35 +141,27 @@ fn check_own_arguments(
 
 /// The fault of an argument of a type's field, where `of_interface` has the arguments of the interface's field.
 fn own_argument_fault(
-    name: &Name,
-    interface: &Name,
-    field_name: &Name,
-    wanted: &Node<FieldDefinition>,
+    implementation: &Implementation<'_>,
     of_interface: &Firsts,
     argument: &Node<InputValueDefinition>,
 ) -> Result<Option<Fault>, AllocError>
-    ensures { (ws : _) → (field : _) → AreFirsts of_interface.now ws → IfOk result (λ r. map fault_of (option_to_list r) ≡ own_argument_faults name.now.text interface.now.text field_name.now.text (node_tree field_definition_tree wanted.now) field ws (node_tree input_value_tree argument.now)) }
+    ensures { (ws : _) → AreFirsts of_interface.now ws → IfOk result (λ r. map fault_of (option_to_list r) ≡ own_argument_faults implementation.now.name.now.text implementation.now.interface.now.text implementation.now.field_name.now.text (node_tree field_definition_tree implementation.now.wanted.now) (node_tree field_definition_tree implementation.now.field.now) ws (node_tree input_value_tree argument.now)) }
 {
     match first_like(of_interface, argument) {
         Some(_) => Ok(None),
-        None => extra_required_implementation_field_argument(
-            name, interface, field_name, wanted, argument,
-        ),
+        None => extra_required_implementation_field_argument(implementation, argument),
     }
 }
 
 /// MissingInterfaceFieldArgument: a field has each argument of its interface's field. Told of one that it lacks.
 fn missing_interface_field_argument(
-    name: &Name,
-    interface: &Name,
-    field_name: &Name,
-    field: &Node<FieldDefinition>,
+    implementation: &Implementation<'_>,
     argument: &Node<InputValueDefinition>,
 ) -> Result<Option<Fault>, AllocError>
-    ensures { (wanted : _) → IfOk result (λ r. map fault_of (option_to_list r) ≡ missing_interface_field_argument name.now.text interface.now.text field_name.now.text wanted (node_tree field_definition_tree field.now) (node_tree input_value_tree argument.now)) }
+    ensures { IfOk result (λ r. map fault_of (option_to_list r) ≡ missing_interface_field_argument implementation.now.name.now.text implementation.now.interface.now.text implementation.now.field_name.now.text (node_tree field_definition_tree implementation.now.wanted.now) (node_tree field_definition_tree implementation.now.field.now) (node_tree input_value_tree argument.now)) }
 {
-    let field_location = field.location();
-    let (name, interface, field) = copy_names(name, interface, field_name)?;
+    let field_location = implementation.field.location();
+    let (name, interface, field) = implementation.copy_names()?;
     Ok(Some(Fault {
         location: field_location,
         data: DiagnosticData::MissingInterfaceFieldArgument {
@@ -216,18 +177,16 @@ fn missing_interface_field_argument(
 
 /// InvalidImplementationFieldArgumentType: an argument has the type that the interface's has.
 fn invalid_implementation_field_argument_type(
-    name: &Name,
-    interface: &Name,
-    field_name: &Name,
+    implementation: &Implementation<'_>,
     wanted: &Node<InputValueDefinition>,
     given: &Node<InputValueDefinition>,
 ) -> Result<Option<Fault>, AllocError>
-    ensures { IfOk result (λ r. map fault_of (option_to_list r) ≡ invalid_implementation_field_argument_type name.now.text interface.now.text field_name.now.text (node_tree input_value_tree wanted.now) (node_tree input_value_tree given.now)) }
+    ensures { IfOk result (λ r. map fault_of (option_to_list r) ≡ invalid_implementation_field_argument_type implementation.now.name.now.text implementation.now.interface.now.text implementation.now.field_name.now.text (node_tree input_value_tree wanted.now) (node_tree input_value_tree given.now)) }
 {
     if same_type(wanted.content().ty.content(), given.content().ty.content()) {
         return Ok(None);
     }
-    let (name, interface, field) = copy_names(name, interface, field_name)?;
+    let (name, interface, field) = implementation.copy_names()?;
     let (argument, interface_type, actual_type) = copy_arguments(
         wanted.content(),
         given.content(),
@@ -256,18 +215,15 @@ fn same_type(a: &Type, b: &Type) -> bool
 
 /// ExtraRequiredImplementationFieldArgument: an argument that the interface's field lacks is not required.
 fn extra_required_implementation_field_argument(
-    name: &Name,
-    interface: &Name,
-    field_name: &Name,
-    wanted: &Node<FieldDefinition>,
+    implementation: &Implementation<'_>,
     argument: &Node<InputValueDefinition>,
 ) -> Result<Option<Fault>, AllocError>
-    ensures { (field : _) → IfOk result (λ r. map fault_of (option_to_list r) ≡ extra_required_argument name.now.text interface.now.text field_name.now.text (node_tree field_definition_tree wanted.now) field (node_tree input_value_tree argument.now)) }
+    ensures { IfOk result (λ r. map fault_of (option_to_list r) ≡ extra_required_argument implementation.now.name.now.text implementation.now.interface.now.text implementation.now.field_name.now.text (node_tree field_definition_tree implementation.now.wanted.now) (node_tree field_definition_tree implementation.now.field.now) (node_tree input_value_tree argument.now)) }
 {
     if !argument.content().is_required() {
         return Ok(None);
     }
-    let (name, interface, field) = copy_names(name, interface, field_name)?;
+    let (name, interface, field) = implementation.copy_names()?;
     Ok(Some(Fault {
         location: argument.location(),
         data: DiagnosticData::ExtraRequiredImplementationFieldArgument {
@@ -276,7 +232,7 @@ fn extra_required_implementation_field_argument(
             field,
             argument: argument.content().name.clone()?,
             argument_location: argument.location(),
-            interface_field_location: wanted.location(),
+            interface_field_location: implementation.wanted.location(),
         },
     }))
 }

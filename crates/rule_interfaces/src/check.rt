@@ -13,12 +13,12 @@ ghost use Rattle.fault_data.specs.in_rule_definitions.Told.{Told};
 ghost use Rattle.rule_interfaces.specs.InterfaceFaults.{type_faults, interface_faults, listed_faults, over_faults, types_faults};
 
 use crate::fields::check_each_field;
+use crate::implementation::Implementer;
 use crate::interfaces::{check_transitive, recursive_interface_definition, undefined_interface};
 use crate::look_ups::interfaces_of;
 use fault_data::{Fault, tell};
 use graphql_names::{Name, Node};
 use graphql_schema::Schema;
-use schema_components::ComponentName;
 use schema_types::{ExtendedType, InterfaceType};
 use std::alloc::{AllocError, Global};
 
@@ -59,7 +59,13 @@ fn check_type(
     ensures { OnOk result (faults_of faults.new ≡ faults_of faults.old ++ type_faults (schema_tree schema.now) name.now.text (extended_type ty.now)) }
 {
     for interface in interfaces_of(ty) {
-        check_interface(alloc, schema, name, ty, interface, faults)?;
+        let implementer = Implementer {
+            schema,
+            name,
+            ty,
+            interface,
+        };
+        check_interface(alloc, &implementer, faults)?;
     }
     Ok(())
 }
@@ -67,52 +73,41 @@ fn check_type(
 /// Tells the faults of a type over one of its interfaces.
 fn check_interface(
     alloc: Global,
-    schema: &Schema,
-    name: &Name,
-    ty: &ExtendedType,
-    interface: &ComponentName,
+    implementer: &Implementer<'_>,
     faults: &mut Vec<Fault>,
 ) -> Result<(), AllocError>
-    ensures { OnOk result (faults_of faults.new ≡ faults_of faults.old ++ interface_faults (schema_tree schema.now) name.now.text (extended_type ty.now) (component_name_tree interface.now)) }
+    ensures { OnOk result (faults_of faults.new ≡ faults_of faults.old ++ interface_faults (schema_tree implementer.now.schema.now) implementer.now.name.now.text (extended_type implementer.now.ty.now) (component_name_tree implementer.now.interface.now)) }
 {
-    tell(
-        faults,
-        recursive_interface_definition(name, ty, &interface.name)?,
-    )?;
-    check_listed(alloc, schema, name, ty, &interface.name, faults)
+    tell(faults, recursive_interface_definition(implementer)?)?;
+    check_listed(alloc, implementer, faults)
 }
 
 /// Tells the faults of a type over an interface of that name, which it lists, whether it is there or not.
 fn check_listed(
     alloc: Global,
-    schema: &Schema,
-    name: &Name,
-    ty: &ExtendedType,
-    interface: &Name,
+    implementer: &Implementer<'_>,
     faults: &mut Vec<Fault>,
 ) -> Result<(), AllocError>
-    ensures { OnOk result (faults_of faults.new ≡ faults_of faults.old ++ listed_faults (schema_tree schema.now) name.now.text (extended_type ty.now) (name_tree interface.now)) }
+    ensures { OnOk result (faults_of faults.new ≡ faults_of faults.old ++ listed_faults (schema_tree implementer.now.schema.now) implementer.now.name.now.text (extended_type implementer.now.ty.now) (name_tree implementer.now.interface.now.name)) }
 {
-    match schema.get_interface(interface) {
+    let interface = &implementer.interface.name;
+    match implementer.schema.get_interface(interface) {
         None => tell(faults, undefined_interface(interface)?),
-        Some(over) => check_over(alloc, schema, name, ty, interface, over, faults),
+        Some(over) => check_over(alloc, implementer, over, faults),
     }
 }
 
 /// Tells the faults of a type over an interface that it lists and that is there.
 fn check_over(
     alloc: Global,
-    schema: &Schema,
-    name: &Name,
-    ty: &ExtendedType,
-    interface: &Name,
+    implementer: &Implementer<'_>,
     over: &Node<InterfaceType>,
     faults: &mut Vec<Fault>,
 ) -> Result<(), AllocError>
-    ensures { OnOk result (faults_of faults.new ≡ faults_of faults.old ++ over_faults (schema_tree schema.now) name.now.text (extended_type ty.now) (name_tree interface.now) (interface_type (place over.now) (content over.now))) }
+    ensures { OnOk result (faults_of faults.new ≡ faults_of faults.old ++ over_faults (schema_tree implementer.now.schema.now) implementer.now.name.now.text (extended_type implementer.now.ty.now) (name_tree implementer.now.interface.now.name) (interface_type (place over.now) (content over.now))) }
 {
     let over = over.content();
     let listed = over.implements_interfaces.as_slice();
-    check_transitive(name, ty, interface, listed, faults)?;
-    check_each_field(alloc, schema, name, ty, interface, &over.fields, faults)
+    check_transitive(implementer, listed, faults)?;
+    check_each_field(alloc, implementer, &over.fields, faults)
 }

@@ -9,6 +9,7 @@ ghost use Rattle.rule_interfaces.specs.InterfaceFaults.{missing_interface_field,
 
 use crate::arguments::check_arguments;
 use crate::copies::{copy_names, copy_types};
+use crate::implementation::{Implementation, Implementer};
 use crate::look_ups::own_field;
 use crate::valid_types::is_valid_implementation_field_type;
 use fault_data::{DiagnosticData, Fault, tell};
@@ -16,33 +17,20 @@ use graphql_names::{Name, Node};
 use graphql_schema::Schema;
 use indexmap::IndexMap;
 use schema_components::Component;
-use schema_types::ExtendedType;
 use std::alloc::{AllocError, Global};
 use tree_type_members::FieldDefinition;
 
 /// Tells the faults of a type over each of these fields of an interface.
 pub(crate) fn check_each_field(
     alloc: Global,
-    schema: &Schema,
-    name: &Name,
-    ty: &ExtendedType,
-    interface: &Name,
+    implementer: &Implementer<'_>,
     fields: &IndexMap<Name, Component<FieldDefinition>>,
     faults: &mut Vec<Fault>,
 ) -> Result<(), AllocError>
-    ensures { OnOk result (faults_of faults.new ≡ faults_of faults.old ++ each_field_faults (schema_tree schema.now) name.now.text (extended_type ty.now) (name_tree interface.now) fields.now.entries) }
+    ensures { OnOk result (faults_of faults.new ≡ faults_of faults.old ++ each_field_faults (schema_tree implementer.now.schema.now) implementer.now.name.now.text (extended_type implementer.now.ty.now) (name_tree implementer.now.interface.now.name) fields.now.entries) }
 {
     for (field_name, wanted) in fields {
-        check_field(
-            alloc,
-            schema,
-            name,
-            ty,
-            interface,
-            field_name,
-            &wanted.node,
-            faults,
-        )?;
+        check_field(alloc, implementer, field_name, &wanted.node, faults)?;
     }
     Ok(())
 }
@@ -50,31 +38,28 @@ pub(crate) fn check_each_field(
 /// Tells the faults of a type over a field of an interface.
 fn check_field(
     alloc: Global,
-    schema: &Schema,
-    name: &Name,
-    ty: &ExtendedType,
-    interface: &Name,
+    implementer: &Implementer<'_>,
     field_name: &Name,
     wanted: &Node<FieldDefinition>,
     faults: &mut Vec<Fault>,
 ) -> Result<(), AllocError>
-    ensures { OnOk result (faults_of faults.new ≡ faults_of faults.old ++ field_faults (schema_tree schema.now) name.now.text (extended_type ty.now) (name_tree interface.now) field_name.now.text (node_tree field_definition_tree wanted.now)) }
+    ensures { OnOk result (faults_of faults.new ≡ faults_of faults.old ++ field_faults (schema_tree implementer.now.schema.now) implementer.now.name.now.text (extended_type implementer.now.ty.now) (name_tree implementer.now.interface.now.name) field_name.now.text (node_tree field_definition_tree wanted.now)) }
 {
-    match own_field(ty, field_name) {
+    match own_field(implementer.ty, field_name) {
         None => tell(
             faults,
-            missing_interface_field(name, ty, interface, field_name, wanted)?,
+            missing_interface_field(implementer, field_name, wanted)?,
         ),
-        Some(field) => check_implementation(
-            alloc,
-            schema,
-            name,
-            interface,
-            field_name,
-            wanted,
-            &field.node,
-            faults,
-        ),
+        Some(field) => {
+            let implementation = Implementation {
+                name: implementer.name,
+                interface: &implementer.interface.name,
+                field_name,
+                wanted,
+                field: &field.node,
+            };
+            check_implementation(alloc, implementer.schema, &implementation, faults)
+        }
     }
 }
 
@@ -82,36 +67,31 @@ fn check_field(
 fn check_implementation(
     alloc: Global,
     schema: &Schema,
-    name: &Name,
-    interface: &Name,
-    field_name: &Name,
-    wanted: &Node<FieldDefinition>,
-    field: &Node<FieldDefinition>,
+    implementation: &Implementation<'_>,
     faults: &mut Vec<Fault>,
 ) -> Result<(), AllocError>
-    ensures { OnOk result (faults_of faults.new ≡ faults_of faults.old ++ implementation_faults (schema_tree schema.now) name.now.text interface.now.text field_name.now.text (node_tree field_definition_tree wanted.now) (node_tree field_definition_tree field.now)) }
+    ensures { OnOk result (faults_of faults.new ≡ faults_of faults.old ++ implementation_faults (schema_tree schema.now) implementation.now.name.now.text implementation.now.interface.now.text implementation.now.field_name.now.text (node_tree field_definition_tree implementation.now.wanted.now) (node_tree field_definition_tree implementation.now.field.now)) }
 {
     tell(
         faults,
-        invalid_implementation_field_type(schema, name, interface, field_name, wanted, field)?,
+        invalid_implementation_field_type(schema, implementation)?,
     )?;
-    check_arguments(alloc, name, interface, field_name, wanted, field, faults)
+    check_arguments(alloc, implementation, faults)
 }
 
 /// MissingInterfaceField: a type has each field of its interfaces. Told of one that it lacks.
 fn missing_interface_field(
-    name: &Name,
-    ty: &ExtendedType,
-    interface: &Name,
+    implementer: &Implementer<'_>,
     field_name: &Name,
     wanted: &Node<FieldDefinition>,
 ) -> Result<Option<Fault>, AllocError>
-    ensures { IfOk result (λ r. map fault_of (option_to_list r) ≡ missing_interface_field name.now.text (extended_type ty.now) (name_tree interface.now) field_name.now.text (node_tree field_definition_tree wanted.now)) }
+    ensures { IfOk result (λ r. map fault_of (option_to_list r) ≡ missing_interface_field implementer.now.name.now.text (extended_type implementer.now.ty.now) (name_tree implementer.now.interface.now.name) field_name.now.text (node_tree field_definition_tree wanted.now)) }
 {
+    let interface = &implementer.interface.name;
     let implements_location = interface.location();
-    let (name, interface, field) = copy_names(name, interface, field_name)?;
+    let (name, interface, field) = copy_names(implementer.name, interface, field_name)?;
     Ok(Some(Fault {
-        location: ty.location(),
+        location: implementer.ty.location(),
         data: DiagnosticData::MissingInterfaceField {
             name,
             implements_location,
@@ -125,31 +105,27 @@ fn missing_interface_field(
 /// InvalidImplementationFieldType: the type of a field serves where the interface has one.
 fn invalid_implementation_field_type(
     schema: &Schema,
-    name: &Name,
-    interface: &Name,
-    field_name: &Name,
-    wanted: &Node<FieldDefinition>,
-    field: &Node<FieldDefinition>,
+    implementation: &Implementation<'_>,
 ) -> Result<Option<Fault>, AllocError>
-    ensures { IfOk result (λ r. map fault_of (option_to_list r) ≡ invalid_implementation_field_type name.now.text interface.now.text field_name.now.text (node_tree field_definition_tree wanted.now) (node_tree field_definition_tree field.now) (schema_tree schema.now)) }
+    ensures { IfOk result (λ r. map fault_of (option_to_list r) ≡ invalid_implementation_field_type implementation.now.name.now.text implementation.now.interface.now.text implementation.now.field_name.now.text (node_tree field_definition_tree implementation.now.wanted.now) (node_tree field_definition_tree implementation.now.field.now) (schema_tree schema.now)) }
 {
-    let interface_type = &wanted.content().ty;
-    let actual_type = &field.content().ty;
+    let interface_type = &implementation.wanted.content().ty;
+    let actual_type = &implementation.field.content().ty;
     if is_valid_implementation_field_type(schema, interface_type, actual_type) {
         return Ok(None);
     }
-    let (name, interface, field_name) = copy_names(name, interface, field_name)?;
+    let (name, interface, field) = implementation.copy_names()?;
     let (interface_type, actual_type) = copy_types(interface_type, actual_type)?;
     Ok(Some(Fault {
-        location: field.location(),
+        location: implementation.field.location(),
         data: DiagnosticData::InvalidImplementationFieldType {
             name,
             interface,
-            field: field_name,
+            field,
             interface_type,
             actual_type,
-            field_location: field.location(),
-            interface_field_location: wanted.location(),
+            field_location: implementation.field.location(),
+            interface_field_location: implementation.wanted.location(),
         },
     }))
 }

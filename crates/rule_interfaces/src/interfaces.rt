@@ -6,11 +6,11 @@ ghost use Rattle.schema_types.specs.TypeView.{extended_type};
 ghost use Rattle.fault_data.specs.FaultView.{fault_of, faults_of};
 ghost use Rattle.rule_interfaces.specs.InterfaceFaults.{undefined_interface, recursive_interface_definition, transitive_implemented_interfaces};
 
+use crate::implementation::Implementer;
 use crate::look_ups::implements;
 use fault_data::{DiagnosticData, Fault, tell};
 use graphql_names::Name;
 use schema_components::ComponentName;
-use schema_types::ExtendedType;
 use std::alloc::AllocError;
 
 /// UndefinedDefinition: what a type implements is an interface. Told of one that is not.
@@ -27,20 +27,19 @@ pub(crate) fn undefined_interface(interface: &Name) -> Result<Option<Fault>, All
 
 /// RecursiveInterfaceDefinition: an interface does not implement itself.
 pub(crate) fn recursive_interface_definition(
-    name: &Name,
-    ty: &ExtendedType,
-    interface: &Name,
+    implementer: &Implementer<'_>,
 ) -> Result<Option<Fault>, AllocError>
-    ensures { IfOk result (λ r. map fault_of (option_to_list r) ≡ recursive_interface_definition name.now.text (extended_type ty.now) (name_tree interface.now)) }
+    ensures { IfOk result (λ r. map fault_of (option_to_list r) ≡ recursive_interface_definition implementer.now.name.now.text (extended_type implementer.now.ty.now) (name_tree implementer.now.interface.now.name)) }
 {
-    if !ty.is_interface() {
+    if !implementer.ty.is_interface() {
         return Ok(None);
     }
-    if interface.as_str() == name.as_str() {
+    let interface = &implementer.interface.name;
+    if interface.as_str() == implementer.name.as_str() {
         return Ok(Some(Fault {
             location: interface.location(),
             data: DiagnosticData::RecursiveInterfaceDefinition {
-                name: name.clone()?,
+                name: implementer.name.clone()?,
             },
         }));
     }
@@ -49,18 +48,16 @@ pub(crate) fn recursive_interface_definition(
 
 /// Tells each of these interfaces, which an interface lists, that a type that lists it does not.
 pub(crate) fn check_transitive(
-    name: &Name,
-    ty: &ExtendedType,
-    interface: &Name,
+    implementer: &Implementer<'_>,
     listed: &[ComponentName],
     faults: &mut Vec<Fault>,
 ) -> Result<(), AllocError>
-    ensures { OnOk result (faults_of faults.new ≡ faults_of faults.old ++ flat_map (λ g. transitive_implemented_interfaces name.now.text (extended_type ty.now) (name_tree interface.now) g.it) (map component_name_tree listed.now)) }
+    ensures { OnOk result (faults_of faults.new ≡ faults_of faults.old ++ flat_map (λ g. transitive_implemented_interfaces implementer.now.name.now.text (extended_type implementer.now.ty.now) (name_tree implementer.now.interface.now.name) g.it) (map component_name_tree listed.now)) }
 {
     for missing in listed {
         tell(
             faults,
-            transitive_implemented_interfaces(name, ty, interface, missing)?,
+            transitive_implemented_interfaces(implementer, missing)?,
         )?;
     }
     Ok(())
@@ -68,21 +65,19 @@ pub(crate) fn check_transitive(
 
 /// TransitiveImplementedInterfaces: a type lists what its interfaces list.
 fn transitive_implemented_interfaces(
-    name: &Name,
-    ty: &ExtendedType,
-    interface: &Name,
+    implementer: &Implementer<'_>,
     missing: &ComponentName,
 ) -> Result<Option<Fault>, AllocError>
-    ensures { IfOk result (λ r. map fault_of (option_to_list r) ≡ transitive_implemented_interfaces name.now.text (extended_type ty.now) (name_tree interface.now) (name_tree missing.now.name)) }
+    ensures { IfOk result (λ r. map fault_of (option_to_list r) ≡ transitive_implemented_interfaces implementer.now.name.now.text (extended_type implementer.now.ty.now) (name_tree implementer.now.interface.now.name) (name_tree missing.now.name)) }
 {
-    if implements(ty, missing) {
+    if implements(implementer.ty, missing) {
         return Ok(None);
     }
     Ok(Some(Fault {
-        location: ty.location(),
+        location: implementer.ty.location(),
         data: DiagnosticData::TransitiveImplementedInterfaces {
-            interface: name.clone()?,
-            via_interface: interface.clone()?,
+            interface: implementer.name.clone()?,
+            via_interface: implementer.interface.name.clone()?,
             transitive_interface_location: missing.name.location(),
             missing_interface: missing.name.clone()?,
         },

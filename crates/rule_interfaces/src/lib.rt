@@ -11,6 +11,7 @@ mod arguments;
 mod check;
 mod copies;
 mod fields;
+mod implementation;
 mod interfaces;
 mod look_ups;
 mod valid_types;

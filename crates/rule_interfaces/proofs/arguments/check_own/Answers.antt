@@ -8,6 +8,6 @@ use Rattle.rule_interfaces.proofs.arguments.check_own.Goals as goal
 
 pub returns : goal.returns
 returns c =
-    let definition : c.deref.result.now ≡ (content c.args.wanted.now).arguments.items = c.deref.ensures.value ∙ ap (λ (d : FieldDefinition). d.arguments.items) c.content.ensures in
-    c.check_own_arguments.ensures (map (node_tree input_value_tree) (content c.args.wanted.now).arguments.items)
+    let definition : c.deref.result.now ≡ (content c.args.implementation.now.wanted.now).arguments.items = c.deref.ensures.value ∙ ap (λ (d : FieldDefinition). d.arguments.items) c.content.ensures in
+    c.check_own_arguments.ensures (map (node_tree input_value_tree) (content c.args.implementation.now.wanted.now).arguments.items)
     (subst (λ l. AreFirsts c.in_ok-of_interface.of_interface (map (node_tree input_value_tree) l)) definition c.in_ok-of_interface.ensures)

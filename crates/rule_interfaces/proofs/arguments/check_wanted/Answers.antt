@@ -8,6 +8,6 @@ use Rattle.rule_interfaces.proofs.arguments.check_wanted.Goals as goal
 
 pub returns : goal.returns
 returns c =
-    let definition : c.deref.result.now ≡ (content c.args.field.now).arguments.items = c.deref.ensures.value ∙ ap (λ (d : FieldDefinition). d.arguments.items) c.content.ensures in
-    c.check_wanted_arguments.ensures (map (node_tree input_value_tree) (content c.args.field.now).arguments.items)
+    let definition : c.deref.result.now ≡ (content c.args.implementation.now.field.now).arguments.items = c.deref.ensures.value ∙ ap (λ (d : FieldDefinition). d.arguments.items) c.content.ensures in
+    c.check_wanted_arguments.ensures (map (node_tree input_value_tree) (content c.args.implementation.now.field.now).arguments.items)
     (subst (λ l. AreFirsts c.in_ok-own.own (map (node_tree input_value_tree) l)) definition c.in_ok-own.ensures)

@@ -12,9 +12,10 @@ use Rattle.rule_interfaces.proofs.arguments.check_wanted_arguments.Goals as goal
 
 pub loop-argument-preserved : goal.loop-argument-preserved
 loop-argument-preserved c = λ vs are.
-    let W = node_tree field_definition_tree c.args.wanted.now in
-    let F = node_tree field_definition_tree c.args.field.now in
-    let told = wanted_argument_faults c.args.name.now.text c.args.interface.now.text c.args.field_name.now.text W F vs in
+    let own = c.args.implementation.now in
+    let W = node_tree field_definition_tree own.wanted.now in
+    let F = node_tree field_definition_tree own.field.now in
+    let told = wanted_argument_faults own.name.now.text own.interface.now.text own.field_name.now.text W F vs in
     let xs = c.deref-argument-items.result.now in
     let k = c.loop-argument.argument-index in
     let x = c.argument-item.result in
@@ -22,17 +23,18 @@ loop-argument-preserved c = λ vs are.
     let before = map (node_tree input_value_tree) (take k xs) in
     let front = map_more (node_tree input_value_tree) xs k x h ∙ ap (λ y. before ++ node_tree input_value_tree y ∷ []) (sym c.argument-item.is) in
     c.in_ok-tell.ensures.told
-    ∙ (λ j. c.loop-argument.invariant vs are j ++ c.in_ok-wanted_argument_fault.ensures vs W are j)
+    ∙ (λ j. c.loop-argument.invariant vs are j ++ c.in_ok-wanted_argument_fault.ensures vs are j)
     ∙ flat_map_more told (faults_of c.args.faults.now) before (node_tree input_value_tree x)
     ∙ ap (λ l. faults_of c.args.faults.now ++ flat_map told l) (sym front)
 
 pub returns : goal.returns
 returns c = λ vs are.
-    let W = node_tree field_definition_tree c.args.wanted.now in
-    let F = node_tree field_definition_tree c.args.field.now in
-    let told = wanted_argument_faults c.args.name.now.text c.args.interface.now.text c.args.field_name.now.text W F vs in
+    let own = c.args.implementation.now in
+    let W = node_tree field_definition_tree own.wanted.now in
+    let F = node_tree field_definition_tree own.field.now in
+    let told = wanted_argument_faults own.name.now.text own.interface.now.text own.field_name.now.text W F vs in
     let xs = c.deref-argument-items.result.now in
     let past : length xs ≤ c.loop-argument.argument-index = omega arith in
     let whole = take_all c.loop-argument.argument-index xs past in
-    let items : xs ≡ (content c.args.wanted.now).arguments.items = c.deref-argument-items.ensures.value ∙ ap (λ (d : FieldDefinition). d.arguments.items) c.content.ensures in
+    let items : xs ≡ (content own.wanted.now).arguments.items = c.deref-argument-items.ensures.value ∙ ap (λ (d : FieldDefinition). d.arguments.items) c.content.ensures in
     c.loop-argument.invariant vs are ∙ ap (λ l. faults_of c.args.faults.now ++ flat_map told (map (node_tree input_value_tree) l)) (whole ∙ items)

@@ -9,12 +9,13 @@ use Rattle.rule_interfaces.proofs.FirstsFacts.{none_lent}
 use Rattle.rule_interfaces.proofs.arguments.own_argument_fault.Goals as goal
 
 pub returns-in-None : goal.returns-in-None
-returns-in-None c = λ vs field are.
-    let n = c.args.name.now.text in
-    let i = c.args.interface.now.text in
-    let m = c.args.field_name.now.text in
+returns-in-None c = λ vs are.
+    let own = c.args.implementation.now in
+    let n = own.name.now.text in
+    let i = own.interface.now.text in
+    let m = own.field_name.now.text in
     let w = node_tree input_value_tree c.args.argument.now in
-    let lacking = extra_required_argument n i m (node_tree field_definition_tree c.args.wanted.now) field w in
+    let lacking = extra_required_argument n i m (node_tree field_definition_tree own.wanted.now) (node_tree field_definition_tree own.field.now) w in
     IfOk-weaker c.extra_required_implementation_field_argument.result _ _
     (λ r is. is ∙ ap (λ o. option_map_or (λ (v : Input). []) o lacking) (none_lent (node_tree input_value_tree) c.first_like.result c.in-None.is ∙ c.first_like.ensures vs are))
-    (c.extra_required_implementation_field_argument.ensures field)
+    c.extra_required_implementation_field_argument.ensures

@@ -14,10 +14,11 @@ use Rattle.rule_interfaces.proofs.check.check_over.Goals as goal
 
 pub returns : goal.returns
 returns c =
-    let s = schema_tree c.args.schema.now in
-    let n = c.args.name.now.text in
-    let t = extended_type c.args.ty.now in
-    let i = name_tree c.args.interface.now in
+    let own = c.args.implementer.now in
+    let s = schema_tree own.schema.now in
+    let n = own.name.now.text in
+    let t = extended_type own.ty.now in
+    let i = name_tree own.interface.now.name in
     let over = content c.args.over.now in
     let old = faults_of c.args.faults.now in
     let keys : c.as_slice-listed.result.now ≡ over.implements_interfaces.keys = c.as_slice-listed.ensures.keys ∙ ap (λ (x : InterfaceType). x.implements_interfaces.keys) c.content-over.ensures in

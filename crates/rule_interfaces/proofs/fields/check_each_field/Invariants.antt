@@ -7,4 +7,4 @@ use Rattle.rule_interfaces.specs.InterfaceFaults.{each_field_faults}
 use Rattle.rule_interfaces.proofs.fields.check_each_field.Given as goal
 
 abbrev pub invariant-loop-field_name : goal.invariant-loop-field_name
-invariant-loop-field_name l = faults_of l.faults ≡ faults_of l.fn.faults ++ each_field_faults (schema_tree l.schema) l.name.text (extended_type l.ty) (name_tree l.interface) (map (λ e. (e.0.now, e.1.now)) l.yielded)
+invariant-loop-field_name l = faults_of l.faults ≡ faults_of l.fn.faults ++ each_field_faults (schema_tree l.implementer.schema.now) l.implementer.name.now.text (extended_type l.implementer.ty.now) (name_tree l.implementer.interface.now.name) (map (λ e. (e.0.now, e.1.now)) l.yielded)

@@ -8,4 +8,4 @@ use Rattle.rule_interfaces.specs.InterfaceFaults.{transitive_implemented_interfa
 use Rattle.rule_interfaces.proofs.interfaces.check_transitive.Given as goal
 
 abbrev pub invariant-loop-missing : goal.invariant-loop-missing
-invariant-loop-missing l = faults_of l.faults ≡ faults_of l.fn.faults ++ flat_map (λ g. transitive_implemented_interfaces l.name.text (extended_type l.ty) (name_tree l.interface) g.it) (map component_name_tree (take l.missing-index l.listed))
+invariant-loop-missing l = faults_of l.faults ≡ faults_of l.fn.faults ++ flat_map (λ g. transitive_implemented_interfaces l.implementer.name.now.text (extended_type l.implementer.ty.now) (name_tree l.implementer.interface.now.name) g.it) (map component_name_tree (take l.missing-index l.listed))
