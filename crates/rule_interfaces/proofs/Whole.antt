@@ -1,5 +1,5 @@
 -- All that is told of a schema tells the rules on interfaces.
-use Rattle.std.proofs.Common.{◌≡◌, ℕ, ◌⊎◌, ◌↔◌, List, ◌++◌, map, sym, ap, subst, ◌∙◌, inl, inr, Contains}
+use Rattle.std.proofs.Common.{◌≡◌, ℕ, ◌↔◌, List, ◌++◌, map, sym, ap, ◌∙◌, Contains}
 use Rattle.std.specs.List.{flat_map}
 use Rattle.std.proofs.lemmas.List.Folds.{flat_map-map}
 use Rattle.graphql_names.specs.NameValue.{NameValue}
