@@ -13,6 +13,7 @@ ghost use Rattle.rule_values.specs.in_rule_definitions.Words.{AtSomeIndex};
 ghost use Rattle.rule_values.specs.in_rule_definitions.Judged.{judged};
 ghost use Rattle.rule_values.specs.in_rule_definitions.Uses.{directive_name, UseBreaks};
 ghost use Rattle.rule_values.specs.in_fault_data.Adds.{Adds};
+ghost use Rattle.rule_values.specs.Firsts.{AreFirsts};
 ghost use Rattle.rule_values.specs.Wanting.{variables_of};
 ghost use Rattle.rule_uses.specs.AddedFaults.{AddsUsesFaults};
 ghost use Rattle.rule_uses.specs.Trees.{directives_of, no_schema_tree, tree_of};
@@ -117,9 +118,22 @@ fn tell_repeated_directives(
         return Ok(());
     }
     let mut places = IndexMap::new(*faults.allocator());
+    tell_directives_again(schema, directives, &mut places, faults)
+}
+
+/// The same. `places` gets the place of the first of each name; it has none yet.
+fn tell_directives_again(
+    schema: &Schema,
+    directives: &[Node<Directive>],
+    places: &mut IndexMap<Name, Option<SourceSpan>>,
+    faults: &mut Vec<Fault>,
+) -> Result<(), AllocError>
+    requires { AreFirsts directive_name (λ i a. a.place) places.old (directives_of []) }
+    ensures { OnOk result (faults_of faults.new ≡ faults_of faults.old ++ each_place (λ before d. repeated_directive (directive_definition_at (schema_tree schema.now) (directive_name d)) before d) (directives_of directives.now)) }
+{
     for directive in directives {
         let name = &directive.content().name;
-        let first = note_first(&mut places, name, directive.location())?;
+        let first = note_first(places, name, directive.location())?;
         tell(faults, unique_directive(schema, first, directive)?)?;
     }
     Ok(())

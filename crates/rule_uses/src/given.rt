@@ -1,5 +1,5 @@
 //! Arguments that are given, defined or not.
-ghost use Rattle.std.specs.Prelude.{◌≡◌, ◌++◌, ◌⊎◌, map, find, IfOk, OnOk, option_to_list};
+ghost use Rattle.std.specs.Prelude.{◌≡◌, ◌++◌, ◌⊎◌, [], map, find, IfOk, OnOk, option_to_list};
 ghost use Rattle.std.specs.Option.{option_map};
 ghost use Rattle.graphql_names.specs.Placed.{node_tree};
 ghost use Rattle.tree_directives.specs.DirectiveTree.{argument_tree};
@@ -8,7 +8,7 @@ ghost use Rattle.schema_components.specs.Lists.{each_place};
 ghost use Rattle.rule_values.specs.in_fault_data.FaultView.{fault_of, faults_of};
 ghost use Rattle.rule_values.specs.in_rule_definitions.Uses.{argument_name};
 ghost use Rattle.rule_values.specs.in_fault_data.Adds.{Adds};
-ghost use Rattle.rule_values.specs.Firsts.{AreNumbers};
+ghost use Rattle.rule_values.specs.Firsts.{AreFirsts, AreNumbers};
 ghost use Rattle.rule_values.specs.Wanting.{variables_of};
 ghost use Rattle.rule_uses.specs.AddedFaults.{AddsGivenFaults};
 ghost use Rattle.rule_uses.specs.Trees.{arguments_of};
@@ -85,9 +85,21 @@ fn tell_repeated_arguments(
         return Ok(());
     }
     let mut places = IndexMap::new(*faults.allocator());
+    tell_arguments_again(given, &mut places, faults)
+}
+
+/// The same. `places` gets the place of the first of each name; it has none yet.
+fn tell_arguments_again(
+    given: &[Node<Argument>],
+    places: &mut IndexMap<Name, Option<SourceSpan>>,
+    faults: &mut Vec<Fault>,
+) -> Result<(), AllocError>
+    requires { AreFirsts argument_name (λ i a. a.place) places.old (arguments_of []) }
+    ensures { OnOk result (faults_of faults.new ≡ faults_of faults.old ++ each_place repeated_argument (arguments_of given.now)) }
+{
     for argument in given {
         let name = &argument.content().name;
-        let first = note_first(&mut places, name, argument.location())?;
+        let first = note_first(places, name, argument.location())?;
         tell(faults, unique_argument(first, argument)?)?;
     }
     Ok(())

@@ -255,8 +255,22 @@ pub fn check_taken(
     if taker.given.is_empty() {
         return tell_required_arguments(taker, &given, faults);
     }
-    let defined = definition_numbers(alloc, taker.definitions)?;
+    check_some_taken(schema, taker, &given, variables, faults)
+}
+
+/// The same; `given` has of each name the index of the first argument that is given so.
+fn check_some_taken(
+    schema: &Schema,
+    taker: &Taker<'_>,
+    given: &IndexMap<Name, usize>,
+    variables: &DefinedVariables<'_>,
+    faults: &mut Vec<Fault>,
+) -> Result<(), AllocError>
+    requires { AreNumbers argument_name given.now (arguments_of taker.now.given.now) }
+    ensures { OnOk result (AddsTakerFaults (schema_tree schema.now) (variables_of variables.now) taker.now faults.old faults.new) }
+{
+    let defined = definition_numbers(*faults.allocator(), taker.definitions)?;
     tell_undefined_arguments(taker, &defined, faults)?;
-    tell_required_arguments(taker, &given, faults)?;
-    check_arguments(schema, taker, &defined, &given, variables, faults)
+    tell_required_arguments(taker, given, faults)?;
+    check_arguments(schema, taker, &defined, given, variables, faults)
 }

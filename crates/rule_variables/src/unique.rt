@@ -1,15 +1,17 @@
 //! What stands twice: variables, and keys in their defaults.
-ghost use Rattle.std.specs.Prelude.{◌≡◌, ◌++◌, map, IfOk, OnOk, option_to_list};
+ghost use Rattle.std.specs.Prelude.{◌≡◌, ◌++◌, [], map, IfOk, OnOk, option_to_list};
 ghost use Rattle.graphql_names.specs.Placed.{node_tree};
 ghost use Rattle.tree_operations.specs.OperationTree.{variable_definition_tree};
 ghost use Rattle.schema_components.specs.Lists.{each_place};
+ghost use Rattle.rule_definitions.specs.Values.{defined_name};
 ghost use Rattle.rule_definitions.specs.Words.{AtSomeIndex};
 ghost use Rattle.rule_values.specs.in_fault_data.FaultView.{fault_of, faults_of};
 ghost use Rattle.rule_values.specs.in_fault_data.Adds.{Adds};
+ghost use Rattle.rule_values.specs.Firsts.{AreFirsts};
 ghost use Rattle.rule_values.specs.Wanting.{variables_of};
 ghost use Rattle.rule_variables.specs.VariableFaults.{variable_again, repeated_variable, DefaultKeyBreaks};
 
-use graphql_names::{Node, SourceSpan};
+use graphql_names::{Name, Node, SourceSpan};
 use indexmap::IndexMap;
 use rule_values::{DiagnosticData, Fault, note_first, tell, unique_input_values};
 use std::alloc::AllocError;
@@ -43,9 +45,21 @@ pub(crate) fn tell_repeated_variables(
     ensures { OnOk result (faults_of faults.new ≡ faults_of faults.old ++ each_place repeated_variable (variables_of variables.now)) }
 {
     let mut places = IndexMap::new(*faults.allocator());
+    tell_variables_again(variables, &mut places, faults)
+}
+
+/// The same. `places` gets the place of the first of each name; it has none yet.
+fn tell_variables_again(
+    variables: &[Node<VariableDefinition>],
+    places: &mut IndexMap<Name, Option<SourceSpan>>,
+    faults: &mut Vec<Fault>,
+) -> Result<(), AllocError>
+    requires { AreFirsts defined_name (λ i x. x.place) places.old (variables_of []) }
+    ensures { OnOk result (faults_of faults.new ≡ faults_of faults.old ++ each_place repeated_variable (variables_of variables.now)) }
+{
     for variable in variables {
         let name = &variable.content().name;
-        let first = note_first(&mut places, name, variable.location())?;
+        let first = note_first(places, name, variable.location())?;
         tell(faults, unique_variable(first, variable)?)?;
     }
     Ok(())

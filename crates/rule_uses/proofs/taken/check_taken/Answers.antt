@@ -32,22 +32,3 @@ returns-then-is_empty c =
     (gains_list a d (flat_map (required_argument t) ds) e (lists_required_arguments at s vs t ds places.schema places.arguments))
     (gains_same d d (given_arguments at s vs t ds places.schema places.arguments) (gains_nothing d (λ f. AtSomeIndex t.given (λ j x. FirstGivenBreaks s vs ds (take j t.given) x f)) (λ f. nowhere t.given (λ j x. FirstGivenBreaks s vs ds (take j t.given) x f) none)))))
     c.tell_required_arguments.ensures
-
-pub returns : goal.returns
-returns c =
-    let s = schema_tree c.args.schema.now in
-    let vs = variables_of c.args.variables.now in
-    let t = taker_of c.args.taker.now in
-    let ds = input_value_trees c.args.taker.now.definitions.now in
-    let a = faults_of c.args.faults.now in
-    let b = faults_of c.tell_undefined_arguments.new.faults in
-    let d = faults_of c.tell_required_arguments-2.new.faults in
-    let e = faults_of c.check_arguments.new.faults in
-    on_ok_weaker c.check_arguments.result
-    (λ h at places.
-    gains_both a b e
-    (gains_list a b (flat_map (undefined_argument t ds) t.given) c.in_ok-tell_undefined_arguments.ensures (lists_undefined_arguments at s vs t ds places.schema places.arguments))
-    (gains_both b d e
-    (gains_list b d (flat_map (required_argument t) ds) c.in_ok-tell_required_arguments.ensures (lists_required_arguments at s vs t ds places.schema places.arguments))
-    (gains_same d e (given_arguments at s vs t ds places.schema places.arguments) h)))
-    c.check_arguments.ensures

@@ -5,7 +5,7 @@ use Rattle.rule_values.specs.in_fault_data.FaultView.{faults_of}
 use Rattle.rule_values.specs.Firsts.{AreFirsts}
 use Rattle.rule_values.specs.Wanting.{variables_of}
 use Rattle.rule_variables.specs.VariableFaults.{repeated_variable}
-use Rattle.rule_variables.proofs.unique.tell_repeated_variables.Given as goal
+use Rattle.rule_variables.proofs.unique.tell_variables_again.Given as goal
 
 abbrev pub invariant-loop-variable : goal.invariant-loop-variable
 invariant-loop-variable l = record {

@@ -10,7 +10,7 @@ use Rattle.rule_values.proofs.Noted.{noted_next}
 use Rattle.rule_definitions.proofs.Listing.{places_more}
 use Rattle.rule_variables.specs.VariableFaults.{repeated_variable}
 use Rattle.rule_variables.proofs.Told.{variable_again_is}
-use Rattle.rule_variables.proofs.unique.tell_repeated_variables.Goals as goal
+use Rattle.rule_variables.proofs.unique.tell_variables_again.Goals as goal
 
 pub loop-variable-preserved : goal.loop-variable-preserved
 loop-variable-preserved c =

@@ -7,7 +7,7 @@ use Rattle.rule_uses.specs.Trees.{directives_of}
 use Rattle.rule_uses.specs.UseFaults.{repeated_directive}
 use Rattle.rule_values.specs.in_schema.in_schema_types.Addresses.{directive_definition_at}
 use Rattle.rule_values.specs.in_schema.SchemaOf.{schema_tree}
-use Rattle.rule_uses.proofs.directives.tell_repeated_directives.Given as goal
+use Rattle.rule_uses.proofs.directives.tell_directives_again.Given as goal
 
 abbrev pub invariant-loop-directive : goal.invariant-loop-directive
 invariant-loop-directive l = record {

@@ -5,7 +5,7 @@ use Rattle.rule_values.specs.in_rule_definitions.Uses.{argument_name}
 use Rattle.rule_values.specs.Firsts.{AreFirsts}
 use Rattle.rule_uses.specs.Trees.{arguments_of}
 use Rattle.rule_uses.specs.UseFaults.{repeated_argument}
-use Rattle.rule_uses.proofs.given.tell_repeated_arguments.Given as goal
+use Rattle.rule_uses.proofs.given.tell_arguments_again.Given as goal
 
 abbrev pub invariant-loop-argument : goal.invariant-loop-argument
 invariant-loop-argument l = record {
