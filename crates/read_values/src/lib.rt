@@ -1,4 +1,4 @@
-//! Reads values, arguments, directives and types from tokens.
+//! Reads values, arguments, directives, types and operation types from tokens.
 #![tactic(auto)]
 
 mod argument_list;
