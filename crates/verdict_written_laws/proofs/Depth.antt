@@ -1,5 +1,5 @@
 -- What is written of an accepted list nests no deeper than the list.
-use Rattle.std.proofs.Common.{◌≡◌, ◌⊎◌, ℕ, ◌≤◌, Bool, true, false, cond, List, [], ◌∷◌, ◌++◌, map, flat_map, Option, Some, None, refl, sym, ap, subst, ◌∙◌, if◌then◌else◌, option_to_list, slice_get, inl, inr, arith, true≢false}
+use Rattle.std.proofs.Common.{◌≡◌, ◌⊎◌, ℕ, ◌≤◌, max, Bool, true, false, cond, List, [], ◌∷◌, ◌++◌, map, flat_map, Option, Some, None, refl, sym, ap, subst, ◌∙◌, if◌then◌else◌, option_to_list, slice_get, inl, inr, arith, true≢false}
 use Rattle.std.specs.List.{find}
 use Rattle.std.specs.Option.{option_map_or}
 use Rattle.std.specs.Cmp.{second_so}
@@ -124,7 +124,7 @@ module _ (bound : ℕ) where
   -- ---- directives
 
   abbrev DirectiveFits : Directive → Type 0
-  DirectiveFits d = input_values_depth d.it.arguments ≤ bound
+  DirectiveFits d = max (input_values_depth d.it.arguments) (directives_depth d.it.directives) ≤ bound
 
   directives_fit : (ds : Definitions) → Each Fits ds → Each DirectiveFits (directives_in ds)
   directives_fit [] h = tt
