@@ -5,8 +5,7 @@ use Rattle.graphql_names.specs.Placed.{Place}
 use Rattle.rule_values.specs.in_schema.in_schema_types.SchemaTree.{SchemaType, SchemaTree}
 use Rattle.rule_values.specs.in_schema.in_schema_types.Addresses.{applied}
 use Rattle.rule_values.specs.in_rule_definitions.Words.{AtSomeIndex}
-use Rattle.rule_values.specs.in_rule_definitions.Judged.{is_built_in_scalar}
-use Rattle.rule_values.specs.in_rule_definitions.Rules.{type_location}
+use Rattle.rule_values.specs.in_rule_definitions.Judged.{is_built_in_scalar, type_location}
 use Rattle.rule_values.specs.in_rule_definitions.Told.{PlacedFault}
 use Rattle.rule_uses.specs.SchemaUses.{FieldsUses, ValuesUses, InputsUses, OwnUses, PartsUses, UsesAt}
 
