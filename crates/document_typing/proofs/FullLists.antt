@@ -14,9 +14,9 @@ use Rattle.schema_types.specs.in_components.Lists.{StandsAfter, has_name}
 use Rattle.document_typing.specs.MeantTree.{Definition, MeantField, MeantInline, set_on}
 use Rattle.document_typing.specs.Meanings.{Meanings, inner_type}
 use Rattle.document_typing.specs.KeptSelections.{is_leaf, may_select, kept, kept_all}
-use Rattle.document_typing.specs.KeptDocument.{anonymous_here, text_or_empty, operation_name, fragment_name, kept_anonymous, kept_named, kept_fragments}
+use Rattle.document_typing.specs.KeptDocument.{anonymous_here, text_or_empty, operation_name, fragment_name, kept_anonymous, kept_named, kept_fragments, is_operation}
 use Rattle.document_typing.specs.TypingFaults as rule
-use Rattle.document_typing.specs.TypingFaults.{TypingFault, typing_fault_at, is_operation, TypeSystemDefinition, AmbiguousAnonymousOperation, OperationNameCollision, FragmentNameCollision, UndefinedRootOperation, UndefinedTypeInNamedFragmentTypeCondition, UndefinedField, SubselectionOnScalarType, SubselectionOnEnumType, UndefinedTypeInInlineFragmentTypeCondition, SelectionBreaks, SetFails, DefinitionBreaks, TypingFails}
+use Rattle.document_typing.specs.TypingFaults.{TypingFault, typing_fault_at, TypeSystemDefinition, AmbiguousAnonymousOperation, OperationNameCollision, FragmentNameCollision, UndefinedRootOperation, UndefinedTypeInNamedFragmentTypeCondition, UndefinedField, SubselectionOnScalarType, SubselectionOnEnumType, UndefinedTypeInInlineFragmentTypeCondition, SelectionBreaks, SetFails, DefinitionBreaks, TypingFails}
 use Rattle.document_typing.specs.FullList.{is_kept, TellsSet, TellsAll}
 use Rattle.document_typing.proofs.SetFailures.{both-so}
 

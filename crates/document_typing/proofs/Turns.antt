@@ -12,8 +12,8 @@ use Rattle.tree_definitions.specs.Queries.{definition_place}
 use Rattle.schema_types.specs.in_components.Lists.{each_place, has_name}
 use Rattle.schema_types.proofs.in_components.Places.{each_place-push}
 use Rattle.document_typing.specs.Meanings.{Meanings}
-use Rattle.document_typing.specs.KeptDocument.{Based, based_operation, anonymous_here, named_here, fragment_here, text_or_empty, operation_name, fragment_name, kept_anonymous, kept_named, kept_fragments, meant_operation, meant_fragment, named_entry, fragment_entry, kept_document}
-use Rattle.document_typing.specs.TypingFaults.{TypingFault, typing_fault_at, is_operation, TypeSystemDefinition, AmbiguousAnonymousOperation, OperationNameCollision, FragmentNameCollision, UndefinedRootOperation, UndefinedTypeInNamedFragmentTypeCondition}
+use Rattle.document_typing.specs.KeptDocument.{Based, based_operation, anonymous_here, named_here, fragment_here, text_or_empty, operation_name, fragment_name, kept_anonymous, kept_named, kept_fragments, meant_operation, meant_fragment, named_entry, fragment_entry, kept_document, is_operation}
+use Rattle.document_typing.specs.TypingFaults.{TypingFault, typing_fault_at, TypeSystemDefinition, AmbiguousAnonymousOperation, OperationNameCollision, FragmentNameCollision, UndefinedRootOperation, UndefinedTypeInNamedFragmentTypeCondition}
 use Rattle.document_typing.specs.SetFaults.{set_faults}
 use Rattle.document_typing.specs.Steps.{Typed, told, faults_if, based, is_under, with_anonymous, with_named, with_fragment, and_operation, and_fragment, and_definition, typed_in}
 use Rattle.document_typing.proofs.KeptFirsts.{kept-none, kept-seen, kept-new, first-none, first-seen, first-new, under-made, is_some-made}

@@ -8,8 +8,8 @@ use Rattle.tree_definitions.specs.DefinitionTree.{DefinitionTree, Operation, Fra
 use Rattle.schema_types.specs.in_components.Lists.{StandsAfter, has_name}
 use Rattle.document_typing.specs.Meanings.{Meanings}
 use Rattle.document_typing.specs.KeptSelections.{kept}
-use Rattle.document_typing.specs.KeptDocument.{text_or_empty, operation_name, fragment_name, kept_anonymous, kept_named, kept_operations, kept_fragments}
-use Rattle.document_typing.specs.TypingFaults.{TypingFault, typing_fault_at, StandsIn, SelectionBreaks, DefinitionBreaks, is_operation, AmbiguousAnonymousOperation}
+use Rattle.document_typing.specs.KeptDocument.{text_or_empty, operation_name, fragment_name, kept_anonymous, kept_named, kept_operations, kept_fragments, is_operation}
+use Rattle.document_typing.specs.TypingFaults.{TypingFault, typing_fault_at, StandsIn, SelectionBreaks, DefinitionBreaks, AmbiguousAnonymousOperation}
 
 module _ {P : Type 0} where
   -- the definition, which stands behind these, is kept: its root or type condition is there, and no kept one before it has its name

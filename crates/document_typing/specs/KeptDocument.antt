@@ -1,5 +1,5 @@
 -- Which operations and fragments of a document are kept, and what they mean (GraphQL, October 2021, sections 3.3.1, 5.2.1.1, 5.5.1.1 and 5.5.1.2).
-use Rattle.std.specs.Prelude.{ℕ, List, [], ◌∷◌, ◌++◌, map, Option, None, Some, slice_get, option_to_list, if◌then◌else◌}
+use Rattle.std.specs.Prelude.{ℕ, Bool, true, false, List, [], ◌∷◌, ◌++◌, map, Option, None, Some, slice_get, option_to_list, if◌then◌else◌}
 use Rattle.std.specs.List.{flat_map}
 use Rattle.std.specs.Option.{option_map}
 use Rattle.graphql_names.specs.Placed.{Text}
@@ -10,6 +10,10 @@ use Rattle.schema_types.specs.in_components.Lists.{firsts}
 use Rattle.document_typing.specs.MeantTree.{MeantSet, MeantOperation, MeantFragment, MeantDocument, set_on}
 use Rattle.document_typing.specs.Meanings.{Meanings}
 use Rattle.document_typing.specs.KeptSelections.{kept_all}
+
+abbrev pub is_operation : {P : Type 0} → DefinitionTree P → Bool
+is_operation (Operation p o) = true
+is_operation _ = false
 
 -- an operation or a fragment with its place, and the type of its selections: the root, or the type condition
 pub record Based (P A : Type 0) : Type 0 where

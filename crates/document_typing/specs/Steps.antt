@@ -10,8 +10,8 @@ use Rattle.schema_types.specs.in_components.Lists.{has_name}
 use Rattle.schema_types.specs.in_components.Names.{Entries}
 use Rattle.document_typing.specs.MeantTree.{MeantDocument}
 use Rattle.document_typing.specs.Meanings.{Meanings}
-use Rattle.document_typing.specs.KeptDocument.{Based, meant_operation, meant_fragment}
-use Rattle.document_typing.specs.TypingFaults.{TypingFault, typing_fault_at, is_operation, TypeSystemDefinition, AmbiguousAnonymousOperation, OperationNameCollision, FragmentNameCollision, UndefinedRootOperation, UndefinedTypeInNamedFragmentTypeCondition}
+use Rattle.document_typing.specs.KeptDocument.{Based, meant_operation, meant_fragment, is_operation}
+use Rattle.document_typing.specs.TypingFaults.{TypingFault, typing_fault_at, TypeSystemDefinition, AmbiguousAnonymousOperation, OperationNameCollision, FragmentNameCollision, UndefinedRootOperation, UndefinedTypeInNamedFragmentTypeCondition}
 use Rattle.document_typing.specs.SetFaults.{set_faults}
 
 -- what is kept, and what is told

@@ -1,5 +1,5 @@
 -- The rules of typing, each by what breaks it in the document as read: a fault with its place and its data (GraphQL, October 2021, sections 5.1.1, 5.2.1.1, 5.2.2.1, 5.3.1, 5.3.3, 5.5.1.1 and 5.5.1.2).
-use Rattle.std.specs.Prelude.{◌≡◌, ◌↔◌, ℕ, ◌<◌, Bool, true, false, List, length, None, Some, Contains}
+use Rattle.std.specs.Prelude.{◌≡◌, ◌↔◌, ℕ, ◌<◌, true, false, List, length, None, Some, Contains}
 use Rattle.std.specs.List.{filter}
 use Rattle.tree_operations.specs.SelectionTree.{SelectionTree, FieldTree, InlineTree, SelectionTrees, selection_then, FieldHead}
 use Rattle.tree_operations.specs.OperationWritable.{has_selection}
@@ -12,7 +12,7 @@ pub use Rattle.fault_document_data.specs.DocumentBreaches.{TypingFault, Document
 use Rattle.document_typing.specs.MeantTree.{Definition}
 use Rattle.document_typing.specs.Meanings.{Meanings, inner_type}
 use Rattle.document_typing.specs.KeptSelections.{may_select}
-use Rattle.document_typing.specs.KeptDocument.{operation_name, fragment_name, kept_named, kept_operations, kept_fragments}
+use Rattle.document_typing.specs.KeptDocument.{is_operation, operation_name, fragment_name, kept_named, kept_operations, kept_fragments}
 
 -- what is wrong at a place
 abbrev pub typing_fault_at : {P : Type 0} → P → DocumentBreach P → TypingFault P
@@ -73,10 +73,6 @@ abbrev pub AreSetFaults : {P : Type 0} → Meanings → List ℕ → SelectionTr
 AreSetFaults {P} m t ts faults = (f : TypingFault P) → Contains faults f ↔ SetFails m t ts f
 
 -- ---- rules on a definition of the document, behind these
-
-abbrev pub is_operation : {P : Type 0} → DefinitionTree P → Bool
-is_operation (Operation p o) = true
-is_operation _ = false
 
 -- a document of operations and fragments alone (section 5.1.1)
 abbrev pub TypeSystemDefinitionAt : {P : Type 0} → DefinitionTree P → TypingFault P → Type 0

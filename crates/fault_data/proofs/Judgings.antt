@@ -19,7 +19,7 @@ use Rattle.rule_definitions.specs.in_schema_types.Looks.{TypeLooks, type_looks}
 use Rattle.rule_definitions.specs.in_schema_types.Addresses.{under, or_nothing, inner_name_place, field_at, value_at, input_at, listed}
 use Rattle.schema_types.proofs.UnderNames.{get_under}
 use Rattle.rule_definitions.specs.Judged.{judged}
-use Rattle.rule_definitions.specs.TypesUsed.{named_in}
+use Rattle.rule_definitions.specs.Names.{named_in}
 
 map_twice : {X Y Z : Type 0} (f : X → Y) (g : Y → Z) (o : Option X) → option_map g (option_map f o) ≡ option_map (λ x. g (f x)) o
 map_twice f g None = refl

@@ -16,7 +16,8 @@ use Rattle.graphql_faults.specs.DetailsTree.{of_typing}
 use Rattle.graphql_faults.specs.DetailsView.{diagnostics_of}
 use Rattle.graphql_validation.specs.TellsDocument.{SomeFails}
 use Rattle.verdict_definitions.specs.Texts.{SourceText, Tree}
-use Rattle.verdict_definitions.specs.Judge.{document_over, IsDocumentCertain}
+use Rattle.verdict_definitions.specs.Meaning.{document_over}
+use Rattle.verdict_definitions.specs.Judge.{IsDocumentCertain}
 use Rattle.verdict_definitions.specs.Says.{AnyFault, UnreadFault, TypingFailsOver}
 use Rattle.verdict_definitions.specs.Out.{Layout, layout_text}
 use Rattle.verdict_definitions.specs.Answer.{UnreadAlone, RefusesDocument, WritesDocument}

@@ -12,7 +12,7 @@ use Rattle.schema_building.specs.declared.refusal.BuilderRefusal.{BuilderRefusal
 use Rattle.schema_building.specs.declared.refusal.BuilderRefusal.TheVariants as builder
 use Rattle.schema_building.proofs.Numbering.{count_append}
 use Rattle.verdict_definitions.specs.Texts.{Tree}
-use Rattle.verdict_definitions.specs.Judge.{all_definitions}
+use Rattle.verdict_definitions.specs.Meaning.{all_definitions}
 use Rattle.verdict_definitions.specs.Says.{spent}
 use Rattle.graphql_checked.specs.Checking.{TellsOnly}
 use Rattle.graphql_checked.specs.Finishing.{IsFilled, RefusalOfNumbers, IsOfBuilder}

@@ -16,7 +16,7 @@ use Rattle.rule_definitions.specs.Rules.{SchemaRules, RulesFail, BoundFails}
 use Rattle.rule_definitions.specs.Told.{PlacedFault}
 use Rattle.graphql_faults.specs.DetailsTree.{of_rule, of_folding}
 use Rattle.verdict_definitions.specs.Texts.{SourceText, Tree, Terms, ReadsAll, document_number, AreRead}
-use Rattle.verdict_definitions.specs.Judge.{all_definitions, schema_of}
+use Rattle.verdict_definitions.specs.Meaning.{all_definitions, schema_of}
 use Rattle.verdict_definitions.specs.Says.{AnyFault, spent, FoldingFails, SchemaFails}
 use Rattle.verdict_definitions.specs.Answer.{UnreadFaults, RefusesSchemas}
 use Rattle.graphql_checked.specs.Added.{IsNextNumber, AreAdded}

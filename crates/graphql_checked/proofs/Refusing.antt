@@ -3,7 +3,8 @@ use Rattle.std.proofs.Common.{inl, inr, ◌≡◌, List, refl, subst}
 use Rattle.schema_building.specs.Numbers.{HaveNumbers}
 use Rattle.graphql_faults.specs.DetailsView.{diagnostics_of}
 use Rattle.verdict_definitions.specs.Texts.{SourceText, Tree, Terms, AreRead}
-use Rattle.verdict_definitions.specs.Judge.{all_definitions, AreSchemasAccepted, AreSchemasCertain}
+use Rattle.verdict_definitions.specs.Meaning.{all_definitions}
+use Rattle.verdict_definitions.specs.Judge.{AreSchemasAccepted, AreSchemasCertain}
 use Rattle.verdict_definitions.specs.Says.{AnyFault, FoldingFails, SchemaRuleFails, SchemaFails, SaysSchema}
 use Rattle.verdict_definitions.specs.Answer.{RefusesSchemas}
 use Rattle.graphql_checked.specs.Refusals.{RefusalOfSchemas}

@@ -7,7 +7,8 @@ use Rattle.schema_types.specs.SchemaTree.{SchemaTree}
 use Rattle.document_meaning.specs.MeantTree.{MeantDocument}
 use Rattle.graphql_faults.specs.DetailsView.{diagnostics_of}
 use Rattle.verdict_definitions.specs.Texts.{SourceText, Terms, document_number}
-use Rattle.verdict_definitions.specs.Judge.{schema_at_hand, IsDocumentAccepted, IsAccepted, AreSchemasCertain, IsDocumentCertain, IsCertain}
+use Rattle.verdict_definitions.specs.Meaning.{schema_at_hand}
+use Rattle.verdict_definitions.specs.Judge.{IsDocumentAccepted, IsAccepted, AreSchemasCertain, IsDocumentCertain, IsCertain}
 use Rattle.verdict_definitions.specs.Says.{AnyFault}
 use Rattle.verdict_definitions.specs.Answer.{RefusesDocument, Refuses}
 use Rattle.graphql_checked.specs.CheckerValue.{CheckerValue, CheckedSchemaValue, IsCheckedSchemaOf, IsCheckedDocumentOf}

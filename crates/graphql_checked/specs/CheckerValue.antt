@@ -5,7 +5,8 @@ use Rattle.schema_types.specs.SchemaTree.{SchemaTree}
 use Rattle.document_typing.specs.OutDoc.{written_document}
 use Rattle.document_meaning.specs.MeantTree.{MeantDocument}
 use Rattle.verdict_definitions.specs.Texts.{SourceText, Tree, Terms, ReadsText, document_number}
-use Rattle.verdict_definitions.specs.Judge.{schema_of, schema_at_hand, document_over, AreSchemasAccepted, IsDocumentAccepted}
+use Rattle.verdict_definitions.specs.Meaning.{schema_of, schema_at_hand, document_over}
+use Rattle.verdict_definitions.specs.Judge.{AreSchemasAccepted, IsDocumentAccepted}
 use Rattle.verdict_definitions.specs.Out.{Out, OutDoc, Layout}
 use Rattle.verdict_definitions.specs.Answer.{WritesDocument}
 

@@ -12,7 +12,7 @@ use Rattle.graphql_faults.specs.DetailsTree.{of_typing, of_document}
 use Rattle.graphql_faults.specs.DetailsView.{diagnostics_of}
 use Rattle.graphql_validation.specs.TellsDocument.{IsTypedUnder, SomeFails}
 use Rattle.verdict_definitions.specs.Texts.{SourceText, Tree, ReadsText, IsWithin}
-use Rattle.verdict_definitions.specs.Judge.{document_over}
+use Rattle.verdict_definitions.specs.Meaning.{document_over}
 use Rattle.verdict_definitions.specs.Says.{AnyFault, TypingFailsOver}
 use Rattle.verdict_definitions.specs.Answer.{UnreadAlone}
 use Rattle.graphql_checked.specs.CheckerValue.{CheckedSchemaValue}

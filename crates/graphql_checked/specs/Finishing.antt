@@ -18,7 +18,7 @@ use Rattle.rule_definitions.specs.Told.{PlacedFault}
 use Rattle.graphql_faults.specs.DetailsTree.{of_rule, of_folding}
 use Rattle.graphql_faults.specs.DetailsView.{diagnostics_of}
 use Rattle.verdict_definitions.specs.Texts.{Tree}
-use Rattle.verdict_definitions.specs.Judge.{all_definitions}
+use Rattle.verdict_definitions.specs.Meaning.{all_definitions}
 use Rattle.verdict_definitions.specs.Says.{AnyFault, spent}
 use Rattle.graphql_checked.specs.Checking.{TellsOnly}
 use Rattle.graphql_checked.specs.declared.refusal.Refusal.{Refusal}

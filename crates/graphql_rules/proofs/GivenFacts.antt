@@ -9,8 +9,9 @@ use Rattle.graphql_names.specs.Node.{content, place}
 use Rattle.graphql_names.specs.declared.node.Node.{Node}
 use Rattle.rule_definitions.specs.Diagnostics.{DisallowedVariableUsage}
 use Rattle.rule_definitions.specs.Faults.{wrong}
-use Rattle.rule_definitions.specs.Values.{Variables, defined_name}
-use Rattle.rule_definitions.specs.Uses.{argument_name, IsVariableUsageAllowed}
+use Rattle.rule_definitions.specs.Names.{defined_name, argument_name}
+use Rattle.rule_definitions.specs.GivenValues.{Variables}
+use Rattle.rule_definitions.specs.VariableUsage.{IsVariableUsageAllowed}
 use Rattle.rule_definitions.specs.Told.{PlacedFault}
 use Rattle.rule_uses.specs.Steps.{Lists, DisallowedUsage}
 use Rattle.rule_definitions.proofs.Firsts.{first_is_found}

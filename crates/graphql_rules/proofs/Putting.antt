@@ -26,7 +26,7 @@ use Rattle.schema_types.specs.Addresses.{under, type_at}
 use Rattle.schema_types.specs.SchemaView.{types_view, definitions_view}
 use Rattle.graphql_schema.specs.SchemaOf.{schema_tree}
 use Rattle.graphql_schema.specs.declared.schema.Schema.{Schema}
-use Rattle.rule_definitions.specs.TypesUsed.{scalar_names}
+use Rattle.rule_definitions.specs.Names.{scalar_names}
 use Rattle.rule_definitions.specs.Kept.{is_dropped, is_missing, is_inside, is_inside_arguments, is_inside_field, is_inside_type, built_in_scalar, kept, validated, is_referenced}
 use Rattle.graphql_rules.specs.Putting.{put_under, and_kept, and_missing}
 

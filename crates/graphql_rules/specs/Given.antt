@@ -20,8 +20,10 @@ use Rattle.rule_definitions.specs.Diagnostics.{DisallowedVariableUsage}
 use Rattle.rule_definitions.specs.Faults.{wrong}
 use Rattle.rule_definitions.specs.Judged.{judged}
 use Rattle.rule_definitions.specs.Words.{Present, FirstNamed}
-use Rattle.rule_definitions.specs.Values.{Variables, defined_name}
-use Rattle.rule_definitions.specs.Uses.{argument_name, IsVariableUsageAllowed, UsesBreak}
+use Rattle.rule_definitions.specs.Names.{defined_name, argument_name}
+use Rattle.rule_definitions.specs.GivenValues.{Variables}
+use Rattle.rule_definitions.specs.VariableUsage.{IsVariableUsageAllowed}
+use Rattle.rule_definitions.specs.Uses.{UsesBreak}
 use Rattle.rule_definitions.specs.Told.{PlacedFault}
 use Rattle.rule_values.specs.Wanting.{variables_of}
 use Rattle.rule_uses.specs.Trees.{tree_of}

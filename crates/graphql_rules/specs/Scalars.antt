@@ -1,6 +1,6 @@
 -- Which built-in scalars something refers to (GraphQL, October 2021, section 3.5).
 use Rattle.std.specs.Prelude.{◌≡◌, ℕ, true, List, Contains, ◌↔◌, ◌⊎◌, codes}
-use Rattle.rule_definitions.specs.TypesUsed.{scalar_names}
+use Rattle.rule_definitions.specs.Names.{scalar_names}
 use Rattle.graphql_rules.specs.declared.scalars.BuiltInScalars.{BuiltInScalars}
 
 -- this one of the five is noted

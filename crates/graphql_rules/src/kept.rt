@@ -6,7 +6,7 @@ ghost use Rattle.schema_types.specs.SchemaView.{types_view};
 ghost use Rattle.schema_types.specs.TypeView.{extended_type};
 ghost use Rattle.graphql_schema.specs.SchemaOf.{schema_tree};
 ghost use Rattle.schema_types.specs.BuiltIn.{built_in, name as bare_name};
-ghost use Rattle.rule_definitions.specs.TypesUsed.{scalar_names};
+ghost use Rattle.rule_definitions.specs.Names.{scalar_names};
 ghost use Rattle.rule_definitions.specs.Kept.{is_dropped, is_missing, built_in_scalar, validated};
 ghost use Rattle.graphql_rules.specs.Putting.{put_under, and_kept, and_missing};
 

@@ -1,6 +1,6 @@
 //! Which built-in scalars something refers to.
 ghost use Rattle.std.specs.Prelude.{◌≡◌, ◌↔◌, IsTrue, Contains};
-ghost use Rattle.rule_definitions.specs.TypesUsed.{scalar_names};
+ghost use Rattle.rule_definitions.specs.Names.{scalar_names};
 ghost use Rattle.graphql_rules.specs.Scalars.{IsNoted, Notes};
 
 use graphql_names::Name;

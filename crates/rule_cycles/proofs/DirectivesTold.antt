@@ -12,7 +12,8 @@ use Rattle.fault_data.specs.in_rule_definitions.Diagnostics.{Diagnostic, Recursi
 use Rattle.fault_data.specs.in_rule_definitions.Faults.{wrong}
 use Rattle.fault_data.specs.in_rule_definitions.Spots.{HeadAt, SpotIsAt, spot_place}
 use Rattle.fault_data.specs.in_rule_definitions.Judged.{judged}
-use Rattle.fault_data.specs.in_rule_definitions.Cycles.{Thing, ADirective, Refers, trace_of_way, reference_bound}
+use Rattle.fault_data.specs.in_rule_definitions.Things.{Thing, ADirective}
+use Rattle.fault_data.specs.in_rule_definitions.Cycles.{Refers, trace_of_way, reference_bound}
 use Rattle.rule_cycle_search.specs.Paths.{Leads, IsWay, HasNoRepeat}
 use Rattle.fault_data.specs.in_rule_definitions.Cycles as cycles
 use Rattle.schema_types.specs.Distinct.{AreAllDistinct}

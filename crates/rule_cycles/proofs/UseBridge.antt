@@ -22,8 +22,9 @@ use Rattle.fault_data.specs.in_rule_definitions.Spots.{At, spot_place}
 use Rattle.fault_data.specs.in_rule_definitions.Words.{Present, Somewhere, AtSomeIndex}
 use Rattle.fault_data.specs.in_rule_definitions.Judged.{judged, applied_directives}
 use Rattle.schema_types.specs.Distinct.{AreUnder, ArePartsDistinct, AreAllDistinct}
-use Rattle.fault_data.specs.in_rule_definitions.TypesUsed.{named_in}
-use Rattle.fault_data.specs.in_rule_definitions.Cycles.{Referring, Thing, ADirective, AType, is_a_directive, is_a_type, RefersByUse, RefersByInput, Refers}
+use Rattle.fault_data.specs.in_rule_definitions.Names.{named_in}
+use Rattle.fault_data.specs.in_rule_definitions.Things.{Thing, ADirective, AType}
+use Rattle.fault_data.specs.in_rule_definitions.Cycles.{Referring, is_a_directive, is_a_type, RefersByUse, RefersByInput, Refers}
 use Rattle.rule_cycle_search.proofs.Lists.{found_in, given_in, index_found, index_given, mapped_some, slice_get-map, only, Contains-cons, Contains-first, not_in_nil}
 use Rattle.fault_data.proofs.in_rule_definitions.Lookups.{itself, under_found, under_given}
 use Rattle.fault_data.proofs.Judgings.{type_seen, type_look, directive_look, value_look, input_look, named_unplaced, value_there, input_there}

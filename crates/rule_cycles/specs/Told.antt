@@ -7,7 +7,8 @@ use Rattle.rule_cycle_search.specs.Paths.{Leads}
 use Rattle.fault_data.specs.in_rule_definitions.Diagnostics.{RecursiveInputObjectDefinition, RecursiveDirectiveDefinition, DeeplyNestedType}
 use Rattle.fault_data.specs.in_rule_definitions.Faults.{SchemaFault}
 use Rattle.fault_data.specs.in_rule_definitions.Judged.{Judged, judged}
-use Rattle.fault_data.specs.in_rule_definitions.Cycles.{Referring, ADirective, RefersToInput, Refers, PassesReferenceBound}
+use Rattle.fault_data.specs.in_rule_definitions.Things.{ADirective}
+use Rattle.fault_data.specs.in_rule_definitions.Cycles.{Referring, RefersToInput, Refers, PassesReferenceBound}
 use Rattle.fault_data.specs.in_rule_definitions.Rules.{CyclesBreak}
 use Rattle.fault_data.specs.in_rule_definitions.Told.{PlacedFault, Told}
 

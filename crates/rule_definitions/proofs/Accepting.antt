@@ -23,11 +23,11 @@ use Rattle.schema_components.specs.Lists.{is_among}
 use Rattle.rule_cycle_search.proofs.Lists.{Contains-cons, index_found, Contains-first}
 use Rattle.rule_definitions.specs.Diagnostics.{UnsupportedValueType, IntCoercionError, UndefinedVariable, UndefinedEnumValue, UndefinedInputValue, RequiredField}
 use Rattle.rule_definitions.specs.Words.{Present, IfPresent, Lacks}
-use Rattle.rule_definitions.specs.Spots.{entry_list}
+use Rattle.rule_definitions.specs.GivenValues.{entry_list, Wanted, Variables, entry_named, is_absent_or_null, IsScalarAmong}
 use Rattle.rule_definitions.specs.Faults.{FaultAt, wrong}
 use Rattle.rule_definitions.specs.Judged.{Judged, IsBuiltInScalar, IsCustomScalar}
-use Rattle.rule_definitions.specs.TypesUsed.{named_in}
-use Rattle.rule_definitions.specs.Values.{Wanted, Variables, defined_name, entry_named, is_absent_or_null, IsScalarAmong, FitsForm, FormBreaks, TypeBreaks, TypeBreaksItems, TypeBreaksEntries, UndefinedVariableIn, UndefinedVariableInItems, UndefinedVariableInEntries, ValueBreaks}
+use Rattle.rule_definitions.specs.Names.{named_in, defined_name}
+use Rattle.rule_definitions.specs.Values.{FitsForm, FormBreaks, TypeBreaks, TypeBreaksItems, TypeBreaksEntries, UndefinedVariableIn, UndefinedVariableInItems, UndefinedVariableInEntries, ValueBreaks}
 use Rattle.rule_definitions.specs.Accepts.{HasRequired, variable_named, IsDefined, AreItemsDefined, AreEntriesDefined, Takes, TakesItems, TakesEntries, Accepts}
 use Rattle.rule_definitions.proofs.Lookups.{find_given, text_found, text_given}
 

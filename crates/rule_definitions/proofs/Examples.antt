@@ -16,8 +16,10 @@ use Rattle.rule_definitions.specs.Spots.{At}
 use Rattle.rule_definitions.specs.Faults.{SchemaFault, told, wrong}
 use Rattle.rule_definitions.specs.Judged.{Judged, applied_directives}
 use Rattle.rule_definitions.specs.Empty.{EmptyFieldSetAt}
-use Rattle.rule_definitions.specs.Interfaces.{is_valid_type, InvalidImplementationFieldTypeAt}
-use Rattle.rule_definitions.specs.Cycles.{Referring, Thing, ADirective, RefersByUse, RefersByInput, Refers, RecursiveInputObjectDefinitionAt}
+use Rattle.rule_definitions.specs.Subtypes.{is_valid_type}
+use Rattle.rule_definitions.specs.Interfaces.{InvalidImplementationFieldTypeAt}
+use Rattle.rule_definitions.specs.Things.{Thing, ADirective}
+use Rattle.rule_definitions.specs.Cycles.{Referring, RefersByUse, RefersByInput, Refers, RecursiveInputObjectDefinitionAt}
 use Rattle.rule_definitions.specs.Accepts.{Accepts}
 
 -- ---- what schemas are made of

@@ -22,7 +22,7 @@ use Rattle.schema_types.specs.Plain.{PlainType, plain_type, plain_directive_defi
 use Rattle.schema_types.specs.Looks.{TypeLooks, type_looks}
 use Rattle.rule_definitions.specs.Words.{Somewhere, AtSomeIndex}
 use Rattle.rule_definitions.specs.Judged.{judged}
-use Rattle.rule_definitions.specs.TypesUsed.{named_in}
+use Rattle.rule_definitions.specs.Names.{named_in}
 use Rattle.rule_definitions.specs.Kept.{is_inside, is_inside_arguments, is_inside_field, is_inside_type, is_referenced, AreDistinct, IsReferenced}
 
 no_true : {A : Type 0} → false ≡ true → A

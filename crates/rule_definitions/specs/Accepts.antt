@@ -15,8 +15,8 @@ use Rattle.schema_types.specs.Looks.{TypeLooks}
 use Rattle.schema_types.specs.declared.type_kind.TypeKind.TheVariants as kind
 use Rattle.rule_definitions.specs.Words.{Present, IfPresent}
 use Rattle.rule_definitions.specs.Judged.{Judged, IsBuiltInScalar, IsCustomScalar}
-use Rattle.rule_definitions.specs.TypesUsed.{named_in}
-use Rattle.rule_definitions.specs.Values.{Variables, defined_name, entry_named, is_absent_or_null, IsScalarAmong}
+use Rattle.rule_definitions.specs.Names.{named_in, defined_name}
+use Rattle.rule_definitions.specs.GivenValues.{Variables, entry_named, is_absent_or_null, IsScalarAmong}
 
 -- each required field of the input object is given, and not as null (section 5.6.4)
 abbrev pub HasRequired : {P : Type 0} → TypeLooks → EntryTrees P → Type 0

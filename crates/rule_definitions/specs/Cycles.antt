@@ -12,7 +12,8 @@ use Rattle.rule_definitions.specs.Words.{Present, Somewhere, AtSomeIndex}
 use Rattle.rule_definitions.specs.Spots.{Spot, At, HeadAt}
 use Rattle.rule_definitions.specs.Faults.{SchemaFault, wrong}
 use Rattle.rule_definitions.specs.Judged.{Judged, applied_directives}
-use Rattle.rule_definitions.specs.TypesUsed.{named_in}
+use Rattle.rule_definitions.specs.Names.{named_in}
+use Rattle.rule_definitions.specs.Things.{Thing, ADirective, AType}
 
 -- the greatest number of directives, or of types, on a way
 abbrev pub reference_bound : ℕ
@@ -21,11 +22,6 @@ reference_bound = 32
 -- a node that refers, with the spot at which it stands
 abbrev pub Referring : Type 0 → Type 0
 Referring A = Placed Spot A
-
--- a directive, or a type
-pub data Thing : Type 0 where
-  ADirective : (name : List ℕ) → Thing
-  AType : (name : List ℕ) → Thing
 
 abbrev pub is_a_directive : Thing → Bool
 is_a_directive (ADirective n) = true

@@ -1,10 +1,7 @@
 -- Rules on types that implement interfaces (GraphQL, October 2021, sections 3.6 and 3.7; IsValidImplementation stands in 3.6).
-use Rattle.std.specs.Prelude.{◌≡◌, ◌≢◌, ℕ, Bool, true, false, ◌&&◌, ◌||◌, List, None, bytes_eq}
-use Rattle.std.specs.Option.{option_map_or}
-use Rattle.tree_literals.specs.TypeTree.{TypeTree, NamedTree, NonNullNamedTree, ListTree, NonNullListTree}
+use Rattle.std.specs.Prelude.{◌≡◌, ◌≢◌, ℕ, true, false, List, None}
 use Rattle.tree_directives.specs.DirectiveQueries.{is_required_input}
 use Rattle.tree_type_members.specs.TypeSystemTree.{FieldDefinitionTree}
-use Rattle.schema_types.specs.SchemaTree.{same_kind}
 use Rattle.schema_types.specs.Looks.{TypeLooks}
 use Rattle.schema_types.specs.Addresses.{TypeAt, FieldAt, ImplementsAt, ArgumentAt}
 use Rattle.schema_types.specs.declared.type_kind.TypeKind.TheVariants as kind
@@ -12,23 +9,9 @@ use Rattle.rule_definitions.specs.Diagnostics.{UndefinedDefinition, RecursiveInt
 use Rattle.rule_definitions.specs.Words.{Present, Somewhere, Among, AtSomeIndex, FirstNamed, Lacks}
 use Rattle.rule_definitions.specs.Faults.{SchemaFault, told}
 use Rattle.rule_definitions.specs.Judged.{Judged, AtType}
+use Rattle.rule_definitions.specs.Subtypes.{is_valid_type}
 
 module _ (s : Judged) where
-  -- what is named t is a member of the union n, or names the interface n among its interfaces (IsSubType, section 3.6)
-  abbrev pub is_subtype : List ℕ → List ℕ → Bool
-  is_subtype n t = option_map_or (λ a. (same_kind a.kind kind.Union && a.has_member t)
-      || (same_kind a.kind kind.Interface && option_map_or (λ b. b.implements n) (s.type_named t) false)) (s.type_named n) false
-
-  -- a field of the second type serves where an interface has one of the first (IsValidImplementationFieldType, section 3.6)
-  abbrev pub is_valid_type : TypeTree (Unit {0}) → TypeTree (Unit {0}) → Bool
-  is_valid_type (NamedTree wanted) (NamedTree n) = bytes_eq wanted.it n.it || is_subtype wanted.it n.it
-  is_valid_type (NamedTree wanted) (NonNullNamedTree n) = bytes_eq wanted.it n.it || is_subtype wanted.it n.it
-  is_valid_type (NonNullNamedTree wanted) (NonNullNamedTree n) = bytes_eq wanted.it n.it || is_subtype wanted.it n.it
-  is_valid_type (ListTree wanted) (ListTree t) = is_valid_type wanted t
-  is_valid_type (ListTree wanted) (NonNullListTree t) = is_valid_type wanted t
-  is_valid_type (NonNullListTree wanted) (NonNullListTree t) = is_valid_type wanted t
-  is_valid_type _ _ = false
-
   -- ---- at some place
 
   -- type n implements the interface i, which is there

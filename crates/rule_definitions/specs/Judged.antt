@@ -4,11 +4,14 @@ use Rattle.std.specs.Prelude.{◌≡◌, ℕ, Bool, true, false, ◌&&◌, List,
 use Rattle.graphql_names.specs.Placed.{Place}
 use Rattle.graphql_names.specs.Places.{is_built_in}
 use Rattle.tree_directives.specs.DirectiveTree.{DirectiveTree, Directives, InputValueTree, InputValues, DirectiveDefinitionTree}
+use Rattle.tree_directives.specs.declared.directive_location.DirectiveLocation.{DirectiveLocation}
+use Rattle.tree_directives.specs.declared.directive_location.DirectiveLocation.TheVariants as location
 use Rattle.tree_type_members.specs.TypeSystemTree.{FieldDefinitionTree, EnumValueTree}
 use Rattle.schema_types.specs.SchemaTree.{SchemaTree, SchemaType, same_kind}
 use Rattle.schema_types.specs.Plain.{PlainRoots, plain}
 use Rattle.schema_types.specs.Looks.{TypeLooks, Looks, looks}
 use Rattle.schema_types.specs.Addresses.{Address, TypeAt, FieldAt, InputAt, DirectiveDefinitionAt, ArgumentAt, is_marked}
+use Rattle.schema_types.specs.declared.type_kind.TypeKind.{TypeKind}
 use Rattle.schema_types.specs.declared.type_kind.TypeKind.TheVariants as kind
 use Rattle.rule_definitions.specs.Words.{Somewhere, AtSomeIndex}
 
@@ -28,6 +31,15 @@ judged s = judged_by (looks (plain s)) (is_marked s)
 -- directives that are applied, in order
 abbrev pub applied_directives : Directives (Unit {0}) → List (DirectiveTree (Unit {0}))
 applied_directives ds = map (λ d. d.it) ds
+
+-- the location at which a type's directives stand
+abbrev pub type_location : TypeKind → DirectiveLocation
+type_location kind.Scalar = location.Scalar
+type_location kind.Object = location.Object
+type_location kind.Interface = location.Interface
+type_location kind.Union = location.Union
+type_location kind.Enum = location.Enum
+type_location kind.InputObject = location.InputObject
 
 -- ---- scalars
 

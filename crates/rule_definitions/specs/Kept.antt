@@ -15,7 +15,7 @@ use Rattle.schema_types.specs.Addresses.{type_at}
 use Rattle.schema_types.specs.declared.type_kind.TypeKind.TheVariants as kind
 use Rattle.rule_definitions.specs.Words.{Present}
 use Rattle.rule_definitions.specs.Judged.{Judged, AtField, AtInputValue, IsBuiltInScalar}
-use Rattle.rule_definitions.specs.TypesUsed.{named_in, scalar_names}
+use Rattle.rule_definitions.specs.Names.{named_in, scalar_names}
 
 -- ---- on entries
 

@@ -8,7 +8,8 @@ use Rattle.schema_types.specs.Plain.{plain}
 use Rattle.schema_types.specs.Addresses.{Address, is_marked}
 use Rattle.rule_definitions.specs.Faults.{SchemaFault}
 use Rattle.rule_definitions.specs.Judged.{Judged, judged}
-use Rattle.rule_definitions.specs.Values.{Wanted, Variables, KeepsValueRules}
+use Rattle.rule_definitions.specs.GivenValues.{Wanted, Variables}
+use Rattle.rule_definitions.specs.Values.{KeepsValueRules}
 use Rattle.rule_definitions.specs.Accepts.{Accepts}
 use Rattle.rule_definitions.specs.Rules.{Breaks, SchemaRules}
 

@@ -1,8 +1,14 @@
 pub mod Words
 pub mod Diagnostics
+pub mod Judged
+pub mod Names
+pub mod GivenValues
+pub mod VariableUsage
+pub mod RootTypes
+pub mod Subtypes
+pub mod Things
 pub mod Spots
 pub mod Faults
-pub mod Judged
 pub mod Roots
 pub mod ReservedNames
 pub mod TypesUsed

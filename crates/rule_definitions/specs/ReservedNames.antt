@@ -1,15 +1,11 @@
 -- Names that begin with `__` are reserved for introspection (GraphQL, October 2021, section 2.1.9).
-use Rattle.std.specs.Prelude.{◌≡◌, ℕ, Bool, true, false, List, ◌∷◌, ◌==◌, ◌&&◌, codes, ◌⊎◌}
+use Rattle.std.specs.Prelude.{◌≡◌, ℕ, true, false, List, codes, ◌⊎◌}
 use Rattle.schema_types.specs.SchemaTree.{kind_words}
 use Rattle.schema_types.specs.Addresses.{Address, TypeAt, FieldAt, ValueAt, InputAt, DirectiveDefinitionAt, NameAt}
 use Rattle.rule_definitions.specs.Diagnostics.{ReservedName}
 use Rattle.rule_definitions.specs.Faults.{SchemaFault, told}
 use Rattle.rule_definitions.specs.Judged.{Judged, AtType, AtField, AtValue, AtInputField, AtArgument, AtDirectiveDefinition}
-
--- the name begins with `__`
-abbrev pub is_reserved : List ℕ → Bool
-is_reserved (a ∷ b ∷ rest) = (a == 95) && (b == 95)
-is_reserved _ = false
+use Rattle.rule_definitions.specs.Names.{is_reserved}
 
 module _ (s : Judged) (fault : SchemaFault) where
   -- what stands there is not built in and has this name, which is reserved

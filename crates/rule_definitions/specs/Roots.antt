@@ -1,24 +1,14 @@
 -- Rules on the root operations (GraphQL, October 2021, section 3.3.1).
-use Rattle.std.specs.Prelude.{◌≡◌, ◌≢◌, ℕ, List, [], ◌∷◌, map, Option, None, option_to_list, flat_map}
+use Rattle.std.specs.Prelude.{◌≡◌, ◌≢◌, None}
 use Rattle.tree_directives.specs.declared.operation_type.OperationType.{OperationType}
-use Rattle.tree_directives.specs.declared.operation_type.OperationType.TheVariants as operation
 use Rattle.schema_types.specs.SchemaTree.{kind_words}
-use Rattle.schema_types.specs.Plain.{PlainRoots}
 use Rattle.schema_types.specs.Addresses.{SchemaAt, RootAt}
 use Rattle.schema_types.specs.declared.type_kind.TypeKind.TheVariants as kind
 use Rattle.rule_definitions.specs.Diagnostics.{QueryRootOperationType, UndefinedDefinition, RootOperationObjectType, DuplicateRootOperationType}
 use Rattle.rule_definitions.specs.Words.{Present, Repeats}
 use Rattle.rule_definitions.specs.Faults.{SchemaFault, told}
 use Rattle.rule_definitions.specs.Judged.{Judged}
-
-abbrev pub root_type_of : PlainRoots → OperationType → Option (List ℕ)
-root_type_of roots operation.Query = roots.query
-root_type_of roots operation.Mutation = roots.mutation
-root_type_of roots operation.Subscription = roots.subscription
-
--- the roots that are there, in the order query, mutation, subscription
-abbrev pub root_types_in : PlainRoots → List (OperationType × List ℕ)
-root_types_in roots = flat_map (λ o. map (λ n. (o, n)) (option_to_list (root_type_of roots o))) (operation.Query ∷ operation.Mutation ∷ operation.Subscription ∷ [])
+use Rattle.rule_definitions.specs.RootTypes.{root_type_of, root_types_in}
 
 module _ (s : Judged) (fault : SchemaFault) where
   -- QueryRootOperationType: the query root must be given

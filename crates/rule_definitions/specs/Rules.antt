@@ -9,12 +9,10 @@ use Rattle.schema_components.specs.Lists.{firsts}
 use Rattle.schema_components.specs.Given.{Given, ExtensionTree}
 use Rattle.schema_types.specs.SchemaTree.{SchemaType, SchemaTree}
 use Rattle.schema_types.specs.Addresses.{Address, SchemaAt, DirectiveDefinitionAt, TypeAt, FieldAt, ValueAt, InputAt, type_at}
-use Rattle.schema_types.specs.declared.type_kind.TypeKind.{TypeKind}
-use Rattle.schema_types.specs.declared.type_kind.TypeKind.TheVariants as kind
 use Rattle.rule_definitions.specs.Diagnostics.{map_places}
 use Rattle.rule_definitions.specs.Spots.{At, spotted_directives, spot_place, SpotIsAt}
 use Rattle.rule_definitions.specs.Faults.{FaultAt, SchemaFault}
-use Rattle.rule_definitions.specs.Judged.{Judged, judged, applied_directives, IsBuiltInScalar, AtType, AtField, AtValue, AtInputField, AtArgument, AtDirectiveDefinition}
+use Rattle.rule_definitions.specs.Judged.{Judged, judged, applied_directives, type_location, IsBuiltInScalar, AtType, AtField, AtValue, AtInputField, AtArgument, AtDirectiveDefinition}
 use Rattle.rule_definitions.specs.Roots.{QueryRootOperationTypeAt, UndefinedRootAt, RootOperationObjectTypeAt, DuplicateRootOperationTypeAt}
 use Rattle.rule_definitions.specs.ReservedNames.{ReservedNameAt}
 use Rattle.rule_definitions.specs.TypesUsed.{UndefinedFieldTypeAt, UndefinedInputTypeAt, UndefinedMemberAt, OutputTypeAt, InputTypeAt, UnionMemberObjectTypeAt, UniqueArgumentDefinitionAt}
@@ -22,15 +20,6 @@ use Rattle.rule_definitions.specs.Empty.{EmptyFieldSetAt, EmptyValueSetAt, Empty
 use Rattle.rule_definitions.specs.Interfaces.{UndefinedInterfaceAt, RecursiveInterfaceDefinitionAt, TransitiveImplementedInterfacesAt, MissingInterfaceFieldAt, InvalidImplementationFieldTypeAt, MissingInterfaceFieldArgumentAt, InvalidImplementationFieldArgumentTypeAt, ExtraRequiredImplementationFieldArgumentAt}
 use Rattle.rule_definitions.specs.Cycles.{RecursiveInputObjectDefinitionAt, RecursiveDirectiveDefinitionAt, PassesReferenceBound}
 use Rattle.rule_definitions.specs.Uses.{UsesBreak}
-
--- the location at which a type's directives stand
-abbrev pub type_location : TypeKind → DirectiveLocation
-type_location kind.Scalar = location.Scalar
-type_location kind.Object = location.Object
-type_location kind.Interface = location.Interface
-type_location kind.Union = location.Union
-type_location kind.Enum = location.Enum
-type_location kind.InputObject = location.InputObject
 
 module _ (s : Judged) where
   -- at some place where directives are applied, but on a built-in scalar or the definition of a built-in directive

@@ -7,6 +7,7 @@ use Rattle.tree_literals.specs.ValueQueries.{list_items, object_entries}
 use Rattle.tree_directives.specs.DirectiveTree.{ArgumentTree, DirectiveTree, Directives}
 use Rattle.schema_types.specs.SchemaTree.{SchemaTree}
 use Rattle.schema_types.specs.Addresses.{Address, DirectiveDefinitionAt, NameAt, DirectiveAt, GivenAt, GivenValueAt, place_at, given_at}
+use Rattle.rule_definitions.specs.GivenValues.{entry_list}
 
 pub data Spot : Type 0 where
   At : Address → Spot
@@ -70,11 +71,6 @@ abbrev pub item_of : {P : Type 0} → ItemTrees P → ℕ → Option (Placed P (
 item_of no_items i = None
 item_of (item_then p v ts) zero = Some (record { it = v; place = p })
 item_of (item_then p v ts) (suc i) = item_of ts i
-
--- the keys and values of an object, in order
-abbrev pub entry_list : {P : Type 0} → EntryTrees P → List (Text P × Placed P (ValueTree P))
-entry_list no_entries = []
-entry_list (entry_then n p v ts) = (n, record { it = v; place = p }) ∷ entry_list ts
 
 module _ (s : SchemaTree Place) where
   -- the value that is written there

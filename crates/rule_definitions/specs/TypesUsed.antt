@@ -1,7 +1,6 @@
 -- Rules on the types that fields, input values and unions name (GraphQL, October 2021, sections 3.4.2, 3.6, 3.8, 3.10).
-use Rattle.std.specs.Prelude.{◌≡◌, ◌≢◌, ℕ, false, List, [], ◌∷◌, codes, Contains, None}
+use Rattle.std.specs.Prelude.{◌≡◌, ◌≢◌, false, Contains, None}
 use Rattle.tree_literals.specs.TypeTree.{TypeTree}
-use Rattle.tree_literals.specs.TypeQueries.{inner_name}
 use Rattle.schema_types.specs.SchemaTree.{kind_words, is_input_kind, is_output_kind}
 use Rattle.schema_types.specs.Addresses.{Address, FieldAt, MemberAt, TypeNameAt, TypeReferenceAt, ArgumentAt}
 use Rattle.schema_types.specs.declared.type_kind.TypeKind.TheVariants as kind
@@ -9,14 +8,7 @@ use Rattle.rule_definitions.specs.Diagnostics.{UndefinedDefinition, OutputType, 
 use Rattle.rule_definitions.specs.Words.{Present, Among, Repeats}
 use Rattle.rule_definitions.specs.Faults.{SchemaFault, told}
 use Rattle.rule_definitions.specs.Judged.{Judged, AtType, AtField, AtInputValue, AtArguments}
-
--- the names of the five built-in scalars (section 3.5)
-abbrev pub scalar_names : List (List ℕ)
-scalar_names = codes "Int" ∷ codes "Float" ∷ codes "String" ∷ codes "Boolean" ∷ codes "ID" ∷ []
-
--- the name inside a reference to a type
-abbrev pub named_in : TypeTree (Unit {0}) → List ℕ
-named_in ty = (inner_name ty).it
+use Rattle.rule_definitions.specs.Names.{scalar_names, named_in}
 
 module _ (s : Judged) (fault : SchemaFault) where
   -- the type of this reference is not there, and is none of the five

@@ -1,20 +1,21 @@
 -- Rules on the use of directives and arguments (GraphQL, October 2021, sections 5.4, 5.7 and 5.8.5), of a schema or of a document, as in Values.
-use Rattle.std.specs.Prelude.{◌≡◌, ℕ, true, false, is_some, List, Contains, None, ◌⊎◌}
+use Rattle.std.specs.Prelude.{◌≡◌, ℕ, true, false, List, Contains, None, ◌⊎◌}
 use Rattle.graphql_names.specs.Placed.{Placed}
 use Rattle.tree_literals.specs.TypeTree.{unplaced_type}
-use Rattle.tree_literals.specs.TypeQueries.{has_mark, nullable_type, AreTypesCompatible}
 use Rattle.tree_literals.specs.ValueQueries.{variable_name}
 use Rattle.tree_directives.specs.DirectiveTree.{ArgumentTree, Arguments, DirectiveTree, Directives, InputValueTree, InputValues}
 use Rattle.tree_directives.specs.DirectiveQueries.{is_required_input, given_value}
 use Rattle.tree_directives.specs.declared.directive_location.DirectiveLocation.{DirectiveLocation}
-use Rattle.tree_operations.specs.OperationTree.{VariableDefinitionTree}
 use Rattle.schema_coordinates.specs.Coordinate.{Coordinate, OfDirective, OfDirectiveArgument}
 use Rattle.schema_types.specs.Addresses.{Address, DirectiveDefinitionAt, ArgumentAt, TypeReferenceAt}
 use Rattle.rule_definitions.specs.Diagnostics.{UndefinedDirective, UniqueDirective, UnsupportedLocation, UniqueArgument, UndefinedArgument, RequiredArgument, DisallowedVariableUsage}
 use Rattle.rule_definitions.specs.Words.{Present, AtSomeIndex, Lacks, IsFirst, FirstNamed, Repeats}
 use Rattle.rule_definitions.specs.Faults.{FaultAt, wrong}
 use Rattle.rule_definitions.specs.Judged.{Judged}
-use Rattle.rule_definitions.specs.Values.{Variables, defined_name, is_absent_or_null, UniqueInputValueIn, UndefinedVariableIn, TypeBreaks}
+use Rattle.rule_definitions.specs.Names.{argument_name, input_name, directive_name, defined_name}
+use Rattle.rule_definitions.specs.GivenValues.{Variables, is_absent_or_null}
+use Rattle.rule_definitions.specs.Values.{UniqueInputValueIn, UndefinedVariableIn, TypeBreaks}
+use Rattle.rule_definitions.specs.VariableUsage.{IsVariableUsageAllowed}
 
 -- what takes arguments: a use of a directive, or a field
 pub record Taker (P : Type 0) : Type 0 where
@@ -29,23 +30,6 @@ pub record Taker (P : Type 0) : Type 0 where
   pub argument_coordinate : List ℕ → Coordinate
 
 module _ {P : Type 0} where
-  abbrev pub argument_name : Placed P (ArgumentTree P) → List ℕ
-  argument_name a = a.it.name.it
-
-  abbrev pub input_name : Placed P (InputValueTree P) → List ℕ
-  input_name v = v.it.name.it
-
-  abbrev pub directive_name : Placed P (DirectiveTree P) → List ℕ
-  directive_name d = d.it.name.it
-
-  -- a variable may stand where the argument is asked for (IsVariableUsageAllowed, section 5.8.5): a nullable one fits a non-null place only
-  -- with a default on either side
-  abbrev pub IsVariableUsageAllowed : VariableDefinitionTree P → InputValueTree (Unit {0}) → Type 0
-  IsVariableUsageAllowed x v =
-      AreTypesCompatible (unplaced_type x.ty.it) v.ty.it
-      ⊎ (((has_mark x.ty.it ≡ false) × (has_mark v.ty.it ≡ true))
-      × (((is_some x.default_value ≡ true) ⊎ (is_some v.default_value ≡ true)) × AreTypesCompatible (unplaced_type x.ty.it) (nullable_type v.ty.it)))
-
   -- the use of a directive as what takes arguments
   abbrev pub directive_taker : Placed P (DirectiveTree P) → InputValues (Unit {0}) → Taker P
   directive_taker d definitions = record {

@@ -1,14 +1,12 @@
 -- Rules on values (GraphQL, October 2021, sections 3.5 to 3.10, 5.6 and 5.8.3), of a schema or of a document: a value has a P for
 -- each place in it, `at` gives one for each address of the schema, and variables are those of an operation, or none.
-use Rattle.std.specs.Prelude.{◌≡◌, ℕ, ◌<◌, Bool, true, false, List, [], ◌∷◌, codes, Contains, find, bytes_eq, Option, None, Some, option_map, FitsSigned, ◌⊎◌}
+use Rattle.std.specs.Prelude.{◌≡◌, ℕ, ◌<◌, true, false, List, [], ◌∷◌, codes, Contains, find, bytes_eq, None, Some, FitsSigned, ◌⊎◌}
 use Rattle.std.proofs.Common.{w32}
-use Rattle.std.specs.Option.{option_map_or}
 use Rattle.graphql_names.specs.Placed.{Placed}
-use Rattle.tree_literals.specs.TypeTree.{TypeTree}
 use Rattle.tree_literals.specs.TypeQueries.{has_mark, is_list_type, item_type_of, inner_name}
 use Rattle.tree_literals.specs.NumberSyntax.{integer_value}
 use Rattle.tree_literals.specs.ValueTree.{ValueTree, ItemTrees, EntryTrees, NullTree, EnumTree, VariableTree, StringTree, FloatTree, IntTree, BooleanTree, ListTree, ObjectTree, no_items, item_then, no_entries, entry_then, unplaced_value}
-use Rattle.tree_literals.specs.ValueQueries.{is_null_value, enum_name, integer_text, object_entries}
+use Rattle.tree_literals.specs.ValueQueries.{enum_name, integer_text, object_entries}
 use Rattle.tree_directives.specs.DirectiveQueries.{is_required_input}
 use Rattle.tree_operations.specs.OperationTree.{VariableDefinitionTree}
 use Rattle.schema_coordinates.specs.Coordinate.{OfAttribute}
@@ -17,35 +15,14 @@ use Rattle.schema_types.specs.Addresses.{Address, TypeAt, InputAt, TypeReference
 use Rattle.schema_types.specs.declared.type_kind.TypeKind.TheVariants as kind
 use Rattle.rule_definitions.specs.Diagnostics.{UnsupportedValueType, IntCoercionError, UndefinedVariable, UndefinedEnumValue, UndefinedInputValue, RequiredField, UniqueInputValue}
 use Rattle.rule_definitions.specs.Words.{Present, Somewhere, AtSomeIndex, Lacks, Repeats}
-use Rattle.rule_definitions.specs.Spots.{entry_list}
+use Rattle.rule_definitions.specs.GivenValues.{Wanted, wanted_name, Variables, entry_list, entry_named, is_absent_or_null, IsScalarAmong}
 use Rattle.rule_definitions.specs.Faults.{FaultAt, wrong}
 use Rattle.rule_definitions.specs.Judged.{Judged, IsBuiltInScalar, IsCustomScalar}
-
--- a reference to a type, with what stands for its place
-abbrev pub Wanted : Type 0 → Type 0
-Wanted P = Placed P (TypeTree (Unit {0}))
-
-abbrev pub wanted_name : {P : Type 0} → Wanted P → List ℕ
-wanted_name ty = (inner_name ty.it).it
+use Rattle.rule_definitions.specs.Names.{defined_name}
 
 -- the type of the items of such a list
 abbrev pub wanted_item : {P : Type 0} → Wanted P → Wanted P
 wanted_item ty = record { it = item_type_of ty.it; place = ty.place }
-
--- the variables of an operation, in order
-abbrev pub Variables : Type 0 → Type 0
-Variables P = List (Placed P (VariableDefinitionTree P))
-
-abbrev pub defined_name : {P : Type 0} → Placed P (VariableDefinitionTree P) → List ℕ
-defined_name v = v.it.name.it
-
--- the entries of an object are of these, by name: the first of each counts
-abbrev pub entry_named : {P : Type 0} → List ℕ → EntryTrees P → Option (Placed P (ValueTree P))
-entry_named n es = option_map (λ e. e.1) (find (λ e. bytes_eq e.0.it n) (entry_list es))
-
--- there is no such value, or it is the literal null
-abbrev pub is_absent_or_null : {P : Type 0} → Option (Placed P (ValueTree P)) → Bool
-is_absent_or_null v = option_map_or (λ x. is_null_value x.it) v true
 
 module _ {P E : Type 0} where
   -- UniqueInputValue: the keys of an object differ, at any depth of a value (section 5.6.3)
@@ -82,10 +59,6 @@ module _ {P E : Type 0} (variables : Variables P) where
     UndefinedVariableInEntries (entry_then n p v es) fault = UndefinedVariableIn p v fault ⊎ UndefinedVariableInEntries es fault
 
 -- ---- one value against the type it is given for, what is inside a list or an object aside
-
--- a custom scalar, or a built-in one of these names
-abbrev pub IsScalarAmong : Judged → List (List ℕ) → List ℕ → TypeLooks → Type 0
-IsScalarAmong s names n t = IsCustomScalar s n t ⊎ (IsBuiltInScalar s n t × Contains names n)
 
 module _ {P : Type 0} (s : Judged) (variables : Variables P) (ty : Wanted P) (t : TypeLooks) where
   -- the form of the value fits the type of which t stands inside all brackets

@@ -11,7 +11,8 @@ use Rattle.rule_definitions.proofs.Lists.{only}
 use Rattle.rule_document_definitions.specs.DocumentFaults.{Broken, broken}
 use Rattle.rule_document_definitions.specs.Selected.{Standing, SelectionAt}
 use Rattle.rule_document_definitions.specs.Reached.{first, next}
-use Rattle.rule_document_definitions.specs.Defer.{LabelsBreak, DeferLabelMustNotBeVariableAt, DuplicateDeferLabelAt, DeferOnRootMutationOrSubscriptionFieldAt, DeferInSubscriptionMustBeConditionalAt, MayBeLeftOut, ReachedAlways, IsConditional, defers, string_labels}
+use Rattle.rule_document_definitions.specs.DeferUses.{MayBeLeftOut, ReachedAlways, IsConditional, defers, string_labels}
+use Rattle.rule_document_definitions.specs.Defer.{LabelsBreak, DeferLabelMustNotBeVariableAt, DuplicateDeferLabelAt, DeferOnRootMutationOrSubscriptionFieldAt, DeferInSubscriptionMustBeConditionalAt}
 use Rattle.rule_document_definitions.proofs.MergingFacts.{closed_within}
 use Rattle.rule_document_definitions.proofs.RowWords.{not_present, not_at_index, at_only, none_before, one_repeats, none_reached}
 use Rattle.rule_document_definitions.proofs.RowParts.{at, query_name, a_name, v_name, of_type, headed, leaf, inline_with, operation_of, query_of, alone, given, applied, at_root, stand_at, root}

@@ -3,7 +3,7 @@ use Rattle.std.proofs.Common.{ℕ, List, Option, sym, subst, ◌∙◌, inl, inr
 use Rattle.tree_literals.specs.ValueTree.{ItemTrees}
 use Rattle.rule_definitions.specs.Judged.{Judged}
 use Rattle.rule_document_definitions.specs.Selected.{StandingField}
-use Rattle.rule_document_definitions.specs.Fragments.{IsComposite}
+use Rattle.rule_document_definitions.specs.PossibleTypes.{IsComposite}
 use Rattle.rule_document_definitions.specs.SameValues.{Plain, SameValue, same_null, same_enum, same_variable, same_string, same_float, same_int, same_boolean, same_list, same_object, SameItems, no_more, both_then, SameGiven, neither, both}
 use Rattle.rule_document_definitions.specs.Merging.{SameInner, SameShape, SameNameAndArguments}
 

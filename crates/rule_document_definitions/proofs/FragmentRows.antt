@@ -9,7 +9,8 @@ use Rattle.rule_definitions.specs.Faults.{FaultAt, wrong}
 use Rattle.rule_definitions.proofs.Lists.{only}
 use Rattle.rule_document_definitions.specs.Selected.{Standing, InFragment, own, spread_name, fragment_named}
 use Rattle.rule_document_definitions.specs.Reached.{first, ReachesFragment}
-use Rattle.rule_document_definitions.specs.Fragments.{UndefinedFragmentAt, RecursiveFragmentDefinitionAt, UnusedFragmentAt, InvalidFragmentTargetAt, InvalidFragmentSpreadAt, MayApply, CanBe, RefersBySpread, as_spread}
+use Rattle.rule_document_definitions.specs.PossibleTypes.{MayApply, CanBe}
+use Rattle.rule_document_definitions.specs.Fragments.{UndefinedFragmentAt, RecursiveFragmentDefinitionAt, UnusedFragmentAt, InvalidFragmentTargetAt, InvalidFragmentSpreadAt, RefersBySpread, as_spread}
 use Rattle.rule_document_definitions.proofs.Levels.{up_to, in_selection, reached_in}
 use Rattle.rule_document_definitions.proofs.RowWords.{of_present, not_present, of_each, none_reached, no_fragment}
 use Rattle.rule_document_definitions.proofs.RowParts.{by_numbers, small, types, of_look, query_name, int_name, a_name, f_name, query_type, int_type, c_type, leaf, p_field, inline_on, spread, query_of, fragment_of, alone, beside, at_root, stand_at}

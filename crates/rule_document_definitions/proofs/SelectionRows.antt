@@ -5,8 +5,8 @@ use Rattle.schema_coordinates.specs.Coordinate.{OfAttribute}
 use Rattle.document_meaning.specs.MeantTree.{MeantOperation}
 use Rattle.rule_definitions.specs.Diagnostics.{MissingSubselection, UndefinedDirective, UndefinedArgument, UniqueInputValue, UndefinedVariable}
 use Rattle.rule_definitions.specs.Faults.{FaultAt, wrong}
-use Rattle.rule_definitions.specs.Spots.{entry_list}
-use Rattle.rule_definitions.specs.Uses.{argument_name, directive_name}
+use Rattle.rule_definitions.specs.GivenValues.{entry_list}
+use Rattle.rule_definitions.specs.Names.{argument_name, directive_name}
 use Rattle.rule_document_definitions.specs.Selected.{StandingField}
 use Rattle.rule_document_definitions.specs.Reached.{first}
 use Rattle.rule_document_definitions.specs.Selections.{MissingSubselectionAt, FieldArgumentsBreak, DirectivesBreak}

@@ -10,11 +10,11 @@ use Rattle.tree_literals.specs.ValueTree.{ItemTrees, EntryTrees, NullTree, EnumT
 use Rattle.document_meaning.specs.MeantTree.{MeantOperation, MeantDocument}
 use Rattle.rule_definitions.specs.Words.{Present}
 use Rattle.rule_definitions.specs.Judged.{Judged}
-use Rattle.rule_definitions.specs.TypesUsed.{named_in}
-use Rattle.rule_definitions.specs.Spots.{entry_list}
+use Rattle.rule_definitions.specs.Names.{named_in}
+use Rattle.rule_definitions.specs.GivenValues.{entry_list}
 use Rattle.rule_document_definitions.specs.DocumentFaults.{Broken}
 use Rattle.rule_document_definitions.specs.Selected.{StandingField}
-use Rattle.rule_document_definitions.specs.Fragments.{IsComposite, IsCompositeType}
+use Rattle.rule_document_definitions.specs.PossibleTypes.{IsComposite, IsCompositeType}
 use Rattle.rule_document_definitions.specs.SameValues.{Plain, under_key, plain_given, SameValue, same_null, same_enum, same_variable, same_string, same_float, same_int, same_boolean, same_list, same_object, SameItems, no_more, both_then, SameGiven, neither, both}
 use Rattle.rule_document_definitions.specs.Merging.{lists_and_marks, SameInner, SameShape, FieldsMerge, MergingBreaks}
 use Rattle.rule_document_definitions.proofs.MergingFacts.{merging_breaks_nothing}

@@ -10,7 +10,8 @@ use Rattle.rule_definitions.proofs.Lists.{Contains-first}
 use Rattle.rule_document_definitions.specs.DocumentFaults.{Broken, broken}
 use Rattle.rule_document_definitions.specs.Selected.{StandingField, as_field, own, field_name}
 use Rattle.rule_document_definitions.specs.Reached.{first}
-use Rattle.rule_document_definitions.specs.Subscriptions.{IsRootField, AreRootFields, meta_field_names, SubscriptionBreaks, SubscriptionUsesMultipleFieldsAt, SubscriptionUsesIntrospectionAt, SubscriptionUsesConditionalSelectionAt}
+use Rattle.rule_document_definitions.specs.RootFields.{IsRootField, AreRootFields, meta_field_names}
+use Rattle.rule_document_definitions.specs.Subscriptions.{SubscriptionBreaks, SubscriptionUsesMultipleFieldsAt, SubscriptionUsesIntrospectionAt, SubscriptionUsesConditionalSelectionAt}
 use Rattle.rule_document_definitions.proofs.Levels.{up_to, in_fragment_of, root_in}
 use Rattle.rule_document_definitions.proofs.RowWords.{not_at_index, of_each, none_at_root}
 use Rattle.rule_document_definitions.proofs.RowParts.{query_name, leaf, leaf_with, operation_of, alone, applied, at_root, leaf_at, root}

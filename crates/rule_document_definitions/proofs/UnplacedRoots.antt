@@ -14,14 +14,16 @@ use Rattle.document_meaning.specs.MeantTree.{MeantOperation, MeantDocument}
 use Rattle.document_meaning.specs.Unplaced.{unplaced_meant, unplaced_operation, unplaced_document}
 use Rattle.rule_cycle_search.specs.Paths.{HasNoRepeat}
 use Rattle.rule_definitions.specs.Words.{AtSomeIndex, Repeats}
-use Rattle.rule_definitions.specs.Uses.{directive_name}
+use Rattle.rule_definitions.specs.Names.{directive_name}
 use Rattle.rule_definitions.proofs.Lists.{not_in_nil, Contains-cons, Contains-first, mapped_some, mapped_none, slice_get-map, index_given}
 use Rattle.rule_document_definitions.specs.DocumentFaults.{Broken, broken}
 use Rattle.rule_document_definitions.specs.FaultsUnplaced.{unplaced_breach, unplaced_broken}
 use Rattle.rule_document_definitions.specs.Named.{FragmentsFoundByName}
 use Rattle.rule_document_definitions.specs.Selected.{Standing, StandingField, as_field, own, field_name, operation_name, selection_directives, all_selections}
-use Rattle.rule_document_definitions.specs.Subscriptions.{IsRootField, AreRootFields, SubscriptionUsesMultipleFieldsAt, SubscriptionUsesIntrospectionAt, SubscriptionUsesConditionalSelectionAt, SubscriptionBreaks}
-use Rattle.rule_document_definitions.specs.Defer.{defers, given_if, literal_if, MayBeLeftOut, labels, string_labels, DeferLabelMustNotBeVariableAt, DuplicateDeferLabelAt, IsConditional, ReachedAlways, DeferOnRootMutationOrSubscriptionFieldAt, DeferInSubscriptionMustBeConditionalAt, DeferBreaks}
+use Rattle.rule_document_definitions.specs.RootFields.{IsRootField, AreRootFields}
+use Rattle.rule_document_definitions.specs.Subscriptions.{SubscriptionUsesMultipleFieldsAt, SubscriptionUsesIntrospectionAt, SubscriptionUsesConditionalSelectionAt, SubscriptionBreaks}
+use Rattle.rule_document_definitions.specs.DeferUses.{defers, given_if, literal_if, MayBeLeftOut, labels, string_labels, IsConditional, ReachedAlways}
+use Rattle.rule_document_definitions.specs.Defer.{DeferLabelMustNotBeVariableAt, DuplicateDeferLabelAt, DeferOnRootMutationOrSubscriptionFieldAt, DeferInSubscriptionMustBeConditionalAt, DeferBreaks}
 use Rattle.rule_document_definitions.specs.DocumentRules.{DeferredBreaks}
 use Rattle.rule_document_definitions.proofs.Unplaced.{contains_map, contains_unmap, closed_map, closed_unmap, unplaced_standing, unplaced_field, field_same, name_same, own_same, leads_map, leads_unmap}
 use Rattle.rule_document_definitions.proofs.MergingUnplaced.{starts_map, starts_unmap}

@@ -6,12 +6,12 @@ use Rattle.tree_directives.specs.declared.directive_location.DirectiveLocation.T
 use Rattle.document_meaning.specs.MeantTree.{MeantSelection, MeantField, MeantSpread, MeantInline, MeantSet, meant_set, no_meant, meant_then, MeantOperation, MeantDocument}
 use Rattle.document_meaning.specs.Unplaced.{unplaced_meant, unplaced_set, unplaced_operation, unplaced_document}
 use Rattle.rule_definitions.specs.Judged.{Judged}
-use Rattle.rule_definitions.specs.TypesUsed.{named_in}
+use Rattle.rule_definitions.specs.Names.{named_in}
 use Rattle.rule_definitions.specs.Uses.{UsesBreak}
 use Rattle.rule_document_definitions.specs.Places.{Places}
 use Rattle.rule_document_definitions.specs.Verdict.{no_places}
-use Rattle.rule_document_definitions.specs.Selected.{selection_location, selection_directives}
-use Rattle.rule_document_definitions.specs.Selections.{HasNone, field_taker, MissingSubselectionAt, FieldArgumentsBreak, DirectivesBreak, SelectionsBreak}
+use Rattle.rule_document_definitions.specs.Selected.{selection_location, selection_directives, HasNone}
+use Rattle.rule_document_definitions.specs.Selections.{field_taker, MissingSubselectionAt, FieldArgumentsBreak, DirectivesBreak, SelectionsBreak}
 use Rattle.rule_document_definitions.specs.Standalone.{no_schema, GivenBreaksAlone, UsesBreakAlone, GivenInBreaks, OperationBreaksAlone}
 use Rattle.rule_document_definitions.proofs.Moves.{same, moves_either, moves_where, moves_same, moves_index}
 use Rattle.rule_document_definitions.proofs.UnplacedValues.{bare_variable, Bared, Moved, moves_wrong, unique_input_value_bared}

@@ -15,8 +15,11 @@ use Rattle.rule_definitions.specs.Diagnostics.{DisallowedVariableUsage}
 use Rattle.rule_definitions.specs.Words.{Present, FirstNamed}
 use Rattle.rule_definitions.specs.Faults.{FaultAt, wrong}
 use Rattle.rule_definitions.specs.Judged.{Judged}
-use Rattle.rule_definitions.specs.Values.{Variables, defined_name, is_absent_or_null, TypeBreaks}
-use Rattle.rule_definitions.specs.Uses.{Taker, argument_name, input_name, directive_name, directive_taker, IsVariableUsageAllowed, UniqueArgumentAt, GivenBreaks, AtArgumentGiven, UndefinedArgumentAt, RequiredArgumentAt, DisallowedVariableUsageAt, ArgumentValueBreaks, TakerBreaks, UndefinedDirectiveAt, UniqueDirectiveAt, UseBreaks, UsesBreak}
+use Rattle.rule_definitions.specs.Names.{defined_name, argument_name, input_name, directive_name}
+use Rattle.rule_definitions.specs.GivenValues.{Variables, is_absent_or_null}
+use Rattle.rule_definitions.specs.Values.{TypeBreaks}
+use Rattle.rule_definitions.specs.VariableUsage.{IsVariableUsageAllowed}
+use Rattle.rule_definitions.specs.Uses.{Taker, directive_taker, UniqueArgumentAt, GivenBreaks, AtArgumentGiven, UndefinedArgumentAt, RequiredArgumentAt, DisallowedVariableUsageAt, ArgumentValueBreaks, TakerBreaks, UndefinedDirectiveAt, UniqueDirectiveAt, UseBreaks, UsesBreak}
 use Rattle.rule_document_definitions.specs.FaultsUnplaced.{unplaced_wrong}
 use Rattle.rule_document_definitions.proofs.Moves.{same, both_ways, either_way, neither, equal_to, same_first, find_map, moves_fault, moves_either, moves_where, moves_same, moves_present, moves_index, moves_first, moves_repeats, moves_same_index, moves_same_first}
 use Rattle.rule_document_definitions.proofs.UnplacedValues.{bare_value, bare_variable, Bared, Moved, moves_wrong, absent_same, variable_same, type_twice, mark_same, unique_input_value_bared, undefined_variable_bared, type_breaks_bared}

@@ -12,10 +12,11 @@ use Rattle.schema_types.specs.Looks.{TypeLooks}
 use Rattle.schema_types.specs.Addresses.{Address, TypeAt, InputAt, TypeReferenceAt}
 use Rattle.rule_definitions.specs.Diagnostics.{Diagnostic, map_places, UnsupportedValueType, UndefinedInputValue, UniqueInputValue}
 use Rattle.rule_definitions.specs.Words.{AtSomeIndex, Repeats}
-use Rattle.rule_definitions.specs.Spots.{entry_list}
+use Rattle.rule_definitions.specs.GivenValues.{entry_list, Wanted, Variables, wanted_name, entry_named, is_absent_or_null}
 use Rattle.rule_definitions.specs.Faults.{FaultAt, wrong}
 use Rattle.rule_definitions.specs.Judged.{Judged}
-use Rattle.rule_definitions.specs.Values.{Wanted, Variables, wanted_name, wanted_item, defined_name, entry_named, is_absent_or_null, FitsForm, UniqueInputValueIn, UniqueInputValueInItems, UniqueInputValueInEntries, UndefinedVariableIn, UndefinedVariableInItems, UndefinedVariableInEntries, UnsupportedValueTypeAt, IntCoercionErrorAt, UndefinedEnumValueAt, UndefinedInputValueAt, RequiredFieldAt, FormBreaks, TypeBreaks, TypeBreaksItems, TypeBreaksEntries, ValueBreaks}
+use Rattle.rule_definitions.specs.Names.{defined_name}
+use Rattle.rule_definitions.specs.Values.{wanted_item, FitsForm, UniqueInputValueIn, UniqueInputValueInItems, UniqueInputValueInEntries, UndefinedVariableIn, UndefinedVariableInItems, UndefinedVariableInEntries, UnsupportedValueTypeAt, IntCoercionErrorAt, UndefinedEnumValueAt, UndefinedInputValueAt, RequiredFieldAt, FormBreaks, TypeBreaks, TypeBreaksItems, TypeBreaksEntries, ValueBreaks}
 use Rattle.rule_definitions.proofs.Lists.{mapped_some}
 use Rattle.rule_document_definitions.specs.FaultsUnplaced.{unplaced_wrong}
 use Rattle.rule_document_definitions.proofs.MergingUnplaced.{twice}

@@ -13,12 +13,14 @@ use Rattle.rule_definitions.specs.Diagnostics.{UndefinedDefinition, VariableInpu
 use Rattle.rule_definitions.specs.Words.{Present}
 use Rattle.rule_definitions.specs.Faults.{wrong}
 use Rattle.rule_definitions.specs.Judged.{Judged}
-use Rattle.rule_definitions.specs.Values.{defined_name, ValueBreaks}
+use Rattle.rule_definitions.specs.Names.{defined_name}
+use Rattle.rule_definitions.specs.Values.{ValueBreaks}
 use Rattle.rule_document_definitions.specs.Places.{Places}
 use Rattle.rule_document_definitions.specs.Verdict.{no_places}
 use Rattle.rule_document_definitions.specs.Selected.{Standing, as_field, selection_directives}
 use Rattle.rule_document_definitions.specs.Reached.{Reached, ReachesFragment}
-use Rattle.rule_document_definitions.specs.Variables.{StandsInValue, StandsInItems, StandsInEntries, StandsInArguments, StandsInDirectives, StandsInSelection, IsUsedIn, wanted_by, UniqueVariableAt, UniqueDefaultKeyAt, UnusedVariableAt, UndefinedVariableTypeAt, VariableInputTypeAt, DefaultValueBreaks, VariableDirectivesBreak, VariablesBreak}
+use Rattle.rule_document_definitions.specs.UsedVariables.{StandsInValue, StandsInItems, StandsInEntries, StandsInArguments, StandsInDirectives, StandsInSelection, IsUsedIn, wanted_by}
+use Rattle.rule_document_definitions.specs.Variables.{UniqueVariableAt, UniqueDefaultKeyAt, UnusedVariableAt, UndefinedVariableTypeAt, VariableInputTypeAt, DefaultValueBreaks, VariableDirectivesBreak, VariablesBreak}
 use Rattle.rule_document_definitions.proofs.Unplaced.{unplaced_standing, unplaced_field, field_same, reached_without_places, reached_with_places}
 use Rattle.rule_document_definitions.proofs.Moves.{same, either_way, neither, same_present, same_among, same_index, Moves, moves_among, moves_either, moves_where, moves_same, moves_present, moves_index, moves_repeats}
 use Rattle.rule_document_definitions.proofs.UnplacedValues.{bare_value, bare_variable, Bared, Moved, moves_wrong, type_twice, unique_input_value_bared, value_bared}

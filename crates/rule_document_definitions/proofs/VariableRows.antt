@@ -7,9 +7,10 @@ use Rattle.tree_directives.specs.declared.operation_type.OperationType.TheVarian
 use Rattle.document_meaning.specs.MeantTree.{MeantOperation}
 use Rattle.rule_definitions.specs.Diagnostics.{UniqueVariable, UndefinedDefinition, VariableInputType, UnusedVariable, UnsupportedValueType}
 use Rattle.rule_definitions.specs.Faults.{FaultAt, wrong}
-use Rattle.rule_definitions.specs.Values.{defined_name}
+use Rattle.rule_definitions.specs.Names.{defined_name}
 use Rattle.rule_document_definitions.specs.Reached.{first}
-use Rattle.rule_document_definitions.specs.Variables.{UniqueVariableAt, DefaultValueBreaks, UndefinedVariableTypeAt, VariableInputTypeAt, UnusedVariableAt, IsUsedIn, StandsInSelection}
+use Rattle.rule_document_definitions.specs.UsedVariables.{IsUsedIn, StandsInSelection}
+use Rattle.rule_document_definitions.specs.Variables.{UniqueVariableAt, DefaultValueBreaks, UndefinedVariableTypeAt, VariableInputTypeAt, UnusedVariableAt}
 use Rattle.rule_document_definitions.proofs.RowWords.{of_present, not_present, not_at_index, at_only, none_before, one_repeats, none_reached, no_fragment}
 use Rattle.rule_document_definitions.proofs.RowParts.{by_numbers, at, small, query_name, int_name, a_name, v_name, int_type, query_type, leaf, leaf_with, operation_of, alone, variable, given, at_root, leaf_at, root}
 

@@ -24,7 +24,7 @@ use Rattle.rule_document_definitions.specs.Told.{place_or_built_in}
 use Rattle.rule_document_definitions.proofs.RowWords.{not_present, not_at_index, none_repeats, none_reached, no_fragment}
 use Rattle.rule_document_definitions.proofs.RowParts.{by_numbers, small, query_name, a_name, p_type, leaf_with, p_field, query_of, alone, applied, at_root}
 use Rattle.rule_document_definitions.proofs.SelectionRows.{only_a, a_selects_nothing, nothing_is_given, a_has_no_directive}
-use Rattle.rule_definitions.specs.Values.{defined_name}
+use Rattle.rule_definitions.specs.Names.{defined_name}
 
 -- ---- `{ a }`: every rule holds
 

@@ -1,11 +1,8 @@
 -- Rules on fragments (GraphQL, October 2021, section 5.5).
-use Rattle.std.specs.Prelude.{◌≡◌, ℕ, true, false, ◌&&◌, not, List, ◌∷◌, reverse, Contains, Option, None, Some, ◌⊎◌}
+use Rattle.std.specs.Prelude.{◌≡◌, ℕ, List, ◌∷◌, reverse, Contains, Option, None, Some, ◌⊎◌}
 use Rattle.graphql_names.specs.Placed.{Placed}
 use Rattle.tree_directives.specs.DirectiveTree.{unplaced_directives}
 use Rattle.schema_types.specs.Addresses.{TypeAt}
-use Rattle.schema_types.specs.SchemaTree.{is_leaf_kind, is_output_kind}
-use Rattle.schema_types.specs.declared.type_kind.TypeKind.TheVariants as kind
-use Rattle.schema_types.specs.Looks.{TypeLooks}
 use Rattle.document_meaning.specs.MeantTree.{MeantSelection, MeantSpread, MeantOperation, MeantFragment, MeantDocument}
 use Rattle.rule_definitions.specs.Diagnostics.{SpreadTree, UndefinedFragment, UnusedFragment, RecursiveFragmentDefinition, InvalidFragmentTarget, InvalidFragmentSpread}
 use Rattle.rule_definitions.specs.Words.{Present}
@@ -15,32 +12,7 @@ use Rattle.rule_cycle_search.specs.Paths.{Leads}
 use Rattle.rule_document_definitions.specs.Places.{Places}
 use Rattle.rule_document_definitions.specs.Selected.{InFragment, Standing, all_in, spread_name, inline_condition, selection_place, fragments, fragment_named}
 use Rattle.rule_document_definitions.specs.Reached.{ReachesFragment, AtOperation, AtReached, AtReachedFragment}
-
--- ---- types
-
--- an object, an interface or a union
-abbrev pub IsCompositeType : TypeLooks → Type 0
-IsCompositeType t = (is_output_kind t.kind && not (is_leaf_kind t.kind)) ≡ true
-
-abbrev pub IsNoCompositeType : TypeLooks → Type 0
-IsNoCompositeType t = (is_output_kind t.kind && not (is_leaf_kind t.kind)) ≡ false
-
-module _ (s : Judged) where
-  -- the type of this name is there, and is composite, is not
-  abbrev pub IsComposite : List ℕ → Type 0
-  IsComposite n = Present (s.type_named n) IsCompositeType
-
-  abbrev pub IsNotComposite : List ℕ → Type 0
-  IsNotComposite n = Present (s.type_named n) IsNoCompositeType
-
-  -- values of the type can be of this object type (GetPossibleTypes, section 5.5.2.3)
-  abbrev pub CanBe : List ℕ → List ℕ → Type 0
-  CanBe n object = Present (s.type_named object) (λ u. (u.kind ≡ kind.Object)
-      × ((object ≡ n) ⊎ ((u.implements n ≡ true) ⊎ Present (s.type_named n) (λ t. t.has_member object ≡ true))))
-
-  -- a fragment on the second may stand where the first is: the same, or an object type in common
-  abbrev pub MayApply : List ℕ → List ℕ → Type 0
-  MayApply parent condition = (condition ≡ parent) ⊎ ((object : List ℕ) × (CanBe parent object × CanBe condition object))
+use Rattle.rule_document_definitions.specs.PossibleTypes.{IsNotComposite, MayApply}
 
 -- ---- references
 

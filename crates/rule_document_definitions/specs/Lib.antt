@@ -1,5 +1,9 @@
 pub mod Selected
 pub mod Reached
+pub mod UsedVariables
+pub mod PossibleTypes
+pub mod RootFields
+pub mod DeferUses
 pub mod Places
 pub mod DocumentFaults
 pub mod Variables

@@ -7,11 +7,11 @@ use Rattle.fault_document_data.specs.DocumentBreaches.{Selected, ConflictingFiel
 use Rattle.document_meaning.specs.MeantTree.{MeantOperation, MeantDocument}
 use Rattle.rule_definitions.specs.Words.{Present}
 use Rattle.rule_definitions.specs.Judged.{Judged}
-use Rattle.rule_definitions.specs.TypesUsed.{named_in}
+use Rattle.rule_definitions.specs.Names.{named_in}
 use Rattle.rule_document_definitions.specs.DocumentFaults.{Broken, broken}
 use Rattle.rule_document_definitions.specs.Selected.{InOperation, StandingField, field_name, response_key, operation_name}
 use Rattle.rule_document_definitions.specs.Reached.{IsFieldOf}
-use Rattle.rule_document_definitions.specs.Fragments.{IsComposite}
+use Rattle.rule_document_definitions.specs.PossibleTypes.{IsComposite}
 use Rattle.rule_document_definitions.specs.Chains.{Meet, Merge}
 use Rattle.rule_document_definitions.specs.SameValues.{Plain, plain_given, SameGiven, SameArguments}
 

@@ -3,7 +3,7 @@ use Rattle.std.specs.Prelude.{ℕ, List, Option, None, Some, option_map}
 use Rattle.tree_literals.specs.ValueTree.{ValueTree, ItemTrees, EntryTrees, NullTree, EnumTree, VariableTree, StringTree, FloatTree, IntTree, BooleanTree, ListTree, ObjectTree, no_items, item_then, unplaced_value}
 use Rattle.tree_directives.specs.DirectiveTree.{Arguments}
 use Rattle.tree_directives.specs.DirectiveQueries.{given_value}
-use Rattle.rule_definitions.specs.Values.{entry_named}
+use Rattle.rule_definitions.specs.GivenValues.{entry_named}
 
 -- values, items and entries without places
 abbrev pub Plain : Type 0

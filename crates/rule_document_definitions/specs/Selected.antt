@@ -30,6 +30,11 @@ pub record StandingField (P : Type 0) : Type 0 where
   pub head : FieldHead P
   pub set : MeantSet P
 
+-- a set has no selection
+abbrev pub HasNone : {P : Type 0} → MeantSet P → Type 0
+HasNone (meant_set t no_meant) = Unit {0}
+HasNone _ = ⊥
+
 module _ {P : Type 0} where
   abbrev pub stand : Position → List ℕ → ℕ → MeantSelections P → List (Standing P)
   stand holder t i no_meant = []

@@ -5,22 +5,17 @@ use Rattle.tree_directives.specs.OperationQueries.{location_of_operation}
 use Rattle.schema_coordinates.specs.Coordinate.{OfAttribute, OfArgument}
 use Rattle.schema_types.specs.SchemaTree.{kind_words}
 use Rattle.schema_types.specs.Addresses.{FieldAt}
-use Rattle.document_meaning.specs.MeantTree.{MeantOperation, MeantDocument, MeantSet, meant_set, no_meant}
+use Rattle.document_meaning.specs.MeantTree.{MeantOperation, MeantDocument}
 use Rattle.rule_definitions.specs.Diagnostics.{MissingSubselection}
 use Rattle.rule_definitions.specs.Words.{Present}
 use Rattle.rule_definitions.specs.Faults.{FaultAt, wrong}
 use Rattle.rule_definitions.specs.Judged.{Judged}
-use Rattle.rule_definitions.specs.TypesUsed.{named_in}
+use Rattle.rule_definitions.specs.Names.{named_in}
 use Rattle.rule_definitions.specs.Uses.{Taker, GivenBreaks, TakerBreaks, UsesBreak}
 use Rattle.rule_document_definitions.specs.Places.{Places}
-use Rattle.rule_document_definitions.specs.Selected.{StandingField, field_name, selection_location, selection_directives}
+use Rattle.rule_document_definitions.specs.Selected.{StandingField, HasNone, field_name, selection_location, selection_directives}
 use Rattle.rule_document_definitions.specs.Reached.{AtReached, AtReachedField, AtReachedFragment}
-use Rattle.rule_document_definitions.specs.Fragments.{IsCompositeType}
-
--- a set has no selection
-abbrev pub HasNone : {P : Type 0} → MeantSet P → Type 0
-HasNone (meant_set t no_meant) = Unit {0}
-HasNone _ = ⊥
+use Rattle.rule_document_definitions.specs.PossibleTypes.{IsCompositeType}
 
 -- the field as what takes arguments
 abbrev pub field_taker : {P : Type 0} → Places P → StandingField P → Taker P

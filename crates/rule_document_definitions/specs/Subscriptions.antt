@@ -1,44 +1,32 @@
 -- Rules on the root of a subscription (GraphQL, October 2021, section 5.2.3.1; that none of its selections is conditional is past it).
-use Rattle.std.specs.Prelude.{◌≡◌, ◌↔◌, ℕ, ◌<◌, List, [], ◌∷◌, map, length, codes, Contains, ◌⊎◌}
+use Rattle.std.specs.Prelude.{◌≡◌, ◌<◌, List, [], ◌∷◌, map, length, codes, Contains, ◌⊎◌}
 use Rattle.tree_directives.specs.declared.operation_type.OperationType.TheVariants as operation
 use Rattle.document_meaning.specs.MeantTree.{MeantOperation, MeantDocument}
 use Rattle.fault_document_data.specs.DocumentBreaches.{SubscriptionUsesMultipleFields, SubscriptionUsesIntrospection, SubscriptionUsesConditionalSelection}
 use Rattle.rule_definitions.specs.Words.{AtSomeIndex}
-use Rattle.rule_cycle_search.specs.Paths.{HasNoRepeat}
-use Rattle.rule_definitions.specs.Uses.{directive_name}
+use Rattle.rule_definitions.specs.Names.{directive_name}
 use Rattle.rule_document_definitions.specs.DocumentFaults.{Broken, broken}
-use Rattle.rule_document_definitions.specs.Selected.{InOperation, Standing, StandingField, field_name, operation_name, selection_directives}
-use Rattle.rule_document_definitions.specs.Reached.{AtRoot, IsFieldOf}
+use Rattle.rule_document_definitions.specs.Selected.{Standing, StandingField, field_name, operation_name, selection_directives}
+use Rattle.rule_document_definitions.specs.Reached.{AtRoot}
+use Rattle.rule_document_definitions.specs.RootFields.{meta_field_names, IsRootField, AreRootFields}
 
--- the names of the three meta-fields (sections 4.1 and 4.2)
-abbrev pub meta_field_names : List (List ℕ)
-meta_field_names = codes "__typename" ∷ codes "__schema" ∷ codes "__type" ∷ []
+module _ {P : Type 0} (d : MeantDocument P) (o : MeantOperation P) (fault : Broken P) where
+  -- SubscriptionUsesMultipleFields: there is at most one
+  abbrev pub SubscriptionUsesMultipleFieldsAt : Type 0
+  SubscriptionUsesMultipleFieldsAt = (fs : List (StandingField P)) × (AreRootFields fs × ((1 < length fs)
+      × (fault ≡ broken o.place (SubscriptionUsesMultipleFields (operation_name o) (map field_name fs)))))
 
-module _ {P : Type 0} (d : MeantDocument P) (o : MeantOperation P) where
-  abbrev pub IsRootField : StandingField P → Type 0
-  IsRootField f = IsFieldOf d (InOperation (operation_name o)) o.set f
+  -- SubscriptionUsesIntrospection: it is no meta-field
+  abbrev pub SubscriptionUsesIntrospectionAt : Type 0
+  SubscriptionUsesIntrospectionAt = (f : StandingField P) × (IsRootField f × (Contains meta_field_names (field_name f)
+      × (fault ≡ broken f.place (SubscriptionUsesIntrospection (operation_name o) (field_name f)))))
 
-  -- all fields at the root, each once, in some order
-  abbrev pub AreRootFields : List (StandingField P) → Type 0
-  AreRootFields fs = HasNoRepeat fs × ((f : StandingField P) → Contains fs f ↔ IsRootField f)
+  -- SubscriptionUsesConditionalSelection: no selection at the root has @skip or @include
+  abbrev pub SubscriptionUsesConditionalSelectionAt : Type 0
+  SubscriptionUsesConditionalSelectionAt = (x : Standing P) × (AtRoot d o x × AtSomeIndex (selection_directives x.it) (λ i e.
+      Contains (codes "skip" ∷ codes "include" ∷ []) (directive_name e) × (fault ≡ broken e.place (SubscriptionUsesConditionalSelection (operation_name o)))))
 
-  module _ (fault : Broken P) where
-    -- SubscriptionUsesMultipleFields: there is at most one
-    abbrev pub SubscriptionUsesMultipleFieldsAt : Type 0
-    SubscriptionUsesMultipleFieldsAt = (fs : List (StandingField P)) × (AreRootFields fs × ((1 < length fs)
-        × (fault ≡ broken o.place (SubscriptionUsesMultipleFields (operation_name o) (map field_name fs)))))
-
-    -- SubscriptionUsesIntrospection: it is no meta-field
-    abbrev pub SubscriptionUsesIntrospectionAt : Type 0
-    SubscriptionUsesIntrospectionAt = (f : StandingField P) × (IsRootField f × (Contains meta_field_names (field_name f)
-        × (fault ≡ broken f.place (SubscriptionUsesIntrospection (operation_name o) (field_name f)))))
-
-    -- SubscriptionUsesConditionalSelection: no selection at the root has @skip or @include
-    abbrev pub SubscriptionUsesConditionalSelectionAt : Type 0
-    SubscriptionUsesConditionalSelectionAt = (x : Standing P) × (AtRoot d o x × AtSomeIndex (selection_directives x.it) (λ i e.
-        Contains (codes "skip" ∷ codes "include" ∷ []) (directive_name e) × (fault ≡ broken e.place (SubscriptionUsesConditionalSelection (operation_name o)))))
-
-    -- a rule on subscriptions fails so
-    abbrev pub SubscriptionBreaks : Type 0
-    SubscriptionBreaks = (o.operation_type ≡ operation.Subscription)
-        × (SubscriptionUsesMultipleFieldsAt ⊎ (SubscriptionUsesIntrospectionAt ⊎ SubscriptionUsesConditionalSelectionAt))
+  -- a rule on subscriptions fails so
+  abbrev pub SubscriptionBreaks : Type 0
+  SubscriptionBreaks = (o.operation_type ≡ operation.Subscription)
+      × (SubscriptionUsesMultipleFieldsAt ⊎ (SubscriptionUsesIntrospectionAt ⊎ SubscriptionUsesConditionalSelectionAt))

@@ -2,7 +2,7 @@
 use Rattle.std.specs.Prelude.{ℕ, Bool, true, false, ◌&&◌, ◌||◌, List, bytes_eq}
 use Rattle.tree_literals.specs.TypeTree.{TypeTree, NamedTree, NonNullNamedTree, ListTree, NonNullListTree}
 use Rattle.rule_definitions.specs.Judged.{Judged}
-use Rattle.rule_definitions.specs.TypesUsed.{named_in}
+use Rattle.rule_definitions.specs.Names.{named_in}
 use Rattle.rule_field_groups.specs.Kinds.{is_composite}
 
 abbrev pub same_marks : TypeTree (Unit {0}) → TypeTree (Unit {0}) → Bool

@@ -9,7 +9,7 @@ use Rattle.schema_types.specs.TypeView.{name_text}
 use Rattle.rule_definitions.specs.Judged.{Judged}
 use Rattle.rule_definitions.proofs.Lists.{not_in_nil, Contains-cons, Contains-first}
 use Rattle.rule_definitions.proofs.Lookups.{text_found, text_given}
-use Rattle.rule_document_definitions.specs.Fragments.{CanBe, MayApply}
+use Rattle.rule_document_definitions.specs.PossibleTypes.{CanBe, MayApply}
 use Rattle.rule_fragments.specs.Possible.{objects_of, ArePossible, share_one, may_apply}
 use Rattle.rule_fragments.specs.declared.possible_types.PossibleTypes.{PossibleTypes}
 

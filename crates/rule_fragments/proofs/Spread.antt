@@ -13,7 +13,8 @@ use Rattle.rule_definitions.specs.Judged.{judged}
 use Rattle.rule_definitions.specs.Told.{PlacedFault}
 use Rattle.rule_definitions.specs.Words.{Present}
 use Rattle.rule_document_definitions.specs.Selected.{spread_name, inline_condition, selection_place, own}
-use Rattle.rule_document_definitions.specs.Fragments.{MayApply, InvalidFragmentTargetAt, InvalidFragmentSpreadAt}
+use Rattle.rule_document_definitions.specs.PossibleTypes.{MayApply}
+use Rattle.rule_document_definitions.specs.Fragments.{InvalidFragmentTargetAt, InvalidFragmentSpreadAt}
 use Rattle.rule_document_definitions.specs.Told.{places_in, place_or_built_in}
 use Rattle.rule_definitions.proofs.Listing.{present_known}
 use Rattle.rule_definitions.proofs.Listing.{Lists, lists_same, lists_nothing, lists_unless, lists_index, Gains, gains_list, gains_both}

@@ -20,7 +20,8 @@ use Rattle.rule_definitions.specs.Judged.{judged}
 use Rattle.rule_definitions.specs.Told.{PlacedFault}
 use Rattle.rule_definitions.specs.Words.{Present}
 use Rattle.rule_document_definitions.specs.Selected.{selection_place, inline_condition, own}
-use Rattle.rule_document_definitions.specs.Fragments.{IsNoCompositeType, IsNotComposite, InvalidFragmentTargetAt}
+use Rattle.rule_document_definitions.specs.PossibleTypes.{IsNoCompositeType, IsNotComposite}
+use Rattle.rule_document_definitions.specs.Fragments.{InvalidFragmentTargetAt}
 use Rattle.rule_definitions.proofs.Listing.{Lists, lists_same, lists_present, lists_when, lists_index, Gains, gains_list, gains_both}
 use Rattle.rule_document_ground.specs.Reach.{Member, IsReach}
 use Rattle.rule_document_ground.proofs.AtReaches.{at_reached, at_reached_fragment}

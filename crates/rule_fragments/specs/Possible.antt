@@ -9,7 +9,7 @@ use Rattle.graphql_names.specs.NameValue.{NameValue}
 use Rattle.schema_components.specs.Lists.{is_among}
 use Rattle.schema_types.specs.TypeView.{name_text}
 use Rattle.rule_definitions.specs.Judged.{Judged}
-use Rattle.rule_document_definitions.specs.Fragments.{CanBe}
+use Rattle.rule_document_definitions.specs.PossibleTypes.{CanBe}
 use Rattle.rule_fragments.specs.declared.possible_types.PossibleTypes.{PossibleTypes}
 
 -- the names of a set, if there is one

@@ -11,7 +11,8 @@ use Rattle.fault_data.specs.in_rule_definitions.Diagnostics.{UndefinedDefinition
 use Rattle.fault_data.specs.in_rule_definitions.Words.{Present, Somewhere, Among, AtSomeIndex, FirstNamed, Lacks}
 use Rattle.fault_data.specs.in_rule_definitions.Faults.{SchemaFault, told}
 use Rattle.fault_data.specs.in_rule_definitions.Judged.{Judged, AtType}
-use Rattle.fault_data.specs.in_rule_definitions.Interfaces.{is_valid_type, AtImplemented, AtImplementation}
+use Rattle.fault_data.specs.in_rule_definitions.Subtypes.{is_valid_type}
+use Rattle.fault_data.specs.in_rule_definitions.Interfaces.{AtImplemented, AtImplementation}
 use Rattle.fault_data.specs.in_rule_definitions.Rules.{InterfacesBreak}
 
 abbrev pub Argument : Type 0

@@ -24,7 +24,7 @@ use Rattle.fault_data.specs.in_rule_definitions.Diagnostics.{Diagnostic, map_pla
 use Rattle.fault_data.specs.in_rule_definitions.Spots.{At, spot_place}
 use Rattle.fault_data.specs.in_rule_definitions.Faults.{SchemaFault, wrong, told}
 use Rattle.fault_data.specs.in_rule_definitions.Judged.{judged}
-use Rattle.fault_data.specs.in_rule_definitions.Interfaces.{is_valid_type}
+use Rattle.fault_data.specs.in_rule_definitions.Subtypes.{is_valid_type}
 use Rattle.fault_data.specs.in_rule_definitions.Rules.{IsToldAs, extension_places_at}
 use Rattle.fault_data.specs.in_rule_definitions.Words.{Present, Among, Lacks, FirstNamed}
 use Rattle.fault_data.specs.in_rule_definitions.Told.{PlacedFault}

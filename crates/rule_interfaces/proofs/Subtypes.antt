@@ -10,7 +10,7 @@ use Rattle.schema_types.specs.Addresses.{under}
 use Rattle.schema_types.specs.declared.type_kind.TypeKind.TheVariants as kind
 use Rattle.graphql_schema.specs.LookUps as look
 use Rattle.fault_data.specs.in_rule_definitions.Judged.{judged}
-use Rattle.fault_data.specs.in_rule_definitions.Interfaces.{is_subtype}
+use Rattle.fault_data.specs.in_rule_definitions.Subtypes.{is_subtype}
 use Rattle.fault_data.proofs.Judgings.{type_seen, type_look, member_look, interface_look}
 
 module _ (s : SchemaTree Place) (n m : List ℕ) where

@@ -22,7 +22,7 @@ use Rattle.graphql_schema.specs.LookUps.{type_of_kind}
 use Rattle.fault_data.specs.in_rule_definitions.Diagnostics.{UndefinedDefinition, RecursiveInterfaceDefinition, TransitiveImplementedInterfaces, MissingInterfaceField, InvalidImplementationFieldType, MissingInterfaceFieldArgument, InvalidImplementationFieldArgumentType, ExtraRequiredImplementationFieldArgument}
 use Rattle.fault_data.specs.in_rule_definitions.Faults.{wrong}
 use Rattle.fault_data.specs.in_rule_definitions.Judged.{judged}
-use Rattle.fault_data.specs.in_rule_definitions.Interfaces.{is_valid_type}
+use Rattle.fault_data.specs.in_rule_definitions.Subtypes.{is_valid_type}
 use Rattle.fault_data.specs.in_rule_definitions.Told.{PlacedFault}
 
 abbrev pub Field : Type 0

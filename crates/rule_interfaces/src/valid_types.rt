@@ -4,7 +4,7 @@ ghost use Rattle.graphql_names.specs.Placed.{name_tree, unplaced_text};
 ghost use Rattle.tree_literals.specs.TypeTree.{NamedTree, NonNullNamedTree, type_tree, unplaced_type};
 ghost use Rattle.graphql_schema.specs.SchemaOf.{schema_tree};
 ghost use Rattle.fault_data.specs.in_rule_definitions.Judged.{judged};
-ghost use Rattle.fault_data.specs.in_rule_definitions.Interfaces.{is_subtype, is_valid_type};
+ghost use Rattle.fault_data.specs.in_rule_definitions.Subtypes.{is_subtype, is_valid_type};
 
 use graphql_names::Name;
 use graphql_schema::Schema;

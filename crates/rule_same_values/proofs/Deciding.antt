@@ -10,7 +10,7 @@ use Rattle.std.proofs.lemmas.Slice.Eq.{bytes_eq-Decides}
 use Rattle.indexmap.specs.IndexSet.{insert_key}
 use Rattle.graphql_names.specs.Placed.{Placed, Text}
 use Rattle.tree_literals.specs.ValueTree.{NullTree, EnumTree, VariableTree, StringTree, FloatTree, IntTree, BooleanTree, ListTree, ObjectTree, no_items, item_then, no_entries, entry_then}
-use Rattle.rule_definitions.specs.Spots.{entry_list}
+use Rattle.rule_definitions.specs.GivenValues.{entry_list}
 use Rattle.rule_document_definitions.specs.SameValues.{SameValue, same_null, same_enum, same_variable, same_string, same_float, same_int, same_boolean, same_list, same_object, SameItems, no_more, both_then, SameGiven, neither, both, under_key}
 use Rattle.rule_same_values.specs.Tests.{Plain, PlainItems, PlainEntries, first_under, unseen_key, same, same_items, differing_key}
 

@@ -4,7 +4,7 @@ use Rattle.std.specs.Option.{option_map}
 use Rattle.graphql_names.specs.Placed.{Placed, Text}
 use Rattle.tree_literals.specs.ValueTree.{NullTree, EnumTree, VariableTree, StringTree, FloatTree, IntTree, BooleanTree, ListTree, ObjectTree, ItemTrees, no_items, item_then, EntryTrees, no_entries, entry_then}
 use Rattle.tree_directives.specs.DirectiveTree.{Arguments}
-use Rattle.rule_definitions.specs.Spots.{entry_list}
+use Rattle.rule_definitions.specs.GivenValues.{entry_list}
 use Rattle.rule_document_definitions.specs.SameValues.{Plain, SameValue, same_null, same_enum, same_variable, same_string, same_float, same_int, same_boolean, same_list, same_object, SameItems, no_more, both_then, SameGiven, neither, both, SameArguments, under_key, plain_given}
 
 -- ---- values

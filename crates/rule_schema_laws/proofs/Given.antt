@@ -20,10 +20,10 @@ use Rattle.rule_definitions.specs.in_schema_types.Addresses.{TypeAt, InputAt}
 use Rattle.rule_definitions.specs.in_schema_types.declared.type_kind.TypeKind.{TypeKind}
 use Rattle.rule_definitions.specs.in_schema_types.declared.type_kind.TypeKind.TheVariants as kind
 use Rattle.rule_definitions.specs.in_components.Lists.{is_among}
-use Rattle.rule_definitions.specs.Spots.{At, entry_list}
+use Rattle.rule_definitions.specs.GivenValues.{entry_list, entry_named, is_absent_or_null}
+use Rattle.rule_definitions.specs.Spots.{At}
 use Rattle.rule_definitions.specs.Judged.{Judged, IsBuiltInScalar, IsCustomScalar}
-use Rattle.rule_definitions.specs.TypesUsed.{scalar_names, named_in}
-use Rattle.rule_definitions.specs.Values.{entry_named, is_absent_or_null}
+use Rattle.rule_definitions.specs.Names.{scalar_names, named_in}
 use Rattle.rule_definitions.specs.Accepts.{Takes, TakesEntries, HasRequired}
 use Rattle.rule_definitions.specs.Cycles.{Referring, RefersToInput}
 use Rattle.rule_definitions.proofs.Lookups.{text_found, text_given}

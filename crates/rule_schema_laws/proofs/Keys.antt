@@ -5,7 +5,7 @@ use Rattle.std.proofs.lemmas.Option.{same_Some}
 use Rattle.graphql_names.specs.Placed.{Placed, Text}
 use Rattle.tree_literals.specs.ValueTree.{ValueTree, ItemTrees, EntryTrees, NullTree, EnumTree, VariableTree, StringTree, FloatTree, IntTree, BooleanTree, ListTree, ObjectTree, no_items, item_then, no_entries, entry_then, unplaced_value, unplaced_items, unplaced_entries}
 use Rattle.rule_definitions.specs.in_components.Lists.{is_among}
-use Rattle.rule_definitions.specs.Spots.{entry_list}
+use Rattle.rule_definitions.specs.GivenValues.{entry_list}
 use Rattle.rule_definitions.specs.Faults.{FaultAt}
 use Rattle.rule_definitions.specs.Values.{UniqueInputValueIn, UniqueInputValueInItems, UniqueInputValueInEntries}
 use Rattle.rule_definitions.proofs.Lookups.{itself}

@@ -7,8 +7,8 @@ use Rattle.tree_literals.specs.ValueTree.{ValueTree, NullTree, EnumTree, Variabl
 use Rattle.rule_definitions.specs.in_schema_types.Looks.{TypeLooks}
 use Rattle.rule_definitions.specs.in_components.Lists.{is_among}
 use Rattle.rule_definitions.specs.Judged.{Judged, IsBuiltInScalar, IsCustomScalar}
-use Rattle.rule_definitions.specs.TypesUsed.{scalar_names}
-use Rattle.rule_definitions.specs.Values.{Variables, IsScalarAmong}
+use Rattle.rule_definitions.specs.Names.{scalar_names}
+use Rattle.rule_definitions.specs.GivenValues.{Variables, IsScalarAmong}
 use Rattle.rule_definitions.specs.Accepts.{IsDefined, Takes}
 use Rattle.rule_definitions.proofs.Lookups.{text_given}
 use Rattle.rule_cycle_search.proofs.Lists.{Contains-first}

@@ -8,9 +8,8 @@ use Rattle.tree_literals.specs.ValueTree.{ValueTree, ItemTrees, EntryTrees, Null
 use Rattle.tree_literals.specs.ValueQueries.{is_null_value}
 use Rattle.tree_literals.specs.ValueWritable.{value_writable, items_writable, entries_writable}
 use Rattle.rule_definitions.specs.in_schema_types.Looks.{TypeLooks}
-use Rattle.rule_definitions.specs.Spots.{entry_list}
+use Rattle.rule_definitions.specs.GivenValues.{entry_list, Variables, entry_named, is_absent_or_null}
 use Rattle.rule_definitions.specs.Judged.{Judged}
-use Rattle.rule_definitions.specs.Values.{Variables, entry_named, is_absent_or_null}
 use Rattle.rule_definitions.specs.Accepts.{IsDefined, AreItemsDefined, AreEntriesDefined, Takes, TakesItems, TakesEntries}
 
 -- no variables

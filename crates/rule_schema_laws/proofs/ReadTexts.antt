@@ -23,7 +23,7 @@ use Rattle.schema_fold.specs.Components.{all_given, go_together, extension_here,
 use Rattle.schema_fold.specs.Fold.{fold, folded_type}
 use Rattle.schema_types.proofs.UnderNames.{get_under}
 use Rattle.rule_definitions.specs.Judged.{judged}
-use Rattle.rule_definitions.specs.TypesUsed.{scalar_names}
+use Rattle.rule_definitions.specs.Names.{scalar_names}
 use Rattle.rule_definitions.proofs.Lookups.{under_given, text_given}
 use Rattle.rule_cycle_search.proofs.Lists.{not_in_nil, Contains-cons, only, found_in, mapped_some}
 use Rattle.rule_schema_laws.specs.Literals.{HasTheFiveAlone, HasNoKeywordValue}

@@ -20,13 +20,14 @@ use Rattle.rule_definitions.specs.in_schema_types.declared.type_kind.TypeKind.Th
 use Rattle.rule_definitions.specs.Words.{Present}
 use Rattle.rule_definitions.specs.Spots.{At, spotted_directives}
 use Rattle.rule_definitions.specs.Faults.{SchemaFault, told}
-use Rattle.rule_definitions.specs.Judged.{Judged, judged, AtArgument, applied_directives, AtInputField, AtInputValue, AtValue}
+use Rattle.rule_definitions.specs.Judged.{Judged, judged, AtArgument, applied_directives, AtInputField, AtInputValue, AtValue, type_location}
 use Rattle.rule_definitions.specs.Uses.{UsesBreak}
-use Rattle.rule_definitions.specs.Rules.{SchemaRules, type_location, ReferencesBreak, EmptyBreaks, InterfacesBreak, CyclesBreak, SchemaUsesBreak}
-use Rattle.rule_definitions.specs.TypesUsed.{scalar_names, named_in, IsUndefinedAt}
-use Rattle.rule_definitions.specs.ReservedNames.{is_reserved, IsReservedAt}
+use Rattle.rule_definitions.specs.Rules.{SchemaRules, ReferencesBreak, EmptyBreaks, InterfacesBreak, CyclesBreak, SchemaUsesBreak}
+use Rattle.rule_definitions.specs.Names.{scalar_names, named_in, is_reserved}
+use Rattle.rule_definitions.specs.TypesUsed.{IsUndefinedAt}
+use Rattle.rule_definitions.specs.ReservedNames.{IsReservedAt}
 use Rattle.rule_definitions.specs.Diagnostics.{InputType}
-use Rattle.rule_definitions.specs.Roots.{root_types_in}
+use Rattle.rule_definitions.specs.RootTypes.{root_types_in}
 use Rattle.rule_definitions.proofs.Lookups.{text_found}
 use Rattle.rule_schema_laws.specs.Small.{small, type_q, type_foo, field_a, IsWithout}
 use Rattle.schema_types.proofs.UnderNames.{get_under}

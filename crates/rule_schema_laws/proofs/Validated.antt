@@ -17,7 +17,7 @@ use Rattle.rule_definitions.specs.in_schema_types.Addresses.{TypeAt, or_nothing,
 use Rattle.rule_definitions.specs.in_schema_types.declared.type_kind.TypeKind.TheVariants as kind
 use Rattle.rule_definitions.specs.Distinct.{AreUnder}
 use Rattle.rule_definitions.specs.Judged.{judged}
-use Rattle.rule_definitions.specs.TypesUsed.{scalar_names, named_in}
+use Rattle.rule_definitions.specs.Names.{scalar_names, named_in}
 use Rattle.rule_definitions.specs.Cycles.{Referring, RefersToInput}
 use Rattle.rule_definitions.specs.Kept.{is_referenced, built_in_scalar, is_dropped, is_missing, kept, validated}
 use Rattle.rule_definitions.specs.Rules.{SchemaRules}

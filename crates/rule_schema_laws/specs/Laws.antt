@@ -8,7 +8,7 @@ use Rattle.rule_definitions.specs.in_schema_types.SchemaTree.{SchemaTree}
 use Rattle.rule_definitions.specs.Distinct.{AreUnder}
 use Rattle.rule_definitions.specs.Words.{Present}
 use Rattle.rule_definitions.specs.Judged.{Judged, judged, IsBuiltInScalar}
-use Rattle.rule_definitions.specs.TypesUsed.{scalar_names}
+use Rattle.rule_definitions.specs.Names.{scalar_names}
 use Rattle.rule_definitions.specs.Kept.{validated}
 use Rattle.rule_definitions.specs.Rules.{SchemaRules}
 use Rattle.rule_schema_laws.specs.Implementing.{ImplementsInOrder}

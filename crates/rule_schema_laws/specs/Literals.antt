@@ -16,8 +16,9 @@ use Rattle.rule_definitions.specs.in_schema_types.declared.type_kind.TypeKind.Th
 use Rattle.rule_definitions.specs.Words.{Present}
 use Rattle.rule_definitions.specs.Faults.{FaultAt}
 use Rattle.rule_definitions.specs.Judged.{Judged, IsBuiltInScalar}
-use Rattle.rule_definitions.specs.TypesUsed.{scalar_names, named_in}
-use Rattle.rule_definitions.specs.Values.{Variables, UniqueInputValueIn}
+use Rattle.rule_definitions.specs.Names.{scalar_names, named_in}
+use Rattle.rule_definitions.specs.GivenValues.{Variables}
+use Rattle.rule_definitions.specs.Values.{UniqueInputValueIn}
 use Rattle.rule_definitions.specs.Accepts.{Accepts}
 
 module _ (s : Judged) where

@@ -21,12 +21,12 @@ use Rattle.rule_definitions.specs.Words.{Present}
 use Rattle.rule_definitions.specs.Faults.{wrong}
 use Rattle.rule_definitions.specs.Told.{PlacedFault}
 use Rattle.rule_definitions.specs.Judged.{Judged, judged}
-use Rattle.rule_definitions.specs.TypesUsed.{named_in}
-use Rattle.rule_definitions.specs.Values.{Variables}
+use Rattle.rule_definitions.specs.Names.{named_in}
+use Rattle.rule_definitions.specs.GivenValues.{Variables}
 use Rattle.rule_definitions.specs.Uses.{GivenBreaks, TakerBreaks, UsesBreak}
-use Rattle.rule_document_definitions.specs.Selected.{InOperation, StandingField, field_name, selection_location, selection_directives}
-use Rattle.rule_document_definitions.specs.Fragments.{IsCompositeType}
-use Rattle.rule_document_definitions.specs.Selections.{HasNone, field_taker}
+use Rattle.rule_document_definitions.specs.Selected.{InOperation, StandingField, field_name, selection_location, selection_directives, HasNone}
+use Rattle.rule_document_definitions.specs.PossibleTypes.{IsCompositeType}
+use Rattle.rule_document_definitions.specs.Selections.{field_taker}
 use Rattle.rule_document_definitions.specs.Told.{place_or_built_in, places_in}
 use Rattle.rule_uses.specs.Alone.{ArgumentsBreak, DirectivesAloneBreak}
 use Rattle.rule_document_ground.specs.Reach.{Member, field_of}

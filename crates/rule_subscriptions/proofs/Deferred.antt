@@ -17,7 +17,8 @@ use Rattle.rule_definitions.specs.Words.{AtSomeIndex, Present}
 use Rattle.rule_document_definitions.specs.DocumentFaults.{Broken, broken}
 use Rattle.rule_document_definitions.specs.Selected.{Position, Standing, StandingField, as_field, field_there, selection_directives}
 use Rattle.rule_document_definitions.specs.Reached.{AtRoot}
-use Rattle.rule_document_definitions.specs.Defer.{defers, given_if, literal_if, IsConditional, ReachedAlways, DeferOnRootMutationOrSubscriptionFieldAt, DeferInSubscriptionMustBeConditionalAt, DeferBreaks}
+use Rattle.rule_document_definitions.specs.DeferUses.{defers, given_if, literal_if, IsConditional, ReachedAlways}
+use Rattle.rule_document_definitions.specs.Defer.{DeferOnRootMutationOrSubscriptionFieldAt, DeferInSubscriptionMustBeConditionalAt, DeferBreaks}
 use Rattle.rule_subscriptions.specs.Listed.{is_directive, deferred_at_root, fragment_deferred, is_condition, is_conditional, deferred_always, always_deferred}
 use Rattle.rule_subscriptions.specs.Rooted.{AreRoots}
 use Rattle.rule_subscriptions.specs.Always.{AreAlways}

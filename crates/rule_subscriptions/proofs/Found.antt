@@ -14,7 +14,7 @@ use Rattle.document_typed_operations.specs.TypedDocument.{TypedDocumentTree}
 use Rattle.document_typing.specs.DocumentView.{meant_document}
 use Rattle.document_walks.specs.Reached.{Fragments, NamedSet, document_fragments, fragment_named as named_set_of}
 use Rattle.rule_document_definitions.specs.Selected.{Standing, InOperation, InFragment, spread_name, operation_name, fragment_named}
-use Rattle.rule_document_definitions.specs.Defer.{ReachedAlways}
+use Rattle.rule_document_definitions.specs.DeferUses.{ReachedAlways}
 use Rattle.rule_subscriptions.specs.Inside.{contents_in, inside, located, ReachesBy}
 use Rattle.rule_subscriptions.specs.Listed.{stays}
 use Rattle.rule_subscriptions.specs.Always.{always_in, AreAlways, to_enter, to_come, Found}

@@ -12,7 +12,7 @@ use Rattle.document_meaning.specs.MeantTree.{MeantOperation, meant}
 use Rattle.fault_document_data.specs.DocumentBreaches.{SubscriptionUsesIntrospection}
 use Rattle.rule_document_definitions.specs.DocumentFaults.{Broken, broken}
 use Rattle.rule_document_definitions.specs.Selected.{operation_name}
-use Rattle.rule_document_definitions.specs.Subscriptions.{meta_field_names}
+use Rattle.rule_document_definitions.specs.RootFields.{meta_field_names}
 use Rattle.rule_subscriptions.specs.Listed.{root_names, introspection}
 use Rattle.document_walks.proofs.Finding.{none_is_some}
 

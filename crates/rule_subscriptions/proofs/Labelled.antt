@@ -27,7 +27,8 @@ use Rattle.fault_document_data.specs.DocumentBreaches.{DeferLabelMustNotBeVariab
 use Rattle.rule_definitions.specs.Words.{Present, AtSomeIndex, FirstNamed, Repeats}
 use Rattle.rule_document_definitions.specs.DocumentFaults.{Broken, broken}
 use Rattle.rule_document_definitions.specs.Selected.{Position, InOperation, InFragment, SelectionAt, Standing, all_in, all_from, all_below, all_selections, operation_name, operations, fragments, selection_directives}
-use Rattle.rule_document_definitions.specs.Defer.{defers, labels, string_labels, LabelsBreak}
+use Rattle.rule_document_definitions.specs.DeferUses.{defers, labels, string_labels}
+use Rattle.rule_document_definitions.specs.Defer.{LabelsBreak}
 use Rattle.rule_definitions.proofs.Firsts.{earlier_is_found}
 use Rattle.rule_definitions.proofs.Listing.{Lists, lists_same, lists_both, lists_one, lists_present, lists_index, lists_places, places_more, mapped_more}
 use Rattle.rule_subscriptions.specs.Inside.{contents_along, contents_below}

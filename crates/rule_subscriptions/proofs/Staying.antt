@@ -8,10 +8,10 @@ use Rattle.graphql_names.specs.Placed.{Placed}
 use Rattle.tree_directives.specs.DirectiveTree.{DirectiveTree, Directives}
 use Rattle.document_meaning.specs.MeantTree.{MeantSelection, MeantOperation, MeantDocument}
 use Rattle.rule_definitions.specs.Words.{AtSomeIndex}
-use Rattle.rule_definitions.specs.Uses.{directive_name}
+use Rattle.rule_definitions.specs.Names.{directive_name}
 use Rattle.rule_document_definitions.specs.Selected.{Standing, selection_directives}
 use Rattle.rule_document_definitions.specs.Reached.{Closed, first, next, LeadsInto}
-use Rattle.rule_document_definitions.specs.Defer.{MayBeLeftOut, ReachedAlways, literal_if}
+use Rattle.rule_document_definitions.specs.DeferUses.{MayBeLeftOut, ReachedAlways, literal_if}
 use Rattle.rule_subscriptions.specs.Inside.{LeadsOn, ReachesBy}
 use Rattle.rule_subscriptions.specs.Listed.{is_directive, leaves_out, stays}
 

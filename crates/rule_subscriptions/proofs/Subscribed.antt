@@ -15,11 +15,12 @@ use Rattle.rule_cycle_search.proofs.Lists.{not_in_nil, Contains-cons, Contains-f
 use Rattle.document_meaning.specs.MeantTree.{MeantSelection, MeantField, MeantSpread, MeantInline, MeantOperation, MeantDocument}
 use Rattle.fault_document_data.specs.DocumentBreaches.{SubscriptionUsesMultipleFields, SubscriptionUsesIntrospection, SubscriptionUsesConditionalSelection}
 use Rattle.rule_definitions.specs.Words.{AtSomeIndex, Present}
-use Rattle.rule_definitions.specs.Uses.{directive_name}
+use Rattle.rule_definitions.specs.Names.{directive_name}
 use Rattle.rule_document_definitions.specs.DocumentFaults.{Broken, broken}
 use Rattle.rule_document_definitions.specs.Selected.{Position, Standing, StandingField, as_field, field_there, field_name, operation_name, selection_directives}
 use Rattle.rule_document_definitions.specs.Reached.{AtRoot}
-use Rattle.rule_document_definitions.specs.Subscriptions.{meta_field_names, IsRootField, AreRootFields, SubscriptionUsesMultipleFieldsAt, SubscriptionUsesIntrospectionAt, SubscriptionUsesConditionalSelectionAt, SubscriptionBreaks}
+use Rattle.rule_document_definitions.specs.RootFields.{meta_field_names, IsRootField, AreRootFields}
+use Rattle.rule_document_definitions.specs.Subscriptions.{SubscriptionUsesMultipleFieldsAt, SubscriptionUsesIntrospectionAt, SubscriptionUsesConditionalSelectionAt, SubscriptionBreaks}
 use Rattle.rule_subscriptions.specs.Told.{FragmentsUnderOwnNames, AreAlike, TellsSubscription}
 use Rattle.rule_subscriptions.specs.Listed.{is_directive, root_names, multiple_fields, introspection, conditional, at_root}
 use Rattle.rule_subscriptions.specs.Rooted.{Apart, AreRoots}

@@ -6,7 +6,7 @@ use Rattle.std.specs.Option.{option_map, option_and_then}
 use Rattle.document_meaning.specs.MeantTree.{MeantSelection, MeantOperation, MeantDocument, MeantSet, meant_of_set}
 use Rattle.document_walks.specs.Reached.{Fragments, NamedSet, fragment_named}
 use Rattle.rule_document_definitions.specs.Selected.{Standing, spread_name}
-use Rattle.rule_document_definitions.specs.Defer.{ReachedAlways}
+use Rattle.rule_document_definitions.specs.DeferUses.{ReachedAlways}
 use Rattle.rule_subscriptions.specs.Inside.{contents_in, ReachesBy}
 use Rattle.rule_subscriptions.specs.Listed.{stays}
 

@@ -3,7 +3,7 @@ ghost use Rattle.std.specs.Prelude.{◌≡◌, ◌++◌, true, option_to_list, I
 ghost use Rattle.std.specs.Option.{option_map};
 ghost use Rattle.graphql_names.specs.Placed.{node_tree};
 ghost use Rattle.tree_directives.specs.DirectiveTree.{directive_tree};
-ghost use Rattle.rule_document_definitions.specs.Defer.{literal_if};
+ghost use Rattle.rule_document_definitions.specs.DeferUses.{literal_if};
 ghost use Rattle.document_meaning.specs.MeantTree.{meant_of_set};
 ghost use Rattle.document_typed_selections.specs.TypedTree.{typed_set_tree};
 ghost use Rattle.document_walks.specs.WalkView.{fragments_tree};

@@ -5,7 +5,7 @@ ghost use Rattle.std.specs.Str.{bytes_eq};
 ghost use Rattle.graphql_names.specs.Placed.{node_tree};
 ghost use Rattle.tree_directives.specs.DirectiveTree.{directive_tree};
 ghost use Rattle.document_typing.specs.DocumentView.{document_meant, operation_meant};
-ghost use Rattle.rule_document_definitions.specs.Subscriptions.{meta_field_names};
+ghost use Rattle.rule_document_definitions.specs.RootFields.{meta_field_names};
 ghost use Rattle.rule_subscriptions.specs.Broken.{brokens_of, told_by};
 ghost use Rattle.rule_subscriptions.specs.Listed.{root_names, multiple_fields, introspection, conditional, at_root};
 ghost use Rattle.rule_subscriptions.specs.Rooted.{lent, lent_all};

@@ -11,9 +11,11 @@ use Rattle.fault_data.specs.in_rule_definitions.Diagnostics.{UndefinedDefinition
 use Rattle.fault_data.specs.in_rule_definitions.Words.{Present, Somewhere, Among, AtSomeIndex, IsEmpty, Repeats}
 use Rattle.fault_data.specs.in_rule_definitions.Faults.{SchemaFault, told}
 use Rattle.fault_data.specs.in_rule_definitions.Judged.{Judged, AtType, AtField, AtValue, AtInputField, AtDirectiveDefinition, AtArguments, AtArgument}
-use Rattle.fault_data.specs.in_rule_definitions.Roots.{root_type_of, QueryRootOperationTypeAt, DuplicateRootOperationTypeAt}
+use Rattle.fault_data.specs.in_rule_definitions.RootTypes.{root_type_of}
+use Rattle.fault_data.specs.in_rule_definitions.Roots.{QueryRootOperationTypeAt, DuplicateRootOperationTypeAt}
 use Rattle.fault_data.specs.in_rule_definitions.ReservedNames.{IsReservedAt, ReservedNameAt}
-use Rattle.fault_data.specs.in_rule_definitions.TypesUsed.{named_in, IsUndefinedAt, UndefinedFieldTypeAt, UndefinedInputTypeAt, UndefinedMemberAt, OutputTypeAt, InputTypeAt, UnionMemberObjectTypeAt, UniqueArgumentDefinitionAt}
+use Rattle.fault_data.specs.in_rule_definitions.Names.{named_in}
+use Rattle.fault_data.specs.in_rule_definitions.TypesUsed.{IsUndefinedAt, UndefinedFieldTypeAt, UndefinedInputTypeAt, UndefinedMemberAt, OutputTypeAt, InputTypeAt, UnionMemberObjectTypeAt, UniqueArgumentDefinitionAt}
 use Rattle.rule_types.specs.TypesBreak.{TypesBreak}
 
 module _ (s : Judged) (fault : SchemaFault) where

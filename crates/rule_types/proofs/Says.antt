@@ -22,10 +22,11 @@ use Rattle.fault_data.specs.in_rule_definitions.Diagnostics.{Diagnostic, map_pla
 use Rattle.fault_data.specs.in_rule_definitions.Spots.{At, spot_place}
 use Rattle.fault_data.specs.in_rule_definitions.Faults.{SchemaFault, wrong, told}
 use Rattle.fault_data.specs.in_rule_definitions.Judged.{judged}
-use Rattle.fault_data.specs.in_rule_definitions.Roots.{root_type_of}
-use Rattle.fault_data.specs.in_rule_definitions.ReservedNames.{is_reserved, IsReservedAt}
+use Rattle.fault_data.specs.in_rule_definitions.RootTypes.{root_type_of}
+use Rattle.fault_data.specs.in_rule_definitions.Names.{is_reserved, scalar_names, named_in}
+use Rattle.fault_data.specs.in_rule_definitions.ReservedNames.{IsReservedAt}
 use Rattle.fault_data.specs.in_rule_definitions.Rules.{IsToldAs, extension_places, extension_places_at}
-use Rattle.fault_data.specs.in_rule_definitions.TypesUsed.{scalar_names, named_in, IsUndefinedAt}
+use Rattle.fault_data.specs.in_rule_definitions.TypesUsed.{IsUndefinedAt}
 use Rattle.fault_data.specs.in_rule_definitions.Words.{Present, IsEmpty}
 use Rattle.fault_data.specs.in_rule_definitions.Told.{PlacedFault}
 use Rattle.schema_types.specs.Distinct.{ArePartsDistinct}

@@ -28,9 +28,8 @@ use Rattle.schema_types.specs.declared.type_kind.TypeKind.{TypeKind}
 use Rattle.schema_types.specs.declared.type_kind.TypeKind.TheVariants as kind
 use Rattle.fault_data.specs.in_rule_definitions.Diagnostics.{QueryRootOperationType, UndefinedDefinition, RootOperationObjectType, DuplicateRootOperationType, ReservedName, OutputType, InputType, EmptyFieldSet, EmptyValueSet, EmptyMemberSet, EmptyInputValueSet, UnionMemberObjectType, UniqueInputValue}
 use Rattle.fault_data.specs.in_rule_definitions.Faults.{wrong}
-use Rattle.fault_data.specs.in_rule_definitions.ReservedNames.{is_reserved}
+use Rattle.fault_data.specs.in_rule_definitions.Names.{is_reserved, scalar_names}
 use Rattle.fault_data.specs.in_rule_definitions.Rules.{extension_places}
-use Rattle.fault_data.specs.in_rule_definitions.TypesUsed.{scalar_names}
 use Rattle.fault_data.specs.in_rule_definitions.Told.{PlacedFault}
 
 -- y where there are none

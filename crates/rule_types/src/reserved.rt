@@ -1,7 +1,7 @@
 //! Names that begin with `__` are reserved for introspection (section 2.1.9).
 ghost use Rattle.std.specs.Prelude.{◌≡◌, ◌++◌, OnOk};
 ghost use Rattle.fault_data.specs.FaultView.{faults_of};
-ghost use Rattle.fault_data.specs.in_rule_definitions.ReservedNames.{is_reserved};
+ghost use Rattle.fault_data.specs.in_rule_definitions.Names.{is_reserved};
 ghost use Rattle.rule_types.specs.FaultLists.{reserved_name};
 ghost use Rattle.rule_types.specs.NamedWords.{named_words};
 

@@ -6,7 +6,7 @@ ghost use Rattle.tree_directives.specs.DirectiveTree.{input_value_tree};
 ghost use Rattle.tree_type_members.specs.TypeSystemTree.{field_definition_tree};
 ghost use Rattle.schema_components.specs.Lists.{is_among};
 ghost use Rattle.fault_data.specs.FaultView.{faults_of};
-ghost use Rattle.fault_data.specs.in_rule_definitions.TypesUsed.{scalar_names};
+ghost use Rattle.fault_data.specs.in_rule_definitions.Names.{scalar_names};
 ghost use Rattle.rule_types.specs.FaultLists.{undefined_name, undefined_type, output_type, input_type, union_member_object_type};
 
 use fault_data::{DiagnosticData, Fault, tell};

@@ -7,7 +7,7 @@ use Rattle.tree_directives.specs.DirectiveQueries.{argument_has_name, directive_
 use Rattle.schema_components.specs.Lists.{each_place}
 use Rattle.rule_values.specs.in_rule_definitions.Diagnostics.{UniqueArgument, UniqueDirective}
 use Rattle.rule_values.specs.in_rule_definitions.Faults.{wrong}
-use Rattle.rule_values.specs.in_rule_definitions.Uses.{argument_name, directive_name}
+use Rattle.rule_values.specs.in_rule_definitions.Names.{argument_name, directive_name}
 use Rattle.rule_values.specs.in_rule_definitions.Told.{PlacedFault}
 use Rattle.rule_values.specs.Firsts.{first_told}
 use Rattle.rule_values.proofs.Noted.{told_found}

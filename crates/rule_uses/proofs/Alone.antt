@@ -5,7 +5,7 @@ use Rattle.tree_directives.specs.DirectiveTree.{Arguments, DirectiveTree}
 use Rattle.tree_directives.specs.declared.directive_location.DirectiveLocation.{DirectiveLocation}
 use Rattle.rule_values.specs.in_schema.in_schema_types.Addresses.{Address, place_at}
 use Rattle.rule_values.specs.in_rule_definitions.Judged.{Judged, judged}
-use Rattle.rule_values.specs.in_rule_definitions.Values.{Variables}
+use Rattle.rule_values.specs.in_rule_definitions.GivenValues.{Variables}
 use Rattle.rule_values.specs.in_rule_definitions.Uses.{GivenBreaks, UseBreaks}
 use Rattle.rule_values.specs.in_rule_definitions.Told.{PlacedFault}
 use Rattle.rule_values.proofs.in_fault_data.Judgings.{directive_look}

@@ -11,8 +11,9 @@ use Rattle.rule_values.specs.in_schema.in_schema_types.SchemaTree.{SchemaTree}
 use Rattle.rule_values.specs.in_rule_definitions.Diagnostics.{DisallowedVariableUsage}
 use Rattle.rule_values.specs.in_rule_definitions.Words.{Present}
 use Rattle.rule_values.specs.in_rule_definitions.Faults.{wrong}
-use Rattle.rule_values.specs.in_rule_definitions.Values.{Variables, defined_name}
-use Rattle.rule_values.specs.in_rule_definitions.Uses.{argument_name, IsVariableUsageAllowed}
+use Rattle.rule_values.specs.in_rule_definitions.Names.{defined_name, argument_name}
+use Rattle.rule_values.specs.in_rule_definitions.GivenValues.{Variables}
+use Rattle.rule_values.specs.in_rule_definitions.VariableUsage.{IsVariableUsageAllowed}
 use Rattle.rule_values.specs.in_rule_definitions.Told.{PlacedFault}
 use Rattle.rule_uses.specs.Steps.{DisallowedUsage, GivenArgumentBreaks, DefinedArgumentBreaks}
 use Rattle.rule_values.proofs.in_rule_definitions.Listing.{Lists, lists_same, lists_nothing, lists_where, present_known}

@@ -9,8 +9,10 @@ use Rattle.schema_types.specs.Addresses.{Address, DirectiveDefinitionAt, Argumen
 use Rattle.rule_values.specs.in_rule_definitions.Diagnostics.{Diagnostic}
 use Rattle.rule_values.specs.in_rule_definitions.Faults.{FaultAt}
 use Rattle.rule_values.specs.in_rule_definitions.Judged.{Judged}
-use Rattle.rule_values.specs.in_rule_definitions.Values.{is_absent_or_null, TypeBreaks}
-use Rattle.rule_values.specs.in_rule_definitions.Uses.{Taker, argument_name, input_name, directive_name, directive_taker, UniqueArgumentAt, GivenBreaks, AtArgumentGiven, UndefinedArgumentAt, RequiredArgumentAt, DisallowedVariableUsageAt, ArgumentValueBreaks, TakerBreaks, UniqueDirectiveAt, UseBreaks, UsesBreak}
+use Rattle.rule_values.specs.in_rule_definitions.GivenValues.{is_absent_or_null}
+use Rattle.rule_values.specs.in_rule_definitions.Values.{TypeBreaks}
+use Rattle.rule_values.specs.in_rule_definitions.Names.{argument_name, input_name, directive_name}
+use Rattle.rule_values.specs.in_rule_definitions.Uses.{Taker, directive_taker, UniqueArgumentAt, GivenBreaks, AtArgumentGiven, UndefinedArgumentAt, RequiredArgumentAt, DisallowedVariableUsageAt, ArgumentValueBreaks, TakerBreaks, UniqueDirectiveAt, UseBreaks, UsesBreak}
 use Rattle.rule_uses.specs.Moved.{moved_placed, moved_argument, moved_directive, moved_taker}
 use Rattle.rule_uses.proofs.Moves.{Moves, moves_either, moves_where, moves_same, moves_index, moves_repeats, moves_same_index, moves_same_first, moves_nothing, same_first}
 use Rattle.rule_uses.proofs.MovedValues.{Carries, IsMoved, moves_wrong, absent_moved, find_moved, unique_input_value_moved, undefined_variable_moved, type_breaks_moved}

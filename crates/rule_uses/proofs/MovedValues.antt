@@ -14,10 +14,11 @@ use Rattle.schema_types.specs.Looks.{TypeLooks}
 use Rattle.schema_types.specs.Addresses.{Address, TypeAt, InputAt, TypeReferenceAt}
 use Rattle.rule_values.specs.in_rule_definitions.Diagnostics.{Diagnostic, UnplacedType, UnsupportedValueType, IntCoercionError, UndefinedVariable, UndefinedEnumValue, UndefinedInputValue, RequiredField, UniqueInputValue, UniqueArgument, UndefinedArgument, RequiredArgument, UndefinedDirective, UnsupportedLocation, UniqueDirective}
 use Rattle.rule_values.specs.in_rule_definitions.Words.{Present, Somewhere, AtSomeIndex, Lacks, Repeats}
-use Rattle.rule_values.specs.in_rule_definitions.Spots.{entry_list}
+use Rattle.rule_values.specs.in_rule_definitions.GivenValues.{entry_list, Wanted, wanted_name, entry_named, is_absent_or_null}
 use Rattle.rule_values.specs.in_rule_definitions.Faults.{FaultAt, wrong}
 use Rattle.rule_values.specs.in_rule_definitions.Judged.{Judged}
-use Rattle.rule_values.specs.in_rule_definitions.Values.{Wanted, wanted_name, wanted_item, defined_name, entry_named, is_absent_or_null, FitsForm, UniqueInputValueIn, UniqueInputValueInItems, UniqueInputValueInEntries, UndefinedVariableIn, UndefinedVariableInItems, UndefinedVariableInEntries, UnsupportedValueTypeAt, IntCoercionErrorAt, UndefinedEnumValueAt, UndefinedInputValueAt, RequiredFieldAt, FormBreaks, TypeBreaks, TypeBreaksItems, TypeBreaksEntries}
+use Rattle.rule_values.specs.in_rule_definitions.Names.{defined_name}
+use Rattle.rule_values.specs.in_rule_definitions.Values.{wanted_item, FitsForm, UniqueInputValueIn, UniqueInputValueInItems, UniqueInputValueInEntries, UndefinedVariableIn, UndefinedVariableInItems, UndefinedVariableInEntries, UnsupportedValueTypeAt, IntCoercionErrorAt, UndefinedEnumValueAt, UndefinedInputValueAt, RequiredFieldAt, FormBreaks, TypeBreaks, TypeBreaksItems, TypeBreaksEntries}
 use Rattle.rule_uses.specs.Moved.{untold_text, moved_value, moved_items, moved_entries, moved_placed, moved_entry, moved_wanted}
 use Rattle.rule_uses.proofs.Moves.{Moves, moves_no, moves_fault, moves_either, moves_where, moves_same, moves_present, moves_index, moves_repeats, moves_some, neither, same_index}
 

@@ -10,8 +10,8 @@ use Rattle.tree_directives.specs.declared.directive.Argument.{Argument}
 use Rattle.schema_components.specs.Names.{same_text}
 use Rattle.rule_values.specs.in_schema.in_schema_types.SchemaTree.{SchemaTree}
 use Rattle.rule_values.specs.in_schema.in_schema_types.TypeView.{name_text}
-use Rattle.rule_values.specs.in_rule_definitions.Values.{Variables}
-use Rattle.rule_values.specs.in_rule_definitions.Uses.{argument_name}
+use Rattle.rule_values.specs.in_rule_definitions.GivenValues.{Variables}
+use Rattle.rule_values.specs.in_rule_definitions.Names.{argument_name}
 use Rattle.rule_values.specs.in_rule_definitions.Told.{PlacedFault}
 use Rattle.rule_values.specs.Firsts.{first_told, AreNumbers}
 use Rattle.rule_values.proofs.Noted.{number_first, number_here, there, as_long}

@@ -6,7 +6,8 @@ use Rattle.rule_values.specs.in_schema.in_schema_types.Addresses.{Address, TypeA
 use Rattle.schema_types.specs.Looks.{TypeLooks}
 use Rattle.rule_values.specs.in_rule_definitions.Words.{Present}
 use Rattle.rule_values.specs.in_rule_definitions.Judged.{Judged}
-use Rattle.rule_values.specs.in_rule_definitions.Values.{Wanted, Variables, wanted_name, wanted_item, FitsForm, FormBreaks, TypeBreaks, TypeBreaksItems, TypeBreaksEntries}
+use Rattle.rule_values.specs.in_rule_definitions.GivenValues.{Wanted, Variables, wanted_name}
+use Rattle.rule_values.specs.in_rule_definitions.Values.{wanted_item, FitsForm, FormBreaks, TypeBreaks, TypeBreaksItems, TypeBreaksEntries}
 use Rattle.rule_values.specs.in_rule_definitions.Told.{PlacedFault}
 use Rattle.schema_types.specs.declared.type_kind.TypeKind.TheVariants as kind
 use Rattle.rule_uses.specs.Trees.{TellSamePlaces}

@@ -8,8 +8,7 @@ use Rattle.tree_directives.specs.declared.directive_location.DirectiveLocation.T
 use Rattle.rule_values.specs.in_schema.in_schema_types.SchemaTree.{SchemaType, SchemaTree}
 use Rattle.rule_values.specs.in_schema.in_schema_types.Addresses.{applied}
 use Rattle.rule_values.specs.in_rule_definitions.Words.{AtSomeIndex}
-use Rattle.rule_values.specs.in_rule_definitions.Judged.{is_built_in_scalar}
-use Rattle.rule_values.specs.in_rule_definitions.Rules.{type_location}
+use Rattle.rule_values.specs.in_rule_definitions.Judged.{is_built_in_scalar, type_location}
 use Rattle.rule_values.specs.in_rule_definitions.Told.{PlacedFault}
 use Rattle.rule_uses.specs.SchemaUses.{FieldsUses, ValuesUses, InputsUses, OwnUses, PartsUses, OwnDefinitionUses, UsesAt}
 

@@ -21,9 +21,9 @@ use Rattle.schema_types.specs.Addresses.{Address, SchemaAt, TypeAt, FieldAt, Val
 use Rattle.rule_values.specs.in_rule_definitions.Words.{Somewhere, AtSomeIndex}
 use Rattle.rule_values.specs.in_rule_definitions.Spots.{At, spotted_directives}
 use Rattle.rule_values.specs.in_rule_definitions.Faults.{SchemaFault}
-use Rattle.rule_values.specs.in_rule_definitions.Judged.{judged, applied_directives, is_built_in_scalar, IsBuiltInScalar}
+use Rattle.rule_values.specs.in_rule_definitions.Judged.{judged, applied_directives, is_built_in_scalar, IsBuiltInScalar, type_location}
 use Rattle.rule_values.specs.in_rule_definitions.Uses.{UsesBreak}
-use Rattle.rule_values.specs.in_rule_definitions.Rules.{type_location, SchemaUsesBreak, IsToldAs, extension_places_at}
+use Rattle.rule_values.specs.in_rule_definitions.Rules.{SchemaUsesBreak, IsToldAs, extension_places_at}
 use Rattle.rule_values.specs.in_rule_definitions.Told.{PlacedFault, Told}
 use Rattle.schema_types.specs.Distinct.{AreAllDistinct}
 use Rattle.rule_values.proofs.in_rule_definitions.Lists.{index_found, index_given, mapped_some, slice_get-map}

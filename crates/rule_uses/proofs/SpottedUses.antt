@@ -8,7 +8,8 @@ use Rattle.tree_directives.specs.declared.directive_location.DirectiveLocation.{
 use Rattle.schema_types.specs.SchemaTree.{SchemaTree}
 use Rattle.schema_types.specs.Addresses.{Address, SchemaAt, DirectiveAt, GivenAt, GivenValueAt, place_at, directives_at, given_at, or_nothing}
 use Rattle.rule_values.specs.in_rule_definitions.Diagnostics.{Diagnostic, map_places}
-use Rattle.rule_values.specs.in_rule_definitions.Spots.{Spot, At, HeadAt, ItemAt, KeyAt, EntryAt, each_from, spotted_value, spotted_items, spotted_entries, spotted_argument, spotted_directive, spotted_directives, item_of, entry_list, written_at, spot_place, SpotIsAt}
+use Rattle.rule_values.specs.in_rule_definitions.GivenValues.{entry_list}
+use Rattle.rule_values.specs.in_rule_definitions.Spots.{Spot, At, HeadAt, ItemAt, KeyAt, EntryAt, each_from, spotted_value, spotted_items, spotted_entries, spotted_argument, spotted_directive, spotted_directives, item_of, written_at, spot_place, SpotIsAt}
 use Rattle.rule_values.specs.in_rule_definitions.Faults.{FaultAt, SchemaFault, wrong}
 use Rattle.rule_values.specs.in_rule_definitions.Judged.{Judged}
 use Rattle.rule_values.specs.in_rule_definitions.Uses.{UsesBreak}

@@ -7,7 +7,7 @@ use Rattle.tree_literals.specs.TypeQueries.{has_mark, nullable_type, AreTypesCom
 use Rattle.tree_literals.specs.ValueTree.{unplaced_value}
 use Rattle.tree_directives.specs.DirectiveTree.{InputValueTree, unplaced_input_value}
 use Rattle.tree_operations.specs.OperationTree.{VariableDefinitionTree}
-use Rattle.rule_values.specs.in_rule_definitions.Uses.{IsVariableUsageAllowed}
+use Rattle.rule_values.specs.in_rule_definitions.VariableUsage.{IsVariableUsageAllowed}
 use Rattle.rule_uses.specs.Steps.{FitsWithDefault}
 
 same_fit : (a b : TypeTree Place) → AreTypesCompatible (unplaced_type a) (unplaced_type b) ↔ AreTypesCompatible a b

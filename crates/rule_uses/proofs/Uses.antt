@@ -18,8 +18,11 @@ use Rattle.rule_values.specs.in_rule_definitions.Diagnostics.{UniqueArgument, Un
 use Rattle.rule_values.specs.in_rule_definitions.Words.{Present, AtSomeIndex, Lacks, IsFirst, FirstNamed}
 use Rattle.rule_values.specs.in_rule_definitions.Faults.{wrong}
 use Rattle.rule_values.specs.in_rule_definitions.Judged.{Judged, judged}
-use Rattle.rule_values.specs.in_rule_definitions.Values.{Variables, defined_name, is_absent_or_null, TypeBreaks}
-use Rattle.rule_values.specs.in_rule_definitions.Uses.{Taker, argument_name, input_name, directive_name, directive_taker, IsVariableUsageAllowed, UniqueArgumentAt, GivenBreaks, UndefinedArgumentAt, RequiredArgumentAt, DisallowedVariableUsageAt, ArgumentValueBreaks, TakerBreaks, UnsupportedLocationAt, UniqueDirectiveAt, UseBreaks, UsesBreak}
+use Rattle.rule_values.specs.in_rule_definitions.Names.{defined_name, argument_name, input_name, directive_name}
+use Rattle.rule_values.specs.in_rule_definitions.GivenValues.{Variables, is_absent_or_null}
+use Rattle.rule_values.specs.in_rule_definitions.Values.{TypeBreaks}
+use Rattle.rule_values.specs.in_rule_definitions.VariableUsage.{IsVariableUsageAllowed}
+use Rattle.rule_values.specs.in_rule_definitions.Uses.{Taker, directive_taker, UniqueArgumentAt, GivenBreaks, UndefinedArgumentAt, RequiredArgumentAt, DisallowedVariableUsageAt, ArgumentValueBreaks, TakerBreaks, UnsupportedLocationAt, UniqueDirectiveAt, UseBreaks, UsesBreak}
 use Rattle.rule_values.specs.in_rule_definitions.Told.{PlacedFault}
 use Rattle.rule_values.specs.Wanting.{wanted}
 use Rattle.rule_uses.specs.Trees.{plain_inputs, holder_of, TellSamePlaces, TellsPlaces}

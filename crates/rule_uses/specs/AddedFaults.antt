@@ -9,7 +9,7 @@ use Rattle.rule_values.specs.in_schema.in_schema_types.Addresses.{Address, place
 use Rattle.rule_values.specs.in_fault_data.Adds.{Adds}
 use Rattle.rule_values.specs.in_fault_data.declared.fault.Fault.{Fault}
 use Rattle.rule_values.specs.in_rule_definitions.Judged.{Judged, judged}
-use Rattle.rule_values.specs.in_rule_definitions.Values.{Variables}
+use Rattle.rule_values.specs.in_rule_definitions.GivenValues.{Variables}
 use Rattle.rule_values.specs.in_rule_definitions.Uses.{GivenBreaks, TakerBreaks, UsesBreak}
 use Rattle.rule_uses.specs.Trees.{TellsPlaces, taker_of}
 use Rattle.rule_uses.specs.declared.taker.Taker.{Taker}

@@ -6,7 +6,7 @@ use Rattle.rule_values.specs.in_rule_definitions.Diagnostics.{UniqueArgument, Un
 use Rattle.rule_values.specs.in_rule_definitions.Faults.{wrong}
 use Rattle.rule_values.specs.in_rule_definitions.Words.{AtSomeIndex, Repeats}
 use Rattle.rule_values.specs.in_rule_definitions.Values.{UniqueInputValueIn}
-use Rattle.rule_values.specs.in_rule_definitions.Uses.{argument_name, directive_name}
+use Rattle.rule_values.specs.in_rule_definitions.Names.{argument_name, directive_name}
 use Rattle.rule_values.specs.in_rule_definitions.Told.{PlacedFault}
 
 -- a key is given twice in the value of an argument

@@ -3,7 +3,7 @@ use Rattle.std.specs.Prelude.{map}
 use Rattle.graphql_names.specs.Placed.{Placed, Text}
 use Rattle.tree_literals.specs.ValueTree.{ValueTree, ItemTrees, EntryTrees, NullTree, EnumTree, VariableTree, StringTree, FloatTree, IntTree, BooleanTree, ListTree, ObjectTree, no_items, item_then, no_entries, entry_then}
 use Rattle.tree_directives.specs.DirectiveTree.{ArgumentTree, DirectiveTree}
-use Rattle.rule_values.specs.in_rule_definitions.Values.{Wanted}
+use Rattle.rule_values.specs.in_rule_definitions.GivenValues.{Wanted}
 use Rattle.rule_values.specs.in_rule_definitions.Uses.{Taker}
 
 -- p gives each place that a rule can tell; the other names stand at `none`

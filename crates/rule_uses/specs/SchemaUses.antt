@@ -11,9 +11,8 @@ use Rattle.schema_components.specs.Given.{Given}
 use Rattle.schema_types.specs.SchemaTree.{SchemaType, SchemaTree}
 use Rattle.schema_types.specs.Addresses.{place_at, applied}
 use Rattle.rule_values.specs.in_rule_definitions.Words.{AtSomeIndex}
-use Rattle.rule_values.specs.in_rule_definitions.Judged.{judged, is_built_in_scalar}
+use Rattle.rule_values.specs.in_rule_definitions.Judged.{judged, is_built_in_scalar, type_location}
 use Rattle.rule_values.specs.in_rule_definitions.Uses.{UsesBreak}
-use Rattle.rule_values.specs.in_rule_definitions.Rules.{type_location}
 use Rattle.rule_values.specs.in_rule_definitions.Told.{PlacedFault}
 
 module _ (s : SchemaTree Place) where

@@ -14,8 +14,11 @@ use Rattle.rule_values.specs.in_rule_definitions.Diagnostics.{DisallowedVariable
 use Rattle.rule_values.specs.in_rule_definitions.Faults.{wrong}
 use Rattle.rule_values.specs.in_rule_definitions.Words.{Present, AtSomeIndex}
 use Rattle.rule_values.specs.in_rule_definitions.Judged.{judged}
-use Rattle.rule_values.specs.in_rule_definitions.Values.{Variables, defined_name, UndefinedVariableIn, TypeBreaks}
-use Rattle.rule_values.specs.in_rule_definitions.Uses.{argument_name, IsVariableUsageAllowed, UnsupportedLocationAt, TakerBreaks, directive_taker}
+use Rattle.rule_values.specs.in_rule_definitions.Names.{defined_name, argument_name}
+use Rattle.rule_values.specs.in_rule_definitions.GivenValues.{Variables}
+use Rattle.rule_values.specs.in_rule_definitions.Values.{UndefinedVariableIn, TypeBreaks}
+use Rattle.rule_values.specs.in_rule_definitions.VariableUsage.{IsVariableUsageAllowed}
+use Rattle.rule_values.specs.in_rule_definitions.Uses.{UnsupportedLocationAt, TakerBreaks, directive_taker}
 use Rattle.rule_values.specs.in_rule_definitions.Told.{PlacedFault}
 use Rattle.rule_values.specs.Wanting.{wanted}
 use Rattle.rule_uses.specs.Trees.{plain_inputs}

@@ -8,8 +8,9 @@ use Rattle.tree_directives.specs.DirectiveQueries.{argument_has_name, input_valu
 use Rattle.tree_directives.specs.declared.directive_location.DirectiveLocation.{DirectiveLocation}
 use Rattle.rule_values.specs.in_rule_definitions.Diagnostics.{UniqueArgument, UndefinedArgument, RequiredArgument, UndefinedDirective, UniqueDirective, UnsupportedLocation}
 use Rattle.rule_values.specs.in_rule_definitions.Faults.{wrong}
-use Rattle.rule_values.specs.in_rule_definitions.Values.{is_absent_or_null}
-use Rattle.rule_values.specs.in_rule_definitions.Uses.{Taker, argument_name, input_name, directive_name}
+use Rattle.rule_values.specs.in_rule_definitions.GivenValues.{is_absent_or_null}
+use Rattle.rule_values.specs.in_rule_definitions.Names.{argument_name, input_name, directive_name}
+use Rattle.rule_values.specs.in_rule_definitions.Uses.{Taker}
 use Rattle.rule_values.specs.in_rule_definitions.Told.{PlacedFault}
 
 -- an argument behind these

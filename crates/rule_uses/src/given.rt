@@ -6,7 +6,7 @@ ghost use Rattle.tree_directives.specs.DirectiveTree.{argument_tree};
 ghost use Rattle.tree_directives.specs.DirectiveQueries.{argument_has_name};
 ghost use Rattle.schema_components.specs.Lists.{each_place};
 ghost use Rattle.rule_values.specs.in_fault_data.FaultView.{fault_of, faults_of};
-ghost use Rattle.rule_values.specs.in_rule_definitions.Uses.{argument_name};
+ghost use Rattle.rule_values.specs.in_rule_definitions.Names.{argument_name};
 ghost use Rattle.rule_values.specs.in_fault_data.Adds.{Adds};
 ghost use Rattle.rule_values.specs.Firsts.{AreFirsts, AreNumbers};
 ghost use Rattle.rule_values.specs.Wanting.{variables_of};

@@ -16,8 +16,8 @@ ghost use Rattle.rule_values.specs.in_fault_data.DiagnosticView.{plain_reference
 ghost use Rattle.rule_values.specs.in_rule_definitions.Diagnostics.{UndefinedArgument, RequiredArgument};
 ghost use Rattle.rule_values.specs.in_rule_definitions.Faults.{wrong};
 ghost use Rattle.rule_values.specs.in_rule_definitions.Words.{AtSomeIndex};
-ghost use Rattle.rule_values.specs.in_rule_definitions.Values.{is_absent_or_null};
-ghost use Rattle.rule_values.specs.in_rule_definitions.Uses.{argument_name, input_name};
+ghost use Rattle.rule_values.specs.in_rule_definitions.GivenValues.{is_absent_or_null};
+ghost use Rattle.rule_values.specs.in_rule_definitions.Names.{argument_name, input_name};
 ghost use Rattle.rule_values.specs.in_fault_data.Adds.{Adds};
 ghost use Rattle.rule_values.specs.Firsts.{AreNumbers};
 ghost use Rattle.rule_values.specs.Wanting.{variables_of};

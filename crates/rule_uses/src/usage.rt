@@ -10,7 +10,7 @@ ghost use Rattle.rule_values.specs.in_fault_data.FaultView.{fault_of};
 ghost use Rattle.rule_values.specs.in_fault_data.DiagnosticView.{plain_reference};
 ghost use Rattle.rule_values.specs.in_rule_definitions.Diagnostics.{DisallowedVariableUsage};
 ghost use Rattle.rule_values.specs.in_rule_definitions.Faults.{wrong};
-ghost use Rattle.rule_values.specs.in_rule_definitions.Uses.{IsVariableUsageAllowed};
+ghost use Rattle.rule_values.specs.in_rule_definitions.VariableUsage.{IsVariableUsageAllowed};
 ghost use Rattle.rule_values.specs.Wanting.{variables_of};
 ghost use Rattle.rule_uses.specs.Steps.{Lists, FitsWithDefault, DisallowedUsage};
 

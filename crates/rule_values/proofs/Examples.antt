@@ -9,7 +9,8 @@ use Rattle.graphql_schema.specs.in_schema_types.declared.type_kind.TypeKind.TheV
 use Rattle.fault_data.specs.in_rule_definitions.Diagnostics.{UnsupportedValueType, IntCoercionError}
 use Rattle.fault_data.specs.in_rule_definitions.Faults.{wrong}
 use Rattle.fault_data.specs.in_rule_definitions.Judged.{Judged}
-use Rattle.fault_data.specs.in_rule_definitions.Values.{Wanted, FitsForm, IntCoercionErrorAt, TypeBreaks}
+use Rattle.fault_data.specs.in_rule_definitions.GivenValues.{Wanted}
+use Rattle.fault_data.specs.in_rule_definitions.Values.{FitsForm, IntCoercionErrorAt, TypeBreaks}
 use Rattle.rule_values.proofs.Tells.{no_true}
 use Rattle.rule_values.proofs.FormsTold.{fits_decides, among_more, among_one}
 

@@ -25,10 +25,11 @@ use Rattle.graphql_schema.specs.in_schema_types.declared.type_kind.TypeKind.TheV
 use Rattle.schema_coordinates.specs.Coordinate.{OfAttribute}
 use Rattle.fault_data.specs.in_rule_definitions.Diagnostics.{UnsupportedValueType, IntCoercionError, UndefinedEnumValue, UndefinedInputValue, RequiredField}
 use Rattle.fault_data.specs.in_rule_definitions.Words.{Present, Somewhere, AtSomeIndex}
-use Rattle.fault_data.specs.in_rule_definitions.Spots.{entry_list}
+use Rattle.fault_data.specs.in_rule_definitions.GivenValues.{entry_list, Wanted, Variables, wanted_name, entry_named, is_absent_or_null, IsScalarAmong}
 use Rattle.fault_data.specs.in_rule_definitions.Faults.{wrong}
 use Rattle.fault_data.specs.in_rule_definitions.Judged.{Judged, judged, is_built_in_scalar, IsBuiltInScalar, IsCustomScalar}
-use Rattle.fault_data.specs.in_rule_definitions.Values.{Wanted, Variables, defined_name, wanted_name, entry_named, is_absent_or_null, IsScalarAmong, FitsForm, UnsupportedValueTypeAt, IntCoercionErrorAt, UndefinedEnumValueAt, UndefinedInputValueAt, RequiredFieldAt, FormBreaks}
+use Rattle.fault_data.specs.in_rule_definitions.Names.{defined_name}
+use Rattle.fault_data.specs.in_rule_definitions.Values.{FitsForm, UnsupportedValueTypeAt, IntCoercionErrorAt, UndefinedEnumValueAt, UndefinedInputValueAt, RequiredFieldAt, FormBreaks}
 use Rattle.fault_data.specs.in_rule_definitions.Told.{PlacedFault}
 use Rattle.rule_values.specs.Wanting.{wanted}
 use Rattle.rule_values.specs.ValueFaults.{is_key, fits_32_bits, is_custom_scalar, is_scalar_so, takes_integers, takes_floats, takes_strings, takes_booleans, given_entry, is_missing_entry, each_first, fits_form, unsupported_value_type, int_coercion_error, undefined_enum_value, undefined_key, undefined_input_value, required_field, required_fields, form_faults}

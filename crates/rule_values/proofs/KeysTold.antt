@@ -8,7 +8,7 @@ use Rattle.graphql_names.specs.Placed.{Placed, Place, Text}
 use Rattle.tree_literals.specs.ValueTree.{ValueTree, ItemTrees, EntryTrees, NullTree, EnumTree, VariableTree, StringTree, FloatTree, IntTree, BooleanTree, ListTree, ObjectTree, no_items, item_then, no_entries, entry_then}
 use Rattle.fault_data.specs.in_rule_definitions.Diagnostics.{UniqueInputValue}
 use Rattle.fault_data.specs.in_rule_definitions.Words.{Present, AtSomeIndex, IsFirst, FirstNamed, Repeats}
-use Rattle.fault_data.specs.in_rule_definitions.Spots.{entry_list}
+use Rattle.fault_data.specs.in_rule_definitions.GivenValues.{entry_list}
 use Rattle.fault_data.specs.in_rule_definitions.Faults.{wrong}
 use Rattle.fault_data.specs.in_rule_definitions.Values.{UniqueInputValueIn, UniqueInputValueInItems, UniqueInputValueInEntries}
 use Rattle.fault_data.specs.in_rule_definitions.Told.{PlacedFault}

@@ -13,7 +13,7 @@ use Rattle.tree_literals.specs.declared.value.Value.{Value}
 use Rattle.schema_components.specs.Names.{same_text}
 use Rattle.graphql_schema.specs.in_schema_types.SchemaTree.{SchemaTree}
 use Rattle.graphql_schema.specs.in_schema_types.TypeView.{name_text}
-use Rattle.fault_data.specs.in_rule_definitions.Values.{Variables}
+use Rattle.fault_data.specs.in_rule_definitions.GivenValues.{Variables}
 use Rattle.fault_data.specs.in_rule_definitions.Told.{PlacedFault}
 use Rattle.rule_values.specs.ValueFaults.{is_key, each_first, item_faults, type_faults}
 

@@ -12,7 +12,7 @@ use Rattle.tree_literals.specs.declared.value.Value.{Value}
 use Rattle.graphql_schema.specs.in_schema_types.SchemaTree.{SchemaType, SchemaTree}
 use Rattle.fault_data.specs.in_rule_definitions.Diagnostics.{UniqueInputValue}
 use Rattle.fault_data.specs.in_rule_definitions.Faults.{wrong}
-use Rattle.fault_data.specs.in_rule_definitions.Values.{Variables}
+use Rattle.fault_data.specs.in_rule_definitions.GivenValues.{Variables}
 use Rattle.fault_data.specs.in_rule_definitions.Told.{PlacedFault}
 use Rattle.rule_values.specs.Firsts.{first_told}
 use Rattle.rule_values.specs.KeyFaults.{key_again, repeated_key, repeated_keys}

@@ -16,7 +16,8 @@ use Rattle.graphql_schema.specs.in_schema_types.Addresses.{under, type_at, place
 use Rattle.graphql_schema.specs.in_schema_types.declared.type_kind.TypeKind.TheVariants as kind
 use Rattle.fault_data.specs.in_rule_definitions.Words.{Present}
 use Rattle.fault_data.specs.in_rule_definitions.Judged.{judged}
-use Rattle.fault_data.specs.in_rule_definitions.Values.{Wanted, Variables, wanted_name, wanted_item, FitsForm, FormBreaks, TypeBreaks, TypeBreaksItems, TypeBreaksEntries}
+use Rattle.fault_data.specs.in_rule_definitions.GivenValues.{Wanted, Variables, wanted_name}
+use Rattle.fault_data.specs.in_rule_definitions.Values.{wanted_item, FitsForm, FormBreaks, TypeBreaks, TypeBreaksItems, TypeBreaksEntries}
 use Rattle.fault_data.specs.in_rule_definitions.Told.{PlacedFault}
 use Rattle.rule_values.specs.Wanting.{wanted}
 use Rattle.rule_values.specs.ValueFaults.{is_key, fits_form, form_faults, faults_with, inner_faults, item_faults, entry_faults, type_faults}

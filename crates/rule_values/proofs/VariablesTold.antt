@@ -9,7 +9,9 @@ use Rattle.tree_operations.specs.OperationTree.{VariableDefinitionTree}
 use Rattle.fault_data.specs.in_rule_definitions.Diagnostics.{UndefinedVariable}
 use Rattle.fault_data.specs.in_rule_definitions.Words.{AtSomeIndex}
 use Rattle.fault_data.specs.in_rule_definitions.Faults.{wrong}
-use Rattle.fault_data.specs.in_rule_definitions.Values.{Variables, defined_name, UndefinedVariableIn, UndefinedVariableInItems, UndefinedVariableInEntries}
+use Rattle.fault_data.specs.in_rule_definitions.Names.{defined_name}
+use Rattle.fault_data.specs.in_rule_definitions.GivenValues.{Variables}
+use Rattle.fault_data.specs.in_rule_definitions.Values.{UndefinedVariableIn, UndefinedVariableInItems, UndefinedVariableInEntries}
 use Rattle.rule_values.specs.VariableFaults.{variable_faults, variable_faults_items, variable_faults_entries}
 use Rattle.rule_values.proofs.Tells.{no_true, no_some, not_in_nil, only, is_only, Tells, tells_both, tells_nothing}
 

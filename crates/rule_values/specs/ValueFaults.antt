@@ -21,7 +21,8 @@ use Rattle.schema_coordinates.specs.Coordinate.{OfAttribute}
 use Rattle.fault_data.specs.in_rule_definitions.Diagnostics.{UnsupportedValueType, IntCoercionError, UndefinedEnumValue, UndefinedInputValue, RequiredField}
 use Rattle.fault_data.specs.in_rule_definitions.Faults.{wrong}
 use Rattle.fault_data.specs.in_rule_definitions.Judged.{is_built_in_scalar}
-use Rattle.fault_data.specs.in_rule_definitions.Values.{Variables, defined_name}
+use Rattle.fault_data.specs.in_rule_definitions.Names.{defined_name}
+use Rattle.fault_data.specs.in_rule_definitions.GivenValues.{Variables}
 use Rattle.fault_data.specs.in_rule_definitions.Told.{PlacedFault}
 
 -- the name is among these

@@ -5,7 +5,8 @@ use Rattle.graphql_names.specs.Placed.{Place, Text}
 use Rattle.tree_literals.specs.ValueTree.{ValueTree, ItemTrees, EntryTrees, VariableTree, ListTree, ObjectTree, no_items, item_then, no_entries, entry_then}
 use Rattle.fault_data.specs.in_rule_definitions.Diagnostics.{UndefinedVariable}
 use Rattle.fault_data.specs.in_rule_definitions.Faults.{wrong}
-use Rattle.fault_data.specs.in_rule_definitions.Values.{Variables, defined_name}
+use Rattle.fault_data.specs.in_rule_definitions.Names.{defined_name}
+use Rattle.fault_data.specs.in_rule_definitions.GivenValues.{Variables}
 use Rattle.fault_data.specs.in_rule_definitions.Told.{PlacedFault}
 
 module _ (variables : Variables Place) where

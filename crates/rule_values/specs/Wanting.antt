@@ -20,7 +20,7 @@ use Rattle.schema_components.specs.Names.{same_text}
 use Rattle.schema_components.specs.Given.{component_tree}
 use Rattle.schema_components.specs.declared.component.Component.{Component}
 use Rattle.graphql_schema.specs.in_schema_types.TypeView.{name_text}
-use Rattle.fault_data.specs.in_rule_definitions.Values.{Wanted, Variables}
+use Rattle.fault_data.specs.in_rule_definitions.GivenValues.{Wanted, Variables}
 use Rattle.fault_data.specs.in_rule_definitions.Told.{PlacedFault}
 use Rattle.rule_values.specs.ValueFaults.{required_if}
 

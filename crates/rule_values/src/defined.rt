@@ -3,7 +3,7 @@ ghost use Rattle.std.specs.Prelude.{◌≡◌, find, bytes_eq, IfOk};
 ghost use Rattle.std.specs.Option.{option_map};
 ghost use Rattle.graphql_names.specs.Placed.{node_tree};
 ghost use Rattle.tree_operations.specs.OperationTree.{variable_definition_tree};
-ghost use Rattle.fault_data.specs.in_rule_definitions.Values.{defined_name};
+ghost use Rattle.fault_data.specs.in_rule_definitions.Names.{defined_name};
 ghost use Rattle.rule_values.specs.Firsts.{AreNumbers};
 ghost use Rattle.rule_values.specs.Wanting.{variables_of};
 
@@ -28,7 +28,7 @@ impl<'a> Model for DefinedVariables<'a> {
     ghost use Rattle.std.specs.Prelude.{List, IfSome};
     ghost use Rattle.graphql_names.specs.declared.node.Node.{Node};
     ghost use Rattle.tree_operations.specs.declared.operation.VariableDefinition.{VariableDefinition};
-    ghost use Rattle.fault_data.specs.in_rule_definitions.Values.{defined_name};
+    ghost use Rattle.fault_data.specs.in_rule_definitions.Names.{defined_name};
     ghost use Rattle.rule_values.specs.Firsts.{AreNumbers};
     ghost use Rattle.rule_values.specs.Wanting.{variables_of};
     ghost use Rattle.std.specs.Coded.{codes};

@@ -8,8 +8,10 @@ use Rattle.schema_types.specs.SchemaTree.{SchemaTree}
 use Rattle.schema_types.specs.Addresses.{TypeReferenceAt, place_at}
 use Rattle.rule_definitions.specs.Words.{Present, AtSomeIndex}
 use Rattle.rule_definitions.specs.Judged.{judged}
-use Rattle.rule_definitions.specs.Values.{Variables, Wanted, UndefinedVariableIn, ValueBreaks}
-use Rattle.rule_definitions.specs.Uses.{directive_name, directive_taker, UniqueDirectiveAt, UndefinedDirectiveAt, UnsupportedLocationAt, GivenBreaks, UndefinedArgumentAt, RequiredArgumentAt, DisallowedVariableUsageAt, AtArgumentGiven, UsesBreak}
+use Rattle.rule_definitions.specs.GivenValues.{Variables, Wanted}
+use Rattle.rule_definitions.specs.Values.{UndefinedVariableIn, ValueBreaks}
+use Rattle.rule_definitions.specs.Names.{directive_name}
+use Rattle.rule_definitions.specs.Uses.{directive_taker, UniqueDirectiveAt, UndefinedDirectiveAt, UnsupportedLocationAt, GivenBreaks, UndefinedArgumentAt, RequiredArgumentAt, DisallowedVariableUsageAt, AtArgumentGiven, UsesBreak}
 use Rattle.rule_definitions.specs.Told.{PlacedFault}
 use Rattle.rule_document_definitions.specs.Told.{place_or_built_in}
 use Rattle.rule_uses.specs.Trees.{TellSamePlaces}

@@ -8,7 +8,8 @@ use Rattle.rule_definitions.proofs.Lists.{not_in_nil}
 use Rattle.schema_types.specs.Addresses.{Address}
 use Rattle.rule_document_definitions.specs.Selected.{own}
 use Rattle.rule_document_definitions.specs.Reached.{AtReached, AtReachedFragment}
-use Rattle.rule_document_definitions.specs.Variables.{StandsInDirectives, StandsInSelection, IsUsedIn, UnusedVariableAt}
+use Rattle.rule_document_definitions.specs.UsedVariables.{StandsInDirectives, StandsInSelection, IsUsedIn}
+use Rattle.rule_document_definitions.specs.Variables.{UnusedVariableAt}
 use Rattle.rule_document_ground.specs.Reach.{Member, IsReach}
 use Rattle.rule_document_ground.proofs.AtReaches.{at_reached, at_reached_fragment}
 use Rattle.rule_variables.specs.Parts.{places_with, VariablesBreakAlone}

@@ -13,7 +13,7 @@ use Rattle.document_meaning.specs.MeantTree.{MeantSelection, MeantField, MeantSp
 use Rattle.rule_definitions.specs.Words.{AtSomeIndex}
 use Rattle.rule_definitions.proofs.Lists.{not_in_nil, Contains-cons, Contains-first}
 use Rattle.rule_document_definitions.specs.Selected.{Position, Standing}
-use Rattle.rule_document_definitions.specs.Variables.{StandsInValue, StandsInItems, StandsInEntries, StandsInArguments, StandsInDirectives, StandsInSelection}
+use Rattle.rule_document_definitions.specs.UsedVariables.{StandsInValue, StandsInItems, StandsInEntries, StandsInArguments, StandsInDirectives, StandsInSelection}
 use Rattle.rule_variables.specs.UsedNames.{with_value, with_items, with_entries, with_arguments, with_directives, with_selection}
 
 -- ---- a name among those of keys

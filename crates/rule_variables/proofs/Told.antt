@@ -17,9 +17,10 @@ use Rattle.rule_definitions.specs.Diagnostics.{UndefinedDefinition, UniqueVariab
 use Rattle.rule_definitions.specs.Words.{Present, AtSomeIndex, FirstNamed, Repeats}
 use Rattle.rule_definitions.specs.Faults.{wrong}
 use Rattle.rule_definitions.specs.Judged.{judged}
-use Rattle.rule_definitions.specs.Values.{Variables, wanted_name, defined_name}
+use Rattle.rule_definitions.specs.Names.{defined_name}
+use Rattle.rule_definitions.specs.GivenValues.{Variables, wanted_name}
 use Rattle.rule_definitions.specs.Told.{PlacedFault}
-use Rattle.rule_document_definitions.specs.Variables.{wanted_by}
+use Rattle.rule_document_definitions.specs.UsedVariables.{wanted_by}
 use Rattle.rule_values.specs.Firsts.{first_told}
 use Rattle.rule_values.proofs.Noted.{told_found}
 use Rattle.rule_values.proofs.Looking.{inner_unplaced, type_absent, type_present}

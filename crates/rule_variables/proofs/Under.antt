@@ -10,7 +10,8 @@ use Rattle.rule_definitions.specs.Values.{ValueBreaks}
 use Rattle.rule_definitions.specs.Uses.{UsesBreak}
 use Rattle.rule_definitions.specs.Told.{PlacedFault}
 use Rattle.rule_document_definitions.specs.Told.{places_in, place_or_built_in}
-use Rattle.rule_document_definitions.specs.Variables.{wanted_by, DefaultValueBreaks, VariableDirectivesBreak}
+use Rattle.rule_document_definitions.specs.UsedVariables.{wanted_by}
+use Rattle.rule_document_definitions.specs.Variables.{DefaultValueBreaks, VariableDirectivesBreak}
 use Rattle.rule_variables.specs.Parts.{VariablesBreakUnder}
 use Rattle.rule_variables.specs.VariableFaults.{UndefinedType, NoInputType, DefaultBreaks, DirectivesBreak, VariableBreaks}
 use Rattle.rule_variables.proofs.Alike.{same_value_breaks, same_uses_break}

@@ -14,10 +14,12 @@ use Rattle.rule_definitions.specs.Diagnostics.{UndefinedDefinition, UniqueVariab
 use Rattle.rule_definitions.specs.Words.{Present, AtSomeIndex, Repeats}
 use Rattle.rule_definitions.specs.Faults.{wrong}
 use Rattle.rule_definitions.specs.Judged.{judged}
-use Rattle.rule_definitions.specs.Values.{Variables, wanted_name, defined_name, UniqueInputValueIn, ValueBreaks}
+use Rattle.rule_definitions.specs.Names.{defined_name}
+use Rattle.rule_definitions.specs.GivenValues.{Variables, wanted_name}
+use Rattle.rule_definitions.specs.Values.{UniqueInputValueIn, ValueBreaks}
 use Rattle.rule_definitions.specs.Uses.{UsesBreak}
 use Rattle.rule_definitions.specs.Told.{PlacedFault}
-use Rattle.rule_document_definitions.specs.Variables.{wanted_by}
+use Rattle.rule_document_definitions.specs.UsedVariables.{wanted_by}
 
 -- a variable of an operation, with its place
 abbrev pub Defined : Type 0

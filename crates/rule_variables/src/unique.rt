@@ -3,7 +3,7 @@ ghost use Rattle.std.specs.Prelude.{◌≡◌, ◌++◌, [], map, IfOk, OnOk, op
 ghost use Rattle.graphql_names.specs.Placed.{node_tree};
 ghost use Rattle.tree_operations.specs.OperationTree.{variable_definition_tree};
 ghost use Rattle.schema_components.specs.Lists.{each_place};
-ghost use Rattle.rule_definitions.specs.Values.{defined_name};
+ghost use Rattle.rule_definitions.specs.Names.{defined_name};
 ghost use Rattle.rule_definitions.specs.Words.{AtSomeIndex};
 ghost use Rattle.rule_values.specs.in_fault_data.FaultView.{fault_of, faults_of};
 ghost use Rattle.rule_values.specs.in_fault_data.Adds.{Adds};

@@ -11,7 +11,8 @@ use Rattle.rule_definitions.specs.Cycles.{PassesReferenceBound}
 use Rattle.rule_definitions.specs.Laws.{AreEqual}
 use Rattle.rule_definitions.proofs.Same.{read_the_same}
 use Rattle.verdict_definitions.specs.Texts.{SourceText, Tree, Terms, ReadsText, document_number}
-use Rattle.verdict_definitions.specs.Judge.{schema_of, schema_at_hand, document_over, AreSchemasCertain, IsDocumentCertain, PassesNoReferenceBound, PassesNoDocumentBound}
+use Rattle.verdict_definitions.specs.Meaning.{schema_of, schema_at_hand, document_over}
+use Rattle.verdict_definitions.specs.Judge.{AreSchemasCertain, IsDocumentCertain, PassesNoReferenceBound, PassesNoDocumentBound}
 use Rattle.verdict_definitions.specs.Out.{Out, OutDoc, Layout, layout_text}
 use Rattle.verdict_definitions.specs.Answer.{WritesDocument}
 use Rattle.verdict_laws.proofs.AnyNumber.{one_tree}

@@ -4,7 +4,8 @@ use Rattle.std.specs.Prelude.{IfOk, IfErr}
 use Rattle.rule_definitions.specs.Laws.{AreEqual}
 use Rattle.verdict_rearranging_laws.specs.Permuting.{IsPermuted}
 use Rattle.verdict_definitions.specs.Texts.{SourceText, Terms}
-use Rattle.verdict_definitions.specs.Judge.{schema_at_hand, AreSchemasCertain, IsAccepted, IsCertain, IsDocumentAccepted}
+use Rattle.verdict_definitions.specs.Meaning.{schema_at_hand}
+use Rattle.verdict_definitions.specs.Judge.{AreSchemasCertain, IsAccepted, IsCertain, IsDocumentAccepted}
 use Rattle.verdict_definitions.specs.Out.{Out, layout_text}
 use Rattle.verdict_laws.specs.Rearranged.{AreRearranged, AreCut, TextsHaveNumbers, AreAcceptedAlike}
 use Rattle.verdict_laws.proofs.AnyNumber.{equal_accept}

@@ -14,8 +14,7 @@ use Rattle.document_meaning.specs.MeantTree.{Definition, MeantDocument, MeantOpe
 use Rattle.document_meaning.specs.Unplaced.{unplaced_document}
 use Rattle.rule_definitions.specs.Faults.{FaultAt}
 use Rattle.rule_definitions.specs.Judged.{Judged}
-use Rattle.rule_definitions.specs.Uses.{argument_name, directive_name}
-use Rattle.rule_definitions.specs.Values.{defined_name}
+use Rattle.rule_definitions.specs.Names.{argument_name, directive_name, defined_name}
 use Rattle.rule_definitions.proofs.Lists.{not_in_nil, only}
 use Rattle.document_typing.specs.KeptDocument.{kept_document}
 use Rattle.document_typing.specs.TypingFaults.{TypingRules}
@@ -34,7 +33,8 @@ use Rattle.rule_document_definitions.specs.Told.{IsValidDocument}
 use Rattle.rule_document_definitions.proofs.Levels.{reached_in}
 use Rattle.rule_document_definitions.proofs.MergingFacts.{IsReachedField, merge_if_all_agree}
 use Rattle.rule_document_definitions.proofs.RowWords.{of_present, not_present, not_at_index, none_repeats, none_reached, no_fragment, of_each}
-use Rattle.verdict_definitions.specs.Judge.{schema_at_hand, document_over, JudgeDocument, IsDocumentAccepted}
+use Rattle.verdict_definitions.specs.Meaning.{schema_at_hand, document_over}
+use Rattle.verdict_definitions.specs.Judge.{JudgeDocument, IsDocumentAccepted}
 use Rattle.verdict_definitions.proofs.RowReading.{reader, is_within}
 use Rattle.verdict_definitions.proofs.RowTrees.{terms}
 use Rattle.verdict_definitions.proofs.RowMeanings.{meanings_found, same_meanings, type_found, judged_found, same_judged}

@@ -17,14 +17,15 @@ use Rattle.rule_definitions.proofs.Lists.{not_in_nil}
 use Rattle.rule_document_definitions.specs.DocumentFaults.{OfData, OfDocument, broken}
 use Rattle.rule_document_definitions.specs.Selected.{Standing, StandingField, InOperation, SelectionAt}
 use Rattle.rule_document_definitions.specs.Reached.{first}
-use Rattle.rule_document_definitions.specs.Variables.{IsUsedIn, StandsInSelection}
+use Rattle.rule_document_definitions.specs.UsedVariables.{IsUsedIn, StandsInSelection}
 use Rattle.rule_document_definitions.specs.Merging.{SameName, telling}
 use Rattle.rule_document_definitions.specs.Told.{PlacedDocumentFault, DocumentFails, DocumentMergingFails}
 use Rattle.rule_document_definitions.proofs.RowWords.{of_present, not_at_index, none_reached, no_fragment}
 use Rattle.graphql_faults.specs.in_document_data.DocumentBreaches.{ConflictingFieldName}
 use Rattle.graphql_faults.specs.DetailsTree.{of_document}
 use Rattle.verdict_definitions.specs.Texts.{SourceText, Tree, ReadsText}
-use Rattle.verdict_definitions.specs.Judge.{schema_at_hand, document_over, IsAccepted}
+use Rattle.verdict_definitions.specs.Meaning.{schema_at_hand, document_over}
+use Rattle.verdict_definitions.specs.Judge.{IsAccepted}
 use Rattle.verdict_definitions.specs.Says.{SaysDocument}
 use Rattle.verdict_definitions.proofs.RowReading.{reader, reads}
 use Rattle.verdict_definitions.proofs.RowTrees.{terms, named, node, field_definition, object, field}

@@ -19,7 +19,8 @@ use Rattle.schema_types.specs.declared.type_kind.TypeKind.{TypeKind}
 use Rattle.schema_types.specs.declared.type_kind.TypeKind.TheVariants as kind
 use Rattle.rule_definitions.proofs.Lists.{given_in}
 use Rattle.verdict_definitions.specs.Texts.{AreWithin}
-use Rattle.verdict_definitions.specs.Judge.{all_definitions, Folds}
+use Rattle.verdict_definitions.specs.Meaning.{all_definitions}
+use Rattle.verdict_definitions.specs.Judge.{Folds}
 use Rattle.verdict_definitions.proofs.RowReading.{reader, is_within}
 use Rattle.verdict_definitions.proofs.RowTrees.{terms, named, field_definition, fields_of, object}
 use Rattle.verdict_definitions.proofs.TextRows.{query_field, query_field_tree}

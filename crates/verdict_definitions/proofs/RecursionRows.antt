@@ -17,7 +17,8 @@ use Rattle.rule_definitions.specs.Spots.{At}
 use Rattle.rule_definitions.specs.Told.{PlacedFault}
 use Rattle.graphql_faults.specs.DetailsTree.{of_rule}
 use Rattle.verdict_definitions.specs.Texts.{SourceText, Tree, ReadsText}
-use Rattle.verdict_definitions.specs.Judge.{schema_of, IsAccepted}
+use Rattle.verdict_definitions.specs.Meaning.{schema_of}
+use Rattle.verdict_definitions.specs.Judge.{IsAccepted}
 use Rattle.verdict_definitions.specs.Says.{SaysSchema}
 use Rattle.verdict_definitions.proofs.RowReading.{reader, reads}
 use Rattle.verdict_definitions.proofs.RowTrees.{terms, named, node, object}

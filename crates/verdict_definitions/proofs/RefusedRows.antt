@@ -18,7 +18,8 @@ use Rattle.rule_definitions.specs.Rules.{Breaks}
 use Rattle.graphql_faults.specs.DetailsTree.{of_rule, of_folding, of_typing}
 use Rattle.document_typing.specs.TypingFaults as typing
 use Rattle.verdict_definitions.specs.Texts.{SourceText, Tree, ReadsText}
-use Rattle.verdict_definitions.specs.Judge.{schema_of, schema_at_hand, IsAccepted}
+use Rattle.verdict_definitions.specs.Meaning.{schema_of, schema_at_hand}
+use Rattle.verdict_definitions.specs.Judge.{IsAccepted}
 use Rattle.verdict_definitions.specs.Says.{FoldingFails, TypingFailsOver, SaysSchema, SaysDocument}
 use Rattle.verdict_definitions.proofs.RowReading.{reader, reads}
 use Rattle.verdict_definitions.proofs.RowTrees.{terms, named, node, field_definition, fields_of, object}

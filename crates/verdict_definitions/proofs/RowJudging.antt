@@ -15,7 +15,8 @@ use Rattle.rule_document_definitions.specs.Told.{PlacedDocumentFault, DocumentFa
 use Rattle.rule_document_definitions.specs.Named.{FragmentsFoundByName}
 use Rattle.rule_document_definitions.proofs.Verdicts.{valid_where_nothing_is_told}
 use Rattle.verdict_definitions.specs.Texts.{SourceText, Tree, Terms, DerivesIn, ReadsText, ReadsAll, PassesNumbers, document_number}
-use Rattle.verdict_definitions.specs.Judge.{all_definitions, Folds, schema_of, schema_at_hand, meanings_over, document_over, IsAccepted}
+use Rattle.verdict_definitions.specs.Meaning.{all_definitions, schema_of, schema_at_hand, meanings_over, document_over}
+use Rattle.verdict_definitions.specs.Judge.{Folds, IsAccepted}
 use Rattle.verdict_definitions.specs.Says.{FoldingFails, TypingFailsOver}
 use Rattle.verdict_definitions.proofs.RowReading.{one_tree, one_list}
 

@@ -18,7 +18,7 @@ use Rattle.rule_definitions.specs.Judged.{Judged, judged}
 use Rattle.document_typing.specs.Meanings.{Meanings, root_named}
 use Rattle.document_typing.specs.in_schema.LookUps.{field_named}
 use Rattle.document_typing.proofs.in_schema.FieldLooks.{fields_plain}
-use Rattle.verdict_definitions.specs.Judge.{meanings_over}
+use Rattle.verdict_definitions.specs.Meaning.{meanings_over}
 
 module _ (s : SchemaTree Place) where
   abbrev pub meanings_found : Meanings

@@ -20,7 +20,8 @@ use Rattle.schema_types.specs.Addresses.{Address, FieldAt, DirectiveDefinitionAt
 use Rattle.rule_definitions.specs.Faults.{SchemaFault}
 use Rattle.rule_definitions.specs.Judged.{Judged, AtType, AtField, AtValue, AtInputField, AtDirectiveDefinition, AtArguments, AtArgument}
 use Rattle.rule_definitions.specs.Spots.{At, spotted_directives}
-use Rattle.rule_definitions.specs.Uses.{UsesBreak, directive_name}
+use Rattle.rule_definitions.specs.Names.{directive_name}
+use Rattle.rule_definitions.specs.Uses.{UsesBreak}
 use Rattle.rule_definitions.specs.Words.{AtSomeIndex}
 use Rattle.rule_definitions.proofs.Lists.{not_in_nil, Contains-cons}
 use Rattle.rule_definitions.proofs.Lookups.{under_given}

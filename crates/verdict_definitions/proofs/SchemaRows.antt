@@ -18,18 +18,20 @@ use Rattle.schema_types.specs.Looks.{TypeLooks}
 use Rattle.schema_types.specs.declared.type_kind.TypeKind.{TypeKind}
 use Rattle.schema_types.specs.declared.type_kind.TypeKind.TheVariants as kind
 use Rattle.rule_definitions.specs.Faults.{SchemaFault, told}
-use Rattle.rule_definitions.specs.Judged.{Judged, judged, applied_directives}
+use Rattle.rule_definitions.specs.Judged.{Judged, judged, applied_directives, type_location}
 use Rattle.rule_definitions.specs.Diagnostics.{InputType, UniqueInputValue}
-use Rattle.rule_definitions.specs.ReservedNames.{is_reserved, IsReservedAt, ReservedNameAt}
-use Rattle.rule_definitions.specs.Rules.{SchemaRules, ReferencesBreak, EmptyBreaks, InterfacesBreak, CyclesBreak, SchemaUsesBreak, type_location}
+use Rattle.rule_definitions.specs.Names.{is_reserved, named_in}
+use Rattle.rule_definitions.specs.ReservedNames.{IsReservedAt, ReservedNameAt}
+use Rattle.rule_definitions.specs.Rules.{SchemaRules, ReferencesBreak, EmptyBreaks, InterfacesBreak, CyclesBreak, SchemaUsesBreak}
 use Rattle.rule_definitions.specs.Spots.{At, spotted_directives}
 use Rattle.rule_definitions.specs.Uses.{UsesBreak}
-use Rattle.rule_definitions.specs.TypesUsed.{named_in, IsUndefinedAt}
-use Rattle.rule_definitions.specs.Cycles.{Thing, ADirective, AType, is_a_type, Referring, Refers, RefersByUse, RefersByInput}
+use Rattle.rule_definitions.specs.TypesUsed.{IsUndefinedAt}
+use Rattle.rule_definitions.specs.Things.{Thing, ADirective, AType}
+use Rattle.rule_definitions.specs.Cycles.{is_a_type, Referring, Refers, RefersByUse, RefersByInput}
 use Rattle.rule_definitions.specs.Words.{Present, AtSomeIndex, Repeats}
 use Rattle.rule_definitions.proofs.Lookups.{no_entries}
 use Rattle.rule_document_definitions.proofs.RowWords.{of_present, not_present, not_at_index, none_repeats, one_repeats}
-use Rattle.verdict_definitions.specs.Judge.{schema_of}
+use Rattle.verdict_definitions.specs.Meaning.{schema_of}
 use Rattle.verdict_definitions.proofs.RowTrees.{terms, named, field_definition}
 use Rattle.verdict_definitions.proofs.RowMeanings.{type_found, judged_found, same_judged}
 use Rattle.verdict_definitions.proofs.RowRules.{no_type, no_field, no_value, no_definition, no_arguments, no_argument, no_input_field, no_name, no_use, at_all}

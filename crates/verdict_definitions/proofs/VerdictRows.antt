@@ -13,7 +13,8 @@ use Rattle.schema_types.specs.SchemaTree.{SchemaTree}
 use Rattle.schema_types.specs.declared.type_kind.TypeKind.TheVariants as kind
 use Rattle.graphql_faults.specs.DetailsTree.{of_folding, of_typing}
 use Rattle.verdict_definitions.specs.Texts.{SourceText}
-use Rattle.verdict_definitions.specs.Judge.{schema_at_hand, IsAccepted}
+use Rattle.verdict_definitions.specs.Meaning.{schema_at_hand}
+use Rattle.verdict_definitions.specs.Judge.{IsAccepted}
 use Rattle.verdict_definitions.specs.Says.{FoldingFails, TypingFailsOver, SaysSchema, SaysDocument}
 use Rattle.verdict_definitions.proofs.RowTrees.{terms, named, field_definition, fields_of, field}
 use Rattle.verdict_definitions.proofs.RowJudging.{folding_refused, typing_refused}

@@ -9,7 +9,8 @@ use Rattle.document_typing.specs.TypingFaults as typing
 use Rattle.graphql_faults.specs.DetailsMessages.{details_message}
 use Rattle.graphql_faults.specs.DetailsTree.{of_folding, of_typing}
 use Rattle.verdict_definitions.specs.Texts.{SourceText, Tree, Terms, ReadsText, ReadsAll, document_number, IsWithin, AreWithin, IsRead, AreRead}
-use Rattle.verdict_definitions.specs.Judge.{schema_at_hand, AreSchemasAccepted, IsAccepted}
+use Rattle.verdict_definitions.specs.Meaning.{schema_at_hand}
+use Rattle.verdict_definitions.specs.Judge.{AreSchemasAccepted, IsAccepted}
 use Rattle.verdict_definitions.specs.Says.{AnyFault, spent, UnreadFault, FoldingFails, TypingFailsOver, SaysSchema, SaysDocument}
 use Rattle.verdict_definitions.specs.Out.{Out, OutDoc, Layout, layout_text, as_lines}
 

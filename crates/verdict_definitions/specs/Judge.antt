@@ -1,52 +1,24 @@
 -- The verdict: when schema texts, and a document over them, are accepted (GraphQL, October 2021, sections 2, 3 and 5).
 use Rattle.std.specs.Prelude.{ℕ, List}
-use Rattle.std.specs.List.{flat_map}
 use Rattle.graphql_names.specs.Placed.{Place}
 use Rattle.schema_types.specs.SchemaTree.{SchemaTree}
-use Rattle.schema_types.specs.Plain.{plain}
 use Rattle.schema_built_in.specs.Table.{built_in_definitions}
 use Rattle.schema_fold.specs.BuildErrors.{FoldingRules}
-use Rattle.schema_fold.specs.Fold.{fold}
 use Rattle.schema_building.specs.Numbers.{HaveNumbers}
 use Rattle.rule_definitions.specs.Judged.{judged}
 use Rattle.rule_definitions.specs.Faults.{SchemaFault}
-use Rattle.rule_definitions.specs.Kept.{validated}
 use Rattle.rule_definitions.specs.Cycles.{PassesReferenceBound}
 use Rattle.rule_definitions.specs.Rules.{SchemaRules}
-use Rattle.document_meaning.specs.MeantTree.{MeantDocument}
 use Rattle.document_meaning.specs.Unplaced.{unplaced_document}
-use Rattle.document_typing.specs.Meanings.{Meanings, meanings}
-use Rattle.document_typing.specs.KeptDocument.{kept_document}
 use Rattle.document_typing.specs.TypingFaults.{TypingRules}
 use Rattle.rule_document_definitions.specs.Told.{IsValidDocument}
 use Rattle.rule_document_definitions.specs.Verdict.{WithinBounds}
 use Rattle.verdict_definitions.specs.Texts.{SourceText, Tree, Terms, ReadsText, ReadsAll, document_number, IsWithin, AreWithin}
+use Rattle.verdict_definitions.specs.Meaning.{all_definitions, schema_of, schema_at_hand, meanings_over, document_over}
 
--- ---- the schema, and the document over it
-
--- the definitions of the texts, in order
-abbrev pub all_definitions : List Tree → Tree
-all_definitions trees = flat_map (λ t. t) trees
-
-module _ (terms : Terms) (trees : List Tree) where
-  -- no folding rule is broken
-  abbrev pub Folds : Type 0
-  Folds = FoldingRules built_in_definitions terms.first_extension (all_definitions trees)
-
-  -- the schema that they fold to, behind what is built in
-  abbrev pub schema_of : SchemaTree Place
-  schema_of = fold built_in_definitions terms.first_extension (all_definitions trees)
-
-  -- the schema over which documents are judged: without built-in scalars to which nothing refers
-  abbrev pub schema_at_hand : SchemaTree Place
-  schema_at_hand = validated schema_of
-
--- what typing reads of a schema, and what it keeps of a document over it
-abbrev pub meanings_over : SchemaTree Place → Meanings
-meanings_over schema = meanings (plain schema)
-
-abbrev pub document_over : SchemaTree Place → Tree → MeantDocument Place
-document_over schema tree = kept_document (meanings_over schema) tree
+-- no folding rule is broken
+abbrev pub Folds : Terms → List Tree → Type 0
+Folds terms trees = FoldingRules built_in_definitions terms.first_extension (all_definitions trees)
 
 -- ---- the verdict
 

@@ -1,4 +1,5 @@
 pub mod Texts
+pub mod Meaning
 pub mod Judge
 pub mod Says
 pub mod Out

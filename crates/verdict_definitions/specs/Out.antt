@@ -4,7 +4,7 @@ use Rattle.schema_types.specs.Out.{written}
 use Rattle.document_typing.specs.OutDoc.{out_doc}
 use Rattle.tree_definitions.specs.DocumentLayout.{document_text}
 use Rattle.verdict_definitions.specs.Texts.{Tree, Terms}
-use Rattle.verdict_definitions.specs.Judge.{schema_of}
+use Rattle.verdict_definitions.specs.Meaning.{schema_of}
 
 -- The written schema, as it was built: its definition unless it is implicit, the definitions of directives, and each type with
 -- its extensions, without what is built in.

@@ -17,7 +17,7 @@ use Rattle.document_typing.specs.TypingFaults.{TypingFails}
 use Rattle.rule_document_definitions.specs.Told.{PlacedDocumentFault, DocumentFails, DocumentMergingFails, DocumentBoundFails}
 use Rattle.graphql_faults.specs.DetailsTree.{DetailsAt, Syntax, Nesting, Spent, of_rule, of_folding, of_typing, of_document}
 use Rattle.verdict_definitions.specs.Texts.{SourceText, Tree, Terms, DerivesIn, ReadsText, ReadsAll, PassesNumbers}
-use Rattle.verdict_definitions.specs.Judge.{all_definitions, schema_of, meanings_over, document_over}
+use Rattle.verdict_definitions.specs.Meaning.{all_definitions, schema_of, meanings_over, document_over}
 
 -- what is wrong, and where
 abbrev pub AnyFault : Type 0

@@ -23,7 +23,8 @@ use Rattle.document_typing.specs.TypingFaults.{TypingRules}
 use Rattle.document_typing.specs.OutDoc.{is_anonymous, is_named_operation, is_fragment_definition, out_doc}
 use Rattle.rule_document_definitions.proofs.Same.{same_document_verdict, same_bounds}
 use Rattle.verdict_definitions.specs.Texts.{SourceText, Tree, DerivesIn}
-use Rattle.verdict_definitions.specs.Judge.{document_over, JudgeDocument, IsDocumentAccepted, IsDocumentCertain}
+use Rattle.verdict_definitions.specs.Meaning.{document_over}
+use Rattle.verdict_definitions.specs.Judge.{JudgeDocument, IsDocumentAccepted, IsDocumentCertain}
 use Rattle.verdict_definitions.specs.Out.{Layout}
 use Rattle.verdict_definitions.specs.Answer.{WritesDocument}
 use Rattle.verdict_laws.specs.AnyNumber.{IsNumber, TextsHaveOneTree, TextsAreReadAlike, DocumentsAreWrittenAlike, EqualSchemasJudgeAlike, EqualSchemasAcceptAlike, EqualSchemasAcceptForSureAlike}

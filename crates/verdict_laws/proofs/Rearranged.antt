@@ -41,7 +41,8 @@ use Rattle.verdict_rearranging_laws.proofs.WrittenSorts.{writes_permuted}
 use Rattle.verdict_rearranging_laws.proofs.Permuting.{rearranged_permuted}
 use Rattle.verdict_rearranging_laws.proofs.ReadTexts.{texts_elsewhere, is_own_list}
 use Rattle.verdict_definitions.specs.Texts.{SourceText, Tree, Terms, ReadsText, ReadsAll, document_number, AreWithin}
-use Rattle.verdict_definitions.specs.Judge.{all_definitions, Folds, schema_of, schema_at_hand, JudgeSchemas, Judge, AreSchemasAccepted, IsAccepted, PassesNoReferenceBound, AreSchemasCertain, IsCertain}
+use Rattle.verdict_definitions.specs.Meaning.{all_definitions, schema_of, schema_at_hand}
+use Rattle.verdict_definitions.specs.Judge.{Folds, JudgeSchemas, Judge, AreSchemasAccepted, IsAccepted, PassesNoReferenceBound, AreSchemasCertain, IsCertain}
 use Rattle.verdict_definitions.specs.Out.{Out, Layout}
 use Rattle.verdict_definitions.specs.Answer.{WritesSchema, AcceptedBytes}
 use Rattle.verdict_laws.specs.Rearranged.{AreBothRead, AreRearranged, AreCut, TextsHaveNumbers, LeaveNumber, AreJudgedAlike, AreAcceptedAlike, LawOfRearranging, LawOfCutting}

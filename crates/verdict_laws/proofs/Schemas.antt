@@ -10,7 +10,7 @@ use Rattle.schema_fold.specs.SchemaFold.{Root, SchemaGiver, schema_definition_in
 use Rattle.rule_definitions.specs.Faults.{told}
 use Rattle.rule_definitions.specs.Diagnostics.{QueryRootOperationType}
 use Rattle.schema_types.specs.Addresses.{SchemaAt}
-use Rattle.verdict_definitions.specs.Judge.{all_definitions}
+use Rattle.verdict_definitions.specs.Meaning.{all_definitions}
 use Rattle.verdict_laws.specs.Written.{AcceptedSchemasCanBeWritten}
 use Rattle.verdict_written_laws.proofs.OutSome.{written_writable}
 use Rattle.verdict_written_laws.proofs.RealTable.{real_table, real_table_has_no_query}

@@ -18,9 +18,9 @@ use Rattle.document_meaning.specs.MeantTree.{Definition, MeantSelection, MeantFi
 use Rattle.document_meaning.specs.Unplaced.{unplaced_meant, unplaced_set, unplaced_members, unplaced_operation, unplaced_fragment, unplaced_document}
 use Rattle.document_typing.specs.Meanings.{Meanings, inner_type}
 use Rattle.document_typing.specs.KeptSelections.{may_select, is_leaf, kept, kept_all}
-use Rattle.document_typing.specs.KeptDocument.{meant_operation, meant_fragment, kept_document}
+use Rattle.document_typing.specs.KeptDocument.{meant_operation, meant_fragment, kept_document, is_operation}
 use Rattle.document_typing.specs.TypingFaults as typing
-use Rattle.document_typing.specs.TypingFaults.{TypingFault, typing_fault_at, TypingRules, is_operation}
+use Rattle.document_typing.specs.TypingFaults.{TypingFault, typing_fault_at, TypingRules}
 use Rattle.document_typing.specs.SetFaults.{leaf_faults, selection_faults, set_faults}
 use Rattle.document_typing.specs.Steps.{Typed, told, faults_if, based, is_under, on_root, with_anonymous, with_named, with_fragment, and_operation, and_fragment, and_definition, nothing, typed_in}
 use Rattle.document_typing.proofs.KeptFirsts.{under-made, is_some-made}

@@ -6,7 +6,8 @@ use Rattle.rule_definitions.specs.Laws.{AreEqual}
 use Rattle.verdict_rearranging_laws.specs.Rearranged.{IsRearranged}
 use Rattle.verdict_rearranging_laws.specs.Permuting.{IsPermuted}
 use Rattle.verdict_definitions.specs.Texts.{SourceText, Tree, Terms, ReadsAll, document_number}
-use Rattle.verdict_definitions.specs.Judge.{all_definitions, schema_at_hand, JudgeSchemas, Judge, AreSchemasAccepted, AreSchemasCertain, IsAccepted, IsCertain}
+use Rattle.verdict_definitions.specs.Meaning.{all_definitions, schema_at_hand}
+use Rattle.verdict_definitions.specs.Judge.{JudgeSchemas, Judge, AreSchemasAccepted, AreSchemasCertain, IsAccepted, IsCertain}
 use Rattle.verdict_definitions.specs.Out.{Out, Layout, layout_text}
 use Rattle.verdict_definitions.specs.Answer.{WritesSchema, AcceptedBytes}
 use Rattle.verdict_laws.specs.AnyNumber.{IsNumber}

@@ -5,7 +5,8 @@ use Rattle.tree_definitions.specs.Writable.{document_writable}
 use Rattle.schema_types.specs.SchemaTree.{SchemaTree}
 use Rattle.document_typing.specs.TypingFaults.{TypingRules}
 use Rattle.verdict_definitions.specs.Texts.{SourceText, Tree, Terms, ReadsText}
-use Rattle.verdict_definitions.specs.Judge.{AreSchemasAccepted, meanings_over}
+use Rattle.verdict_definitions.specs.Meaning.{meanings_over}
+use Rattle.verdict_definitions.specs.Judge.{AreSchemasAccepted}
 use Rattle.verdict_definitions.specs.Out.{Out, OutDoc}
 
 -- of schema texts that are accepted, where none has the number of what is built in

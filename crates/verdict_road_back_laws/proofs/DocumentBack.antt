@@ -15,7 +15,8 @@ use Rattle.document_typing.specs.TypingFaults.{TypingRules}
 use Rattle.document_typing.specs.OutDoc.{is_anonymous, is_named_operation, is_fragment_definition, out_doc}
 use Rattle.rule_document_definitions.proofs.Same.{same_document_verdict, same_bounds}
 use Rattle.verdict_definitions.specs.Texts.{SourceText, Tree}
-use Rattle.verdict_definitions.specs.Judge.{document_over, meanings_over, IsDocumentAccepted}
+use Rattle.verdict_definitions.specs.Meaning.{document_over, meanings_over}
+use Rattle.verdict_definitions.specs.Judge.{IsDocumentAccepted}
 use Rattle.verdict_definitions.specs.Out.{OutDoc, Layout}
 use Rattle.verdict_laws.specs.AnyNumber.{IsNumber}
 use Rattle.verdict_laws.proofs.Sound.{all_append}

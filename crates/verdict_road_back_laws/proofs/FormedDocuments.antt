@@ -16,7 +16,7 @@ use Rattle.read_grammar.specs.Grammar.{described, type_system_of, extended, exte
 use Rattle.read_values.specs.Meanings.{in_file}
 use Rattle.read_printed.specs.Definitions.{directive_definition_well_formed, definition_well_formed}
 use Rattle.verdict_definitions.specs.Texts.{SourceText as Bytes, Tree, ReadsText, ReadsAll}
-use Rattle.verdict_definitions.specs.Judge.{all_definitions}
+use Rattle.verdict_definitions.specs.Meaning.{all_definitions}
 use Rattle.verdict_laws.proofs.Sound.{all_append}
 use Rattle.verdict_road_back_laws.proofs.Taken.{AreTaken, are_taken, Makes, mapped, mark, seq, choice, such_that, maybe_any, some_all, located}
 use Rattle.verdict_road_back_laws.proofs.FormedOperations.{operation_makes, fragment_makes}

@@ -10,9 +10,9 @@ use Rattle.tree_definitions.specs.DefinitionTree.{DefinitionTree}
 use Rattle.schema_components.specs.Lists.{StandsAfter, firsts, has_name}
 use Rattle.document_typing.specs.OutDoc.{is_anonymous, is_named_operation, is_fragment_definition, out_doc}
 use Rattle.document_typing.specs.Meanings.{Meanings}
-use Rattle.document_typing.specs.KeptDocument.{based_operation, anonymous_here, named_here, fragment_here, operation_name, fragment_name, kept_named, kept_operations, kept_fragments, meant_operation, named_entry, fragment_entry, kept_document}
+use Rattle.document_typing.specs.KeptDocument.{based_operation, anonymous_here, named_here, fragment_here, operation_name, fragment_name, kept_named, kept_operations, kept_fragments, meant_operation, named_entry, fragment_entry, kept_document, is_operation}
 use Rattle.document_typing.specs.TypingFaults as typing
-use Rattle.document_typing.specs.TypingFaults.{TypingFault, is_operation, AmbiguousAnonymousOperationAt, OperationNameCollisionAt, FragmentNameCollisionAt, DefinitionBreaks, TypingFails, TypingRules}
+use Rattle.document_typing.specs.TypingFaults.{TypingFault, AmbiguousAnonymousOperationAt, OperationNameCollisionAt, FragmentNameCollisionAt, DefinitionBreaks, TypingFails, TypingRules}
 use Rattle.verdict_written_laws.proofs.Order.{not_true}
 use Rattle.verdict_road_back_laws.proofs.Passing.{all_pass, none_passes, three_passing, three_giving, given_by_passing, none_given, StandsInEither, stands_in_either, stands_passing}
 

@@ -8,7 +8,8 @@ use Rattle.rule_definitions.specs.Cycles.{PassesReferenceBound}
 use Rattle.rule_definitions.specs.Laws.{AreEqual}
 use Rattle.rule_definitions.proofs.Same.{read_the_same}
 use Rattle.verdict_definitions.specs.Texts.{SourceText, Tree, Terms, ReadsText, ReadsAll, document_number, PassesNumbers}
-use Rattle.verdict_definitions.specs.Judge.{schema_of, schema_at_hand, IsAccepted, PassesNoReferenceBound, PassesNoDocumentBound, IsCertain}
+use Rattle.verdict_definitions.specs.Meaning.{schema_of, schema_at_hand}
+use Rattle.verdict_definitions.specs.Judge.{IsAccepted, PassesNoReferenceBound, PassesNoDocumentBound, IsCertain}
 use Rattle.verdict_definitions.specs.Out.{Out, OutDoc, Layout, layout_text, as_lines}
 use Rattle.verdict_definitions.specs.Answer.{WritesSchema, WritesDocument, AcceptedBytes}
 use Rattle.verdict_laws.specs.AnyNumber.{IsNumber}

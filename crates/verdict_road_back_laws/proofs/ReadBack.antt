@@ -25,7 +25,7 @@ use Rattle.verdict_rearranging_laws.specs.ReadTexts.{all_of}
 use Rattle.verdict_rearranging_laws.specs.Elsewhere.{AreAllElsewhere}
 use Rattle.verdict_rearranging_laws.proofs.ReadTexts.{texts_elsewhere}
 use Rattle.verdict_definitions.specs.Texts.{SourceText, Tree, ReadsText, ReadsAll, DerivesIn, IsWithin, AreWithin}
-use Rattle.verdict_definitions.specs.Judge.{all_definitions}
+use Rattle.verdict_definitions.specs.Meaning.{all_definitions}
 use Rattle.verdict_definitions.specs.Out.{Layout, layout_text, as_lines}
 use Rattle.verdict_road_back_laws.specs.RoadBack.{IsPlainLayout, IsLaidOutText, IsSameTree, IsWrittenAlike}
 use Rattle.verdict_road_back_laws.proofs.LineFeeds.{document_line}

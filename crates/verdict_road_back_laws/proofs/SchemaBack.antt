@@ -27,7 +27,8 @@ use Rattle.verdict_rearranging_laws.proofs.Distinct.{folds_distinct}
 use Rattle.verdict_rearranging_laws.proofs.Cut.{writes_alike}
 use Rattle.verdict_rearranging_laws.proofs.ReadTexts.{is_own_list}
 use Rattle.verdict_definitions.specs.Texts.{SourceText, Tree, Terms}
-use Rattle.verdict_definitions.specs.Judge.{all_definitions, schema_of, schema_at_hand, AreSchemasAccepted}
+use Rattle.verdict_definitions.specs.Meaning.{all_definitions, schema_of, schema_at_hand}
+use Rattle.verdict_definitions.specs.Judge.{AreSchemasAccepted}
 use Rattle.verdict_definitions.specs.Out.{Out, Layout}
 use Rattle.verdict_laws.proofs.Schemas.{schemas}
 use Rattle.verdict_road_back_laws.specs.RoadBack.{IsPlainLayout, IsLaidOutText, IsSameTree, SchemaLeadsBack, SchemaRoadBack}

@@ -34,7 +34,8 @@ use Rattle.verdict_written_laws.proofs.RealTable.{real_table, real_table_has_no_
 use Rattle.verdict_written_laws.proofs.TypesTwice.{types_append}
 use Rattle.verdict_rearranging_laws.proofs.Marks.{under_firsts}
 use Rattle.verdict_definitions.specs.Texts.{SourceText, Tree, Terms, ReadsAll, AreWithin, PassesNumbers}
-use Rattle.verdict_definitions.specs.Judge.{all_definitions, AreSchemasAccepted}
+use Rattle.verdict_definitions.specs.Meaning.{all_definitions}
+use Rattle.verdict_definitions.specs.Judge.{AreSchemasAccepted}
 use Rattle.verdict_road_back_laws.proofs.ReadBack.{texts_depth}
 use Rattle.verdict_road_back_laws.proofs.Bracketless.{GivesNone, flat_each, own_fields, table_each, roots_are, base_roots, no_components}
 

@@ -9,7 +9,8 @@ use Rattle.rule_definitions.specs.Laws.{AreEqual}
 use Rattle.document_meaning.specs.MeantTree.{MeantDocument}
 use Rattle.document_meaning.specs.Unplaced as meant
 use Rattle.verdict_definitions.specs.Texts.{SourceText, Tree, Terms, document_number}
-use Rattle.verdict_definitions.specs.Judge.{all_definitions, schema_of, schema_at_hand, document_over, AreSchemasAccepted, IsDocumentAccepted, IsAccepted, PassesNoDocumentBound, IsCertain}
+use Rattle.verdict_definitions.specs.Meaning.{all_definitions, schema_of, schema_at_hand, document_over}
+use Rattle.verdict_definitions.specs.Judge.{AreSchemasAccepted, IsDocumentAccepted, IsAccepted, PassesNoDocumentBound, IsCertain}
 use Rattle.verdict_definitions.specs.Out.{Out, OutDoc, Layout, layout_text, as_lines}
 use Rattle.verdict_definitions.specs.Answer.{AcceptedBytes}
 use Rattle.verdict_laws.specs.AnyNumber.{IsNumber}

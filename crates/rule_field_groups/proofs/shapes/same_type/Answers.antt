@@ -2,7 +2,7 @@ use Rattle.std.proofs.Common.{◌≡◌, ◌&&◌, ap, sym, ◌∙◌}
 use Rattle.tree_literals.specs.TypeTree.{type_tree, unplaced_type}
 use Rattle.graphql_schema.specs.SchemaOf.{schema_tree}
 use Rattle.rule_definitions.specs.Judged.{judged}
-use Rattle.rule_definitions.specs.TypesUsed.{named_in}
+use Rattle.rule_definitions.specs.Names.{named_in}
 use Rattle.rule_field_groups.specs.Shapes.{same_inner}
 use Rattle.rule_field_groups.proofs.Shaped.{named_unplaced}
 use Rattle.rule_field_groups.proofs.shapes.same_type.Goals as goal

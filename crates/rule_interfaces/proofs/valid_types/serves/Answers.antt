@@ -1,7 +1,7 @@
 use Rattle.std.proofs.Common.{◌≡◌, false, ◌||◌, bytes_eq, sym, ap, ◌∙◌}
 use Rattle.graphql_schema.specs.SchemaOf.{schema_tree}
 use Rattle.fault_data.specs.in_rule_definitions.Judged.{judged}
-use Rattle.fault_data.specs.in_rule_definitions.Interfaces.{is_subtype}
+use Rattle.fault_data.specs.in_rule_definitions.Subtypes.{is_subtype}
 use Rattle.rule_interfaces.proofs.Subtypes.{subtype_seen}
 use Rattle.rule_interfaces.proofs.valid_types.serves.Goals as goal
 

@@ -8,7 +8,7 @@ use Rattle.document_typing.specs.DocumentView.{meant_by_operation}
 use Rattle.fault_data.specs.FaultView.{faults_of}
 use Rattle.fault_data.specs.Adds.{Adds}
 use Rattle.rule_definitions.specs.Words.{AtSomeIndex}
-use Rattle.rule_definitions.specs.Values.{Variables}
+use Rattle.rule_definitions.specs.GivenValues.{Variables}
 use Rattle.rule_values.specs.Wanting.{variables_of}
 use Rattle.rule_uses.specs.Alone.{DirectivesAloneBreak}
 use Rattle.rule_uses.specs.Trees.{directives_of}

@@ -3,7 +3,7 @@ use Rattle.schema_components.specs.Lists.{each_place}
 use Rattle.rule_values.specs.in_schema.in_schema_types.Addresses.{directive_definition_at}
 use Rattle.rule_values.specs.in_fault_data.FaultView.{faults_of}
 use Rattle.rule_values.specs.in_schema.SchemaOf.{schema_tree}
-use Rattle.rule_values.specs.in_rule_definitions.Uses.{directive_name}
+use Rattle.rule_values.specs.in_rule_definitions.Names.{directive_name}
 use Rattle.rule_values.specs.Wanting.{variables_of}
 use Rattle.rule_uses.specs.Trees.{directives_of}
 use Rattle.rule_uses.specs.UseFaults.{repeated_directive}

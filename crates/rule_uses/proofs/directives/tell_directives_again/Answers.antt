@@ -5,7 +5,7 @@ use Rattle.tree_directives.specs.declared.directive.Directive.{Directive}
 use Rattle.rule_values.specs.in_schema.in_schema_types.Addresses.{directive_definition_at}
 use Rattle.rule_values.specs.in_schema.SchemaOf.{schema_tree}
 use Rattle.rule_values.specs.in_fault_data.FaultView.{faults_of}
-use Rattle.rule_values.specs.in_rule_definitions.Uses.{directive_name}
+use Rattle.rule_values.specs.in_rule_definitions.Names.{directive_name}
 use Rattle.rule_values.specs.Firsts.{first_told}
 use Rattle.rule_values.proofs.Noted.{noted_next}
 use Rattle.rule_uses.specs.Trees.{directives_of}

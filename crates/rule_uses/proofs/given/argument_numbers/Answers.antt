@@ -2,7 +2,7 @@ use Rattle.std.proofs.Common.{◌<◌, length, refl, ap, arith}
 use Rattle.graphql_names.specs.Placed.{node_tree}
 use Rattle.tree_directives.specs.DirectiveTree.{argument_tree}
 use Rattle.tree_directives.specs.declared.directive.Argument.{Argument}
-use Rattle.rule_values.specs.in_rule_definitions.Uses.{argument_name}
+use Rattle.rule_values.specs.in_rule_definitions.Names.{argument_name}
 use Rattle.rule_values.proofs.Noted.{noted_next}
 use Rattle.rule_uses.proofs.given.argument_numbers.Goals as goal
 

@@ -1,5 +1,5 @@
 use Rattle.std.proofs.Common.{take}
-use Rattle.rule_values.specs.in_rule_definitions.Uses.{argument_name}
+use Rattle.rule_values.specs.in_rule_definitions.Names.{argument_name}
 use Rattle.rule_values.specs.Firsts.{AreNumbers}
 use Rattle.rule_uses.specs.Trees.{arguments_of}
 use Rattle.rule_uses.proofs.given.argument_numbers.Given as goal

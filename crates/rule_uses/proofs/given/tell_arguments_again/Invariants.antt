@@ -1,7 +1,7 @@
 use Rattle.std.proofs.Common.{◌≡◌, ◌++◌, take}
 use Rattle.schema_components.specs.Lists.{each_place}
 use Rattle.rule_values.specs.in_fault_data.FaultView.{faults_of}
-use Rattle.rule_values.specs.in_rule_definitions.Uses.{argument_name}
+use Rattle.rule_values.specs.in_rule_definitions.Names.{argument_name}
 use Rattle.rule_values.specs.Firsts.{AreFirsts}
 use Rattle.rule_uses.specs.Trees.{arguments_of}
 use Rattle.rule_uses.specs.UseFaults.{repeated_argument}

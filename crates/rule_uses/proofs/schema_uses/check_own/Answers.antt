@@ -11,8 +11,7 @@ use Rattle.rule_values.specs.in_schema.in_schema_types.declared.type_kind.TypeKi
 use Rattle.rule_values.specs.in_schema.SchemaOf.{schema_tree}
 use Rattle.rule_values.specs.in_fault_data.FaultView.{faults_of}
 use Rattle.rule_values.specs.in_fault_data.Adds.{Adds}
-use Rattle.rule_values.specs.in_rule_definitions.Judged.{is_built_in_scalar}
-use Rattle.rule_values.specs.in_rule_definitions.Rules.{type_location}
+use Rattle.rule_values.specs.in_rule_definitions.Judged.{is_built_in_scalar, type_location}
 use Rattle.rule_uses.specs.SchemaUses.{UsesAt}
 use Rattle.rule_values.proofs.in_rule_definitions.Listing.{gains_same}
 use Rattle.rule_uses.proofs.SchemaSteps.{own_judged, first_fails, second_fails}

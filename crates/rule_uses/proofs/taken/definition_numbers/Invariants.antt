@@ -1,6 +1,6 @@
 use Rattle.std.proofs.Common.{take}
 use Rattle.tree_directives.specs.DirectiveTree.{input_value_trees}
-use Rattle.rule_values.specs.in_rule_definitions.Uses.{input_name}
+use Rattle.rule_values.specs.in_rule_definitions.Names.{input_name}
 use Rattle.rule_values.specs.Firsts.{AreNumbers}
 use Rattle.rule_uses.proofs.taken.definition_numbers.Given as goal
 

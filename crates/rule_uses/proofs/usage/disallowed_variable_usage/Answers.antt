@@ -9,7 +9,7 @@ use Rattle.tree_directives.specs.declared.directive.Argument.{Argument}
 use Rattle.tree_operations.specs.OperationTree.{variable_definition_tree}
 use Rattle.tree_operations.specs.declared.operation.VariableDefinition.{VariableDefinition}
 use Rattle.rule_values.specs.in_rule_definitions.Told.{PlacedFault}
-use Rattle.rule_values.specs.in_rule_definitions.Uses.{IsVariableUsageAllowed}
+use Rattle.rule_values.specs.in_rule_definitions.VariableUsage.{IsVariableUsageAllowed}
 use Rattle.rule_values.specs.Wanting.{variables_of}
 use Rattle.rule_uses.specs.Steps.{Lists, DisallowedUsage}
 use Rattle.rule_uses.proofs.Known.{usage_unknown, usage_fine, usage_told}

@@ -1,5 +1,5 @@
 use Rattle.std.proofs.Common.{◌≡◌, drop, find, bytes_eq}
-use Rattle.fault_data.specs.in_rule_definitions.Values.{defined_name}
+use Rattle.fault_data.specs.in_rule_definitions.Names.{defined_name}
 use Rattle.rule_values.specs.Wanting.{variables_of}
 use Rattle.rule_values.proofs.defined.find_listed.Given as goal
 

@@ -2,7 +2,7 @@ use Rattle.std.proofs.Common.{◌<◌, length, refl, ap, arith}
 use Rattle.graphql_names.specs.Placed.{node_tree}
 use Rattle.tree_operations.specs.OperationTree.{variable_definition_tree}
 use Rattle.tree_operations.specs.declared.operation.VariableDefinition.{VariableDefinition}
-use Rattle.fault_data.specs.in_rule_definitions.Values.{defined_name}
+use Rattle.fault_data.specs.in_rule_definitions.Names.{defined_name}
 use Rattle.rule_values.proofs.Noted.{noted_next}
 use Rattle.rule_values.proofs.defined.variable_numbers.Goals as goal
 

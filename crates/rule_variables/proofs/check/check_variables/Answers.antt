@@ -5,7 +5,7 @@ use Rattle.document_typed_operations.specs.TypedDocument.{typed_operation_tree}
 use Rattle.document_typed_operations.specs.declared.operation.Operation.{Operation}
 use Rattle.document_typing.specs.DocumentView.{meant_by_operation}
 use Rattle.rule_definitions.specs.Words.{AtSomeIndex}
-use Rattle.rule_definitions.specs.Values.{Variables}
+use Rattle.rule_definitions.specs.GivenValues.{Variables}
 use Rattle.rule_values.specs.in_schema.SchemaOf.{schema_tree}
 use Rattle.rule_values.specs.in_fault_data.FaultView.{faults_of}
 use Rattle.rule_values.specs.in_fault_data.Adds.{Adds}

@@ -4,7 +4,7 @@ use Rattle.graphql_names.specs.Placed.{Place, node_tree}
 use Rattle.document_typed_operations.specs.TypedDocument.{typed_operation_tree}
 use Rattle.document_typed_operations.specs.declared.operation.Operation.{Operation}
 use Rattle.document_typing.specs.DocumentView.{meant_by_operation}
-use Rattle.rule_definitions.specs.Values.{Variables}
+use Rattle.rule_definitions.specs.GivenValues.{Variables}
 use Rattle.rule_values.specs.in_fault_data.FaultView.{faults_of}
 use Rattle.rule_values.specs.in_fault_data.Adds.{Adds}
 use Rattle.rule_values.specs.Wanting.{variables_of}

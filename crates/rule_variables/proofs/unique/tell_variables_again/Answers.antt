@@ -2,7 +2,7 @@ use Rattle.std.proofs.Common.{◌<◌, take, length, ap, ◌∙◌, arith}
 use Rattle.graphql_names.specs.Placed.{node_tree}
 use Rattle.tree_operations.specs.OperationTree.{variable_definition_tree}
 use Rattle.tree_operations.specs.declared.operation.VariableDefinition.{VariableDefinition}
-use Rattle.rule_definitions.specs.Values.{defined_name}
+use Rattle.rule_definitions.specs.Names.{defined_name}
 use Rattle.rule_values.specs.in_fault_data.FaultView.{faults_of}
 use Rattle.rule_values.specs.Firsts.{first_told}
 use Rattle.rule_values.specs.Wanting.{variables_of}

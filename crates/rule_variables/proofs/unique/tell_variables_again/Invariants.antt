@@ -1,6 +1,6 @@
 use Rattle.std.proofs.Common.{◌≡◌, ◌++◌, take}
 use Rattle.schema_components.specs.Lists.{each_place}
-use Rattle.rule_definitions.specs.Values.{defined_name}
+use Rattle.rule_definitions.specs.Names.{defined_name}
 use Rattle.rule_values.specs.in_fault_data.FaultView.{faults_of}
 use Rattle.rule_values.specs.Firsts.{AreFirsts}
 use Rattle.rule_values.specs.Wanting.{variables_of}
