@@ -13,9 +13,11 @@ invariants alone reach is printed behind, and counts for nothing.
 
 --names prints the reached definitions of each file too. --why FILE (a path or a name such as `Listed`) prints by which
 definitions a clause leads to it. --others prints the files that nothing reaches so and that do not say that they are private:
-those of laws (of crates and sources of laws), of public functions of inner crates, and the rest. --write writes the list of docs/DEFINITIONS.md. --check prints what is wrong, a line each: a
-reached file that says in its first line that it is private; a file that docs/DEFINITIONS.md links to and nothing reaches, or one
-that is reached and not linked to; that the list there is in another order. The status is then 1.
+those of laws (of crates and sources of laws), of public functions of inner crates, and the rest. --write writes the list of
+docs/DEFINITIONS.md. --check prints what is wrong, a line each: a reached file that says in its first line that it is private; a
+definition of a reached file that nothing in a source and no definition that is named so names; a file that docs/DEFINITIONS.md
+links to and nothing reaches, or one that is reached and not linked to; that the list there is in another order. The status is
+then 1.
 """
 import os
 import re
@@ -273,6 +275,17 @@ def listed(library, files):
     return "\n".join(lines) + "\n"
 
 
+def unnamed(library, files):
+    """The definitions of these files that no source names, nor a definition that one leads to: their path and name."""
+    everything = []
+    for path in sources.paths("crates/*/src/*.rt"):
+        text = sources.read(path)
+        words = re.sub(r"^\s*(?:pub )?(?:ghost )?use .*$", "", text, flags=re.M)
+        everything.append(Clause(path, 1, path, "source", words, library.scope([use for _, use in sources.ghost_uses(text)])))
+    came = reach(library, everything)
+    return [(path, name) for path in in_order(library, files) for name in library.files[path].definitions if (path, name) not in came]
+
+
 def way(came, key):
     """By what a clause leads to a definition: lines, from the clause down."""
     lines = []
@@ -323,6 +336,8 @@ def main(words):
     for path in in_order(library, files):
         if library.files[path].is_private():
             wrong.append(f"{path}: is reached, and says that it is private: {' > '.join(way(came, next(k for k in came if k[0] == path)))}")
+    for path, name in unnamed(library, files) if "--check" in words else []:
+        wrong.append(f"{path}: nothing names `{name}` but proofs, if they do")
     text = sources.read(PAGE)
     page, wanted = linked(text), listed(library, files)
     if "--write" in words:

@@ -1,5 +1,5 @@
 -- What follows for callers: whose fragments a walk goes over, that a walk that is over stays so, and what a loop over a walk has come to.
-use Rattle.std.proofs.Common.{◌≡◌, ◌<◌, ◌↔◌, inl, inr, arith, length, suc, if◌then◌else◌, List, [], ◌∷◌, ◌++◌, map, Bool, true, false, Option, None, Some, Result, Ok, Contains, refl, ap, sym, subst, append-nil, append_assoc, ◌∙◌, true≢false}
+use Rattle.std.proofs.Common.{◌≡◌, ◌<◌, ◌↔◌, ◌⊎◌, inl, inr, arith, length, suc, if◌then◌else◌, List, [], ◌∷◌, ◌++◌, map, Bool, true, false, Option, None, Some, Result, Ok, Contains, refl, ap, sym, subst, append-nil, append_assoc, ◌∙◌, true≢false}
 use Rattle.std.specs.List.{flat_map}
 use Rattle.std.proofs.lemmas.List.Elements.{Contains-append_left, Contains-append_right, Contains-append_cases}
 use Rattle.std.specs.Borrow.{Bor}
@@ -12,11 +12,15 @@ use Rattle.document_typed_operations.specs.TypedDocument.{typed_document_tree}
 use Rattle.document_typed_operations.specs.declared.document.ExecutableDocument.{ExecutableDocument}
 use Rattle.document_typed_selections.specs.TypedTree.{TypedSet}
 use Rattle.document_typed_selections.specs.TypedParts.{typed_field_node, as_typed_field}
-use Rattle.document_walks.specs.Reached.{NamedSet, Fragments, Member, document_fragments, fields_of_set, IsWalk, IsReachedField}
+use Rattle.document_walks.specs.Reached.{NamedSet, Fragments, Member, document_fragments, fields_of_set, ReachedFragment, IsWalk}
 use Rattle.document_walks.specs.Left.{fields_among}
 use Rattle.document_walks.specs.WalkView.{fragments_tree}
 use Rattle.document_walks.specs.Lending.{Lends, LendsNext, items_at_most}
 use Rattle.document_walks.proofs.Finding.{none_is_some, some_is, not_in_nil, Contains-cons, Contains-first}
+
+-- a field occurrence of the start or of a reached fragment
+abbrev pub IsReachedField : {P : Type 0} → Bool → Fragments P → TypedSet P → TypedSelection P → Type 0
+IsReachedField {P} nested fragments start x = Contains (fields_of_set nested start) x ⊎ ((f : NamedSet P) × (ReachedFragment nested fragments start f × Contains (fields_of_set nested f.1) x))
 
 map-map : {A B C : Type 0} (f : B → C) (g : A → B) (xs : List A) → map f (map g xs) ≡ map (λ x. f (g x)) xs
 map-map f g [] = refl

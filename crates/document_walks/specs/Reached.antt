@@ -1,6 +1,6 @@
 -- Which selections a set reaches, in itself and in the fragments that it spreads, and which of them a walk lends
 -- (GraphQL, October 2021, sections 2.4, 2.5 and 2.8).
-use Rattle.std.specs.Prelude.{◌≡◌, ◌↔◌, ◌⊎◌, ◌++◌, ℕ, Bool, true, false, List, [], ◌∷◌, map, if◌then◌else◌, Option, Some, None, IsSome, Contains}
+use Rattle.std.specs.Prelude.{◌≡◌, ◌↔◌, ◌++◌, ℕ, Bool, true, false, List, [], ◌∷◌, map, if◌then◌else◌, Option, Some, IsSome, Contains}
 use Rattle.std.specs.List.{flat_map, filter, find, IsDistinct}
 use Rattle.std.specs.Str.{bytes_eq}
 use Rattle.graphql_names.specs.Placed.{Text}
@@ -70,10 +70,6 @@ pub record IsWalk {P : Type 0} (nested : Bool) (fragments : Fragments P) (start 
   pub reached : (f : NamedSet P) → Contains order f ↔ ReachedFragment nested fragments start f
   pub once : IsDistinct bytes_eq (map (λ f. f.0) order)
   pub fields : given ≡ fields_of_set nested start ++ flat_map (λ f. fields_of_set nested f.1) order
-
--- a field occurrence of the start or of a reached fragment
-abbrev pub IsReachedField : {P : Type 0} → Bool → Fragments P → TypedSet P → TypedSelection P → Type 0
-IsReachedField {P} nested fragments start x = Contains (fields_of_set nested start) x ⊎ ((f : NamedSet P) × (ReachedFragment nested fragments start f × Contains (fields_of_set nested f.1) x))
 
 -- a selection, and before it the name of the type of the set in which it stands
 abbrev pub Member : Type 0 → Type 0

@@ -43,10 +43,6 @@ walk_state w = record {
   entered = w.entered;
 }
 
--- how many steps a walk takes at most
-abbrev pub steps_left : {P : Type 0} → WalkState P → ℕ
-steps_left w = length (left_members w) + (length w.fragments - w.entered)
-
 -- the walk has passed the selection, which came next
 pub record HasPassed {P : Type 0} (e : Member P) (old new : WalkState P) : Type 0 where
   pub passed : left_members (with_next e old) ≡ e ∷ left_members new

@@ -1,5 +1,5 @@
 -- Where a parser stops, and how deep it has gone.
-use Rattle.std.proofs.Common.{◌≡◌, ℕ, zero, suc, ◌+◌, ◌-◌, ◌≤◌, Bool, true, false, cond, List, [], ◌∷◌, ◌++◌, length, Some, None, Ok, Err, refl, sym, ap, ◌∙◌, arith, append_assoc}
+use Rattle.std.proofs.Common.{◌≡◌, ℕ, zero, suc, ◌+◌, ◌-◌, ◌≤◌, Bool, true, false, cond, if◌then◌else◌, List, [], ◌∷◌, ◌++◌, length, Some, None, Ok, Err, refl, sym, ap, ◌∙◌, arith, append_assoc}
 use Rattle.read_tokens.specs.declared.terminal.Terminal.{Terminal}
 use Rattle.read_grammar.specs.declared.stop.Stop.{Stop}
 use Rattle.read_grammar.specs.declared.stop.Stop.TheVariants.{Unexpected, Nesting, Memory}
@@ -7,10 +7,15 @@ use Rattle.read_tokens.specs.Input.{Token, Input, next, past}
 use Rattle.graphql_names.specs.Placed.{Placed}
 use Rattle.read_grammar.specs.Meaning.{Meaning, place_between}
 use Rattle.read_grammar.specs.Kinds.{next_is}
-use Rattle.read_grammar.specs.Depth.{is_opening, is_closing, count, depth}
+use Rattle.read_grammar.specs.Depth.{is_opening, is_closing, depth}
 use Rattle.read_grammar.proofs.Tests.{Test, apart, from_apart, subset, from_subset}
 use Rattle.read_grammar.specs.Reading as read
 use Rattle.read_grammar.specs.Reading.{Outcome, Parser, and_then, ◌⊙◌, ◌<&>◌, refuse, too_deep, take_from, take, when, try, many_within, many, some, placed, between}
+
+-- how many tokens there are of these terminals
+abbrev pub count : (Terminal → Bool) → List Token → ℕ
+count is [] = 0
+count is (t ∷ ts) = (if is t.kind then 1 else 0) + count is ts
 
 abbrev pub opens : List Token → ℕ
 opens = count is_opening

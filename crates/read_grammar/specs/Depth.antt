@@ -10,11 +10,6 @@ is_opening = or is_open_paren (or is_open_bracket is_open_brace)
 abbrev pub is_closing : Terminal → Bool
 is_closing = or is_close_paren (or is_close_bracket is_close_brace)
 
--- how many tokens there are of these terminals
-abbrev pub count : (Terminal → Bool) → List Token → ℕ
-count is [] = 0
-count is (t ∷ ts) = (if is t.kind then 1 else 0) + count is ts
-
 -- the largest number, over the fronts of the list, of its opening brackets less its closing ones
 unfoldable pub depth : List Token → ℕ
 depth [] = 0

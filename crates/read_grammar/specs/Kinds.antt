@@ -71,9 +71,6 @@ is_int = is k.Int
 abbrev pub is_float : Terminal → Bool
 is_float = is k.Float
 
-abbrev pub is_block_string : Terminal → Bool
-is_block_string = is k.BlockString
-
 abbrev pub is_query : Terminal → Bool
 is_query = is k.Query
 

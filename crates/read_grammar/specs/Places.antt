@@ -17,7 +17,3 @@ place_in file begin end = place_if file begin (end - begin) (ltb (begin + (end -
 -- what tokens mean in a file, by what a String token stands for
 abbrev pub meaning_in : (Token → List ℕ) → ℕ → Meaning Place
 meaning_in string file = record { place = place_in file; string = string }
-
--- without places
-abbrev pub unplaced_meaning : (Token → List ℕ) → Meaning (Unit {0})
-unplaced_meaning string = record { place = λ begin end. tt; string = string }

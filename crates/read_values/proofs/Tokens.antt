@@ -16,7 +16,7 @@ use Rattle.read_tokens.specs.declared.terminal.Terminal.TheVariants as t
 use Rattle.read_tokens.proofs.NumberTokens.{int_text, float_text}
 use Rattle.read_grammar.specs.declared.stop.Stop.{Stop}
 use Rattle.read_grammar.specs.declared.stop.Stop.TheVariants.{Unexpected}
-use Rattle.read_grammar.specs.Kinds.{is, next_is, is_int, is_float, is_string, is_block_string}
+use Rattle.read_grammar.specs.Kinds.{is, next_is, is_int, is_float, is_string}
 use Rattle.read_grammar.specs.Meaning.{Meaning, begin_of, text_of}
 use Rattle.read_grammar.specs.Places.{place_in}
 use Rattle.read_grammar.specs.Reading.{Outcome, Parser, and_then, take_from, take, ◌<&>◌}
@@ -26,6 +26,9 @@ use Rattle.read_grammar.proofs.Moves.{taken_yes, taken_no}
 use Rattle.read_grammar.proofs.Tests.{from_subset}
 use Rattle.read_values.specs.Meanings.{in_file, string_by, string_of, string_meant}
 use Rattle.read_values.proofs.Numbers.{int_value, float_value}
+
+abbrev pub is_block_string : Terminal → Bool
+is_block_string = is t.BlockString
 
 abbrev done : {A : Type 0} → A → Input → Outcome A
 done x o = Ok (x, o)

@@ -21,9 +21,13 @@ use Rattle.schema_types.specs.SchemaTree.{SchemaType, SchemaTree}
 use Rattle.schema_types.specs.Plain.{PlainType, plain_type, plain_directive_definition, plain}
 use Rattle.schema_types.specs.Looks.{TypeLooks, type_looks}
 use Rattle.rule_definitions.specs.Words.{Somewhere, AtSomeIndex}
-use Rattle.rule_definitions.specs.Judged.{judged}
+use Rattle.rule_definitions.specs.Judged.{Judged, judged, AtField, AtInputValue}
 use Rattle.rule_definitions.specs.Names.{named_in}
-use Rattle.rule_definitions.specs.Kept.{is_inside, is_inside_arguments, is_inside_field, is_inside_type, is_referenced, AreDistinct, IsReferenced}
+use Rattle.rule_definitions.specs.Kept.{is_inside, is_inside_arguments, is_inside_field, is_inside_type, is_referenced, AreDistinct}
+
+-- the name stands inside the type of a field, an argument or an input field
+abbrev pub IsReferenced : Judged → List ℕ → Type 0
+IsReferenced s n = AtField s (λ t m f. named_in f.ty ≡ n) ⊎ AtInputValue s (λ at v. named_in v.ty.it ≡ n)
 
 no_true : {A : Type 0} → false ≡ true → A
 no_true h = absurd (true≢false (sym h))

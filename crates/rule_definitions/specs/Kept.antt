@@ -1,6 +1,6 @@
 -- Kept: a schema without each built-in scalar that is the inner type of no field, argument or input field, introspection types
 -- counted (GraphQL, October 2021, section 3.5).
-use Rattle.std.specs.Prelude.{◌≡◌, ℕ, Bool, ◌&&◌, ◌||◌, not, List, [], ◌++◌, map, filter, bytes_eq, is_none, None, ◌⊎◌}
+use Rattle.std.specs.Prelude.{ℕ, Bool, ◌&&◌, ◌||◌, not, List, [], ◌++◌, map, filter, bytes_eq, is_none, None}
 use Rattle.std.specs.List.{list_any, IsDistinct, AllByRecursion}
 use Rattle.std.specs.Map.{keys_of}
 use Rattle.graphql_names.specs.Placed.{Place}
@@ -13,9 +13,7 @@ use Rattle.schema_types.specs.BuiltIn.{built_in, name}
 use Rattle.schema_types.specs.SchemaTree.{SchemaType, SchemaTree, same_kind}
 use Rattle.schema_types.specs.Addresses.{type_at}
 use Rattle.schema_types.specs.declared.type_kind.TypeKind.TheVariants as kind
-use Rattle.rule_definitions.specs.Words.{Present}
-use Rattle.rule_definitions.specs.Judged.{Judged, AtField, AtInputValue, IsBuiltInScalar}
-use Rattle.rule_definitions.specs.Names.{named_in, scalar_names}
+use Rattle.rule_definitions.specs.Names.{scalar_names}
 
 -- ---- on entries
 
@@ -61,17 +59,3 @@ pub record AreDistinct (s : SchemaTree Place) : Type 0 where
   pub directives : IsDistinct bytes_eq (keys_of s.directives)
   pub types : IsDistinct bytes_eq (keys_of s.types)
   pub parts : AllByRecursion (λ e. IsDistinct bytes_eq (keys_of e.1.fields) × IsDistinct bytes_eq (keys_of e.1.inputs)) s.types
-
-module _ (s : Judged) where
-  abbrev pub IsReferenced : List ℕ → Type 0
-  IsReferenced n = AtField s (λ t m f. named_in f.ty ≡ n) ⊎ AtInputValue s (λ at v. named_in v.ty.it ≡ n)
-
-  abbrev pub IsDropped : List ℕ → Type 0
-  IsDropped n = Present (s.type_named n) (λ t. IsBuiltInScalar s n t × (IsReferenced n → ⊥))
-
--- what rules read of the schema that is kept of another
-pub record Keeps (s k : Judged) : Type 0 where
-  pub definition : k.definition ≡ s.definition
-  pub directive : k.directive ≡ s.directive
-  pub dropped : (n : List ℕ) → IsDropped s n → k.type_named n ≡ None
-  pub others : (n : List ℕ) → (IsDropped s n → ⊥) → k.type_named n ≡ s.type_named n

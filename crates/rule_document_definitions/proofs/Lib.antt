@@ -9,7 +9,6 @@ pub mod SelectionRows
 pub mod MergingRows
 pub mod SubscriptionRows
 pub mod DeferRows
-pub mod Grouped
 pub mod Equivalences
 pub mod WholeRows
 pub mod Unplaced
@@ -24,6 +23,10 @@ pub mod UnplacedVariables
 pub mod UnplacedFragments
 pub mod UnplacedSelections
 pub mod Positions
+pub mod Decided
+pub mod Ways
+pub mod Inside
+pub mod Spreading
 pub mod UnplacedRoots
 pub mod Stable
 pub mod UnplacedBounds

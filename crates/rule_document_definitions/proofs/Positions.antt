@@ -1,11 +1,11 @@
--- What is reached at the root of an operation is one where its position is, if fragments stand under their own names.
+-- What an operation reaches is one where its position is, if fragments stand under their own names.
 use Rattle.std.proofs.Common.{◌≡◌, ℕ, ◌<◌, suc, List, refl, sym, ap, subst, ◌∙◌, inl, inr, Option, None, Some, Contains, is_some, true≢false, arith}
 use Rattle.std.proofs.lemmas.Option.{same_Some}
 use Rattle.document_meaning.specs.MeantTree.{MeantSelection, MeantField, MeantSpread, MeantInline, MeantSet, meant_set, MeantSelections, no_meant, meant_then, MeantOperation, MeantFragment, MeantDocument}
 use Rattle.rule_definitions.specs.Words.{Present}
 use Rattle.rule_definitions.proofs.Lists.{not_in_nil, Contains-cons}
 use Rattle.rule_document_definitions.specs.Selected.{Position, InOperation, InFragment, SelectionAt, Standing, StandingField, stand, standing_in, in_inline, field_there, as_field, fragment_named, operation_name}
-use Rattle.rule_document_definitions.specs.Reached.{first, next, AtRoot, InFragmentOf, IsFieldOf}
+use Rattle.rule_document_definitions.specs.Reached.{first, next, LeadsInto, Reached, AtRoot, IsFieldOf}
 use Rattle.rule_document_definitions.specs.Named.{FragmentsFoundByName}
 use Rattle.rule_document_definitions.proofs.UnplacedFragments.{held_if_named}
 
@@ -56,29 +56,38 @@ module _ {P : Type 0} where
   held_at : (h : Position) (s : MeantSet P) (x : Standing P) → Contains (standing_in h s) x → (k : ℕ) × (x.position ≡ SelectionAt h k)
   held_at h (meant_set t ss) x c = let p = at_or_after h t 0 ss x c in (p.0, p.1.0)
 
-  -- the set of an inline fragment
-  abbrev inline_set : MeantSelection P → Option (MeantSet P)
-  inline_set (MeantInline p c ds s) = Some s
-  inline_set _ = None
+  -- the set of a field, of an inline fragment
+  abbrev set_of : MeantSelection P → Option (MeantSet P)
+  set_of (MeantInline p c ds s) = Some s
+  set_of (MeantField p d h s) = Some s
+  set_of _ = None
 
-  inline_holds : (at : Position) (m : MeantSelection P) (y : Standing P) → Contains (in_inline at m) y → (s : MeantSet P) × ((inline_set m ≡ Some s) × Contains (standing_in at s) y)
+  inline_holds : (at : Position) (m : MeantSelection P) (y : Standing P) → Contains (in_inline at m) y → (s : MeantSet P) × ((set_of m ≡ Some s) × Contains (standing_in at s) y)
   inline_holds at (MeantField p d h s) y c = not_in_nil y c
   inline_holds at (MeantSpread p n ds) y c = not_in_nil y c
   inline_holds at (MeantInline p n ds s) y c = (s, (refl, c))
+
+  field_holds : (x : Standing P) (f : StandingField P) → as_field x ≡ Some f → (f.position ≡ x.position) × (set_of x.it ≡ Some f.set)
+  field_holds x f e = by x.position x.parent x.it f e
+    where
+      by : (at : Position) (t : List ℕ) (m : MeantSelection P) (f : StandingField P) → field_there at t m ≡ Some f → (f.position ≡ at) × (set_of m ≡ Some f.set)
+      by at t (MeantField p d h s) f e = (ap (λ (v : StandingField P). v.position) (sym (same_Some _ _ e)), ap (λ (v : StandingField P). Some v.set) (same_Some _ _ e))
+      by at t (MeantSpread p n ds) f e = absurd (true≢false (sym (ap is_some e)))
+      by at t (MeantInline p n ds s) f e = absurd (true≢false (sym (ap is_some e)))
 
   field_at_position : (at : Position) (t : List ℕ) (m : MeantSelection P) (f : StandingField P) → field_there at t m ≡ Some f → f.position ≡ at
   field_at_position at t (MeantField p d h s) f e = ap (λ (v : StandingField P). v.position) (sym (same_Some _ _ e))
   field_at_position at t (MeantSpread p n ds) f e = absurd (true≢false (sym (ap is_some e)))
   field_at_position at t (MeantInline p n ds s) f e = absurd (true≢false (sym (ap is_some e)))
 
--- ---- in an operation and the fragments of its root
+-- ---- in an operation and what it reaches
 
 module _ {P : Type 0} (d : MeantDocument P) (o : MeantOperation P) where
   -- the set that stands at the position
   abbrev HoldsSet : Position → MeantSet P → Type 0
   HoldsSet (InOperation n) s = s ≡ o.set
   HoldsSet (InFragment n) s = Present (fragment_named d n) (λ f. s ≡ f.set)
-  HoldsSet (SelectionAt h i) s = (t : MeantSet P) × (HoldsSet h t × ((x : Standing P) × (Contains (standing_in h t) x × ((x.position ≡ SelectionAt h i) × (inline_set x.it ≡ Some s)))))
+  HoldsSet (SelectionAt h i) s = (t : MeantSet P) × (HoldsSet h t × ((x : Standing P) × (Contains (standing_in h t) x × ((x.position ≡ SelectionAt h i) × (set_of x.it ≡ Some s)))))
 
   one_set : (p : Position) (s t : MeantSet P) → HoldsSet p s → HoldsSet p t → s ≡ t
   one_set (InOperation n) s t a b = a ∙ sym b
@@ -86,26 +95,30 @@ module _ {P : Type 0} (d : MeantDocument P) (o : MeantOperation P) where
   one_set (SelectionAt h i) s t (u, (hu, (x, (c, (e, a))))) (v, (hv, (y, (k, (g, b))))) =
       let same : u ≡ v = one_set h u v hu hv in
       let one : x ≡ y = one_in_set h v x y (subst (λ (w : MeantSet P). Contains (standing_in h w) x) same c) k (e ∙ sym g) in
-      same_Some _ _ (sym a ∙ ap (λ (w : Standing P). inline_set w.it) one ∙ b)
+      same_Some _ _ (sym a ∙ ap (λ (w : Standing P). set_of w.it) one ∙ b)
 
   -- it stands in a set there
   abbrev StandsThere : Standing P → Type 0
   StandsThere x = (h : Position) × ((s : MeantSet P) × (HoldsSet h s × Contains (standing_in h s) x))
 
-  root_stands : FragmentsFoundByName d → (x : Standing P) → AtRoot d o x → StandsThere x
-  root_stands named x (first c) = (InOperation (operation_name o), (o.set, (refl, c)))
-  root_stands named y (next {x = x} r l) = further (root_stands named x r) l
+  reached_stands : FragmentsFoundByName d → (x : Standing P) → Reached d o x → StandsThere x
+  reached_stands named x (first c) = (InOperation (operation_name o), (o.set, (refl, c)))
+  reached_stands named y (next {x = x} r l) = further (reached_stands named x r) l
     where
-      further : StandsThere x → InFragmentOf d x y → StandsThere y
-      further (h, (s, (holds, c))) (inl i) =
+      further : StandsThere x → LeadsInto d x y → StandsThere y
+      further (h, (s, (holds, c))) (inl (f, (is, i))) =
+          let p = held_at h s x c in
+          let t = field_holds x f is in
+          (f.position, (f.set, (subst (λ q. HoldsSet q f.set) (sym (t.0 ∙ p.1)) (s, (holds, (x, (c, (p.1, t.1))))), i)))
+      further (h, (s, (holds, c))) (inr (inl i)) =
           let p = held_at h s x c in
           let t = inline_holds x.position x.it y i in
           (x.position, (t.0, (subst (λ q. HoldsSet q t.0) (sym p.1) (s, (holds, (x, (c, (p.1, t.1.0))))), t.1.1)))
-      further there (inr (n, (e, (f, (k, i))))) = (InFragment f.name.it, (f.set, ((f, (named f (held_if_named d n f k), refl)), i)))
+      further there (inr (inr (n, (e, (f, (k, i)))))) = (InFragment f.name.it, (f.set, ((f, (named f (held_if_named d n f k), refl)), i)))
 
   -- one that is reached is where its position says
-  pub one_at_position : FragmentsFoundByName d → (x y : Standing P) → AtRoot d o x → AtRoot d o y → x.position ≡ y.position → x ≡ y
-  one_at_position named x y r q e = by (root_stands named x r) (root_stands named y q)
+  pub one_at_position : FragmentsFoundByName d → (x y : Standing P) → Reached d o x → Reached d o y → x.position ≡ y.position → x ≡ y
+  one_at_position named x y r q e = by (reached_stands named x r) (reached_stands named y q)
     where
       by : StandsThere x → StandsThere y → x ≡ y
       by (h, (s, (holds, c))) (k, (t, (keeps, m))) =
@@ -115,10 +128,19 @@ module _ {P : Type 0} (d : MeantDocument P) (o : MeantOperation P) where
           let one : s ≡ t = one_set k s t (subst (λ p. HoldsSet p s) here holds) keeps in
           one_in_set k t x y (subst (λ (w : MeantSet P). Contains (standing_in k w) x) one (subst (λ p. Contains (standing_in p s) x) here c)) m e
 
-  -- and so are the fields at the root
-  pub one_field : FragmentsFoundByName d → (f g : StandingField P) → IsFieldOf d (InOperation (operation_name o)) o.set f → IsFieldOf d (InOperation (operation_name o)) o.set g → f.position ≡ g.position → f ≡ g
-  one_field named f g (x, (r, e)) (y, (q, k)) same =
+  -- and so are fields
+  pub one_reached_field : FragmentsFoundByName d → (x y : Standing P) (f g : StandingField P) → Reached d o x → Reached d o y → as_field x ≡ Some f → as_field y ≡ Some g → f.position ≡ g.position → f ≡ g
+  one_reached_field named x y f g r q e k same =
       let a = field_at_position x.position x.parent x.it f e in
       let b = field_at_position y.position y.parent y.it g k in
       let one : x ≡ y = one_at_position named x y r q (sym a ∙ same ∙ b) in
       same_Some _ _ (sym e ∙ ap as_field one ∙ k)
+
+  -- ---- at the root
+
+  from_root : (x : Standing P) → AtRoot d o x → Reached d o x
+  from_root x (first c) = first c
+  from_root y (next {x = x} r l) = next (from_root x r) (inr l)
+
+  pub one_field : FragmentsFoundByName d → (f g : StandingField P) → IsFieldOf d (InOperation (operation_name o)) o.set f → IsFieldOf d (InOperation (operation_name o)) o.set g → f.position ≡ g.position → f ≡ g
+  one_field named f g (x, (r, e)) (y, (q, k)) same = one_reached_field named x y f g (from_root x r) (from_root y q) e k same

@@ -30,10 +30,6 @@ RefersBySpread {P} d n by to = Present (fragment_named d n) (λ f. (x : Standing
 abbrev pub ReachesItself : {P : Type 0} → MeantDocument P → MeantFragment P → Type 0
 ReachesItself {P} d f = (by : Placed P SpreadTree) × ((rest : List (Placed P SpreadTree)) × Leads (RefersBySpread d) f.name.it (by ∷ rest) f.name.it)
 
--- no fragment that the operation reaches reaches itself
-abbrev pub HasNoLoop : {P : Type 0} → MeantDocument P → MeantOperation P → Type 0
-HasNoLoop d o = AtReachedFragment d o (ReachesItself d) → ⊥
-
 -- ---- rules that ask nothing of a schema
 
 module _ {P E : Type 0} (d : MeantDocument P) (fault : FaultAt P E) where

@@ -20,7 +20,8 @@ use Rattle.rule_document_definitions.proofs.Equivalences.{shape_sym, shape_trans
 use Rattle.rule_field_groups.specs.in_ground.Fields.{field_of, fields_of}
 use Rattle.rule_field_groups.specs.in_ground.declared.field_selection.FieldSelection.{FieldSelection}
 use Rattle.rule_merging_laws.specs.Contents.{PlainField, PlainBelow, PlainStarts}
-use Rattle.rule_merging_laws.specs.Settled.{HasStart, IsUnderWay, IsExaminedInto, IsExaminedBy}
+use Rattle.rule_merging_laws.specs.Settled.{HasStart, IsUnderWay}
+use Rattle.rule_merging_laws.proofs.Examined.{IsExaminedInto, IsExaminedBy}
 use Rattle.rule_merging_laws.specs.Going.{IsEndOf, IsGoing}
 use Rattle.rule_merging_laws.proofs.SettledFacts.{settled_empty, begun, dropped, ended, examined_anyhow}
 use Rattle.rule_merging_laws.proofs.GoingFacts.{going_start, going_below, end_start, end_below, end_within}

@@ -37,7 +37,3 @@ comparisons_of e = e.comparisons
 
 abbrev pub IsCounted : MeantDocument Place → Examined → Type 0
 IsCounted d e = IsCountedBy d (lists_examined e) (comparisons_of e)
-
--- the breaches that were there, as they stood, and behind them only such as the fields of the operation break
-abbrev pub AddsConflicts : Judged → MeantDocument Place → MeantOperation Place → Breaches → Breaches → Type 0
-AddsConflicts s d o old new = (added : List (Broken Place)) × ((brokens_of new ≡ brokens_of old ++ added) × ((fault : Broken Place) → Contains added fault → MergingBreaks s d o fault))

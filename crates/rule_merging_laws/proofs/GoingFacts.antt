@@ -5,12 +5,12 @@ use Rattle.rule_merging_laws.specs.Going.{LiesBelow, IsEndOf, IsGoing}
 
 module _ {F : Type 0} (Below : F → F → Type 0) where
   -- a chain goes on
-  chain_on : (Starts : F → Type 0) (c : List F) (f g : F) → Chain Below Starts (c ++ f ∷ []) → Below f g → Chain Below Starts ((c ++ f ∷ []) ++ g ∷ [])
+  pub chain_on : (Starts : F → Type 0) (c : List F) (f g : F) → Chain Below Starts (c ++ f ∷ []) → Below f g → Chain Below Starts ((c ++ f ∷ []) ++ g ∷ [])
   chain_on Starts [] f g p b = (p.0, (b, tt))
   chain_on Starts (e ∷ c) f g p b = (p.0, chain_on (Below e) c f g p.1 b)
 
   -- with another that goes together with it
-  together_on : (Together : F → F → Type 0) (c d : List F) (f g : F) → GoTogether Together c d → Together f g → GoTogether Together (c ++ f ∷ []) (d ++ g ∷ [])
+  pub together_on : (Together : F → F → Type 0) (c d : List F) (f g : F) → GoTogether Together c d → Together f g → GoTogether Together (c ++ f ∷ []) (d ++ g ∷ [])
   together_on Together [] [] f g p t = (t, tt)
   together_on Together [] (h ∷ d) f g p t = absurd p
   together_on Together (e ∷ c) [] f g p t = absurd p

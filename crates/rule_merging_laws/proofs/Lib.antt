@@ -1,3 +1,4 @@
+pub mod Examined
 pub mod SettledFacts
 pub mod GoingFacts
 pub mod SharingFacts

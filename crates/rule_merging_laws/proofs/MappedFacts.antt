@@ -3,7 +3,7 @@ use Rattle.std.proofs.Common.{◌≡◌, List, [], ◌∷◌, map, Contains, sym
 use Rattle.std.specs.List.{AllByRecursion}
 use Rattle.rule_document_definitions.specs.Groups.{AgreeWithHead, AreGroups}
 use Rattle.rule_document_definitions.proofs.Unplaced.{contains_map, contains_unmap}
-use Rattle.rule_merging_laws.specs.Settled.{HasAllOf, IsExaminedInto, IsExaminedBy}
+use Rattle.rule_merging_laws.proofs.Examined.{HasAllOf, IsExaminedInto, IsExaminedBy}
 
 module _ {F G : Type 0} (h : F → G) where
   -- of a larger list a larger list is made

@@ -9,8 +9,8 @@ use Rattle.rule_document_definitions.specs.Merging.{Below, Starts, SameKey, Same
 use Rattle.rule_document_definitions.specs.Contents.{content, ContentBelow, ContentStarts, unplaced_content}
 use Rattle.rule_document_definitions.proofs.Unplaced.{unplaced_field, field_of_map, field_of_unmap}
 use Rattle.rule_document_definitions.proofs.MergingUnplaced.{key_down, key_up, given_same}
-use Rattle.rule_merging_laws.specs.Settled.{IsExaminedInto}
-use Rattle.rule_merging_laws.specs.Contents.{PlainField, PlainBelow, PlainStarts, AreShapesExamined, AreSelectionsExamined}
+use Rattle.rule_merging_laws.proofs.Examined.{IsExaminedInto, AreShapesExamined, AreSelectionsExamined}
+use Rattle.rule_merging_laws.specs.Contents.{PlainField, PlainBelow, PlainStarts}
 use Rattle.rule_merging_laws.proofs.Elsewhere.{below_content, content_below, starts_content, content_starts}
 use Rattle.rule_merging_laws.proofs.MappedFacts.{mapped_examined}
 

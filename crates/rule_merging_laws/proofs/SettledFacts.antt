@@ -5,7 +5,8 @@ use Rattle.std.proofs.lemmas.List.Elements.{All-contains, All-from_recursion, Co
 use Rattle.rule_definitions.proofs.Lists.{not_in_nil, Contains-cons, Contains-first, only}
 use Rattle.rule_document_definitions.specs.Chains.{Chain, GoTogether, Merge}
 use Rattle.rule_document_definitions.specs.Groups.{AgreeWithHead}
-use Rattle.rule_merging_laws.specs.Settled.{HasAllOf, HasStart, IsSettledBy, IsSettled, IsExaminedOrLeft, IsSettledBut, IsUnderWay, IsExaminedInto}
+use Rattle.rule_merging_laws.specs.Settled.{HasStart, IsSettledBy, IsSettled, IsExaminedOrLeft, IsSettledBut, IsUnderWay}
+use Rattle.rule_merging_laws.proofs.Examined.{HasAllOf, IsExaminedInto}
 
 -- a chain may start elsewhere
 chain_from : {F : Type 0} (Below : F → F → Type 0) (Old New : F → Type 0) → ((f : F) → Old f → New f) → (c : List F) → Chain Below Old c → Chain Below New c

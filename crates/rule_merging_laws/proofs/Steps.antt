@@ -7,10 +7,11 @@ use Rattle.rule_document_definitions.specs.Merging.{SameKey, SameShape, MayShare
 use Rattle.rule_document_definitions.specs.Contents.{ContentBelow, ContentStarts, unplaced_content}
 use Rattle.rule_document_definitions.specs.Groups.{AgreeWithHead}
 use Rattle.rule_document_definitions.proofs.Equivalences.{shape_sym, shape_trans, selection_sym, selection_trans}
-use Rattle.rule_merging_laws.specs.Settled.{HasAllOf, HasStart}
+use Rattle.rule_merging_laws.specs.Settled.{HasStart}
+use Rattle.rule_merging_laws.proofs.Examined.{HasAllOf, AreShapesUnderWay, AreSelectionsUnderWay, AreShapesExamined, AreSelectionsExamined}
 use Rattle.rule_merging_laws.specs.Going.{LiesBelow}
 use Rattle.rule_merging_laws.specs.Sharing.{AreKeyGroups, AreShareGroups}
-use Rattle.rule_merging_laws.specs.Contents.{PlainField, PlainBelow, PlainStarts, AreShapesSettled, AreSelectionsSettled, AreShapesUnderWay, AreSelectionsUnderWay, AreShapesExamined, AreSelectionsExamined, IsGoingByKeys, IsGoingByParents}
+use Rattle.rule_merging_laws.specs.Contents.{PlainField, PlainBelow, PlainStarts, AreShapesSettled, AreSelectionsSettled, IsGoingByKeys, IsGoingByParents}
 use Rattle.rule_merging_laws.proofs.SettledFacts.{settled_nothing, begun, dropped, examined_here, ended}
 use Rattle.rule_merging_laws.proofs.GoingFacts.{going_start, going_below}
 use Rattle.rule_merging_laws.proofs.SharingFacts.{key_groups, share_groups}

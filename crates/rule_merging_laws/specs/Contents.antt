@@ -5,8 +5,8 @@ use Rattle.document_meaning.specs.Unplaced.{unplaced_operation, unplaced_documen
 use Rattle.rule_definitions.specs.Judged.{Judged}
 use Rattle.rule_document_definitions.specs.Selected.{StandingField}
 use Rattle.rule_document_definitions.specs.Merging.{SameKey, SameShape, MayShare, SameNameAndArguments}
-use Rattle.rule_document_definitions.specs.Contents.{unplaced_content, ContentBelow, ContentStarts}
-use Rattle.rule_merging_laws.specs.Settled.{IsSettled, IsUnderWay, IsExaminedBy}
+use Rattle.rule_document_definitions.specs.Contents.{ContentBelow, ContentStarts}
+use Rattle.rule_merging_laws.specs.Settled.{IsSettled}
 use Rattle.rule_merging_laws.specs.Going.{IsGoing}
 
 -- a field, with nothing told of where it stands
@@ -32,22 +32,6 @@ module _ {P : Type 0} (d : MeantDocument P) where
     -- by keys and parents, in name and arguments
     abbrev pub AreSelectionsSettled : List (List PlainField) → Type 0
     AreSelectionsSettled lists = IsSettled PlainBelow (MayShare s) SameNameAndArguments lists
-
-    -- the same while lists are left to examine
-    abbrev pub AreShapesUnderWay : MeantOperation P → List (List PlainField) → List (List PlainField) → Type 0
-    AreShapesUnderWay o left lists = IsUnderWay PlainBelow SameKey (SameShape s) (PlainStarts o) left lists
-
-    -- by keys and parents
-    abbrev pub AreSelectionsUnderWay : MeantOperation P → List (List PlainField) → List (List PlainField) → Type 0
-    AreSelectionsUnderWay o left lists = IsUnderWay PlainBelow (MayShare s) SameNameAndArguments (PlainStarts o) left lists
-
-    -- a list of contents was examined
-    abbrev pub AreShapesExamined : List (StandingField P) → List (List (StandingField P)) → List (List (StandingField P)) → Type 0
-    AreShapesExamined list groups next = IsExaminedBy unplaced_content (ContentBelow d) SameKey (SameShape s) list groups next
-
-    -- by keys and parents
-    abbrev pub AreSelectionsExamined : List (StandingField P) → List (List (StandingField P)) → List (List (StandingField P)) → Type 0
-    AreSelectionsExamined list groups next = IsExaminedBy unplaced_content (ContentBelow d) (MayShare s) SameNameAndArguments list groups next
 
   -- ---- lists of contents that chains lead to
 

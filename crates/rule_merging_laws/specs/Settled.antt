@@ -1,13 +1,8 @@
 -- Lists of fields that are settled: in each of them fields that go together agree, and what lies below them is in a settled list
 -- again. A list counts by its members alone.
-use Rattle.std.specs.Prelude.{List, map, Contains, ◌⊎◌}
-use Rattle.rule_document_definitions.specs.Groups.{AgreeWithHead, AreGroups}
+use Rattle.std.specs.Prelude.{List, Contains, ◌⊎◌}
 
 module _ {F : Type 0} where
-  -- the second list has every member of the first
-  abbrev pub HasAllOf : List F → List F → Type 0
-  HasAllOf list larger = (f : F) → Contains list f → Contains larger f
-
   -- one of these lists has all that Starts
   abbrev pub HasStart : (F → Type 0) → (List F → Type 0) → Type 0
   HasStart Starts Kept = (list : List F) × (Kept list × ((f : F) → Starts f → Contains list f))
@@ -40,17 +35,3 @@ module _ {F : Type 0} (Below Together Agree : F → F → Type 0) where
   pub record IsUnderWay (Starts : F → Type 0) (left lists : List (List F)) : Type 0 where
     pub start : HasStart Starts (IsExaminedOrLeft left lists)
     pub settled : IsSettledBut left lists
-
-  -- a list is examined: in each of its groups all agree with the head, and one of the next lists has what lies below the group
-  pub record IsExaminedInto (list : List F) (groups next : List (List F)) : Type 0 where
-    pub covers : AreGroups Together list groups
-    pub agree : (group : List F) → Contains groups group → AgreeWithHead Agree group
-    pub below : (group : List F) → Contains groups group
-        → (list : List F) × (Contains next list × ((f x : F) → Contains group f → Below f x → Contains list x))
-
--- the same of fields that count by what h makes of them: a next list has a field of the same kind for each field below
-pub record IsExaminedBy {F G : Type 0} (h : F → G) (Below Together Agree : F → F → Type 0) (list : List F) (groups next : List (List F)) : Type 0 where
-  pub covers : AreGroups Together list groups
-  pub agree : (group : List F) → Contains groups group → AgreeWithHead Agree group
-  pub below : (group : List F) → Contains groups group
-      → (list : List F) × (Contains next list × ((f x : F) → Contains group f → Below f x → Contains (map h list) (h x)))

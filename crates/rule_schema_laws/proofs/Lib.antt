@@ -6,6 +6,7 @@ pub mod Given
 pub mod Written
 pub mod Grounds
 pub mod Validated
+pub mod Distinct
 pub mod Named
 pub mod Fine
 pub mod ReadTexts

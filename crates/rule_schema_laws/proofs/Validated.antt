@@ -46,7 +46,7 @@ module _ {X : Type 0} (keep : X → Bool) where
       by false c rest = Contains-append_right (y ∷ []) xs x (rest c)
 
   -- what is found and kept is found among those that are kept
-  still_found : (test : X → Bool) (xs more : List X) (x : X) → find test xs ≡ Some x → keep x ≡ true → find test (filter keep xs ++ more) ≡ Some x
+  pub still_found : (test : X → Bool) (xs more : List X) (x : X) → find test xs ≡ Some x → keep x ≡ true → find test (filter keep xs ++ more) ≡ Some x
   still_found test [] more x e k = cc
   still_found test (y ∷ xs) more x e k = by (keep y) refl (test y) refl e (λ e'. still_found test xs more x e' k)
     where

@@ -2,7 +2,7 @@
 use Rattle.std.specs.Prelude.{ℕ, Bool, true, List, map, flat_map}
 use Rattle.std.specs.Option.{option_map_or}
 use Rattle.indexmap.specs.IndexMap.{IndexMap, get}
-use Rattle.graphql_names.specs.Placed.{Place, Text, name_tree, node_tree}
+use Rattle.graphql_names.specs.Placed.{Place, node_tree}
 use Rattle.graphql_names.specs.Node.{content, place}
 use Rattle.graphql_names.specs.declared.node.Node.{Node}
 use Rattle.tree_literals.specs.TypeTree.{TypeTree, type_tree, unplaced_type}
@@ -33,10 +33,6 @@ wanted_type n = wanted (type_tree (content n)) (place n)
 
 abbrev pub variables_of : List (Node VariableDefinition) → Variables Place
 variables_of variables = map (node_tree variable_definition_tree) variables
-
--- the keys of the entries of an object
-abbrev pub keys_of_entries : List (Name × Node Value) → List (Text Place)
-keys_of_entries entries = map (λ e. name_tree e.0) entries
 
 -- the keys of the entries of an object, each with whether its value is null
 abbrev pub nulls_of : List (Name × Node Value) → List (List ℕ × Bool)

@@ -6,11 +6,9 @@ use Rattle.schema_fold.specs.in_definitions.DefinitionTree.{DefinitionTree}
 use Rattle.schema_fold.specs.in_schema_types.TypeParts.{bare, definition_by}
 use Rattle.schema_fold.specs.Listed.{Definitions, Listed, definitions_of}
 use Rattle.schema_fold.specs.SchemaFold.{schema_extension_here, schema_is_defined}
-use Rattle.schema_fold.specs.Adoption.{Settings, is_redefinition, empty_type, empty_schema, orphans}
+use Rattle.schema_fold.specs.Adoption.{Settings, is_redefinition, empty_schema}
 use Rattle.schema_built_in.specs.Table.{built_in_definitions}
-use Rattle.schema_components.specs.Lists.{firsts}
 use Rattle.schema_fold_index.specs.Index.{NamedKind}
-use Rattle.schema_building.specs.Noted.{parts_key}
 
 -- a definition that is no extension
 abbrev pub unnumbered : DefinitionTree Place → Listed
@@ -23,10 +21,6 @@ empty_of k = definition_by k.1 None None (bare k.1 k.0 [])
 -- a definition that is not passed over
 abbrev pub is_kept : Bool → Listed → Bool
 is_kept ignores l = not (ignores && is_redefinition built_in_definitions l.definition)
-
--- the empty definitions that orphans get
-abbrev pub adopted_types : Definitions → Definitions
-adopted_types texts = map (empty_type built_in_definitions) (firsts parts_key (orphans built_in_definitions texts))
 
 -- the empty schema definition, where a whole list extends the schema and does not define it
 abbrev pub adopted_schema : Definitions → Definitions

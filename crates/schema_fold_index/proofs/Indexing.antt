@@ -17,8 +17,17 @@ use Rattle.schema_fold.specs.Listed.{Definitions, Listed, type_name, types_in, d
 use Rattle.schema_fold.specs.PartsView.{parts_view}
 use Rattle.schema_fold.specs.declared.parts.Parts.{Parts}
 use Rattle.schema_fold_index.specs.declared.index.Filed.{Filed}
-use Rattle.schema_fold_index.specs.Index.{StandingParts, standing_name, parts_here, standing_after, standing_in_list, positions_named, first_of, first_filed, positions_of, FiledEntries, AreFiled, FilesUnder, listed_at, defined_at, extensions_under, extensions_named}
+use Rattle.schema_fold_index.specs.Index.{StandingParts, standing_name, parts_here, standing_after, standing_in_list, positions_named, first_of, first_filed, positions_of, FiledEntries, AreFiled, FilesUnder, listed_at, defined_at, extensions_under}
 use Rattle.schema_fold_index.proofs.Under.{added_behind, added_new}
+
+-- ---- extensions by name
+
+abbrev pub extends_name : List ℕ → Listed → Bool
+extends_name n l = option_map_or (λ parts. bytes_eq n parts.name.it) (type_extension_here l.definition) false
+
+-- the extensions of the types of that name, of every kind, in order
+abbrev pub extensions_named : List ℕ → List Listed → List Listed
+extensions_named n list = filter (extends_name n) list
 
 abbrev test : List ℕ → NameValue → Bool
 test n k = bytes_eq n k.text

@@ -101,15 +101,6 @@ FilesRest ds from old new = IsIndexOf (take from ds) old → IsIndexOf ds new
 abbrev pub FilesUnder : ℕ → TypeParts Place → FiledEntries → FiledEntries → Type 0
 FilesUnder position parts old new = (ss : List StandingParts) → AreFiled ss old → AreFiled (ss ++ record { position = position; parts = parts } ∷ []) new
 
--- ---- extensions by name
-
-abbrev pub extends_name : List ℕ → Listed → Bool
-extends_name n l = option_map_or (λ parts. bytes_eq n parts.name.it) (type_extension_here l.definition) false
-
--- the extensions of the types of that name, of every kind, in order
-abbrev pub extensions_named : List ℕ → List Listed → List Listed
-extensions_named n list = filter (extends_name n) list
-
 -- ---- reading by positions
 
 -- what stands at a position of a list, if it is there

@@ -18,7 +18,7 @@ use Rattle.schema_fold.specs.BuildErrors.{BuildFault}
 use Rattle.schema_fold_types.specs.TypeFaults.{faults_of_type}
 use Rattle.schema_fold_types.specs.ListTypes.{ExtendsNone}
 use Rattle.schema_fold_types.specs.Filing.{type_by, types_by, faults_by}
-use Rattle.schema_fold_index.specs.Index.{extends_name, extensions_named}
+use Rattle.schema_fold_index.proofs.Indexing.{extends_name, extensions_named}
 
 module _ (defined : TypeParts Place) where
   abbrev named : List Listed → List Listed

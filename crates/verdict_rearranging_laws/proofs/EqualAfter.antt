@@ -20,10 +20,10 @@ use Rattle.rule_definitions.specs.in_schema_types.declared.type_kind.TypeKind.Th
 use Rattle.rule_definitions.specs.in_schema_types.Plain.{PlainSchema, plain_type}
 use Rattle.rule_definitions.specs.in_schema_types.Addresses.{Address, TypeAt, DirectiveDefinitionAt, FieldAt, ValueAt, InputAt, ArgumentAt, under, or_nothing, place_of, type_at, is_marked}
 use Rattle.rule_definitions.specs.Laws.{AreEqual}
-use Rattle.rule_definitions.specs.Kept.{AreDistinct, IsReferenced, is_referenced, is_dropped, is_missing, built_in_scalar, kept, validated}
+use Rattle.rule_definitions.specs.Kept.{AreDistinct, is_referenced, is_dropped, is_missing, built_in_scalar, kept, validated}
 use Rattle.rule_definitions.specs.Names.{scalar_names}
 use Rattle.rule_definitions.proofs.Same.{read_the_same}
-use Rattle.rule_definitions.proofs.KeptFacts.{referenced_decides}
+use Rattle.rule_definitions.proofs.KeptFacts.{IsReferenced, referenced_decides}
 use Rattle.verdict_rearranging_laws.specs.Judging.{EqualAfterValidation}
 use Rattle.schema_fold.proofs.in_schema_types.UnderNames.{get_under}
 

@@ -23,7 +23,7 @@ use Rattle.verdict_rearranging_laws.proofs.Rearranged.{cut}
 use Rattle.verdict_rearranging_laws.proofs.Faults.{keep_the_rules}
 use Rattle.verdict_rearranging_laws.proofs.Marks.{are_equal}
 use Rattle.verdict_rearranging_laws.proofs.EqualAfter.{equal_after}
-use Rattle.verdict_rearranging_laws.proofs.Distinct.{folds_distinct}
+use Rattle.rule_schema_laws.proofs.Distinct.{folds_distinct}
 use Rattle.verdict_rearranging_laws.proofs.Cut.{writes_alike}
 use Rattle.verdict_rearranging_laws.proofs.ReadTexts.{is_own_list}
 use Rattle.verdict_definitions.specs.Texts.{SourceText, Tree, Terms}

@@ -1,4 +1,4 @@
-use Rattle.verdict_rearranging_laws.proofs.Distinct.{folds_distinct}
+use Rattle.rule_schema_laws.proofs.Distinct.{folds_distinct}
 use Rattle.verdict_rearranging_laws.proofs.folds_are_distinct.Goals as goal
 
 pub returns : goal.returns

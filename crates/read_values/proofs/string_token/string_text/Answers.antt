@@ -4,8 +4,8 @@ use Rattle.read_tokens.specs.Blocks.{block_value}
 use Rattle.read_tokens.specs.Input.{next}
 use Rattle.read_tokens.specs.Strings.{string_value}
 use Rattle.read_tokens.specs.declared.terminal.Terminal.TheVariants.{String}
-use Rattle.read_grammar.specs.Kinds.{is, next_is, is_block_string}
-use Rattle.read_values.proofs.Tokens.{quoted_taken, block_taken, string_refused}
+use Rattle.read_grammar.specs.Kinds.{is, next_is}
+use Rattle.read_values.proofs.Tokens.{is_block_string, quoted_taken, block_taken, string_refused}
 use Rattle.read_values.proofs.string_token.string_text.Goals as goal
 
 pub returns-then-next_is : goal.returns-then-next_is

@@ -4,7 +4,8 @@ use Rattle.tree_literals.specs.ValueTree.{value_tree, item_trees, entry_trees}
 use Rattle.graphql_schema.specs.SchemaOf.{schema_tree}
 use Rattle.graphql_schema.specs.in_schema_types.TypeView.{extended_type}
 use Rattle.fault_data.specs.FaultView.{faults_of}
-use Rattle.rule_values.specs.Wanting.{variables_of, keys_of_entries}
+use Rattle.rule_values.specs.Wanting.{variables_of}
+use Rattle.rule_values.proofs.Keys.{keys_of_entries}
 use Rattle.rule_values.specs.Firsts.{AreFirsts}
 use Rattle.rule_values.specs.ValueFaults.{item_faults, entry_faults}
 use Rattle.rule_values.proofs.types.+types.Given as goal

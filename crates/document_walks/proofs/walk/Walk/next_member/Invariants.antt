@@ -1,7 +1,11 @@
-use Rattle.std.proofs.Common.{◌≡◌}
-use Rattle.document_walks.specs.Left.{left_members}
-use Rattle.document_walks.specs.WalkView.{walk_state, steps_left}
+use Rattle.std.proofs.Common.{◌≡◌, ℕ, ◌+◌, ◌-◌, length}
+use Rattle.document_walks.specs.Left.{WalkState, left_members}
+use Rattle.document_walks.specs.WalkView.{walk_state}
 use Rattle.document_walks.proofs.walk.Walk.next_member.Given as goal
+
+-- how many steps a walk takes at most
+abbrev pub steps_left : {P : Type 0} → WalkState P → ℕ
+steps_left w = length (left_members w) + (length w.fragments - w.entered)
 
 abbrev pub invariant-loop-ty : goal.invariant-loop-ty
 invariant-loop-ty l = left_members (walk_state l.self) ≡ left_members (walk_state l.initial.self)
