@@ -32,7 +32,7 @@ module _ {P : Type 0} (d : MeantDocument P) (o : MeantOperation P) (fault : Brok
 
   -- DeferInSubscriptionMustBeConditional: what a subscription always reaches is deferred by a condition alone
   abbrev pub DeferInSubscriptionMustBeConditionalAt : Type 0
-  DeferInSubscriptionMustBeConditionalAt = (o.operation_type ≡ operation.Subscription) × ((x : Standing P) × (ReachedAlways x
+  DeferInSubscriptionMustBeConditionalAt = (o.operation_type ≡ operation.Subscription) × ((x : Standing P) × (ReachedAlways d o x
       × AtSomeIndex (defers x) (λ i e. (IsConditional e → ⊥) × (fault ≡ broken e.place DeferInSubscriptionMustBeConditional))))
 
   abbrev pub DeferBreaks : Type 0

@@ -13,12 +13,12 @@ use Rattle.rule_document_definitions.specs.RootFields.{meta_field_names, IsRootF
 module _ {P : Type 0} (d : MeantDocument P) (o : MeantOperation P) (fault : Broken P) where
   -- SubscriptionUsesMultipleFields: there is at most one
   abbrev pub SubscriptionUsesMultipleFieldsAt : Type 0
-  SubscriptionUsesMultipleFieldsAt = (fs : List (StandingField P)) × (AreRootFields fs × ((1 < length fs)
+  SubscriptionUsesMultipleFieldsAt = (fs : List (StandingField P)) × (AreRootFields d o fs × ((1 < length fs)
       × (fault ≡ broken o.place (SubscriptionUsesMultipleFields (operation_name o) (map field_name fs)))))
 
   -- SubscriptionUsesIntrospection: it is no meta-field
   abbrev pub SubscriptionUsesIntrospectionAt : Type 0
-  SubscriptionUsesIntrospectionAt = (f : StandingField P) × (IsRootField f × (Contains meta_field_names (field_name f)
+  SubscriptionUsesIntrospectionAt = (f : StandingField P) × (IsRootField d o f × (Contains meta_field_names (field_name f)
       × (fault ≡ broken f.place (SubscriptionUsesIntrospection (operation_name o) (field_name f)))))
 
   -- SubscriptionUsesConditionalSelection: no selection at the root has @skip or @include
