@@ -156,11 +156,11 @@ module _ {P : Type 0} (m : Meaning P) where
       (seq (maybe_any (mark is_repeatable)) (seq (mark is_on) directive_locations_makes)))))))
       (λ x h. last (named m x.1.1.0) (input_values_well_formed (unwrap_or x.1.1.1.0 [])) (directives_well_formed (unwrap_or x.1.1.1.1.0 [])) h)
     where
-      last : (a b c : Bool) → (a && (b && (c && true))) ≡ true → (a && b && c) ≡ true
+      last : (a b c : Bool) → (a && (b && (c && true))) ≡ true → (a && (b && c)) ≡ true
       last a b c h =
           let first = and_parts a (b && (c && true)) h in
           let second = and_parts b (c && true) first.1 in
-          three a b c (and_from a (b && c) first.0 (and_from b c second.0 (and_parts c true second.1).0))
+          and_from a (b && c) first.0 (and_from b c second.0 (and_parts c true second.1).0)
 
   pub schema_extension_makes : (n : ℕ) → Makes (g.schema_extension m n) (λ x. schema_well_formed x)
   unfolding g.schema_extension

@@ -1,5 +1,5 @@
 -- What is written of an accepted list nests no deeper than the list.
-use Rattle.std.proofs.Common.{◌≡◌, ◌⊎◌, ℕ, ◌≤◌, max, Bool, true, false, cond, List, [], ◌∷◌, ◌++◌, map, flat_map, Option, Some, None, refl, sym, ap, subst, ◌∙◌, if◌then◌else◌, option_to_list, slice_get, inl, inr, arith, true≢false}
+use Rattle.std.proofs.Common.{◌≡◌, ◌⊎◌, ℕ, ◌≤◌, Bool, true, false, cond, List, [], ◌∷◌, ◌++◌, map, flat_map, Option, Some, None, refl, sym, ap, subst, ◌∙◌, if◌then◌else◌, option_to_list, slice_get, inl, inr, arith, true≢false}
 use Rattle.std.specs.List.{find}
 use Rattle.std.specs.Option.{option_map_or}
 use Rattle.std.specs.Cmp.{second_so}
@@ -25,7 +25,7 @@ use Rattle.verdict_written_laws.specs.Whole.{Extension, classes, extension_at, e
 use Rattle.verdict_written_laws.specs.WholeSchema.{whole_parts, SchemaExtension, schema_classes, schema_extensions_in, whole_schema_extension, left_out}
 use Rattle.verdict_written_laws.specs.Table.{IsTable, AreOwn}
 use Rattle.verdict_written_laws.specs.Twice.{WrittenOf}
-use Rattle.read_depth_laws.specs.TreeDepth.{deepest, bracketed, input_values_depth, directives_depth, schema_depth, definition_depth, document_depth}
+use Rattle.read_depth_laws.specs.TreeDepth.{deepest, bracketed, directives_depth, directive_definition_depth, schema_depth, definition_depth, document_depth}
 use Rattle.verdict_written_laws.proofs.Order.{Each, Each-append, Each-arranged}
 use Rattle.verdict_written_laws.proofs.Accepted.{types_whole}
 use Rattle.verdict_written_laws.proofs.Again.{kinds_same}
@@ -124,7 +124,7 @@ module _ (bound : ℕ) where
   -- ---- directives
 
   abbrev DirectiveFits : Directive → Type 0
-  DirectiveFits d = max (input_values_depth d.it.arguments) (directives_depth d.it.directives) ≤ bound
+  DirectiveFits d = directive_definition_depth d.it ≤ bound
 
   directives_fit : (ds : Definitions) → Each Fits ds → Each DirectiveFits (directives_in ds)
   directives_fit [] h = tt
