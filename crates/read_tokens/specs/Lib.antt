@@ -10,3 +10,4 @@ pub mod Lex
 pub mod Cursor
 pub mod Values
 pub mod Forms
+pub mod Runs

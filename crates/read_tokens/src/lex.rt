@@ -1,11 +1,12 @@
 //! Which piece begins a text (section 2.1).
-ghost use Rattle.std.specs.Prelude.{◌≡◌, ◌≤◌, ◌<◌, length, IfSome, ◌∷◌, [], true};
+ghost use Rattle.std.specs.Prelude.{◌≡◌, ◌≤◌, ◌<◌, ◌+◌, length, drop, IfSome, ◌∷◌, [], true};
 ghost use Rattle.std.specs.List.{prefix_len};
 ghost use Rattle.read_tokens.specs.Bytes.{begins_with, run_len};
 ghost use Rattle.read_tokens.specs.Tokens as spec;
 
 use crate::name::{is_name_start, name_len};
 use crate::number::number_at;
+use crate::search::len_before_two;
 use crate::string_token::{block_len, quoted_len};
 use crate::token::TokenKind;
 
@@ -70,19 +71,12 @@ pub(crate) fn token_at(bytes: &[u8]) -> Option<(TokenKind, usize)>
     }
 }
 
-/// Whether the byte ends no line (section 2.1.3).
-fn is_in_line(byte: u8) -> bool
-    ensures { result ≡ spec.is_in_line byte }
-{
-    !(byte == b'\n' || byte == b'\r')
-}
-
 /// How many bytes there are up to the end of the line (section 2.1.3).
 pub(crate) fn line_len(bytes: &[u8]) -> usize
     ensures count { result ≡ prefix_len spec.is_in_line bytes.now }
     ensures within { result ≤ length bytes.now }
 {
-    bytes.iter().take_while(|byte| is_in_line(**byte)).count()
+    len_before_two(b'\n', b'\r', bytes)
 }
 
 /// How many bytes the ignored piece takes that begins the bytes (section 2.1.7).
@@ -101,18 +95,46 @@ fn ignored_at(bytes: &[u8]) -> Option<usize>
     }
 }
 
+/// Whether the byte is ignored by itself: a tab, a space, a line feed or a comma.
+fn is_ignored_byte(byte: u8) -> bool
+    ensures { result ≡ spec.is_ignored_byte byte }
+{
+    byte == b'\t' || byte == b' ' || byte == b'\n' || byte == b','
+}
+
+/// How many bytes at the front are ignored by themselves.
+fn count_ignored(bytes: &[u8]) -> usize
+    ensures count { result ≡ prefix_len spec.is_ignored_byte bytes.now }
+    ensures within { result ≤ length bytes.now }
+{
+    bytes
+        .iter()
+        .take_while(|byte| is_ignored_byte(**byte))
+        .count()
+}
+
+/// How many bytes pieces of one byte take at the front.
+fn ignored_bytes_len(bytes: &[u8]) -> usize
+    ensures run { run_len spec.ignored_at 0 bytes.now ≡ result + run_len spec.ignored_at 0 (drop result bytes.now) }
+    ensures within { result ≤ length bytes.now }
+{
+    count_ignored(bytes)
+}
+
 /// How many bytes ignored pieces take at the front.
 #[tactic(auto, using(crate::proofs::Bytes::run_step, crate::proofs::Bytes::run_end))]
 pub(crate) fn ignored_len(bytes: &[u8]) -> usize
     ensures value { result ≡ run_len spec.ignored_at 0 bytes.now }
     ensures within { result ≤ length bytes.now }
 {
-    let mut rest = bytes;
-    let mut length = 0;
+    let mut length = ignored_bytes_len(bytes);
+    let (_, mut rest) = bytes.split_at(length);
     'pieces: while let Some(piece) = ignored_at(rest) {
         let (_, behind) = rest.split_at(piece);
-        rest = behind;
-        length += piece;
+        let more = ignored_bytes_len(behind);
+        let (_, next) = behind.split_at(more);
+        rest = next;
+        length += piece + more;
     }
     length
 }

@@ -13,6 +13,7 @@ mod name;
 mod next;
 mod number;
 mod raw;
+mod search;
 mod source;
 mod string_token;
 mod strings;

@@ -1,8 +1,12 @@
 //! How far strings reach (section 2.9.4).
-ghost use Rattle.std.specs.Prelude.{◌≡◌, ◌≤◌, ◌<◌, length, IfSome, ◌∷◌, [], true};
+ghost use Rattle.std.specs.Prelude.{◌≡◌, ◌≤◌, ◌<◌, ◌+◌, length, drop, IfSome, ◌∷◌, [], true};
+ghost use Rattle.std.specs.List.{prefix_len};
 ghost use Rattle.read_tokens.specs.Bytes.{begins_with, run_len};
 ghost use Rattle.read_tokens.specs.Strings as spec;
 ghost use Rattle.read_tokens.specs.Blocks as blocks;
+ghost use Rattle.read_tokens.specs.Runs as runs;
+
+use crate::search::len_before_two;
 
 /// What a letter behind `\` stands for.
 fn escaped(byte: u8) -> Option<char>
@@ -90,18 +94,46 @@ fn part_len(bytes: &[u8]) -> Option<usize>
     }
 }
 
+/// Whether the byte is a string character by itself.
+fn is_plain_part(byte: u8) -> bool
+    ensures { result ≡ runs.is_plain_part byte }
+{
+    !(byte == b'"' || byte == b'\\' || byte == b'\n' || byte == b'\r')
+}
+
+/// How many bytes at the front are string characters by themselves.
+fn count_plain_parts(bytes: &[u8]) -> usize
+    ensures count { result ≡ prefix_len runs.is_plain_part bytes.now }
+    ensures within { result ≤ length bytes.now }
+{
+    bytes
+        .iter()
+        .take_while(|byte| is_plain_part(**byte))
+        .count()
+}
+
+/// How many bytes string characters of one byte take at the front.
+fn plain_parts_len(bytes: &[u8]) -> usize
+    ensures run { run_len spec.part_len 0 bytes.now ≡ result + run_len spec.part_len 0 (drop result bytes.now) }
+    ensures within { result ≤ length bytes.now }
+{
+    count_plain_parts(bytes)
+}
+
 /// How many bytes string characters take at the front.
 #[tactic(auto, using(crate::proofs::Bytes::run_step, crate::proofs::Bytes::run_end))]
 fn parts_len(bytes: &[u8]) -> usize
     ensures value { result ≡ run_len spec.part_len 0 bytes.now }
     ensures within { result ≤ length bytes.now }
 {
-    let mut rest = bytes;
-    let mut length = 0;
+    let mut length = plain_parts_len(bytes);
+    let (_, mut rest) = bytes.split_at(length);
     'parts: while let Some(part) = part_len(rest) {
         let (_, behind) = rest.split_at(part);
-        rest = behind;
-        length += part;
+        let plain = plain_parts_len(behind);
+        let (_, next) = behind.split_at(plain);
+        rest = next;
+        length += part + plain;
     }
     length
 }
@@ -135,18 +167,28 @@ fn block_character_len(bytes: &[u8]) -> Option<usize>
     }
 }
 
+/// How many bytes at the front are block string characters by themselves: those before the first `"` or `\`.
+fn plain_characters_len(bytes: &[u8]) -> usize
+    ensures run { run_len blocks.block_character_len 0 bytes.now ≡ result + run_len blocks.block_character_len 0 (drop result bytes.now) }
+    ensures within { result ≤ length bytes.now }
+{
+    len_before_two(b'"', b'\\', bytes)
+}
+
 /// How many bytes block string characters take at the front.
 #[tactic(auto, using(crate::proofs::Bytes::run_step, crate::proofs::Bytes::run_end))]
 fn block_characters_len(bytes: &[u8]) -> usize
     ensures value { result ≡ run_len blocks.block_character_len 0 bytes.now }
     ensures within { result ≤ length bytes.now }
 {
-    let mut rest = bytes;
-    let mut length = 0;
+    let mut length = plain_characters_len(bytes);
+    let (_, mut rest) = bytes.split_at(length);
     'characters: while let Some(character) = block_character_len(rest) {
         let (_, behind) = rest.split_at(character);
-        rest = behind;
-        length += character;
+        let plain = plain_characters_len(behind);
+        let (_, next) = behind.split_at(plain);
+        rest = next;
+        length += character + plain;
     }
     length
 }

@@ -8,6 +8,7 @@ ghost use Rattle.read_tokens.specs.Forms.{Enclosed, Marked};
 
 use crate::block_lines::push_block;
 use crate::raw::raw_value;
+use crate::search::has;
 use crate::value::push_parts;
 use std::alloc::{AllocError, Global};
 
@@ -50,7 +51,7 @@ pub fn block_value(alloc: Global, token: &str) -> Result<String, AllocError>
     ensures { IfOk result (λ value. string_bytes value ≡ blocks.block_value token.now) }
 {
     let text = between(token, 3);
-    if text.as_bytes().contains(&b'\\') {
+    if has(b'\\', text.as_bytes()) {
         let raw = raw_value(alloc, text)?;
         return value_of_raw(alloc, raw.as_str());
     }

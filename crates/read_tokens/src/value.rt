@@ -8,21 +8,16 @@ ghost use Rattle.read_tokens.specs.Strings.{part_at};
 ghost use Rattle.read_tokens.specs.Blocks.{block_character_at};
 ghost use Rattle.read_tokens.specs.Values as spec;
 
+use crate::search::len_before;
 use crate::string_token::escape_at;
 use std::alloc::AllocError;
-
-fn is_plain(byte: u8) -> bool
-    ensures { result ≡ spec.is_plain byte }
-{
-    byte != b'\\'
-}
 
 /// How many bytes stand before the first `\`.
 fn plain_len(bytes: &[u8]) -> usize
     ensures count { result ≡ prefix_len spec.is_plain bytes.now }
     ensures within { result ≤ length bytes.now }
 {
-    bytes.iter().take_while(|byte| is_plain(**byte)).count()
+    len_before(b'\\', bytes)
 }
 
 /// Adds what stands before the first `\`, and gives the text from there on.

@@ -11,6 +11,6 @@ unfolding block_value raw_value
 returns c =
     let text : List ℕ = c.between-text.result.now in
     let none : list_any (λ b. b == 92) text ≡ false =
-    ap (list_any (λ b. b == 92)) (sym c.as_bytes.ensures.value) ∙ sym c.contains.ensures.value ∙ c.if-contains.false in
+    ap (list_any (λ b. b == 92)) (sym c.as_bytes.ensures.value) ∙ sym c.has.ensures ∙ c.if-has.false in
     let raw = sym (all_kept text none) ∙ ap (replaced block_character_at 0) c.between-text.ensures in
     subst (λ (bytes : List ℕ). IfOk c.value_of_raw-2.result (λ value. string_bytes value ≡ block_string_value bytes)) raw c.value_of_raw-2.ensures
