@@ -146,7 +146,7 @@ module _ {P : Type 0} (m : Meaning P) where
   unfolding g.directive_definition
   directive_definition_makes n =
       mapped directive_definition_of
-      (seq (mark is_directive) (seq (mark is_at) (seq (name_makes m) (seq (or_none (λ xs. input_values_writable xs) refl (arguments_definition_makes n)) (seq (maybe_any (mark is_repeatable)) (seq (mark is_on) directive_locations_makes))))))
+      (seq (mark is_directive) (seq (mark is_at) (seq (name_makes m) (seq (or_none (λ xs. input_values_writable xs) refl (arguments_definition_makes n)) (seq (maybe_directives m constant n) (seq (maybe_any (mark is_repeatable)) (seq (mark is_on) directive_locations_makes)))))))
       (λ x h. h)
 
   pub schema_extension_makes : (n : ℕ) → Makes (g.schema_extension m n) (λ x. directives_writable true x.directives)

@@ -118,7 +118,7 @@ operation = refl
 fragment : Row 65 (Fragment 0 (record { name = text 1; type_condition = text 2; directives = directives 3; selections = selections 14 }))
 fragment = refl
 
-directive_definition : Row 26 (DirectiveDefinition 0 (record { description = Some (text 1); name = text 2; arguments = node 3 (input_value 4) ∷ []; repeatable = true; locations = [] }))
+directive_definition : Row 37 (DirectiveDefinition 0 (record { description = Some (text 1); name = text 2; arguments = node 3 (input_value 4) ∷ []; directives = directives 26; repeatable = true; locations = [] }))
 directive_definition = refl
 
 schema_definition : Row 15 (Schema 0 (Some (text 1)) (schema 2))

@@ -15,7 +15,7 @@ use Rattle.read_grammar.specs.TypeSystemGrammar.{KindTree, SchemaKind, ScalarKin
 use Rattle.read_grammar.specs.TypeSystemGrammar as y
 use Rattle.read_grammar.specs.Grammar as g
 use Rattle.read_grammar.specs.Grammar.{described, type_system_of, extended, extension_of, has_part, Derives, DerivesType, DerivesSelections}
-use Rattle.graphql_read.specs.EachPlace.{all_in_any, all_in_text, all_in_type, all_in_input_values, all_in_directive_definition, all_in_selections, all_in_definition, all_in_document}
+use Rattle.graphql_read.specs.EachPlace.{all_in_any, all_in_text, all_in_type, all_in_directives, all_in_input_values, all_in_directive_definition, all_in_selections, all_in_definition, all_in_document}
 use Rattle.graphql_read.specs.Sound.{is_own}
 use Rattle.graphql_read.proofs.Makes.{AreTerminals, Makes, mapped, mark, seq, choice, such_that, some_all, three}
 use Rattle.graphql_read.proofs.Stands.{Gives, stands}
@@ -24,11 +24,11 @@ use Rattle.graphql_read.proofs.StandsOperations.{selections_stand, operation_sta
 use Rattle.graphql_read.proofs.StandsTypeSystem.{all_in_kind, maybe_description, schema_definition_stands, type_definition_stands, directive_definition_stands, schema_extension_stands}
 
 -- another description
-redescribed : (p d other name arguments : Bool) → (p && (d && (other && name && arguments))) ≡ true → (p && (d && name && arguments)) ≡ true
-redescribed true true true name arguments h = h
-redescribed true true false name arguments h = absurd (true≢false (sym h))
-redescribed true false other name arguments h = h
-redescribed false d other name arguments h = h
+redescribed : (p d other name others : Bool) → (p && (d && (other && name && others))) ≡ true → (p && (d && name && others)) ≡ true
+redescribed true true true name others h = h
+redescribed true true false name others h = absurd (true≢false (sym h))
+redescribed true false other name others h = h
+redescribed false d other name others h = h
 
 module _ {P : Type 0} (passes : P → Bool) where
   abbrev all_in_part : KindTree P ⊎ DirectiveDefinitionTree P → Bool
@@ -49,7 +49,7 @@ module _ {P : Type 0} (passes : P → Bool) where
   described_good p d (inl (UnionKind x)) h = three (passes p) (all_in_description d) (all_in_kind passes (UnionKind x)) h
   described_good p d (inl (EnumKind x)) h = three (passes p) (all_in_description d) (all_in_kind passes (EnumKind x)) h
   described_good p d (inl (InputObjectKind x)) h = three (passes p) (all_in_description d) (all_in_kind passes (InputObjectKind x)) h
-  described_good p d (inr x) h = redescribed (passes p) (all_in_description d) (all_in_description x.description) (passes x.name.place) (all_in_input_values passes x.arguments) h
+  described_good p d (inr x) h = redescribed (passes p) (all_in_description d) (all_in_description x.description) (passes x.name.place) (all_in_input_values passes x.arguments && all_in_directives passes x.directives) h
 
   extended_good : (p : P) (x : KindTree P) → (passes p && all_in_kind passes x) ≡ true → all_in_definition passes (extended p x) ≡ true
   extended_good p (SchemaKind x) h = h

@@ -184,10 +184,11 @@ module _ {P : Type 0} (m : Meaning P) (passes : P → Bool) (gives : Gives m pas
   unfolding g.directive_definition
   directive_definition_stands n =
       mapped directive_definition_of
-      (seq (mark is_directive) (seq (mark is_at) (seq (name_stands m passes gives) (seq (maybe_arguments n) (seq (maybe_any (mark is_repeatable)) (seq (mark is_on) directive_locations_stand))))))
-      (λ x h. go (passes x.1.1.0.place) (all_in_input_values passes (unwrap_or x.1.1.1.0 [])) h)
+      (seq (mark is_directive) (seq (mark is_at) (seq (name_stands m passes gives) (seq (maybe_arguments n) (seq (directives_stand n) (seq (maybe_any (mark is_repeatable)) (seq (mark is_on) directive_locations_stand)))))))
+      (λ x h. go (passes x.1.1.0.place) (all_in_input_values passes (unwrap_or x.1.1.1.0 [])) (all_in_directives passes (unwrap_or x.1.1.1.1.0 [])) h)
     where
-      go : (a b : Bool) → (a && (b && true)) ≡ true → (a && b) ≡ true
-      go true true h = refl
-      go true false h = h
-      go false b h = h
+      go : (a b c : Bool) → (a && (b && (c && true))) ≡ true → (a && (b && c)) ≡ true
+      go true true true h = refl
+      go true true false h = h
+      go true false c h = h
+      go false b c h = h

@@ -80,7 +80,7 @@ module _ {P : Type 0} (passes : P → Bool) where
   all_in_input_values vs = all_in_nodes all_in_input_value vs
 
   abbrev pub all_in_directive_definition : DirectiveDefinitionTree P → Bool
-  all_in_directive_definition d = all_in_any all_in_text d.description && all_in_text d.name && all_in_input_values d.arguments
+  all_in_directive_definition d = all_in_any all_in_text d.description && all_in_text d.name && (all_in_input_values d.arguments && all_in_directives d.directives)
 
   -- ---- selections, operations and fragments (sections 2.3 to 2.8, 2.10)
 

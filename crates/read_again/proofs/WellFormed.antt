@@ -163,7 +163,7 @@ input_value_formed n =
     both (both (both (content n).name.valid (type_formed (content (content n).ty))) (default_formed (content n).default_value)) (directives_formed (content n).directives)
 
 pub directive_definition_formed : (d : DirectiveDefinition) → directive_definition_well_formed (directive_definition_tree d) ≡ true
-directive_definition_formed d = both d.name.valid (list_formed input_value_well_formed (node_tree input_value_tree) input_value_formed d.arguments.items)
+directive_definition_formed d = both d.name.valid (both (list_formed input_value_well_formed (node_tree input_value_tree) input_value_formed d.arguments.items) (directives_formed d.directives))
 
 -- ---- selections
 

@@ -13,7 +13,7 @@ use Rattle.read_values.specs.in_grammar.Rules.{Rule}
 use Rattle.read_values.specs.in_grammar.TypeSystemGrammar.{KindTree, SchemaKind, ScalarKind, ObjectKind, InterfaceKind, UnionKind, EnumKind, InputObjectKind}
 use Rattle.read_values.specs.in_grammar.Grammar as g
 use Rattle.read_values.specs.in_grammar.Grammar.{DerivesAs, Derives, DerivesType, DerivesSelections, type_system_of, described, extension_of, extended, has_part}
-use Rattle.read_depth_laws.specs.TreeDepth.{input_values_depth, type_depth, selections_depth, definition_depth, document_depth}
+use Rattle.read_depth_laws.specs.TreeDepth.{directive_definition_depth, type_depth, selections_depth, definition_depth, document_depth}
 use Rattle.read_depth_laws.proofs.Nests.{Nests, flat, mapped, skip, choice, such_that, maybe_flat, located, one_or_more}
 use Rattle.read_depth_laws.proofs.Values.{type_nests}
 use Rattle.read_depth_laws.proofs.Operations.{selections_nests, operation_nests, fragment_nests}
@@ -21,7 +21,7 @@ use Rattle.read_depth_laws.proofs.TypeSystem.{kind_depth, description_flat, sche
 
 abbrev one_depth : {P : Type 0} → KindTree P ⊎ DirectiveDefinitionTree P → ℕ
 one_depth (inl k) = kind_depth k
-one_depth (inr d) = input_values_depth d.arguments
+one_depth (inr d) = directive_definition_depth d
 
 described_same : {P : Type 0} (p : P) (d : Option (Text P)) (x : KindTree P ⊎ DirectiveDefinitionTree P) → one_depth x ≡ definition_depth (described p d x)
 described_same p d (inl (SchemaKind x)) = refl

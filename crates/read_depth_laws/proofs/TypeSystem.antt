@@ -6,7 +6,7 @@ use Rattle.read_values.specs.in_grammar.Locations.{location_of}
 use Rattle.read_values.specs.in_grammar.ValueGrammar.{constant}
 use Rattle.read_values.specs.in_grammar.TypeSystemGrammar as g
 use Rattle.read_values.specs.in_grammar.TypeSystemGrammar.{KindTree, SchemaKind, ScalarKind, ObjectKind, InterfaceKind, UnionKind, EnumKind, InputObjectKind, root_of, schema_of, schema_extension_of, input_value_of, field_definition_of, enum_value_definition_of, scalar_of, fields_of, union_of, enum_of, input_object_of, directive_definition_of}
-use Rattle.read_depth_laws.specs.TreeDepth.{bracketed, directives_depth, input_value_depth, input_values_depth, field_definition_depth, enum_value_depth, fields_depth, enum_depth, input_object_depth, schema_depth}
+use Rattle.read_depth_laws.specs.TreeDepth.{bracketed, directives_depth, directive_definition_depth, input_value_depth, input_values_depth, field_definition_depth, enum_value_depth, fields_depth, enum_depth, input_object_depth, schema_depth}
 use Rattle.read_depth_laws.proofs.Nests.{Nests, Flat, token, flat, mapped, both, skip, ending, choice, never, maybe, maybe_or, maybe_or_unless, maybe_flat, located, separated_flat, enclosed_some}
 use Rattle.read_depth_laws.proofs.Values.{name_flat, enum_value_flat, default_nests, directives_nests, type_nests}
 use Rattle.read_depth_laws.proofs.Operations.{operation_type_flat}
@@ -123,7 +123,7 @@ module _ {P : Type 0} (m : Meaning P) where
       (choice (mapped EnumKind (enum_nests n) (λ x. refl))
       (mapped InputObjectKind (input_object_nests n) (λ x. refl))))))
 
-  pub directive_nests : (n : ℕ) → Nests (g.directive_definition m n) (λ d. input_values_depth d.arguments)
+  pub directive_nests : (n : ℕ) → Nests (g.directive_definition m n) directive_definition_depth
   unfolding g.directive_definition
   directive_nests n =
-      mapped directive_definition_of (skip (flat is_directive refl) (skip (flat is_at refl) (skip (name_flat m) (ending (maybe_or [] refl (arguments_nests n)) (skip (maybe_flat (flat is_repeatable refl)) (skip (flat is_on refl) locations_flat)))))) (λ x. refl)
+      mapped directive_definition_of (skip (flat is_directive refl) (skip (flat is_at refl) (skip (name_flat m) (both (maybe_or [] refl (arguments_nests n)) (ending (maybe_or [] refl (directives_nests m constant n)) (skip (maybe_flat (flat is_repeatable refl)) (skip (flat is_on refl) locations_flat))))))) (λ x. refl)

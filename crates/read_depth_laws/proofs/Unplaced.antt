@@ -106,7 +106,7 @@ module _ {P : Type 0} where
   definition_unplaced : (d : DefinitionTree P) → definition_depth (unplaced_definition d) ≡ definition_depth d
   definition_unplaced (Operation p o) = operation_unplaced o
   definition_unplaced (Fragment p f) = max_same (directives_unplaced f.directives) (set_unplaced f.selections)
-  definition_unplaced (DirectiveDefinition p d) = input_values_unplaced d.arguments
+  definition_unplaced (DirectiveDefinition p d) = max_same (input_values_unplaced d.arguments) (directives_unplaced d.directives)
   definition_unplaced (Schema p d s) = schema_unplaced s
   definition_unplaced (ScalarType p d t) = directives_unplaced t.directives
   definition_unplaced (ObjectType p d t) = fields_unplaced t

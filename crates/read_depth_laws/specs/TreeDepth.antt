@@ -3,7 +3,7 @@ use Rattle.std.specs.Prelude.{ℕ, suc, max, List, [], ◌∷◌, Option, None, 
 use Rattle.graphql_names.specs.Placed.{Placed}
 use Rattle.read_values.specs.in_literals.TypeTree.{TypeTree, NamedTree, NonNullNamedTree, ListTree as ListTypeTree, NonNullListTree}
 use Rattle.read_values.specs.in_literals.ValueTree.{ValueTree, ListTree, ObjectTree, ItemTrees, no_items, item_then, EntryTrees, no_entries, entry_then}
-use Rattle.read_values.specs.in_directives.DirectiveTree.{ArgumentTree, Arguments, DirectiveTree, Directives, InputValueTree, InputValues}
+use Rattle.read_values.specs.in_directives.DirectiveTree.{ArgumentTree, Arguments, DirectiveTree, Directives, InputValueTree, InputValues, DirectiveDefinitionTree}
 use Rattle.read_values.specs.in_operations.SelectionTree.{SelectionTree, FieldTree, SpreadTree, InlineTree, SelectionTrees, no_selections, selection_then}
 use Rattle.read_values.specs.in_operations.OperationTree.{VariableDefinitionTree, OperationTree, FragmentTree}
 use Rattle.read_values.specs.in_type_members.TypeSystemTree.{FieldDefinitionTree, EnumValueTree, SchemaParts, FieldsParts, EnumParts, InputObjectParts}
@@ -111,10 +111,13 @@ module _ {P : Type 0} where
   abbrev pub schema_depth : SchemaParts P → ℕ
   schema_depth s = max (directives_depth s.directives) (bracketed (λ r. 0) s.roots)
 
+  abbrev pub directive_definition_depth : DirectiveDefinitionTree P → ℕ
+  directive_definition_depth d = max (input_values_depth d.arguments) (directives_depth d.directives)
+
   abbrev pub definition_depth : DefinitionTree P → ℕ
   definition_depth (Operation p o) = operation_depth o
   definition_depth (Fragment p f) = fragment_depth f
-  definition_depth (DirectiveDefinition p d) = input_values_depth d.arguments
+  definition_depth (DirectiveDefinition p d) = directive_definition_depth d
   definition_depth (Schema p d s) = schema_depth s
   definition_depth (ScalarType p d t) = directives_depth t.directives
   definition_depth (ObjectType p d t) = fields_depth t

@@ -65,7 +65,7 @@ unfolding whole take many many_within some location_of v.name v.variable v.int_v
 row6 = refl
 
 -- directive
-row7 : document_left 1 (k.Directive ∷ k.At ∷ k.Name ∷ k.OpenParen ∷ k.Name ∷ k.Colon ∷ k.Name ∷ k.CloseParen ∷ k.Repeatable ∷ k.On ∷ k.Pipe ∷ k.Location ∷ k.Pipe ∷ k.Location ∷ k.Type ∷ k.Name ∷ []) ≡ None
+row7 : document_left 1 (k.Directive ∷ k.At ∷ k.Name ∷ k.OpenParen ∷ k.Name ∷ k.Colon ∷ k.Name ∷ k.CloseParen ∷ k.At ∷ k.Name ∷ k.Repeatable ∷ k.On ∷ k.Pipe ∷ k.Location ∷ k.Pipe ∷ k.Location ∷ k.Type ∷ k.Name ∷ []) ≡ None
 unfolding whole take many many_within some location_of v.name v.variable v.int_value v.float_value v.string_value v.boolean_value v.null_value v.enum_value v.list_value v.object_field v.object_value v.any_value v.value v.default_value v.argument v.arguments v.directive v.directives v.any_type v.type o.operation_type o.alias_and_name o.field o.fragment_name o.type_condition o.dotted o.selection o.selection_list o.selection_set o.selections o.variable_definition o.variable_definitions o.operation_definition o.fragment_definition y.directive_location y.directive_locations y.description y.root_operation_type_definition y.roots y.schema_definition y.scalar_type y.implements_interfaces y.input_value_definition y.arguments_definition y.field_definition y.fields_definition y.object_type y.interface_type y.union_member_types y.union_type y.enum_value_definition y.enum_values_definition y.enum_type y.input_fields_definition y.input_object_type y.type_definition y.directive_definition y.schema_extension d.undescribed d.type_system_definition d.extension d.type_system_extension d.definition d.document
 row7 = refl
 

@@ -1,5 +1,5 @@
 -- Rows with whole trees, where a place is where something begins and where it ends.
-use Rattle.std.proofs.Common.{◌≡◌, ℕ, List, [], ◌∷◌, Ok, refl, Some, None, true}
+use Rattle.std.proofs.Common.{◌≡◌, ℕ, List, [], ◌∷◌, Ok, refl, Some, None, true, false}
 use Rattle.std.specs.Prelude.{codes}
 use Rattle.graphql_names.specs.Placed.{Placed, Text}
 use Rattle.graphql_ast.specs.in_literals.ValueTree.{IntTree, ListTree, item_then, no_items, VariableTree}
@@ -78,7 +78,7 @@ types_tokens = cut k.String (codes "\"d\"") 0 ∷ cut k.Scalar (codes "scalar") 
 abbrev types_tree : Tree
 types_tree =
     ScalarType (0, 15) (Some (named (codes "\"d\"") 0 3)) (record { name = named (codes "S") 11 12; directives = at (record { name = named (codes "e") 14 15; arguments = [] }) 13 15 ∷ [] })
-    ∷ DirectiveDefinition (16, 58) (record { description = None; name = named (codes "e") 27 28; arguments = []; repeatable = true; locations = location.Query ∷ location.Field ∷ [] })
+    ∷ DirectiveDefinition (16, 58) (record { description = None; name = named (codes "e") 27 28; arguments = []; directives = []; repeatable = true; locations = location.Query ∷ location.Field ∷ [] })
     ∷ ExtendUnion (59, 79) (record { name = named (codes "U") 72 73; directives = []; members = named (codes "A") 78 79 ∷ [] })
     ∷ []
 
@@ -88,6 +88,29 @@ types_read = refl
 
 types_derived : Derives spans types_tokens types_tree
 types_derived = is_derived types_tokens types_tree 79 types_read
+
+-- `directive @f @e on FIELD`: its own directive, and not repeatable
+abbrev directed_tokens : List Token
+directed_tokens = cut k.Directive (codes "directive") 0 ∷ cut k.At (codes "@") 10 ∷ cut k.Name (codes "f") 11 ∷ cut k.At (codes "@") 13 ∷ cut k.Name (codes "e") 14 ∷ cut k.On (codes "on") 16 ∷ cut k.Location (codes "FIELD") 19 ∷ []
+
+abbrev directed_tree : Tree
+directed_tree =
+    DirectiveDefinition (0, 24) (record {
+      description = None;
+      name = named (codes "f") 11 12;
+      arguments = [];
+      directives = at (record { name = named (codes "e") 14 15; arguments = [] }) 13 15 ∷ [];
+      repeatable = false;
+      locations = location.Field ∷ [];
+    })
+    ∷ []
+
+directed_read : reads directed_tokens directed_tree 24
+unfolding whole take many many_within some location_of v.name v.variable v.int_value v.float_value v.string_value v.boolean_value v.null_value v.enum_value v.list_value v.object_field v.object_value v.any_value v.value v.default_value v.argument v.arguments v.directive v.directives v.any_type v.type o.operation_type o.alias_and_name o.field o.fragment_name o.type_condition o.dotted o.selection o.selection_list o.selection_set o.selections o.variable_definition o.variable_definitions o.operation_definition o.fragment_definition y.directive_location y.directive_locations y.description y.root_operation_type_definition y.roots y.schema_definition y.scalar_type y.implements_interfaces y.input_value_definition y.arguments_definition y.field_definition y.fields_definition y.object_type y.interface_type y.union_member_types y.union_type y.enum_value_definition y.enum_values_definition y.enum_type y.input_fields_definition y.input_object_type y.type_definition y.directive_definition y.schema_extension d.undescribed d.type_system_definition d.extension d.type_system_extension d.definition d.document
+directed_read = refl
+
+directed_derived : Derives spans directed_tokens directed_tree
+directed_derived = is_derived directed_tokens directed_tree 24 directed_read
 
 -- `type T { f(x: Int! = 1): T! }`
 abbrev field_tokens : List Token

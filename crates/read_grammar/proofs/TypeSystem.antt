@@ -189,7 +189,8 @@ module _ {P : Type 0} (m : Meaning P) where
       (seq refl (mark is_at refl)
       (seq refl (name_parses m)
       (opt is_open_paren refl refl refl (arguments_definition_parses n h le)
-      (opt is_repeatable refl refl refl (mark is_repeatable refl) (seq refl (mark is_on refl) directive_locations_parses))))))
+      (opt is_at refl refl refl (directives_parses m true n h le)
+      (opt is_repeatable refl refl refl (mark is_repeatable refl) (seq refl (mark is_on refl) directive_locations_parses)))))))
 
   pub schema_extension_parses : (n h : ℕ) → n ≤ h → Parses 1 n (g.schema_extension m n) (y.schema_extension m n) (y.schema_extension m h) (next_is is_schema) after_definition
   unfolding g.schema_extension y.schema_extension

@@ -176,7 +176,8 @@ module _ {P : Type 0} (m : Meaning P) where
       (seq (mark is_at k.At refl)
       (seq (name_viable m)
       (seq (maybe is_open_paren (arguments_definition_viable n))
-      (seq (maybe is_repeatable (mark is_repeatable k.Repeatable refl)) (seq (mark is_on k.On refl) directive_locations_viable))))))
+      (seq (maybe is_at (directives_viable m true n))
+      (seq (maybe is_repeatable (mark is_repeatable k.Repeatable refl)) (seq (mark is_on k.On refl) directive_locations_viable)))))))
 
   pub schema_extension_viable : (n : ℕ) → Viable true (g.schema_extension m (suc n)) (y.schema_extension m n) no_brace
   unfolding g.schema_extension y.schema_extension

@@ -1,4 +1,4 @@
--- The names of directive locations (GraphQL, October 2021, section 3.13).
+-- The names of directive locations (GraphQL, October 2021, section 3.13; the last goes past it).
 use Rattle.std.specs.Prelude.{ℕ, List, [], ◌∷◌, if◌then◌else◌, bytes_eq}
 use Rattle.graphql_ast.specs.in_values.OperationQueries.{location_keyword}
 use Rattle.graphql_ast.specs.in_directives.declared.directive_location.DirectiveLocation.{DirectiveLocation}
@@ -24,13 +24,14 @@ locations =
     ∷ location.Enum
     ∷ location.EnumValue
     ∷ location.InputObject
+    ∷ location.InputFieldDefinition
     ∷ []
 
--- the first of these that is so written, and the last of the nineteen where none is
+-- the first of these that is so written, and the last of the twenty where none is
 abbrev pub named_among : List DirectiveLocation → List ℕ → DirectiveLocation
-named_among [] text = location.InputFieldDefinition
+named_among [] text = location.DirectiveDefinition
 named_among (x ∷ xs) text = if bytes_eq (location_keyword x) text then x else named_among xs text
 
--- the location with this name; a token of the class Location has the name of one of the nineteen
+-- the location with this name; a token of the class Location has the name of one of the twenty
 unfoldable pub location_of : List ℕ → DirectiveLocation
 location_of text = named_among locations text

@@ -82,13 +82,14 @@ module _ {P : Type 0} where
   input_object_of x = record { name = x.1.0; directives = unwrap_or x.1.1.0 []; fields = unwrap_or x.1.1.1 [] }
 
   -- without its description
-  abbrev pub directive_definition_of : Unit {0} × (Unit {0} × (Text P × (Option (InputValues P) × (Option (Unit {0}) × (Unit {0} × List DirectiveLocation))))) → DirectiveDefinitionTree P
+  abbrev pub directive_definition_of : Unit {0} × (Unit {0} × (Text P × (Option (InputValues P) × (Option (Directives P) × (Option (Unit {0}) × (Unit {0} × List DirectiveLocation)))))) → DirectiveDefinitionTree P
   directive_definition_of x = record {
     description = None;
     name = x.1.1.0;
     arguments = unwrap_or x.1.1.1.0 [];
-    repeatable = is_some x.1.1.1.1.0;
-    locations = x.1.1.1.1.1.1;
+    directives = unwrap_or x.1.1.1.1.0 [];
+    repeatable = is_some x.1.1.1.1.1.0;
+    locations = x.1.1.1.1.1.1.1;
   }
 
 -- ---- the rules
@@ -193,10 +194,11 @@ module _ {P : Type 0} (m : Meaning P) where
       ∣ EnumKind <$> enum_type n
       ∣ InputObjectKind <$> input_object_type n
 
-  -- DirectiveDefinition, behind its description: "directive" "@" Name ArgumentsDefinition? "repeatable"? "on" DirectiveLocations
+  -- DirectiveDefinition, behind its description: "directive" "@" Name ArgumentsDefinition? Directives[Const]? "repeatable"? "on" DirectiveLocations
+  -- (its own directives go past October 2021)
   unfoldable pub directive_definition : ℕ → Rule (DirectiveDefinitionTree P)
   directive_definition n =
-      directive_definition_of <$> mark is_directive · mark is_at · name m · optional (arguments_definition n) · optional (mark is_repeatable) · mark is_on · directive_locations
+      directive_definition_of <$> mark is_directive · mark is_at · name m · optional (arguments_definition n) · optional (directives m constant n) · optional (mark is_repeatable) · mark is_on · directive_locations
 
   -- SchemaExtension, behind "extend": "schema" Directives[Const]? Roots?
   unfoldable pub schema_extension : ℕ → Rule (SchemaParts P)

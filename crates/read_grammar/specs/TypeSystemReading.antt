@@ -102,7 +102,7 @@ module _ {P : Type 0} (m : Meaning P) where
   unfoldable pub directive_definition : ℕ → Parser (DirectiveDefinitionTree P)
   directive_definition n =
       directive_definition_of
-      <&> mark is_directive ⊙ mark is_at ⊙ name m ⊙ try is_open_paren (arguments_definition n) ⊙ try is_repeatable (mark is_repeatable) ⊙ mark is_on ⊙ directive_locations
+      <&> mark is_directive ⊙ mark is_at ⊙ name m ⊙ try is_open_paren (arguments_definition n) ⊙ try is_at (directives m constant n) ⊙ try is_repeatable (mark is_repeatable) ⊙ mark is_on ⊙ directive_locations
 
   unfoldable pub schema_extension : ℕ → Parser (SchemaParts P)
   schema_extension n = schema_extension_of <&> mark is_schema ⊙ try is_at (directives m constant n) ⊙ try is_open_brace (roots n)

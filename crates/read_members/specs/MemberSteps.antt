@@ -25,7 +25,7 @@ others is p found = (λ xs. found ++ xs) <&> many is (behind is p)
 abbrev pub directive_marks : Parser (Unit {0} × Unit {0})
 directive_marks = mark is_directive ⊙ mark is_at
 
--- what stands behind the arguments of a directive
+-- what stands behind the arguments and the directives of a directive's definition
 abbrev pub directive_end : Parser (Option (Unit {0}) × (Unit {0} × List DirectiveLocation))
 directive_end = try is_repeatable (mark is_repeatable) ⊙ mark is_on ⊙ directive_locations
 
@@ -46,6 +46,10 @@ module _ {P : Type 0} (m : Meaning P) where
   abbrev pub field_rest : ℕ → Parser (Option (InputValues P) × (Unit {0} × (TypeTree P × Option (Directives P))))
   field_rest n = try is_open_paren (arguments_definition m n) ⊙ field_end n
 
+  -- what stands behind the arguments of a directive's definition
+  abbrev pub directive_tail : ℕ → Parser (Option (Directives P) × (Option (Unit {0}) × (Unit {0} × List DirectiveLocation)))
+  directive_tail n = try is_at (directives m constant n) ⊙ directive_end
+
   -- what stands behind the name of a directive
-  abbrev pub directive_rest : ℕ → Parser (Option (InputValues P) × (Option (Unit {0}) × (Unit {0} × List DirectiveLocation)))
-  directive_rest n = try is_open_paren (arguments_definition m n) ⊙ directive_end
+  abbrev pub directive_rest : ℕ → Parser (Option (InputValues P) × (Option (Directives P) × (Option (Unit {0}) × (Unit {0} × List DirectiveLocation))))
+  directive_rest n = try is_open_paren (arguments_definition m n) ⊙ directive_tail n

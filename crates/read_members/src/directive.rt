@@ -2,7 +2,7 @@
 ghost use Rattle.std.specs.Prelude.{◌≡◌, map};
 ghost use Rattle.std.specs.Option.{option_map};
 ghost use Rattle.graphql_names.specs.Placed.{node_tree};
-ghost use Rattle.tree_directives.specs.DirectiveTree.{directive_definition_tree, input_value_tree};
+ghost use Rattle.tree_directives.specs.DirectiveTree.{directive_definition_tree, directives_tree, input_value_tree};
 ghost use Rattle.read_grammar.specs.Kinds as kinds;
 ghost use Rattle.read_grammar.specs.Reading as read;
 ghost use Rattle.read_grammar.specs.Reading.{Reads};
@@ -15,9 +15,11 @@ use crate::location_list::directive_locations;
 use graphql_names::{FileId, Node};
 use read_grammar::Stop;
 use read_tokens::{Source, Terminal};
-use read_values::{expect, name, next_is};
+use read_values::{directives_or_none, expect, name, next_is, optional_directives};
 use std::alloc::Global;
-use tree_directives::{DirectiveDefinition, DirectiveLocation, InputValueDefinition};
+use tree_directives::{
+    DirectiveDefinition, DirectiveList, DirectiveLocation, InputValueDefinition,
+};
 
 /// `"directive" "@"`
 fn directive_marks(tokens: &mut Source<'_>) -> Result<(), Stop>
@@ -38,7 +40,7 @@ fn optional_repeatable(tokens: &mut Source<'_>) -> Result<Option<()>, Stop>
     Ok(Some(expect(tokens, Terminal::Repeatable)?))
 }
 
-/// What stands behind the arguments of a directive: `"repeatable"? "on" DirectiveLocations`.
+/// What stands behind the directives of a directive's definition: `"repeatable"? "on" DirectiveLocations`.
 fn directive_end(
     alloc: Global,
     tokens: &mut Source<'_>,
@@ -51,7 +53,23 @@ fn directive_end(
     Ok((repeatable, locations))
 }
 
-/// What stands behind the name of a directive: `ArgumentsDefinition? "repeatable"? "on" DirectiveLocations`.
+/// What stands behind the arguments of a directive's definition: `Directives? "repeatable"? "on" DirectiveLocations`,
+/// without variables in the values.
+fn directive_tail(
+    alloc: Global,
+    tokens: &mut Source<'_>,
+    file: FileId,
+    depth: usize,
+) -> Result<(Option<DirectiveList>, Option<()>, Vec<DirectiveLocation>), Stop>
+    ensures { Reads (λ x. (option_map directives_tree x.0, (x.1, (tt, x.2.items)))) (steps.directive_tail (in_file file) depth tokens.old) result tokens.new }
+{
+    let directives = optional_directives(alloc, tokens, file, true, depth)?;
+    let (repeatable, locations) = directive_end(alloc, tokens)?;
+    Ok((directives, repeatable, locations))
+}
+
+/// What stands behind the name of a directive:
+/// `ArgumentsDefinition? Directives? "repeatable"? "on" DirectiveLocations`.
 fn directive_rest(
     alloc: Global,
     tokens: &mut Source<'_>,
@@ -60,20 +78,22 @@ fn directive_rest(
 ) -> Result<
     (
         Option<Vec<Node<InputValueDefinition>>>,
+        Option<DirectiveList>,
         Option<()>,
         Vec<DirectiveLocation>,
     ),
     Stop,
 >
-    ensures { Reads (λ x. (option_map (λ v. map (node_tree input_value_tree) v.items) x.0, (x.1, (tt, x.2.items)))) (steps.directive_rest (in_file file) depth tokens.old) result tokens.new }
+    ensures { Reads (λ x. (option_map (λ v. map (node_tree input_value_tree) v.items) x.0, (option_map directives_tree x.1, (x.2, (tt, x.3.items))))) (steps.directive_rest (in_file file) depth tokens.old) result tokens.new }
 {
     let arguments = optional_arguments_definition(alloc, tokens, file, depth)?;
-    let (repeatable, locations) = directive_end(alloc, tokens)?;
-    Ok((arguments, repeatable, locations))
+    let (directives, repeatable, locations) = directive_tail(alloc, tokens, file, depth)?;
+    Ok((arguments, directives, repeatable, locations))
 }
 
 /// DirectiveDefinition, behind its description:
-/// `"directive" "@" Name ArgumentsDefinition? "repeatable"? "on" DirectiveLocations`.
+/// `"directive" "@" Name ArgumentsDefinition? Directives? "repeatable"? "on" DirectiveLocations` (the directives go past
+/// October 2021).
 pub fn directive_definition(
     alloc: Global,
     tokens: &mut Source<'_>,
@@ -84,11 +104,14 @@ pub fn directive_definition(
 {
     directive_marks(tokens)?;
     let name = name(tokens, file)?;
-    let (arguments, repeatable, locations) = directive_rest(alloc, tokens, file, depth)?;
+    let (arguments, directives, repeatable, locations) = directive_rest(
+        alloc, tokens, file, depth,
+    )?;
     Ok(DirectiveDefinition {
         description: None,
         name,
         arguments: input_values_or_none(alloc, arguments),
+        directives: directives_or_none(alloc, directives),
         repeatable: repeatable.is_some(),
         locations,
     })

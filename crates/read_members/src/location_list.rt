@@ -13,8 +13,8 @@ use read_values::{expect, next_is};
 use std::alloc::Global;
 use tree_directives::DirectiveLocation;
 
-/// All places but the last of the nineteen.
-const LOCATIONS: [DirectiveLocation; 18] = [
+/// All places but the last of the twenty.
+const LOCATIONS: [DirectiveLocation; 19] = [
     DirectiveLocation::Query,
     DirectiveLocation::Mutation,
     DirectiveLocation::Subscription,
@@ -33,9 +33,10 @@ const LOCATIONS: [DirectiveLocation; 18] = [
     DirectiveLocation::Enum,
     DirectiveLocation::EnumValue,
     DirectiveLocation::InputObject,
+    DirectiveLocation::InputFieldDefinition,
 ];
 
-/// The first place of the table that is so written, and `InputFieldDefinition` where none is.
+/// The first place of the table that is so written, and `DirectiveDefinition` where none is.
 #[tactic(auto, using(crate::proofs::Places::place_here, crate::proofs::Places::place_behind))]
 fn find_location(table: &[DirectiveLocation], text: &str) -> DirectiveLocation
     ensures { result ≡ named_among table.now text.now }
@@ -45,10 +46,10 @@ fn find_location(table: &[DirectiveLocation], text: &str) -> DirectiveLocation
             return *location;
         }
     }
-    DirectiveLocation::InputFieldDefinition
+    DirectiveLocation::DirectiveDefinition
 }
 
-/// The place that is so written; a token of the class Location is one of the nineteen.
+/// The place that is so written; a token of the class Location is one of the twenty.
 #[tactic(auto, unfolding(read_grammar::specs::Locations::location_of))]
 fn location_named(text: &str) -> DirectiveLocation
     ensures { result ≡ location_of text.now }
@@ -56,7 +57,7 @@ fn location_named(text: &str) -> DirectiveLocation
     find_location(&LOCATIONS, text)
 }
 
-/// DirectiveLocation: one of the nineteen names.
+/// DirectiveLocation: one of the twenty names.
 fn directive_location(tokens: &mut Source<'_>) -> Result<DirectiveLocation, Stop>
     ensures { Reads (λ x. x) (reading.directive_location tokens.old) result tokens.new }
 {

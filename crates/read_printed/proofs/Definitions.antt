@@ -1,17 +1,18 @@
 -- Definitions of all forms, and extensions, are read as they are printed, under both kinds of layout.
-use Rattle.std.proofs.Common.{◌≡◌, ◌≤◌, ◌⊎◌, inl, inr, ℕ, Bool, true, not, ◌&&◌, ◌||◌, List, [], ◌∷◌, ◌++◌, map, codes, Option, option_map, refl, sym, ap, ◌∙◌}
+use Rattle.std.proofs.Common.{◌≡◌, ◌≤◌, ◌+◌, ◌⊎◌, inl, inr, ℕ, Bool, true, not, ◌&&◌, ◌||◌, List, [], ◌∷◌, ◌++◌, map, codes, Option, option_map, refl, sym, ap, ◌∙◌}
 use Rattle.std.proofs.lemmas.Bool.{and_parts}
 use Rattle.graphql_names.specs.NameSyntax as names
 use Rattle.read_printed_strings.specs.in_printing.Joined.{joined}
 use Rattle.read_printed_strings.specs.in_printing.LineLayout.{Prefix, set_text, texts_of}
 use Rattle.read_printed_strings.specs.in_printing.StringLayout.{description_text}
+use Rattle.read_values.specs.in_directives.DirectiveLayout.{directives_text}
 use Rattle.read_values.specs.in_directives.InputLayout.{input_value_text, argument_definitions_text, repeatable_text, locations_text, directive_definition_text}
 use Rattle.read_values.specs.in_directives.declared.directive_location.DirectiveLocation.{DirectiveLocation}
 use Rattle.read_values.specs.in_type_members.TypeSystemLayout.{names_text, head_text, field_definition_text, enum_value_text, schema_text, extend}
 use Rattle.read_values.specs.in_type_members.PartsWritable.{has_some, schema_writable, fields_writable, enum_writable, input_object_writable, schema_extension_writable}
 use Rattle.graphql_names.specs.Placed.{Text, unplaced_text, unplaced_node}
 use Rattle.read_values.specs.in_values.Writable.{directives_writable, input_values_writable, is_none_of, directive_definition_writable}
-use Rattle.read_values.specs.in_directives.DirectiveTree.{InputValues, DirectiveDefinitionTree, unplaced_input_value, unplaced_directive_definition}
+use Rattle.read_values.specs.in_directives.DirectiveTree.{Directives, InputValues, DirectiveDefinitionTree, unplaced_directives, unplaced_input_value, unplaced_directive_definition}
 use Rattle.read_values.specs.in_type_members.TypeSystemTree.{SchemaParts, ScalarParts, FieldsParts, UnionParts, EnumParts, InputObjectParts, unplaced_schema, unplaced_scalar, unplaced_fields, unplaced_union, unplaced_enum, unplaced_input_object}
 use Rattle.read_values.specs.in_definitions.DefinitionTree.{DefinitionTree, Operation, Fragment, DirectiveDefinition, Schema, ScalarType, ObjectType, InterfaceType, UnionType, EnumType, InputObjectType, ExtendSchema, ExtendScalar, ExtendObject, ExtendInterface, ExtendUnion, ExtendEnum, ExtendInputObject, unplaced_definition}
 use Rattle.read_values.specs.in_definitions.DocumentLayout.{definition_text}
@@ -27,7 +28,7 @@ use Rattle.read_values.specs.in_grammar.TypeSystemGrammar.{KindTree, SchemaKind,
 use Rattle.read_values.specs.in_grammar.Grammar.{is_empty, has_part, described, type_system_of, extended, extension_of, type_system_definition, type_system_extension, definition}
 use Rattle.read_printed.specs.Printed.{Follow, ends_word, begins_definition, ends_definition, Printed}
 use Rattle.read_printed.specs.Literals.{LiteralsRead}
-use Rattle.read_printed.specs.WellFormed.{is_white_prefix, input_values_well_formed, schema_well_formed, scalar_well_formed, fields_well_formed, union_well_formed, enum_well_formed, input_object_well_formed, input_values_depth, directives_depth, schema_depth, fields_depth, enum_depth, input_object_depth}
+use Rattle.read_printed.specs.WellFormed.{is_white_prefix, directives_well_formed, input_values_well_formed, schema_well_formed, scalar_well_formed, fields_well_formed, union_well_formed, enum_well_formed, input_object_well_formed, input_values_depth, directives_depth, schema_depth, fields_depth, enum_depth, input_object_depth}
 use Rattle.read_printed.specs.Definitions.{directive_definition_well_formed, definition_well_formed, definition_depth}
 use Rattle.read_printed.proofs.Sequences.{before_less, seq, mapped, left, right, placed, ignored, nothing_more}
 use Rattle.read_printed.proofs.Tokens.{keyword}
@@ -229,24 +230,26 @@ module _ {P Q : Type 0} (m : Meaning P) (lits : LiteralsRead m.string) (prefix :
       (mapped inl (IsDescribed (option_map unplaced_text d) t) (λ k said. said) (right (SchemaKind <$> schema_definition m n) p)))
 
   -- a definition of a directive has a location
-  undescribed_read : (name : List ℕ) (vs : InputValues Q) (r : Bool) (ls : List DirectiveLocation) → names.is_name name ≡ true → input_values_well_formed vs ≡ true → input_values_writable vs ≡ true → not (is_none_of ls) ≡ true → input_values_depth vs ≤ n
-      → Printed (directive_definition m n) (λ x. unplaced_directive_definition x ≡ directive_with name (map (unplaced_node unplaced_input_value) vs) r ls) ends_definition
-      (codes "directive @" ++ (name ++ (argument_definitions_text prefix vs level ++ (repeatable_text r ++ (locations_text ls ++ [])))))
-  undescribed_read name vs r [] h1 h2 w1 w2 le = absurd cc
-  undescribed_read name vs r (l ∷ ls) h1 h2 w1 w2 le = before_definition (directive_definition_read m lits prefix white name vs r l ls n level h1 h2 w1 le)
+  undescribed_read : (name : List ℕ) (vs : InputValues Q) (ds : Directives Q) (r : Bool) (ls : List DirectiveLocation) → names.is_name name ≡ true → input_values_well_formed vs ≡ true → directives_well_formed ds ≡ true → input_values_writable vs ≡ true → directives_writable constant ds ≡ true → not (is_none_of ls) ≡ true → input_values_depth vs + directives_depth ds ≤ n
+      → Printed (directive_definition m n) (λ x. unplaced_directive_definition x ≡ directive_with name (map (unplaced_node unplaced_input_value) vs) (unplaced_directives ds) r ls) ends_definition
+      (codes "directive @" ++ (name ++ (argument_definitions_text prefix vs level ++ (directives_text ds ++ (repeatable_text r ++ (locations_text ls ++ []))))))
+  undescribed_read name vs ds r [] h1 h2 h3 w1 w2 w3 le = absurd cc
+  undescribed_read name vs ds r (l ∷ ls) h1 h2 h3 w1 w2 w3 le = before_definition (directive_definition_read m lits prefix white name vs ds r l ls n level h1 h2 h3 w1 w2 le)
 
-  directive_described : (d : DirectiveDefinitionTree Q) (p : Q) → directive_definition_well_formed d ≡ true → directive_definition_writable d ≡ true → input_values_depth d.arguments ≤ n
+  directive_described : (d : DirectiveDefinitionTree Q) (p : Q) → directive_definition_well_formed d ≡ true → directive_definition_writable d ≡ true → input_values_depth d.arguments + directives_depth d.directives ≤ n
       → Printed (definition m n) (λ x. unplaced_definition x ≡ unplaced_definition (DirectiveDefinition p d)) ends_definition (directive_definition_text prefix d level)
   unfolding joined
   directive_described d p h w le =
-      let (h1, h2) = and_parts (names.is_name d.name.it) (input_values_well_formed d.arguments) h in
-      let (w1, w2) = and_parts (input_values_writable d.arguments) (not (is_none_of d.locations)) w in
-      let plain : DirectiveDefinitionTree (Unit {0}) = directive_with d.name.it (map (unplaced_node unplaced_input_value) d.arguments) d.repeatable d.locations in
+      let (h1, formed) = and_parts (names.is_name d.name.it) (input_values_well_formed d.arguments && directives_well_formed d.directives) h in
+      let (h2, h3) = and_parts (input_values_well_formed d.arguments) (directives_well_formed d.directives) formed in
+      let (w1, behind) = and_parts (input_values_writable d.arguments) (directives_writable constant d.directives && not (is_none_of d.locations)) w in
+      let (w2, w3) = and_parts (directives_writable constant d.directives) (not (is_none_of d.locations)) behind in
+      let plain : DirectiveDefinitionTree (Unit {0}) = directive_with d.name.it (map (unplaced_node unplaced_input_value) d.arguments) (unplaced_directives d.directives) d.repeatable d.locations in
       behind_description d.description (unplaced_definition (DirectiveDefinition p d))
       (right (inl <$> (SchemaKind <$> schema_definition m n ∣ type_definition m n))
       (mapped inr (IsDescribed (option_map unplaced_text d.description) (unplaced_definition (DirectiveDefinition p d)))
       (λ x said q o same. one_described (λ e y. DirectiveDefinition tt (record y { description = e })) (option_map unplaced_text o) (option_map unplaced_text d.description) (unplaced_directive_definition x) plain same said)
-      (nothing_more (undescribed_read d.name.it d.arguments d.repeatable d.locations h1 h2 w1 w2 le))))
+      (nothing_more (undescribed_read d.name.it d.arguments d.directives d.repeatable d.locations h1 h2 h3 w1 w2 w3 le))))
 
   schema_described : (d : Option (Text Q)) (s : SchemaParts Q) (p : Q) → schema_well_formed s ≡ true → schema_writable s ≡ true → schema_depth s ≤ n
       → Printed (definition m n) (λ x. unplaced_definition x ≡ unplaced_definition (Schema p d s)) ends_definition (schema_text (description_text prefix level d) prefix s level)

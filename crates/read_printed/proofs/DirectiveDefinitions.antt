@@ -1,13 +1,14 @@
 -- Definitions of directives, behind their descriptions, are read as they are printed, under both kinds of layout.
-use Rattle.std.proofs.Common.{◌≡◌, ◌≤◌, ℕ, Bool, true, false, List, [], ◌∷◌, ◌++◌, map, codes, Option, None, is_some, refl, sym, ap, ◌∙◌, append-nil}
+use Rattle.std.proofs.Common.{◌≡◌, ◌≤◌, ◌+◌, ℕ, Bool, true, false, List, [], ◌∷◌, ◌++◌, map, codes, Option, None, is_some, refl, sym, ap, ◌∙◌, append-nil}
 use Rattle.graphql_names.specs.NameSyntax as names
 use Rattle.read_printed_strings.specs.in_printing.Joined.{joined, further_text}
 use Rattle.read_printed_strings.specs.in_printing.LineLayout.{Prefix}
 use Rattle.read_values.specs.in_directives.DirectivePlaces.{location_keyword}
+use Rattle.read_values.specs.in_directives.DirectiveLayout.{directives_text}
 use Rattle.read_values.specs.in_directives.InputLayout.{argument_definitions_text, repeatable_text, locations_text}
 use Rattle.graphql_names.specs.Placed.{unplaced_node}
-use Rattle.read_values.specs.in_values.Writable.{input_values_writable}
-use Rattle.read_values.specs.in_directives.DirectiveTree.{InputValues, DirectiveDefinitionTree, unplaced_input_value, unplaced_directive_definition}
+use Rattle.read_values.specs.in_values.Writable.{directives_writable, input_values_writable}
+use Rattle.read_values.specs.in_directives.DirectiveTree.{Directives, InputValues, DirectiveDefinitionTree, unplaced_directives, unplaced_input_value, unplaced_directive_definition}
 use Rattle.read_values.specs.in_directives.declared.directive_location.DirectiveLocation.{DirectiveLocation}
 use Rattle.read_values.specs.in_directives.declared.directive_location.DirectiveLocation.TheVariants as location
 use Rattle.read_values.specs.in_tokens.declared.token.TokenKind.TheVariants as t
@@ -17,10 +18,12 @@ use Rattle.read_values.specs.in_grammar.Meaning.{Meaning}
 use Rattle.read_values.specs.in_grammar.Kinds.{is_location, is_pipe, is_directive, is_repeatable, is_on}
 use Rattle.read_values.specs.in_grammar.Locations.{location_of}
 use Rattle.read_values.specs.in_grammar.Rules.{Rule, one, mark, ◌·◌, ◌<$>◌, optional, many}
+use Rattle.read_values.specs.in_grammar.ValueGrammar.{constant}
 use Rattle.read_values.specs.in_grammar.TypeSystemGrammar.{directive_definition_of, directive_locations, directive_definition}
 use Rattle.read_printed.specs.Printed.{any, ends_word, Printed}
 use Rattle.read_printed.specs.Literals.{LiteralsRead}
-use Rattle.read_printed.specs.WellFormed.{is_white_prefix, input_values_well_formed, input_values_depth}
+use Rattle.read_printed.specs.WellFormed.{is_white_prefix, directives_well_formed, directives_depth, input_values_well_formed, input_values_depth}
+use Rattle.read_printed.proofs.Directives.{directives_read, directives_end}
 use Rattle.read_printed.proofs.InputValues.{argument_definitions_read, argument_definitions_end}
 use Rattle.read_printed.proofs.Sequences.{ends_before, nothing_more, given, seq, seq_word, mapped, ignored, left_out, more, no_more, as_text, saying}
 use Rattle.read_printed.proofs.Tokens.{word, keyword, any_name}
@@ -49,6 +52,7 @@ location_same location.Enum = refl
 location_same location.EnumValue = refl
 location_same location.InputObject = refl
 location_same location.InputFieldDefinition = refl
+location_same location.DirectiveDefinition = refl
 
 location_named : (l : DirectiveLocation) → names.is_name (location_keyword l) ≡ true
 location_named location.Query = refl
@@ -70,6 +74,7 @@ location_named location.Enum = refl
 location_named location.EnumValue = refl
 location_named location.InputObject = refl
 location_named location.InputFieldDefinition = refl
+location_named location.DirectiveDefinition = refl
 
 location_spelled : (l : DirectiveLocation) → is_location (terminal_of t.Name (location_keyword l)) ≡ true
 unfolding words
@@ -92,6 +97,7 @@ location_spelled location.Enum = refl
 location_spelled location.EnumValue = refl
 location_spelled location.InputObject = refl
 location_spelled location.InputFieldDefinition = refl
+location_spelled location.DirectiveDefinition = refl
 
 abbrev location_rule : Rule DirectiveLocation
 location_rule = (λ (t : Token). location_of t.text) <$> one is_location
@@ -119,11 +125,11 @@ locations_read l ls =
     (seq {f = any} (λ behind fine. refl) (left_out (mark is_pipe) any)
     (seq {f = ends_word} (λ behind fine. further_ends 32 (124 ∷ 32 ∷ []) (map location_keyword ls) behind refl fine) (location_read l) (further_locations ls)))
 
-abbrev pub directive_with : List ℕ → InputValues (Unit {0}) → Bool → List DirectiveLocation → DirectiveDefinitionTree (Unit {0})
-directive_with n vs r ls = record { description = None; name = record { it = n; place = tt }; arguments = vs; repeatable = r; locations = ls }
+abbrev pub directive_with : List ℕ → InputValues (Unit {0}) → Directives (Unit {0}) → Bool → List DirectiveLocation → DirectiveDefinitionTree (Unit {0})
+directive_with n vs ds r ls = record { description = None; name = record { it = n; place = tt }; arguments = vs; directives = ds; repeatable = r; locations = ls }
 
-one_directive : (l n : List ℕ) (vs ws : InputValues (Unit {0})) (r s : Bool) (ls ks : List DirectiveLocation) → l ≡ n → vs ≡ ws → r ≡ s → ls ≡ ks → directive_with l vs r ls ≡ directive_with n ws s ks
-one_directive l n vs ws r s ls ks e f g h = rw e (rw f (rw g (rw h refl)))
+one_directive : (l n : List ℕ) (vs ws : InputValues (Unit {0})) (ds es : Directives (Unit {0})) (r s : Bool) (ls ks : List DirectiveLocation) → l ≡ n → vs ≡ ws → ds ≡ es → r ≡ s → ls ≡ ks → directive_with l vs ds r ls ≡ directive_with n ws es s ks
+one_directive l n vs ws ds es r s ls ks e f g h k = rw e (rw f (rw g (rw h (rw k refl))))
 
 repeatable_read : (r : Bool) → Printed (optional (mark is_repeatable)) (λ o. is_some o ≡ r) ends_word (repeatable_text r)
 unfolding joined words
@@ -136,22 +142,24 @@ repeatable_ends true = refl
 repeatable_ends false = refl
 
 module _ {P Q : Type 0} (m : Meaning P) (lits : LiteralsRead m.string) (prefix : Prefix) (white : is_white_prefix prefix ≡ true) where
-  pub directive_definition_read : (name : List ℕ) (vs : InputValues Q) (r : Bool) (l : DirectiveLocation) (ls : List DirectiveLocation) (n level : ℕ) → names.is_name name ≡ true → input_values_well_formed vs ≡ true → input_values_writable vs ≡ true → input_values_depth vs ≤ n
-      → Printed (directive_definition m n) (λ x. unplaced_directive_definition x ≡ directive_with name (map (unplaced_node unplaced_input_value) vs) r (l ∷ ls)) ends_word
-      (codes "directive @" ++ (name ++ (argument_definitions_text prefix vs level ++ (repeatable_text r ++ (locations_text (l ∷ ls) ++ [])))))
+  pub directive_definition_read : (name : List ℕ) (vs : InputValues Q) (ds : Directives Q) (r : Bool) (l : DirectiveLocation) (ls : List DirectiveLocation) (n level : ℕ) → names.is_name name ≡ true → input_values_well_formed vs ≡ true → directives_well_formed ds ≡ true → input_values_writable vs ≡ true → directives_writable constant ds ≡ true → input_values_depth vs + directives_depth ds ≤ n
+      → Printed (directive_definition m n) (λ x. unplaced_directive_definition x ≡ directive_with name (map (unplaced_node unplaced_input_value) vs) (unplaced_directives ds) r (l ∷ ls)) ends_word
+      (codes "directive @" ++ (name ++ (argument_definitions_text prefix vs level ++ (directives_text ds ++ (repeatable_text r ++ (locations_text (l ∷ ls) ++ []))))))
   unfolding joined words directive_definition
-  directive_definition_read name vs r l ls n level h1 h2 w le =
+  directive_definition_read name vs ds r l ls n level h1 h2 h3 w1 w2 le =
       let places : List ℕ = locations_text (l ∷ ls) ++ [] in
       let end2 : ends_word (repeatable_text r ++ places) ≡ true = ends_before (repeatable_text r) places (repeatable_ends r) refl in
-      let end3 : ends_word (argument_definitions_text prefix vs level ++ (repeatable_text r ++ places)) ≡ true = ends_before (argument_definitions_text prefix vs level) (repeatable_text r ++ places) (argument_definitions_end m lits prefix vs level) end2 in
-      mapped directive_definition_of (λ x. unplaced_directive_definition x ≡ directive_with name (map (unplaced_node unplaced_input_value) vs) r (l ∷ ls)) (λ x said. one_directive _ _ _ _ _ _ _ _ said.1.1.0 said.1.1.1.0 said.1.1.1.1.0 said.1.1.1.1.1.1)
+      let end3 : ends_word (directives_text ds ++ (repeatable_text r ++ places)) ≡ true = ends_before (directives_text ds) (repeatable_text r ++ places) (directives_end m lits ds) end2 in
+      let end4 : ends_word (argument_definitions_text prefix vs level ++ (directives_text ds ++ (repeatable_text r ++ places))) ≡ true = ends_before (argument_definitions_text prefix vs level) _ (argument_definitions_end m lits prefix vs level) end3 in
+      mapped directive_definition_of (λ x. unplaced_directive_definition x ≡ directive_with name (map (unplaced_node unplaced_input_value) vs) (unplaced_directives ds) r (l ∷ ls)) (λ x said. one_directive _ _ _ _ _ _ _ _ _ _ said.1.1.0 said.1.1.1.0 said.1.1.1.1.0 said.1.1.1.1.1.0 said.1.1.1.1.1.1.1)
       (seq_word refl (keyword is_directive (codes "directive") refl refl)
       (ignored (32 ∷ []) refl
       (seq {f = any} (λ behind fine. refl) at
-      (seq_word end3 (any_name m name h1)
-      (seq_word end2 (argument_definitions_read m lits prefix white vs n level h2 w le)
+      (seq_word end4 (any_name m name h1)
+      (seq_word end3 (argument_definitions_read m lits prefix white vs n level h2 w1 (omega arith))
+      (seq_word end2 (directives_read m lits constant ds n h3 w2 (omega arith))
       (seq_word refl (repeatable_read r)
       (nothing_more
       (ignored (32 ∷ []) refl
       (seq_word refl (keyword is_on (codes "on") refl refl)
-      (ignored (32 ∷ []) refl (as_text _ (ap (λ (k : List ℕ). location_keyword l ++ k) (sym (append-nil (further_text (codes " | ") (map location_keyword ls))))) (locations_read l ls))))))))))))
+      (ignored (32 ∷ []) refl (as_text _ (ap (λ (k : List ℕ). location_keyword l ++ k) (sym (append-nil (further_text (codes " | ") (map location_keyword ls))))) (locations_read l ls)))))))))))))

@@ -211,7 +211,7 @@ module _ {P : Type 0} where
   directive_definition_same : (prefix : Prefix) (d : DirectiveDefinitionTree P) (level : ℕ) → directive_definition_text prefix d level ≡ directive_definition_text prefix (unplaced_directive_definition d) level
   directive_definition_same prefix d level =
       λ i. joined (description_same prefix level d.description i
-      ∷ joined (codes "directive @" ∷ d.name.it ∷ argument_definitions_same prefix d.arguments level i ∷ repeatable_text d.repeatable ∷ locations_text d.locations ∷ []) ∷ [])
+      ∷ joined (codes "directive @" ∷ d.name.it ∷ argument_definitions_same prefix d.arguments level i ∷ directives_same d.directives i ∷ repeatable_text d.repeatable ∷ locations_text d.locations ∷ []) ∷ [])
 
   definition_same : (at_start : Bool) (prefix : Prefix) (d : DefinitionTree P) (level : ℕ) → definition_text at_start prefix d level ≡ definition_text at_start prefix (unplaced_definition d) level
   definition_same at_start prefix (Operation p o) level = operation_same at_start prefix level o

@@ -1,13 +1,13 @@
 -- Definitions of all forms (GraphQL, October 2021, sections 2.2 and 3), well-formed, and how deep their brackets nest, at most.
-use Rattle.std.specs.Prelude.{ℕ, Bool, ◌&&◌}
+use Rattle.std.specs.Prelude.{ℕ, ◌+◌, Bool, ◌&&◌}
 use Rattle.read_values.specs.in_directives.DirectiveTree.{DirectiveDefinitionTree}
 use Rattle.read_values.specs.in_definitions.DefinitionTree.{DefinitionTree, Operation, Fragment, DirectiveDefinition, Schema, ScalarType, ObjectType, InterfaceType, UnionType, EnumType, InputObjectType, ExtendSchema, ExtendScalar, ExtendObject, ExtendInterface, ExtendUnion, ExtendEnum, ExtendInputObject}
 use Rattle.graphql_names.specs.NameSyntax.{is_name}
-use Rattle.read_printed.specs.WellFormed.{operation_well_formed, fragment_well_formed, input_values_well_formed, schema_well_formed, scalar_well_formed, fields_well_formed, union_well_formed, enum_well_formed, input_object_well_formed, operation_depth, fragment_depth, input_values_depth, directives_depth, schema_depth, fields_depth, enum_depth, input_object_depth}
+use Rattle.read_printed.specs.WellFormed.{operation_well_formed, fragment_well_formed, directives_well_formed, input_values_well_formed, schema_well_formed, scalar_well_formed, fields_well_formed, union_well_formed, enum_well_formed, input_object_well_formed, operation_depth, fragment_depth, input_values_depth, directives_depth, schema_depth, fields_depth, enum_depth, input_object_depth}
 
 module _ {P : Type 0} where
   abbrev pub directive_definition_well_formed : DirectiveDefinitionTree P → Bool
-  directive_definition_well_formed d = is_name d.name.it && input_values_well_formed d.arguments
+  directive_definition_well_formed d = is_name d.name.it && (input_values_well_formed d.arguments && directives_well_formed d.directives)
 
   abbrev pub definition_well_formed : DefinitionTree P → Bool
   definition_well_formed (Operation p o) = operation_well_formed o
@@ -31,7 +31,7 @@ module _ {P : Type 0} where
   abbrev pub definition_depth : DefinitionTree P → ℕ
   definition_depth (Operation p o) = operation_depth o
   definition_depth (Fragment p f) = fragment_depth f
-  definition_depth (DirectiveDefinition p d) = input_values_depth d.arguments
+  definition_depth (DirectiveDefinition p d) = input_values_depth d.arguments + directives_depth d.directives
   definition_depth (Schema p d s) = schema_depth s
   definition_depth (ScalarType p d t) = directives_depth t.directives
   definition_depth (ObjectType p d t) = fields_depth t

@@ -51,6 +51,7 @@ words =
     ∷ (codes "ENUM_VALUE", t.Location)
     ∷ (codes "INPUT_OBJECT", t.Location)
     ∷ (codes "INPUT_FIELD_DEFINITION", t.Location)
+    ∷ (codes "DIRECTIVE_DEFINITION", t.Location)
     ∷ []
 
 -- the symbol of the first of these words that the text spells, and `Name` where it spells none

@@ -3,7 +3,7 @@
 /// A terminal symbol of the grammar (appendix B): a punctuator, a keyword, or a class of tokens.
 ///
 /// A Name token is the keyword that its text spells, where there is one, and else `Name`; wherever the grammar
-/// takes a Name it takes these keywords too. The nineteen names of directive locations (section 3.13) are one
+/// takes a Name it takes these keywords too. The twenty names of directive locations (section 3.13) are one
 /// class, `Location`.
 #[derive(Clone, Copy, PartialEq, Eq, Debug)]
 pub enum Terminal {

@@ -45,6 +45,8 @@ const KEYWORDS_U: &[(&str, Terminal)] = &[("union", Terminal::Union)];
 
 const LOCATIONS_A: &[(&str, Terminal)] = &[("ARGUMENT_DEFINITION", Terminal::Location)];
 
+const LOCATIONS_D: &[(&str, Terminal)] = &[("DIRECTIVE_DEFINITION", Terminal::Location)];
+
 const LOCATIONS_E: &[(&str, Terminal)] = &[
     ("ENUM", Terminal::Location),
     ("ENUM_VALUE", Terminal::Location),
@@ -112,6 +114,7 @@ fn words_with(first: u8) -> &'static [(&'static str, Terminal)]
         b't' => KEYWORDS_T,
         b'u' => KEYWORDS_U,
         b'A' => LOCATIONS_A,
+        b'D' => LOCATIONS_D,
         b'E' => LOCATIONS_E,
         b'F' => LOCATIONS_F,
         b'I' => LOCATIONS_I,

@@ -25,6 +25,7 @@ fn by_directive(alloc: Global, case: Case<'_>, tally: &mut Tally) -> Result<(), 
         description: None,
         name: Name::new_static_unchecked("d"),
         arguments: Vec::new(alloc),
+        directives: DirectiveList(Vec::new(alloc)),
         repeatable: false,
         locations: Vec::new(alloc),
     };

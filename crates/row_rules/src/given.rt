@@ -20,8 +20,8 @@ pub(crate) fn row_type(alloc: Global, case: Case<'_>) -> Result<Type, Problem> {
     type_of(alloc, case, case.row.needed("type")?.value)
 }
 
-/// The nineteen locations (section 3.13).
-const LOCATIONS: [DirectiveLocation; 19] = [
+/// The twenty locations (section 3.13).
+const LOCATIONS: [DirectiveLocation; 20] = [
     DirectiveLocation::Query,
     DirectiveLocation::Mutation,
     DirectiveLocation::Subscription,
@@ -41,6 +41,7 @@ const LOCATIONS: [DirectiveLocation; 19] = [
     DirectiveLocation::EnumValue,
     DirectiveLocation::InputObject,
     DirectiveLocation::InputFieldDefinition,
+    DirectiveLocation::DirectiveDefinition,
 ];
 
 /// The row's location.

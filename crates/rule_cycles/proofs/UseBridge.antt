@@ -30,7 +30,7 @@ use Rattle.fault_data.proofs.in_rule_definitions.Lookups.{itself, under_found, u
 use Rattle.fault_data.proofs.Judgings.{type_seen, type_look, directive_look, value_look, input_look, named_unplaced, value_there, input_there}
 use Rattle.rule_cycles.specs.Labels.{Labelled, targets}
 use Rattle.rule_cycles.specs.Numbers.{number_of, at_number, each_value}
-use Rattle.rule_cycles.specs.UseNumbers.{Use, used, type_behind, use_references, uses_references, type_reference, input_uses, definition_uses, part_uses, type_uses, uses_at}
+use Rattle.rule_cycles.specs.UseNumbers.{Use, used, type_behind, use_references, uses_references, type_reference, input_uses, arguments_uses, definition_uses, part_uses, type_uses, uses_at}
 use Rattle.rule_cycles.specs.DirectiveFaults.{plain_use}
 use Rattle.rule_cycles.proofs.Transport.{IsSoundView, target_there}
 use Rattle.rule_cycles.proofs.Entries.{number_given, number_there, one_number}
@@ -274,23 +274,40 @@ module _ (s : SchemaTree Place) where
     abbrev ByArguments : DirectiveDefinitionTree (Unit {0}) → By → Thing → Type 0
     ByArguments x by y = AtSomeIndex x.arguments (λ i v. ByArgument i v by y)
 
+    abbrev ByOwn : DirectiveDefinitionTree (Unit {0}) → By → Thing → Type 0
+    ByOwn x by y = RefersByUse (judged s) (DirectiveDefinitionAt n) (applied_directives x.directives) by y
+
+    abbrev ByDefinition : DirectiveDefinitionTree (Unit {0}) → By → Thing → Type 0
+    ByDefinition x by y = ByArguments x by y ⊎ ByOwn x by y
+
     argument_here : (i : ℕ) (v : Placed Place (InputValueTree Place)) → slice_get d.it.arguments i ≡ Some v → directives_at s (ArgumentAt (DirectiveDefinitionAt n) i) ≡ v.it.directives
     argument_here i v at =
         ap (λ (o : Option (Placed Place (DirectiveDefinitionTree Place))). option_map_or (λ (x : Placed Place (InputValueTree Place)). x.it.directives) (slice_get (option_map_or (λ (x : Placed Place (DirectiveDefinitionTree Place)). x.it.arguments) o []) i) []) has
         ∙ ap (λ (o : Option (Placed Place (InputValueTree Place))). option_map_or (λ (x : Placed Place (InputValueTree Place)). x.it.directives) o []) at
+
+    own_here : directives_at s (DirectiveDefinitionAt n) ≡ d.it.directives
+    own_here = ap (λ (o : Option (Placed Place (DirectiveDefinitionTree Place))). option_map_or (λ (x : Placed Place (DirectiveDefinitionTree Place)). x.it.directives) o []) has
 
     looks : (judged s).directive n ≡ Some (plain_directive_definition d)
     looks = directive_look s n ∙ ap (option_map plain_directive_definition) has
 
     pub definition_sound : IsSoundPart (Refers (judged s) (ADirective n)) (definition_uses s d)
     definition_sound =
-        sound_present ((judged s).directive n) (plain_directive_definition d) ByArguments (definition_uses s d) looks
+        sound_present ((judged s).directive n) (plain_directive_definition d) ByDefinition (definition_uses s d) looks
+        (
+        sound_both (ByArguments (plain_directive_definition d)) (ByOwn (plain_directive_definition d)) (arguments_uses s d.it.arguments) (uses_references s d.it.directives)
         (sound_listed d.it.arguments (unplaced_node unplaced_input_value) (λ (v : Placed Place (InputValueTree Place)). input_uses s v.it) ByArgument (λ i v at. sound_input (ArgumentAt (DirectiveDefinitionAt n) i) v.it (argument_here i v at)))
+        (sound_uses (DirectiveDefinitionAt n) d.it.directives own_here (applied_directives (unplaced_directives d.it.directives)) (bare_same d.it.directives))
+        )
 
     pub definition_full : IsFullPart (Refers (judged s) (ADirective n)) (definition_uses s d)
     definition_full =
-        full_present ((judged s).directive n) (plain_directive_definition d) ByArguments (definition_uses s d) looks
+        full_present ((judged s).directive n) (plain_directive_definition d) ByDefinition (definition_uses s d) looks
+        (
+        full_both (ByArguments (plain_directive_definition d)) (ByOwn (plain_directive_definition d)) (arguments_uses s d.it.arguments) (uses_references s d.it.directives)
         (full_listed d.it.arguments (unplaced_node unplaced_input_value) (λ (v : Placed Place (InputValueTree Place)). input_uses s v.it) ByArgument (λ i v at. full_input (ArgumentAt (DirectiveDefinitionAt n) i) v.it (argument_here i v at)))
+        (full_uses (DirectiveDefinitionAt n) d.it.directives own_here (applied_directives (unplaced_directives d.it.directives)) (bare_same d.it.directives))
+        )
 
   -- ---- a type
 

@@ -38,7 +38,7 @@ module _ (s : SchemaTree Place) where
   arguments_uses vs = flat_map (λ v. input_uses v.it) vs
 
   abbrev pub definition_uses : Placed Place (DirectiveDefinitionTree Place) → Labelled Use
-  definition_uses d = arguments_uses d.it.arguments
+  definition_uses d = arguments_uses d.it.arguments ++ uses_references d.it.directives
 
   abbrev pub part_uses : SchemaType Place → Labelled Use
   part_uses t = each_value (λ g. uses_references g.it.it.directives) t.values ++ each_value (λ g. input_uses g.it.it) t.inputs

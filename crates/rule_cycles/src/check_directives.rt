@@ -35,8 +35,8 @@ fn directive_fault(
     }
 }
 
-/// Tells each directive that reaches itself by the directives on its arguments and by their types (section 3.13), or
-/// that such ways are too long.
+/// Tells each directive that reaches itself by the directives on it and its arguments and by the types of these (section
+/// 3.13), or that such ways are too long.
 pub(crate) fn check_directive_cycles(
     alloc: Global,
     schema: &Schema,

@@ -182,7 +182,7 @@ fn add_type_uses(
     }
 }
 
-/// Adds the references of the directive of that number: those of its arguments.
+/// Adds the references of the directive of that number: those of its arguments, and its directives.
 fn add_directive_uses(
     schema: &Schema,
     number: usize,
@@ -192,8 +192,10 @@ fn add_directive_uses(
 {
     match schema.directive_definitions.get_index(number) {
         None => Ok(()),
-        Some((_, definition)) => {
-            add_arguments(schema, &definition.content().arguments, references)
+        Some((_, node)) => {
+            let definition = node.content();
+            add_arguments(schema, &definition.arguments, references)?;
+            add_uses(schema, &definition.directives, references)
         }
     }
 }
@@ -226,8 +228,8 @@ fn use_references(
     Ok(references)
 }
 
-/// What each directive and each type refers to: directives by their arguments, types by their directives, values and
-/// input fields.
+/// What each directive and each type refers to: directives by their arguments and directives, types by their directives,
+/// values and input fields.
 pub(crate) fn references_of_definitions(
     alloc: Global,
     schema: &Schema,

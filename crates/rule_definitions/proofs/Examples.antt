@@ -14,12 +14,12 @@ use Rattle.rule_definitions.specs.Diagnostics.{EmptyFieldSet, InvalidImplementat
 use Rattle.rule_definitions.specs.Words.{AtSomeIndex}
 use Rattle.rule_definitions.specs.Spots.{At}
 use Rattle.rule_definitions.specs.Faults.{SchemaFault, told, wrong}
-use Rattle.rule_definitions.specs.Judged.{Judged}
+use Rattle.rule_definitions.specs.Judged.{Judged, applied_directives}
 use Rattle.rule_definitions.specs.Empty.{EmptyFieldSetAt}
 use Rattle.rule_definitions.specs.Subtypes.{is_valid_type}
 use Rattle.rule_definitions.specs.Interfaces.{InvalidImplementationFieldTypeAt}
 use Rattle.rule_definitions.specs.Things.{Thing, ADirective}
-use Rattle.rule_definitions.specs.Cycles.{Referring, RefersByInput, Refers, RecursiveInputObjectDefinitionAt}
+use Rattle.rule_definitions.specs.Cycles.{Referring, RefersByUse, RefersByInput, Refers, RecursiveInputObjectDefinitionAt}
 use Rattle.rule_definitions.specs.Accepts.{Accepts}
 
 -- ---- what schemas are made of
@@ -151,7 +151,7 @@ not_by_nullable = does_not (NamedTree (text i_name)) refl
 not_by_list : (fault : SchemaFault) → RecursiveInputObjectDefinitionAt (inputs (NonNullListTree (NonNullNamedTree (text i_name)))) fault → ⊥
 not_by_list = does_not (NonNullListTree (NonNullNamedTree (text i_name))) refl
 
--- ---- references: `directive @Q(a: I @T)`, where neither `I` nor `@T` is there
+-- ---- references: `directive @Q(a: I @T) @T`, where neither `I` nor `@T` is there
 
 abbrev applied : DirectiveTree (Unit {0})
 applied = record { name = text t_name; arguments = [] }
@@ -160,7 +160,7 @@ abbrev asked : InputValueTree (Unit {0})
 asked = record (input_of a_name (NamedTree (text i_name))) { directives = record { it = applied; place = tt } ∷ [] }
 
 abbrev asking : DirectiveDefinitionTree (Unit {0})
-asking = record { description = None; name = text q_name; arguments = record { it = asked; place = tt } ∷ []; repeatable = false; locations = [] }
+asking = record { description = None; name = text q_name; arguments = record { it = asked; place = tt } ∷ []; directives = record { it = applied; place = tt } ∷ []; repeatable = false; locations = [] }
 
 abbrev alone : Judged
 alone = record (schema_of (λ n. None)) { directive = λ n. only q_name asking n }
@@ -177,9 +177,15 @@ by_arguments : (by : By) (to : Thing) → AtSomeIndex asking.arguments (λ i v. 
 by_arguments by to (zero, (v, (here, r))) = by_argument by to (subst (λ (x : Placed (Unit {0}) (InputValueTree (Unit {0}))). RefersByInput alone (ArgumentAt (DirectiveDefinitionAt q_name) 0) x.it by to) (sym (same_Some (record { it = asked; place = tt }) v here)) r)
 by_arguments by to (suc i, (v, (here, r))) = cc
 
+by_own : (by : By) (to : Thing) → RefersByUse alone (DirectiveDefinitionAt q_name) (applied_directives asking.directives) by to → ⊥
+by_own by to (zero, (d, (here, (is, (of, there))))) = true≢false (sym there ∙ ap (λ (x : DirectiveTree (Unit {0})). is_some (alone.directive x.name.it)) (sym (same_Some applied d here)))
+by_own by to (suc i, (d, (here, r))) = cc
+
 refers_to_nothing : (by : By) (to : Thing) → Refers alone (ADirective q_name) by to → ⊥
-refers_to_nothing by to (d, (is, rest)) =
+refers_to_nothing by to (d, (is, inl rest)) =
     by_arguments by to (subst (λ (x : DirectiveDefinitionTree (Unit {0})). AtSomeIndex x.arguments (λ i v. RefersByInput alone (ArgumentAt (DirectiveDefinitionAt q_name) i) v.it by to)) (sym (same_Some asking d is)) rest)
+refers_to_nothing by to (d, (is, inr own)) =
+    by_own by to (subst (λ (x : DirectiveDefinitionTree (Unit {0})). RefersByUse alone (DirectiveDefinitionAt q_name) (applied_directives x.directives) by to) (sym (same_Some asking d is)) own)
 
 -- ---- Accepts: `null` and `[]` for `I`, `I!`, `[I!]` and `T`, which is not there, and a variable that is not defined
 

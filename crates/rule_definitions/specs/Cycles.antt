@@ -51,10 +51,11 @@ module _ (s : Judged) where
   abbrev pub RefersByInput : Address → InputValueTree (Unit {0}) → Option (Referring (DirectiveTree (Unit {0}))) → Thing → Type 0
   RefersByInput at v by to = RefersByUse at (applied_directives v.directives) by to ⊎ ((by ≡ None) × ((to ≡ AType (named_in v.ty.it)) × (is_some (s.type_named (named_in v.ty.it)) ≡ true)))
 
-  -- a directive refers by its arguments; a type by its directives, its enum values and its input fields
+  -- a directive refers by its arguments and its directives; a type by its directives, its enum values and its input fields
   abbrev pub Refers : Thing → Option (Referring (DirectiveTree (Unit {0}))) → Thing → Type 0
-  Refers (ADirective n) by to = Present (s.directive n) (λ d. AtSomeIndex d.arguments (λ i v.
-      RefersByInput (ArgumentAt (DirectiveDefinitionAt n) i) v.it by to))
+  Refers (ADirective n) by to = Present (s.directive n) (λ d.
+      AtSomeIndex d.arguments (λ i v. RefersByInput (ArgumentAt (DirectiveDefinitionAt n) i) v.it by to)
+      ⊎ RefersByUse (DirectiveDefinitionAt n) (applied_directives d.directives) by to)
   Refers (AType n) by to = Present (s.type_named n) (λ t.
       RefersByUse (TypeAt n) t.directives by to
       ⊎ (Somewhere t.value (λ m v. RefersByUse (ValueAt n m) (applied_directives v.directives) by to)

@@ -1,5 +1,5 @@
 -- SchemaRules: the rules on a schema (GraphQL, October 2021, sections 3 and 5).
-use Rattle.std.specs.Prelude.{◌≡◌, List, [], ◌∷◌, map, option_to_list, flat_map, ◌++◌, ◌⊎◌}
+use Rattle.std.specs.Prelude.{◌≡◌, false, List, [], ◌∷◌, map, option_to_list, flat_map, ◌++◌, ◌⊎◌}
 use Rattle.std.specs.Option.{option_map_or}
 use Rattle.graphql_names.specs.Placed.{Place}
 use Rattle.tree_directives.specs.DirectiveTree.{DirectiveTree}
@@ -8,11 +8,11 @@ use Rattle.tree_directives.specs.declared.directive_location.DirectiveLocation.T
 use Rattle.schema_components.specs.Lists.{firsts}
 use Rattle.schema_components.specs.Given.{Given, ExtensionTree}
 use Rattle.schema_types.specs.SchemaTree.{SchemaType, SchemaTree}
-use Rattle.schema_types.specs.Addresses.{Address, SchemaAt, TypeAt, FieldAt, ValueAt, InputAt, type_at}
+use Rattle.schema_types.specs.Addresses.{Address, SchemaAt, DirectiveDefinitionAt, TypeAt, FieldAt, ValueAt, InputAt, type_at}
 use Rattle.rule_definitions.specs.Diagnostics.{map_places}
 use Rattle.rule_definitions.specs.Spots.{At, spotted_directives, spot_place, SpotIsAt}
 use Rattle.rule_definitions.specs.Faults.{FaultAt, SchemaFault}
-use Rattle.rule_definitions.specs.Judged.{Judged, judged, applied_directives, type_location, IsBuiltInScalar, AtType, AtField, AtValue, AtInputField, AtArgument}
+use Rattle.rule_definitions.specs.Judged.{Judged, judged, applied_directives, type_location, IsBuiltInScalar, AtType, AtField, AtValue, AtInputField, AtArgument, AtDirectiveDefinition}
 use Rattle.rule_definitions.specs.Roots.{QueryRootOperationTypeAt, UndefinedRootAt, RootOperationObjectTypeAt, DuplicateRootOperationTypeAt}
 use Rattle.rule_definitions.specs.ReservedNames.{ReservedNameAt}
 use Rattle.rule_definitions.specs.TypesUsed.{UndefinedFieldTypeAt, UndefinedInputTypeAt, UndefinedMemberAt, OutputTypeAt, InputTypeAt, UnionMemberObjectTypeAt, UniqueArgumentDefinitionAt}
@@ -22,7 +22,7 @@ use Rattle.rule_definitions.specs.Cycles.{RecursiveInputObjectDefinitionAt, Recu
 use Rattle.rule_definitions.specs.Uses.{UsesBreak}
 
 module _ (s : Judged) where
-  -- at some place where directives are applied, but on a built-in scalar
+  -- at some place where directives are applied, but on a built-in scalar or the definition of a built-in directive
   abbrev pub AtDirectives : (Address → DirectiveLocation → List (DirectiveTree (Unit {0})) → Type 0) → Type 0
   AtDirectives P =
       P SchemaAt location.Schema s.definition.directives
@@ -30,7 +30,8 @@ module _ (s : Judged) where
       ⊎ (AtField s (λ n m f. P (FieldAt n m) location.FieldDefinition (applied_directives f.directives))
       ⊎ (AtArgument s (λ at v. P at location.ArgumentDefinition (applied_directives v.directives))
       ⊎ (AtValue s (λ n m v. P (ValueAt n m) location.EnumValue (applied_directives v.directives))
-      ⊎ AtInputField s (λ n m v. P (InputAt n m) location.InputFieldDefinition (applied_directives v.directives))))))
+      ⊎ (AtInputField s (λ n m v. P (InputAt n m) location.InputFieldDefinition (applied_directives v.directives))
+      ⊎ AtDirectiveDefinition s (λ n d. (s.built_in (DirectiveDefinitionAt n) ≡ false) × P (DirectiveDefinitionAt n) location.DirectiveDefinition (applied_directives d.directives)))))))
 
   -- a rule on the use of a directive fails so: there are no variables
   abbrev pub SchemaUsesBreak : SchemaFault → Type 0

@@ -188,7 +188,8 @@ uses fault (inr (inl (n, (t, (e, (scalar, a)))))) = no_uses _ fault (subst (λ d
 uses fault (inr (inr (inl (n, (t, (e, (m, (f, (h, a))))))))) = no_uses _ fault (subst (λ (g : FieldDefinitionTree (Unit {0})). UsesBreak At s [] location.FieldDefinition (spotted_directives (FieldAt n m) (applied_directives g.directives)) fault) ((quiet n t e).fields m f h).1 a)
 uses fault (inr (inr (inr (inl a)))) = no_argument (λ x v. UsesBreak At s [] location.ArgumentDefinition (spotted_directives x (applied_directives v.directives)) fault) a
 uses fault (inr (inr (inr (inr (inl a))))) = no_value _ a
-uses fault (inr (inr (inr (inr (inr a))))) = no_input_field _ a
+uses fault (inr (inr (inr (inr (inr (inl a)))))) = no_input_field _ a
+uses fault (inr (inr (inr (inr (inr (inr (n, (d, (e, p))))))))) = no_directive n d e
 
 rules : SchemaRules s
 rules fault (inl a) = references fault a

@@ -1,13 +1,16 @@
 -- The rules on uses at the parts of a schema, one after another.
 use Rattle.std.proofs.Common.{◌≡◌, ℕ, ◌↔◌, Bool, true, false, ◌&&◌, List, [], ◌∷◌, ◌++◌, map, refl, sym, ap, ◌∙◌, inl, inr, slice_get, true≢false, is_some}
 use Rattle.std.proofs.lemmas.List.{map-append}
-use Rattle.graphql_names.specs.Placed.{Place}
+use Rattle.graphql_names.specs.Placed.{Placed, Place}
+use Rattle.graphql_names.specs.Places.{is_built_in}
+use Rattle.tree_directives.specs.DirectiveTree.{DirectiveDefinitionTree}
+use Rattle.tree_directives.specs.declared.directive_location.DirectiveLocation.TheVariants as location
 use Rattle.rule_values.specs.in_schema.in_schema_types.SchemaTree.{SchemaType, SchemaTree}
 use Rattle.rule_values.specs.in_schema.in_schema_types.Addresses.{applied}
 use Rattle.rule_values.specs.in_rule_definitions.Words.{AtSomeIndex}
 use Rattle.rule_values.specs.in_rule_definitions.Judged.{is_built_in_scalar, type_location}
 use Rattle.rule_values.specs.in_rule_definitions.Told.{PlacedFault}
-use Rattle.rule_uses.specs.SchemaUses.{FieldsUses, ValuesUses, InputsUses, OwnUses, PartsUses, UsesAt}
+use Rattle.rule_uses.specs.SchemaUses.{FieldsUses, ValuesUses, InputsUses, OwnUses, PartsUses, OwnDefinitionUses, UsesAt}
 
 nowhere : {X A : Type 0} (xs : List X) (R : ℕ → X → Type 0) → xs ≡ [] → AtSomeIndex xs R → A
 nowhere xs R e h = absurd (true≢false (sym (ap is_some (ap (λ l. slice_get l h.0) (sym e) ∙ h.1.1.0))))
@@ -43,3 +46,10 @@ module _ (s : SchemaTree Place) (t : SchemaType Place) where
 
   pub own_judged : is_built_in_scalar t ≡ false → (f : PlacedFault) → UsesAt s (type_location t.kind) (applied s t.directives) f ↔ OwnUses s t f
   own_judged e f = (λ h. (e, h), λ h. h.1)
+
+module _ (s : SchemaTree Place) (d : Placed Place (DirectiveDefinitionTree Place)) where
+  pub definition_unjudged : is_built_in d.place ≡ true → (f : PlacedFault) → OwnDefinitionUses s d f → ⊥
+  definition_unjudged e f h = true≢false (sym e ∙ h.0)
+
+  pub definition_judged : is_built_in d.place ≡ false → (f : PlacedFault) → UsesAt s location.DirectiveDefinition d.it.directives f ↔ OwnDefinitionUses s d f
+  definition_judged e f = (λ h. (e, h), λ h. h.1)

@@ -29,7 +29,7 @@ use Rattle.schema_types.specs.Distinct.{AreAllDistinct}
 use Rattle.rule_values.proofs.in_rule_definitions.Lists.{index_found, index_given, mapped_some, slice_get-map}
 use Rattle.rule_values.proofs.in_rule_definitions.Lookups.{under_found, under_given}
 use Rattle.rule_values.proofs.in_fault_data.Judgings.{type_look, directive_look, field_look, value_look, input_look}
-use Rattle.rule_uses.specs.SchemaUses.{UsesAt, ArgumentUses, FieldUses, FieldsUses, ValuesUses, InputsUses, OwnUses, TypeUses, DefinitionUses, SchemaUses}
+use Rattle.rule_uses.specs.SchemaUses.{UsesAt, ArgumentUses, FieldUses, FieldsUses, ValuesUses, InputsUses, OwnUses, TypeUses, DefinitionUses, DefinitionsUses, SchemaUses}
 use Rattle.rule_uses.proofs.Moves.{Moves, moves_either, moves_where}
 use Rattle.rule_uses.proofs.SpottedUses.{uses_told}
 
@@ -180,15 +180,30 @@ module _ (s : SchemaTree Place) (distinct : AreAllDistinct s) where
       (λ i e at there. let parts = distinct.parts e (index_given s.types i e at) in told_type e.0 e.1 there parts.fields parts.values parts.inputs)
 
   -- all definitions of directives
-  told_definitions : T (λ g. Somewhere (judged s).directive (λ n d. AtSomeIndex d.arguments (λ i v. By (ArgumentAt (DirectiveDefinitionAt n) i) location.ArgumentDefinition (applied_directives v.it.directives) g))) (DefinitionUses s s.directives)
+  abbrev OfDefinition : List ℕ → DirectiveDefinitionTree (Unit {0}) → SchemaFault → Type 0
+  OfDefinition n d g =
+      (((judged s).built_in (DirectiveDefinitionAt n) ≡ false) × By (DirectiveDefinitionAt n) location.DirectiveDefinition (applied_directives d.directives) g)
+      ⊎ AtSomeIndex d.arguments (λ i v. By (ArgumentAt (DirectiveDefinitionAt n) i) location.ArgumentDefinition (applied_directives v.it.directives) g)
+
+  -- a definition is marked by its place
+  same_mark : (n : List ℕ) (d : Placed Place (DirectiveDefinitionTree Place)) → under n s.directives ≡ Some d → ((judged s).built_in (DirectiveDefinitionAt n) ≡ false) ↔ (is_built_in d.place ≡ false)
+  same_mark n d there = (λ h. sym marked ∙ h, λ h. marked ∙ h)
+    where
+      marked : is_marked s (DirectiveDefinitionAt n) ≡ is_built_in d.place
+      marked = ap (λ o. is_built_in (or_nothing (option_map (λ (x : Placed Place (DirectiveDefinitionTree Place)). x.place) o))) there
+
+  told_definitions : T (λ g. Somewhere (judged s).directive (λ n d. OfDefinition n d g)) (DefinitionsUses s s.directives)
   told_definitions =
-      told_entries (IsToldAs s) plain_directive_definition s.directives distinct.directives (judged s).directive (directive_look s)
-      (λ n d g. AtSomeIndex d.arguments (λ i v. By (ArgumentAt (DirectiveDefinitionAt n) i) location.ArgumentDefinition (applied_directives v.it.directives) g)) (λ d f. ArgumentUses s d.it.arguments f)
-      (λ i e at there. told_arguments (DirectiveDefinitionAt e.0) e.1.it.arguments (ap (λ o. option_map_or (λ (x : Placed Place (DirectiveDefinitionTree Place)). x.it.arguments) o []) there))
+      told_entries (IsToldAs s) plain_directive_definition s.directives distinct.directives (judged s).directive (directive_look s) OfDefinition (λ d f. DefinitionUses s d f)
+      (λ i e at there.
+      moves_either (IsToldAs s)
+      (moves_where (IsToldAs s) (same_mark e.0 e.1 there)
+      (told_at (DirectiveDefinitionAt e.0) location.DirectiveDefinition e.1.it.directives _ (ap (λ o. option_map_or (λ (x : Placed Place (DirectiveDefinitionTree Place)). x.it.directives) o []) there) (bare_directives e.1.it.directives)))
+      (told_arguments (DirectiveDefinitionAt e.0) e.1.it.arguments (ap (λ o. option_map_or (λ (x : Placed Place (DirectiveDefinitionTree Place)). x.it.arguments) o []) there)))
 
   abbrev Broken : SchemaFault → Type 0
   Broken g = By SchemaAt location.Schema (judged s).definition.directives g
-      ⊎ (Somewhere (judged s).type_named (λ n l. OfType n l g) ⊎ Somewhere (judged s).directive (λ n d. AtSomeIndex d.arguments (λ i v. By (ArgumentAt (DirectiveDefinitionAt n) i) location.ArgumentDefinition (applied_directives v.it.directives) g)))
+      ⊎ (Somewhere (judged s).type_named (λ n l. OfType n l g) ⊎ Somewhere (judged s).directive (λ n d. OfDefinition n d g))
 
   told_schema : T Broken (SchemaUses s)
   told_schema =
@@ -202,17 +217,19 @@ module _ (s : SchemaTree Place) (distinct : AreAllDistinct s) where
   regrouped g (inr (inl (n, (l, (e, inr (inl (m, (x, (e', inl h))))))))) = inr (inr (inl (n, (l, (e, (m, (x, (e', h))))))))
   regrouped g (inr (inl (n, (l, (e, inr (inl (m, (x, (e', inr h))))))))) = inr (inr (inr (inl (inl (n, (l, (e, (m, (x, (e', h))))))))))
   regrouped g (inr (inl (n, (l, (e, inr (inr (inl h))))))) = inr (inr (inr (inr (inl (n, (l, (e, h)))))))
-  regrouped g (inr (inl (n, (l, (e, inr (inr (inr h))))))) = inr (inr (inr (inr (inr (n, (l, (e, h)))))))
-  regrouped g (inr (inr (n, (d, (e, h))))) = inr (inr (inr (inl (inr (n, (d, (e, h)))))))
+  regrouped g (inr (inl (n, (l, (e, inr (inr (inr h))))))) = inr (inr (inr (inr (inr (inl (n, (l, (e, h))))))))
+  regrouped g (inr (inr (n, (d, (e, inl own))))) = inr (inr (inr (inr (inr (inr (n, (d, (e, own))))))))
+  regrouped g (inr (inr (n, (d, (e, inr h))))) = inr (inr (inr (inl (inr (n, (d, (e, h)))))))
 
   grouped : (g : SchemaFault) → SchemaUsesBreak (judged s) g → Broken g
   grouped g (inl h) = inl h
   grouped g (inr (inl (n, (l, (e, own))))) = inr (inl (n, (l, (e, inl own))))
   grouped g (inr (inr (inl (n, (l, (e, (m, (x, (e', h))))))))) = inr (inl (n, (l, (e, inr (inl (m, (x, (e', inl h))))))))
   grouped g (inr (inr (inr (inl (inl (n, (l, (e, (m, (x, (e', h))))))))))) = inr (inl (n, (l, (e, inr (inl (m, (x, (e', inr h))))))))
-  grouped g (inr (inr (inr (inl (inr (n, (d, (e, h)))))))) = inr (inr (n, (d, (e, h))))
+  grouped g (inr (inr (inr (inl (inr (n, (d, (e, h)))))))) = inr (inr (n, (d, (e, inr h))))
   grouped g (inr (inr (inr (inr (inl (n, (l, (e, h)))))))) = inr (inl (n, (l, (e, inr (inr (inl h))))))
-  grouped g (inr (inr (inr (inr (inr (n, (l, (e, h)))))))) = inr (inl (n, (l, (e, inr (inr (inr h))))))
+  grouped g (inr (inr (inr (inr (inr (inl (n, (l, (e, h))))))))) = inr (inl (n, (l, (e, inr (inr (inr h))))))
+  grouped g (inr (inr (inr (inr (inr (inr (n, (d, (e, own))))))))) = inr (inr (n, (d, (e, inl own))))
 
   -- the faults of the places are what the rules on uses tell of the schema
   pub schema_uses_told : (f : PlacedFault) → SchemaUses s f ↔ Told s SchemaUsesBreak f

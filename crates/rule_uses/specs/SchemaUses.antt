@@ -1,6 +1,7 @@
 -- The rules on uses at each place of a schema, entry by entry, and what they tell of it.
 use Rattle.std.specs.Prelude.{◌≡◌, false, [], ◌⊎◌}
 use Rattle.graphql_names.specs.Placed.{Placed, Place}
+use Rattle.graphql_names.specs.Places.{is_built_in}
 use Rattle.tree_directives.specs.DirectiveTree.{Directives, InputValueTree, InputValues, DirectiveDefinitionTree}
 use Rattle.tree_directives.specs.declared.directive_location.DirectiveLocation.{DirectiveLocation}
 use Rattle.tree_directives.specs.declared.directive_location.DirectiveLocation.TheVariants as location
@@ -53,9 +54,17 @@ module _ (s : SchemaTree Place) where
   abbrev pub TypesUses : Entries (SchemaType Place) → PlacedFault → Type 0
   TypesUses es f = AtSomeIndex es (λ i e. TypeUses e.1 f)
 
-  abbrev pub DefinitionUses : Entries (Placed Place (DirectiveDefinitionTree Place)) → PlacedFault → Type 0
-  DefinitionUses es f = AtSomeIndex es (λ i e. ArgumentUses e.1.it.arguments f)
+  -- at the definition of a directive itself: a built-in one aside
+  abbrev pub OwnDefinitionUses : Placed Place (DirectiveDefinitionTree Place) → PlacedFault → Type 0
+  OwnDefinitionUses d f = (is_built_in d.place ≡ false) × UsesAt location.DirectiveDefinition d.it.directives f
+
+  -- at the definition and its arguments
+  abbrev pub DefinitionUses : Placed Place (DirectiveDefinitionTree Place) → PlacedFault → Type 0
+  DefinitionUses d f = OwnDefinitionUses d f ⊎ ArgumentUses d.it.arguments f
+
+  abbrev pub DefinitionsUses : Entries (Placed Place (DirectiveDefinitionTree Place)) → PlacedFault → Type 0
+  DefinitionsUses es f = AtSomeIndex es (λ i e. DefinitionUses e.1 f)
 
   -- at some place
   abbrev pub SchemaUses : PlacedFault → Type 0
-  SchemaUses f = UsesAt location.Schema (applied s s.definition.directives) f ⊎ (TypesUses s.types f ⊎ DefinitionUses s.directives f)
+  SchemaUses f = UsesAt location.Schema (applied s s.definition.directives) f ⊎ (TypesUses s.types f ⊎ DefinitionsUses s.directives f)

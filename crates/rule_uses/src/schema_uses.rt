@@ -16,7 +16,7 @@ ghost use Rattle.rule_values.specs.in_fault_data.Adds.{Adds};
 ghost use Rattle.rule_uses.specs.Trees.{directives_of};
 ghost use Rattle.rule_values.specs.in_rule_definitions.Told.{Told};
 ghost use Rattle.schema_types.specs.Distinct.{AreAllDistinct};
-ghost use Rattle.rule_uses.specs.SchemaUses.{UsesAt, ArgumentUses, FieldUses, FieldsUses, ValuesUses, InputsUses, OwnUses, PartsUses, TypesUses, DefinitionUses};
+ghost use Rattle.rule_uses.specs.SchemaUses.{UsesAt, ArgumentUses, FieldUses, FieldsUses, ValuesUses, InputsUses, OwnUses, PartsUses, TypesUses, OwnDefinitionUses, DefinitionsUses};
 
 use crate::directives::check_uses;
 use graphql_names::{Name, Node};
@@ -209,22 +209,43 @@ fn check_types(
     Ok(())
 }
 
-/// Adds the faults at the arguments of directives' definitions.
+/// Adds the faults at the definition of a directive itself. Those of the built-in directives are not judged.
+fn check_own_definition(
+    schema: &Schema,
+    definition: &Node<DirectiveDefinition>,
+    faults: &mut Vec<Fault>,
+) -> Result<(), AllocError>
+    ensures { OnOk result (Adds faults.old faults.new (OwnDefinitionUses (schema_tree schema.now) (node_tree directive_definition_tree definition.now))) }
+{
+    if definition.is_built_in() {
+        return Ok(());
+    }
+    check_at(
+        schema,
+        &definition.content().directives.0,
+        DirectiveLocation::DirectiveDefinition,
+        faults,
+    )
+}
+
+/// Adds the faults at directives' definitions and their arguments.
 fn check_definitions(
     schema: &Schema,
     definitions: &IndexMap<Name, Node<DirectiveDefinition>>,
     faults: &mut Vec<Fault>,
 ) -> Result<(), AllocError>
-    ensures { OnOk result (Adds faults.old faults.new (DefinitionUses (schema_tree schema.now) (entries_of name_text (node_tree directive_definition_tree) definitions.now))) }
+    ensures { OnOk result (Adds faults.old faults.new (DefinitionsUses (schema_tree schema.now) (entries_of name_text (node_tree directive_definition_tree) definitions.now))) }
 {
     for (_, definition) in definitions {
+        check_own_definition(schema, definition, faults)?;
         check_arguments(schema, &definition.content().arguments, faults)?;
     }
     Ok(())
 }
 
-/// Adds the faults of the directives that are used in the schema: at its definition, at types but built-in scalars, and at
-/// fields, arguments, values and input fields. In it no two things of one kind have one name, as in every map.
+/// Adds the faults of the directives that are used in the schema: at its definition, at types but built-in scalars, at
+/// fields, arguments, values and input fields, and at definitions of directives but built-in ones. In it no two things of
+/// one kind have one name, as in every map.
 pub fn check_schema_directives(schema: &Schema, faults: &mut Vec<Fault>) -> Result<(), AllocError>
     requires { AreAllDistinct (schema_tree schema.now) }
     ensures { OnOk result (Adds faults.old faults.new (Told (schema_tree schema.now) SchemaUsesBreak)) }

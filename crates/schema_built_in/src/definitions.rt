@@ -36,6 +36,7 @@ fn directive_with(
         description: None,
         name: Name::new_static_unchecked(name),
         arguments,
+        directives: DirectiveList(Vec::new(alloc)),
         repeatable: false,
         locations,
     };

@@ -1,7 +1,7 @@
 //! The table of what is built in, as data: the definitions that each schema has, in the order in which a schema has them.
 //!
-//! Past October 2021 are two locations of `@deprecated`, `includeDeprecated` on `args` and `inputFields`, and the last
-//! two fields of `__InputValue`.
+//! Past October 2021 are two locations of `@deprecated`, `includeDeprecated` on `args` and `inputFields`, the last two
+//! fields of `__InputValue`, and the last value of `__DirectiveLocation`.
 
 use tree_directives::DirectiveLocation;
 
@@ -186,6 +186,7 @@ const DIRECTIVE_LOCATION: &[&str] = &[
     "ENUM_VALUE",
     "INPUT_OBJECT",
     "INPUT_FIELD_DEFINITION",
+    "DIRECTIVE_DEFINITION",
 ];
 
 /// The meta-field `__typename: String!` (section 4.1).

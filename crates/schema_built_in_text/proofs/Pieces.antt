@@ -59,9 +59,9 @@ pub directive_are : AreBefore 53 directive_text
 unfolding piece_at ignored_at token_at run_len string_at quoted_len part_len
 directive_are behind = cut_are 53 (directive_text ++ behind)
 
-pub directive_location_are : AreBefore 46 directive_location_text
+pub directive_location_are : AreBefore 48 directive_location_text
 unfolding piece_at ignored_at token_at run_len string_at quoted_len part_len
-directive_location_are behind = cut_are 46 (directive_location_text ++ behind)
+directive_location_are behind = cut_are 48 (directive_location_text ++ behind)
 
 -- a part of the text, and the count of its pieces
 pub record Part : Type 0 where
@@ -95,7 +95,7 @@ parts =
     ∷ record { count = 41; text = input_value_text; are = input_value_are }
     ∷ record { count = 30; text = enum_value_text; are = enum_value_are }
     ∷ record { count = 53; text = directive_text; are = directive_are }
-    ∷ record { count = 46; text = directive_location_text; are = directive_location_are }
+    ∷ record { count = 48; text = directive_location_text; are = directive_location_are }
     ∷ []
 
 -- the pieces of all of it

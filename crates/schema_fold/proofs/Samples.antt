@@ -42,7 +42,7 @@ abbrev pub extend_object : List ℕ → List (List ℕ) → Directives Place →
 extend_object n interfaces directives fields = ExtendObject None (parts n interfaces directives fields)
 
 abbrev pub directive : List ℕ → List DirectiveLocation → DefinitionTree Place
-directive n locations = DirectiveDefinition None (record { description = None; name = word n; arguments = []; repeatable = false; locations = locations })
+directive n locations = DirectiveDefinition None (record { description = None; name = word n; arguments = []; directives = []; repeatable = false; locations = locations })
 
 abbrev pub scalar : List ℕ → DefinitionTree Place
 scalar n = ScalarType None None (record { name = word n; directives = [] })

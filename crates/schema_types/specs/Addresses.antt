@@ -105,6 +105,7 @@ module _ (s : SchemaTree Place) where
   -- the directives that are applied there
   abbrev pub directives_at : Address → Directives Place
   directives_at SchemaAt = applied s.definition.directives
+  directives_at (DirectiveDefinitionAt n) = option_map_or (λ d. d.it.directives) (directive_definition_at n) []
   directives_at (TypeAt n) = option_map_or (λ t. applied t.directives) (type_at n) []
   directives_at (FieldAt n m) = option_map_or (λ f. f.it.directives) (field_at n m) []
   directives_at (ValueAt n m) = option_map_or (λ v. v.it.directives) (value_at n m) []

@@ -1,5 +1,6 @@
 -- The definitions that each schema has (GraphQL, October 2021, sections 3.5, 3.13 and 4.2), in the order in which a schema has them.
--- Past October 2021 are two locations of `@deprecated`, `includeDeprecated` on `args` and `inputFields`, and the last two fields of `__InputValue`.
+-- Past October 2021 are two locations of `@deprecated`, `includeDeprecated` on `args` and `inputFields`, the last two fields of `__InputValue`,
+-- and the last value of `__DirectiveLocation`.
 use Rattle.std.specs.Prelude.{ℕ, false, List, [], ◌∷◌, ◌++◌, map, codes, Option, None, Some}
 use Rattle.std.specs.Option.{option_map}
 use Rattle.std.proofs.Common.{lit<}
@@ -63,7 +64,7 @@ value n = here (record { description = None; value = name n; directives = [] })
 -- ---- definitions
 
 abbrev pub directive : List ℕ → List (Placed Place (InputValueTree Place)) → List DirectiveLocation → DefinitionTree Place
-directive n arguments locations = DirectiveDefinition built_in (record { description = None; name = name n; arguments = arguments; repeatable = false; locations = locations })
+directive n arguments locations = DirectiveDefinition built_in (record { description = None; name = name n; arguments = arguments; directives = []; repeatable = false; locations = locations })
 
 abbrev pub scalar : List ℕ → DefinitionTree Place
 scalar n = ScalarType built_in None (record { name = name n; directives = [] })
@@ -163,7 +164,7 @@ directive_location_enum = enum (codes "__DirectiveLocation") (
     codes "QUERY" ∷ codes "MUTATION" ∷ codes "SUBSCRIPTION" ∷ codes "FIELD" ∷ codes "FRAGMENT_DEFINITION" ∷ codes "FRAGMENT_SPREAD"
     ∷ codes "INLINE_FRAGMENT" ∷ codes "VARIABLE_DEFINITION" ∷ codes "SCHEMA" ∷ codes "SCALAR" ∷ codes "OBJECT" ∷ codes "FIELD_DEFINITION"
     ∷ codes "ARGUMENT_DEFINITION" ∷ codes "INTERFACE" ∷ codes "UNION" ∷ codes "ENUM" ∷ codes "ENUM_VALUE" ∷ codes "INPUT_OBJECT"
-    ∷ codes "INPUT_FIELD_DEFINITION" ∷ [])
+    ∷ codes "INPUT_FIELD_DEFINITION" ∷ codes "DIRECTIVE_DEFINITION" ∷ [])
 
 abbrev pub introspection_types : List (DefinitionTree Place)
 introspection_types = schema_object ∷ type_object ∷ type_kind_enum ∷ field_object ∷ input_value_object ∷ enum_value_object ∷ directive_object ∷ directive_location_enum ∷ []

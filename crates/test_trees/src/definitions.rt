@@ -72,7 +72,6 @@ fn form_of(definition: &Definition) -> &'static str {
         (true, false, true) => "executable",
         (false, true, true) => "an extension",
         (false, false, true) => "a definition",
-        (false, false, false) => "a definition without directives",
         _ => "no form",
     }
 }
@@ -81,7 +80,6 @@ fn form_of(definition: &Definition) -> &'static str {
 fn form_by(number: usize) -> &'static str {
     match number {
         0 | 1 => "executable",
-        2 => "a definition without directives",
         4 | 11..=16 => "an extension",
         _ => "a definition",
     }

@@ -93,7 +93,7 @@ abbrev input_object : DefinitionTree U
 input_object = InputObjectType tt None (record { name = text (codes "I"); directives = d; fields = input (codes "a") (codes "Int") one d ∷ input (codes "b") (codes "Int") None [] ∷ [] })
 
 abbrev directive : DefinitionTree U
-directive = DirectiveDefinition tt (record { description = None; name = text (codes "d"); arguments = input (codes "x") (codes "Int") None [] ∷ []; repeatable = true; locations = at.Field ∷ at.Query ∷ [] })
+directive = DirectiveDefinition tt (record { description = None; name = text (codes "d"); arguments = input (codes "x") (codes "Int") None [] ∷ []; directives = d; repeatable = true; locations = at.Field ∷ at.Query ∷ [] })
 
 long_query_under_two : under (codes "  ") long_query ≡ codes "query Q($v: [Int!]! = [1, 2] @d, $w: I) @d {\n  a: f(x: {k: $v, l: \"s\"}) @d {\n    b\n  }\n  ...F @d\n  ... on T @d {\n    c\n  }\n}\n"
 unfolding joined
@@ -227,14 +227,14 @@ input_object_under_tab : under (codes "\t") input_object ≡ codes "input I @d {
 unfolding joined
 input_object_under_tab = refl
 
-directive_under_two : under (codes "  ") directive ≡ codes "directive @d(x: Int) repeatable on FIELD | QUERY\n"
+directive_under_two : under (codes "  ") directive ≡ codes "directive @d(x: Int) @d repeatable on FIELD | QUERY\n"
 unfolding joined
 directive_under_two = refl
 
-directive_under_four : under (codes "    ") directive ≡ codes "directive @d(x: Int) repeatable on FIELD | QUERY\n"
+directive_under_four : under (codes "    ") directive ≡ codes "directive @d(x: Int) @d repeatable on FIELD | QUERY\n"
 unfolding joined
 directive_under_four = refl
 
-directive_under_tab : under (codes "\t") directive ≡ codes "directive @d(x: Int) repeatable on FIELD | QUERY\n"
+directive_under_tab : under (codes "\t") directive ≡ codes "directive @d(x: Int) @d repeatable on FIELD | QUERY\n"
 unfolding joined
 directive_under_tab = refl

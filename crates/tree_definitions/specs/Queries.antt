@@ -69,11 +69,11 @@ module _ {P : Type 0} where
   definition_name (ExtendEnum p t) = Some t.name
   definition_name (ExtendInputObject p t) = Some t.name
 
-  -- the directives that are applied to a definition: to all kinds but a directive's definition they can be
+  -- the directives that are applied to a definition
   abbrev pub definition_directives : DefinitionTree P → Option (Directives P)
   definition_directives (Operation p o) = Some o.directives
   definition_directives (Fragment p f) = Some f.directives
-  definition_directives (DirectiveDefinition p d) = None
+  definition_directives (DirectiveDefinition p d) = Some d.directives
   definition_directives (Schema p d s) = Some s.directives
   definition_directives (ScalarType p d t) = Some t.directives
   definition_directives (ObjectType p d t) = Some t.directives

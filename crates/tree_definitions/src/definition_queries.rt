@@ -87,14 +87,14 @@ impl Definition {
         }
     }
 
-    /// The directives that are applied to it. `None` for the definition of a directive.
+    /// The directives that are applied to it: of each kind of definition, so this is always `Some`.
     pub fn directives(&self) -> Option<&DirectiveList>
         ensures { option_map (λ ds. directives_tree ds.now) result ≡ definition_directives (definition_tree self.now) }
     {
         match self {
             Definition::OperationDefinition(node) => Some(&node.content().directives),
             Definition::FragmentDefinition(node) => Some(&node.content().directives),
-            Definition::DirectiveDefinition(_) => None,
+            Definition::DirectiveDefinition(node) => Some(&node.content().directives),
             Definition::SchemaDefinition(node) => Some(&node.content().directives),
             Definition::ScalarTypeDefinition(node) => Some(&node.content().directives),
             Definition::ObjectTypeDefinition(node) => Some(&node.content().directives),

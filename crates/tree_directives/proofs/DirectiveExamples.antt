@@ -5,7 +5,7 @@ use Rattle.tree_printing.specs.LineLayout.{Prefix}
 use Rattle.graphql_names.specs.Placed.{Placed, Text}
 use Rattle.tree_literals.specs.TypeTree.{NamedTree}
 use Rattle.tree_literals.specs.ValueTree.{IntTree}
-use Rattle.tree_directives.specs.DirectiveTree.{DirectiveTree, InputValueTree, DirectiveDefinitionTree}
+use Rattle.tree_directives.specs.DirectiveTree.{Directives, InputValueTree, DirectiveDefinitionTree}
 use Rattle.tree_directives.specs.DirectiveLayout.{directive_list_text}
 use Rattle.tree_directives.specs.InputLayout.{directive_definition_text}
 use Rattle.tree_directives.specs.declared.directive_location.DirectiveLocation.TheVariants as location
@@ -22,7 +22,11 @@ node a = record { it = a; place = tt }
 abbrev two : Prefix
 two = Some (codes "  ")
 
-directives_alone : directive_list_text (node (record { name = text (codes "a"); arguments = [] }) ∷ node (record { name = text (codes "b"); arguments = node (record { name = text (codes "x"); value = node (IntTree (codes "1")) }) ∷ [] }) ∷ []) ≡ codes "@a @b(x: 1)"
+-- @a @b(x: 1)
+abbrev applied : Directives U
+applied = node (record { name = text (codes "a"); arguments = [] }) ∷ node (record { name = text (codes "b"); arguments = node (record { name = text (codes "x"); value = node (IntTree (codes "1")) }) ∷ [] }) ∷ []
+
+directives_alone : directive_list_text applied ≡ codes "@a @b(x: 1)"
 unfolding joined
 directives_alone = refl
 
@@ -31,11 +35,16 @@ abbrev input : Option (Text U) → List ℕ → Placed U (InputValueTree U)
 input description name = node (record { description = description; name = text name; ty = node (NamedTree (text (codes "I"))); default_value = None; directives = [] })
 
 abbrev directive_definition : List (Placed U (InputValueTree U)) → DirectiveDefinitionTree U
-directive_definition inputs = record { description = None; name = text (codes "d"); arguments = inputs; repeatable = false; locations = location.Field ∷ [] }
+directive_definition inputs = record { description = None; name = text (codes "d"); arguments = inputs; directives = []; repeatable = false; locations = location.Field ∷ [] }
 
 definition_in_line : directive_definition_text None (record (directive_definition (input None (codes "x") ∷ [])) { repeatable = true; locations = location.Field ∷ location.Query ∷ [] }) 0 ≡ codes "directive @d(x: I) repeatable on FIELD | QUERY"
 unfolding joined
 definition_in_line = refl
+
+-- directives stand behind the arguments, each after a space
+directed_in_line : directive_definition_text None (record (directive_definition (input None (codes "x") ∷ [])) { directives = applied; repeatable = true }) 0 ≡ codes "directive @d(x: I) @a @b(x: 1) repeatable on FIELD"
+unfolding joined
+directed_in_line = refl
 
 undescribed_on_lines : directive_definition_text two (directive_definition (input None (codes "x") ∷ input None (codes "y") ∷ [])) 0 ≡ codes "directive @d(x: I, y: I) on FIELD"
 unfolding joined

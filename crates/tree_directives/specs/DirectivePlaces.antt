@@ -1,4 +1,4 @@
--- Places of directives, in words (GraphQL, October 2021, section 3.13).
+-- Places of directives, in words (GraphQL, October 2021, section 3.13; DIRECTIVE_DEFINITION goes past it).
 use Rattle.std.specs.Prelude.{ℕ, List, codes}
 use Rattle.tree_directives.specs.declared.directive_location.DirectiveLocation.{DirectiveLocation}
 use Rattle.tree_directives.specs.declared.directive_location.DirectiveLocation.TheVariants as location
@@ -24,3 +24,4 @@ location_keyword location.Enum = codes "ENUM"
 location_keyword location.EnumValue = codes "ENUM_VALUE"
 location_keyword location.InputObject = codes "INPUT_OBJECT"
 location_keyword location.InputFieldDefinition = codes "INPUT_FIELD_DEFINITION"
+location_keyword location.DirectiveDefinition = codes "DIRECTIVE_DEFINITION"

@@ -39,11 +39,12 @@ pub record InputValueTree (P : Type 0) : Type 0 where
 abbrev pub InputValues : Type 0 → Type 0
 InputValues P = List (Placed P (InputValueTree P))
 
--- directive @name(arguments) repeatable on locations
+-- directive @name(arguments) @directives repeatable on locations (its own directives go past October 2021)
 pub record DirectiveDefinitionTree (P : Type 0) : Type 0 where
   pub description : Option (Text P)
   pub name : Text P
   pub arguments : InputValues P
+  pub directives : Directives P
   pub repeatable : Bool
   pub locations : List DirectiveLocation
 
@@ -74,6 +75,7 @@ directive_definition_tree d = record {
   description = option_map text_tree d.description;
   name = name_tree d.name;
   arguments = map (node_tree input_value_tree) d.arguments.items;
+  directives = directives_tree d.directives;
   repeatable = d.repeatable;
   locations = d.locations.items;
 }
@@ -105,6 +107,7 @@ module _ {P : Type 0} where
     description = option_map unplaced_text d.description;
     name = unplaced_text d.name;
     arguments = map (unplaced_node unplaced_input_value) d.arguments;
+    directives = unplaced_directives d.directives;
     repeatable = d.repeatable;
     locations = d.locations;
   }

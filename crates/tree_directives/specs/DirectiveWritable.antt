@@ -32,6 +32,6 @@ input_value_writable v = default_writable v.default_value && directives_writable
 abbrev pub input_values_writable : {P : Type 0} → InputValues P → Bool
 input_values_writable vs = list_all (λ v. input_value_writable v.it) vs
 
--- a directive definition has a location
+-- a directive definition has a location, and no variable stands in its own directives
 abbrev pub directive_definition_writable : {P : Type 0} → DirectiveDefinitionTree P → Bool
-directive_definition_writable d = input_values_writable d.arguments && not (is_none_of d.locations)
+directive_definition_writable d = input_values_writable d.arguments && (directives_writable true d.directives && not (is_none_of d.locations))

@@ -50,10 +50,10 @@ abbrev pub locations_text : List DirectiveLocation → List ℕ
 locations_text [] = joined []
 locations_text (l ∷ ls) = joined (codes " on " ∷ location_keyword l ∷ further_text (codes " | ") (map location_keyword ls) ∷ [])
 
--- directive @name(arguments) repeatable on locations
+-- directive @name(arguments) @directives repeatable on locations
 abbrev pub undescribed_directive_text : {P : Type 0} → Prefix → DirectiveDefinitionTree P → Leveled
 undescribed_directive_text prefix d level =
-    joined (codes "directive @" ∷ d.name.it ∷ argument_definitions_text prefix d.arguments level ∷ repeatable_text d.repeatable ∷ locations_text d.locations ∷ [])
+    joined (codes "directive @" ∷ d.name.it ∷ argument_definitions_text prefix d.arguments level ∷ directives_text d.directives ∷ repeatable_text d.repeatable ∷ locations_text d.locations ∷ [])
 
 -- the same behind its description
 abbrev pub directive_definition_text : {P : Type 0} → Prefix → DirectiveDefinitionTree P → Leveled

@@ -9,7 +9,7 @@ ghost use Rattle.tree_directives.specs.DirectiveQueries.{input_value_has_name, g
 use crate::argument_error::ArgumentByNameError;
 use crate::directive_location::DirectiveLocation;
 use crate::input_value::InputValueDefinition;
-use graphql_names::{Name, Node, NodeStr, copies_of_four};
+use graphql_names::{Name, Node, NodeStr, copies_of_five};
 use std::alloc::{AllocError, Global};
 use tree_literals::Value;
 
@@ -52,12 +52,13 @@ impl Drop for DirectiveList {
     }
 }
 
-/// `directive @name(arguments) repeatable on locations` (section 3.13).
+/// `directive @name(arguments) @directives repeatable on locations` (section 3.13; its own directives go past October 2021).
 #[derive(PartialEq, Eq, Hash)]
 pub struct DirectiveDefinition {
     pub description: Option<NodeStr>,
     pub name: Name,
     pub arguments: Vec<Node<InputValueDefinition>>,
+    pub directives: DirectiveList,
     pub repeatable: bool,
     pub locations: Vec<DirectiveLocation>,
 }
@@ -68,6 +69,7 @@ impl Drop for DirectiveDefinition {
             description: _,
             name: _,
             arguments: _,
+            directives: _,
             repeatable: _,
             locations: _,
         } = self;
@@ -168,16 +170,18 @@ impl Clone for DirectiveDefinition {
     ghost is_clone = { λ d copy. directive_definition_tree copy ≡ directive_definition_tree d };
 
     fn clone(&self) -> Result<DirectiveDefinition, AllocError> {
-        let (description, name, arguments, locations) = copies_of_four(
+        let (description, name, arguments, directives, locations) = copies_of_five(
             &self.description,
             &self.name,
             &self.arguments,
+            &self.directives,
             &self.locations,
         )?;
         Ok(DirectiveDefinition {
             description,
             name,
             arguments,
+            directives,
             repeatable: self.repeatable,
             locations,
         })

@@ -4,7 +4,7 @@ ghost use Rattle.tree_directives.specs.DirectivePlaces.{location_keyword};
 
 use std::fmt;
 
-/// A place where a directive may stand (section 3.13).
+/// A place where a directive may stand (section 3.13; `DirectiveDefinition` goes past October 2021).
 #[derive(Clone, Copy, PartialEq, Eq, Hash, Debug)]
 pub enum DirectiveLocation {
     Query,
@@ -26,6 +26,7 @@ pub enum DirectiveLocation {
     EnumValue,
     InputObject,
     InputFieldDefinition,
+    DirectiveDefinition,
 }
 
 impl DirectiveLocation {
@@ -53,6 +54,7 @@ impl DirectiveLocation {
             DirectiveLocation::EnumValue => "ENUM_VALUE",
             DirectiveLocation::InputObject => "INPUT_OBJECT",
             DirectiveLocation::InputFieldDefinition => "INPUT_FIELD_DEFINITION",
+            DirectiveLocation::DirectiveDefinition => "DIRECTIVE_DEFINITION",
         }
     }
 }

@@ -204,6 +204,7 @@ fn put_undescribed_directive<S: Sink>(
     sink.put("directive @");
     sink.put(definition.name.as_str());
     put_argument_definitions(sink, prefix, level, &definition.arguments);
+    put_directives(sink, &definition.directives);
     put_repeatable(sink, definition.repeatable);
     put_locations(sink, &definition.locations);
 }

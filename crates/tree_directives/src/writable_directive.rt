@@ -94,6 +94,8 @@ impl DirectiveDefinition {
     pub fn is_writable(&self) -> bool
         ensures { result ≡ directive_definition_writable (directive_definition_tree self.now) }
     {
-        input_values_are_writable(&self.arguments) && !self.locations.is_empty()
+        input_values_are_writable(&self.arguments)
+            && directives_are_writable(true, &self.directives)
+            && !self.locations.is_empty()
     }
 }

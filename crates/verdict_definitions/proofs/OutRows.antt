@@ -43,7 +43,7 @@ abbrev extend_object : List ℕ → List (Placed Place (FieldDefinitionTree Plac
 extend_object name fields = ExtendObject here (fields_of name [] [] fields)
 
 abbrev directive : List ℕ → List (Placed Place (InputValueTree Place)) → List DirectiveLocation → DefinitionTree Place
-directive name arguments locations = DirectiveDefinition here (record { description = None; name = word name; arguments = arguments; repeatable = false; locations = locations })
+directive name arguments locations = DirectiveDefinition here (record { description = None; name = word name; arguments = arguments; directives = []; repeatable = false; locations = locations })
 
 abbrev query_of : List (Placed Place (FieldDefinitionTree Place)) → DefinitionTree Place
 query_of fields = object (codes "Query") fields

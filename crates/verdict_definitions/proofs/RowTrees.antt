@@ -43,7 +43,7 @@ use_of name begin end = node (record { name = named name (place_in 1 (begin + 1)
 
 -- directive @name on locations
 abbrev pub directive : Place → Text Place → List DirectiveLocation → DefinitionTree Place
-directive place name locations = DirectiveDefinition place (record { description = None; name = name; arguments = []; repeatable = false; locations = locations })
+directive place name locations = DirectiveDefinition place (record { description = None; name = name; arguments = []; directives = []; repeatable = false; locations = locations })
 
 -- a field alone, in the document
 abbrev pub field : List ℕ → ℕ → ℕ → SelectionTrees Place → SelectionTrees Place

@@ -232,10 +232,14 @@ type_refers n by to (t, (there, inr (inr p))) = no_input_field schema no_input_o
 
 directive_refers : (n : List ℕ) (by : By) (to : Thing) → ((m : List ℕ) → to ≡ AType m → ⊥) → Refers found (ADirective n) by to → ⊥
 unfolding built_in_definitions place_in
-directive_refers n by to none p = no_definition schema (λ m d. list_all (λ v. is_empty v.it.directives) d.arguments) refl (λ m d. AtSomeIndex d.arguments (λ i v. RefersByInput found (ArgumentAt (DirectiveDefinitionAt m) i) v.it by to)) (n, p)
-    (λ m d h q. elim q.1.1.1 [
-      | inl used ↦ no_bare q.1.0.it.directives (at_all (λ v. is_empty v.it.directives) d.arguments h q.0 q.1.0 q.1.1.0) used
-      | inr typed ↦ none (named_in q.1.0.it.ty.it) typed.1.0
+directive_refers n by to none p = no_definition schema (λ m d. is_empty d.directives && list_all (λ v. is_empty v.it.directives) d.arguments) refl
+    (λ m d. AtSomeIndex d.arguments (λ i v. RefersByInput found (ArgumentAt (DirectiveDefinitionAt m) i) v.it by to) ⊎ RefersByUse found (DirectiveDefinitionAt m) (applied_directives d.directives) by to) (n, p)
+    (λ m d h q. elim q [
+      | inl a ↦ elim a.1.1.1 [
+        | inl used ↦ no_bare a.1.0.it.directives (at_all (λ v. is_empty v.it.directives) d.arguments (second_so (is_empty d.directives) _ h) a.0 a.1.0 a.1.1.0) used
+        | inr typed ↦ none (named_in a.1.0.it.ty.it) typed.1.0
+      ]
+      | inr own ↦ no_bare d.directives (first_so (is_empty d.directives) _ h) own
     ])
 
 no_cycle : (fault : SchemaFault) → CyclesBreak found fault → ⊥
@@ -251,7 +255,8 @@ no_uses fault (inr (inr (inl p))) = no_field schema (λ n m f. is_empty (applied
 no_uses fault (inr (inr (inr (inl p)))) = no_argument schema (λ v. is_empty (applied_directives v.directives)) refl refl (λ at v. UsesBreak At found [] location.ArgumentDefinition (spotted_directives at (applied_directives v.directives)) fault) p
     (λ at v h q. no_use schema fault at location.ArgumentDefinition (applied_directives v.directives) h q)
 no_uses fault (inr (inr (inr (inr (inl p))))) = no_value schema (λ n m v. is_empty (applied_directives v.directives)) refl _ p (λ n m v h q. no_use schema fault (ValueAt n m) location.EnumValue (applied_directives v.directives) h q)
-no_uses fault (inr (inr (inr (inr (inr p))))) = no_input_field schema no_input_objects _ p
+no_uses fault (inr (inr (inr (inr (inr (inl p)))))) = no_input_field schema no_input_objects _ p
+no_uses fault (inr (inr (inr (inr (inr (inr p)))))) = no_definition schema (λ n d. is_empty (applied_directives d.directives)) refl _ p (λ n d h q. no_use schema fault (DirectiveDefinitionAt n) location.DirectiveDefinition (applied_directives d.directives) h q.1)
 
 -- ---- every rule holds
 

@@ -152,4 +152,4 @@ module _ {P : Type 0} (string : Token → List ℕ) (at other : ℕ → ℕ → 
   unfolding g.directive_definition
   directive_alike n =
       made directive_definition_of (seq (skipped is_directive) (seq (skipped is_at) (seq (name_alike string at other) (seq (maybe_or [] (arguments_alike n))
-      (seq (fixed (optional (mark is_repeatable)) (λ x. x)) (seq (skipped is_on) (fixed g.directive_locations (λ x. x)))))))) directive_definition_of (λ x. refl)
+      (seq (maybe_or [] (directives_alike string at other constant n)) (seq (fixed (optional (mark is_repeatable)) (λ x. x)) (seq (skipped is_on) (fixed g.directive_locations (λ x. x))))))))) directive_definition_of (λ x. refl)

@@ -87,7 +87,7 @@ definition_elsewhere (tree.Operation p o) h = other_elsewhere (tree.Operation p 
 definition_elsewhere (tree.Fragment p f) h = other_elsewhere (tree.Fragment p f) refl refl refl
 definition_elsewhere (tree.DirectiveDefinition p x) h =
     let own = and_parts (is_own p) (all_in_directive_definition is_own x) h in
-    directive_elsewhere (tree.DirectiveDefinition p x) _ refl refl refl (is_elsewhere p own.0) (elsewhere (all_in_input_value is_own) x.arguments (and_parts _ (all_in_input_values is_own x.arguments) own.1).1)
+    directive_elsewhere (tree.DirectiveDefinition p x) _ refl refl refl (is_elsewhere p own.0) (elsewhere (all_in_input_value is_own) x.arguments (and_parts (all_in_input_values is_own x.arguments) (all_in_directives is_own x.directives) (and_parts _ (all_in_input_values is_own x.arguments && all_in_directives is_own x.directives) own.1).1).0)
 definition_elsewhere (tree.Schema p d s) h = other_elsewhere (tree.Schema p d s) refl refl refl
 definition_elsewhere (tree.ScalarType p d t) h = type_elsewhere (tree.ScalarType p d t) _ refl refl refl (is_elsewhere p (first_of (is_own p) _ _ h)) (record { fields = tt; values = tt; inputs = tt })
 definition_elsewhere (tree.ObjectType p d t) h = type_elsewhere (tree.ObjectType p d t) _ refl refl refl (is_elsewhere p (first_of (is_own p) _ _ h))

@@ -152,13 +152,15 @@ module _ {P : Type 0} (m : Meaning P) where
   unfolding g.directive_definition
   directive_definition_makes n =
       mapped directive_definition_of
-      (seq (mark is_directive) (seq (mark is_at) (seq (name_makes m) (seq (or_none (λ xs. input_values_well_formed xs) refl (arguments_definition_makes n)) (seq (maybe_any (mark is_repeatable)) (seq (mark is_on) directive_locations_makes))))))
-      (λ x h. last (named m x.1.1.0) (input_values_well_formed (unwrap_or x.1.1.1.0 [])) h)
+      (seq (mark is_directive) (seq (mark is_at) (seq (name_makes m) (seq (or_none (λ xs. input_values_well_formed xs) refl (arguments_definition_makes n)) (seq (maybe_directives m constant n)
+      (seq (maybe_any (mark is_repeatable)) (seq (mark is_on) directive_locations_makes)))))))
+      (λ x h. last (named m x.1.1.0) (input_values_well_formed (unwrap_or x.1.1.1.0 [])) (directives_well_formed (unwrap_or x.1.1.1.1.0 [])) h)
     where
-      last : (a b : Bool) → (a && (b && true)) ≡ true → (a && b) ≡ true
-      last a b h =
-          let first = and_parts a (b && true) h in
-          and_from a b first.0 (and_parts b true first.1).0
+      last : (a b c : Bool) → (a && (b && (c && true))) ≡ true → (a && (b && c)) ≡ true
+      last a b c h =
+          let first = and_parts a (b && (c && true)) h in
+          let second = and_parts b (c && true) first.1 in
+          and_from a (b && c) first.0 (and_from b c second.0 (and_parts c true second.1).0)
 
   pub schema_extension_makes : (n : ℕ) → Makes (g.schema_extension m n) (λ x. schema_well_formed x)
   unfolding g.schema_extension

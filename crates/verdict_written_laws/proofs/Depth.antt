@@ -25,7 +25,7 @@ use Rattle.verdict_written_laws.specs.Whole.{Extension, classes, extension_at, e
 use Rattle.verdict_written_laws.specs.WholeSchema.{whole_parts, SchemaExtension, schema_classes, schema_extensions_in, whole_schema_extension, left_out}
 use Rattle.verdict_written_laws.specs.Table.{IsTable, AreOwn}
 use Rattle.verdict_written_laws.specs.Twice.{WrittenOf}
-use Rattle.read_depth_laws.specs.TreeDepth.{deepest, bracketed, input_values_depth, directives_depth, schema_depth, definition_depth, document_depth}
+use Rattle.read_depth_laws.specs.TreeDepth.{deepest, bracketed, directives_depth, directive_definition_depth, schema_depth, definition_depth, document_depth}
 use Rattle.verdict_written_laws.proofs.Order.{Each, Each-append, Each-arranged}
 use Rattle.verdict_written_laws.proofs.Accepted.{types_whole}
 use Rattle.verdict_written_laws.proofs.Again.{kinds_same}
@@ -124,7 +124,7 @@ module _ (bound : ℕ) where
   -- ---- directives
 
   abbrev DirectiveFits : Directive → Type 0
-  DirectiveFits d = input_values_depth d.it.arguments ≤ bound
+  DirectiveFits d = directive_definition_depth d.it ≤ bound
 
   directives_fit : (ds : Definitions) → Each Fits ds → Each DirectiveFits (directives_in ds)
   directives_fit [] h = tt

@@ -6,5 +6,5 @@ use Rattle.tree_directives.proofs.directive.DirectiveDefinitionClone.clone.Goals
 pub returns : goal.returns
 returns c =
     let arguments = nodes-copies input_value_tree _ _ c.in_ok-description.ensures.2.0 in
-    let locations = equal-copies _ _ c.in_ok-description.ensures.3.0 in
+    let locations = equal-copies _ _ c.in_ok-description.ensures.4.0 in
     search (rules, arguments, locations)
