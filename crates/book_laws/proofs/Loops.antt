@@ -51,13 +51,15 @@ module _ (s : Judged) where
   by_input_back at v to (inr r) = (None, inr (refl, r))
 
   pub reference_step : (x : Thing) (by : _) (y : Thing) → Refers s x by y → References s x y
-  reference_step (ADirective n) by y (d, (e, (i, (v, (a, r))))) = (d, (e, (i, (v, (a, by_input_step _ v.it by y r)))))
+  reference_step (ADirective n) by y (d, (e, inl (i, (v, (a, r))))) = (d, (e, inl (i, (v, (a, by_input_step _ v.it by y r)))))
+  reference_step (ADirective n) by y (d, (e, inr u)) = (d, (e, inr (use_step _ (applied_directives d.directives) by y u)))
   reference_step (AType n) by y (t, (e, inl u)) = (t, (e, inl (use_step _ t.directives by y u)))
   reference_step (AType n) by y (t, (e, inr (inl (m, (v, (a, u)))))) = (t, (e, inr (inl (m, (v, (a, use_step _ (applied_directives v.directives) by y u))))))
   reference_step (AType n) by y (t, (e, inr (inr (m, (v, (a, r)))))) = (t, (e, inr (inr (m, (v, (a, by_input_step _ v by y r))))))
 
   pub reference_back : (x y : Thing) → References s x y → (by : _) × Refers s x by y
-  reference_back (ADirective n) y (d, (e, (i, (v, (a, r))))) = let b = by_input_back _ v.it y r in (b.0, (d, (e, (i, (v, (a, b.1))))))
+  reference_back (ADirective n) y (d, (e, inl (i, (v, (a, r))))) = let b = by_input_back _ v.it y r in (b.0, (d, (e, inl (i, (v, (a, b.1))))))
+  reference_back (ADirective n) y (d, (e, inr u)) = let b = use_back _ (applied_directives d.directives) y u in (b.0, (d, (e, inr b.1)))
   reference_back (AType n) y (t, (e, inl u)) = let b = use_back _ t.directives y u in (b.0, (t, (e, inl b.1)))
   reference_back (AType n) y (t, (e, inr (inl (m, (v, (a, u)))))) = let b = use_back _ (applied_directives v.directives) y u in (b.0, (t, (e, inr (inl (m, (v, (a, b.1)))))))
   reference_back (AType n) y (t, (e, inr (inr (m, (v, (a, r)))))) = let b = by_input_back _ v y r in (b.0, (t, (e, inr (inr (m, (v, (a, b.1)))))))

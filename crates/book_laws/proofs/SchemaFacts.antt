@@ -167,7 +167,9 @@ module _ (s : Judged) where
     uses fault (inr (inr (inr (inl (inr (n, (d, (e, (i, (v, (c, b))))))))))) =
         applied_quiet s location.ArgumentDefinition (applied_directives v.it.directives) (ArgumentAt (DirectiveDefinitionAt n) i) ((h.directives n d e).arguments.each i v c).directives fault b
     uses fault (inr (inr (inr (inr (inl (n, (t, (e, (m, (v, (a, b))))))))))) = applied_quiet s location.EnumValue (applied_directives v.directives) (ValueAt n m) ((h.types n t e).values m v a).directives fault b
-    uses fault (inr (inr (inr (inr (inr (n, (t, (e, (m, (v, (a, b))))))))))) = applied_quiet s location.InputFieldDefinition (applied_directives v.directives) (InputAt n m) ((h.types n t e).inputs m v a).directives fault b
+    uses fault (inr (inr (inr (inr (inr (inl (n, (t, (e, (m, (v, (a, b)))))))))))) = applied_quiet s location.InputFieldDefinition (applied_directives v.directives) (InputAt n m) ((h.types n t e).inputs m v a).directives fault b
+    uses fault (inr (inr (inr (inr (inr (inr (n, (d, (e, (outside, b)))))))))) =
+        applied_quiet s location.DirectiveDefinition (applied_directives d.directives) (DirectiveDefinitionAt n) ((h.directives n d e).directives outside) fault b
 
     pub valid_quiet : SchemaRules s
     valid_quiet fault (inl b) = references fault b
@@ -324,7 +326,7 @@ module _ (s : Judged) where
           input_type = of_kind is_input_kind (named_in v.ty.it)
               (λ none out. input_known _ (inr (n, (t, (e, (m, (v, (a, (none, (out, refl))))))))))
               (λ u is out. input_fits _ (inr (n, (t, (e, (m, (v, (a, (u, (is, (out, refl)))))))))));
-          directives = quiet_applied s location.InputFieldDefinition (applied_directives v.directives) (InputAt n m) (λ fault b. used_well fault (inr (inr (inr (inr (inr (n, (t, (e, (m, (v, (a, b))))))))))));
+          directives = quiet_applied s location.InputFieldDefinition (applied_directives v.directives) (InputAt n m) (λ fault b. used_well fault (inr (inr (inr (inr (inr (inl (n, (t, (e, (m, (v, (a, b)))))))))))));
         };
         acyclic = λ c. let l = leads_back (RefersToInput s) (Requires s) (input_back s) n n c in no_cycle _ (inl (n, (l.0, (l.1.0, (l.1.1, refl)))));
         directives = λ out. quiet_applied s (type_location t.kind) t.directives (TypeAt n) (λ fault b. used_well fault (inr (inl (n, (t, (e, (out, b)))))));
@@ -343,6 +345,8 @@ module _ (s : Judged) where
         allowed = name_allowed (DirectiveDefinitionAt n) n (λ outside r. reserved _ (inr (inl (n, (d, (e, (outside, (r, refl))))))));
         arguments = directive_arguments n d e;
         acyclic = λ c. let l = leads_back (Refers s) (References s) (reference_back s) (ADirective n) (ADirective n) c in no_cycle _ (inr (n, (l.0, (l.1.0, (l.1.1, refl)))));
+        directives = λ outside. quiet_applied s location.DirectiveDefinition (applied_directives d.directives) (DirectiveDefinitionAt n)
+            (λ fault b. used_well fault (inr (inr (inr (inr (inr (inr (n, (d, (e, (outside, b)))))))))));
       };
     }
 

@@ -1,6 +1,6 @@
 -- A valid schema: every rule of section 3 holds of what its definitions fold to, as the specification states them, and nothing is
 -- said of faults and places. Folding (names that differ, extensions of what is there) comes before it.
-use Rattle.std.specs.Prelude.{◌≡◌, ℕ, List, Some, ◌⊎◌}
+use Rattle.std.specs.Prelude.{◌≡◌, ℕ, false, List, Some, ◌⊎◌}
 use Rattle.tree_directives.specs.DirectiveTree.{DirectiveTree, InputValueTree, DirectiveDefinitionTree}
 use Rattle.tree_directives.specs.declared.operation_type.OperationType.{OperationType}
 use Rattle.tree_directives.specs.declared.directive_location.DirectiveLocation.TheVariants as location
@@ -39,7 +39,7 @@ module _ (s : Judged) where
   UsesByInput v to = Uses (applied_directives v.directives) to ⊎ ((to ≡ AType (named_in v.ty.it)) × IsThere (s.type_named (named_in v.ty.it)))
 
   abbrev pub References : Thing → Thing → Type 0
-  References (ADirective n) to = Present (s.directive n) (λ d. AtSomeIndex d.arguments (λ i v. UsesByInput v.it to))
+  References (ADirective n) to = Present (s.directive n) (λ d. AtSomeIndex d.arguments (λ i v. UsesByInput v.it to) ⊎ Uses (applied_directives d.directives) to)
   References (AType n) to = Present (s.type_named n) (λ t.
       Uses t.directives to ⊎ (Somewhere t.value (λ m v. Uses (applied_directives v.directives) to) ⊎ Somewhere t.input (λ m v. UsesByInput v to)))
 
@@ -50,6 +50,8 @@ pub record IsValidDirectiveDefinition (s : Judged) (n : List ℕ) (d : Directive
   -- "must not contain the use of a directive which references itself directly", nor "indirectly by referencing a Type or Directive
   -- which transitively includes a reference to this directive"
   pub acyclic : Never (Closed (References s (ADirective n)) (References s) (ADirective n))
+  -- 5.7 Directives. Laxer than the text: October 2021 has no directives on a directive's definition
+  pub directives : s.built_in (DirectiveDefinitionAt n) ≡ false → AreApplied s location.DirectiveDefinition (applied_directives d.directives)
 
 pub record IsValidSchema (s : Judged) : Type 0 where
   pub roots : AreRootsValid s
