@@ -1,10 +1,12 @@
 //! Laws of the book, each the contract of a function that does nothing.
 
-ghost use Rattle.book_laws.specs.Laws.{RulesHoldByTheBook, SchemaRulesHoldByTheBook, TypedByTheBook, SetsTypedByTheBook, FoldedByTheBook, AcceptedByTheBook};
+ghost use Rattle.book_laws.specs.Laws.{RulesHoldByTheBook, SchemaRulesHoldByTheBook, TypedByTheBook, SetsTypedByTheBook, FoldedByTheBook, SchemasAcceptedByTheBook, DocumentsAcceptedByTheBook, AcceptedByTheBook};
 
-/// Texts are accepted exactly where the book says yes.
+/// Texts are accepted exactly where the book says yes: schema texts, a document over the schema of accepted ones, and both.
 pub fn accepted_by_the_book()
-    ensures { AcceptedByTheBook }
+    ensures schemas { SchemasAcceptedByTheBook }
+    ensures documents { DocumentsAcceptedByTheBook }
+    ensures texts { AcceptedByTheBook }
 {}
 
 /// Definitions are foldable by the book exactly where no folding rule is broken.
