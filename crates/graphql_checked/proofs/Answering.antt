@@ -6,27 +6,31 @@ use Rattle.document_meaning.specs.MeantTree.{MeantDocument}
 use Rattle.graphql_faults.specs.DetailsView.{diagnostics_of}
 use Rattle.verdict_definitions.specs.Texts.{SourceText, Terms}
 use Rattle.verdict_definitions.specs.Out.{Layout, layout_text}
-use Rattle.verdict_definitions.specs.Answer.{WritesDocument, AcceptedBytes}
+use Rattle.verdict_definitions.specs.Answer.{WritesDocument}
 use Rattle.checker_answers.specs.declared.run_fault.Outcome.{Outcome}
+use Rattle.checker_answers.specs.declared.run_fault.Outcome.TheVariants.{Accepted}
 use Rattle.checker_answers.specs.declared.run_fault.RunFault.{RunFault}
 use Rattle.graphql_checked.specs.CheckerValue.{CheckedSchemaValue, IsCheckedSchemaOf, IsCheckedDocumentOf}
 use Rattle.graphql_checked.specs.Refusals.{RefusalOfSchemas, RefusalOfDocument}
 use Rattle.graphql_checked.specs.Run.{BytesOf, IsAnswerTo, AcceptsOrFails, IsWrittenAnswer, IsAnswerOfRefusal}
 use Rattle.graphql_checked.specs.declared.refusal.Refusal.{Refusal}
 use Rattle.graphql_checked.specs.declared.refusal.Refusal.TheVariants.{Faults, Memory, Failed}
-use Rattle.graphql_checked.proofs.Verdicts.{accepted_pair, refused_pair}
+use Rattle.graphql_checked.proofs.Verdicts.{accepted_pair, yes_pair, refused_pair}
 
 module _ (terms : Terms) (texts : List SourceText) (text : SourceText) (schema : CheckedSchemaValue) (is : IsCheckedSchemaOf terms texts schema) where
   -- the bytes of an accepted pair
-  pub accepted_bytes : (document : MeantDocument Place) → IsCheckedDocumentOf schema text document → (layout : Layout) (bytes : List ℕ) → IsWrittenAnswer layout schema text bytes → AcceptedBytes terms layout texts text bytes
-  accepted_bytes document checked layout bytes written = record {
-    accepted = accepted_pair terms texts text schema is document checked;
-    written_schema = layout_text layout schema.written;
-    written_document = written.written_document;
-    writes_schema = (is.accepted.judged.trees, (is.accepted.judged.read, ap (layout_text layout) is.written));
-    writes_document = subst (λ number. WritesDocument layout number text written.written_document) is.number written.writes_document;
-    is = written.is;
-  }
+  pub accepted_bytes : (document : MeantDocument Place) → IsCheckedDocumentOf schema text document → (layout : Layout) (bytes : List ℕ) → IsWrittenAnswer layout schema text bytes → BytesOf terms layout Accepted texts text bytes
+  accepted_bytes document checked layout bytes written = (
+    yes_pair terms texts text schema is document checked,
+    record {
+      accepted = accepted_pair terms texts text schema is document checked;
+      written_schema = layout_text layout schema.written;
+      written_document = written.written_document;
+      writes_schema = (is.accepted.judged.trees, (is.accepted.judged.read, ap (layout_text layout) is.written));
+      writes_document = subst (λ number. WritesDocument layout number text written.written_document) is.number written.writes_document;
+      is = written.is;
+    },
+  )
 
   -- the answer of a document's refusal
   pub document_answer : {Z : Type 0} (layout : Layout) (refusal : Refusal) (answer : Result (Outcome × Vec ℕ Z) RunFault)

@@ -78,7 +78,7 @@ certain_here of_schema of_document terms schemas document texts text are is tell
 -- ---- a writer that fails
 
 answer_of : (layout : Layout) (terms : Terms) (texts : List SourceText) (text : SourceText) (outcome : Outcome) (bytes : List ℕ) → BytesOf terms layout outcome texts text bytes → Answer terms layout texts text bytes
-answer_of layout terms texts text Accepted bytes h = inl h
+answer_of layout terms texts text Accepted bytes h = inl h.1
 answer_of layout terms texts text Refused bytes h = inr h
 
 pub put_due : {R D W : Type 0} (of_schema : R → Option (List ℕ)) (of_document : D → Option (List ℕ)) (contents : W → Option (List ℕ)) (layout : Layout) (terms : Terms)

@@ -11,6 +11,8 @@ use Rattle.verdict_definitions.specs.Meaning.{schema_at_hand}
 use Rattle.verdict_definitions.specs.Judge.{IsDocumentAccepted, IsAccepted, AreSchemasCertain, IsDocumentCertain, IsCertain}
 use Rattle.verdict_definitions.specs.Says.{AnyFault}
 use Rattle.verdict_definitions.specs.Answer.{RefusesDocument, Refuses}
+use Rattle.book_validity.specs.Yes.{IsYes}
+use Rattle.book_laws.proofs.AcceptedFacts.{accepted_by_the_book}
 use Rattle.graphql_checked.specs.CheckerValue.{CheckerValue, CheckedSchemaValue, IsCheckedSchemaOf, IsCheckedDocumentOf}
 use Rattle.graphql_checked.specs.CheckerAnswers.{IsCheckerAddRefusal, IsFinishRefusal}
 use Rattle.graphql_checked.specs.Refusals.{RefusalOfSchemas, RefusalOfDocument}
@@ -86,6 +88,10 @@ module _ (terms : Terms) (texts : List SourceText) (text : SourceText) (schema :
     schema = is.accepted;
     over = over_texts (λ s nesting number. IsDocumentAccepted s nesting number text) checked.accepted;
   }
+
+  -- in the words of the book
+  pub yes_pair : (document : MeantDocument Place) → IsCheckedDocumentOf schema text document → IsYes terms texts text
+  yes_pair document checked = (accepted_by_the_book terms texts text).0 (accepted_pair document checked)
 
   -- the pair is refused
   pub refused_pair : (faults : List AnyFault) → RefusesDocument schema.schema schema.nesting schema.number text faults → Refuses terms texts text faults

@@ -9,6 +9,7 @@ use Rattle.verdict_definitions.specs.Texts.{SourceText, Terms}
 use Rattle.verdict_definitions.specs.Judge.{IsCertain}
 use Rattle.verdict_definitions.specs.Out.{Layout, layout_text, as_lines}
 use Rattle.verdict_definitions.specs.Answer.{WritesDocument, AcceptedBytes, RefusedBytes, Answer, fault_line}
+use Rattle.book_validity.specs.Yes.{IsYes}
 use Rattle.checker_answers.specs.Devices.{IsTextOf, TellsText, AreTextsOf, IsNotUtf8Of, IsNotUtf8At, HasFailedAt}
 use Rattle.checker_answers.specs.declared.run_fault.Outcome.{Outcome}
 use Rattle.checker_answers.specs.declared.run_fault.Outcome.TheVariants.{Accepted, Refused}
@@ -20,7 +21,7 @@ use Rattle.graphql_checked.specs.declared.refusal.Refusal.TheVariants as refusal
 
 -- the bytes that go with an outcome for these texts
 abbrev pub BytesOf : Terms → Layout → Outcome → List SourceText → SourceText → List ℕ → Type 0
-BytesOf terms layout Accepted texts text bytes = AcceptedBytes terms layout texts text bytes
+BytesOf terms layout Accepted texts text bytes = IsYes terms texts text × AcceptedBytes terms layout texts text bytes
 BytesOf terms layout Refused texts text bytes = RefusedBytes terms texts text bytes
 
 module _ {R D : Type 0} (of_schema : R → Option (List ℕ)) (of_document : D → Option (List ℕ)) (terms : Terms) where

@@ -2,8 +2,8 @@
 use Rattle.std.specs.Prelude.{ℕ, List, Result, Ok, Err}
 use Rattle.graphql_faults.specs.DetailsView.{diagnostics_of}
 use Rattle.verdict_definitions.specs.Texts.{SourceText, Terms}
-use Rattle.verdict_definitions.specs.Judge.{IsAccepted}
 use Rattle.verdict_definitions.specs.Answer.{Refuses}
+use Rattle.book_validity.specs.Yes.{IsYes}
 use Rattle.graphql_checked.specs.declared.refusal.Refusal.{Refusal}
 use Rattle.graphql_checked.specs.declared.refusal.Refusal.TheVariants as refusal
 use Rattle.graphql_checked.specs.declared.verdict.Verdict.{Verdict}
@@ -15,9 +15,9 @@ use Rattle.graphql_checked.specs.declared.verdict.CheckError.TheVariants.{Memory
 abbrev pub first_terms : ℕ → Terms
 first_terms nesting = record { nesting = nesting; first_text = 1; first_extension = 1 }
 
--- The verdict is right.
+-- The verdict is right: accepted says yes, and each fault of a refusal is so.
 abbrev pub IsVerdict : Terms → List SourceText → SourceText → Verdict → Type 0
-IsVerdict terms schemas document Accepted = IsAccepted terms schemas document
+IsVerdict terms schemas document Accepted = IsYes terms schemas document
 IsVerdict terms schemas document (Refused list) = Refuses terms schemas document (diagnostics_of list)
 
 -- the verdict of a refusal, where a checker that has failed wants memory

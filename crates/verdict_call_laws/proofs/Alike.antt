@@ -11,6 +11,7 @@ use Rattle.verdict_laws.specs.Rearranged.{AreRearranged, AreCut, TextsHaveNumber
 use Rattle.verdict_laws.proofs.AnyNumber.{equal_accept}
 use Rattle.verdict_laws.proofs.Rearranged.{all_one, rearranging, cutting}
 use Rattle.graphql_checked.specs.CheckerValue.{CheckerValue, CheckedSchemaValue, IsCheckedSchemaOf}
+use Rattle.book_laws.proofs.AcceptedFacts.{accepted_by_the_book}
 use Rattle.graphql_checked.specs.Verdicts.{IsVerdict}
 use Rattle.graphql_faults.specs.declared.diagnostic_list.DiagnosticList.{DiagnosticList}
 use Rattle.graphql_checked.specs.declared.refusal.Refusal.{Refusal}
@@ -38,8 +39,8 @@ module _ (terms : Terms) (texts others : List SourceText) (document : SourceText
   pub same_verdict : (v w : Verdict) → IsVerdict terms texts document v → IsVerdict terms others document w
       → (IsCertain terms texts document → ToCertain (Ok v)) → (IsCertain terms others document → ToCertain (Ok w)) → VerdictsAgree v w
   same_verdict Accepted Accepted a b first second = tt
-  same_verdict Accepted (Refused list) a b first second = not_refused list (second (other_bounds.certain (same.0 a)))
-  same_verdict (Refused list) Accepted a b first second = not_refused list (first (bounds.certain (same.1 b)))
+  same_verdict Accepted (Refused list) a b first second = not_refused list (second (other_bounds.certain (same.0 ((accepted_by_the_book terms texts document).1 a))))
+  same_verdict (Refused list) Accepted a b first second = not_refused list (first (bounds.certain (same.1 ((accepted_by_the_book terms others document).1 b))))
   same_verdict (Refused list) (Refused other) a b first second = tt
 
 answered : (terms : Terms) (texts others : List SourceText) → AreAcceptedAlike terms texts others → AreAnsweredAlike terms texts others

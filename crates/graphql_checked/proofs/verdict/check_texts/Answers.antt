@@ -1,7 +1,7 @@
 use Rattle.std.proofs.Common.{map}
 use Rattle.graphql_checked.specs.CheckedView.{schema_value}
 use Rattle.graphql_checked.specs.Verdicts.{first_terms}
-use Rattle.graphql_checked.proofs.Verdicts.{accepted_pair, certain_document, certain_schemas, document_verdict, schemas_verdict, memory_verdict}
+use Rattle.graphql_checked.proofs.Verdicts.{yes_pair, certain_document, certain_schemas, document_verdict, schemas_verdict, memory_verdict}
 use Rattle.graphql_checked.proofs.verdict.check_texts.Goals as goal
 
 pub returns-in-Err-clause-verdict : goal.returns-in-Err-clause-verdict
@@ -14,7 +14,7 @@ returns-in-Err-clause-complete c certain =
 
 pub returns-in-Ok-check-clause-verdict : goal.returns-in-Ok-check-clause-verdict
 returns-in-Ok-check-clause-verdict c =
-    accepted_pair (first_terms c.args.limits.nesting) (map (λ t. t.now) c.args.schemas.now) c.args.document.now (schema_value c.in-Ok.schema) c.in-Ok.ensures.schema _ c.in-Ok-check.ensures.accepted
+    yes_pair (first_terms c.args.limits.nesting) (map (λ t. t.now) c.args.schemas.now) c.args.document.now (schema_value c.in-Ok.schema) c.in-Ok.ensures.schema _ c.in-Ok-check.ensures.accepted
 
 pub returns-clause-verdict : goal.returns-clause-verdict
 returns-clause-verdict c =

@@ -1,0 +1,52 @@
+-- The book of a yes and the rules by their faults hold of the same texts.
+use Rattle.std.specs.Prelude.{◌↔◌, ℕ, List}
+use Rattle.graphql_names.specs.Placed.{Place}
+use Rattle.tree_operations.specs.SelectionTree.{SelectionTrees}
+use Rattle.tree_definitions.specs.DefinitionTree.{DefinitionTree}
+use Rattle.schema_fold.specs.Listed.{Definitions}
+use Rattle.schema_fold.specs.BuildErrors.{FoldingRules}
+use Rattle.document_typing.specs.Meanings.{Meanings}
+use Rattle.document_typing.specs.TypingFaults.{TypingFault, SetFails, TypingRules}
+use Rattle.rule_definitions.specs.Judged.{Judged, judged}
+use Rattle.rule_definitions.specs.Rules.{SchemaRules}
+use Rattle.rule_document_definitions.specs.Named.{FragmentsFoundByName}
+use Rattle.rule_document_definitions.specs.Verdict.{DocumentRules}
+use Rattle.verdict_definitions.specs.Texts.{SourceText, Tree, Terms}
+use Rattle.verdict_definitions.specs.Meaning.{schema_of, schema_at_hand}
+use Rattle.verdict_definitions.specs.Judge.{AreSchemasAccepted, IsDocumentAccepted, IsAccepted}
+use Rattle.book_validity.specs.Words.{Document, Never}
+use Rattle.book_validity.specs.Document.{IsValidDocument}
+use Rattle.book_validity.specs.Schema.{IsValidSchema}
+use Rattle.book_validity.specs.Typing.{AreTyped, IsTypedDocument}
+use Rattle.book_validity.specs.Folding.{AreFoldable}
+use Rattle.book_validity.specs.Yes.{AreValidSchemas, IsValidOver, IsYes}
+
+-- of a document whose fragments stand under their own names, as each that is typed does
+abbrev pub RulesHoldByTheBook : Type 0
+RulesHoldByTheBook = (s : Judged) (d : Document) → FragmentsFoundByName d → IsValidDocument s d ↔ DocumentRules s d
+
+abbrev pub SchemaRulesHoldByTheBook : Type 0
+SchemaRulesHoldByTheBook = (s : Judged) → IsValidSchema s ↔ SchemaRules s
+
+-- a document, the selections of a set are typed exactly where no rule of typing is broken
+abbrev pub TypedByTheBook : Type 0
+TypedByTheBook = (m : Meanings) (ds : List (DefinitionTree Place)) → IsTypedDocument m ds ↔ TypingRules m ds
+
+abbrev pub SetsTypedByTheBook : Type 0
+SetsTypedByTheBook = (m : Meanings) (t : List ℕ) (ts : SelectionTrees Place) → AreTyped m t ts ↔ ((fault : TypingFault Place) → Never (SetFails m t ts fault))
+
+-- definitions are foldable exactly where no folding rule is broken
+abbrev pub FoldedByTheBook : Type 0
+FoldedByTheBook = (built_in : Definitions) (first : ℕ) (texts : Definitions) → AreFoldable built_in first texts ↔ FoldingRules built_in first texts
+
+-- schema texts, a document over the schema of such texts, are accepted exactly where they are valid by the book
+abbrev pub SchemasAcceptedByTheBook : Type 0
+SchemasAcceptedByTheBook = (terms : Terms) (schemas : List SourceText) → AreSchemasAccepted terms schemas ↔ AreValidSchemas terms schemas
+
+abbrev pub DocumentsAcceptedByTheBook : Type 0
+DocumentsAcceptedByTheBook = (terms : Terms) (trees : List Tree) → SchemaRules (judged (schema_of terms trees)) → (nesting number : ℕ) (document : SourceText)
+    → IsDocumentAccepted (schema_at_hand terms trees) nesting number document ↔ IsValidOver (schema_at_hand terms trees) nesting number document
+
+-- texts are accepted exactly where the book says yes
+abbrev pub AcceptedByTheBook : Type 0
+AcceptedByTheBook = (terms : Terms) (schemas : List SourceText) (document : SourceText) → IsAccepted terms schemas document ↔ IsYes terms schemas document

@@ -1,0 +1,11 @@
+pub mod TypeFacts
+pub mod SetFacts
+pub mod Onward
+pub mod Back
+pub mod EverySet
+pub mod Depths
+pub mod Granted
+pub mod Typed
+pub mod Schemas
+pub mod Folded
+pub mod Different

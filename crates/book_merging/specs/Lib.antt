@@ -1,0 +1,2 @@
+pub mod OfDifferent
+pub mod Laws

@@ -1,0 +1,16 @@
+-- Subscriptions (section 5.2.3).
+use Rattle.std.specs.Prelude.{◌≤◌, List, [], ◌∷◌, length, codes, Contains}
+use Rattle.rule_definitions.specs.Names.{directive_name}
+use Rattle.rule_document_definitions.specs.Selected.{field_name, selection_directives}
+use Rattle.rule_document_definitions.specs.Reached.{AtRoot}
+use Rattle.rule_document_definitions.specs.RootFields.{meta_field_names, IsRootField, AreRootFields}
+use Rattle.book_validity.specs.Words.{Document, Operation, Field, Selection, Never, Each}
+
+pub record IsValidSubscription (d : Document) (o : Operation) : Type 0 where
+  -- 5.2.3.1 Single Root Field: all its root fields, each once, are no more than one. Stricter than the text: fields are counted, not
+  -- response keys, and each fragment at the root counts, whether or not it can apply there
+  pub single : (fs : List Field) → AreRootFields d o fs → length fs ≤ 1
+  -- "which must not be an introspection field"
+  pub no_introspection : (f : Field) → IsRootField d o f → Never (Contains meta_field_names (field_name f))
+  -- stricter than the text: no selection at the root has @skip or @include
+  pub unconditional : (x : Selection) → AtRoot d o x → Each (selection_directives x.it) (λ e. Never (Contains (codes "skip" ∷ codes "include" ∷ []) (directive_name e)))
