@@ -1,5 +1,5 @@
 -- Definitions of directives, behind their descriptions, are read as they are printed, under both kinds of layout.
-use Rattle.std.proofs.Common.{◌≡◌, ◌≤◌, ◌+◌, ℕ, Bool, true, false, List, [], ◌∷◌, ◌++◌, map, codes, Option, None, is_some, refl, sym, ap, ◌∙◌, append-nil}
+use Rattle.std.proofs.Common.{◌≡◌, ◌≤◌, ◌+◌, ℕ, Bool, true, false, List, [], ◌∷◌, ◌++◌, map, codes, Option, None, is_some, refl, sym, ap, ◌∙◌, append-nil, arith}
 use Rattle.graphql_names.specs.NameSyntax as names
 use Rattle.read_printed_strings.specs.in_printing.Joined.{joined, further_text}
 use Rattle.read_printed_strings.specs.in_printing.LineLayout.{Prefix}

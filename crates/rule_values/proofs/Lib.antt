@@ -1,6 +1,6 @@
 pub mod Tells
 pub mod Noted
-pub mod Keys
+pub mod EntryKeys
 pub mod NotedKeys
 pub mod Looking
 pub mod VariablesTold

@@ -18,7 +18,7 @@ use Rattle.rule_values.specs.Firsts.{first_told}
 use Rattle.rule_values.specs.KeyFaults.{key_again, repeated_key, repeated_keys}
 use Rattle.rule_values.specs.ValueFaults.{is_key, given_entry, is_missing_entry, field_faults, entry_faults}
 use Rattle.rule_values.specs.Wanting.{nulls_of}
-use Rattle.rule_values.proofs.Keys.{keys_of_entries}
+use Rattle.rule_values.proofs.EntryKeys.{keys_of_entries}
 use Rattle.rule_values.proofs.Noted.{told_found}
 
 abbrev Entry : Type 0

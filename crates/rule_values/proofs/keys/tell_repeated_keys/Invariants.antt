@@ -1,7 +1,7 @@
 use Rattle.std.proofs.Common.{◌≡◌, ◌++◌, [], take, drop}
 use Rattle.tree_literals.specs.ValueTree.{value_tree, entry_trees}
 use Rattle.fault_data.specs.FaultView.{faults_of}
-use Rattle.rule_values.proofs.Keys.{keys_of_entries}
+use Rattle.rule_values.proofs.EntryKeys.{keys_of_entries}
 use Rattle.rule_values.specs.KeyFaults.{repeated_keys}
 use Rattle.rule_values.specs.Firsts.{AreFirsts}
 use Rattle.rule_values.proofs.keys.tell_repeated_keys.Given as goal
