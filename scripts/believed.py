@@ -1,5 +1,5 @@
 #!/usr/bin/env python3
-"""Which definitions the promises rest on: scripts/believed.py [--names] [--why FILE] [--others] [--write] [--check]
+"""Which definitions the promises rest on: scripts/believed.py [--names] [--why FILE] [--of NAME] [--others] [--write] [--check]
 
 Prints the files of `specs/` that the clauses of the users' crates reach, in reading order: by the areas of docs/MAP.md, in each a
 crate behind those that it stands on, and in a crate as its `Lib.antt` has them.
@@ -12,12 +12,14 @@ An invariant of a public type speaks of its private fields: what follows from it
 invariants alone reach is printed behind, and counts for nothing.
 
 --names prints the reached definitions of each file too. --why FILE (a path or a name such as `Listed`) prints by which
-definitions a clause leads to it. --others prints the files that nothing reaches so and that do not say that they are private:
+definitions a clause leads to it. --of NAME prints how much a definition rests on: the definitions that it reaches, their files,
+and their lines without comments, those of the book apart. --others prints the files that nothing reaches so and that do not say that they are private:
 those of laws (of crates and sources of laws), of public functions of inner crates, and the rest. --write writes the list of
 docs/DEFINITIONS.md. --check prints what is wrong, a line each: a reached file that says in its first line that it is private; a
 definition of a reached file that nothing in a source and no definition that is named so names; a file that docs/DEFINITIONS.md
-links to and nothing reaches, or one that is reached and not linked to; that the list there is in another order. The status is
-then 1.
+links to and nothing reaches, or one that is reached and not linked to; that the list there, or the section on the book, is not
+what the sources make; that docs/HEADLINE.md does not say how much `IsYes` rests on; that this reaches a rule's fault. The status
+is then 1.
 """
 import os
 import re
@@ -30,6 +32,15 @@ from sources import TOP, USERS, Definition
 NO_PROMISE = {"view", "coded", "laws", "respects_eq", "matches_eq", "matches_partial_cmp", "total", "same_text", "use", "invariant"}
 
 PAGE = "docs/DEFINITIONS.md"
+
+# The page on what a yes is, its definition, and the crate of its chapters.
+HEADLINE, YES, BOOK = "docs/HEADLINE.md", "IsYes", "book_validity"
+
+# The files that say what breaks a rule, and what is told of it.
+FAULTS = {"Diagnostics", "DocumentBreaches", "BuildErrors", "DocumentFaults"}
+
+# The line of the page behind which the book's chapters stand, up to the next heading.
+CHAPTERS = "<!-- the chapters of the book, from the first sentences of their files -->"
 
 # The line of the page behind which the list stands, up to the next empty line.
 LIST = "<!-- the list that scripts/believed.py --write makes -->"
@@ -275,6 +286,43 @@ def listed(library, files):
     return "\n".join(lines) + "\n"
 
 
+def rests_on(library, name):
+    """What a definition reaches, itself among it: paths and names."""
+    start = next(file.definitions[name] for file in library.files.values() if name in file.definitions)
+    came = {key for key in reach(library, [Clause(start.path, start.line, name, "definition", name, library.scope_of(start.path))]) if key[1]}
+    return came | {start.key()}
+
+
+def size(library, name):
+    """How much a definition rests on, in a line."""
+
+    def of(keys):
+        lines = sum(len(library.files[path].definitions[part].parts) for path, part in keys)
+        return len(keys), len({path for path, _ in keys}), f"{lines:,}"
+
+    came = rests_on(library, name)
+    return "%s: %d definitions in %d files, %s lines; of these the book %d in %d, %s" % (name, *of(came), *of({key for key in came if key[0].split("/")[1] == BOOK}))
+
+
+def first_sentence(file):
+    """The first sentence of a file."""
+    words = []
+    for line in file.text.split("\n"):
+        if not line.startswith("--"):
+            break
+        words.append(line.lstrip("- ").strip())
+    return re.match(r"(.+?(?<!\.)\.)(?: |$)", " ".join(words)).group(1)
+
+
+def chapters(library):
+    """The lines of the page on the chapters of the book: each file with its first sentence and what it defines."""
+    lines = ["| Chapter | Says | Defines |", "|---|---|---|"]
+    for path in in_order(library, [path for path in library.files if path.split("/")[1] == BOOK and not path.endswith("/Lib.antt")]):
+        names = ", ".join(f"`{name}`" for name, made in library.files[path].definitions.items() if made.is_public)
+        lines.append(f"| [{os.path.basename(path)[:-5]}](../{path}) | {first_sentence(library.files[path])} | {names} |")
+    return "\n".join(lines) + "\n"
+
+
 def unnamed(library, files):
     """The definitions of these files that no source names, nor a definition that one leads to: their path and name."""
     everything = []
@@ -326,6 +374,9 @@ def main(words):
             if key[0] == wanted or os.path.basename(key[0]) == wanted + ".antt":
                 print("\n    ".join(way(came if key in came else everything, key)))
         return 0
+    if "--of" in words:
+        print(size(library, words[words.index("--of") + 1]))
+        return 0
     if "--others" in words:
         for title, paths in others(library, files):
             print(f"{title} ({len(paths)}):")
@@ -342,9 +393,10 @@ def main(words):
     page, wanted = linked(text), listed(library, files)
     if "--write" in words:
         head, rest = text.split(LIST, 1)
-        head, rest = head + LIST, rest[rest.index("\n\n") :]
+        text = head + LIST + "\n" + wanted.rstrip("\n") + rest[rest.index("\n\n") :]
+        head, rest = text.split(CHAPTERS, 1)
         with open(os.path.join(TOP, PAGE), "w", encoding="utf-8") as file:
-            file.write(head + "\n" + wanted.rstrip("\n") + rest)
+            file.write(head + CHAPTERS + "\n" + chapters(library) + rest[rest.index("\n\n") + 1 :])
         return 0
     for path in in_order(library, set(files) - page):
         wrong.append(f"{path}: is reached, and {PAGE} has no link to it")
@@ -352,6 +404,13 @@ def main(words):
         wrong.append(f"{path}: {PAGE} links to it, and nothing reaches it")
     if page == set(files) and wanted not in text:
         wrong.append(f"{PAGE}: the list is in another order; scripts/believed.py --write makes it")
+    if CHAPTERS + "\n" + chapters(library) + "\n" not in text:
+        wrong.append(f"{PAGE}: the chapters of the book are others; scripts/believed.py --write makes them")
+    if size(library, YES) not in sources.read(HEADLINE):
+        wrong.append(f"{HEADLINE}: does not say `{size(library, YES)}`")
+    for path, name in sorted(rests_on(library, YES)):
+        if os.path.basename(path)[:-5] in FAULTS:
+            wrong.append(f"{path}: `{YES}` reaches `{name}`, and the file is one of faults")
     if "--check" in words:
         print("\n".join(wrong + [f"believed: {len(files)} files, {len(wrong)} wrong"]))
         return 1 if wrong else 0

@@ -16,3 +16,6 @@ pub mod AcceptedFacts
 pub mod TypingFacts
 pub mod DocumentTyped
 pub mod FoldingFacts
+pub mod RefusedFacts
+pub mod ExceptionFacts
+pub mod YesRows

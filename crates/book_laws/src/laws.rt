@@ -1,6 +1,8 @@
 //! Laws of the book, each the contract of a function that does nothing.
 
 ghost use Rattle.book_laws.specs.Laws.{RulesHoldByTheBook, SchemaRulesHoldByTheBook, TypedByTheBook, SetsTypedByTheBook, FoldedByTheBook, SchemasAcceptedByTheBook, DocumentsAcceptedByTheBook, AcceptedByTheBook};
+ghost use Rattle.book_laws.specs.Exceptions.{UsagesAllowed, SpreadsPossible};
+ghost use Rattle.book_laws.specs.Refused.{UnusedVariableIsInvalid, ConflictingFieldsDoNotMerge, MissingFieldIsInvalid};
 
 /// Texts are accepted exactly where the book says yes: schema texts, a document over the schema of accepted ones, and both.
 pub fn accepted_by_the_book()
@@ -32,4 +34,19 @@ pub fn sets_typed_by_the_book()
 /// A document is valid by the book exactly where no rule on documents is broken.
 pub fn rules_hold_by_the_book()
     ensures { RulesHoldByTheBook }
+{}
+
+/// IsVariableUsageAllowed and GetPossibleTypes are as specified (GraphQL, October 2021, sections 5.8.5 and 5.5.2.3), but for a
+/// default that is null, and for a fragment on the very type where it stands.
+pub fn two_algorithms_but_for_exceptions()
+    ensures usages { UsagesAllowed }
+    ensures spreads { SpreadsPossible }
+{}
+
+/// With a variable that is not used a document is not valid, with two conflicting fields it does not merge, and with a type
+/// that lacks a field of its interface a schema is not valid.
+pub fn what_breaks_a_rule_is_invalid()
+    ensures variables { UnusedVariableIsInvalid }
+    ensures merging { ConflictingFieldsDoNotMerge }
+    ensures schemas { MissingFieldIsInvalid }
 {}

@@ -21,20 +21,21 @@ use Rattle.document_typing.specs.TypingFaults.{TypingRules}
 use Rattle.document_typing.proofs.DocumentFailures.{document-fails}
 use Rattle.rule_document_definitions.specs.DocumentFaults.{Broken, OfData, OfDocument, OfLimit}
 use Rattle.rule_document_definitions.specs.Selected.{Standing, StandingField, as_field, InOperation, SelectionAt}
+use Rattle.rule_document_definitions.specs.Reached.{Closed, first, next, LeadsInto}
 use Rattle.rule_document_definitions.specs.Variables.{VariablesBreak}
 use Rattle.rule_document_definitions.specs.Fragments.{FragmentsBreak}
 use Rattle.rule_document_definitions.specs.Selections.{SelectionsBreak, MissingSubselectionAt, FieldArgumentsBreak, DirectivesBreak}
 use Rattle.rule_document_definitions.specs.Subscriptions.{SubscriptionBreaks}
 use Rattle.rule_document_definitions.specs.Defer.{DeferBreaks}
-use Rattle.rule_document_definitions.specs.Merging.{FieldsMerge, SameKey, SameShape, MayShare, SameNameAndArguments}
+use Rattle.rule_document_definitions.specs.Merging.{FieldsMerge, Below, Starts, SameKey, SameShape, MayShare, SameNameAndArguments}
 use Rattle.rule_document_definitions.specs.SameValues.{neither}
-use Rattle.rule_document_definitions.specs.Verdict.{no_places, DocumentRules, Merging}
+use Rattle.rule_document_definitions.specs.Verdict.{no_places, DocumentRules, Merging, WithinBounds}
 use Rattle.rule_document_definitions.specs.Told.{IsValidDocument}
 use Rattle.rule_document_definitions.proofs.Levels.{reached_in}
-use Rattle.rule_document_definitions.proofs.MergingFacts.{IsReachedField, merge_if_all_agree}
+use Rattle.rule_document_definitions.proofs.MergingFacts.{IsReachedField, closed_within, merge_if_all_agree}
 use Rattle.rule_document_definitions.proofs.RowWords.{of_present, not_present, not_at_index, none_repeats, none_reached, no_fragment, of_each}
 use Rattle.verdict_definitions.specs.Meaning.{schema_at_hand, document_over}
-use Rattle.verdict_definitions.specs.Judge.{JudgeDocument, IsDocumentAccepted}
+use Rattle.verdict_definitions.specs.Judge.{JudgeDocument, IsDocumentAccepted, PassesNoDocumentBound}
 use Rattle.verdict_definitions.proofs.RowReading.{reader, is_within}
 use Rattle.verdict_definitions.proofs.RowTrees.{terms}
 use Rattle.verdict_definitions.proofs.RowMeanings.{meanings_found, same_meanings, type_found, judged_found, same_judged}
@@ -168,6 +169,42 @@ fields_merge = record {
 
 merges : Merging found alone
 merges o c = subst (λ w. FieldsMerge found alone w) (sym (only only_field o c)) fields_merge
+
+-- ---- and no bound is passed: nothing stands in the field
+
+never_closed : {X A : Type 0} {Next : X → X → Type 0} (x : X) → Closed (Contains []) Next x → A
+never_closed x (first c) = not_in_nil x c
+never_closed y (next {x = x} r l) = never_closed x r
+
+leads_nowhere : (x y : Standing U) → Contains (standing ∷ []) x → LeadsInto alone x y → ⊥
+leads_nowhere x y c l = by (subst (λ z. LeadsInto alone z y) (only standing x c) l)
+  where
+    by : LeadsInto alone standing y → ⊥
+    by (inl p) = not_in_nil y (of_present there p)
+    by (inr (inl k)) = not_in_nil y k
+    by (inr (inr p)) = not_present p
+
+nothing_below : (f g : StandingField U) → Starts alone only_field f → Below alone f g → ⊥
+nothing_below f g (x, (r, e)) b = by (subst (λ h. Below alone h g) (sym (one_field f (x, (closed_within (λ y c. first c) (λ y z l. inr l) x r, e)))) b)
+  where
+    by : Below alone there g → ⊥
+    by (y, (k, i)) = never_closed y k
+
+within_bounds : WithinBounds alone
+within_bounds fault (inl (f, (c, passed))) = not_in_nil f c
+within_bounds fault (inr (inl ((x, ([], (c, (way, (apart, long))))), told))) = omega (arith, long)
+within_bounds fault (inr (inl ((x, (y ∷ path, (c, (((by, leads), way), passed)))), told))) = leads_nowhere x y c leads
+within_bounds fault (inr (inr (o, (c, (([], (links, long)), told))))) = omega (arith, long)
+within_bounds fault (inr (inr (o, (c, ((f ∷ [], (links, long)), told))))) = omega (arith, long)
+within_bounds fault (inr (inr (o, (c, ((f ∷ g ∷ chain, ((starts, (below, links)), long)), told))))) =
+    nothing_below f g (subst (λ w. Starts alone w f) (only only_field o c) starts) below
+
+bounds_found : WithinBounds (unplaced_document (kept_document (meanings_found field_schema) just_field_tree))
+unfolding built_in_definitions
+bounds_found = within_bounds
+
+pub just_field_nests : PassesNoDocumentBound field_schema just_field_tree
+just_field_nests = subst (λ m. WithinBounds (unplaced_document (kept_document m just_field_tree))) (same_meanings field_schema) bounds_found
 
 -- ---- the document is accepted over the schema
 

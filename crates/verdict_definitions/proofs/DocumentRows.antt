@@ -122,7 +122,7 @@ unused_fails = inl (
 unused_fails_over : DocumentFails field_schema (document_over field_schema unused_tree) unused_fault
 unused_fails_over = subst (λ m. DocumentFails field_schema (kept_document m unused_tree) unused_fault) (same_meanings field_schema) unused_fails
 
-unused_refused : IsAccepted terms (query_field ∷ []) unused → ⊥
+pub unused_refused : IsAccepted terms (query_field ∷ []) unused → ⊥
 unused_refused = document_refused terms query_field unused query_field_tree query_field_reads unused_tree unused_reads (λ f c. not_in_nil f c) unused_fault unused_fails_over
 
 pub unused_said : SaysDocument field_schema 500 2 unused (of_document unused_fault)
@@ -130,7 +130,7 @@ unused_said = inr (unused_tree, (unused_reads, inr (unused_fault, (refl, inl unu
 
 -- ---- S `type Query { a: Int b: Int }`, D `{ x: a x: b }`: `ConflictingFieldName` at 2:7
 
-abbrev a_and_b : SourceText
+abbrev pub a_and_b : SourceText
 a_and_b = codes "type Query { a: Int b: Int }"
 
 abbrev a_and_b_tree : Tree
@@ -221,7 +221,7 @@ conflict_fails = (
 conflict_fails_over : DocumentMergingFails a_and_b_schema (document_over a_and_b_schema conflict_tree) conflict_fault
 conflict_fails_over = subst (λ m. DocumentMergingFails a_and_b_schema (kept_document m conflict_tree) conflict_fault) (same_meanings a_and_b_schema) conflict_fails
 
-conflict_refused : IsAccepted terms (a_and_b ∷ []) conflict → ⊥
+pub conflict_refused : IsAccepted terms (a_and_b ∷ []) conflict → ⊥
 conflict_refused = merging_refused terms a_and_b conflict a_and_b_tree a_and_b_reads conflict_tree conflict_reads (λ f c. not_in_nil f c) conflict_fault conflict_fails_over
 
 pub conflict_said : SaysDocument a_and_b_schema 500 2 conflict (of_document conflict_fault)

@@ -1,5 +1,5 @@
 -- Every rule on schemas holds of S `type Query { field: Int }`, behind all that is built in.
-use Rattle.std.proofs.Common.{◌≡◌, ℕ, Bool, true, false, not, ◌&&◌, ◌||◌, List, [], ◌∷◌, codes, Option, None, Some, is_some, ◌⊎◌, refl, sym, ap, subst, ◌∙◌, inl, inr, true≢false}
+use Rattle.std.proofs.Common.{arith, ◌≡◌, ◌<◌, ℕ, count_by, Bool, true, false, not, ◌&&◌, ◌||◌, List, [], ◌∷◌, codes, Option, None, Some, is_some, ◌⊎◌, refl, sym, ap, subst, ◌∙◌, inl, inr, true≢false}
 use Rattle.std.specs.List.{list_all}
 use Rattle.std.specs.Cmp.{first_so, second_so}
 use Rattle.std.specs.Option.{option_map, option_map_or}
@@ -27,11 +27,12 @@ use Rattle.rule_definitions.specs.Spots.{At, spotted_directives}
 use Rattle.rule_definitions.specs.Uses.{UsesBreak}
 use Rattle.rule_definitions.specs.TypesUsed.{IsUndefinedAt}
 use Rattle.rule_definitions.specs.Things.{Thing, ADirective, AType}
-use Rattle.rule_definitions.specs.Cycles.{is_a_type, Referring, Refers, RefersByUse, RefersByInput}
+use Rattle.rule_definitions.specs.Cycles.{reference_bound, is_a_directive, is_a_type, Referring, Refers, RefersByUse, RefersByInput, PassesReferenceBound}
 use Rattle.rule_definitions.specs.Words.{Present, AtSomeIndex, Repeats}
 use Rattle.rule_definitions.proofs.Lookups.{no_entries}
 use Rattle.rule_document_definitions.proofs.RowWords.{of_present, not_present, not_at_index, none_repeats, one_repeats}
 use Rattle.verdict_definitions.specs.Meaning.{schema_of}
+use Rattle.verdict_definitions.specs.Judge.{PassesNoReferenceBound}
 use Rattle.verdict_definitions.proofs.RowTrees.{terms, named, field_definition}
 use Rattle.verdict_definitions.proofs.RowMeanings.{type_found, judged_found, same_judged}
 use Rattle.verdict_definitions.proofs.RowRules.{no_type, no_field, no_value, no_definition, no_arguments, no_argument, no_input_field, no_name, no_use, at_all}
@@ -269,3 +270,24 @@ rules_found fault (inr (inr (inr (inr p)))) = no_uses fault p
 
 pub rules_hold : SchemaRules (judged schema)
 rules_hold = subst SchemaRules (same_judged schema) rules_found
+
+-- ---- no way of references is long: of input objects there is none, and a directive leads to a type that leads nowhere
+
+two_at_most : (n : List ℕ) (x : Thing) → ((reference_bound < count_by is_a_directive (ADirective n ∷ x ∷ [])) ⊎ (reference_bound < count_by is_a_type (ADirective n ∷ x ∷ []))) → ⊥
+two_at_most n (ADirective m) (inl long) = omega (arith, long)
+two_at_most n (ADirective m) (inr long) = omega (arith, long)
+two_at_most n (AType m) (inl long) = omega (arith, long)
+two_at_most n (AType m) (inr long) = omega (arith, long)
+
+none_is_long : (fault : SchemaFault) → PassesReferenceBound found fault → ⊥
+none_is_long fault (inl (n, ([], (way, (apart, (long, told)))))) = omega (arith, long)
+none_is_long fault (inl (n, (m ∷ rest, (((by, (t, (there, (is, more)))), way), passed)))) =
+    no_type schema is_plain plain_types (λ k u. u.kind ≡ kind.InputObject) (n, (t, (there, is))) (λ k u h e. no_input_object k u h e)
+none_is_long fault (inr (n, ([], (way, (apart, (inl long, told)))))) = omega (arith, long)
+none_is_long fault (inr (n, ([], (way, (apart, (inr long, told)))))) = omega (arith, long)
+none_is_long fault (inr (n, (x ∷ [], (way, (apart, (long, told)))))) = two_at_most n x long
+none_is_long fault (inr (n, (x ∷ y ∷ rest, (((by, refers), ((next, again), way)), passed)))) =
+    directive_refers n by x (λ m e. type_refers m next y (subst (λ w. Refers found w next y) e again)) refers
+
+pub references_within : PassesNoReferenceBound schema
+references_within = subst (λ j. (fault : SchemaFault) → PassesReferenceBound j fault → ⊥) (same_judged schema) none_is_long
