@@ -78,7 +78,7 @@ module _ (d : Document) where
           c' ++ g ∷ [],
           (
             chain_on (Below d) (Starts d o) c f x p b,
-            (chain_on (Below d) (Starts d o) c' g y q b', together_on Together (c ++ f ∷ []) (c' ++ g ∷ []) x y r t),
+            (chain_on (Below d) (Starts d o) c' g y q b', together_on (Below d) Together (c ++ f ∷ []) (c' ++ g ∷ []) x y r t),
           ),
         ),
       )
