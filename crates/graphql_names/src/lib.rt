@@ -33,6 +33,5 @@ pub use files::{Files, Spent};
 pub use name::{InvalidNameError, Name, NameError};
 pub use node::Node;
 pub use node_str::NodeStr;
-pub use places::recompose;
 pub use span::{FileId, SourceSpan};
 pub use text_part::TextPart;
