@@ -6,8 +6,9 @@ ghost use Rattle.document_typed_selections.specs.TypedTree.{set_type};
 ghost use Rattle.document_typed_operations.specs.TypedDocument.{typed_operation_tree, typed_fragment_tree};
 
 use document_typed_selections::SelectionSet;
-use graphql_names::{Name, Node, copies_of_four, copies_of_three};
+use graphql_names::{Name, Node};
 use std::alloc::AllocError;
+use tree_copies::{copies_of_four, copies_of_three};
 use tree_directives::DirectiveList;
 use tree_literals::NamedType;
 use tree_operations::{OperationType, VariableDefinition};

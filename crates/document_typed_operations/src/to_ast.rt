@@ -9,8 +9,9 @@ use crate::document::ExecutableDocument;
 use crate::operation::{Fragment, Operation};
 use crate::selections_to_ast::set_to_ast;
 use crate::written_node::{node_at, push_made};
-use graphql_names::{Node, copies_of_three};
+use graphql_names::Node;
 use std::alloc::{AllocError, Global};
+use tree_copies::copies_of_three;
 use tree_definitions::{Definition, Document};
 use tree_operations::{FragmentDefinition, OperationDefinition};
 

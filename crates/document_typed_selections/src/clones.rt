@@ -4,8 +4,8 @@ ghost use Rattle.document_typed_selections.specs.TypedTree.{typed_selection_tree
 ghost use Rattle.document_typed_selections.specs.TypedParts.{typed_field, typed_spread, typed_inline};
 
 use crate::selection::{Field, FragmentSpread, InlineFragment, Selection, SelectionSet};
-use graphql_names::{copies_of_three, copies_of_two};
 use std::alloc::AllocError;
+use tree_copies::{copies_of_three, copies_of_two};
 
 impl Clone for Selection {
     ghost is_clone = { λ s copy. typed_selection_tree copy ≡ typed_selection_tree s };

@@ -26,9 +26,10 @@ use crate::look_ups::{has_type, root_of};
 use crate::selections::type_set;
 use document_typed_operations::{Fragment, FragmentMap, Operation, OperationMap};
 use fault_document_data::BuildError;
-use graphql_names::{Name, Node, SourceSpan, copies_of_three, copies_of_two};
+use graphql_names::{Name, Node, SourceSpan};
 use graphql_schema::Schema;
 use std::alloc::{AllocError, Global};
+use tree_copies::{copies_of_three, copies_of_two};
 use tree_definitions::Definition;
 use tree_operations::{FragmentDefinition, OperationDefinition};
 

@@ -13,8 +13,9 @@ ghost use Rattle.document_typing.specs.DefinedByPlace.{IsDefinitionOf, IsDefined
 ghost use Rattle.document_typing.specs.MeaningView.{meant_selections, AreKeptDefined};
 
 use document_typed_selections as typed;
-use graphql_names::{Node, copies_of_four, copies_of_two};
+use graphql_names::Node;
 use std::alloc::{AllocError, Global};
+use tree_copies::{copies_of_four, copies_of_two};
 use tree_operations::{Field, FragmentSpread, InlineFragment};
 use tree_type_members::FieldDefinition;
 

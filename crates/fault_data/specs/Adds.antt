@@ -1,4 +1,4 @@
--- What a check adds to a list of faults.
+-- Private: leads to `Appends` of `graphql_rules`. What a check adds to a list of faults.
 use Rattle.std.specs.Prelude.{Vec, List, ◌++◌, ◌≡◌, Contains, ◌↔◌}
 use Rattle.std.specs.declared.alloc.Global.{Global}
 use Rattle.rule_definitions.specs.Told.{PlacedFault}

@@ -2,12 +2,12 @@
 ghost use Rattle.std.specs.Prelude.{◌≡◌, IfOk};
 ghost use Rattle.schema_coordinates.specs.CoordinateView.{attribute_coordinate, schema_coordinate};
 
-use graphql_names::{copies_of_three, copies_of_two};
 use schema_coordinates::{
     DirectiveArgumentCoordinate, DirectiveCoordinate, FieldArgumentCoordinate, SchemaCoordinate,
     TypeAttributeCoordinate, TypeCoordinate,
 };
 use std::alloc::AllocError;
+use tree_copies::{copies_of_three, copies_of_two};
 
 /// A copy of the coordinate.
 pub(crate) fn copied_attribute(

@@ -4,10 +4,9 @@ ghost use Rattle.fault_data.specs.CopyGroups.{set_name, set_places, is_of_implem
 ghost use Rattle.fault_data.specs.DiagnosticView.{diagnostic_of};
 
 use crate::diagnostic_data::DiagnosticData;
-use graphql_names::{
-    Name, SourceSpan, copies_of_five, copies_of_four, copies_of_three, copies_of_two,
-};
+use graphql_names::{Name, SourceSpan};
 use std::alloc::AllocError;
+use tree_copies::{copies_of_five, copies_of_four, copies_of_three, copies_of_two};
 
 /// What is wrong with a type that lacks its members, with a copy of the type's name and of its extensions' places.
 pub(crate) fn with_set(

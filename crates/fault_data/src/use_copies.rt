@@ -5,8 +5,8 @@ ghost use Rattle.fault_data.specs.DiagnosticView.{diagnostic_of};
 
 use crate::coordinate_copies::{copied_attribute, copied_coordinate};
 use crate::diagnostic_data::DiagnosticData;
-use graphql_names::{copies_of_four, copies_of_three, copies_of_two};
 use std::alloc::AllocError;
+use tree_copies::{copies_of_four, copies_of_three, copies_of_two};
 
 /// A copy of what is wrong with a use of a directive or an argument.
 pub(crate) fn copied_use(diagnostic: &DiagnosticData) -> Result<DiagnosticData, AllocError>

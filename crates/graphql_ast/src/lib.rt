@@ -10,9 +10,7 @@
 
 pub mod laws;
 
-pub use graphql_names::{
-    Cut, Device, Ending, Files, InvalidNameError, NameError, Spent, name, recompose,
-};
+pub use graphql_names::{Cut, Device, Ending, Files, InvalidNameError, NameError, Spent, name};
 pub use graphql_values::{
     Argument, ArgumentByNameError, Cause, Directive, DirectiveDefinition, DirectiveList,
     DirectiveLocation, Field, FileId, FloatValue, FragmentDefinition, FragmentSpread,

@@ -16,6 +16,7 @@ use crate::refusal::Refusal;
 use graphql_faults::DiagnosticList;
 use std::alloc::Global;
 use std::convert::AsStr;
+use thiserror::Error;
 
 /// Whether texts are accepted.
 #[derive(Drop)]
@@ -27,9 +28,10 @@ pub enum Verdict {
 }
 
 /// Why there is no verdict.
-#[derive(Clone, Copy, Debug, PartialEq, Eq)]
+#[derive(Clone, Copy, Debug, PartialEq, Eq, Error)]
 pub enum CheckError {
     /// Memory ran out.
+    #[error("out of memory")]
     Memory,
 }
 

@@ -10,7 +10,6 @@ mod find;
 mod lookup;
 mod lookup_answers;
 
-pub use graphql_schema::{FieldLookupError, Schema};
 pub use lookup::{
     DirectiveArgumentCoordinateExt, DirectiveCoordinateExt, FieldArgumentCoordinateExt,
     SchemaCoordinateExt, TypeAttributeCoordinateExt, TypeCoordinateExt,

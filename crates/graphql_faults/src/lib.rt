@@ -17,7 +17,7 @@ mod rule_names;
 pub use comma_separated::CommaSeparated;
 pub use details::Details;
 pub use diagnostic_list::DiagnosticList;
-pub use fault_data::{DiagnosticData, Fault, tell};
+pub use fault_data::DiagnosticData;
 pub use fault_document_data::{
     ConflictingFieldArgument, ConflictingFieldName, ConflictingFieldType,
 };

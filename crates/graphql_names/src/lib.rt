@@ -9,7 +9,6 @@
 //! [`Name`] of a literal, and [`Cut`] is a device for tests that stops on purpose.
 #![tactic(auto)]
 
-mod clones;
 mod cut;
 mod cut_calls;
 mod device;
@@ -26,13 +25,11 @@ mod span;
 mod text_part;
 mod text_part_calls;
 
-pub use clones::{copies_of_five, copies_of_four, copies_of_three, copies_of_two};
 pub use cut::{Cut, Ending};
 pub use device::Device;
 pub use files::{Files, Spent};
 pub use name::{InvalidNameError, Name, NameError};
 pub use node::Node;
 pub use node_str::NodeStr;
-pub use places::recompose;
 pub use span::{FileId, SourceSpan};
 pub use text_part::TextPart;

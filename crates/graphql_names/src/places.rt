@@ -3,15 +3,17 @@ ghost use Rattle.graphql_names.specs.Places.{Recomposes, RecomposesBoth};
 
 use crate::span::SourceSpan;
 
-/// The place from the beginning of `start` to the end of `end`. With one missing it is the other; in
-/// different files it is `end`; where `end` ends before `start` begins it is `start`.
-pub fn recompose(start: Option<SourceSpan>, end: Option<SourceSpan>) -> Option<SourceSpan>
-    ensures { Recomposes start end result }
-{
-    match (start, end) {
-        (None, end) => end,
-        (Some(start), None) => Some(start),
-        (Some(start), Some(end)) => Some(reach(start, end)),
+impl SourceSpan {
+    /// The place from the beginning of `start` to the end of `end`. With one missing it is the other; in
+    /// different files it is `end`; where `end` ends before `start` begins it is `start`.
+    pub fn recompose(start: Option<SourceSpan>, end: Option<SourceSpan>) -> Option<SourceSpan>
+        ensures { Recomposes start end result }
+    {
+        match (start, end) {
+            (None, end) => end,
+            (Some(start), None) => Some(start),
+            (Some(start), Some(end)) => Some(reach(start, end)),
+        }
     }
 }
 

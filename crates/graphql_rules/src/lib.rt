@@ -19,11 +19,6 @@ mod values;
 
 pub use given::{validate_arguments, validate_directives, validate_variable_usage};
 pub use rule_interfaces::is_valid_implementation_field_type;
-pub use rule_uses::{
-    Taker, TakerName, check_arguments_alone, check_directives_alone, check_given, check_taken,
-    check_uses,
-};
-pub use rule_values::{DefinedVariables, unique_input_values};
 pub use scalars::BuiltInScalars;
 pub use schema::validate_schema;
 pub use values::value_of_correct_type;

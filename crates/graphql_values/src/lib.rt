@@ -15,13 +15,10 @@ pub mod laws;
 mod ty_macro;
 
 pub use graphql_names::{FileId, Name, Node, NodeStr, SourceSpan};
-pub use tree_literals::{FloatValue, IntValue, NamedType, Type, Value, can_be_enum, put_type};
+pub use tree_literals::{FloatValue, IntValue, NamedType, Type, Value};
 pub use tree_operations::{
     Argument, ArgumentByNameError, Cause, Directive, DirectiveDefinition, DirectiveList,
     DirectiveLocation, Field, FragmentDefinition, FragmentSpread, InlineFragment,
-    InputValueDefinition, Level, Named, NamedDirectives, OperationDefinition, OperationType,
-    Selection, Serialize, Sink, Tree, VariableDefinition, WriteFault, begins_output,
-    directives_are_writable, get_named_mut, input_values_are_writable, put_argument_definitions,
-    put_break, put_description, put_directive_definition, put_directives, put_fragment,
-    put_input_members, put_keyword, put_operation, put_start,
+    InputValueDefinition, Named, NamedDirectives, OperationDefinition, OperationType, Selection,
+    Serialize, Tree, VariableDefinition, WriteFault, get_named_mut,
 };

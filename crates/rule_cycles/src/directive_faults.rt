@@ -12,7 +12,7 @@ ghost use Rattle.rule_cycles.specs.DirectiveFaults.{directives_of, TellsDirectiv
 
 use crate::uses::UseReferences;
 use fault_data::{DiagnosticData, Fault};
-use graphql_names::{Node, SourceSpan, recompose};
+use graphql_names::{Node, SourceSpan};
 use graphql_schema::Schema;
 use std::alloc::{AllocError, Global};
 use tree_directives::{Directive, DirectiveDefinition};
@@ -21,7 +21,7 @@ use tree_directives::{Directive, DirectiveDefinition};
 fn head(definition: &Node<DirectiveDefinition>) -> Option<SourceSpan>
     ensures { Recomposes (node_tree directive_definition_tree definition.now).place (node_tree directive_definition_tree definition.now).it.name.place result }
 {
-    recompose(definition.location(), definition.content().name.location())
+    SourceSpan::recompose(definition.location(), definition.content().name.location())
 }
 
 /// Adds the directive by which something first refers to another, if it does by one.

@@ -1,5 +1,5 @@
 -- What rules on variables tell of an operation without places.
-use Rattle.std.proofs.Common.{◌≡◌, ◌↔◌, ℕ, false, List, [], map, refl, sym, subst, None}
+use Rattle.std.proofs.Common.{◌≡◌, ◌↔◌, ℕ, true, false, List, [], map, refl, sym, subst, None}
 use Rattle.std.specs.Option.{option_map}
 use Rattle.tree_literals.specs.TypeTree.{TypeTree, unplaced_type}
 use Rattle.tree_literals.specs.TypeQueries.{inner_name}
@@ -130,12 +130,16 @@ module _ {P E : Type 0} (places : Places P) (d : MeantDocument P) (o : MeantOper
         moves_index Bared bare_variable o.variables (map bare_variable o.variables) refl _ _ (λ i x.
         type_bared (defined_name x) x.place (unplaced_type x.it.ty.it) (unplaced_type (unplaced_type x.it.ty.it)) (type_twice x.it.ty.it))
 
+    input_bared : (t u : TypeTree (Unit {0})) → u ≡ t → Present (s.type_named (inner_name t).it) (λ l. is_input_kind l.kind ≡ true) ↔ Present (s.type_named (inner_name u).it) (λ l. is_input_kind l.kind ≡ true)
+    input_bared t u e = subst (λ v. Present (s.type_named (inner_name t).it) (λ l. is_input_kind l.kind ≡ true) ↔ Present (s.type_named (inner_name v).it) (λ l. is_input_kind l.kind ≡ true)) (sym e) same
+
     default_value_bared : Moved {E = E} (λ g. DefaultValueBreaks s o g places) (λ f. DefaultValueBreaks s (unplaced_operation o) f no_places)
     default_value_bared =
         moves_index Bared bare_variable o.variables (map bare_variable o.variables) refl _ _ (λ i x.
-        moves_present Bared bare_value x.it.default_value (option_map bare_value x.it.default_value) refl _ _ (λ v.
+        moves_where Bared (input_bared (unplaced_type x.it.ty.it) (unplaced_type (unplaced_type x.it.ty.it)) (type_twice x.it.ty.it))
+        (moves_present Bared bare_value x.it.default_value (option_map bare_value x.it.default_value) refl _ _ (λ v.
         subst (λ t. Moved {E = E} (ValueBreaks places.at s [] (wanted_by x.it) v.place v.it) (ValueBreaks (λ a. tt) s [] (record { it = t; place = tt }) tt (unplaced_value v.it))) (sym (type_twice x.it.ty.it))
-        (value_bared [] places.at s (wanted_by x.it) v.place v.it)))
+        (value_bared [] places.at s (wanted_by x.it) v.place v.it))))
 
     variable_directives_bared : Moved {E = E} (λ g. VariableDirectivesBreak s o g places) (λ f. VariableDirectivesBreak s (unplaced_operation o) f no_places)
     variable_directives_bared =

@@ -1,5 +1,5 @@
 -- Rules on variables, by small documents: what breaks a rule, and what next to it does not.
-use Rattle.std.proofs.Common.{ℕ, List, [], ◌∷◌, codes, is_some, None, Some, refl, ap, inl, inr, true≢false, arith}
+use Rattle.std.proofs.Common.{ℕ, List, [], ◌∷◌, codes, is_some, None, Some, refl, sym, ap, inl, inr, true≢false, arith}
 use Rattle.tree_literals.specs.TypeTree.{TypeTree, NamedTree, NonNullNamedTree, unplaced_type}
 use Rattle.tree_literals.specs.ValueTree.{VariableTree, NullTree}
 use Rattle.tree_directives.specs.DirectiveTree.{Arguments}
@@ -103,7 +103,7 @@ v_is_used fault p = (at_only (variable 2 v_name int_name) p).0 (inr (inl (
   ),
 )))
 
--- ---- UnsupportedValueType: `query ($v: Int! = null) { a }`, and `query ($v: Int = null) { a }`
+-- ---- UnsupportedValueType: `query ($v: Int! = null) { a }`, and `query ($v: Int = null) { a }`, `query ($v: Q! = null) { a }`
 
 abbrev null_for : TypeTree ℕ → MeantOperation ℕ
 null_for ty = operation_of operation.Query (record { it = record { name = at 2 v_name; ty = record { it = ty; place = 3 }; default_value = Some (record { it = NullTree; place = 4 }); directives = [] }; place = 2 } ∷ []) (leaf 5 a_name ∷ [])
@@ -112,10 +112,10 @@ abbrev strict_int : TypeTree ℕ
 strict_int = NonNullNamedTree (at 3 int_name)
 
 null_is_no_value : DefaultValueBreaks small (null_for strict_int) (wrong {E = List ℕ} 4 (UnsupportedValueType NullTree (unplaced_type strict_int) 3)) by_numbers
-null_is_no_value = (0, (_, (refl, (_, (refl, inl (inl (int_type, (refl, ((λ e. true≢false e), refl)))))))))
+null_is_no_value = (0, (_, (refl, ((int_type, (refl, refl)), (_, (refl, inl (inl (int_type, (refl, ((λ e. true≢false e), refl))))))))))
 
 null_is_a_value : (fault : FaultAt ℕ (List ℕ)) → DefaultValueBreaks small (null_for (NamedTree (at 3 int_name))) fault by_numbers → ⊥
-null_is_a_value fault p = elim (of_present (record { it = NullTree; place = 4 }) (at_only _ p)) [
+null_is_a_value fault p = elim (of_present (record { it = NullTree; place = 4 }) (at_only _ p).1) [
   | inl (inl h) ↦ (of_present int_type h).0 refl
   | inl (inr (inl h)) ↦ not_present (of_present int_type h).1.1
   | inl (inr (inr (inl h))) ↦ not_present (of_present int_type h).1
@@ -123,3 +123,6 @@ null_is_a_value fault p = elim (of_present (record { it = NullTree; place = 4 })
   | inl (inr (inr (inr (inr h)))) ↦ not_present (of_present int_type h).1
   | inr h ↦ h
 ]
+
+q_has_no_values : (fault : FaultAt ℕ (List ℕ)) → DefaultValueBreaks small (null_for (NonNullNamedTree (at 3 query_name))) fault by_numbers → ⊥
+q_has_no_values fault p = true≢false (sym (of_present query_type (at_only _ p).0))

@@ -1,5 +1,5 @@
 -- Rules on the variables of an operation (GraphQL, October 2021, section 5.8).
-use Rattle.std.specs.Prelude.{◌≡◌, false, [], None, ◌⊎◌}
+use Rattle.std.specs.Prelude.{◌≡◌, true, false, [], None, ◌⊎◌}
 use Rattle.tree_literals.specs.TypeTree.{unplaced_type}
 use Rattle.tree_directives.specs.declared.directive_location.DirectiveLocation.TheVariants as location
 use Rattle.schema_types.specs.SchemaTree.{kind_words, is_input_kind}
@@ -45,10 +45,11 @@ module _ {P E : Type 0} (s : Judged) (o : MeantOperation P) (fault : FaultAt P E
   VariableInputTypeAt = AtSomeIndex o.variables (λ i x. Present (s.type_named (wanted_name (wanted_by x.it))) (λ t.
       (is_input_kind t.kind ≡ false) × (fault ≡ wrong x.place (VariableInputType (defined_name x) (unplaced_type x.it.ty.it) (kind_words t.kind)))))
 
-  -- the rules on values, of a default against the variable's type (section 5.6.1); a default has no variables
+  -- the rules on values, of a default against the variable's type, where that is an input type (section 5.6.1); a default has no variables
   abbrev pub DefaultValueBreaks : Places P → Type 0
-  DefaultValueBreaks places = AtSomeIndex o.variables (λ i x. Present x.it.default_value (λ v.
-      ValueBreaks places.at s [] (wanted_by x.it) v.place v.it fault))
+  DefaultValueBreaks places = AtSomeIndex o.variables (λ i x.
+      Present (s.type_named (wanted_name (wanted_by x.it))) (λ t. is_input_kind t.kind ≡ true)
+      × Present x.it.default_value (λ v. ValueBreaks places.at s [] (wanted_by x.it) v.place v.it fault))
 
   -- the rules on uses, of the directives of a variable (section 5.7)
   abbrev pub VariableDirectivesBreak : Places P → Type 0

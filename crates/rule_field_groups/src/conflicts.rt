@@ -16,12 +16,13 @@ use crate::shapes::same_type;
 use fault_document_data::{
     BuildError, ConflictingFieldArgument, ConflictingFieldName, ConflictingFieldType,
 };
-use graphql_names::{Name, SourceSpan, copies_of_three};
+use graphql_names::{Name, SourceSpan};
 use graphql_schema::Schema;
 use rule_document_ground::{FieldSelection, tell_breach};
 use rule_same_values::differing_argument;
 use schema_coordinates::{FieldArgumentCoordinate, TypeAttributeCoordinate};
 use std::alloc::{AllocError, Global};
+use tree_copies::copies_of_three;
 use tree_literals::Value;
 
 /// What breaks a rule, with its place.

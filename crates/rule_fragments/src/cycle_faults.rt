@@ -9,14 +9,14 @@ use crate::spread_graph::SpreadReferences;
 use document_typed_operations::Fragment;
 use document_typed_selections::FragmentSpread;
 use fault_data::{DiagnosticData, Fault};
-use graphql_names::{Node, SourceSpan, recompose};
+use graphql_names::{Node, SourceSpan};
 use std::alloc::{AllocError, Global};
 
 /// From the first token of a fragment's definition to its name.
 fn head(fragment: &Node<Fragment>) -> Option<SourceSpan>
     ensures { Recomposes (fragment_meant fragment.now).place (fragment_meant fragment.now).name.place result }
 {
-    recompose(fragment.location(), fragment.content().name.location())
+    SourceSpan::recompose(fragment.location(), fragment.content().name.location())
 }
 
 /// Adds the spread by which a fragment first refers to another, if it does.

@@ -1,4 +1,4 @@
--- Which faults checks of arguments and of directives that are used add to a list (GraphQL, October 2021, sections 5.4 and 5.7).
+-- Private: leads to `Uses` of the definitions of the rules. Which faults checks of arguments and of directives that are used add to a list (GraphQL, October 2021, sections 5.4 and 5.7).
 use Rattle.std.specs.Prelude.{Vec}
 use Rattle.std.specs.declared.alloc.Global.{Global}
 use Rattle.graphql_names.specs.Placed.{Place}

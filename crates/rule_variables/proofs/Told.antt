@@ -1,5 +1,5 @@
 -- The lists of faults of variables tell the rules on them.
-use Rattle.std.proofs.Common.{◌≡◌, ◌↔◌, ◌⊎◌, inl, inr, ℕ, ◌<◌, false, List, [], ◌∷◌, take, find, bytes_eq, Option, None, Some, refl, sym, ap, subst, ◌∙◌, true≢false, is_some, Contains, if◌then◌else◌}
+use Rattle.std.proofs.Common.{◌≡◌, ◌↔◌, ◌⊎◌, inl, inr, ℕ, ◌<◌, true, false, List, [], ◌∷◌, take, find, bytes_eq, Option, None, Some, refl, sym, ap, subst, ◌∙◌, true≢false, is_some, Contains, if◌then◌else◌}
 use Rattle.std.specs.Option.{option_map, option_map_or}
 use Rattle.graphql_names.specs.Placed.{Placed, Place, node_tree}
 use Rattle.graphql_names.specs.Places.{Recomposes}
@@ -26,7 +26,7 @@ use Rattle.rule_values.proofs.Noted.{told_found}
 use Rattle.rule_values.proofs.Looking.{inner_unplaced, type_absent, type_present}
 use Rattle.rule_definitions.proofs.Firsts.{earlier_is_found}
 use Rattle.rule_definitions.proofs.Listing.{Lists, lists_same, lists_nothing, lists_one, lists_where, lists_present, lists_unless, lists_places}
-use Rattle.rule_variables.specs.VariableFaults.{Defined, repeated_variable, variable_again, UnusedAmong, type_name, told_input_type, undefined_definition, variable_input_type, UndefinedType, NoInputType}
+use Rattle.rule_variables.specs.VariableFaults.{Defined, repeated_variable, variable_again, UnusedAmong, type_name, told_input_type, undefined_definition, variable_input_type, is_of_input_type, UndefinedType, NoInputType}
 use Rattle.rule_variables.proofs.Spans.{one_way}
 
 -- ---- UniqueVariable
@@ -114,6 +114,15 @@ module _ (s : SchemaTree Place) (x : Defined) where
           lists_same (if is_input_kind t.kind then [] else told_input_type x t.kind ∷ [])
           (λ f. type_present s (type_name x) t e (λ u. (is_input_kind u.kind ≡ false) × (f ≡ told_input_type x u.kind)))
           (lists_unless (is_input_kind t.kind) (told_input_type x t.kind))
+
+  pub of_input_type : (is_of_input_type s x ≡ true) ↔ Present ((judged s).type_named (wanted_name (wanted_by x.it))) (λ t. is_input_kind t.kind ≡ true)
+  of_input_type =
+      subst (λ n. (is_of_input_type s x ≡ true) ↔ Present ((judged s).type_named n) (λ t. is_input_kind t.kind ≡ true)) (sym same_name)
+      (by (type_at s (type_name x)) refl)
+    where
+      by : (o : Option (SchemaType Place)) → type_at s (type_name x) ≡ o → (option_map_or (λ (t : SchemaType Place). is_input_kind t.kind) o false ≡ true) ↔ Present ((judged s).type_named (type_name x)) (λ t. is_input_kind t.kind ≡ true)
+      by None e = (λ h. absurd (true≢false (sym h)), λ q. absurd (type_absent s (type_name x) e q))
+      by (Some t) e = type_present s (type_name x) t e (λ u. is_input_kind u.kind ≡ true)
 
 -- ---- of each of a list
 

@@ -1,5 +1,5 @@
 -- Private: leads to `specs/Variables.antt` of the definitions of the rules of documents. What each rule tells of one variable.
-use Rattle.std.specs.Prelude.{◌≡◌, ◌⊎◌, ℕ, false, List, [], ◌∷◌, Contains, Option, None, find, bytes_eq, if◌then◌else◌}
+use Rattle.std.specs.Prelude.{◌≡◌, ◌⊎◌, ℕ, Bool, true, false, List, [], ◌∷◌, Contains, Option, None, find, bytes_eq, if◌then◌else◌}
 use Rattle.std.specs.Option.{option_map_or}
 use Rattle.graphql_names.specs.Placed.{Placed, Place}
 use Rattle.graphql_names.specs.Places.{Recomposes}
@@ -66,6 +66,10 @@ module _ (s : SchemaTree Place) (x : Defined) where
   abbrev pub variable_input_type : List PlacedFault
   variable_input_type = option_map_or (λ t. if is_input_kind t.kind then [] else told_input_type x t.kind ∷ []) (type_at s (type_name x)) []
 
+  -- its type is there, and is an input type
+  abbrev pub is_of_input_type : Bool
+  is_of_input_type = option_map_or (λ t. is_input_kind t.kind) (type_at s (type_name x)) false
+
   module _ (f : PlacedFault) where
     -- the same as rules say it
     abbrev pub UndefinedType : Type 0
@@ -78,9 +82,13 @@ module _ (s : SchemaTree Place) (x : Defined) where
     abbrev pub DefaultBreaks : Type 0
     DefaultBreaks = Present x.it.default_value (λ v. ValueBreaks (place_at s) (judged s) [] (wanted_by x.it) v.place v.it f)
 
+    -- the same of a default that is judged: of a variable of an input type
+    abbrev pub JudgedDefaultBreaks : Type 0
+    JudgedDefaultBreaks = (is_of_input_type ≡ true) × DefaultBreaks
+
     abbrev pub DirectivesBreak : Type 0
     DirectivesBreak = UsesBreak (place_at s) (judged s) [] location.VariableDefinition x.it.directives f
 
     -- a rule under a schema
     abbrev pub VariableBreaks : Type 0
-    VariableBreaks = UndefinedType ⊎ (NoInputType ⊎ (DefaultBreaks ⊎ DirectivesBreak))
+    VariableBreaks = UndefinedType ⊎ (NoInputType ⊎ (JudgedDefaultBreaks ⊎ DirectivesBreak))

@@ -7,7 +7,7 @@ ghost use Rattle.rule_values.specs.in_schema.SchemaOf.{schema_tree};
 ghost use Rattle.rule_values.specs.in_fault_data.FaultView.{fault_of};
 ghost use Rattle.rule_values.specs.in_fault_data.Adds.{Adds};
 ghost use Rattle.rule_values.specs.Wanting.{variables_of};
-ghost use Rattle.rule_variables.specs.VariableFaults.{undefined_definition, variable_input_type, told_input_type, DefaultBreaks, VariableBreaks};
+ghost use Rattle.rule_variables.specs.VariableFaults.{undefined_definition, variable_input_type, told_input_type, is_of_input_type, DefaultBreaks, JudgedDefaultBreaks, VariableBreaks};
 
 use graphql_names::Node;
 use rule_uses::check_uses;
@@ -88,6 +88,32 @@ fn check_default(
     }
 }
 
+/// Whether the type of a variable is there, and is an input type.
+fn is_of_input_type(schema: &Schema, variable: &Node<VariableDefinition>) -> bool
+    ensures { result ≡ is_of_input_type (schema_tree schema.now) (node_tree variable_definition_tree variable.now) }
+{
+    let ty = variable.content().ty.content();
+    match schema.type_named(ty.inner_named_type()) {
+        None => false,
+        Some(found) => found.kind().is_input_type(),
+    }
+}
+
+/// Adds the same of a variable of an input type. Of another no default is judged: that its type is none, or is not there, is
+/// told already.
+fn check_judged_default(
+    schema: &Schema,
+    variable: &Node<VariableDefinition>,
+    faults: &mut Vec<Fault>,
+) -> Result<(), AllocError>
+    ensures { OnOk result (Adds faults.old faults.new (JudgedDefaultBreaks (schema_tree schema.now) (node_tree variable_definition_tree variable.now))) }
+{
+    if is_of_input_type(schema, variable) {
+        return check_default(schema, variable, faults);
+    }
+    Ok(())
+}
+
 /// Adds the faults of one variable: of its type, its default and its directives.
 fn check_variable(
     schema: &Schema,
@@ -98,7 +124,7 @@ fn check_variable(
 {
     tell(faults, undefined_definition(schema, variable)?)?;
     tell(faults, variable_input_type(schema, variable)?)?;
-    check_default(schema, variable, faults)?;
+    check_judged_default(schema, variable, faults)?;
     let directives = &variable.content().directives.0;
     let variables = DefinedVariables::listed(&[]);
     check_uses(

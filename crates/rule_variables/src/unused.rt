@@ -11,7 +11,7 @@ ghost use Rattle.rule_uses.specs.Steps.{Lists};
 ghost use Rattle.rule_document_ground.specs.NotedNames.{noted_names};
 ghost use Rattle.rule_variables.specs.VariableFaults.{UnusedAmong};
 
-use graphql_names::{Name, Node, SourceSpan, recompose};
+use graphql_names::{Name, Node, SourceSpan};
 use indexmap::IndexSet;
 use rule_values::{DiagnosticData, Fault, tell};
 use std::alloc::AllocError;
@@ -21,7 +21,7 @@ use tree_operations::VariableDefinition;
 fn head(variable: &Node<VariableDefinition>) -> Option<SourceSpan>
     ensures { Recomposes (node_tree variable_definition_tree variable.now).place (node_tree variable_definition_tree variable.now).it.name.place result }
 {
-    recompose(variable.location(), variable.content().name.location())
+    SourceSpan::recompose(variable.location(), variable.content().name.location())
 }
 
 /// Whether the name is among these.

@@ -1,13 +1,11 @@
 //! What a checked schema and a checked document lend.
 
+use crate::hold::{hold, schema_of};
 use document_typed_operations::Operation;
 use document_typed_selections::{Field, SelectionSet};
-use graphql_checked::{
-    CheckedDocument, CheckedSchema, Checker, ExecutableDocument, Limits, Refusal, RunFault,
-};
+use graphql_checked::{CheckedDocument, CheckedSchema, ExecutableDocument, Refusal, RunFault};
 use graphql_names::Node;
-use std::alloc::{AllocError, Global};
-use std::process::Abort;
+use std::alloc::AllocError;
 
 /// A user with a picture, and a scalar of one's own.
 const USERS: &str =
@@ -16,18 +14,6 @@ const USERS: &str =
 /// A field whose definition has a directive.
 const MARKED: &str =
     "type Query { p: Boolean @j(g: I) } enum G { I } directive @j(g: G) on FIELD_DEFINITION";
-
-/// It holds.
-fn hold(rt: &impl Abort, condition: bool, what: &str) {
-    assert!(rt; condition, "{what}");
-}
-
-/// The schema of the text.
-fn schema_of(alloc: Global, text: &str) -> Result<CheckedSchema, Refusal> {
-    let mut checker = Checker::new(alloc, Limits { nesting: 9 });
-    checker.add_schema(text)?;
-    checker.finish()
-}
 
 /// Whether the field has this name, and this is the type inside that of its definition.
 fn is_field(field: Option<&Node<Field>>, name: &str, inner: &str) -> bool {

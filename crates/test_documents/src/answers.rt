@@ -2,7 +2,10 @@
 
 use crate::copies::{fragment_is_copied, is_another, is_copied, operation_is_copied};
 use crate::definitions::{document, fragment, is_by_name, operation, operations};
-use crate::selections::{field_with_all, field_with_each, inline_with_all, spread_with_all};
+use crate::selections::{
+    empty_inline, field_with_all, field_with_each, inline_with_all, inline_without_condition,
+    spread_with_all,
+};
 use crate::walks::{has_fragment, is_over, is_over_at_roots};
 use graphql_documents::{ExecutableDocument, Field, SelectionSet, SelectionSetExt};
 use std::alloc::Global;
@@ -13,6 +16,22 @@ fn hold(rt: &impl Abort, is_so: bool, what: &str) {
     assert!(rt; is_so, "{what}");
 }
 
+/// What the calls answer on inline fragments.
+fn over_inline(rt: &impl Abort, alloc: Global, field: &Field) {
+    hold(
+        rt,
+        is_copied(inline_with_all(alloc, field)),
+        "an inline fragment's copy",
+    );
+    let is_so = is_copied(inline_without_condition(alloc, field));
+    hold(rt, is_so, "the copy of one without a condition");
+    hold(
+        rt,
+        is_copied(empty_inline(alloc)),
+        "the copy of an empty one",
+    );
+}
+
 /// What the calls answer on the field, and on operations and fragments.
 fn over_field(rt: &impl Abort, alloc: Global, field: &Field) {
     hold(rt, is_copied(field_with_all(field)), "a field's copy");
@@ -21,11 +40,7 @@ fn over_field(rt: &impl Abort, alloc: Global, field: &Field) {
         is_copied(spread_with_all(alloc, field)),
         "a spread's copy",
     );
-    hold(
-        rt,
-        is_copied(inline_with_all(alloc, field)),
-        "an inline fragment's copy",
-    );
+    over_inline(rt, alloc, field);
     hold(
         rt,
         operation_is_copied(operation(alloc)),

@@ -45,3 +45,19 @@ pub(crate) fn inline_with_all(alloc: Global, field: &Field) -> Result<InlineFrag
         .with_directives(field.directives.0.clone()?)?
         .with_selections(field.selection_set.selections.clone()?)
 }
+
+/// `... { ...F }`, with what the field selects.
+pub(crate) fn inline_without_condition(
+    alloc: Global,
+    field: &Field,
+) -> Result<InlineFragment, AllocError> {
+    let mut inline = field.selection_set.new_inline_fragment(alloc, None)?;
+    let selections = field.selection_set.selections.clone()?;
+    inline.selection_set.extend(selections)?;
+    Ok(inline)
+}
+
+/// `... on __Type { }`
+pub(crate) fn empty_inline(alloc: Global) -> Result<InlineFragment, AllocError> {
+    InlineFragment::with_type_condition(alloc, name!("__Type"))
+}

@@ -32,7 +32,17 @@ fn show_built(lines: &mut Lines) {
     show_details(lines, &Details::DocumentBuild(collision));
 }
 
-/// Adds a list of four, of which one is a copy and two are of builders, behind its length.
+/// Adds to the list an error of folding, and one of typing.
+fn push_built(alloc: Global, list: &mut DiagnosticList) -> Result<(), AllocError> {
+    let mut folding = Vec::new(alloc);
+    folding.push((None, SchemaError::OrphanSchemaExtension))?;
+    list.append_schema_errors(folding)?;
+    let mut typing = Vec::new(alloc);
+    typing.push((None, DocumentError::AmbiguousAnonymousOperation))?;
+    list.append_document_errors(typing)
+}
+
+/// Adds a list of four, of which one is a copy and two are moved from another list, behind the lengths of both.
 pub(crate) fn show_list(alloc: Global, lines: &mut Lines) -> Result<(), AllocError> {
     let mut list = DiagnosticList::new(alloc);
     list.push(None, Details::Nesting)?;
@@ -41,13 +51,11 @@ pub(crate) fn show_list(alloc: Global, lines: &mut Lines) -> Result<(), AllocErr
         data: DiagnosticData::UnusedFragment { name: type_name() },
     };
     list.push_fault(unused.clone()?)?;
-    let mut folding = Vec::new(alloc);
-    folding.push((None, SchemaError::OrphanSchemaExtension))?;
-    list.append_schema_errors(folding)?;
-    let mut typing = Vec::new(alloc);
-    typing.push((None, DocumentError::AmbiguousAnonymousOperation))?;
-    list.append_document_errors(typing)?;
+    let mut built = DiagnosticList::new(alloc);
+    push_built(alloc, &mut built)?;
+    list.append(&mut built)?;
     lines.show_between("DiagnosticList: ", &list.len(), "\n");
+    lines.show_between("DiagnosticList, moved: ", &built.len(), "\n");
     for diagnostic in list.iter() {
         lines.show_between("- ", &diagnostic.1, "\n");
     }

@@ -3,7 +3,7 @@ ghost use Rattle.std.specs.Prelude.{◌≡◌, ◌+◌, ◌<◌, ◌^◌};
 
 use graphql_names::{
     Cut, Device, Ending, FileId, Files, InvalidNameError, Name, NameError, Node, NodeStr,
-    SourceSpan, Spent, TextPart, name, recompose,
+    SourceSpan, Spent, TextPart, name,
 };
 use std::alloc::{AllocError, Global};
 use std::cmp::Ordering;
@@ -67,9 +67,13 @@ fn span(file: u64, offset: usize, length: usize) -> SourceSpan
 /// What begins with the first place, of 5 bytes from 10, and ends with the other is at the third.
 fn joins(rt: &impl Abort, end: SourceSpan, whole: SourceSpan) {
     let first = span(1, 10, 5);
-    same_place(rt, recompose(Some(first), Some(end)), Some(whole));
-    same_place(rt, recompose(None, Some(end)), Some(end));
-    same_place(rt, recompose(Some(end), None), Some(end));
+    same_place(
+        rt,
+        SourceSpan::recompose(Some(first), Some(end)),
+        Some(whole),
+    );
+    same_place(rt, SourceSpan::recompose(None, Some(end)), Some(end));
+    same_place(rt, SourceSpan::recompose(Some(end), None), Some(end));
 }
 
 #[test]
@@ -80,7 +84,7 @@ fn puts_places_together(rt: HostRuntime) {
     joins(&rt, span(1, 5, 5), span(1, 10, 0));
     joins(&rt, span(1, 5, 4), span(1, 10, 5));
     joins(&rt, span(2, 20, 3), span(2, 20, 3));
-    same_place(&rt, recompose(None, None), None);
+    same_place(&rt, SourceSpan::recompose(None, None), None);
 }
 
 /// Whether a name was made of the text, and has it, or the text was refused as no name.

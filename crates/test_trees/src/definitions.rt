@@ -101,19 +101,44 @@ fn name_by(number: usize) -> &'static str {
     }
 }
 
-/// Whether the copy of what is in it equals that, of those that are copied; of an operation, whether one made of its copy
-/// equals it.
+/// Whether the copy of what is in the definition of a type equals that; of another it is.
+fn type_is_copied(definition: &Definition) -> bool {
+    match definition {
+        Definition::ScalarTypeDefinition(node) => is_copied(node.content()),
+        Definition::ObjectTypeDefinition(node) => is_copied(node.content()),
+        Definition::InterfaceTypeDefinition(node) => is_copied(node.content()),
+        Definition::UnionTypeDefinition(node) => is_copied(node.content()),
+        Definition::EnumTypeDefinition(node) => is_copied(node.content()),
+        Definition::InputObjectTypeDefinition(node) => is_copied(node.content()),
+        _ => true,
+    }
+}
+
+/// The same of the extension of a type.
+fn extension_is_copied(definition: &Definition) -> bool {
+    match definition {
+        Definition::ScalarTypeExtension(node) => is_copied(node.content()),
+        Definition::ObjectTypeExtension(node) => is_copied(node.content()),
+        Definition::InterfaceTypeExtension(node) => is_copied(node.content()),
+        Definition::UnionTypeExtension(node) => is_copied(node.content()),
+        Definition::EnumTypeExtension(node) => is_copied(node.content()),
+        Definition::InputObjectTypeExtension(node) => is_copied(node.content()),
+        _ => true,
+    }
+}
+
+/// Whether the copy of what is in it equals that; of an operation, whether one made of its copy equals it.
 fn content_is_copied(definition: &Definition) -> bool {
     match definition {
         Definition::OperationDefinition(node) => match node.clone() {
             Ok(copy) => Definition::from(copy) == *definition,
             Err(_refused) => false,
         },
+        Definition::FragmentDefinition(node) => is_copied(node.content()),
+        Definition::DirectiveDefinition(node) => is_copied(node.content()),
         Definition::SchemaDefinition(node) => is_copied(node.content()),
         Definition::SchemaExtension(node) => is_copied(node.content()),
-        Definition::ObjectTypeDefinition(node) => is_copied(node.content()),
-        Definition::ObjectTypeExtension(node) => is_copied(node.content()),
-        _ => true,
+        _ => type_is_copied(definition) & extension_is_copied(definition),
     }
 }
 

@@ -125,6 +125,42 @@ fn finds_arguments(rt: HostRuntime) {
     hold(&rt, is_so, "arguments and a field");
 }
 
+/// Whether the copies of the first variable, the first directive and its first argument equal these. None where one is not there.
+fn copies_own(operation: &OperationDefinition) -> Option<bool> {
+    let variable = operation.variables.first()?;
+    let directive = operation.directives.0.first()?;
+    let argument = directive.content().arguments.first()?;
+    let is_copied_inside = is_copied(directive.content()) & is_copied(argument.content());
+    Some(is_copied(variable.content()) & is_copied_inside)
+}
+
+/// Whether the copies of what is in a field, a spread and an inline fragment equal that. None where one is not there.
+fn copies_selections(selections: &[Selection]) -> Option<bool> {
+    let field = selections.get(0)?.as_field()?;
+    let spread = selections.get(1)?.as_fragment_spread()?;
+    let inline = selections.get(2)?.as_inline_fragment()?;
+    let is_spread_copied = is_copied(spread.content()) & is_copied(inline.content());
+    Some(is_copied(field.content()) & is_spread_copied)
+}
+
+/// Whether the copies of the parts of an operation, and that of the argument of a directive's definition, equal these.
+fn copies_parts(document: &Document) -> Option<bool> {
+    let definition = document.definitions.get(0)?.as_directive_definition()?;
+    let operation = document.definitions.get(1)?.as_operation_definition()?;
+    let argument = definition.arguments.first()?;
+    let is_own_copied = copies_own(operation)? & copies_selections(&operation.selection_set)?;
+    Some(is_copied(argument.content()) & is_own_copied)
+}
+
+#[test]
+fn copies_parts_of_operations(rt: HostRuntime) {
+    let text =
+        "directive @d(a: Int = 1) on QUERY query($v: Int = 2 @d) @d(a: 3) { f(b: 4) ...F ... on T { g } }";
+    let document = read(&rt, rt.alloc(), text);
+    let is_so = copies_parts(document.content()) == Some(true);
+    hold(&rt, is_so, "the copies of parts");
+}
+
 #[test]
 fn names_operations_and_locations(rt: HostRuntime) {
     same_text(&rt, OperationType::Mutation.default_type_name(), "Mutation");

@@ -8,8 +8,9 @@ ghost use Rattle.tree_definitions.specs.DocumentLayout.{definition_text, documen
 use crate::definition::Definition;
 use crate::document::Document;
 use crate::print_document::{put_definition, put_document};
-use graphql_values::{Level, Sink, Tree, begins_output, put_start};
 use std::fmt;
+use tree_operations::begins_output;
+use tree_printing::{Level, Sink, Tree, put_start};
 
 impl Tree for Definition {
     ghost text = { λ t prefix level. standing prefix level (definition_text (begins_output prefix level) prefix (definition_tree t) level) };

@@ -9,8 +9,9 @@ ghost use Rattle.tree_directives.specs.DirectiveQueries.{input_value_has_name, g
 use crate::argument_error::ArgumentByNameError;
 use crate::directive_location::DirectiveLocation;
 use crate::input_value::InputValueDefinition;
-use graphql_names::{Name, Node, NodeStr, copies_of_five};
+use graphql_names::{Name, Node, NodeStr};
 use std::alloc::{AllocError, Global};
+use tree_copies::copies_of_five;
 use tree_literals::Value;
 
 /// `name: value` (section 2.6).

@@ -17,10 +17,6 @@ pub use print_operation::{begins_output, put_fragment, put_operation};
 pub use selection::{Field, FragmentSpread, InlineFragment, Selection};
 pub use tree_directives::{
     Argument, ArgumentByNameError, Directive, DirectiveDefinition, DirectiveList,
-    DirectiveLocation, InputValueDefinition, Named, NamedDirectives, OperationType,
-    directives_are_writable, get_named_mut, input_values_are_writable, put_argument_definitions,
-    put_directive_definition, put_directives, put_input_members, put_keyword,
+    DirectiveLocation, InputValueDefinition, Named, NamedDirectives, OperationType, get_named_mut,
 };
-pub use tree_printing::{
-    Cause, Level, Serialize, Sink, Tree, WriteFault, put_break, put_description, put_start,
-};
+pub use tree_printing::{Cause, Serialize, Tree, WriteFault};

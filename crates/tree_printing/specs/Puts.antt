@@ -1,4 +1,4 @@
--- What a `Printer` does with a text.
+-- Private: leads to `Serialized`. What a `Printer` does with a text.
 use Rattle.std.specs.Prelude.{◌≡◌, ℕ, ◌+◌, ◌<◌, ◌≤◌, ◌^◌, true, List, [], ◌∷◌, ◌++◌, length, take, Option, None, Some, refl}
 use Rattle.std.proofs.Common.{sym, subst, ap, ◌∙◌, arith, length-append}
 use Rattle.std.proofs.Math.Seq.{take-append-add}

@@ -1,4 +1,4 @@
--- What a `Shown` does with a text.
+-- Private: leads to `Serialized`. What a `Shown` does with a text.
 use Rattle.std.specs.Prelude.{◌≡◌, ℕ, false, List, [], ◌∷◌, ◌++◌, refl}
 use Rattle.std.proofs.Common.{◌∙◌, ap, sym, subst, append_assoc}
 use Rattle.std.specs.List.{FoldsTo, concat}

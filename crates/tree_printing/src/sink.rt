@@ -32,14 +32,18 @@ pub trait Sink {
 /// Why a text is not all out.
 #[derive(Clone, Copy, Debug, PartialEq, Eq)]
 pub enum Cause {
+    /// The writer has failed or took nothing.
     Writer,
+    /// A level, or the number of bytes that are out, would pass `usize::MAX`.
     Level,
 }
 
 /// What kept a text from being all out, and how many of its bytes are out.
 #[derive(Clone, Copy, Debug, PartialEq, Eq)]
 pub struct WriteFault {
+    /// What kept it from that.
     pub cause: Cause,
+    /// So many bytes of the text are out, from its beginning.
     pub out: usize,
 }
 

@@ -1,4 +1,4 @@
-//! Copies of several things at once: for the clones of the crates above, in which few values then live across a `?`.
+//! Copies of two to five things.
 ghost use Rattle.std.specs.Prelude.{IfOk};
 
 use std::alloc::AllocError;
