@@ -20,8 +20,8 @@ use Rattle.rule_document_definitions.specs.Selected.{Standing, as_field, selecti
 use Rattle.rule_document_definitions.specs.UsedVariables.{StandsInValue, StandsInItems, StandsInEntries, StandsInArguments, StandsInDirectives, StandsInSelection, IsUsedIn, wanted_by}
 use Rattle.rule_document_definitions.specs.Variables.{VariablesBreak}
 use Rattle.rule_document_definitions.specs.Verdict.{no_places}
-use Rattle.book_validity.specs.Words.{Document, Operation}
-use Rattle.book_validity.specs.Variables.{AreVariablesValid}
+use Rattle.book_validity.specs.Words.{Document, Each, Operation}
+use Rattle.book_validity.specs.Variables.{AreVariablesValid, IsInputType}
 use Rattle.rule_document_definitions.proofs.Decided.{Decided, stable, either, names, present, at_some_index}
 use Rattle.book_laws.proofs.Naming.{Quiet, is_there, there, is_true, unique_from, unique_never}
 use Rattle.book_laws.proofs.KeyFacts.{keys_quiet, quiet_keys}
@@ -82,21 +82,25 @@ module _ (s : Judged) (d : Document) (o : Operation) where
   variables_quiet h fault (inr (inr (inr (inr (inl (i, (x, (e, (u, (has, (output, told))))))))))) =
       let (t, (is, input)) = h.input_types x (index_given o.variables i x e) in
       true≢false (sym input ∙ ap (λ (k : TypeLooks). is_input_kind k.kind) (same_Some t u (sym is ∙ has)) ∙ output)
-  variables_quiet h fault (inr (inr (inr (inr (inr (inl (i, (x, (e, (v, (is, b))))))))))) =
+  variables_quiet h fault (inr (inr (inr (inr (inr (inl (i, (x, (e, (input, (v, (is, b)))))))))))) =
       (accepted x v).0 (h.defaults x (index_given o.variables i x e) v is) fault b
   variables_quiet h fault (inr (inr (inr (inr (inr (inr (i, (x, (e, b))))))))) =
       directives_quiet s [] location.VariableDefinition x.it.directives (h.directives x (index_given o.variables i x e)) fault b
 
+  quiet_inputs : Quiet (VariablesBreak no_places s d o) → Each o.variables (λ x. IsInputType s (wanted_name (wanted_by x.it)))
+  quiet_inputs q x c =
+      let (i, e) = index_found o.variables x c in
+      let (t, is) = there (s.type_named (wanted_name (wanted_by x.it))) (is_there (s.type_named (wanted_name (wanted_by x.it))) (λ none. q _ (inr (inr (inr (inl (i, (x, (e, (none, refl)))))))))) in
+      (t, (is, is_true (is_input_kind t.kind) (λ output. q _ (inr (inr (inr (inr (inl (i, (x, (e, (t, (is, (output, refl))))))))))))))
+
   pub quiet_variables : Quiet (VariablesBreak no_places s d o) → AreVariablesValid s d o
   quiet_variables q = record {
     unique = unique_from defined_name o.variables (λ r. q _ (inl (r.0, (r.1.0, (r.1.1.0, (r.1.1.1.0, (r.1.1.1.1.0, (r.1.1.1.1.1.0, (r.1.1.1.1.1.1.0, (r.1.1.1.1.1.1.1.0, (r.1.1.1.1.1.1.1.1.0, refl)))))))))));
-    input_types = λ x c. let (i, e) = index_found o.variables x c in
-        let (t, is) = there (s.type_named (wanted_name (wanted_by x.it))) (is_there (s.type_named (wanted_name (wanted_by x.it))) (λ none. q _ (inr (inr (inr (inl (i, (x, (e, (none, refl)))))))))) in
-        (t, (is, is_true (is_input_kind t.kind) (λ output. q _ (inr (inr (inr (inr (inl (i, (x, (e, (t, (is, (output, refl))))))))))))));
+    input_types = quiet_inputs q;
     used = λ x c. let (i, e) = index_found o.variables x c in
         stable (used_or_not (defined_name x) d o) (λ unused. q _ (inr (inr (inl (i, (x, (e, (unused, (tt, (tt, refl))))))))));
     defaults = λ x c v is. let (i, e) = index_found o.variables x c in
-        (accepted x v).1 (λ fault b. q fault (inr (inr (inr (inr (inr (inl (i, (x, (e, (v, (is, b))))))))))));
+        (accepted x v).1 (λ fault b. q fault (inr (inr (inr (inr (inr (inl (i, (x, (e, (quiet_inputs q x c, (v, (is, b)))))))))))));
     keys = λ x c v is. let (i, e) = index_found o.variables x c in quiet_keys v.it (λ fault b. q fault (inr (inl (i, (x, (e, (v, (is, b))))))));
     directives = λ x c. let (i, e) = index_found o.variables x c in
         quiet_directives s [] location.VariableDefinition x.it.directives (λ fault b. q fault (inr (inr (inr (inr (inr (inr (i, (x, (e, b))))))))));
