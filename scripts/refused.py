@@ -13,7 +13,7 @@ Every other run is printed. The last line has the counts, and the status is 1 wh
 is not there or is not answered as it wants.
 
 With --states PROGRAM is that of `row_checker`, and its rows of the call `series` are run: one schema answers several documents, and
-the first of them twice. Each request is refused alone, so that memory is there again behind it. Either the row is not judged,
+the first of them twice. Each request, or 50 times N of them, is refused alone, so that memory is there again behind it. Either the row is not judged,
 or one answer is want of memory and each other one is right, those of the same schema behind it among them."""
 
 import argparse
@@ -305,7 +305,9 @@ def main():
                 whole.add(name)
             if (is_whole or given.states) and not runs.is_right():
                 wrong.append(f"{name}: the answer is {runs.right!r}")
-            numbered = [(n, False) for n in range(1, runs.requests + 1)] if given.states else tries(runs, is_whole, given.sample, offset)
+            numbered = tries(runs, is_whole, given.sample, offset)
+            if given.states:
+                numbered = [(number, False) for number in numbers(runs.requests, 50 * given.sample, offset)]
             for kind, line in pool.map(lambda one: runs.refuse(*one), numbered):
                 count[kind] += 1
                 if line:
