@@ -5,7 +5,9 @@ PROGRAM is the built program of `row_validation` (`rt run` there leaves it in `o
 written to a folder that is removed again, and PROGRAM judges each. A line tells the two times, less that of an empty row, and
 by what factor they differ: about 10 where time grows with the size. With WORD only cases whose names have it are run."""
 
+import math
 import os
+import random
 import resource
 import subprocess
 import sys
@@ -23,6 +25,50 @@ def chain(n, body, last):
     """Fragments F0 to Fn-1, each with a body in which # is a spread of the next; the last one has other selections."""
     inner = (f"fragment F{i} on Query {{ {body.replace('#', f'...F{i + 1}')} }}" for i in range(n - 1))
     return " ".join([*inner, f"fragment F{n - 1} on Query {{ {last} }}"])
+
+
+M = "type Query { q: Query a: Int b: String }"
+
+
+def shared(n):
+    """A fragment of n fields."""
+    return " fragment F on Query { " + many(n, "a#: a") + " }"
+
+
+def levels(members, chosen, deep):
+    """Fragments at so many levels, each of which spreads two of the next: those of one level are spread in ever other orders; and
+    where fewer are chosen than there are members, in ever other sets, and all of them by another operation."""
+    order = random.Random(1)
+    parts = ["query one { " + many(chosen, "...A0_#") + " }"]
+    for level in range(deep):
+        x, y = list(range(members)), list(range(members))
+        order.shuffle(x)
+        order.shuffle(y)
+        next_level = f"...A{level + 1}_"
+        parts += (f"fragment A{level}_{i} on Query {{ x: q {{ {next_level}{x[i]} }} y: q {{ {next_level}{y[i]} }} }}" for i in range(members))
+    parts += (f"fragment A{deep}_{i} on Query {{ a{i}: a }}" for i in range(members))
+    if chosen < members:
+        parts.append("query all { " + " ".join(f"...A{level}_{i}" for level in range(deep + 1) for i in range(members)) + " }")
+    return " ".join(parts)
+
+
+def objects(n):
+    """A schema with an interface that n objects have."""
+    return "type Query { i: I } interface I { i: I a: Int } " + many(n, "type T# implements I { i: I a: Int }")
+
+
+def words(n):
+    """n chains of fields that go by nearly all words of two keys, and n that go by one word each."""
+    pick = random.Random(2)
+    long = max(1, math.ceil(1.5 * math.log2(n)))
+    parts = ["{ " + many(n, "...A#_0 ...B#_0") + " }"]
+    for i in range(n):
+        for k in range(long):
+            other = "" if pick.random() < 1 / long else f"k1: q {{ ...A{i}_{k + 1} }} "
+            parts.append(f"fragment A{i}_{k} on Query {{ k0: q {{ ...A{i}_{k + 1} }} {other}}}")
+            parts.append(f"fragment B{i}_{k} on Query {{ k{int(pick.random() < .5)}: q {{ ...B{i}_{k + 1} }} }}")
+        parts.append(f"fragment A{i}_{long} on Query {{ z: a }} fragment B{i}_{long} on Query {{ z: a }}")
+    return " ".join(parts)
 
 
 # Of each case its name, n, and what makes its schema and document of a size.
@@ -53,6 +99,19 @@ CASES = [
     ("directives of a field", 1000, lambda n: ("directive @d repeatable on FIELD " + Q, "{ a " + many(n, "@d") + " }")),
     ("objects of an interface, each with a fragment", 100, lambda n: ("type Query { p: P } interface P { a: Int } " + many(n, "type T# implements P { a: Int }"), "{ p { " + many(n, "... on T# { a }") + " } }")),
     ("members of a union, each with a fragment on it", 100, lambda n: ("type Query { u: U } union U = " + many(n, "T#", " | ") + " " + many(n, "type T# { a: Int }"), "{ u { " + many(n, "... on U { ... on T# { k#: a } }") + " } }")),
+    ("merging: fragments in ever other orders, levels", 4, lambda n: (M, levels(8, 8, n))),
+    ("merging: fragments in ever other orders, members", 3, lambda n: (M, levels(n, n, 16))),
+    ("merging: ever other sets of fragments, levels", 3, lambda n: (M, levels(16, 8, n))),
+    ("merging: groups that select one fragment", 100, lambda n: (M, "{ " + many(n, "x#: q { ...F }") + " }" + shared(n))),
+    ("merging: groups that select one fragment and a field", 30, lambda n: (M, "{ " + many(n, "x#: q { y#: a ...F }") + " }" + shared(n))),
+    ("merging: one group that selects one fragment", 100, lambda n: (M, "{ " + many(n, "q { ...F b#: a }") + " }" + shared(n))),
+    ("merging: operations that select one fragment", 100, lambda n: (M, many(n, "query Z# { ...F }") + shared(n))),
+    ("merging: operations that select it and a field", 30, lambda n: (M, many(n, "query Z# { y#: a ...F }") + shared(n))),
+    ("merging: fragments that select other fields of one", 100, lambda n: (M, "{ " + many(n, "...F#") + " } " + many(n, "fragment F# on Query { q { x#: a } }"))),
+    ("merging: objects of an interface", 100, lambda n: (objects(n), "{ i { " + many(n, "... on T# { a }") + " } }")),
+    ("merging: objects, and as many fields of the interface", 30, lambda n: (objects(n), "{ i { i { " + many(n, "a#: a") + " } " + many(n, "... on T# { i { b#: a } }") + " } }")),
+    ("merging: objects, and as many sets of the interface", 15, lambda n: (objects(n), "{ i { " + many(n, "i { a#: a }") + " " + many(n, "... on T# { i { b#: a } }") + " } }")),
+    ("merging: words", 6, lambda n: (M, words(n))),
     ("faults", 1000, lambda n: (Q, "{ " + many(n, "k#: f(x: $v#)") + " }")),
 ]
 

@@ -4,5 +4,6 @@ pub mod Telling
 pub mod Shaped
 pub mod ShapesTold
 pub mod Lists
+pub mod Sets
 -- For the layer above.
 pub use Rattle.rule_document_ground.proofs as in_ground

@@ -1,4 +1,4 @@
--- Lists of one of each content: those below groups, and those that operations start with.
+-- Lists of one of each content: what sets select.
 use Rattle.std.proofs.Common.{◌≡◌, ◌⊎◌, ◌∙◌, ℕ, ◌+◌, ◌<◌, Bool, true, false, None, Some, ◌||◌, List, [], ◌∷◌, ◌++◌, length, get_or, take, Contains, refl, sym, ap, subst, inl, inr, if◌then◌else◌, true≢false, arith}
 use Rattle.std.specs.Prelude.{slice_get}
 use Rattle.std.specs.List.{list_any}
@@ -13,15 +13,17 @@ use Rattle.schema_components.specs.Names.{Entries}
 use Rattle.schema_components.proofs.Places.{Contains-rest}
 use Rattle.rule_definitions.proofs.Lists.{not_in_nil, only, Contains-cons, Contains-first}
 use Rattle.rule_cycle_search.specs.Paths.{HasNoRepeat}
-use Rattle.document_meaning.specs.MeantTree.{MeantSet, MeantFragment, MeantOperation, MeantDocument}
+use Rattle.rule_field_groups.specs.declared.below.SelectedSet.{SelectedSet}
+use Rattle.document_meaning.specs.MeantTree.{MeantSet, MeantFragment, MeantDocument}
 use Rattle.rule_document_definitions.specs.Selected.{StandingField, InOperation}
-use Rattle.rule_document_definitions.specs.Contents.{ContentBelow, unplaced_content}
+use Rattle.rule_document_definitions.specs.Contents.{content, unplaced_content}
+use Rattle.rule_document_definitions.specs.Reached.{IsFieldOf}
 use Rattle.rule_document_definitions.proofs.Unplaced.{contains_map, contains_unmap}
 use Rattle.rule_document_ground.specs.Fields.{field_of, fields_of, content_of, AddsFieldsOf}
 use Rattle.rule_document_ground.specs.declared.field_selection.FieldSelection.{FieldSelection}
 use Rattle.rule_document_ground.proofs.ContentEquality.{selection_eq, selection_eq-Decides}
 use Rattle.rule_merging_laws.specs.Contents.{PlainField}
-use Rattle.rule_field_groups.specs.Below.{contents_of, AreStarting, AreStartingWith, AreBelow, IsDistinctOf, IsMerged}
+use Rattle.rule_field_groups.specs.Below.{contents_of, meant_at, meant_sets, AreSelected, IsDistinctOf, IsMerged}
 
 pub any_among : {X : Type 0} (test : X → Bool) (xs : List X) → list_any test xs ≡ true → (y : X) × (Contains xs y × (test y ≡ true))
 any_among test [] e = absurd (true≢false (sym e))
@@ -42,7 +44,7 @@ none_among {X} test (x ∷ xs) e y c t = by (test x) refl e (none_among test xs)
       | inr r ↦ rest h y r t
     ]
 
-in_last : {X : Type 0} (xs : List X) (x : X) → Contains (xs ++ x ∷ []) x
+pub in_last : {X : Type 0} (xs : List X) (x : X) → Contains (xs ++ x ∷ []) x
 in_last xs x = Contains-append_right xs (x ∷ []) x (Contains-first x [] x refl)
 
 -- the front with the next element
@@ -139,61 +141,45 @@ pub distinct_step : (list old new : List FieldSelection) (i : ℕ) (x : FieldSel
 distinct_step list old new i x h e is so_far =
     subst (λ l. IsDistinctOf l new) (sym (taken_more list i x h e)) (subst (IsDistinctOf (take i list ++ x ∷ [])) (sym is) (distinct_more (take i list) old x so_far))
 
--- ---- what lies below a group
+-- ---- what sets select
 
-none_below : (fragments : Entries (MeantFragment Place)) → AreBelow fragments [] []
-none_below fragments d same x = (λ c. not_in_nil x c, λ h. not_in_nil h.0 h.1.0)
+none_selected : (fragments : Entries (MeantFragment Place)) → AreSelected fragments [] []
+none_selected fragments d same x = (λ c. not_in_nil x c, λ h. not_in_nil h.0 h.1.0)
 
-pub below_begun : (fragments : Entries (MeantFragment Place)) (found : List FieldSelection) → found ≡ [] → AreBelow fragments [] (fields_of found)
-below_begun fragments found e = subst (λ l. AreBelow fragments [] (fields_of l)) (sym e) (none_below fragments)
+pub selected_begun : (fragments : Entries (MeantFragment Place)) (found : List FieldSelection) → found ≡ [] → AreSelected fragments [] (fields_of found)
+selected_begun fragments found e = subst (λ l. AreSelected fragments [] (fields_of l)) (sym e) (none_selected fragments)
 
-below_more : (fragments : Entries (MeantFragment Place)) (taken : List (StandingField Place)) (field : StandingField Place) (old new : List FieldSelection)
-    → AreBelow fragments taken (fields_of old) → AddsFieldsOf fragments field.set old new → AreBelow fragments (taken ++ field ∷ []) (fields_of new)
-below_more fragments taken field old new so_far (added, (is, are)) d same x = (
+-- a content that one set selects
+abbrev IsIn : MeantDocument Place → MeantSet Place → StandingField Place → Type 0
+IsIn d set x = (f : StandingField Place) × (IsFieldOf d (InOperation None) set f × (content f ≡ x))
+
+selected_more : (fragments : Entries (MeantFragment Place)) (taken : List (MeantSet Place)) (set : MeantSet Place) (old new : List FieldSelection)
+    → AreSelected fragments taken (fields_of old) → AddsFieldsOf fragments set old new → AreSelected fragments (taken ++ set ∷ []) (fields_of new)
+selected_more fragments taken set old new so_far (added, (is, are)) d same x = (
   λ c. elim (Contains-append_cases (fields_of old) added x (subst (λ l. Contains l x) is c)) [
-    | inl a ↦ let f = (so_far d same x).0 a in (f.0, (Contains-append_left taken (field ∷ []) f.0 f.1.0, f.1.1))
-    | inr b ↦ (field, (in_last taken field, (are d (InOperation None) same x).0 b))
+    | inl a ↦ let s = (so_far d same x).0 a in (s.0, (Contains-append_left taken (set ∷ []) s.0 s.1.0, s.1.1))
+    | inr b ↦ (set, (in_last taken set, (are d (InOperation None) same x).0 b))
   ],
-  λ h. subst (λ l. Contains l x) (sym is) (elim (Contains-append_cases taken (field ∷ []) h.0 h.1.0) [
+  λ h. subst (λ l. Contains l x) (sym is) (elim (Contains-append_cases taken (set ∷ []) h.0 h.1.0) [
     | inl a ↦ Contains-append_left (fields_of old) added x ((so_far d same x).1 (h.0, (a, h.1.1)))
-    | inr b ↦ Contains-append_right (fields_of old) added x ((are d (InOperation None) same x).1 (subst (λ f. ContentBelow d f x) (only field h.0 b) h.1.1))
+    | inr b ↦ Contains-append_right (fields_of old) added x ((are d (InOperation None) same x).1 (subst (λ s. IsIn d s x) (only set h.0 b) h.1.1))
   ]),
 )
 
-pub below_step : (fragments : Entries (MeantFragment Place)) (group old new : List FieldSelection) (i : ℕ) (x : FieldSelection) (set : MeantSet Place) → i < length group → x ≡ get_or group i x → set ≡ (field_of x).set
-    → AddsFieldsOf fragments set old new → AreBelow fragments (fields_of (take i group)) (fields_of old) → AreBelow fragments (fields_of (take (i + 1) group)) (fields_of new)
-below_step fragments group old new i x set h e same adds so_far =
-    subst (λ l. AreBelow fragments l (fields_of new)) (sym (ap fields_of (taken_more group i x h e) ∙ map-append field_of (take i group) (x ∷ [])))
-    (below_more fragments (fields_of (take i group)) (field_of x) old new so_far (subst (λ t. AddsFieldsOf fragments t old new) same adds))
+pub selected_step : (fragments : Entries (MeantFragment Place)) (sets : List SelectedSet) (old new : List FieldSelection) (i : ℕ) (x : SelectedSet) → i < length sets → x ≡ get_or sets i x
+    → AddsFieldsOf fragments (meant_at x) old new → AreSelected fragments (meant_sets (take i sets)) (fields_of old) → AreSelected fragments (meant_sets (take (i + 1) sets)) (fields_of new)
+selected_step fragments sets old new i x h e adds so_far =
+    subst (λ l. AreSelected fragments l (fields_of new)) (sym (ap meant_sets (taken_more sets i x h e) ∙ map-append meant_at (take i sets) (x ∷ [])))
+    (selected_more fragments (meant_sets (take i sets)) (meant_at x) old new so_far adds)
 
-pub merged : (fragments : Entries (MeantFragment Place)) (group : List (StandingField Place)) (found kept : List FieldSelection) → AreBelow fragments group (fields_of found) → IsDistinctOf found kept → IsMerged fragments group kept
-merged fragments group found kept are distinct d same = record {
+pub merged : (fragments : Entries (MeantFragment Place)) (sets : List (MeantSet Place)) (found kept : List FieldSelection) → AreSelected fragments sets (fields_of found) → IsDistinctOf found kept → IsMerged fragments sets kept
+merged fragments sets found kept are distinct d same = record {
   within = λ x c.
       let y = contains_unmap field_of kept x c in
       (are d same x).0 (subst (Contains (fields_of found)) y.1.1 (contains_map field_of found y.0 (distinct.within y.0 y.1.0)));
-  covers = λ f x c b.
-      let y = contains_unmap field_of found x ((are d same x).1 (f, (c, b))) in
+  covers = λ x b.
+      let y = contains_unmap field_of found x ((are d same x).1 b) in
       let z = distinct.covers y.0 y.1.0 in
-      (field_of z.0, (contains_map field_of kept z.0 z.1.0, z.1.1 ∙ ap unplaced_content y.1.1));
+      subst (Contains (contents_of kept)) (z.1.1 ∙ ap unplaced_content y.1.1) (in_contents kept z.0 z.1.0);
   apart = distinct.apart;
 }
-
--- ---- what an operation starts with
-
-starting_of : (fragments : Entries (MeantFragment Place)) (d : MeantDocument Place) (o : MeantOperation Place) (found kept : List FieldSelection) → d.fragments ≡ fragments
-    → AddsFieldsOf fragments o.set [] found → IsDistinctOf found kept → AreStarting d o kept
-starting_of fragments d o found kept same (added, (is, are)) distinct = (
-  λ x c.
-      let y = contains_unmap field_of kept x c in
-      (are d (InOperation None) same x).0 (subst (λ l. Contains l x) is (subst (Contains (fields_of found)) y.1.1 (contains_map field_of found y.0 (distinct.within y.0 y.1.0)))),
-  (
-    λ x b.
-        let y = contains_unmap field_of found x (subst (λ l. Contains l x) (sym is) ((are d (InOperation None) same x).1 b)) in
-        let z = distinct.covers y.0 y.1.0 in
-        subst (Contains (contents_of kept)) (z.1.1 ∙ ap unplaced_content y.1.1) (in_contents kept z.0 z.1.0),
-    distinct.apart,
-  ),
-)
-
-pub starting : (fragments : Entries (MeantFragment Place)) (set : MeantSet Place) (found kept : List FieldSelection) → AddsFieldsOf fragments set [] found → IsDistinctOf found kept → AreStartingWith fragments set kept
-starting fragments set found kept adds distinct d o same is = starting_of fragments d o found kept same (subst (λ t. AddsFieldsOf fragments t [] found) (sym is) adds) distinct

@@ -1,9 +1,7 @@
-//! The list that a selection set starts with, and the list below a group.
-ghost use Rattle.std.specs.Prelude.{IfOk};
-ghost use Rattle.document_typed_selections.specs.TypedTree.{typed_set_tree};
-ghost use Rattle.document_meaning.specs.MeantTree.{meant_of_set};
-ghost use Rattle.rule_document_ground.specs.Fields.{fields_of, meant_fragments};
-ghost use Rattle.rule_field_groups.specs.Below.{AreStartingWith, AreBelow, IsDistinctOf, IsMerged};
+//! What selection sets select, and the sets of a group.
+ghost use Rattle.std.specs.Prelude.{IfOk, OnOk};
+ghost use Rattle.rule_document_ground.specs.Fields.{field_of, fields_of, meant_fragments};
+ghost use Rattle.rule_field_groups.specs.Below.{meant_sets, AreSelected, IsDistinctOf, IsMerged, AreSetsOf, AddsSetOf};
 
 use document_typed_operations::FragmentMap;
 use document_typed_selections::SelectionSet;
@@ -11,17 +9,23 @@ use indexmap::IndexSet;
 use rule_document_ground::{FieldSelection, push_fields};
 use std::alloc::{AllocError, Global};
 
-/// What the fields of a group select, through fragments, all of it.
-fn all_below<'doc>(
+/// A selection set, for the fields that it selects. Equality and hash are those of what it says, wherever it stands in the text.
+#[derive(Clone, Copy, PartialEq, Eq, Hash)]
+pub struct SelectedSet<'doc> {
+    pub set: &'doc SelectionSet,
+}
+
+/// What these sets select, through fragments, all of it.
+fn all_selected<'doc>(
     alloc: Global,
     fragments: &'doc FragmentMap,
-    group: &[FieldSelection<'doc>],
+    sets: &[SelectedSet<'doc>],
 ) -> Result<Vec<FieldSelection<'doc>>, AllocError>
-    ensures { IfOk result (λ found. AreBelow (meant_fragments fragments.now) (fields_of group.now) (fields_of found.items)) }
+    ensures { IfOk result (λ found. AreSelected (meant_fragments fragments.now) (meant_sets sets.now) (fields_of found.items)) }
 {
     let mut found = Vec::new(alloc);
-    for field in group {
-        push_fields(&field.field.content().selection_set, fragments, &mut found)?;
+    for set in sets {
+        push_fields(set.set, fragments, &mut found)?;
     }
     Ok(found)
 }
@@ -40,27 +44,43 @@ fn distinct<'doc>(
     Vec::from_slice(alloc, distinct.as_slice())
 }
 
-/// The merged list below a group: what its fields select, through fragments, each content once ("mergedSet").
-pub fn list_below<'doc>(
+/// The merged list of these sets: what they select, through fragments, each content once ("mergedSet").
+pub fn merged_list<'doc>(
     alloc: Global,
     fragments: &'doc FragmentMap,
-    group: &[FieldSelection<'doc>],
+    sets: &[SelectedSet<'doc>],
 ) -> Result<Vec<FieldSelection<'doc>>, AllocError>
-    ensures { IfOk result (λ list. IsMerged (meant_fragments fragments.now) (fields_of group.now) list.items) }
+    ensures { IfOk result (λ list. IsMerged (meant_fragments fragments.now) (meant_sets sets.now) list.items) }
 {
-    let found = all_below(alloc, fragments, group)?;
+    let found = all_selected(alloc, fragments, sets)?;
     distinct(alloc, &found)
 }
 
-/// The fields that a set selects, through fragments, each content once.
-pub fn starting_list<'doc>(
-    alloc: Global,
-    fragments: &'doc FragmentMap,
-    set: &'doc SelectionSet,
-) -> Result<Vec<FieldSelection<'doc>>, AllocError>
-    ensures { IfOk result (λ list. AreStartingWith (meant_fragments fragments.now) (meant_of_set (typed_set_tree set.now)) list.items) }
+/// Adds the set of a field, unless it has no selections, or one with the same contents is there.
+fn note_set<'doc>(
+    field: FieldSelection<'doc>,
+    sets: &mut IndexSet<SelectedSet<'doc>>,
+) -> Result<(), AllocError>
+    ensures { OnOk result (AddsSetOf (field_of field.entry) (meant_sets sets.old.keys) (meant_sets sets.new.keys)) }
 {
-    let mut found: Vec<FieldSelection<'doc>> = Vec::new(alloc);
-    push_fields(set, fragments, &mut found)?;
-    distinct(alloc, &found)
+    let set = &field.field.content().selection_set;
+    if set.is_empty() {
+        return Ok(());
+    }
+    sets.insert(SelectedSet { set })?;
+    Ok(())
+}
+
+/// The sets of the fields of a group, each content once. A set without selections is left out.
+pub fn sets_of<'doc>(
+    alloc: Global,
+    group: &[FieldSelection<'doc>],
+) -> Result<Vec<SelectedSet<'doc>>, AllocError>
+    ensures { IfOk result (λ sets. AreSetsOf (fields_of group.now) (meant_sets sets.items)) }
+{
+    let mut sets = IndexSet::new(alloc);
+    for field in group {
+        note_set(*field, &mut sets)?;
+    }
+    Vec::from_slice(alloc, sets.as_slice())
 }

@@ -5,8 +5,8 @@
 //!
 //! For the layer above: `groups_of` gives the groups of a list in a pass (`AreGroups`, over `Together` of
 //! `specs/Passes.antt`); `check_group` adds what of a group does not agree (`AddsGroup`), and counts how often shapes were
-//! compared (`specs/Compared.antt`); `starting_list` gives the fields of an operation's set, `list_below` what the fields of a
-//! group select, each content once (`AreStartingWith`, `IsMerged` of `specs/Below.antt`).
+//! compared (`specs/Compared.antt`); `merged_list` gives what sets select, each content once, `sets_of` the sets of a group
+//! (`IsMerged`, `AreSetsOf` of `specs/Below.antt`).
 //!
 //! Begin with `groups.rt` and `conflicts.rt`, then `below.rt`.
 #![tactic(auto)]
@@ -18,7 +18,7 @@ mod kinds;
 mod pass;
 mod shapes;
 
-pub use below::{list_below, starting_list};
+pub use below::{SelectedSet, merged_list, sets_of};
 pub use conflicts::{Breach, check_group};
 pub use groups::groups_of;
 pub use pass::Pass;

@@ -1,31 +1,33 @@
 -- How often shapes are compared, and that the members of each list that is examined are last fields of chains.
-use Rattle.std.proofs.Common.{◌≡◌, ◌∙◌, ℕ, suc, ◌+◌, ◌<◌, ◌≤◌, true, List, [], ◌∷◌, ◌++◌, map, length, get_or, drop, Contains, refl, sym, ap, subst, append_assoc, append-nil, add-one, arith, inl, inr}
+use Rattle.std.proofs.Common.{◌≡◌, ◌∙◌, ℕ, suc, ◌+◌, ◌<◌, ◌≤◌, None, List, [], ◌∷◌, ◌++◌, map, length, get_or, take, drop, Contains, refl, sym, ap, subst, append_assoc, append-nil, add-one, arith, inl, inr}
 use Rattle.std.specs.List.{sum}
-use Rattle.std.proofs.lemmas.List.{length-map}
+use Rattle.std.proofs.lemmas.List.{length-map, take-append-drop}
 use Rattle.std.proofs.lemmas.List.Sums.{sum-map, sum_by-append}
-use Rattle.std.proofs.lemmas.List.Elements.{Contains-append_cases}
+use Rattle.std.proofs.lemmas.List.Elements.{Contains-append_left, Contains-append_cases}
 use Rattle.std.proofs.Math.Seq.{drop-cons}
 use Rattle.graphql_names.specs.Placed.{Place}
-use Rattle.rule_definitions.proofs.Lists.{not_in_nil, only}
+use Rattle.rule_definitions.proofs.Lists.{not_in_nil, only, Contains-cons, Contains-first}
 use Rattle.rule_cycle_search.specs.Paths.{HasNoRepeat}
-use Rattle.document_meaning.specs.MeantTree.{MeantOperation, MeantDocument}
+use Rattle.rule_field_groups.specs.declared.below.SelectedSet.{SelectedSet}
+use Rattle.document_meaning.specs.MeantTree.{MeantSet, MeantOperation, MeantDocument}
 use Rattle.rule_definitions.specs.Judged.{Judged}
 use Rattle.rule_document_definitions.specs.DocumentFaults.{Broken}
-use Rattle.rule_document_definitions.specs.Selected.{StandingField, operations}
+use Rattle.rule_document_definitions.specs.Selected.{StandingField, InOperation, operations}
+use Rattle.rule_document_definitions.specs.Reached.{IsFieldOf}
 use Rattle.rule_document_definitions.specs.Chains.{Chain}
-use Rattle.rule_document_definitions.specs.Contents.{ContentBelow, unplaced_content}
+use Rattle.rule_document_definitions.specs.Contents.{content, ContentBelow, unplaced_content}
 use Rattle.rule_document_definitions.specs.Merging.{Below, Starts}
 use Rattle.rule_document_definitions.proofs.Unplaced.{contains_map, contains_unmap}
 use Rattle.rule_field_groups.specs.in_ground.Fields.{field_of, fields_of}
 use Rattle.rule_field_groups.specs.in_ground.declared.field_selection.FieldSelection.{FieldSelection}
-use Rattle.rule_merging_laws.specs.Contents.{PlainField, PlainBelow}
+use Rattle.rule_merging_laws.specs.Contents.{PlainField, PlainBelow, IsSelected}
 use Rattle.rule_merging_laws.proofs.Elsewhere.{content_starts}
 use Rattle.rule_merging_laws.proofs.PlainFacts.{plain_below, below_standing}
 use Rattle.rule_field_groups.specs.declared.pass.Pass.{Pass}
 use Rattle.rule_field_groups.specs.declared.pass.Pass.TheVariants.{Shapes, Selections}
-use Rattle.rule_field_groups.specs.Below.{contents_of, AreStarting}
-use Rattle.rule_merging.specs.Remembered.{Remembers}
-use Rattle.rule_merging.specs.Examined.{ListsExamined}
+use Rattle.rule_field_groups.specs.Below.{contents_of, meant_at, meant_sets, IsMergedIn}
+use Rattle.rule_merging.specs.Remembered.{Kept}
+use Rattle.rule_merging.specs.Examined.{SetsExamined, with_each}
 use Rattle.rule_field_groups.specs.Compared.{compared}
 use Rattle.rule_merging.specs.Counted.{IsLast, IsListed, AreListed, Grows, IsCountedBy}
 use Rattle.rule_field_groups.proofs.Lists.{none_twice, apart_more}
@@ -66,30 +68,51 @@ module _ (d : MeantDocument Place) where
       (o, (c ++ e ∷ [], (g.0, (there, (chain_on (Below d) (Starts d o) c e g.0 chain g.1.0, g.1.1)))))
 
   -- what starts
-  pub starting_listed : (o : MeantOperation Place) (list : List FieldSelection) → Contains (operations d) o → AreStarting d o list → IsListed d (contents_of list)
-  starting_listed o list there starting = record {
-    apart = starting.1.1;
+  pub starting_listed : (o : MeantOperation Place) (start : MeantSet Place) → Contains (operations d) o → o.set ≡ start → AreListed d ((start ∷ []) ∷ [])
+  starting_listed o start there is sets c x h =
+      let v = subst (λ (l : List (MeantSet Place)). Contains l h.0) (only (start ∷ []) sets c) h.1.0 in
+      let f = content_starts d o x (subst (λ w. (f : StandingField Place) × (IsFieldOf d (InOperation None) w f × (content f ≡ x))) (only start h.0 v ∙ sym is) h.1.1) in
+      (o, ([], (f.0, (there, ((f.1.0, tt), ap unplaced_content f.1.1)))))
+
+  -- lists of sets below groups of what such lists select
+  pub listed_next : (pass : Pass) (s : Judged) (lists : List (List (MeantSet Place))) (old new : Kept) (added : List (Broken Place)) (next : List (List (MeantSet Place)))
+      → AreListed d lists → SetsExamined pass s d lists old new added next → AreListed d next
+  listed_next pass s lists old new added next listed h sets c x selected =
+      let u = h.under sets c in
+      let f = u.1.1.1.1 selected.0 selected.1.0 in
+      last_below f.0 x (listed u.0 u.1.0 f.0 (u.1.1.1.0 f.0 f.0 f.1.0 f.1.0).0)
+      (subst (λ w. (g : StandingField Place) × (IsFieldOf d (InOperation None) w g × (content g ≡ x))) (sym f.1.1) selected.1.1)
+
+  -- one of such lists, some of its sets
+  pub one_listed : (lists : List (List (MeantSet Place))) (sets : List (MeantSet Place)) → AreListed d lists → Contains lists sets → AreListed d (sets ∷ [])
+  one_listed lists sets listed c l k = listed l (subst (Contains lists) (sym (only sets l k)) c)
+
+  pub part_listed : (sets : List (MeantSet Place)) (lists : List (List (MeantSet Place))) → AreListed d (sets ∷ [])
+      → ((l : List (MeantSet Place)) → Contains lists l → (v : MeantSet Place) → Contains l v → Contains sets v) → AreListed d lists
+  part_listed sets lists listed within l c x h = listed sets (Contains-first sets [] sets refl) x (h.0, (within l c h.0 h.1.0, h.1.1))
+
+  -- one of the sets with those up to it
+  pub each_listed : (xs seen : List SelectedSet) (i : ℕ) (x : SelectedSet) → i < length xs → x ≡ get_or xs i x → seen ≡ take (i + 1) xs → AreListed d (meant_sets xs ∷ [])
+      → AreListed d (with_each (meant_at x) (meant_sets seen))
+  each_listed xs seen i x h e is listed = part_listed (meant_sets xs) (with_each (meant_at x) (meant_sets seen)) listed (λ l c v k.
+      let u = contains_unmap (λ (w : MeantSet Place). meant_at x ∷ w ∷ []) (meant_sets seen) l c in
+      let y = contains_unmap meant_at seen u.0 u.1.0 in
+      elim (Contains-cons (meant_at x) (u.0 ∷ []) v (subst (λ (m : List (MeantSet Place)). Contains m v) (sym u.1.1) k)) [
+        | inl a ↦ subst (Contains (meant_sets xs)) a (contains_map meant_at xs x (i, h, sym e))
+        | inr b ↦ subst (Contains (meant_sets xs)) (y.1.1 ∙ sym (only u.0 v b)) (contains_map meant_at xs y.0 (from_front xs (i + 1) y.0 (subst (λ m. Contains m y.0) is y.1.0)))
+      ])
+    where
+      from_front : {X : Type 0} (ys : List X) (n : ℕ) (y : X) → Contains (take n ys) y → Contains ys y
+      from_front ys n y c = subst (λ m. Contains m y) (take-append-drop n ys) (Contains-append_left (take n ys) (drop n ys) y c)
+
+  -- the fields that such sets select
+  pub fields_listed : (sets : List (MeantSet Place)) (list : List FieldSelection) → AreListed d (sets ∷ []) → IsMergedIn d sets list → IsListed d (contents_of list)
+  fields_listed sets list listed merged = record {
+    apart = merged.apart;
     last = λ x c.
         let y = contains_unmap unplaced_content (fields_of list) x c in
-        let f = content_starts d o y.0 (starting.0 y.0 y.1.0) in
-        (o, ([], (f.0, (there, ((f.1.0, tt), ap unplaced_content f.1.1 ∙ y.1.1)))));
+        subst (IsLast d) y.1.1 (listed sets (Contains-first sets [] sets refl) y.0 (merged.within y.0 y.1.0));
   }
-
-  -- lists below groups of such lists
-  pub listed_next : (pass : Pass) (s : Judged) (lists : List (List FieldSelection)) (old new : List (List PlainField)) (added : List (Broken Place)) (next : List (List FieldSelection))
-      → AreListed d lists → ListsExamined pass s d lists old new added next → AreListed d next
-  listed_next pass s lists old new added next listed h list c = record {
-    apart = h.apart list c;
-    last = λ x k.
-        let y = contains_unmap unplaced_content (fields_of list) x k in
-        let u = (h.under list c).1 in
-        let f = u.1.1.1.1 y.0 y.1.0 in
-        let w = u.1.1.1.0 f.0 f.0 f.1.0 f.1.0 in
-        subst (IsLast d) y.1.1 (last_below f.0 y.0 ((listed u.0 u.1.0).last (unplaced_content f.0) (contains_map unplaced_content (fields_of u.0) f.0 w.0)) f.1.1);
-  }
-
-  pub one_listed : (list : List FieldSelection) → IsListed d (contents_of list) → AreListed d (list ∷ [])
-  one_listed list listed l c = subst (λ k. IsListed d (contents_of k)) (sym (only list l c)) listed
 
   -- ---- lists that come to those that were examined
 
@@ -108,7 +131,7 @@ module _ (d : MeantDocument Place) where
   grows_same pass old new count e = subst (λ l. Grows d pass old l count count) (sym e) (grows_not pass old count)
 
   -- one
-  pub grows_one : (pass : Pass) (list : List FieldSelection) (old new : List (List PlainField)) (before after : ℕ) → IsListed d (contents_of list) → Remembers old (contents_of list) true new
+  pub grows_one : (pass : Pass) (list : List FieldSelection) (old new : List (List PlainField)) (before after : ℕ) → IsListed d (contents_of list) → (Contains old (contents_of list) → ⊥) × (new ≡ old ++ contents_of list ∷ [])
       → after ≤ before + compared pass list → Grows d pass old new before after
   grows_one pass list old new before after listed (none, is) count = record {
     added = contents_of list ∷ [];

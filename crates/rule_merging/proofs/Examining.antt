@@ -7,8 +7,9 @@ use Rattle.std.proofs.lemmas.List.Elements.{Contains-append_left, Contains-appen
 use Rattle.graphql_names.specs.Placed.{Place}
 use Rattle.schema_components.proofs.Places.{Contains-rest}
 use Rattle.rule_definitions.proofs.Lists.{not_in_nil, only, Contains-cons, Contains-first}
-use Rattle.rule_cycle_search.specs.Paths.{HasNoRepeat}
-use Rattle.document_meaning.specs.MeantTree.{MeantOperation, MeantDocument}
+use Rattle.rule_field_groups.specs.declared.below.SelectedSet.{SelectedSet}
+use Rattle.document_meaning.specs.MeantTree.{MeantSet, MeantOperation, MeantDocument}
+use Rattle.document_meaning.specs.Unplaced.{unplaced_set, unplaced_document}
 use Rattle.rule_definitions.specs.Judged.{Judged}
 use Rattle.rule_document_definitions.specs.DocumentFaults.{Broken}
 use Rattle.rule_document_definitions.specs.Selected.{StandingField}
@@ -17,23 +18,25 @@ use Rattle.rule_document_definitions.specs.Contents.{ContentBelow, ContentStarts
 use Rattle.rule_document_definitions.specs.Merging.{MergingBreaks}
 use Rattle.rule_document_definitions.specs.Limits.{chain_bound}
 use Rattle.rule_document_definitions.proofs.Equivalences.{shape_sym, shape_trans, selection_sym, selection_trans}
+use Rattle.rule_document_definitions.proofs.MergingUnplaced.{key_up}
+use Rattle.rule_document_definitions.proofs.Unplaced.{contains_map, contains_unmap}
 use Rattle.rule_field_groups.specs.in_ground.Fields.{field_of, fields_of}
 use Rattle.rule_field_groups.specs.in_ground.declared.field_selection.FieldSelection.{FieldSelection}
-use Rattle.rule_merging_laws.specs.Contents.{PlainField, PlainBelow, PlainStarts}
-use Rattle.rule_merging_laws.specs.Settled.{HasStart, IsUnderWay}
-use Rattle.rule_merging_laws.proofs.Examined.{IsExaminedInto, IsExaminedBy}
+use Rattle.rule_merging_laws.specs.Contents.{PlainField, PlainSet, PlainBelow, PlainStarts, IsSelected}
+use Rattle.rule_merging_laws.specs.Settled.{StandIn, StartsStand, IsUnderWay}
 use Rattle.rule_merging_laws.specs.Going.{IsEndOf, IsGoing}
-use Rattle.rule_merging_laws.proofs.SettledFacts.{settled_empty, begun, dropped, ended, examined_anyhow}
-use Rattle.rule_merging_laws.proofs.GoingFacts.{going_start, going_below, end_start, end_below, end_within}
-use Rattle.rule_merging_laws.proofs.PlainFacts.{start_list, shapes_examined, selections_examined}
+use Rattle.rule_merging_laws.proofs.SettledFacts.{settled_nothing, by_head, begun, moved, ended}
+use Rattle.rule_merging_laws.proofs.GoingFacts.{going_start, going_below, end_start, end_below}
+use Rattle.rule_merging_laws.proofs.PlainFacts.{arguments_plain, plain_selected, selected_plain, starts_plain}
 use Rattle.rule_merging_laws.proofs.Merges.{going_breaks, bound_passed}
 use Rattle.rule_field_groups.specs.declared.pass.Pass.{Pass}
 use Rattle.rule_field_groups.specs.declared.pass.Pass.TheVariants.{Shapes, Selections}
-use Rattle.rule_field_groups.specs.Passes.{Together, Agree, Conflict}
-use Rattle.rule_field_groups.specs.Below.{IsMergedIn, contents_of, AreStarting}
-use Rattle.rule_merging.specs.Remembered.{Remembers}
+use Rattle.rule_field_groups.specs.Passes.{Together, Agree, Conflict, TellsGroup}
+use Rattle.rule_field_groups.specs.Below.{contents_of, meant_sets, plain_sets, IsMergedIn, AreSetsOf}
 use Rattle.rule_field_groups.proofs.Lists.{taken_more}
-use Rattle.rule_merging.specs.Examined.{HasFields, if_any, all_contents, AreSettled, AreUnderWay, GroupExamined, GroupsExamined, ListExamined, ListsExamined, AllExamined}
+use Rattle.rule_merging.proofs.Bare.{IsIn, bare_selects, bare_plain}
+use Rattle.rule_merging.specs.Remembered.{Kept, nothing_kept, Remembers, Expands}
+use Rattle.rule_merging.specs.Examined.{Sets, all_sets, all_plain, with_each, with_sets, if_any, AreOf, HaveBoth, PlainSelected, IsLeft, AllStand, AreSettled, AreUnderWay, HaveFields, GroupExamined, GroupsExamined, ListExamined, IsGroupIn, ComeFrom, TellsIn, SetsExamined, AreTwosOf, AllExamined}
 
 -- ---- lists
 
@@ -46,24 +49,19 @@ pub right_empty : {X : Type 0} (xs ys : List X) → xs ++ ys ≡ [] → ys ≡ [
 right_empty [] ys e = e
 right_empty (x ∷ xs) ys e = cc
 
-in_last : {X : Type 0} (xs : List X) (x : X) → Contains (xs ++ x ∷ []) x
+pub in_last : {X : Type 0} (xs : List X) (x : X) → Contains (xs ++ x ∷ []) x
 in_last xs x = Contains-append_right xs (x ∷ []) x (Contains-first x [] x refl)
-
--- a field of a list, among its contents
-in_contents : (list : List FieldSelection) (y : StandingField Place) → Contains (fields_of list) y → Contains (contents_of list) (unplaced_content y)
-in_contents [] y c = not_in_nil y c
-in_contents (x ∷ list) y c = elim (Contains-cons (field_of x) (fields_of list) y c) [
-  | inl e ↦ Contains-first (unplaced_content (field_of x)) (contents_of list) (unplaced_content y) (ap unplaced_content e)
-  | inr r ↦ Contains-rest (unplaced_content (field_of x)) (contents_of list) (unplaced_content y) (in_contents list y r)
-]
 
 -- what a list of lists holds
 abbrev pub items_in : {X : Type 0} → Vec X Global → List X
 items_in v = v.items
 
--- the front with the next list
-pub lists_front : {X : Type 0} (xs : List (Vec X Global)) (i : ℕ) (x : Vec X Global) → i < length xs → x ≡ get_or xs i x → map items_in (take (i + 1) xs) ≡ map items_in (take i xs) ++ x.items ∷ []
-lists_front xs i x h e = ap (map items_in) (taken_more xs i x h e) ∙ map-append items_in (take i xs) (x ∷ [])
+abbrev pub sets_at : Vec SelectedSet Global → Sets
+sets_at v = meant_sets v.items
+
+-- the front with the next one
+pub front_more : {X Y : Type 0} (f : X → Y) (xs : List X) (i : ℕ) (x : X) → i < length xs → x ≡ get_or xs i x → map f (take (i + 1) xs) ≡ map f (take i xs) ++ f x ∷ []
+front_more f xs i x h e = ap (map f) (taken_more xs i x h e) ∙ map-append f (take i xs) (x ∷ [])
 
 no_items : {X : Type 0} (xs : List X) → length xs ≡ 0 → xs ≡ []
 no_items [] e = refl
@@ -90,89 +88,116 @@ agree_trans : {P : Type 0} (pass : Pass) (s : Judged) (f g k : StandingField P) 
 agree_trans Shapes s = shape_trans s
 agree_trans Selections s = selection_trans
 
+-- fields go together where they do without places, and agree without places where they agree
+together_up : (pass : Pass) (s : Judged) (f g : StandingField Place) → Together pass s (unplaced_content f) (unplaced_content g) → Together pass s f g
+together_up Shapes s f g t = key_up f g t
+together_up Selections s f g t = (key_up f g t.0, t.1)
+
+agree_down : (pass : Pass) (s : Judged) (f g : StandingField Place) → Agree pass s f g → Agree pass s (unplaced_content f) (unplaced_content g)
+agree_down Shapes s f g a = a
+agree_down Selections s f g a = (a.0, arguments_plain f.head.arguments g.head.arguments a.1)
+
 -- before the first operation
-pub nothing_settled : (pass : Pass) (s : Judged) (d : MeantDocument Place) (lists : List (List PlainField)) → lists ≡ [] → AreSettled d pass s lists
-nothing_settled pass s d lists e = subst (AreSettled d pass s) (sym e) (settled_empty (PlainBelow d) (Together pass s) (Agree pass s))
+pub nothing_settled : (pass : Pass) (s : Judged) (d : MeantDocument Place) (kept : Kept) → kept ≡ nothing_kept → AreSettled d pass s kept
+nothing_settled pass s d kept e = subst (AreSettled d pass s) (sym e) (record {
+  fields = settled_nothing (PlainBelow d) (Together pass s) (Agree pass s) (StandIn []) (λ f g h. not_in_nil h.0 h.1.0);
+  sets = λ sets c. not_in_nil sets c;
+})
+
+-- ---- two sets in one list
+
+both_on : (next later : List Sets) (f g : StandingField Place) → ((sets : Sets) → Contains next sets → Contains later sets) → HaveBoth next f g → HaveBoth later f g
+both_on next later f g on (inl h) = inl h
+both_on next later f g on (inr (inl h)) = inr (inl h)
+both_on next later f g on (inr (inr (sets, (c, both)))) = inr (inr (sets, (on sets c, both)))
+
+sets_under : (group : List (StandingField Place)) (sets : List SelectedSet) → AreSetsOf group (meant_sets sets) → (vs : Sets) → Contains (all_sets (if_any sets)) vs → AreOf group vs
+sets_under group [] are vs c = not_in_nil vs c
+sets_under group (x ∷ xs) are vs c = λ v k. are.within v (subst (λ (l : Sets). Contains l v) (only (meant_sets (x ∷ xs)) vs c) k)
+
+sets_below : (group : List (StandingField Place)) (sets : List SelectedSet) → AreSetsOf group (meant_sets sets) → (f g : StandingField Place) → Contains group f → Contains group g → HaveBoth (all_sets (if_any sets)) f g
+sets_below group [] are f g a b = elim (are.covers f a) [ inl bare ↦ inl bare | inr c ↦ not_in_nil (unplaced_set f.set) c ]
+sets_below group (x ∷ xs) are f g a b = elim (are.covers f a) [
+  | inl bare ↦ inl bare
+  | inr c ↦ elim (are.covers g b) [
+    | inl bare ↦ inr (inl bare)
+    | inr k ↦ inr (inr (meant_sets (x ∷ xs), (Contains-first (meant_sets (x ∷ xs)) [] (meant_sets (x ∷ xs)) refl, (c, k))))
+  ]
+]
+
+-- ---- two by two
+
+pub no_twos : AreTwosOf [] []
+no_twos = record { within = λ two c. not_in_nil two c; covers = λ v w a. not_in_nil v a }
+
+pub twos_more : (front : Sets) (v : MeantSet Place) (twos : List Sets) → AreTwosOf front twos → AreTwosOf (front ++ v ∷ []) (twos ++ with_each v (front ++ v ∷ []))
+twos_more front v twos are = record {
+  within = λ two c w k. elim (Contains-append_cases twos (with_each v (front ++ v ∷ [])) two c) [
+    | inl a ↦ Contains-append_left front (v ∷ []) w (are.within two a w k)
+    | inr b ↦
+        let u = contains_unmap (λ (x : MeantSet Place). v ∷ x ∷ []) (front ++ v ∷ []) two b in
+        elim (Contains-cons v (u.0 ∷ []) w (subst (λ (l : Sets). Contains l w) (sym u.1.1) k)) [
+          | inl e ↦ subst (Contains (front ++ v ∷ [])) e (in_last front v)
+          | inr r ↦ subst (Contains (front ++ v ∷ [])) (sym (only u.0 w r)) u.1.0
+        ]
+  ];
+  covers = λ x y a b. elim (Contains-append_cases front (v ∷ []) x a) [
+    | inl i ↦ elim (Contains-append_cases front (v ∷ []) y b) [
+      | inl j ↦ let two = are.covers x y i j in (two.0, (Contains-append_left twos (with_each v (front ++ v ∷ [])) two.0 two.1.0, two.1.1))
+      | inr j ↦ (v ∷ x ∷ [], (with_one x a, (Contains-rest v (x ∷ []) x (Contains-first x [] x refl), Contains-first v (x ∷ []) y (sym (only v y j)))))
+    ]
+    | inr i ↦ (v ∷ y ∷ [], (with_one y b, (Contains-first v (y ∷ []) x (sym (only v x i)), Contains-rest v (y ∷ []) y (Contains-first y [] y refl))))
+  ];
+}
+  where
+    with_one : (x : MeantSet Place) → Contains (front ++ v ∷ []) x → Contains (twos ++ with_each v (front ++ v ∷ [])) (v ∷ x ∷ [])
+    with_one x a = Contains-append_right twos (with_each v (front ++ v ∷ [])) (v ∷ x ∷ []) (contains_map (λ (w : MeantSet Place). v ∷ w ∷ []) (front ++ v ∷ []) x a)
 
 module _ (pass : Pass) (s : Judged) (d : MeantDocument Place) where
   -- ---- groups
 
+  pub group_examined : (group : List (StandingField Place)) (added : List (Broken Place)) (sets : List SelectedSet) → TellsGroup pass s group added → AreSetsOf group (meant_sets sets)
+      → GroupExamined pass s d group added (all_sets (if_any sets))
+  group_examined group added sets tells are = record { tells = tells; under = sets_under group sets are; below = sets_below group sets are }
+
   pub no_groups : GroupsExamined pass s d [] [] []
   no_groups = record {
     right = λ fault c. not_in_nil fault c;
-    under = λ list c. not_in_nil list c;
-    apart = λ list c. not_in_nil list c;
+    under = λ sets c. not_in_nil sets c;
     agree = λ e group c. not_in_nil group c;
     below = λ group c. not_in_nil group c;
   }
 
-  under_group : (group : List (StandingField Place)) (list : List FieldSelection) → IsMergedIn d group list → (next : List FieldSelection) → Contains (if_any list) next
-      → HasFields next × ((x : StandingField Place) → Contains (fields_of next) x → (f : StandingField Place) × (Contains group f × ContentBelow d f x))
-  under_group group [] merged next c = not_in_nil next c
-  under_group group (y ∷ ys) merged next c =
-      let same = only (y ∷ ys) next c in (
-        (y, subst (λ l. Contains l y) (sym same) (Contains-first y ys y refl)),
-        λ x k. merged.within x (subst (λ l. Contains (fields_of l) x) same k),
-      )
-
-  apart_group : (group : List (StandingField Place)) (list : List FieldSelection) → IsMergedIn d group list → (next : List FieldSelection) → Contains (if_any list) next → HasNoRepeat (contents_of next)
-  apart_group group [] merged next c = not_in_nil next c
-  apart_group group (y ∷ ys) merged next c = subst (λ l. HasNoRepeat (contents_of l)) (sym (only (y ∷ ys) next c)) merged.apart
-
-  below_group : (group : List (StandingField Place)) (list : List FieldSelection) → IsMergedIn d group list → (old : List (List FieldSelection))
-      → (l : List FieldSelection) × (Contains ([] ∷ (old ++ if_any list)) l × ((f x : StandingField Place) → Contains group f → ContentBelow d f x → Contains (contents_of l) (unplaced_content x)))
-  below_group group [] merged old = (
-    [],
-    (
-      Contains-first [] (old ++ []) [] refl,
-      λ f x c b. let y = merged.covers f x c b in not_in_nil y.0 y.1.0,
-    ),
-  )
-  below_group group (z ∷ zs) merged old = (
-    z ∷ zs,
-    (
-      Contains-rest [] (old ++ (z ∷ zs) ∷ []) (z ∷ zs) (in_last old (z ∷ zs)),
-      λ f x c b.
-          let y = merged.covers f x c b in
-          subst (Contains (contents_of (z ∷ zs))) y.1.1 (in_contents (z ∷ zs) y.0 y.1.0),
-    ),
-  )
-
   -- one more group
-  groups_more : (groups : List (List (StandingField Place))) (added : List (Broken Place)) (next : List (List FieldSelection)) (group : List (StandingField Place)) (more : List (Broken Place)) (below : List (List FieldSelection))
+  groups_more : (groups : List (List (StandingField Place))) (added : List (Broken Place)) (next : List Sets) (group : List (StandingField Place)) (more : List (Broken Place)) (below : List Sets)
       → GroupsExamined pass s d groups added next → GroupExamined pass s d group more below → GroupsExamined pass s d (groups ++ group ∷ []) (added ++ more) (next ++ below)
   groups_more groups added next group more below so_far here = record {
     right = λ fault c. elim (Contains-append_cases added more fault c) [
       | inl a ↦ let t = so_far.right fault a in (t.0, (Contains-append_left groups (group ∷ []) t.0 t.1.0, t.1.1))
       | inr b ↦ (group, (in_last groups group, here.tells.right fault b))
     ];
-    under = λ list c. elim (Contains-append_cases next below list c) [
-      | inl a ↦ let u = so_far.under list a in (u.0, (u.1.0, (Contains-append_left groups (group ∷ []) u.1.0 u.1.1.0, u.1.1.1)))
-      | inr b ↦ let u = under_group group here.list here.merged list (subst (λ l. Contains l list) here.is b) in (u.0, (group, (in_last groups group, u.1)))
-    ];
-    apart = λ list c. elim (Contains-append_cases next below list c) [
-      | inl a ↦ so_far.apart list a
-      | inr b ↦ apart_group group here.list here.merged list (subst (λ l. Contains l list) here.is b)
+    under = λ sets c. elim (Contains-append_cases next below sets c) [
+      | inl a ↦ let u = so_far.under sets a in (u.0, (Contains-append_left groups (group ∷ []) u.0 u.1.0, u.1.1))
+      | inr b ↦ (group, (in_last groups group, here.under sets b))
     ];
     agree = λ e g c. elim (Contains-append_cases groups (group ∷ []) g c) [
       | inl a ↦ so_far.agree (left_empty added more e) g a
       | inr b ↦ subst (AgreeWithHead (Agree pass s)) (sym (only group g b)) (here.tells.agree (right_empty added more e))
     ];
-    below = λ g c. elim (Contains-append_cases groups (group ∷ []) g c) [
-      | inl a ↦ let l = so_far.below g a in (l.0, (Contains-append_left ([] ∷ next) below l.0 l.1.0, l.1.1))
-      | inr b ↦ subst (λ k. (l : List FieldSelection) × (Contains ([] ∷ (next ++ below)) l × ((f x : StandingField Place) → Contains k f → ContentBelow d f x → Contains (contents_of l) (unplaced_content x))))
-          (sym (only group g b)) (subst (λ (bs : List (List FieldSelection)). (l : List FieldSelection) × (Contains ([] ∷ (next ++ bs)) l × ((f x : StandingField Place) → Contains group f → ContentBelow d f x → Contains (contents_of l) (unplaced_content x))))
-          (sym here.is) (below_group group here.list here.merged next))
+    below = λ g c f h in_f in_h. elim (Contains-append_cases groups (group ∷ []) g c) [
+      | inl a ↦ both_on next (next ++ below) f h (λ sets k. Contains-append_left next below sets k) (so_far.below g a f h in_f in_h)
+      | inr b ↦ both_on below (next ++ below) f h (λ sets k. Contains-append_right next below sets k)
+          (here.below f h (subst (λ k. Contains k f) (only group g b) in_f) (subst (λ k. Contains k h) (only group g b) in_h))
     ];
   }
 
   -- the same of breaches and lists as they stand before and after
-  abbrev pub GroupsTold : List (Broken Place) → List (Broken Place) → List (List FieldSelection) → List (List FieldSelection) → List (List (StandingField Place)) → Type 0
-  GroupsTold told later next last groups = (added : List (Broken Place)) × ((below : List (List FieldSelection)) × ((later ≡ told ++ added) × ((last ≡ next ++ below) × GroupsExamined pass s d groups added below)))
+  abbrev pub GroupsTold : List (Broken Place) → List (Broken Place) → List Sets → List Sets → List (List (StandingField Place)) → Type 0
+  GroupsTold told later next last groups = (added : List (Broken Place)) × ((below : List Sets) × ((later ≡ told ++ added) × ((last ≡ next ++ below) × GroupsExamined pass s d groups added below)))
 
-  pub groups_step : (told mid later : List (Broken Place)) (next between last : List (List FieldSelection)) (groups : List (List (StandingField Place))) (group : List (StandingField Place))
+  pub groups_step : (told mid later : List (Broken Place)) (next between last : List Sets) (groups : List (List (StandingField Place))) (group : List (StandingField Place))
       → GroupsTold told mid next between groups
-      → ((added : List (Broken Place)) × ((below : List (List FieldSelection)) × ((later ≡ mid ++ added) × ((last ≡ between ++ below) × GroupExamined pass s d group added below))))
+      → ((added : List (Broken Place)) × ((below : List Sets) × ((later ≡ mid ++ added) × ((last ≡ between ++ below) × GroupExamined pass s d group added below))))
       → GroupsTold told later next last (groups ++ group ∷ [])
   groups_step told mid later next between last groups group (a, (n, (is, (lies, so_far)))) (b, (m, (is_too, (lies_too, here)))) = (
     a ++ b,
@@ -185,140 +210,351 @@ module _ (pass : Pass) (s : Judged) (d : MeantDocument Place) where
     ),
   )
 
-  -- ---- a list
+  -- ---- what sets select
 
-  -- where nothing is told of a list, it is examined, without places
-  examined_by : (list : List FieldSelection) (next : List (List FieldSelection)) (h : ListExamined pass s d list [] next) → IsExaminedBy unplaced_content (ContentBelow d) (Together pass s) (Agree pass s) (fields_of list) h.groups (map fields_of ([] ∷ next))
-  examined_by list next h = record {
-    covers = h.are;
-    agree = h.examined.agree refl;
-    below = λ group c. let l = h.examined.below group c in (fields_of l.0, (contains_fields ([] ∷ next) l.0 l.1.0, l.1.1));
-  }
-    where
-      contains_fields : (lists : List (List FieldSelection)) (l : List FieldSelection) → Contains lists l → Contains (map fields_of lists) (fields_of l)
-      contains_fields [] l c = not_in_nil l c
-      contains_fields (k ∷ lists) l c = elim (Contains-cons k lists l c) [
-        | inl e ↦ Contains-first (fields_of k) (map fields_of lists) (fields_of l) (ap fields_of e)
-        | inr r ↦ Contains-rest (fields_of k) (map fields_of lists) (fields_of l) (contains_fields lists l r)
-      ]
+  -- what stood in lists does so with more of them
+  stand_more : (old new : List (List PlainField)) → ((list : List PlainField) → Contains old list → Contains new list) → (x y : PlainField) → StandIn old x y → StandIn new x y
+  stand_more old new more x y h = (h.0, (more h.0 h.1.0, h.1.1))
 
-  into : (p : Pass) (list : List (StandingField Place)) (groups next : List (List (StandingField Place))) → IsExaminedBy unplaced_content (ContentBelow d) (Together p s) (Agree p s) list groups next
-      → IsExaminedInto (PlainBelow d) (Together p s) (Agree p s) (map unplaced_content list) (map (map unplaced_content) groups) (map (map unplaced_content) next)
-  into Shapes list groups next is = shapes_examined d s list groups next is
-  into Selections list groups next is = selections_examined d s list groups next is
+  -- all that the sets select, without places, is in the list
+  in_merged : (sets : Sets) (list : List FieldSelection) → IsMergedIn d sets list → (x : PlainField) → PlainSelected d (plain_sets sets) x → Contains (contents_of list) x
+  in_merged sets list merged x h = let e = selected_plain d sets x h in subst (Contains (contents_of list)) e.1.1 (merged.covers e.0 e.1.0)
 
-  twice : (lists : List (List FieldSelection)) → map (map unplaced_content) (map fields_of lists) ≡ all_contents lists
-  twice [] = refl
-  twice (l ∷ lists) = ap (λ k. contents_of l ∷ k) (twice lists)
+  -- a list of sets is left no more, whose fields stand
+  abbrev Settles : Kept → Kept → List Sets → List Sets → Type 0
+  Settles old new lists next = (o : MeantOperation Place) (left : List (List PlainSet))
+      → AreUnderWay d pass s o (all_plain lists ++ left) old → AreUnderWay d pass s o (left ++ all_plain next) new × AllStand d (all_plain lists) new.lists
 
-  -- a list that is new
-  pub new_list : (list : List FieldSelection) (added : List (Broken Place)) (next : List (List FieldSelection)) (old new : List (List PlainField))
-      → ListExamined pass s d list added next → Remembers old (contents_of list) true new → ListsExamined pass s d (list ∷ []) old new added next
-  new_list list added next old new h (none, is) = record {
+  all_of_one : (sets : Sets) (lists : List (List PlainField)) → ((x y : PlainField) → PlainSelected d (plain_sets sets) x → PlainSelected d (plain_sets sets) y → StandIn lists x y) → AllStand d (all_plain (sets ∷ [])) lists
+  all_of_one sets lists stand vs c x y a b =
+      let same = only (plain_sets sets) vs c in
+      stand x y (subst (λ (l : List PlainSet). PlainSelected d l x) same a) (subst (λ (l : List PlainSet). PlainSelected d l y) same b)
+
+  -- the first list is left no more, and what is left later has all others
+  left_on : (sets : Sets) (left later : List (List PlainSet)) (lists : List (List PlainField)) → ((x y : PlainField) → PlainSelected d (plain_sets sets) x → PlainSelected d (plain_sets sets) y → StandIn lists x y)
+      → ((l : List PlainSet) → Contains left l → Contains later l) → (x y : PlainField) → IsLeft d (plain_sets sets ∷ left) x y → StandIn lists x y ⊎ IsLeft d later x y
+  left_on sets left later lists stand on x y h = elim (Contains-cons (plain_sets sets) left h.0 h.1.0) [
+    | inl e ↦ inl (stand x y (subst (λ (l : List PlainSet). PlainSelected d l x) (sym e) h.1.1.0) (subst (λ (l : List PlainSet). PlainSelected d l y) (sym e) h.1.1.1))
+    | inr r ↦ inr (h.0, (on h.0 r, h.1.1))
+  ]
+
+  dropped : (sets : Sets) (kept : Kept) → ((x y : PlainField) → PlainSelected d (plain_sets sets) x → PlainSelected d (plain_sets sets) y → StandIn kept.lists x y)
+      → (o : MeantOperation Place) (left : List (List PlainSet)) → AreUnderWay d pass s o (plain_sets sets ∷ left) kept → AreUnderWay d pass s o (left ++ []) kept
+  dropped sets kept stand o left under = subst (λ l. AreUnderWay d pass s o l kept) (sym (append-nil left)) (record {
+    fields = moved (PlainBelow d) (Together pass s) (Agree pass s) (PlainStarts d o) (IsLeft d (plain_sets sets ∷ left)) (IsLeft d left) (StandIn kept.lists) (StandIn kept.lists)
+        (λ f g h. h) (left_on sets left left kept.lists stand (λ l c. c)) (λ f g h. inl h) under.fields;
+    sets = under.sets;
+  })
+
+  -- ---- a list of fields that is new
+
+  module _ (sets : Sets) (list : List FieldSelection) (next : List Sets) (old : Kept) (merged : IsMergedIn d sets list) (h : ListExamined pass s d list [] next) where
+    abbrev lists_now : List (List PlainField)
+    lists_now = old.lists ++ contents_of list ∷ []
+
+    stand_here : (f g : PlainField) → Contains (contents_of list) f → Contains (contents_of list) g → StandIn lists_now f g
+    stand_here f g a b = (contents_of list, (in_last old.lists (contents_of list), (a, b)))
+
+    stand_selected : (x y : PlainField) → PlainSelected d (plain_sets sets) x → PlainSelected d (plain_sets sets) y → StandIn lists_now x y
+    stand_selected x y a b = stand_here x y (in_merged sets list merged x a) (in_merged sets list merged y b)
+
+    more_here : (l : List PlainField) → Contains old.lists l → Contains lists_now l
+    more_here l c = Contains-append_left old.lists (contents_of list ∷ []) l c
+
+    -- what is asked of two fields that stand in the list
+    abbrev Fresh : List (List PlainSet) → PlainField → PlainField → Type 0
+    Fresh later f g = (Together pass s f g → Agree pass s f g) × (Together pass s f g → (x y : PlainField) → PlainBelow d f x → PlainBelow d g y → StandIn lists_now x y ⊎ IsLeft d later x y)
+
+    -- their sets are in one of the next lists
+    below_both : (left : List (List PlainSet)) (f g : StandingField Place) → HaveBoth next f g → (x y : PlainField) → PlainBelow d (unplaced_content f) x → PlainBelow d (unplaced_content g) y → IsLeft d (left ++ all_plain next) x y
+    below_both left f g (inl bare) x y a b = absurd (bare_selects (unplaced_document d) (unplaced_set f.set) (bare_plain f.set bare) x a)
+    below_both left f g (inr (inl bare)) x y a b = absurd (bare_selects (unplaced_document d) (unplaced_set g.set) (bare_plain g.set bare) y b)
+    below_both left f g (inr (inr (vs, (c, (v, w))))) x y a b =
+        (plain_sets vs, (Contains-append_right left (all_plain next) (plain_sets vs) (contains_map plain_sets next vs c), ((unplaced_set f.set, (v, a)), (unplaced_set g.set, (w, b)))))
+
+    fresh_fields : (left : List (List PlainSet)) (f g : StandingField Place) → Contains (fields_of list) f → Contains (fields_of list) g → Fresh (left ++ all_plain next) (unplaced_content f) (unplaced_content g)
+    fresh_fields left f g in_f in_g = (
+      λ t.
+          let shared = h.are.covered f g in_f in_g (together_up pass s f g t) in
+          agree_down pass s f g (by_head (PlainBelow d) (Together pass s) (Agree pass s) (agree_sym pass s) (agree_trans pass s) shared.0 f g (h.examined.agree refl shared.0 shared.1.0) shared.1.1.0 shared.1.1.1),
+      λ t x y a b.
+          let shared = h.are.covered f g in_f in_g (together_up pass s f g t) in
+          inr (below_both left f g (h.examined.below shared.0 shared.1.0 f g shared.1.1.0 shared.1.1.1) x y a b),
+    )
+
+    fresh : (left : List (List PlainSet)) (f g : PlainField) → Contains (contents_of list) f → Contains (contents_of list) g → Fresh (left ++ all_plain next) f g
+    fresh left f g in_f in_g =
+        let y = contains_unmap unplaced_content (fields_of list) f in_f in
+        let z = contains_unmap unplaced_content (fields_of list) g in_g in
+        subst (λ v. Fresh (left ++ all_plain next) v g) y.1.1 (subst (Fresh (left ++ all_plain next) (unplaced_content y.0)) z.1.1 (fresh_fields left y.0 z.0 y.1.0 z.1.0))
+
+    new_settles : Settles old (record { lists = lists_now; expanded = old.expanded }) (sets ∷ []) next
+    new_settles o left under = (
+      record {
+        fields = moved (PlainBelow d) (Together pass s) (Agree pass s) (PlainStarts d o) (IsLeft d (plain_sets sets ∷ left)) (IsLeft d (left ++ all_plain next)) (StandIn old.lists) (StandIn lists_now)
+            (stand_more old.lists lists_now more_here)
+            (left_on sets left (left ++ all_plain next) lists_now stand_selected (λ l c. Contains-append_left left (all_plain next) l c))
+            (λ f g k. elim (Contains-append_cases old.lists (contents_of list ∷ []) k.0 k.1.0) [
+              | inl a ↦ inl (k.0, (a, k.1.1))
+              | inr b ↦ inr (fresh left f g (subst (λ (l : List PlainField). Contains l f) (only (contents_of list) k.0 b) k.1.1.0) (subst (λ (l : List PlainField). Contains l g) (only (contents_of list) k.0 b) k.1.1.1))
+            ])
+            under.fields;
+        sets = λ vs c x y a b. stand_more old.lists lists_now more_here x y (under.sets vs c x y a b);
+      },
+      all_of_one sets lists_now stand_selected,
+    )
+
+  pub new_fields : (sets : Sets) (list : List FieldSelection) (added : List (Broken Place)) (next : List Sets) (old new : Kept) → IsMergedIn d sets list
+      → ListExamined pass s d list added next → new ≡ record { lists = old.lists ++ contents_of list ∷ []; expanded = old.expanded } → SetsExamined pass s d (sets ∷ []) old new added next
+  new_fields sets list added next old new merged h is = record {
     right = λ fault c.
         let t = h.examined.right fault c in
         let w = h.are.within t.0 t.1.1.0 t.1.1.1.0 t.1.0 t.1.1.1.1.0 t.1.1.1.1.1.0 in
         let v = h.are.within t.0 t.1.1.1.0 t.1.1.0 t.1.0 t.1.1.1.1.1.0 t.1.1.1.1.0 in
-        (list, (Contains-first list [] list refl, (t.1.1.0, (t.1.1.1.0, (w.0, (v.0, (w.1, t.1.1.1.1.1.1)))))));
-    under = λ l c.
-        let u = h.examined.under l c in
-        (u.0, (list, (Contains-first list [] list refl, (u.1.0, ((λ f g a b. h.are.within u.1.0 f g u.1.1.0 a b), u.1.1.1)))));
-    apart = h.examined.apart;
+        (sets, (Contains-first sets [] sets refl, (t.1.1.0, (t.1.1.1.0, (merged.within t.1.1.0 w.0, (merged.within t.1.1.1.0 v.0, (w.1, t.1.1.1.1.1.1)))))));
+    under = λ vs c.
+        let u = h.examined.under vs c in
+        (sets, (Contains-first sets [] sets refl, (u.0, ((λ f g a b. let w = h.are.within u.0 f g u.1.0 a b in (merged.within f w.0, w.1)), u.1.1))));
+    more = λ l c. subst (λ (k : Kept). Contains k.lists l) (sym is) (Contains-append_left old.lists (contents_of list ∷ []) l c);
     settled = λ e o left under.
         let whole : ListExamined pass s d list [] next = subst (λ a. ListExamined pass s d list a next) e h in
-        let is_into : IsExaminedInto (PlainBelow d) (Together pass s) (Agree pass s) (contents_of list) (map (map unplaced_content) whole.groups) ([] ∷ all_contents next) =
-        subst (λ ns. IsExaminedInto (PlainBelow d) (Together pass s) (Agree pass s) (contents_of list) (map (map unplaced_content) whole.groups) ([] ∷ ns)) (twice next)
-        (into pass (fields_of list) whole.groups (map fields_of ([] ∷ next)) (examined_by list next whole)) in
-        let later : List (List PlainField) = left ++ all_contents next in
-        let all : IsUnderWay (PlainBelow d) (Together pass s) (Agree pass s) (PlainStarts d o) ([] ∷ later) (([] ∷ old) ++ contents_of list ∷ []) =
-        examined_anyhow (PlainBelow d) (Together pass s) (Agree pass s) (PlainStarts d o) (agree_sym pass s) (agree_trans pass s)
-        left ([] ∷ later) ([] ∷ old) (contents_of list) (contents_of list) (map (map unplaced_content) whole.groups) ([] ∷ all_contents next) (λ x c. c) is_into
-        (λ l c. Contains-rest [] later l (Contains-append_left left (all_contents next) l c))
-        (λ l c. onto left l (Contains-cons [] (all_contents next) l c)) under in
-        subst (AreUnderWay d pass s o later) (sym is)
-        (dropped (PlainBelow d) (Together pass s) (Agree pass s) (PlainStarts d o) later (([] ∷ old) ++ contents_of list ∷ []) [] [] (Contains-first [] (old ++ contents_of list ∷ []) [] refl) (λ f c. c) all);
+        subst (λ (k : Kept). AreUnderWay d pass s o (left ++ all_plain next) k × AllStand d (all_plain (sets ∷ [])) k.lists) (sym is) (new_settles sets list next old merged whole o left under);
   }
-    where
-      onto : (left : List (List PlainField)) (l : List PlainField) → ([] ≡ l) ⊎ Contains (all_contents next) l → Contains ([] ∷ (left ++ all_contents next)) l
-      onto left l (inl e) = Contains-first [] (left ++ all_contents next) l e
-      onto left l (inr r) = Contains-rest [] (left ++ all_contents next) l (Contains-append_right left (all_contents next) l r)
 
-  -- a list that is known
-  pub known_list : (list : List FieldSelection) (old new : List (List PlainField)) → Remembers old (contents_of list) false new → ListsExamined pass s d (list ∷ []) old new [] []
-  known_list list old new (there, is) = record {
+  -- a list of fields that is known
+  pub known_fields : (sets : Sets) (list : List FieldSelection) (old new : Kept) → IsMergedIn d sets list → Contains old.lists (contents_of list) → new ≡ old → SetsExamined pass s d (sets ∷ []) old new [] []
+  known_fields sets list old new merged there is = record {
     right = λ fault c. not_in_nil fault c;
-    under = λ l c. not_in_nil l c;
-    apart = λ l c. not_in_nil l c;
+    under = λ vs c. not_in_nil vs c;
+    more = λ l c. subst (λ (k : Kept). Contains k.lists l) (sym is) c;
     settled = λ e o left under.
-        subst (λ l. AreUnderWay d pass s o l new) (sym (append-nil left))
-        (subst (AreUnderWay d pass s o left) (sym is)
-        (dropped (PlainBelow d) (Together pass s) (Agree pass s) (PlainStarts d o) left ([] ∷ old) (contents_of list) (contents_of list) (Contains-rest [] old (contents_of list) there) (λ x c. c) under));
+        let stand : (x y : PlainField) → PlainSelected d (plain_sets sets) x → PlainSelected d (plain_sets sets) y → StandIn old.lists x y =
+        λ x y a b. (contents_of list, (there, (in_merged sets list merged x a, in_merged sets list merged y b))) in
+        subst (λ (k : Kept). AreUnderWay d pass s o (left ++ []) k × AllStand d (all_plain (sets ∷ [])) k.lists) (sym is) (dropped sets old stand o left under, all_of_one sets old.lists stand);
   }
+
+  -- sets that were looked at
+  pub known_sets : (sets : Sets) (old new : Kept) → Contains old.expanded (plain_sets sets) → new ≡ old → SetsExamined pass s d (sets ∷ []) old new [] []
+  known_sets sets old new there is = record {
+    right = λ fault c. not_in_nil fault c;
+    under = λ vs c. not_in_nil vs c;
+    more = λ l c. subst (λ (k : Kept). Contains k.lists l) (sym is) c;
+    settled = λ e o left under.
+        let stand = under.sets (plain_sets sets) there in
+        subst (λ (k : Kept). AreUnderWay d pass s o (left ++ []) k × AllStand d (all_plain (sets ∷ [])) k.lists) (sym is) (dropped sets old stand o left under, all_of_one sets old.lists stand);
+  }
+
+  -- sets that were examined are remembered
+  pub then_looked : (sets : Sets) (lists : List Sets) (old mid new : Kept) (added : List (Broken Place)) (next : List Sets) → Contains lists sets
+      → SetsExamined pass s d lists old mid added next → new ≡ record { lists = mid.lists; expanded = mid.expanded ++ plain_sets sets ∷ [] } → SetsExamined pass s d lists old new added next
+  then_looked sets lists old mid new added next there h is = record {
+    right = h.right;
+    under = h.under;
+    more = λ l c. subst (λ (k : Kept). Contains k.lists l) (sym is) (h.more l c);
+    settled = λ e o left under.
+        let r = h.settled e o left under in
+        subst (λ (k : Kept). AreUnderWay d pass s o (left ++ all_plain next) k × AllStand d (all_plain lists) k.lists) (sym is) (
+          record {
+            fields = r.0.fields;
+            sets = λ vs c. elim (Contains-append_cases mid.expanded (plain_sets sets ∷ []) vs c) [
+              | inl a ↦ r.0.sets vs a
+              | inr b ↦ subst (λ (l : List PlainSet). (x y : PlainField) → PlainSelected d l x → PlainSelected d l y → StandIn mid.lists x y) (sym (only (plain_sets sets) vs b)) (r.1 (plain_sets sets) (contains_map plain_sets lists sets there))
+            ];
+          },
+          r.1,
+        );
+  }
+
+  -- ---- sets two by two
+
+  module _ (sets : Sets) (twos : List Sets) (are : AreTwosOf sets twos) where
+    widened : (two : Sets) → Contains twos two → (x : StandingField Place) → IsSelected d two x → IsSelected d sets x
+    widened two c x h = (h.0, (are.within two c h.0 h.1.0, h.1.1))
+
+    -- any two that the sets select, one of the twos selects
+    in_two : (x y : PlainField) → PlainSelected d (plain_sets sets) x → PlainSelected d (plain_sets sets) y
+        → (two : Sets) × (Contains twos two × (PlainSelected d (plain_sets two) x × PlainSelected d (plain_sets two) y))
+    in_two x y (p, (a, i)) (q, (b, j)) =
+        let v = contains_unmap unplaced_set sets p a in
+        let w = contains_unmap unplaced_set sets q b in
+        let two = are.covers v.0 w.0 v.1.0 w.1.0 in (
+          two.0,
+          (
+            two.1.0,
+            (
+              (p, (subst (Contains (plain_sets two.0)) v.1.1 (contains_map unplaced_set two.0 v.0 two.1.1.0), i)),
+              (q, (subst (Contains (plain_sets two.0)) w.1.1 (contains_map unplaced_set two.0 w.0 two.1.1.1), j)),
+            ),
+          ),
+        )
+
+    split : (left : List (List PlainSet)) (x y : PlainField) → IsLeft d (plain_sets sets ∷ left) x y → IsLeft d (all_plain twos ++ left) x y
+    split left x y h = elim (Contains-cons (plain_sets sets) left h.0 h.1.0) [
+      | inl e ↦
+          let two = in_two x y (subst (λ (l : List PlainSet). PlainSelected d l x) (sym e) h.1.1.0) (subst (λ (l : List PlainSet). PlainSelected d l y) (sym e) h.1.1.1) in
+          (plain_sets two.0, (Contains-append_left (all_plain twos) left (plain_sets two.0) (contains_map plain_sets twos two.0 two.1.0), two.1.1))
+      | inr r ↦ (h.0, (Contains-append_right (all_plain twos) left h.0 r, h.1.1))
+    ]
+
+    pub by_twos : (old new : Kept) (added : List (Broken Place)) (next : List Sets) → SetsExamined pass s d twos old new added next → SetsExamined pass s d (sets ∷ []) old new added next
+    by_twos old new added next h = record {
+      right = λ fault c.
+          let t = h.right fault c in
+          (sets, (Contains-first sets [] sets refl, (t.1.1.0, (t.1.1.1.0, (widened t.0 t.1.0 t.1.1.0 t.1.1.1.1.0, (widened t.0 t.1.0 t.1.1.1.0 t.1.1.1.1.1.0, t.1.1.1.1.1.1))))));
+      under = λ vs c.
+          let u = h.under vs c in
+          (sets, (Contains-first sets [] sets refl, (u.1.1.0, ((λ f g a b. let w = u.1.1.1.0 f g a b in (widened u.0 u.1.0 f w.0, w.1)), u.1.1.1.1))));
+      more = h.more;
+      settled = λ e o left under.
+          let r = h.settled e o left (record {
+            fields = moved (PlainBelow d) (Together pass s) (Agree pass s) (PlainStarts d o) (IsLeft d (plain_sets sets ∷ left)) (IsLeft d (all_plain twos ++ left)) (StandIn old.lists) (StandIn old.lists)
+                (λ f g k. k) (λ f g k. inr (split left f g k)) (λ f g k. inl k) under.fields;
+            sets = under.sets;
+          }) in (
+            r.0,
+            all_of_one sets new.lists (λ x y a b. let two = in_two x y a b in r.1 (plain_sets two.0) (contains_map plain_sets twos two.0 two.1.0) x y two.1.1.0 two.1.1.1),
+          );
+    }
 
   -- ---- lists, one after the other
 
-  pub no_lists : (old : List (List PlainField)) → ListsExamined pass s d [] old old [] []
+  pub no_lists : (old : Kept) → SetsExamined pass s d [] old old [] []
   no_lists old = record {
     right = λ fault c. not_in_nil fault c;
-    under = λ l c. not_in_nil l c;
-    apart = λ l c. not_in_nil l c;
-    settled = λ e o left under. subst (λ l. AreUnderWay d pass s o l old) (sym (append-nil left)) under;
+    under = λ vs c. not_in_nil vs c;
+    more = λ l c. c;
+    settled = λ e o left under. (subst (λ l. AreUnderWay d pass s o l old) (sym (append-nil left)) under, λ vs c. not_in_nil vs c);
   }
 
-  lists_more : (lists : List (List FieldSelection)) (list : List FieldSelection) (old mid new : List (List PlainField)) (added more : List (Broken Place)) (next below : List (List FieldSelection))
-      → ListsExamined pass s d lists old mid added next → ListsExamined pass s d (list ∷ []) mid new more below → ListsExamined pass s d (lists ++ list ∷ []) old new (added ++ more) (next ++ below)
-  lists_more lists list old mid new added more next below first then' = record {
+  lists_more : (lists others : List Sets) (old mid new : Kept) (added more : List (Broken Place)) (next below : List Sets)
+      → SetsExamined pass s d lists old mid added next → SetsExamined pass s d others mid new more below → SetsExamined pass s d (lists ++ others) old new (added ++ more) (next ++ below)
+  lists_more lists others old mid new added more next below first then' = record {
     right = λ fault c. elim (Contains-append_cases added more fault c) [
-      | inl a ↦ let t = first.right fault a in (t.0, (Contains-append_left lists (list ∷ []) t.0 t.1.0, t.1.1))
-      | inr b ↦ let t = then'.right fault b in (t.0, (Contains-append_right lists (list ∷ []) t.0 t.1.0, t.1.1))
+      | inl a ↦ let t = first.right fault a in (t.0, (Contains-append_left lists others t.0 t.1.0, t.1.1))
+      | inr b ↦ let t = then'.right fault b in (t.0, (Contains-append_right lists others t.0 t.1.0, t.1.1))
     ];
     under = λ l c. elim (Contains-append_cases next below l c) [
-      | inl a ↦ let u = first.under l a in (u.0, (u.1.0, (Contains-append_left lists (list ∷ []) u.1.0 u.1.1.0, u.1.1.1)))
-      | inr b ↦ let u = then'.under l b in (u.0, (u.1.0, (Contains-append_right lists (list ∷ []) u.1.0 u.1.1.0, u.1.1.1)))
+      | inl a ↦ let u = first.under l a in (u.0, (Contains-append_left lists others u.0 u.1.0, u.1.1))
+      | inr b ↦ let u = then'.under l b in (u.0, (Contains-append_right lists others u.0 u.1.0, u.1.1))
     ];
-    apart = λ l c. elim (Contains-append_cases next below l c) [ inl a ↦ first.apart l a | inr b ↦ then'.apart l b ];
+    more = λ l c. then'.more l (first.more l c);
     settled = λ e o left under.
-        let begin : AreUnderWay d pass s o (all_contents lists ++ (contents_of list ∷ left)) old =
-        subst (λ l. AreUnderWay d pass s o l old) (ap (λ l. l ++ left) (map-append contents_of lists (list ∷ [])) ∙ append_assoc (all_contents lists) (contents_of list ∷ []) left) under in
-        let half = first.settled (left_empty added more e) o (contents_of list ∷ left) begin in
-        subst (λ l. AreUnderWay d pass s o l new) (append_assoc left (all_contents next) (all_contents below) ∙ ap (λ l. left ++ l) (sym (map-append contents_of next below)))
-        (then'.settled (right_empty added more e) o (left ++ all_contents next) half);
+        let begin : AreUnderWay d pass s o (all_plain lists ++ (all_plain others ++ left)) old =
+        subst (λ l. AreUnderWay d pass s o l old) (ap (λ l. l ++ left) (map-append plain_sets lists others) ∙ append_assoc (all_plain lists) (all_plain others) left) under in
+        let half = first.settled (left_empty added more e) o (all_plain others ++ left) begin in
+        let last = then'.settled (right_empty added more e) o (left ++ all_plain next)
+        (subst (λ l. AreUnderWay d pass s o l mid) (append_assoc (all_plain others) left (all_plain next)) half.0) in (
+          subst (λ l. AreUnderWay d pass s o l new) (append_assoc left (all_plain next) (all_plain below) ∙ ap (λ l. left ++ l) (sym (map-append plain_sets next below))) last.0,
+          λ vs c. elim (Contains-append_cases (all_plain lists) (all_plain others) vs (subst (λ l. Contains l vs) (map-append plain_sets lists others) c)) [
+            | inl a ↦ λ x y i j. stand_more mid.lists new.lists then'.more x y (half.1 vs a x y i j)
+            | inr b ↦ last.1 vs b
+          ],
+        );
   }
 
   -- the same of breaches and lists as they stand before and after
-  abbrev pub ListsTold : List (Broken Place) → List (Broken Place) → List (List PlainField) → List (List PlainField) → List (List FieldSelection) → List (List FieldSelection) → Type 0
-  ListsTold told later old new last lists = (added : List (Broken Place)) × ((later ≡ told ++ added) × ListsExamined pass s d lists old new added last)
+  abbrev pub SetsTold : List (Broken Place) → List (Broken Place) → Kept → Kept → List Sets → List Sets → List Sets → Type 0
+  SetsTold told later old new next last lists = (added : List (Broken Place)) × ((below : List Sets) × ((later ≡ told ++ added) × ((last ≡ next ++ below) × SetsExamined pass s d lists old new added below)))
 
-  pub lists_step : (told mid later : List (Broken Place)) (next last : List (List FieldSelection)) (lists : List (List FieldSelection)) (list : List FieldSelection) (old between new : List (List PlainField))
-      → ListsTold told mid old between next lists
-      → ((added : List (Broken Place)) × ((below : List (List FieldSelection)) × ((later ≡ mid ++ added) × ((last ≡ next ++ below) × ListsExamined pass s d (list ∷ []) between new added below))))
-      → ListsTold told later old new last (lists ++ list ∷ [])
-  lists_step told mid later next last lists list old between new (a, (is, so_far)) (b, (m, (is_too, (lies, here)))) = (
+  pub none_told : (told : List (Broken Place)) (old : Kept) (next : List Sets) → SetsTold told told old old next next []
+  none_told told old next = ([], ([], (sym (append-nil told), (sym (append-nil next), no_lists old))))
+
+  pub lists_step : (told mid later : List (Broken Place)) (next between last : List Sets) (lists others : List Sets) (old half new : Kept)
+      → SetsTold told mid old half next between lists → SetsTold mid later half new between last others → SetsTold told later old new next last (lists ++ others)
+  lists_step told mid later next between last lists others old half new (a, (n, (is, (lies, so_far)))) (b, (m, (is_too, (lies_too, here)))) = (
     a ++ b,
     (
-      is_too ∙ ap (λ l. l ++ b) is ∙ append_assoc told a b,
-      subst (ListsExamined pass s d (lists ++ list ∷ []) old new (a ++ b)) (sym lies) (lists_more lists list old between new a b next m so_far here),
+      n ++ m,
+      (
+        is_too ∙ ap (λ l. l ++ b) is ∙ append_assoc told a b,
+        (lies_too ∙ ap (λ l. l ++ m) lies ∙ append_assoc next n m, lists_more lists others old half new a b n m so_far here),
+      ),
     ),
   )
+
+  -- the same lists told of otherwise
+  pub told_so : (told later : List (Broken Place)) (old new : Kept) (next last : List Sets) (lists others : List Sets) (former later' : Kept)
+      → ((added : List (Broken Place)) (below : List Sets) → SetsExamined pass s d lists former later' added below → SetsExamined pass s d others old new added below)
+      → SetsTold told later former later' next last lists → SetsTold told later old new next last others
+  told_so told later old new next last lists others former later' so (a, (n, (is, (lies, h)))) = (a, (n, (is, (lies, so a n h))))
+
+  -- ---- steps of the program
+
+  -- fields that some sets select are examined
+  pub fields_told : (sets : Sets) (list : List FieldSelection) (old mid new : Kept) (told later : List (Broken Place)) (next last : List Sets) → mid ≡ old → IsMergedIn d sets list
+      → (new.expanded ≡ mid.expanded) × ((vs : Sets) (looked : List (List PlainSet)) → IsMergedIn d vs list → SetsTold told later (with_sets looked mid) (with_sets looked new) next last (vs ∷ []))
+      → SetsTold told later old new next last (sets ∷ [])
+  fields_told sets list old mid new told later next last is merged (same, so) =
+      let r = so sets old.expanded merged in
+      let known : with_sets old.expanded new ≡ new = λ i. record { lists = new.lists; expanded = sym (same ∙ ap (λ (k : Kept). k.expanded) is) i } in
+      subst (λ (k : Kept). SetsTold told later old k next last (sets ∷ [])) known (subst (λ (k : Kept). SetsTold told later k (with_sets old.expanded new) next last (sets ∷ [])) (ap (with_sets old.expanded) is) r)
+
+  -- after the sets were remembered
+  pub whole_told : (sets : Sets) (list : List FieldSelection) (old mid new : Kept) (told later : List (Broken Place)) (next last : List Sets)
+      → mid ≡ record { lists = old.lists; expanded = old.expanded ++ plain_sets sets ∷ [] } → IsMergedIn d sets list
+      → (new.expanded ≡ mid.expanded) × ((vs : Sets) (looked : List (List PlainSet)) → IsMergedIn d vs list → SetsTold told later (with_sets looked mid) (with_sets looked new) next last (vs ∷ []))
+      → SetsTold told later old new next last (sets ∷ [])
+  whole_told sets list old mid new told later next last is merged (same, so) =
+      let r = subst (λ (k : Kept). SetsTold told later k (with_sets old.expanded new) next last (sets ∷ [])) (ap (with_sets old.expanded) is) (so sets old.expanded merged) in
+      told_so told later old new next last (sets ∷ []) (sets ∷ []) old (with_sets old.expanded new)
+      (λ added below h. then_looked sets (sets ∷ []) old (with_sets old.expanded new) new added below (Contains-first sets [] sets refl) h
+      (λ i. record { lists = new.lists; expanded = (same ∙ ap (λ (k : Kept). k.expanded) is) i })) r
+
+  -- two by two
+  pub twos_told : (sets : Sets) (old mid new : Kept) (told later : List (Broken Place)) (next last : List Sets) → mid ≡ old → (twos : List Sets) → AreTwosOf sets twos
+      → SetsTold told later mid new next last twos → SetsTold told later old new next last (sets ∷ [])
+  twos_told sets old mid new told later next last is twos are h =
+      subst (λ (k : Kept). SetsTold told later k new next last (sets ∷ [])) is (told_so told later mid new next last twos (sets ∷ []) mid new (λ added below k. by_twos sets twos are mid new added below k) h)
+
+  -- before they are remembered
+  pub looked_then : (sets : Sets) (old mid new : Kept) (is_new : Bool) (told later : List (Broken Place)) (next last : List Sets) → Expands mid (plain_sets sets) is_new new
+      → SetsTold told later old mid next last (sets ∷ []) → SetsTold told later old new next last (sets ∷ [])
+  looked_then sets old mid new true told later next last is h = told_so told later old new next last (sets ∷ []) (sets ∷ []) old mid
+      (λ added below k. then_looked sets (sets ∷ []) old mid new added below (Contains-first sets [] sets refl) k is) h
+  looked_then sets old mid new false told later next last (there, is) h = subst (λ (k : Kept). SetsTold told later old k next last (sets ∷ [])) (sym is) h
+
+  -- ---- sets with no fields
+
+  pub none_more : (front : List Sets) (sets : Sets) (list : List FieldSelection) → HaveFields d false front → IsMergedIn d sets list → list ≡ [] → HaveFields d false (front ++ sets ∷ [])
+  none_more front sets list none merged empty vs c x h = elim (Contains-append_cases front (sets ∷ []) vs c) [
+    | inl a ↦ none vs a x h
+    | inr b ↦ not_in_nil (unplaced_content x) (subst (λ l. Contains (contents_of l) (unplaced_content x)) empty (merged.covers x (subst (λ (l : Sets). IsSelected d l x) (only sets vs b) h)))
+  ]
+
+  pub some_here : (lists : List Sets) (sets : Sets) (list : List FieldSelection) → Contains lists sets → IsMergedIn d sets list → (x : FieldSelection) × Contains list x → HaveFields d true lists
+  some_here lists sets list there merged (x, c) = (sets, (there, (field_of x, merged.within (field_of x) (contains_map field_of list x c))))
 
   -- ---- levels
 
   module _ (o : MeantOperation Place) where
-    -- chains of this length lead to each list of a level
-    pub record AtLevel (k : ℕ) (level : List (List FieldSelection)) : Type 0 where
-      pub going : (list : List FieldSelection) → Contains level list → IsGoing (ContentBelow d) (ContentStarts d o) (Together pass s) (fields_of list)
-      pub ends : (list : List FieldSelection) → Contains level list → IsEndOf (ContentBelow d) (ContentStarts d o) k (fields_of list)
+    -- fields that sets select
+    abbrev IsWithin : Sets → List (StandingField Place) → Type 0
+    IsWithin sets list = (x : StandingField Place) → Contains list x → IsSelected d sets x
 
-    level_next : (k : ℕ) (level : List (List FieldSelection)) (old new : List (List PlainField)) (added : List (Broken Place)) (next : List (List FieldSelection))
-        → AtLevel k level → ListsExamined pass s d level old new added next → AtLevel (k + 1) next
+    -- chains of this length lead to what each list of a level selects
+    pub record AtLevel (k : ℕ) (level : List Sets) : Type 0 where
+      pub going : (sets : Sets) → Contains level sets → (list : List (StandingField Place)) → IsWithin sets list → IsGoing (ContentBelow d) (ContentStarts d o) (Together pass s) list
+      pub ends : (sets : Sets) → Contains level sets → (list : List (StandingField Place)) → IsWithin sets list → IsEndOf (ContentBelow d) (ContentStarts d o) k list
+
+    below_of : (group list : List (StandingField Place)) (sets : Sets) → AreOf group sets → IsWithin sets list → (x : StandingField Place) → Contains list x → (f : StandingField Place) × (Contains group f × ContentBelow d f x)
+    below_of group list sets of within x c =
+        let v = within x c in
+        let f = of v.0 v.1.0 in
+        (f.0, (f.1.0, subst (λ w. IsIn d w x) (sym f.1.1) v.1.1))
+
+    level_next : (k : ℕ) (level : List Sets) (old new : Kept) (added : List (Broken Place)) (next : List Sets)
+        → AtLevel k level → SetsExamined pass s d level old new added next → AtLevel (k + 1) next
     level_next k level old new added next at h = record {
-      going = λ list c.
-          let u = h.under list c in
-          going_below (ContentBelow d) (ContentStarts d o) (Together pass s) (fields_of u.1.0) u.1.1.1.0 (fields_of list) (at.going u.1.0 u.1.1.0) u.1.1.1.1.0 u.1.1.1.1.1;
-      ends = λ list c.
-          let u = h.under list c in
-          end_below (ContentBelow d) (ContentStarts d o) k u.1.1.1.0 (fields_of list)
-          (end_within (ContentBelow d) (ContentStarts d o) k (fields_of u.1.0) u.1.1.1.0 (λ f a. (u.1.1.1.1.0 f f a a).0) (at.ends u.1.0 u.1.1.0)) u.1.1.1.1.1;
+      going = λ sets c list within.
+          let u = h.under sets c in
+          let group = u.1.1.0 in
+          let together = u.1.1.1.0 in
+          going_below (ContentBelow d) (ContentStarts d o) (Together pass s) group group list (at.going u.0 u.1.0 group (λ f a. (together f f a a).0))
+          (λ f g a b. (a, (together f g a b).1)) (below_of group list sets u.1.1.1.1 within);
+      ends = λ sets c list within.
+          let u = h.under sets c in
+          let group = u.1.1.0 in
+          end_below (ContentBelow d) (ContentStarts d o) k group list (at.ends u.0 u.1.0 group (λ f a. (u.1.1.1.0 f f a a).0)) (below_of group list sets u.1.1.1.1 within);
     }
 
     breaks : (p : Pass) (list : List (StandingField Place)) (f g : StandingField Place) (fault : Broken Place) → IsGoing (ContentBelow d) (ContentStarts d o) (Together p s) list
@@ -328,42 +564,63 @@ module _ (pass : Pass) (s : Judged) (d : MeantDocument Place) where
     breaks Selections list f g fault going a b t (inr (n, (differ, is))) = subst (MergingBreaks s d o) (sym is) ((going_breaks s d o list f g a b).1.1 going t n differ)
 
     -- as far as levels were examined
-    pub record SoFar (start now : List (List PlainField)) (length : ℕ) (added : List (Broken Place)) (level : List (List FieldSelection)) : Type 0 where
+    pub record SoFar (start now : Kept) (length : ℕ) (added : List (Broken Place)) (level : List Sets) : Type 0 where
       pub at : AtLevel (length + 1) level
-      pub fields : 0 < length → (list : List FieldSelection) → Contains level list → HasFields list
       pub right : (fault : Broken Place) → Contains added fault → MergingBreaks s d o fault
-      pub settled : added ≡ [] → AreSettled d pass s start → AreUnderWay d pass s o (all_contents level) now
+      pub settled : added ≡ [] → AreSettled d pass s start → AreUnderWay d pass s o (all_plain level) now
 
-    pub first_level : (start : List FieldSelection) (old : List (List PlainField)) → AreStarting d o start → SoFar old old 0 [] (start ∷ [])
-    first_level start old starting = record {
+    -- what starts is what the first set selects
+    starting : (start : MeantSet Place) → o.set ≡ start → (sets : Sets) → Contains ((start ∷ []) ∷ []) sets → (x : StandingField Place) → IsSelected d sets x → ContentStarts d o x
+    starting start is sets c x h =
+        let v = subst (λ (l : Sets). Contains l h.0) (only (start ∷ []) sets c) h.1.0 in
+        subst (λ w. IsIn d w x) (only start h.0 v ∙ sym is) h.1.1
+
+    start_left : (start : MeantSet Place) → o.set ≡ start → StartsStand (PlainStarts d o) (IsLeft d (all_plain ((start ∷ []) ∷ [])))
+    start_left start is f g a b = (plain_sets (start ∷ []), (Contains-first (plain_sets (start ∷ [])) [] (plain_sets (start ∷ [])) refl, (selects f a, selects g b)))
+      where
+        selects : (y : PlainField) → PlainStarts d o y → PlainSelected d (plain_sets (start ∷ [])) y
+        selects y p = (unplaced_set o.set, (Contains-first (unplaced_set start) [] (unplaced_set o.set) (sym (ap unplaced_set is)), p))
+
+    pub first_level : (start : MeantSet Place) (old : Kept) → o.set ≡ start → SoFar old old 0 [] ((start ∷ []) ∷ [])
+    first_level start old is = record {
       at = record {
-        going = λ list c. subst (λ l. IsGoing (ContentBelow d) (ContentStarts d o) (Together pass s) (fields_of l)) (sym (only start list c)) (going_start (ContentBelow d) (ContentStarts d o) (Together pass s) (fields_of start) starting.0);
-        ends = λ list c. subst (λ l. IsEndOf (ContentBelow d) (ContentStarts d o) 1 (fields_of l)) (sym (only start list c)) (end_start (ContentBelow d) (ContentStarts d o) (fields_of start) starting.0);
+        going = λ sets c list within. going_start (ContentBelow d) (ContentStarts d o) (Together pass s) list (λ f a. starting start is sets c f (within f a));
+        ends = λ sets c list within. end_start (ContentBelow d) (ContentStarts d o) list (λ f a. starting start is sets c f (within f a));
       };
-      fields = λ less list c. absurd (omega (arith, less));
       right = λ fault c. not_in_nil fault c;
-      settled = λ e ok. begun (PlainBelow d) (Together pass s) (Agree pass s) (PlainStarts d o) ([] ∷ old) (contents_of start) (start_list d o (fields_of start) starting.1.0) ok;
+      settled = λ e ok. record {
+        fields = begun (PlainBelow d) (Together pass s) (Agree pass s) (PlainStarts d o) (IsLeft d (all_plain ((start ∷ []) ∷ []))) (StandIn old.lists) (start_left start is) ok.fields;
+        sets = ok.sets;
+      };
     }
 
-    next_level : (start old new : List (List PlainField)) (length : ℕ) (added more : List (Broken Place)) (level next : List (List FieldSelection))
-        → SoFar start old length added level → ListsExamined pass s d level old new more next → SoFar start new (length + 1) (added ++ more) next
+    within_two : (sets : Sets) (f g : StandingField Place) → IsSelected d sets f → IsSelected d sets g → IsWithin sets (f ∷ g ∷ [])
+    within_two sets f g a b x c = elim (Contains-cons f (g ∷ []) x c) [
+      | inl e ↦ subst (IsSelected d sets) e a
+      | inr r ↦ subst (IsSelected d sets) (sym (only g x r)) b
+    ]
+
+    next_level : (start old new : Kept) (length : ℕ) (added more : List (Broken Place)) (level next : List Sets)
+        → SoFar start old length added level → SetsExamined pass s d level old new more next → SoFar start new (length + 1) (added ++ more) next
     next_level start old new length added more level next so_far h = record {
       at = level_next (length + 1) level old new more next so_far.at h;
-      fields = λ less list c. (h.under list c).0;
       right = λ fault c. elim (Contains-append_cases added more fault c) [
         | inl a ↦ so_far.right fault a
         | inr b ↦
             let t = h.right fault b in
-            breaks pass (fields_of t.0) t.1.1.0 t.1.1.1.0 fault (so_far.at.going t.0 t.1.0) t.1.1.1.1.0 t.1.1.1.1.1.0 t.1.1.1.1.1.1.0 t.1.1.1.1.1.1.1
+            let f = t.1.1.0 in
+            let g = t.1.1.1.0 in
+            breaks pass (f ∷ g ∷ []) f g fault (so_far.at.going t.0 t.1.0 (f ∷ g ∷ []) (within_two t.0 f g t.1.1.1.1.0 t.1.1.1.1.1.0))
+            (Contains-first f (g ∷ []) f refl) (Contains-rest f (g ∷ []) g (Contains-first g [] g refl)) t.1.1.1.1.1.1.0 t.1.1.1.1.1.1.1
       ];
       settled = λ e ok.
-          h.settled (right_empty added more e) o []
-          (subst (λ l. AreUnderWay d pass s o l old) (sym (append-nil (all_contents level))) (so_far.settled (left_empty added more e) ok));
+          (h.settled (right_empty added more e) o []
+          (subst (λ l. AreUnderWay d pass s o l old) (sym (append-nil (all_plain level))) (so_far.settled (left_empty added more e) ok))).0;
     }
 
-    pub level_step : (told mid later : List (Broken Place)) (start old new : List (List PlainField)) (length : ℕ) (level next : List (List FieldSelection))
+    pub level_step : (told mid later : List (Broken Place)) (start old new : Kept) (length : ℕ) (level next : List Sets)
         → ((added : List (Broken Place)) × ((mid ≡ told ++ added) × SoFar start old length added level))
-        → ((added : List (Broken Place)) × ((below : List (List FieldSelection)) × ((later ≡ mid ++ added) × ((next ≡ [] ++ below) × ListsExamined pass s d level old new added below))))
+        → ((added : List (Broken Place)) × ((below : List Sets) × ((later ≡ mid ++ added) × ((next ≡ [] ++ below) × SetsExamined pass s d level old new added below))))
         → (added : List (Broken Place)) × ((later ≡ told ++ added) × SoFar start new (length + 1) added next)
     level_step told mid later start old new length level next (a, (is, so_far)) (b, (m, (is_too, (lies, here)))) = (
       a ++ b,
@@ -373,26 +630,28 @@ module _ (pass : Pass) (s : Judged) (d : MeantDocument Place) where
       ),
     )
 
-    nothing_left : (start now : List (List PlainField)) (added : List (Broken Place)) (level : List (List FieldSelection)) → level ≡ [] → added ≡ [] → AreSettled d pass s start
-        → (added ≡ [] → AreSettled d pass s start → AreUnderWay d pass s o (all_contents level) now) → AreSettled d pass s now × HasStart (PlainStarts d o) (Contains ([] ∷ now))
-    nothing_left start now added level none e ok settled =
-        ended (PlainBelow d) (Together pass s) (Agree pass s) (PlainStarts d o) ([] ∷ now) (subst (λ l. AreUnderWay d pass s o (all_contents l) now) none (settled e ok))
+    -- where no list of sets selects a field, none is left to look at
+    none_left : (level : List Sets) → HaveFields d false level → (x y : PlainField) → IsLeft d (all_plain level) x y → ⊥
+    none_left level none x y h =
+        let sets = contains_unmap plain_sets level h.0 h.1.0 in
+        let e = selected_plain d sets.0 x (subst (λ (l : List PlainSet). PlainSelected d l x) (sym sets.1.1) h.1.1.0) in
+        none sets.0 sets.1.0 e.0 e.1.0
 
-    pub no_more_levels : (start now : List (List PlainField)) (length : ℕ) (added : List (Broken Place)) (level : List (List FieldSelection)) (left : Bool)
-        → SoFar start now length added level → (left ≡ false → level ≡ []) → (left ≡ true → (first : List FieldSelection) × (Contains level first × (chain_bound ≤ length)))
-        → AllExamined pass s d o start now added left
-    no_more_levels start now length added level left so_far empty some = record {
+    pub no_more_levels : (start now : Kept) (length : ℕ) (added : List (Broken Place)) (level : List Sets) (left : Bool)
+        → SoFar start now length added level → HaveFields d left level → ((sets : Sets) → Contains level sets → chain_bound ≤ length) → AllExamined pass s d o start now added left
+    no_more_levels start now length added level true so_far some long = record {
       right = so_far.right;
-      settled = λ e is ok. nothing_left start now added level (empty is) e ok so_far.settled;
+      settled = λ e is. absurd (true≢false is);
       bound = λ is.
-          let first = some is in
-          let x = so_far.fields (omega (arith, first.1.1)) first.0 first.1.0 in
-          bound_passed d o (length + 1) (fields_of first.0) (field_of x.0) (so_far.at.ends first.0 first.1.0) (in_fields first.0 x.0 x.1) (omega (arith, first.1.1));
+          let x = some.1.1.0 in
+          let within : IsWithin some.0 (x ∷ []) = λ y c. subst (IsSelected d some.0) (sym (only x y c)) some.1.1.1 in
+          bound_passed d o (length + 1) (x ∷ []) x (so_far.at.ends some.0 some.1.0 (x ∷ []) within) (Contains-first x [] x refl) (omega (arith, long some.0 some.1.0));
     }
-      where
-        in_fields : (list : List FieldSelection) (x : FieldSelection) → Contains list x → Contains (fields_of list) (field_of x)
-        in_fields [] x c = not_in_nil x c
-        in_fields (y ∷ list) x c = elim (Contains-cons y list x c) [
-          | inl e ↦ Contains-first (field_of y) (fields_of list) (field_of x) (ap field_of e)
-          | inr r ↦ Contains-rest (field_of y) (fields_of list) (field_of x) (in_fields list x r)
-        ]
+    no_more_levels start now length added level false so_far none long = record {
+      right = so_far.right;
+      settled = λ e is ok.
+          let under = so_far.settled e ok in
+          let all = ended (PlainBelow d) (Together pass s) (Agree pass s) (PlainStarts d o) (IsLeft d (all_plain level)) (StandIn now.lists) (none_left level none) under.fields in
+          (record { fields = all.0; sets = under.sets }, all.1);
+      bound = λ is. absurd (true≢false (sym is));
+    }

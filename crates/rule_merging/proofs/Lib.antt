@@ -1,3 +1,4 @@
+pub mod Bare
 pub mod Examining
 pub mod Remembering
 pub mod Counting

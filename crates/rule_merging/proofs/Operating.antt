@@ -1,23 +1,19 @@
 -- What both passes over the lists of an operation come to.
-use Rattle.std.proofs.Common.{◌≡◌, ◌⊎◌, ◌∙◌, Bool, true, false, ◌||◌, List, [], ◌∷◌, ◌++◌, refl, sym, ap, subst, append_assoc, inl, inr}
+use Rattle.std.proofs.Common.{◌≡◌, ◌⊎◌, ◌∙◌, Bool, true, false, ◌||◌, List, [], ◌++◌, refl, sym, ap, subst, append_assoc, inl, inr}
 use Rattle.std.proofs.lemmas.List.Elements.{Contains-append_cases}
 use Rattle.graphql_names.specs.Placed.{Place}
 use Rattle.graphql_names.specs.Node.{content}
 use Rattle.graphql_names.specs.declared.node.Node.{Node}
 use Rattle.document_typed_selections.specs.TypedTree.{typed_set_tree}
 use Rattle.document_typed_operations.specs.declared.operation.Operation.{Operation}
-use Rattle.document_typed_operations.specs.declared.document.ExecutableDocument.{ExecutableDocument}
 use Rattle.document_meaning.specs.MeantTree.{MeantOperation, MeantDocument, meant_of_set}
-use Rattle.document_typing.specs.DocumentView.{document_meant, operation_meant}
+use Rattle.document_typing.specs.DocumentView.{operation_meant}
 use Rattle.rule_definitions.specs.Judged.{Judged}
 use Rattle.rule_document_definitions.specs.DocumentFaults.{Broken}
-use Rattle.rule_field_groups.specs.in_ground.Fields.{meant_fragments}
-use Rattle.rule_field_groups.specs.in_ground.declared.field_selection.FieldSelection.{FieldSelection}
-use Rattle.rule_merging_laws.proofs.Merges.{fields_merge}
+use Rattle.rule_merging_laws.proofs.Merges.{standing_fields_merge}
 use Rattle.rule_field_groups.specs.declared.pass.Pass.TheVariants.{Shapes, Selections}
 use Rattle.rule_merging.specs.declared.operation.Examined.{Examined}
-use Rattle.rule_merging.specs.Remembered.{remembered}
-use Rattle.rule_field_groups.specs.Below.{AreStarting, AreStartingWith}
+use Rattle.rule_merging.specs.Remembered.{remembered, kept_of}
 use Rattle.rule_merging.specs.Examined.{AllExamined}
 use Rattle.rule_merging.specs.Verdict.{OperationExamined}
 use Rattle.rule_merging.proofs.Examining.{left_empty, right_empty}
@@ -34,27 +30,26 @@ one_true : (a b : Bool) → (a || b) ≡ true → (a ≡ true) ⊎ (b ≡ true)
 one_true true b e = inl refl
 one_true false b e = inr e
 
--- the list of what the set selects is that of what the operation starts with
-pub starts : (document : ExecutableDocument) (operation : Node Operation) (here : Operation) (list : List FieldSelection) → here ≡ content operation
-    → AreStartingWith (meant_fragments document.fragments) (meant_of_set (typed_set_tree here.selection_set)) list → AreStarting (document_meant document) (operation_meant operation) list
-starts document operation here list is all = all (document_meant document) (operation_meant operation) refl (sym (ap (λ (o : Operation). meant_of_set (typed_set_tree o.selection_set)) is))
+-- what the operation starts with is its set
+pub starts : (operation : Node Operation) (here : Operation) → here ≡ content operation → (operation_meant operation).set ≡ meant_of_set (typed_set_tree here.selection_set)
+starts operation here is = sym (ap (λ (o : Operation). meant_of_set (typed_set_tree o.selection_set)) is)
 
 module _ (s : Judged) (d : MeantDocument Place) (o : MeantOperation Place) (old new : Examined) where
-  both_examined : (one two : List (Broken Place)) (left too : Bool) → AllExamined Shapes s d o (remembered old.shapes) (remembered new.shapes) one left
-      → AllExamined Selections s d o (remembered old.selections) (remembered new.selections) two too → OperationExamined s d o old new (one ++ two) (left || too)
+  both_examined : (one two : List (Broken Place)) (left too : Bool) → AllExamined Shapes s d o (kept_of old.shapes) (kept_of new.shapes) one left
+      → AllExamined Selections s d o (kept_of old.selections) (kept_of new.selections) two too → OperationExamined s d o old new (one ++ two) (left || too)
   both_examined one two left too first later = record {
     right = λ fault c. elim (Contains-append_cases one two fault c) [ inl a ↦ first.right fault a | inr b ↦ later.right fault b ];
     settled = λ e none both.
         let a = first.settled (left_empty one two e) (left_false left too none) both.0 in
         let b = later.settled (right_empty one two e) (right_false left too none) both.1 in
-        ((a.0, b.0), fields_merge s d o ([] ∷ remembered new.shapes) ([] ∷ remembered new.selections) a.0 a.1 b.0 b.1);
+        ((a.0, b.0), standing_fields_merge s d o (remembered new.shapes) (remembered new.selections) a.0.fields a.1 b.0.fields b.1);
     bound = λ is. elim (one_true left too is) [ inl a ↦ first.bound a | inr b ↦ later.bound b ];
   }
 
   -- the same of breaches as they stand before and after
   pub operation_step : (told mid last : List (Broken Place)) (left too whole : Bool)
-      → ((added : List (Broken Place)) × ((mid ≡ told ++ added) × AllExamined Shapes s d o (remembered old.shapes) (remembered new.shapes) added left))
-      → ((added : List (Broken Place)) × ((last ≡ mid ++ added) × AllExamined Selections s d o (remembered old.selections) (remembered new.selections) added too))
+      → ((added : List (Broken Place)) × ((mid ≡ told ++ added) × AllExamined Shapes s d o (kept_of old.shapes) (kept_of new.shapes) added left))
+      → ((added : List (Broken Place)) × ((last ≡ mid ++ added) × AllExamined Selections s d o (kept_of old.selections) (kept_of new.selections) added too))
       → whole ≡ (left || too)
       → (added : List (Broken Place)) × ((last ≡ told ++ added) × OperationExamined s d o old new added whole)
   operation_step told mid last left too whole (a, (is, first)) (b, (is_too, later)) e = (

@@ -3,14 +3,12 @@ use Rattle.std.specs.Prelude.{◌≡◌, ◌≤◌, ◌+◌, ◌++◌, ◌∷◌
 use Rattle.std.specs.List.{sum}
 use Rattle.graphql_names.specs.Placed.{Place}
 use Rattle.rule_cycle_search.specs.Paths.{HasNoRepeat}
-use Rattle.document_meaning.specs.MeantTree.{MeantOperation, MeantDocument}
+use Rattle.document_meaning.specs.MeantTree.{MeantSet, MeantOperation, MeantDocument}
 use Rattle.rule_document_definitions.specs.Selected.{StandingField, operations}
 use Rattle.rule_document_definitions.specs.Chains.{Chain}
 use Rattle.rule_document_definitions.specs.Merging.{Below, Starts}
-use Rattle.rule_field_groups.specs.in_ground.declared.field_selection.FieldSelection.{FieldSelection}
 use Rattle.rule_document_definitions.specs.Contents.{unplaced_content}
-use Rattle.rule_merging_laws.specs.Contents.{PlainField}
-use Rattle.rule_field_groups.specs.Below.{contents_of}
+use Rattle.rule_merging_laws.specs.Contents.{PlainField, IsSelected}
 use Rattle.rule_field_groups.specs.Compared.{compared}
 use Rattle.rule_field_groups.specs.declared.pass.Pass.{Pass}
 
@@ -33,9 +31,9 @@ module _ (d : MeantDocument Place) where
     pub listed : (list : List PlainField) → Contains added list → IsListed list
     pub different : HasNoRepeat old → HasNoRepeat new
 
-  -- the same of each of these lists of fields
-  abbrev pub AreListed : List (List FieldSelection) → Type 0
-  AreListed lists = (list : List FieldSelection) → Contains lists list → IsListed (contents_of list)
+  -- whatever one of these lists of sets selects has the content of a last field of a chain
+  abbrev pub AreListed : List (List (MeantSet Place)) → Type 0
+  AreListed lists = (sets : List (MeantSet Place)) → Contains lists sets → (x : StandingField Place) → IsSelected d sets x → IsLast (unplaced_content x)
 
   -- shapes were compared at most as often as the lists that were examined are long in all; no two of these are the same, each is
   -- without equal members, and all members are last fields of chains

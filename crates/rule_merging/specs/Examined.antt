@@ -1,27 +1,29 @@
 -- Private: leads to `MergingBreaks` and `FieldsMerge`. What the examination of a group, of a list, of a level and of all levels comes to.
-use Rattle.std.specs.Prelude.{◌≡◌, ◌++◌, ◌∷◌, Bool, true, false, List, [], map, Vec, Contains}
+use Rattle.std.specs.Prelude.{◌≡◌, ◌++◌, ◌∷◌, ◌⊎◌, Bool, true, false, List, [], map, Vec, Contains}
 use Rattle.std.specs.declared.alloc.Global.{Global}
 use Rattle.graphql_names.specs.Placed.{Place}
-use Rattle.rule_cycle_search.specs.Paths.{HasNoRepeat}
 use Rattle.fault_document_data.specs.declared.build_error.BuildError.{BuildError}
+use Rattle.rule_field_groups.specs.declared.below.SelectedSet.{SelectedSet}
 use Rattle.document_typing.specs.in_schema.SchemaOf.{schema_tree}
-use Rattle.document_meaning.specs.MeantTree.{MeantOperation, MeantDocument}
+use Rattle.document_meaning.specs.MeantTree.{MeantSet, MeantOperation, MeantDocument}
+use Rattle.document_meaning.specs.Unplaced.{unplaced_set, unplaced_document}
 use Rattle.document_typing.specs.DocumentView.{document_meant}
 use Rattle.rule_definitions.specs.Judged.{Judged, judged}
 use Rattle.rule_document_definitions.specs.DocumentFaults.{Broken}
 use Rattle.rule_document_definitions.specs.Selected.{StandingField}
 use Rattle.rule_document_definitions.specs.Groups.{AgreeWithHead, AreGroups}
-use Rattle.rule_document_definitions.specs.Contents.{ContentBelow, unplaced_content}
 use Rattle.rule_document_definitions.specs.Merging.{MergingBreaks}
 use Rattle.rule_document_definitions.specs.Limits.{PassesChainBound}
 use Rattle.rule_field_groups.specs.in_ground.Broken.{brokens_of}
 use Rattle.rule_field_groups.specs.in_ground.Fields.{fields_of}
 use Rattle.rule_field_groups.specs.in_ground.declared.field_selection.FieldSelection.{FieldSelection}
-use Rattle.rule_merging_laws.specs.Contents.{PlainField, PlainBelow, PlainStarts}
-use Rattle.rule_merging_laws.specs.Settled.{HasStart, IsSettled, IsUnderWay}
+use Rattle.rule_merging_laws.specs.Contents.{PlainField, PlainSet, PlainBelow, PlainStarts, IsSelected}
+use Rattle.rule_merging_laws.specs.Settled.{StandIn, StartsStand, IsSettledIn, IsUnderWay}
 use Rattle.rule_field_groups.specs.Passes.{Together, Agree, Conflict, TellsGroup}
-use Rattle.rule_field_groups.specs.Below.{contents_of, AreStarting, IsMergedIn}
+use Rattle.rule_field_groups.specs.Grouped.{lists_of}
+use Rattle.rule_field_groups.specs.Below.{meant_sets, plain_sets, IsMergedIn, IsBare}
 use Rattle.rule_field_groups.specs.declared.pass.Pass.{Pass}
+use Rattle.rule_merging.specs.Remembered.{Kept}
 use Rattle.rule_merging.specs.declared.examination.Examination.{Examination}
 
 abbrev pub schema_of : Examination → Judged
@@ -34,34 +36,77 @@ document_of e = document_meant e.document.now
 abbrev pub Breaches : Type 0
 Breaches = Vec (Place × BuildError) Global
 
--- a list, if it has fields
-abbrev pub if_any : List FieldSelection → List (List FieldSelection)
+-- sets whose fields are examined together; such lists
+abbrev pub Sets : Type 0
+Sets = List (MeantSet Place)
+
+abbrev pub all_sets : List (List SelectedSet) → List Sets
+all_sets lists = map meant_sets lists
+
+abbrev pub sets_in : Vec (Vec SelectedSet Global) Global → List Sets
+sets_in lists = all_sets (lists_of lists)
+
+-- without places
+abbrev pub all_plain : List Sets → List (List PlainSet)
+all_plain lists = map plain_sets lists
+
+-- a set with each of the others
+abbrev pub with_each : MeantSet Place → Sets → List Sets
+with_each v sets = map (λ w. v ∷ w ∷ []) sets
+
+-- a list, if it has members
+abbrev pub if_any : {X : Type 0} → List X → List (List X)
 if_any [] = []
 if_any (x ∷ xs) = (x ∷ xs) ∷ []
 
-abbrev pub HasFields : List FieldSelection → Type 0
-HasFields list = (x : FieldSelection) × Contains list x
+-- each of the sets is that of a field of the group
+abbrev pub AreOf : List (StandingField Place) → Sets → Type 0
+AreOf group sets = (v : MeantSet Place) → Contains sets v → (f : StandingField Place) × (Contains group f × (f.set ≡ v))
 
-abbrev pub all_contents : List (List FieldSelection) → List (List PlainField)
-all_contents lists = map contents_of lists
+-- the set says the same as one of these
+abbrev pub IsAmong : Sets → MeantSet Place → Type 0
+IsAmong sets v = Contains (plain_sets sets) (unplaced_set v)
+
+-- where both select something, one of these lists has the sets of both
+abbrev pub HaveBoth : List Sets → StandingField Place → StandingField Place → Type 0
+HaveBoth next f g = IsBare f.set ⊎ (IsBare g.set ⊎ ((sets : Sets) × (Contains next sets × (IsAmong sets f.set × IsAmong sets g.set))))
 
 module _ (d : MeantDocument Place) where
-  -- settled lists; and while some are left, with what starts
-  abbrev pub AreSettled : Pass → Judged → List (List PlainField) → Type 0
-  AreSettled pass s lists = IsSettled (PlainBelow d) (Together pass s) (Agree pass s) ([] ∷ lists)
+  -- contents that sets select, without places
+  abbrev pub PlainSelected : List PlainSet → PlainField → Type 0
+  PlainSelected sets x = IsSelected (unplaced_document d) sets x
 
-  abbrev pub AreUnderWay : Pass → Judged → MeantOperation Place → List (List PlainField) → List (List PlainField) → Type 0
-  AreUnderWay pass s o left lists = IsUnderWay (PlainBelow d) (Together pass s) (Agree pass s) (PlainStarts d o) left ([] ∷ lists)
+  -- one of these lists of sets selects both
+  abbrev pub IsLeft : List (List PlainSet) → PlainField → PlainField → Type 0
+  IsLeft left x y = (sets : List PlainSet) × (Contains left sets × (PlainSelected sets x × PlainSelected sets y))
+
+  -- any two that one of these lists of sets selects stand in one of the lists
+  abbrev pub AllStand : List (List PlainSet) → List (List PlainField) → Type 0
+  AllStand looked lists = (sets : List PlainSet) → Contains looked sets → (x y : PlainField) → PlainSelected sets x → PlainSelected sets y → StandIn lists x y
+
+  -- fields that stand in one of the lists are settled, and what sets select that were looked at stands in them
+  pub record AreSettled (pass : Pass) (s : Judged) (kept : Kept) : Type 0 where
+    pub fields : IsSettledIn (PlainBelow d) (Together pass s) (Agree pass s) (StandIn kept.lists)
+    pub sets : AllStand kept.expanded kept.lists
+
+  -- the same while lists of sets are left, with what starts
+  pub record AreUnderWay (pass : Pass) (s : Judged) (o : MeantOperation Place) (left : List (List PlainSet)) (kept : Kept) : Type 0 where
+    pub fields : IsUnderWay (PlainBelow d) (Together pass s) (Agree pass s) (PlainStarts d o) (IsLeft left) (StandIn kept.lists)
+    pub sets : AllStand kept.expanded kept.lists
+
+  -- whether some of the sets selects a field
+  abbrev pub HaveFields : Bool → List Sets → Type 0
+  HaveFields true lists = (sets : Sets) × (Contains lists sets × ((x : StandingField Place) × IsSelected d sets x))
+  HaveFields false lists = (sets : Sets) → Contains lists sets → (x : StandingField Place) → IsSelected d sets x → ⊥
 
 module _ (pass : Pass) (s : Judged) (d : MeantDocument Place) where
   -- ---- a group
 
-  -- what is told of a group, and the list below it, if that has fields
-  pub record GroupExamined (group : List (StandingField Place)) (added : List (Broken Place)) (below : List (List FieldSelection)) : Type 0 where
+  -- what is told of a group, and the lists of sets below it: of any two of its fields one of these has both sets
+  pub record GroupExamined (group : List (StandingField Place)) (added : List (Broken Place)) (next : List Sets) : Type 0 where
     pub tells : TellsGroup pass s group added
-    pub list : List FieldSelection
-    pub merged : IsMergedIn d group list
-    pub is : below ≡ if_any list
+    pub under : (sets : Sets) → Contains next sets → AreOf group sets
+    pub below : (f g : StandingField Place) → Contains group f → Contains group g → HaveBoth next f g
 
   -- ---- groups
 
@@ -70,75 +115,87 @@ module _ (pass : Pass) (s : Judged) (d : MeantDocument Place) where
   TellsOf groups fault = (group : List (StandingField Place)) × (Contains groups group × ((f : StandingField Place) × ((g : StandingField Place)
       × (Contains group f × (Contains group g × Conflict pass s fault f g)))))
 
-  -- a list that has fields, each below one of one of the groups
-  abbrev pub LiesUnder : List (List (StandingField Place)) → List FieldSelection → Type 0
-  LiesUnder groups next = HasFields next × ((group : List (StandingField Place)) × (Contains groups group
-      × ((x : StandingField Place) → Contains (fields_of next) x → (f : StandingField Place) × (Contains group f × ContentBelow d f x))))
+  -- the sets of fields of one of the groups
+  abbrev pub LieUnder : List (List (StandingField Place)) → Sets → Type 0
+  LieUnder groups sets = (group : List (StandingField Place)) × (Contains groups group × AreOf group sets)
 
-  -- what is told of groups, and the lists below them
-  pub record GroupsExamined (groups : List (List (StandingField Place))) (added : List (Broken Place)) (next : List (List FieldSelection)) : Type 0 where
+  -- what is told of groups, and the lists of sets below them
+  pub record GroupsExamined (groups : List (List (StandingField Place))) (added : List (Broken Place)) (next : List Sets) : Type 0 where
     pub right : (fault : Broken Place) → Contains added fault → TellsOf groups fault
-    pub under : (list : List FieldSelection) → Contains next list → LiesUnder groups list
-    pub apart : (list : List FieldSelection) → Contains next list → HasNoRepeat (contents_of list)
+    pub under : (sets : Sets) → Contains next sets → LieUnder groups sets
     -- where nothing is told
     pub agree : added ≡ [] → (group : List (StandingField Place)) → Contains groups group → AgreeWithHead (Agree pass s) group
-    pub below : (group : List (StandingField Place)) → Contains groups group
-        → (list : List FieldSelection) × (Contains ([] ∷ next) list × ((f x : StandingField Place) → Contains group f → ContentBelow d f x → Contains (contents_of list) (unplaced_content x)))
+    pub below : (group : List (StandingField Place)) → Contains groups group → (f g : StandingField Place) → Contains group f → Contains group g → HaveBoth next f g
 
-  -- ---- a list
+  -- ---- a list of fields
 
-  pub record ListExamined (list : List FieldSelection) (added : List (Broken Place)) (next : List (List FieldSelection)) : Type 0 where
+  pub record ListExamined (list : List FieldSelection) (added : List (Broken Place)) (next : List Sets) : Type 0 where
     pub groups : List (List (StandingField Place))
     pub are : AreGroups (Together pass s) (fields_of list) groups
     pub examined : GroupsExamined groups added next
 
-  -- ---- lists
+  -- ---- lists of sets
 
-  -- each of these is told of two fields of one of the lists that go together
-  abbrev pub TellsIn : List (List FieldSelection) → Broken Place → Type 0
-  TellsIn lists fault = (list : List FieldSelection) × (Contains lists list × ((f : StandingField Place) × ((g : StandingField Place)
-      × (Contains (fields_of list) f × (Contains (fields_of list) g × (Together pass s f g × Conflict pass s fault f g))))))
+  -- each of these is told of two fields that one of the lists selects and that go together
+  abbrev pub TellsIn : List Sets → Broken Place → Type 0
+  TellsIn lists fault = (sets : Sets) × (Contains lists sets × ((f : StandingField Place) × ((g : StandingField Place)
+      × (IsSelected d sets f × (IsSelected d sets g × (Together pass s f g × Conflict pass s fault f g))))))
 
-  -- fields of one of the lists that go together
-  abbrev pub IsGroupIn : List FieldSelection → List (StandingField Place) → Type 0
-  IsGroupIn list group = (f g : StandingField Place) → Contains group f → Contains group g → Contains (fields_of list) f × Together pass s f g
+  -- fields that these sets select and that go together
+  abbrev pub IsGroupIn : Sets → List (StandingField Place) → Type 0
+  IsGroupIn sets group = (f g : StandingField Place) → Contains group f → Contains group g → IsSelected d sets f × Together pass s f g
 
-  -- a list that has fields, each below one of a group of one of the lists
-  abbrev pub ComesFrom : List (List FieldSelection) → List FieldSelection → Type 0
-  ComesFrom lists next = HasFields next × ((list : List FieldSelection) × (Contains lists list × ((group : List (StandingField Place)) × (IsGroupIn list group
-      × ((x : StandingField Place) → Contains (fields_of next) x → (f : StandingField Place) × (Contains group f × ContentBelow d f x))))))
+  -- the sets of fields of a group of one of the lists
+  abbrev pub ComeFrom : List Sets → Sets → Type 0
+  ComeFrom lists next = (sets : Sets) × (Contains lists sets × ((group : List (StandingField Place)) × (IsGroupIn sets group × AreOf group next)))
 
-  -- lists are examined of which each was left
-  pub record ListsExamined (lists : List (List FieldSelection)) (old new : List (List PlainField)) (added : List (Broken Place)) (next : List (List FieldSelection)) : Type 0 where
+  -- lists of sets are examined of which each was left
+  pub record SetsExamined (lists : List Sets) (old new : Kept) (added : List (Broken Place)) (next : List Sets) : Type 0 where
     pub right : (fault : Broken Place) → Contains added fault → TellsIn lists fault
-    pub under : (list : List FieldSelection) → Contains next list → ComesFrom lists list
-    pub apart : (list : List FieldSelection) → Contains next list → HasNoRepeat (contents_of list)
+    pub under : (sets : Sets) → Contains next sets → ComeFrom lists sets
+    pub more : (list : List PlainField) → Contains old.lists list → Contains new.lists list
     -- where nothing is told, whatever else is left
-    pub settled : added ≡ [] → (o : MeantOperation Place) (left : List (List PlainField))
-        → AreUnderWay d pass s o (all_contents lists ++ left) old → AreUnderWay d pass s o (left ++ all_contents next) new
+    pub settled : added ≡ [] → (o : MeantOperation Place) (left : List (List PlainSet))
+        → AreUnderWay d pass s o (all_plain lists ++ left) old → AreUnderWay d pass s o (left ++ all_plain next) new × AllStand d (all_plain lists) new.lists
 
   -- ---- all
 
   -- from what an operation selects on all is examined, but for what is left
-  pub record AllExamined (o : MeantOperation Place) (old new : List (List PlainField)) (added : List (Broken Place)) (left : Bool) : Type 0 where
+  pub record AllExamined (o : MeantOperation Place) (old new : Kept) (added : List (Broken Place)) (left : Bool) : Type 0 where
     pub right : (fault : Broken Place) → Contains added fault → MergingBreaks s d o fault
-    pub settled : added ≡ [] → left ≡ false → AreSettled d pass s old → AreSettled d pass s new × HasStart (PlainStarts d o) (Contains ([] ∷ new))
+    pub settled : added ≡ [] → left ≡ false → AreSettled d pass s old → AreSettled d pass s new × StartsStand (PlainStarts d o) (StandIn new.lists)
     pub bound : left ≡ true → PassesChainBound d o
 
 -- ---- the same of breaches and lists of the program
 
-abbrev pub ExaminesGroup : Examination → List (StandingField Place) → Breaches → Breaches → List (List FieldSelection) → List (List FieldSelection) → Type 0
-ExaminesGroup e group old new next next' = (added : List (Broken Place)) × ((below : List (List FieldSelection)) × ((brokens_of new ≡ brokens_of old ++ added) × ((next' ≡ next ++ below)
+abbrev pub ExaminesGroup : Examination → List (StandingField Place) → Breaches → Breaches → List Sets → List Sets → Type 0
+ExaminesGroup e group old new next next' = (added : List (Broken Place)) × ((below : List Sets) × ((brokens_of new ≡ brokens_of old ++ added) × ((next' ≡ next ++ below)
     × GroupExamined e.pass (schema_of e) (document_of e) group added below)))
 
-abbrev pub ExaminesList : Examination → List FieldSelection → Breaches → Breaches → List (List FieldSelection) → List (List FieldSelection) → Type 0
-ExaminesList e list old new next next' = (added : List (Broken Place)) × ((below : List (List FieldSelection)) × ((brokens_of new ≡ brokens_of old ++ added) × ((next' ≡ next ++ below)
+abbrev pub ExaminesList : Examination → List FieldSelection → Breaches → Breaches → List Sets → List Sets → Type 0
+ExaminesList e list old new next next' = (added : List (Broken Place)) × ((below : List Sets) × ((brokens_of new ≡ brokens_of old ++ added) × ((next' ≡ next ++ below)
     × ListExamined e.pass (schema_of e) (document_of e) list added below)))
 
-abbrev pub ExaminesLists : Examination → List (List FieldSelection) → List (List PlainField) → List (List PlainField) → Breaches → Breaches → List (List FieldSelection) → List (List FieldSelection) → Type 0
-ExaminesLists e lists examined examined' old new next next' = (added : List (Broken Place)) × ((below : List (List FieldSelection)) × ((brokens_of new ≡ brokens_of old ++ added) × ((next' ≡ next ++ below)
-    × ListsExamined e.pass (schema_of e) (document_of e) lists examined examined' added below)))
+abbrev pub ExaminesSets : Examination → List Sets → Kept → Kept → Breaches → Breaches → List Sets → List Sets → Type 0
+ExaminesSets e lists examined examined' old new next next' = (added : List (Broken Place)) × ((below : List Sets) × ((brokens_of new ≡ brokens_of old ++ added) × ((next' ≡ next ++ below)
+    × SetsExamined e.pass (schema_of e) (document_of e) lists examined examined' added below)))
 
-abbrev pub ExaminesAll : Examination → List FieldSelection → List (List PlainField) → List (List PlainField) → Breaches → Breaches → Bool → Type 0
-ExaminesAll e start examined examined' old new left = (o : MeantOperation Place) → AreStarting (document_of e) o start
+-- lists by which any two of these sets are examined together
+pub record AreTwosOf (sets : Sets) (twos : List Sets) : Type 0 where
+  pub within : (two : Sets) → Contains twos two → (v : MeantSet Place) → Contains two v → Contains sets v
+  pub covers : (v w : MeantSet Place) → Contains sets v → Contains sets w → (two : Sets) × (Contains twos two × (Contains two v × Contains two w))
+
+abbrev pub ExaminesTwos : Examination → Sets → Kept → Kept → Breaches → Breaches → List Sets → List Sets → Type 0
+ExaminesTwos e sets examined examined' old new next next' = (twos : List Sets) × (AreTwosOf sets twos × ExaminesSets e twos examined examined' old new next next')
+
+-- whichever sets select the fields, and whichever were looked at
+abbrev pub with_sets : List (List PlainSet) → Kept → Kept
+with_sets looked kept = record { lists = kept.lists; expanded = looked }
+
+abbrev pub ExaminesFields : Examination → List FieldSelection → Kept → Kept → Breaches → Breaches → List Sets → List Sets → Type 0
+ExaminesFields e list examined examined' old new next next' = (examined'.expanded ≡ examined.expanded) × ((sets : Sets) (looked : List (List PlainSet)) → IsMergedIn (document_of e) sets list
+    → ExaminesSets e (sets ∷ []) (with_sets looked examined) (with_sets looked examined') old new next next')
+
+abbrev pub ExaminesAll : Examination → MeantSet Place → Kept → Kept → Breaches → Breaches → Bool → Type 0
+ExaminesAll e start examined examined' old new left = (o : MeantOperation Place) → o.set ≡ start
     → (added : List (Broken Place)) × ((brokens_of new ≡ brokens_of old ++ added) × AllExamined e.pass (schema_of e) (document_of e) o examined examined' added left)

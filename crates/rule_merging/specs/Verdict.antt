@@ -9,17 +9,17 @@ use Rattle.rule_document_definitions.specs.Limits.{PassesChainBound}
 use Rattle.rule_field_groups.specs.in_ground.Broken.{brokens_of}
 use Rattle.rule_merging_laws.specs.Contents.{PlainField}
 use Rattle.rule_merging.specs.Counted.{IsCountedBy}
-use Rattle.rule_merging.specs.Remembered.{remembered}
+use Rattle.rule_merging.specs.Remembered.{remembered, kept_of}
 use Rattle.rule_merging.specs.Examined.{Breaches, AreSettled}
 use Rattle.rule_merging.specs.declared.operation.Examined.{Examined}
 use Rattle.rule_field_groups.specs.declared.pass.Pass.TheVariants.{Shapes, Selections}
 
 module _ (s : Judged) (d : MeantDocument Place) where
-  -- the lists that were examined are settled, in both passes
+  -- what was examined is settled, in both passes
   abbrev pub AreBothSettled : Examined → Type 0
-  AreBothSettled e = AreSettled d Shapes s (remembered e.shapes) × AreSettled d Selections s (remembered e.selections)
+  AreBothSettled e = AreSettled d Shapes s (kept_of e.shapes) × AreSettled d Selections s (kept_of e.selections)
 
-  -- what is told is true; where nothing is told and nothing is left, settled lists stay settled, and the fields of the operation merge
+  -- what is told is true; where nothing is told and nothing is left, what is settled stays so, and the fields of the operation merge
   pub record OperationExamined (o : MeantOperation Place) (old new : Examined) (added : List (Broken Place)) (left : Bool) : Type 0 where
     pub right : (fault : Broken Place) → Contains added fault → MergingBreaks s d o fault
     pub settled : added ≡ [] → left ≡ false → AreBothSettled old → AreBothSettled new × FieldsMerge s d o

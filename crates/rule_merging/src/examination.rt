@@ -1,18 +1,20 @@
 //! The examination of lists, level by level.
 ghost use Rattle.std.specs.Prelude.{◌≡◌, ◌≤◌, ◌+◌, ◌++◌, ◌∷◌, [], map, IfOk, OnOk};
 ghost use Rattle.rule_field_groups.specs.in_ground.Fields.{fields_of};
-ghost use Rattle.rule_field_groups.specs.Grouped.{lists_of};
 ghost use Rattle.rule_field_groups.specs.Compared.{compared};
+ghost use Rattle.rule_field_groups.specs.Grouped.{lists_of};
+ghost use Rattle.rule_field_groups.specs.Below.{contents_of, meant_at, meant_sets};
 ghost use Rattle.rule_merging.specs.Counted.{IsListed, AreListed, Grows};
-ghost use Rattle.rule_field_groups.specs.Below.{contents_of};
-ghost use Rattle.rule_merging.specs.Remembered.{remembered};
-ghost use Rattle.rule_merging.specs.Examined.{if_any, document_of, ExaminesGroup, ExaminesList, ExaminesLists, ExaminesAll};
+ghost use Rattle.rule_merging.specs.Remembered.{remembered, kept_of};
+ghost use Rattle.rule_merging.specs.Examined.{if_any, sets_in, document_of, with_each, HaveFields, ExaminesGroup, ExaminesList, ExaminesFields, ExaminesSets, ExaminesTwos, ExaminesAll};
 
 use crate::remembered::Remembered;
 use document_typed_operations::ExecutableDocument;
 use document_typing::Schema;
-use rule_field_groups::{Breach, FieldSelection, Pass, check_group, groups_of, list_below};
-use std::alloc::AllocError;
+use rule_field_groups::{
+    Breach, FieldSelection, Pass, SelectedSet, check_group, groups_of, merged_list, sets_of,
+};
+use std::alloc::{AllocError, Global};
 
 /// The greatest length of a chain of fields, each selected by the one before.
 const CHAIN_BOUND: usize = 128;
@@ -25,46 +27,59 @@ pub(crate) struct Examination<'doc> {
     pub(crate) document: &'doc ExecutableDocument,
 }
 
-/// Adds the list, if it has fields.
+/// Adds the sets, if there are some.
 fn push_filled<'doc>(
-    list: Vec<FieldSelection<'doc>>,
-    lists: &mut Vec<Vec<FieldSelection<'doc>>>,
+    sets: Vec<SelectedSet<'doc>>,
+    next: &mut Vec<Vec<SelectedSet<'doc>>>,
 ) -> Result<(), AllocError>
-    ensures { OnOk result (lists_of lists.new ≡ lists_of lists.old ++ if_any list.entry.items) }
+    ensures { OnOk result (lists_of next.new ≡ lists_of next.old ++ if_any sets.entry.items) }
 {
-    if !list.is_empty() {
-        lists.push(list)?;
+    if !sets.is_empty() {
+        next.push(sets)?;
     }
     Ok(())
 }
 
+/// A level of one list, of this set alone.
+fn first_level<'doc>(
+    alloc: Global,
+    start: SelectedSet<'doc>,
+) -> Result<Vec<Vec<SelectedSet<'doc>>>, AllocError>
+    ensures { IfOk result (λ level. sets_in level ≡ (meant_at start.entry ∷ []) ∷ []) }
+{
+    let mut sets = Vec::new(alloc);
+    sets.push(start)?;
+    let mut level = Vec::new(alloc);
+    level.push(sets)?;
+    Ok(level)
+}
+
 impl<'doc> Examination<'doc> {
-    /// Compares the fields of a group, and adds the list below it, if that has fields.
+    /// Compares the fields of a group, and adds the sets below it, if there are some.
     fn examine_group(
         &self,
         group: &[FieldSelection<'doc>],
-        next: &mut Vec<Vec<FieldSelection<'doc>>>,
+        next: &mut Vec<Vec<SelectedSet<'doc>>>,
         breaches: &mut Vec<Breach>,
         comparisons: &mut u128,
     ) -> Result<(), AllocError>
-        ensures examined { OnOk result (ExaminesGroup self.now (fields_of group.now) breaches.old breaches.new (lists_of next.old) (lists_of next.new)) }
+        ensures examined { OnOk result (ExaminesGroup self.now (fields_of group.now) breaches.old breaches.new (sets_in next.old) (sets_in next.new)) }
         ensures counted { comparisons.new ≤ comparisons.old + compared self.now.pass group.now }
     {
         check_group(self.pass, self.schema, group, breaches, comparisons)?;
-        let alloc = *next.allocator();
-        let below = list_below(alloc, &self.document.fragments, group)?;
-        push_filled(below, next)
+        let sets = sets_of(*next.allocator(), group)?;
+        push_filled(sets, next)
     }
 
-    /// Examines a list: compares the fields of each group, and adds the lists below the groups.
+    /// Examines a list: compares the fields of each group, and adds the sets below the groups.
     fn examine_list(
         &self,
         list: &[FieldSelection<'doc>],
-        next: &mut Vec<Vec<FieldSelection<'doc>>>,
+        next: &mut Vec<Vec<SelectedSet<'doc>>>,
         breaches: &mut Vec<Breach>,
         comparisons: &mut u128,
     ) -> Result<(), AllocError>
-        ensures examined { OnOk result (ExaminesList self.now list.now breaches.old breaches.new (lists_of next.old) (lists_of next.new)) }
+        ensures examined { OnOk result (ExaminesList self.now list.now breaches.old breaches.new (sets_in next.old) (sets_in next.new)) }
         ensures counted { comparisons.new ≤ comparisons.old + compared self.now.pass list.now }
     {
         let groups = groups_of(*next.allocator(), self.pass, self.schema, list)?;
@@ -74,16 +89,16 @@ impl<'doc> Examination<'doc> {
         Ok(())
     }
 
-    /// Examines a list, unless one with the same contents was examined before.
-    fn examine_once(
+    /// Examines a list, unless it has no fields, or one with the same contents was examined before.
+    fn examine_fields(
         &self,
         list: &[FieldSelection<'doc>],
         examined: &mut Remembered<'doc>,
-        next: &mut Vec<Vec<FieldSelection<'doc>>>,
+        next: &mut Vec<Vec<SelectedSet<'doc>>>,
         breaches: &mut Vec<Breach>,
         comparisons: &mut u128,
     ) -> Result<(), AllocError>
-        ensures examined { OnOk result (ExaminesLists self.now (list.now ∷ []) (remembered examined.old) (remembered examined.new) breaches.old breaches.new (lists_of next.old) (lists_of next.new)) }
+        ensures examined { OnOk result (ExaminesFields self.now list.now (kept_of examined.old) (kept_of examined.new) breaches.old breaches.new (sets_in next.old) (sets_in next.new)) }
         ensures counted { IsListed (document_of self.now) (contents_of list.now) → Grows (document_of self.now) self.now.pass (remembered examined.old) (remembered examined.new) comparisons.old comparisons.new }
     {
         if !examined.remember(list)? {
@@ -92,42 +107,191 @@ impl<'doc> Examination<'doc> {
         self.examine_list(list, next, breaches, comparisons)
     }
 
+    /// Examines what some sets select, unless this was looked at before.
+    fn examine_whole(
+        &self,
+        sets: &[SelectedSet<'doc>],
+        examined: &mut Remembered<'doc>,
+        next: &mut Vec<Vec<SelectedSet<'doc>>>,
+        breaches: &mut Vec<Breach>,
+        comparisons: &mut u128,
+    ) -> Result<(), AllocError>
+        ensures examined { OnOk result (ExaminesSets self.now (meant_sets sets.now ∷ []) (kept_of examined.old) (kept_of examined.new) breaches.old breaches.new (sets_in next.old) (sets_in next.new)) }
+        ensures counted { AreListed (document_of self.now) (meant_sets sets.now ∷ []) → Grows (document_of self.now) self.now.pass (remembered examined.old) (remembered examined.new) comparisons.old comparisons.new }
+    {
+        if !examined.expand(sets)? {
+            return Ok(());
+        }
+        let list = merged_list(*next.allocator(), &self.document.fragments, sets)?;
+        self.examine_fields(&list, examined, next, breaches, comparisons)
+    }
+
+    /// Examines what two sets select, unless this was looked at before.
+    fn examine_two(
+        &self,
+        first: SelectedSet<'doc>,
+        other: SelectedSet<'doc>,
+        examined: &mut Remembered<'doc>,
+        next: &mut Vec<Vec<SelectedSet<'doc>>>,
+        breaches: &mut Vec<Breach>,
+        comparisons: &mut u128,
+    ) -> Result<(), AllocError>
+        ensures examined { OnOk result (ExaminesSets self.now ((meant_at first.entry ∷ meant_at other.entry ∷ []) ∷ []) (kept_of examined.old) (kept_of examined.new) breaches.old breaches.new (sets_in next.old) (sets_in next.new)) }
+        ensures counted { AreListed (document_of self.now) ((meant_at first.entry ∷ meant_at other.entry ∷ []) ∷ []) → Grows (document_of self.now) self.now.pass (remembered examined.old) (remembered examined.new) comparisons.old comparisons.new }
+    {
+        self.examine_whole(&[first, other], examined, next, breaches, comparisons)
+    }
+
+    /// Examines what a set selects with each of the others.
+    fn examine_with(
+        &self,
+        first: SelectedSet<'doc>,
+        others: &[SelectedSet<'doc>],
+        examined: &mut Remembered<'doc>,
+        next: &mut Vec<Vec<SelectedSet<'doc>>>,
+        breaches: &mut Vec<Breach>,
+        comparisons: &mut u128,
+    ) -> Result<(), AllocError>
+        ensures examined { OnOk result (ExaminesSets self.now (with_each (meant_at first.entry) (meant_sets others.now)) (kept_of examined.old) (kept_of examined.new) breaches.old breaches.new (sets_in next.old) (sets_in next.new)) }
+        ensures counted { AreListed (document_of self.now) (with_each (meant_at first.entry) (meant_sets others.now)) → Grows (document_of self.now) self.now.pass (remembered examined.old) (remembered examined.new) comparisons.old comparisons.new }
+    {
+        for other in others {
+            self.examine_two(first, *other, examined, next, breaches, comparisons)?;
+        }
+        Ok(())
+    }
+
+    /// Examines what each two of the sets select.
+    fn examine_twos(
+        &self,
+        sets: &[SelectedSet<'doc>],
+        examined: &mut Remembered<'doc>,
+        next: &mut Vec<Vec<SelectedSet<'doc>>>,
+        breaches: &mut Vec<Breach>,
+        comparisons: &mut u128,
+    ) -> Result<(), AllocError>
+        ensures examined { OnOk result (ExaminesTwos self.now (meant_sets sets.now) (kept_of examined.old) (kept_of examined.new) breaches.old breaches.new (sets_in next.old) (sets_in next.new)) }
+        ensures counted { AreListed (document_of self.now) (meant_sets sets.now ∷ []) → Grows (document_of self.now) self.now.pass (remembered examined.old) (remembered examined.new) comparisons.old comparisons.new }
+    {
+        let mut seen = Vec::new(*next.allocator());
+        for set in sets {
+            seen.push(*set)?;
+            self.examine_with(*set, &seen, examined, next, breaches, comparisons)?;
+        }
+        Ok(())
+    }
+
+    /// Examines what some sets select: all of it, or where that is not paid, what each two of them select.
+    fn examine_paid(
+        &self,
+        sets: &[SelectedSet<'doc>],
+        examined: &mut Remembered<'doc>,
+        next: &mut Vec<Vec<SelectedSet<'doc>>>,
+        breaches: &mut Vec<Breach>,
+        comparisons: &mut u128,
+    ) -> Result<(), AllocError>
+        ensures examined { OnOk result (ExaminesSets self.now (meant_sets sets.now ∷ []) (kept_of examined.old) (kept_of examined.new) breaches.old breaches.new (sets_in next.old) (sets_in next.new)) }
+        ensures counted { AreListed (document_of self.now) (meant_sets sets.now ∷ []) → Grows (document_of self.now) self.now.pass (remembered examined.old) (remembered examined.new) comparisons.old comparisons.new }
+    {
+        let list = merged_list(*next.allocator(), &self.document.fragments, sets)?;
+        if !examined.pays(&list)? {
+            return self.examine_twos(sets, examined, next, breaches, comparisons);
+        }
+        self.examine_fields(&list, examined, next, breaches, comparisons)
+    }
+
+    /// Examines what more than two sets select, unless this was looked at before.
+    fn examine_many(
+        &self,
+        sets: &[SelectedSet<'doc>],
+        examined: &mut Remembered<'doc>,
+        next: &mut Vec<Vec<SelectedSet<'doc>>>,
+        breaches: &mut Vec<Breach>,
+        comparisons: &mut u128,
+    ) -> Result<(), AllocError>
+        ensures examined { OnOk result (ExaminesSets self.now (meant_sets sets.now ∷ []) (kept_of examined.old) (kept_of examined.new) breaches.old breaches.new (sets_in next.old) (sets_in next.new)) }
+        ensures counted { AreListed (document_of self.now) (meant_sets sets.now ∷ []) → Grows (document_of self.now) self.now.pass (remembered examined.old) (remembered examined.new) comparisons.old comparisons.new }
+    {
+        let looked = Vec::from_slice(*next.allocator(), sets)?;
+        if examined.has_expanded(&looked) {
+            return Ok(());
+        }
+        self.examine_paid(sets, examined, next, breaches, comparisons)?;
+        examined.expand(sets)?;
+        Ok(())
+    }
+
+    /// Examines what some sets select, unless this was looked at before.
+    fn examine_once(
+        &self,
+        sets: &[SelectedSet<'doc>],
+        examined: &mut Remembered<'doc>,
+        next: &mut Vec<Vec<SelectedSet<'doc>>>,
+        breaches: &mut Vec<Breach>,
+        comparisons: &mut u128,
+    ) -> Result<(), AllocError>
+        ensures examined { OnOk result (ExaminesSets self.now (meant_sets sets.now ∷ []) (kept_of examined.old) (kept_of examined.new) breaches.old breaches.new (sets_in next.old) (sets_in next.new)) }
+        ensures counted { AreListed (document_of self.now) (meant_sets sets.now ∷ []) → Grows (document_of self.now) self.now.pass (remembered examined.old) (remembered examined.new) comparisons.old comparisons.new }
+    {
+        if sets.len() > 2 {
+            return self.examine_many(sets, examined, next, breaches, comparisons);
+        }
+        self.examine_whole(sets, examined, next, breaches, comparisons)
+    }
+
     /// Examines the lists of one level. The lists of the next one are given.
     fn examine_level(
         &self,
-        level: &[Vec<FieldSelection<'doc>>],
+        level: &[Vec<SelectedSet<'doc>>],
         examined: &mut Remembered<'doc>,
         breaches: &mut Vec<Breach>,
         comparisons: &mut u128,
-    ) -> Result<Vec<Vec<FieldSelection<'doc>>>, AllocError>
-        ensures examined { IfOk result (λ next. ExaminesLists self.now (map (λ v. v.items) level.now) (remembered examined.old) (remembered examined.new) breaches.old breaches.new [] (lists_of next)) }
-        ensures counted { AreListed (document_of self.now) (map (λ v. v.items) level.now) → Grows (document_of self.now) self.now.pass (remembered examined.old) (remembered examined.new) comparisons.old comparisons.new }
+    ) -> Result<Vec<Vec<SelectedSet<'doc>>>, AllocError>
+        ensures examined { IfOk result (λ next. ExaminesSets self.now (map (λ v. meant_sets v.items) level.now) (kept_of examined.old) (kept_of examined.new) breaches.old breaches.new [] (sets_in next)) }
+        ensures counted { AreListed (document_of self.now) (map (λ v. meant_sets v.items) level.now) → Grows (document_of self.now) self.now.pass (remembered examined.old) (remembered examined.new) comparisons.old comparisons.new }
     {
         let mut next = Vec::new(*breaches.allocator());
-        for list in level {
-            self.examine_once(list, examined, &mut next, breaches, comparisons)?;
+        for sets in level {
+            self.examine_once(sets, examined, &mut next, breaches, comparisons)?;
         }
         Ok(next)
     }
 
-    /// Examines a list and all below it, to 128 levels. Whether lists are left behind these is given.
+    /// Whether one of the lists of sets selects a field.
+    fn have_fields(
+        &self,
+        alloc: Global,
+        level: &[Vec<SelectedSet<'doc>>],
+    ) -> Result<bool, AllocError>
+        ensures { IfOk result (λ some. HaveFields (document_of self.now) some (map (λ v. meant_sets v.items) level.now)) }
+    {
+        for sets in level {
+            let list = merged_list(alloc, &self.document.fragments, sets)?;
+            if !list.is_empty() {
+                return Ok(true);
+            }
+        }
+        Ok(false)
+    }
+
+    /// Examines what a set selects and all below it, to 128 levels. Whether fields are left behind these is given.
     pub(crate) fn examine_all(
         &self,
-        start: Vec<FieldSelection<'doc>>,
+        start: SelectedSet<'doc>,
         examined: &mut Remembered<'doc>,
         breaches: &mut Vec<Breach>,
         comparisons: &mut u128,
     ) -> Result<bool, AllocError>
-        ensures examined { IfOk result (λ left. ExaminesAll self.now start.entry.items (remembered examined.old) (remembered examined.new) breaches.old breaches.new left) }
-        ensures counted { IsListed (document_of self.now) (contents_of start.entry.items) → Grows (document_of self.now) self.now.pass (remembered examined.old) (remembered examined.new) comparisons.old comparisons.new }
+        ensures examined { IfOk result (λ left. ExaminesAll self.now (meant_at start.entry) (kept_of examined.old) (kept_of examined.new) breaches.old breaches.new left) }
+        ensures counted { AreListed (document_of self.now) ((meant_at start.entry ∷ []) ∷ []) → Grows (document_of self.now) self.now.pass (remembered examined.old) (remembered examined.new) comparisons.old comparisons.new }
     {
-        let mut level = Vec::new(*breaches.allocator());
-        level.push(start)?;
+        let alloc = *breaches.allocator();
+        let mut level = first_level(alloc, start)?;
         let mut length = 0;
         while length < CHAIN_BOUND && !level.is_empty() {
             level = self.examine_level(&level, examined, breaches, comparisons)?;
             length += 1;
         }
-        Ok(!level.is_empty())
+        self.have_fields(alloc, &level)
     }
 }

@@ -1,8 +1,9 @@
 //! Merging of fields: those that may be answered under one key agree (section 5.3.2, "Field Selection Merging").
 //!
-//! Fields are examined in lists: those of an operation, and then those below each group of a list, level by level. How a list
-//! is grouped, and what is told of a group, is of `rule_field_groups`. A list whose contents were examined before is not
-//! examined again.
+//! Fields are examined in lists: what the set of an operation selects, and then what the sets of each group of a list select,
+//! level by level. How a list is grouped, and what is told of a group, is of `rule_field_groups`. Sets that were looked at
+//! together are not looked at again, nor is a list whose contents were examined before. Where lists of many sets are not paid
+//! by fields that are new, their sets are looked at two by two (`budget.rt`).
 //!
 //! For the layers above: a `FieldsInSetCanMerge` tells a list of faults what does not merge in an operation (`MergerTold` of
 //! `specs/Merger.antt`, over `specs/Merged.antt`), and is clean where the fields of all operations merge so far. It stands on
@@ -13,6 +14,7 @@
 //! Begin with `merging.rt`, then `operation.rt`, `examination.rt` and `remembered.rt`.
 #![tactic(auto)]
 
+mod budget;
 mod examination;
 mod merging;
 mod operation;

@@ -14,10 +14,10 @@ use crate::remembered::Remembered;
 use document_typed_operations::{ExecutableDocument, Operation};
 use document_typing::Schema;
 use graphql_names::Node;
-use rule_field_groups::{Breach, Pass, starting_list};
+use rule_field_groups::{Breach, Pass, SelectedSet};
 use std::alloc::{AllocError, Global};
 
-/// The lists that were examined in each pass, over all operations so far, and how often shapes were compared.
+/// What was examined in each pass, over all operations so far, and how often shapes were compared.
 #[derive(Drop)]
 pub struct Examined<'doc> {
     pub(crate) shapes: Remembered<'doc>,
@@ -47,7 +47,7 @@ impl<'doc> Examined<'doc> {
     }
 }
 
-/// Examines the fields of an operation and all below them, in both passes. Whether lists are left behind 128 levels is given.
+/// Examines the fields of an operation and all below them, in both passes. Whether fields are left behind 128 levels is given.
 pub fn examine_operation<'doc>(
     schema: &'doc Schema,
     document: &'doc ExecutableDocument,
@@ -58,10 +58,9 @@ pub fn examine_operation<'doc>(
     ensures examined { IfOk result (λ left. ExaminesOperation (judged (schema_tree schema.now)) (document_meant document.now) (operation_meant operation.now) examined.old examined.new breaches.old breaches.new left) }
     ensures counted { Contains (operations (document_meant document.now)) (operation_meant operation.now) → IsCounted (document_meant document.now) examined.old → IsCounted (document_meant document.now) examined.new }
 {
-    let alloc = *breaches.allocator();
-    let set = &operation.content().selection_set;
-    let start = starting_list(alloc, &document.fragments, set)?;
-    let again = Vec::from_slice(alloc, &start)?;
+    let start = SelectedSet {
+        set: &operation.content().selection_set,
+    };
     let by_shape = Examination {
         pass: Pass::Shapes,
         schema,
@@ -75,6 +74,6 @@ pub fn examine_operation<'doc>(
         document,
     };
     let comparisons = &mut examined.comparisons;
-    let too = by_selection.examine_all(again, &mut examined.selections, breaches, comparisons)?;
+    let too = by_selection.examine_all(start, &mut examined.selections, breaches, comparisons)?;
     Ok(left || too)
 }

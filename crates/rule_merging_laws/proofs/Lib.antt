@@ -1,10 +1,7 @@
-pub mod Examined
 pub mod SettledFacts
 pub mod GoingFacts
 pub mod SharingFacts
 pub mod Reflexive
-pub mod MappedFacts
 pub mod Elsewhere
 pub mod PlainFacts
 pub mod Merges
-pub mod Steps

@@ -1,21 +1,20 @@
--- What lies below contents lies below them without places, and the other way; and a list that is examined is so without places.
-use Rattle.std.proofs.Common.{◌≡◌, List, map, None, Contains, refl, sym, ap, subst, ◌∙◌}
+-- What lies below contents, and what sets select, does so without places, and the other way.
+use Rattle.std.proofs.Common.{◌≡◌, List, map, None, refl, sym, ap, subst, ◌∙◌}
 use Rattle.tree_directives.specs.DirectiveTree.{Arguments, unplaced_arguments}
-use Rattle.document_meaning.specs.MeantTree.{MeantOperation, MeantDocument}
-use Rattle.rule_definitions.specs.Judged.{Judged}
+use Rattle.document_meaning.specs.MeantTree.{MeantSet, MeantOperation, MeantDocument}
+use Rattle.document_meaning.specs.Unplaced.{unplaced_set, unplaced_document}
 use Rattle.rule_document_definitions.specs.Selected.{InOperation, StandingField}
+use Rattle.rule_document_definitions.specs.Reached.{IsFieldOf}
 use Rattle.rule_document_definitions.specs.SameValues.{plain_given, SameGiven, SameArguments}
-use Rattle.rule_document_definitions.specs.Merging.{Below, Starts, SameKey, SameShape, MayShare, SameNameAndArguments}
+use Rattle.rule_document_definitions.specs.Merging.{Below, Starts}
 use Rattle.rule_document_definitions.specs.Contents.{content, ContentBelow, ContentStarts, unplaced_content}
-use Rattle.rule_document_definitions.proofs.Unplaced.{unplaced_field, field_of_map, field_of_unmap}
-use Rattle.rule_document_definitions.proofs.MergingUnplaced.{key_down, key_up, given_same}
-use Rattle.rule_merging_laws.proofs.Examined.{IsExaminedInto, AreShapesExamined, AreSelectionsExamined}
-use Rattle.rule_merging_laws.specs.Contents.{PlainField, PlainBelow, PlainStarts}
+use Rattle.rule_document_definitions.proofs.Unplaced.{unplaced_field, field_of_map, field_of_unmap, contains_map, contains_unmap}
+use Rattle.rule_document_definitions.proofs.MergingUnplaced.{given_same}
+use Rattle.rule_merging_laws.specs.Contents.{PlainField, PlainBelow, PlainStarts, IsSelected}
 use Rattle.rule_merging_laws.proofs.Elsewhere.{below_content, content_below, starts_content, content_starts}
-use Rattle.rule_merging_laws.proofs.MappedFacts.{mapped_examined}
 
 -- what is given is the same without places
-arguments_plain : {P : Type 0} (a b : Arguments P) → SameArguments a b → SameArguments (unplaced_arguments a) (unplaced_arguments b)
+pub arguments_plain : {P : Type 0} (a b : Arguments P) → SameArguments a b → SameArguments (unplaced_arguments a) (unplaced_arguments b)
 arguments_plain a b same n = subst (λ x. SameGiven x (plain_given n (unplaced_arguments b))) (sym (given_same n a)) (subst (SameGiven (plain_given n a)) (sym (given_same n b)) (same n))
 
 module _ {P : Type 0} (d : MeantDocument P) where
@@ -65,21 +64,16 @@ module _ {P : Type 0} (d : MeantDocument P) where
       let f = content_starts d o e.0 e.1.0 in
       (f.0, (f.1.0, ap unplaced_content f.1.1 ∙ e.1.1))
 
-  -- a list of contents that has what starts has it without places
-  pub start_list : (o : MeantOperation P) (list : List (StandingField P)) → ((f : StandingField P) → ContentStarts d o f → Contains (map unplaced_content list) (unplaced_content f))
-      → (y : PlainField) → PlainStarts d o y → Contains (map unplaced_content list) y
-  start_list o list all y b = let e = starts_plain o y b in subst (Contains (map unplaced_content list)) e.1.1 (all e.0 e.1.0)
+  -- ---- what sets select
 
-  -- ---- examined lists
+  -- what sets select they select without places
+  pub plain_selected : (sets : List (MeantSet P)) (e : StandingField P) → IsSelected d sets e → IsSelected (unplaced_document d) (map unplaced_set sets) (unplaced_content e)
+  plain_selected sets e (s, (c, (f, (p, i)))) =
+      (unplaced_set s, (contains_map unplaced_set sets s c, (unplaced_field f, (field_of_map d (InOperation None) s f p, ap unplaced_content i))))
 
-  module _ (s : Judged) where
-    -- where a list is examined, so it is without places
-    pub shapes_examined : (list : List (StandingField P)) (groups next : List (List (StandingField P))) → AreShapesExamined d s list groups next
-        → IsExaminedInto (PlainBelow d) SameKey (SameShape s) (map unplaced_content list) (map (map unplaced_content) groups) (map (map unplaced_content) next)
-    shapes_examined = mapped_examined unplaced_content (ContentBelow d) SameKey (SameShape s) (PlainBelow d) SameKey (SameShape s) below_plain key_down key_up (λ f g a. a)
-
-    -- by keys and parents
-    pub selections_examined : (list : List (StandingField P)) (groups next : List (List (StandingField P))) → AreSelectionsExamined d s list groups next
-        → IsExaminedInto (PlainBelow d) (MayShare s) SameNameAndArguments (map unplaced_content list) (map (map unplaced_content) groups) (map (map unplaced_content) next)
-    selections_examined = mapped_examined unplaced_content (ContentBelow d) (MayShare s) SameNameAndArguments (PlainBelow d) (MayShare s) SameNameAndArguments below_plain
-        (λ f g t. (key_down f g t.0, t.1)) (λ f g t. (key_up f g t.0, t.1)) (λ f g a. (a.0, arguments_plain f.head.arguments g.head.arguments a.1))
+  -- and what they select without places is something that they select, without places
+  pub selected_plain : (sets : List (MeantSet P)) (y : PlainField) → IsSelected (unplaced_document d) (map unplaced_set sets) y → (e : StandingField P) × (IsSelected d sets e × (unplaced_content e ≡ y))
+  selected_plain sets y (v, (c, (k, (p, i)))) =
+      let s = contains_unmap unplaced_set sets v c in
+      let f = field_of_unmap d (InOperation None) s.0 k (subst (λ w. IsFieldOf (unplaced_document d) (InOperation None) w k) (sym s.1.1) p) in
+      (content f.0, ((s.0, (s.1.0, (f.0, (f.1.0, refl)))), ap (λ (w : PlainField). content w) f.1.1 ∙ i))

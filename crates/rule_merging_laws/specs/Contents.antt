@@ -1,19 +1,28 @@
 -- Contents of fields without places: what an examination of merging compares lists by, and settles.
-use Rattle.std.specs.Prelude.{List}
-use Rattle.document_meaning.specs.MeantTree.{MeantOperation, MeantDocument}
+use Rattle.std.specs.Prelude.{◌≡◌, List, None, Contains}
+use Rattle.document_meaning.specs.MeantTree.{MeantSet, MeantOperation, MeantDocument}
 use Rattle.document_meaning.specs.Unplaced.{unplaced_operation, unplaced_document}
 use Rattle.rule_definitions.specs.Judged.{Judged}
-use Rattle.rule_document_definitions.specs.Selected.{StandingField}
+use Rattle.rule_document_definitions.specs.Selected.{InOperation, StandingField}
+use Rattle.rule_document_definitions.specs.Reached.{IsFieldOf}
 use Rattle.rule_document_definitions.specs.Merging.{SameKey, SameShape, MayShare, SameNameAndArguments}
-use Rattle.rule_document_definitions.specs.Contents.{ContentBelow, ContentStarts}
-use Rattle.rule_merging_laws.specs.Settled.{IsSettled}
+use Rattle.rule_document_definitions.specs.Contents.{content, ContentBelow, ContentStarts}
+use Rattle.rule_merging_laws.specs.Settled.{IsSettledIn, IsSettled}
 use Rattle.rule_merging_laws.specs.Going.{IsGoing}
 
 -- a field, with nothing told of where it stands
 abbrev pub PlainField : Type 0
 PlainField = StandingField (Unit {0})
 
+-- a set, with nothing told of where its selections stand
+abbrev pub PlainSet : Type 0
+PlainSet = MeantSet (Unit {0})
+
 module _ {P : Type 0} (d : MeantDocument P) where
+  -- a content that one of the sets selects, through fragments
+  abbrev pub IsSelected : List (MeantSet P) → StandingField P → Type 0
+  IsSelected sets e = (s : MeantSet P) × (Contains sets s × ((f : StandingField P) × (IsFieldOf d (InOperation None) s f × (content f ≡ e))))
+
   -- the same as `ContentBelow` and `ContentStarts`, without places
   abbrev pub PlainBelow : PlainField → PlainField → Type 0
   PlainBelow c e = ContentBelow (unplaced_document d) c e
@@ -32,6 +41,14 @@ module _ {P : Type 0} (d : MeantDocument P) where
     -- by keys and parents, in name and arguments
     abbrev pub AreSelectionsSettled : List (List PlainField) → Type 0
     AreSelectionsSettled lists = IsSettled PlainBelow (MayShare s) SameNameAndArguments lists
+
+    -- fields that stand together are settled: by keys, in shape
+    abbrev pub AreShapesStanding : (PlainField → PlainField → Type 0) → Type 0
+    AreShapesStanding Stand = IsSettledIn PlainBelow SameKey (SameShape s) Stand
+
+    -- by keys and parents, in name and arguments
+    abbrev pub AreSelectionsStanding : (PlainField → PlainField → Type 0) → Type 0
+    AreSelectionsStanding Stand = IsSettledIn PlainBelow (MayShare s) SameNameAndArguments Stand
 
   -- ---- lists of contents that chains lead to
 

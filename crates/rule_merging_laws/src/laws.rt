@@ -1,11 +1,17 @@
 //! Laws of merging, each the contract of a function that does nothing.
 
-ghost use Rattle.rule_merging_laws.specs.Laws.{SettledFieldsMerge, GoingAgrees, GoingBreaks, LongChainsPassTheBound};
+ghost use Rattle.rule_merging_laws.specs.Laws.{SettledFieldsMerge, StandingFieldsMerge, GoingAgrees, GoingBreaks, LongChainsPassTheBound};
 
 /// Where the lists of contents are settled, those by keys in shape and those by keys and parents in name and arguments, and
 /// have all that starts, the fields of an operation merge (GraphQL, October 2021, section 5.3.2).
 pub fn settled_fields_merge()
     ensures { SettledFieldsMerge }
+{}
+
+/// Where fields that stand together are settled, those by keys in shape and those by keys and parents in name and arguments, and
+/// all that starts stands with all that starts, the fields of an operation merge.
+pub fn standing_fields_merge()
+    ensures { StandingFieldsMerge }
 {}
 
 /// Two fields of a list that chains lead to agree if the fields of the operation merge; and what is told of two that do not

@@ -1,81 +1,75 @@
-use Rattle.std.proofs.Common.{◌||◌, sym, ap, subst, ◌∙◌}
+use Rattle.std.proofs.Common.{◌||◌, sym, ap, ◌∙◌}
 use Rattle.document_typing.specs.in_schema.SchemaOf.{schema_tree}
 use Rattle.document_typing.specs.DocumentView.{document_meant, operation_meant}
+use Rattle.document_typed_selections.specs.TypedTree.{typed_set_tree}
+use Rattle.document_meaning.specs.MeantTree.{meant_of_set}
 use Rattle.rule_definitions.specs.Judged.{judged}
 use Rattle.rule_field_groups.specs.in_ground.Broken.{brokens_of}
-use Rattle.rule_merging.specs.Counted.{IsListed}
-use Rattle.rule_field_groups.specs.Below.{contents_of, AreStarting}
 use Rattle.rule_merging.specs.Remembered.{remembered}
 use Rattle.rule_merging.proofs.Counting.{starting_listed, shapes_counted, selections_counted}
 use Rattle.rule_merging.proofs.Operating.{starts, operation_step}
 use Rattle.rule_merging.proofs.operation.examine_operation.Goals as goal
 
-pub returns-in_err-start-clause-counted : goal.returns-in_err-start-clause-counted
-returns-in_err-start-clause-counted c = λ there counted. counted
-
-pub returns-in_err-again-clause-counted : goal.returns-in_err-again-clause-counted
-returns-in_err-again-clause-counted c = λ there counted. counted
-
 pub returns-in_err-left-clause-counted : goal.returns-in_err-left-clause-counted
 returns-in_err-left-clause-counted c there counted =
     let d = document_meant c.args.document.now in
     let o = operation_meant c.args.operation.now in
-    let start = c.in_ok-start.start.items in
-    let listed = starting_listed d o start there (starts c.args.document.now c.args.operation.now c.content.result.now start c.content.ensures c.in_ok-start.ensures) in
+    let start = meant_of_set (typed_set_tree c.content.result.now.selection_set) in
+    let listed = starting_listed d o start there (starts c.args.operation.now c.content.result.now c.content.ensures) in
     shapes_counted d (remembered c.args.examined.now.shapes) (remembered c.examine_all.new.examined) c.args.examined.now.comparisons c.examine_all.new.comparisons counted (c.in_err-left.ensures.counted listed)
 
 pub returns-in_err-too-clause-counted : goal.returns-in_err-too-clause-counted
 returns-in_err-too-clause-counted c there counted =
     let d = document_meant c.args.document.now in
     let o = operation_meant c.args.operation.now in
-    let start = c.in_ok-start.start.items in
-    let listed = starting_listed d o start there (starts c.args.document.now c.args.operation.now c.content.result.now start c.content.ensures c.in_ok-start.ensures) in
+    let start = meant_of_set (typed_set_tree c.content.result.now.selection_set) in
+    let listed = starting_listed d o start there (starts c.args.operation.now c.content.result.now c.content.ensures) in
     let first = shapes_counted d (remembered c.args.examined.now.shapes) (remembered c.examine_all.new.examined) c.args.examined.now.comparisons c.examine_all.new.comparisons counted (c.in_ok-left.ensures.counted listed) in
     selections_counted d (remembered c.examine_all.new.examined) (remembered c.args.examined.now.selections) (remembered c.examine_all-2.new.examined) c.examine_all.new.comparisons c.examine_all-2.new.comparisons first
-    (c.in_err-too.ensures.counted (subst (λ l. IsListed d (contents_of l)) (sym (c.in_ok-again.ensures.items ∙ c.deref.ensures.value)) listed))
+    (c.in_err-too.ensures.counted listed)
 
 pub returns-then-left-clause-examined : goal.returns-then-left-clause-examined
 returns-then-left-clause-examined c =
     let d = document_meant c.args.document.now in
     let o = operation_meant c.args.operation.now in
-    let start = c.in_ok-start.start.items in
-    let starting = starts c.args.document.now c.args.operation.now c.content.result.now start c.content.ensures c.in_ok-start.ensures in
+    let start = meant_of_set (typed_set_tree c.content.result.now.selection_set) in
+    let starting = starts c.args.operation.now c.content.result.now c.content.ensures in
     operation_step (judged (schema_tree c.args.schema.now)) d o c.args.examined.now
     (record { shapes = c.examine_all.new.examined; selections = c.examine_all-2.new.examined; comparisons = c.examine_all-2.new.comparisons })
     (brokens_of c.args.breaches.now) (brokens_of c.examine_all.new.breaches) (brokens_of c.examine_all-2.new.breaches) c.in_ok-left.left c.in_ok-too.too c.in_ok-left.left
     (c.in_ok-left.ensures.examined o starting)
-    (c.in_ok-too.ensures.examined o (subst (AreStarting d o) (sym (c.in_ok-again.ensures.items ∙ c.deref.ensures.value)) starting))
+    (c.in_ok-too.ensures.examined o starting)
     (c.if-left.true ∙ sym (ap (λ b. b || c.in_ok-too.too) c.if-left.true))
 
 pub returns-then-left-clause-counted : goal.returns-then-left-clause-counted
 returns-then-left-clause-counted c there counted =
     let d = document_meant c.args.document.now in
     let o = operation_meant c.args.operation.now in
-    let start = c.in_ok-start.start.items in
-    let listed = starting_listed d o start there (starts c.args.document.now c.args.operation.now c.content.result.now start c.content.ensures c.in_ok-start.ensures) in
+    let start = meant_of_set (typed_set_tree c.content.result.now.selection_set) in
+    let listed = starting_listed d o start there (starts c.args.operation.now c.content.result.now c.content.ensures) in
     let first = shapes_counted d (remembered c.args.examined.now.shapes) (remembered c.examine_all.new.examined) c.args.examined.now.comparisons c.examine_all.new.comparisons counted (c.in_ok-left.ensures.counted listed) in
     selections_counted d (remembered c.examine_all.new.examined) (remembered c.args.examined.now.selections) (remembered c.examine_all-2.new.examined) c.examine_all.new.comparisons c.examine_all-2.new.comparisons first
-    (c.in_ok-too.ensures.counted (subst (λ l. IsListed d (contents_of l)) (sym (c.in_ok-again.ensures.items ∙ c.deref.ensures.value)) listed))
+    (c.in_ok-too.ensures.counted listed)
 
 pub returns-else-left-clause-examined : goal.returns-else-left-clause-examined
 returns-else-left-clause-examined c =
     let d = document_meant c.args.document.now in
     let o = operation_meant c.args.operation.now in
-    let start = c.in_ok-start.start.items in
-    let starting = starts c.args.document.now c.args.operation.now c.content.result.now start c.content.ensures c.in_ok-start.ensures in
+    let start = meant_of_set (typed_set_tree c.content.result.now.selection_set) in
+    let starting = starts c.args.operation.now c.content.result.now c.content.ensures in
     operation_step (judged (schema_tree c.args.schema.now)) d o c.args.examined.now
     (record { shapes = c.examine_all.new.examined; selections = c.examine_all-2.new.examined; comparisons = c.examine_all-2.new.comparisons })
     (brokens_of c.args.breaches.now) (brokens_of c.examine_all.new.breaches) (brokens_of c.examine_all-2.new.breaches) c.in_ok-left.left c.in_ok-too.too c.in_ok-too.too
     (c.in_ok-left.ensures.examined o starting)
-    (c.in_ok-too.ensures.examined o (subst (AreStarting d o) (sym (c.in_ok-again.ensures.items ∙ c.deref.ensures.value)) starting))
+    (c.in_ok-too.ensures.examined o starting)
     (sym (ap (λ b. b || c.in_ok-too.too) c.if-left.false))
 
 pub returns-else-left-clause-counted : goal.returns-else-left-clause-counted
 returns-else-left-clause-counted c there counted =
     let d = document_meant c.args.document.now in
     let o = operation_meant c.args.operation.now in
-    let start = c.in_ok-start.start.items in
-    let listed = starting_listed d o start there (starts c.args.document.now c.args.operation.now c.content.result.now start c.content.ensures c.in_ok-start.ensures) in
+    let start = meant_of_set (typed_set_tree c.content.result.now.selection_set) in
+    let listed = starting_listed d o start there (starts c.args.operation.now c.content.result.now c.content.ensures) in
     let first = shapes_counted d (remembered c.args.examined.now.shapes) (remembered c.examine_all.new.examined) c.args.examined.now.comparisons c.examine_all.new.comparisons counted (c.in_ok-left.ensures.counted listed) in
     selections_counted d (remembered c.examine_all.new.examined) (remembered c.args.examined.now.selections) (remembered c.examine_all-2.new.examined) c.examine_all.new.comparisons c.examine_all-2.new.comparisons first
-    (c.in_ok-too.ensures.counted (subst (λ l. IsListed d (contents_of l)) (sym (c.in_ok-again.ensures.items ∙ c.deref.ensures.value)) listed))
+    (c.in_ok-too.ensures.counted listed)

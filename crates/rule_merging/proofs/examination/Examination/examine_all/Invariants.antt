@@ -1,21 +1,20 @@
-use Rattle.std.proofs.Common.{◌≡◌, ◌≤◌, ◌++◌, ◌-◌, List}
+use Rattle.std.proofs.Common.{◌≡◌, ◌∷◌, [], ◌≤◌, ◌++◌, ◌-◌, List}
 use Rattle.graphql_names.specs.Placed.{Place}
 use Rattle.rule_document_definitions.specs.DocumentFaults.{Broken}
 use Rattle.document_meaning.specs.MeantTree.{MeantOperation}
 use Rattle.rule_field_groups.specs.in_ground.Broken.{brokens_of}
-use Rattle.rule_merging.specs.Counted.{IsListed, AreListed, Grows}
-use Rattle.rule_field_groups.specs.Grouped.{lists_of}
-use Rattle.rule_field_groups.specs.Below.{contents_of, AreStarting}
-use Rattle.rule_merging.specs.Remembered.{remembered}
-use Rattle.rule_merging.specs.Examined.{schema_of, document_of}
+use Rattle.rule_merging.specs.Counted.{AreListed, Grows}
+use Rattle.rule_field_groups.specs.Below.{meant_at}
+use Rattle.rule_merging.specs.Remembered.{remembered, kept_of}
+use Rattle.rule_merging.specs.Examined.{sets_in, schema_of, document_of}
 use Rattle.rule_merging.proofs.Examining.{SoFar}
 use Rattle.rule_merging.proofs.examination.Examination.examine_all.Given as goal
 
 abbrev pub invariant-loop-length : goal.invariant-loop-length
 invariant-loop-length l = record {
-  examined : (o : MeantOperation Place) → AreStarting (document_of l.self) o l.fn.start.items → (added : List (Broken Place)) × ((brokens_of l.breaches ≡ brokens_of l.fn.breaches ++ added)
-      × SoFar l.self.pass (schema_of l.self) (document_of l.self) o (remembered l.fn.examined) (remembered l.examined) l.length added (lists_of l.level));
-  counted : IsListed (document_of l.self) (contents_of l.fn.start.items) → AreListed (document_of l.self) (lists_of l.level)
+  examined : (o : MeantOperation Place) → o.set ≡ meant_at l.fn.start → (added : List (Broken Place)) × ((brokens_of l.breaches ≡ brokens_of l.fn.breaches ++ added)
+      × SoFar l.self.pass (schema_of l.self) (document_of l.self) o (kept_of l.fn.examined) (kept_of l.examined) l.length added (sets_in l.level));
+  counted : AreListed (document_of l.self) ((meant_at l.fn.start ∷ []) ∷ []) → AreListed (document_of l.self) (sets_in l.level)
       × Grows (document_of l.self) l.self.pass (remembered l.fn.examined) (remembered l.examined) l.fn.comparisons l.comparisons;
   short : l.length ≤ 128;
 }

@@ -1,16 +1,12 @@
-use Rattle.std.proofs.Common.{◌≡◌, ◌++◌, List, map, take}
-use Rattle.graphql_names.specs.Placed.{Place}
-use Rattle.rule_document_definitions.specs.DocumentFaults.{Broken}
-use Rattle.rule_field_groups.specs.in_ground.Broken.{brokens_of}
+use Rattle.std.proofs.Common.{[], map, take}
 use Rattle.rule_merging.specs.Counted.{AreListed, Grows}
-use Rattle.rule_field_groups.specs.Grouped.{lists_of}
-use Rattle.rule_merging.specs.Remembered.{remembered}
-use Rattle.rule_merging.specs.Examined.{ListsExamined, schema_of, document_of}
+use Rattle.rule_field_groups.specs.Below.{meant_sets}
+use Rattle.rule_merging.specs.Remembered.{remembered, kept_of}
+use Rattle.rule_merging.specs.Examined.{sets_in, document_of, ExaminesSets}
 use Rattle.rule_merging.proofs.examination.Examination.examine_level.Given as goal
 
-abbrev pub invariant-loop-list : goal.invariant-loop-list
-invariant-loop-list l = record {
-  examined : (added : List (Broken Place)) × ((brokens_of l.breaches ≡ brokens_of l.fn.breaches ++ added)
-      × ListsExamined l.self.pass (schema_of l.self) (document_of l.self) (map (λ v. v.items) (take l.list-index l.level)) (remembered l.fn.examined) (remembered l.examined) added (lists_of l.next));
-  counted : AreListed (document_of l.self) (map (λ v. v.items) l.level) → Grows (document_of l.self) l.self.pass (remembered l.fn.examined) (remembered l.examined) l.fn.comparisons l.comparisons;
+abbrev pub invariant-loop-sets : goal.invariant-loop-sets
+invariant-loop-sets l = record {
+  examined : ExaminesSets l.self (map (λ v. meant_sets v.items) (take l.sets-index l.level)) (kept_of l.fn.examined) (kept_of l.examined) l.fn.breaches l.breaches [] (sets_in l.next);
+  counted : AreListed (document_of l.self) (map (λ v. meant_sets v.items) l.level) → Grows (document_of l.self) l.self.pass (remembered l.fn.examined) (remembered l.examined) l.fn.comparisons l.comparisons;
 }

@@ -7,8 +7,8 @@ use Rattle.rule_field_groups.specs.in_ground.Broken.{brokens_of}
 use Rattle.rule_field_groups.specs.in_ground.Fields.{fields_of}
 use Rattle.rule_field_groups.specs.Compared.{compared}
 use Rattle.rule_field_groups.specs.Grouped.{lists_of}
-use Rattle.rule_merging.specs.Examined.{GroupsExamined, ExaminesGroup, schema_of, document_of}
-use Rattle.rule_merging.proofs.Examining.{items_in, lists_front, no_groups, GroupsTold, groups_step}
+use Rattle.rule_merging.specs.Examined.{sets_in, GroupsExamined, ExaminesGroup, schema_of, document_of}
+use Rattle.rule_merging.proofs.Examining.{items_in, front_more, no_groups, GroupsTold, groups_step}
 use Rattle.rule_merging.proofs.Counting.{left_of}
 use Rattle.rule_merging.proofs.examination.Examination.examine_list.Goals as goal
 
@@ -18,7 +18,7 @@ loop-group-init c =
     let all : sum (map (compared e.pass) (map items_in c.deref-group-items.result.now)) ≤ compared e.pass c.args.list.now =
     subst (λ l. sum (map (compared e.pass) (map items_in l)) ≤ compared e.pass c.args.list.now) (sym c.deref-group-items.ensures.value) c.in_ok-groups.ensures.counted in
     record {
-      examined = ([], ([], (sym (append-nil (brokens_of c.args.breaches.now)), (sym (append-nil (lists_of c.args.next.now)), no_groups e.pass (schema_of e) (document_of e)))));
+      examined = ([], ([], (sym (append-nil (brokens_of c.args.breaches.now)), (sym (append-nil (sets_in c.args.next.now)), no_groups e.pass (schema_of e) (document_of e)))));
       counted = omega (arith, all);
     }
 
@@ -33,13 +33,13 @@ loop-group-preserved c =
     let here = c.in_ok-examine_group.ensures in
     let groups : List (List (StandingField Place)) = map fields_of (map items_in (take i xs)) in
     let front : map fields_of (map items_in (take (i + 1) xs)) ≡ groups ++ fields_of x.items ∷ [] =
-    ap (map fields_of) (lists_front xs i x h c.group-item.is) ∙ map-append fields_of (map items_in (take i xs)) (x.items ∷ []) in
+    ap (map fields_of) (front_more items_in xs i x h c.group-item.is) ∙ map-append fields_of (map items_in (take i xs)) (x.items ∷ []) in
     record {
       examined = subst
-          (GroupsTold e.pass (schema_of e) (document_of e) (brokens_of c.args.breaches.now) (brokens_of c.examine_group.new.breaches) (lists_of c.args.next.now) (lists_of c.examine_group.new.next)) (sym front)
+          (GroupsTold e.pass (schema_of e) (document_of e) (brokens_of c.args.breaches.now) (brokens_of c.examine_group.new.breaches) (sets_in c.args.next.now) (sets_in c.examine_group.new.next)) (sym front)
           (groups_step e.pass (schema_of e) (document_of e) (brokens_of c.args.breaches.now) (brokens_of c.loop-group.breaches) (brokens_of c.examine_group.new.breaches)
-          (lists_of c.args.next.now) (lists_of c.loop-group.next) (lists_of c.examine_group.new.next) groups (fields_of x.items) inv.examined
-          (subst (λ l. ExaminesGroup e (fields_of l) c.loop-group.breaches c.examine_group.new.breaches (lists_of c.loop-group.next) (lists_of c.examine_group.new.next)) c.deref.ensures.value here.examined));
+          (sets_in c.args.next.now) (sets_in c.loop-group.next) (sets_in c.examine_group.new.next) groups (fields_of x.items) inv.examined
+          (subst (λ l. ExaminesGroup e (fields_of l) c.loop-group.breaches c.examine_group.new.breaches (sets_in c.loop-group.next) (sets_in c.examine_group.new.next)) c.deref.ensures.value here.examined));
       counted = omega (arith, inv.counted, here.counted, left_of (compared e.pass) items_in xs i x h c.group-item.is, ap (compared e.pass) c.deref.ensures.value);
     }
 

@@ -1,0 +1,54 @@
+use Rattle.std.proofs.Common.{[], true, false, sym, subst, refl, append-nil}
+use Rattle.std.proofs.lemmas.Result.{on_ok_weaker}
+use Rattle.rule_field_groups.specs.in_ground.Broken.{brokens_of}
+use Rattle.rule_field_groups.specs.Below.{meant_sets, plain_sets, IsMergedIn}
+use Rattle.rule_merging.specs.Remembered.{remembered, kept_of, Expands}
+use Rattle.rule_merging.specs.Examined.{sets_in, schema_of, document_of}
+use Rattle.rule_merging.proofs.Examining.{known_sets, whole_told}
+use Rattle.rule_merging.proofs.Counting.{grows_same, grows_on, fields_listed}
+use Rattle.rule_merging.proofs.examination.Examination.examine_whole.Goals as goal
+
+pub returns-in_err-expand-clause-counted : goal.returns-in_err-expand-clause-counted
+returns-in_err-expand-clause-counted c = λ listed.
+    grows_same (document_of c.args.self.now) c.args.self.now.pass (remembered c.args.examined.now) (remembered c.expand.new.self) c.args.comparisons.now c.in_err-expand.ensures.lists
+
+pub returns-then-not-branch-clause-examined : goal.returns-then-not-branch-clause-examined
+returns-then-not-branch-clause-examined c =
+    let e = c.args.self.now in
+    let sets = meant_sets c.args.sets.now in
+    let old = kept_of c.args.examined.now in
+    let new = kept_of c.expand.new.self in
+    let known : Expands old (plain_sets sets) false new = subst (λ b. Expands old (plain_sets sets) b new) c.if-not-branch.true c.in_ok-expand.ensures.expands in (
+      [],
+      ([], (sym (append-nil (brokens_of c.args.breaches.now)), (sym (append-nil (sets_in c.args.next.now)), known_sets e.pass (schema_of e) (document_of e) sets old new known.0 known.1))),
+    )
+
+pub returns-then-not-branch-clause-counted : goal.returns-then-not-branch-clause-counted
+returns-then-not-branch-clause-counted c = λ listed.
+    grows_same (document_of c.args.self.now) c.args.self.now.pass (remembered c.args.examined.now) (remembered c.expand.new.self) c.args.comparisons.now c.in_ok-expand.ensures.lists
+
+pub returns-in_err-list-clause-counted : goal.returns-in_err-list-clause-counted
+returns-in_err-list-clause-counted c = λ listed.
+    grows_same (document_of c.args.self.now) c.args.self.now.pass (remembered c.args.examined.now) (remembered c.expand.new.self) c.args.comparisons.now c.in_ok-expand.ensures.lists
+
+pub returns-clause-examined : goal.returns-clause-examined
+returns-clause-examined c =
+    let e = c.args.self.now in
+    let sets = meant_sets c.args.sets.now in
+    let old = kept_of c.args.examined.now in
+    let mid = kept_of c.expand.new.self in
+    let is : Expands old (plain_sets sets) true mid = subst (λ b. Expands old (plain_sets sets) b mid) c.if-not-branch.false c.in_ok-expand.ensures.expands in
+    let list : IsMergedIn (document_of e) sets c.deref.result.now = subst (IsMergedIn (document_of e) sets) (sym c.deref.ensures.value) (c.in_ok-list.ensures (document_of e) refl) in
+    on_ok_weaker c.examine_fields.result
+    (λ h. whole_told e.pass (schema_of e) (document_of e) sets c.deref.result.now old mid (kept_of c.examine_fields.new.examined) (brokens_of c.args.breaches.now) (brokens_of c.examine_fields.new.breaches)
+    (sets_in c.args.next.now) (sets_in c.examine_fields.new.next) is list h)
+    c.examine_fields.ensures.examined
+
+pub returns-clause-counted : goal.returns-clause-counted
+returns-clause-counted c = λ listed.
+    let e = c.args.self.now in
+    let sets = meant_sets c.args.sets.now in
+    let list : IsMergedIn (document_of e) sets c.deref.result.now = subst (IsMergedIn (document_of e) sets) (sym c.deref.ensures.value) (c.in_ok-list.ensures (document_of e) refl) in
+    grows_on (document_of e) e.pass (remembered c.args.examined.now) (remembered c.expand.new.self) (remembered c.examine_fields.new.examined) c.args.comparisons.now c.args.comparisons.now c.examine_fields.new.comparisons
+    (grows_same (document_of e) e.pass (remembered c.args.examined.now) (remembered c.expand.new.self) c.args.comparisons.now c.in_ok-expand.ensures.lists)
+    (c.examine_fields.ensures.counted (fields_listed (document_of e) sets c.deref.result.now listed list))
