@@ -46,9 +46,9 @@ field_schema = schema_at_hand terms (query_field_tree ∷ [])
 
 -- ---- every rule of typing holds
 
-typed : TypingRules (meanings_found field_schema) just_field_tree
+pub just_field_typed : TypingRules (meanings_found field_schema) just_field_tree
 unfolding built_in_definitions
-typed fault fails = not_in_nil fault ((document-fails (meanings_found field_schema) just_field_tree fault).1 fails)
+just_field_typed fault fails = not_in_nil fault ((document-fails (meanings_found field_schema) just_field_tree fault).1 fails)
 
 -- ---- the document without places
 
@@ -212,19 +212,19 @@ valid_found : DocumentRules found (unplaced_document (kept_document (meanings_fo
 unfolding built_in_definitions
 valid_found = (rules_hold, merges)
 
-valid : IsValidDocument field_schema (document_over field_schema just_field_tree)
-valid =
+pub just_field_valid : IsValidDocument field_schema (document_over field_schema just_field_tree)
+just_field_valid =
     subst (λ m. IsValidDocument field_schema (kept_document m just_field_tree)) (same_meanings field_schema)
     (subst (λ j. DocumentRules j (unplaced_document (kept_document (meanings_found field_schema) just_field_tree)) × Merging j (unplaced_document (kept_document (meanings_found field_schema) just_field_tree))) (same_judged field_schema) valid_found)
 
-pub just_field_judged : JudgeDocument field_schema 2 just_field
+unfoldable pub just_field_judged : JudgeDocument field_schema 2 just_field
 just_field_judged = record {
   tree = just_field_tree;
   read = just_field_reads;
-  typed = subst (λ m. TypingRules m just_field_tree) (same_meanings field_schema) typed;
-  holds = valid;
+  typed = subst (λ m. TypingRules m just_field_tree) (same_meanings field_schema) just_field_typed;
+  holds = just_field_valid;
 }
 
-pub just_field_accepted : IsDocumentAccepted field_schema 500 2 just_field
+unfoldable pub just_field_accepted : IsDocumentAccepted field_schema 500 2 just_field
 unfolding reader
 just_field_accepted = record { judged = just_field_judged; within = is_within 500 2 just_field just_field_tree refl (λ passed. omega (arith, passed)) }
