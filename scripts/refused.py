@@ -1,5 +1,5 @@
 #!/usr/bin/env python3
-"""Whether want of memory is told at each allocation: refused.py [--sample N] [--jobs N] [PROGRAM [WORD]]
+"""Whether want of memory is told at each allocation: refused.py [--sample N] [--jobs N] [--states] [PROGRAM [WORD]]
 
 PROGRAM is the built program of `graphql_checked_program`; without it the proved one that `rt ci` or `rt run` leaves in its `out/`. It is
 run on pairs of row files of `row_checker`, each time with one request for memory refused, and with all from one on, by a few lines of C
@@ -9,14 +9,19 @@ row with several documents or limits the first that the program's words can name
 
 Each run is to end with status 4, `out of memory` and nothing out. A run may give the whole right answer all the same, where what was
 refused was a hint alone, such as a number of places asked for beforehand: a line tells which request that was and of how many bytes.
-Every other run is printed. The last line has the counts, and the status is 1 where a run was otherwise, or where a row of WHOLE
-is not there or is not answered as it wants."""
+Every other run is printed. The last line has the counts, and the status is 1 where a run was otherwise, where a row of WHOLE is not
+there or is not answered as it wants, and where no request is seen: an unproved build (`rt try`) brings an allocator of its own.
+
+With --states PROGRAM is that of `row_checker`, and its rows of the call `series` are run: one schema answers several documents, and
+the first of them twice. Each request, or 50 times N of them, is refused alone, so that memory is there again behind it. Either the row
+is not judged, or one answer is want of memory and each other one is right, those of the same schema behind it among them."""
 
 import argparse
 import concurrent.futures
 import glob
 import mmap
 import os
+import re
 import struct
 import subprocess
 import sys
@@ -25,6 +30,7 @@ import tempfile
 TOP = os.path.dirname(os.path.dirname(os.path.abspath(__file__)))
 DATA = os.path.join(TOP, "crates/row_checker/data")
 PROGRAM = os.path.join(TOP, "crates/graphql_checked_program/out/graphql_checked_program")
+ROW_PROGRAM = os.path.join(TOP, "crates/row_checker/out/row_checker")
 
 # The worked rows of which every request is refused: a field, extensions, merging, a block string, a fault.
 WHOLE = [
@@ -78,11 +84,11 @@ int posix_memalign(void **made, size_t align, size_t bytes) {
 }
 """
 
-ESCAPES = {"n": b"\n", "r": b"\r", "t": b"\t", "\\": b"\\"}
+ESCAPES = {"n": b"\n", "r": b"\r", "t": b"\t", "\\": b"\\", "'": b"'", '"': b'"'}
 
 
 def unescaped(value):
-    """The bytes that a value of a row file stands for."""
+    """The bytes that a value of a row file stands for, or an answer that a program of rows tells."""
     found, at = b"", 0
     while at < len(value):
         if value[at] != "\\":
@@ -144,18 +150,13 @@ def rows():
     return found
 
 
-class Pair:
-    """A row as files in a folder of its own, and the runs of the program on them."""
+class Runs:
+    """The runs of a program with these words in a folder of its own."""
 
     def __init__(self, program, shim, folder, row, words):
-        self.program, self.shim, self.folder = program, shim, folder
+        self.program, self.shim, self.folder, self.words = program, shim, folder, words
+        self.row, self.right, self.requests = row, None, 0
         os.mkdir(folder)
-        texts = [unescaped(text) for text in row.values("document")[:1] + row.values("schema")]
-        self.words = words + [str(number) for number in range(len(texts))]
-        for number, text in enumerate(texts):
-            with open(os.path.join(folder, str(number)), "wb") as file:
-                file.write(text)
-        self.wants, self.right, self.requests = row, None, 0
 
     def run(self, first=0, is_each=False):
         """A run: its answer, and how many requests it made, how many were refused, and the bytes of the first of these."""
@@ -180,14 +181,75 @@ class Pair:
         """What is to be told of a run in which the request of this number is refused, alone or with all behind it: a kind and a line."""
         answer, _, refused, size = self.run(number, is_each)
         way = "from there on" if is_each else "alone"
-        said = f"{self.wants.name}: request {number} of {self.requests}, {size} bytes, refused {way}"
+        said = f"{self.row.name}: request {number} of {self.requests}, {size} bytes, refused {way}"
         if refused == 0:
             return "other", f"{said}: was not made"
-        if answer == (4, b"", b"out of memory\n"):
+        if self.is_told(answer):
             return "told", ""
         if answer == self.right:
             return "hint", f"{said}: the whole answer all the same"
-        return "other", f"{said}: status {answer[0]}, output {answer[1][:80]!r}, errors {answer[2][:80]!r}"
+        return "other", f"{said}: status {answer[0]}, output {answer[1][-300:]!r}, errors {answer[2][:80]!r}"
+
+
+class Pair(Runs):
+    """A row as files, and the runs of the program on them."""
+
+    def __init__(self, program, shim, folder, row, words):
+        super().__init__(program, shim, folder, row, words)
+        texts = [unescaped(text) for text in row.values("document")[:1] + row.values("schema")]
+        self.words += [str(number) for number in range(len(texts))]
+        for number, text in enumerate(texts):
+            with open(os.path.join(folder, str(number)), "wb") as file:
+                file.write(text)
+
+    def is_told(self, answer):
+        """Whether the answer tells want of memory, and nothing is out."""
+        return answer == (4, b"", b"out of memory\n")
+
+    def is_right(self):
+        """Whether the program answers as the row wants where memory is ample."""
+        return self.right[:2] == self.row.wanted() and not self.right[2]
+
+
+class Series(Runs):
+    """A row of the call `series`, alone in a row file, and the runs of the program of rows on that."""
+
+    def __init__(self, program, shim, folder, row):
+        super().__init__(program, shim, folder, row, ["series.rows"])
+        own = {name for name, _ in row.own}
+        fields = [("row", row.name)] + [field for field in row.common if field[0] not in own] + row.own
+        with open(os.path.join(folder, "series.rows"), "w", encoding="utf-8") as file:
+            file.write("".join(f"{name}: {value}\n" if value else f"{name}:\n" for name, value in fields))
+        lines = re.split(rb"(?m)^(?=accepted\n|refused\n)", b"".join(unescaped(line) + b"\n" for line in row.values("line")))
+        self.statuses, self.parts = row.values("status")[0].split(", "), lines[1:]
+
+    def is_right(self):
+        """Whether the program tells of no difference where memory is ample."""
+        return self.right[0] == 0
+
+    def is_told(self, answer):
+        """Whether the row is not judged, or want of memory is the answer to one document alone, and each other answer is right."""
+        if answer[0] == 2:
+            return True
+        got = re.search(rb"(?m)^  got: (.*?) `(.*)`$", answer[1])
+        if answer[0] != 1 or not got:
+            return False
+        statuses, out = got.group(1).decode().split(", "), unescaped(got.group(2).decode())
+        if statuses == ["4 out of memory"]:
+            return out == b""
+        return len(statuses) == len(self.statuses) and self.follows(statuses, out, 0)
+
+    def follows(self, statuses, out, index):
+        """Whether the output goes on as these statuses say, from the answer of that index on."""
+        if index == len(statuses):
+            return out == b""
+        part = self.parts[index]
+        if statuses[index] == self.statuses[index]:
+            return out.startswith(part) and self.follows(statuses, out[len(part) :], index + 1)
+        first, *texts = part.splitlines(keepends=True)
+        cuts = [b"", first, *(first + text for text in texts)]
+        is_memory = statuses[index].endswith("4 out of memory")
+        return is_memory and any(out.startswith(cut) and self.follows(statuses, out[len(cut) :], index + 1) for cut in cuts)
 
 
 def numbers(requests, sample, offset):
@@ -204,12 +266,16 @@ def tries(pair, is_whole, sample, offset):
     return [(number, bool((number + offset) % 2)) for number in numbers(pair.requests, sample, offset)]
 
 
-def chosen(word):
-    """The rows to be tried, each with the options of its runs. Those without a text or a limit that the program can take are left out."""
-    for row in rows():
-        words = row.words()
-        if word in row.name and words is not None and row.values("document") and row.values("schema"):
-            yield row, words
+def chosen(program, shim, folder, word, is_states):
+    """The runs to be tried of each row. Rows without a text or a limit that the program can take are left out."""
+    for number, row in enumerate(rows()):
+        words, room = row.words(), os.path.join(folder, str(number))
+        if word not in row.name or words is None or not row.values("document") or not row.values("schema"):
+            continue
+        if not is_states:
+            yield Pair(program, shim, room, row, words)
+        elif row.values("call") == ["series"] and set(row.values("status")[0]) <= set("01, "):
+            yield Series(program, shim, room, row)
 
 
 def main():
@@ -217,10 +283,11 @@ def main():
     reader = argparse.ArgumentParser(description=__doc__, formatter_class=argparse.RawDescriptionHelpFormatter)
     reader.add_argument("--sample", type=int, default=12)
     reader.add_argument("--jobs", type=int, default=1)
-    reader.add_argument("program", nargs="?", default=PROGRAM)
+    reader.add_argument("--states", action="store_true")
+    reader.add_argument("program", nargs="?")
     reader.add_argument("word", nargs="?", default="")
     given = reader.parse_args()
-    program = os.path.abspath(given.program)
+    program = os.path.abspath(given.program or (ROW_PROGRAM if given.states else PROGRAM))
     if not os.access(program, os.X_OK):
         print(f"refused: {program} is not there; rt ci or rt run makes it")
         return 1
@@ -230,19 +297,23 @@ def main():
         with open(source, "w", encoding="utf-8") as file:
             file.write(SHIM)
         subprocess.run(["cc", "-O1", "-shared", "-fPIC", "-fno-builtin", "-o", shim, source], check=True)
-        for offset, (row, words) in enumerate(chosen(given.word)):
-            pair = Pair(program, shim, os.path.join(folder, str(offset)), row, words)
-            pair.begin()
-            is_whole = row.name in WHOLE and row.name not in whole
+        for offset, runs in enumerate(chosen(program, shim, folder, given.word, given.states)):
+            runs.begin()
+            name = runs.row.name
+            is_whole = name in WHOLE and name not in whole
             if is_whole:
-                whole.add(row.name)
-                if pair.right[:2] != row.wanted() or pair.right[2]:
-                    wrong.append(f"{row.name}: the answer is {pair.right!r}")
-            for kind, line in pool.map(lambda one: pair.refuse(*one), tries(pair, is_whole, given.sample, offset)):
+                whole.add(name)
+            if (is_whole or given.states) and not runs.is_right():
+                wrong.append(f"{name}: the answer is {runs.right!r}")
+            numbered = tries(runs, is_whole, given.sample, offset)
+            if given.states:
+                numbered = [(number, False) for number in numbers(runs.requests, 50 * given.sample, offset)]
+            for kind, line in pool.map(lambda one: runs.refuse(*one), numbered):
                 count[kind] += 1
                 if line:
                     print(line, flush=True)
-    wrong += [f"{name}: there is no such row" for name in WHOLE if given.word in name and name not in whole]
+    if not given.states:
+        wrong += [f"{name}: there is no such row" for name in WHOLE if given.word in name and name not in whole]
     for line in wrong:
         print(line)
     print(f"refused: {sum(count.values())} runs, {count['told']} told, {count['hint']} whole all the same, {count['other']} otherwise")

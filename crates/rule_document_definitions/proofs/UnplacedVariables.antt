@@ -88,6 +88,10 @@ module _ {P : Type 0} (n : List ℕ) where
 
 -- ---- rules
 
+-- whether it is an input type does not change with its places
+input_bared : (s : Judged) (t u : TypeTree (Unit {0})) → u ≡ t → Present (s.type_named (inner_name t).it) (λ l. is_input_kind l.kind ≡ true) ↔ Present (s.type_named (inner_name u).it) (λ l. is_input_kind l.kind ≡ true)
+input_bared s t u e = subst (λ v. Present (s.type_named (inner_name t).it) (λ l. is_input_kind l.kind ≡ true) ↔ Present (s.type_named (inner_name v).it) (λ l. is_input_kind l.kind ≡ true)) (sym e) same
+
 module _ {P E : Type 0} (places : Places P) (d : MeantDocument P) (o : MeantOperation P) where
   pub unique_variable_bared : Moved {E = E} (UniqueVariableAt o) (UniqueVariableAt (unplaced_operation o))
   unique_variable_bared = moves_repeats Bared bare_variable defined_name o.variables _ _ (λ i first j later. moves_wrong later.place _)
@@ -130,13 +134,10 @@ module _ {P E : Type 0} (places : Places P) (d : MeantDocument P) (o : MeantOper
         moves_index Bared bare_variable o.variables (map bare_variable o.variables) refl _ _ (λ i x.
         type_bared (defined_name x) x.place (unplaced_type x.it.ty.it) (unplaced_type (unplaced_type x.it.ty.it)) (type_twice x.it.ty.it))
 
-    input_bared : (t u : TypeTree (Unit {0})) → u ≡ t → Present (s.type_named (inner_name t).it) (λ l. is_input_kind l.kind ≡ true) ↔ Present (s.type_named (inner_name u).it) (λ l. is_input_kind l.kind ≡ true)
-    input_bared t u e = subst (λ v. Present (s.type_named (inner_name t).it) (λ l. is_input_kind l.kind ≡ true) ↔ Present (s.type_named (inner_name v).it) (λ l. is_input_kind l.kind ≡ true)) (sym e) same
-
     default_value_bared : Moved {E = E} (λ g. DefaultValueBreaks s o g places) (λ f. DefaultValueBreaks s (unplaced_operation o) f no_places)
     default_value_bared =
         moves_index Bared bare_variable o.variables (map bare_variable o.variables) refl _ _ (λ i x.
-        moves_where Bared (input_bared (unplaced_type x.it.ty.it) (unplaced_type (unplaced_type x.it.ty.it)) (type_twice x.it.ty.it))
+        moves_where Bared (input_bared s (unplaced_type x.it.ty.it) (unplaced_type (unplaced_type x.it.ty.it)) (type_twice x.it.ty.it))
         (moves_present Bared bare_value x.it.default_value (option_map bare_value x.it.default_value) refl _ _ (λ v.
         subst (λ t. Moved {E = E} (ValueBreaks places.at s [] (wanted_by x.it) v.place v.it) (ValueBreaks (λ a. tt) s [] (record { it = t; place = tt }) tt (unplaced_value v.it))) (sym (type_twice x.it.ty.it))
         (value_bared [] places.at s (wanted_by x.it) v.place v.it))))

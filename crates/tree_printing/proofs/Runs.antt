@@ -1,7 +1,11 @@
 -- A text that goes out in runs, and where the runs end.
-use Rattle.std.proofs.Common.{length-drop, get_or-drop, ◌≡◌, ℕ, zero, suc, ◌+◌, ◌<◌, List, [], ◌∷◌, ◌++◌, length, take, drop, get_or, true, false, codes, refl, sym, ap, ◌∙◌, subst, arith, add-one, append_assoc}
+use Rattle.std.proofs.Common.{length-drop, get_or-drop, ◌≡◌, ℕ, zero, suc, ◌+◌, ◌-◌, ◌<◌, ◌≤◌, Bool, ◌||◌, inl, inr, List, [], ◌∷◌, ◌++◌, length, take, drop, get_or, true, false, codes, refl, sym, ap, ◌∙◌, subst, arith, add-one, append_assoc}
 use Rattle.std.proofs.lemmas.Grind.{common_steps}
 use Rattle.std.proofs.lemmas.Str.{IsCharBoundary-after_ascii}
+use Rattle.std.proofs.lemmas.Bool.{cases_order}
+use Rattle.std.proofs.lemmas.List.{get_or-take, length-take-le}
+use Rattle.std.specs.Prelude.{slice_range}
+use Rattle.std.specs.List.{list_any}
 use Rattle.std.specs.Str.{IsUtf8, IsCharBoundary}
 use Rattle.tree_printing.specs.Joined.{joined, joined-push}
 use Rattle.tree_printing.specs.StringLayout.{escaped_byte, escaped_text, block_escaped, is_quotes}
@@ -105,3 +109,40 @@ pub quotes_boundary : (text : List ℕ) (i : ℕ) → IsUtf8 text → FirstQuote
 quotes_boundary text i u f =
     let third : i + 2 + 1 ≡ i + 3 = omega arith in
     subst (IsCharBoundary text) third (IsCharBoundary-after_ascii text (i + 2) u f.within (omega (arith, f.last)))
+
+-- ---- sixteen at a time
+
+none_at : (bytes : List ℕ) (k : ℕ) → list_any must_escape bytes ≡ false → k < length bytes → must_escape (get_or bytes k 0) ≡ false
+none_at [] k h below = absurd (omega arith)
+none_at (b ∷ bytes) k h below = go (must_escape b) refl h k below (λ j none less. none_at bytes j none less)
+  where
+    go : (t : Bool) → must_escape b ≡ t → t || list_any must_escape bytes ≡ false → (k : ℕ) → k < suc (length bytes)
+        → ((j : ℕ) → list_any must_escape bytes ≡ false → j < length bytes → must_escape (get_or bytes j 0) ≡ false) → must_escape (get_or (b ∷ bytes) k 0) ≡ false
+    go true e h k below more = absurd cc
+    go false e h zero below more = e
+    go false e h (suc k) below more = more k h (omega arith)
+
+-- where the first n bytes are plain, and the next sixteen, all these are
+pub sixteen_more : (bytes : List ℕ) (n : ℕ) → n + 16 ≤ length bytes → ((k : ℕ) → k < n → must_escape (get_or bytes k 0) ≡ false)
+    → list_any must_escape (slice_range bytes n (n + 16)) ≡ false → (k : ℕ) → k < n + 16 → must_escape (get_or bytes k 0) ≡ false
+sixteen_more bytes n within front next k below = elim (cases_order k n) [
+  | inl is ↦ behind (omega arith)
+  | inr h ↦ elim h [
+    | inl less ↦ front k less
+    | inr more ↦ behind (omega arith)
+  ]
+]
+  where
+    run : List ℕ
+    run = slice_range bytes n (n + 16)
+
+    behind : n ≤ k → must_escape (get_or bytes k 0) ≡ false
+    behind from =
+        let long : length (drop n bytes) ≡ length bytes - n = length-drop n bytes in
+        let room : (n + 16) - n ≤ length (drop n bytes) = omega arith in
+        let size : length run ≡ (n + 16) - n = length-take-le ((n + 16) - n) (drop n bytes) room in
+        let at : n + (k - n) ≡ k = omega arith in
+        let inside : k - n < (n + 16) - n = omega arith in
+        let same : get_or run (k - n) 0 ≡ get_or bytes k 0 = get_or-take ((n + 16) - n) (drop n bytes) (k - n) 0 inside ∙ get_or-drop n bytes (k - n) 0 ∙ ap (λ (i : ℕ). get_or bytes i 0) at in
+        let within_run : k - n < length run = omega arith in
+        ap must_escape (sym same) ∙ none_at run (k - n) next within_run

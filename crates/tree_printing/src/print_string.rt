@@ -2,7 +2,7 @@
 ghost use Rattle.std.specs.Prelude.{◌≡◌, ◌∷◌, ◌<◌, ◌≤◌, ◌+◌, codes, ℕ, List, [], length, slice_index, true, false, take, drop, IsTrue, IfSome, MatchOption, Bool, map};
 ghost use Rattle.std.specs.Fmt.{digit_glyph};
 ghost use Rattle.std.specs.Option.{option_copied};
-ghost use Rattle.std.specs.List.{position_or_len};
+ghost use Rattle.std.specs.List.{position_or_len, list_any};
 ghost use Rattle.tree_printing.specs.Joined.{joined};
 ghost use Rattle.tree_printing.specs.StringLayout.{control_text, escaped_byte, escaped_text, quoted_text};
 ghost use Rattle.tree_printing.specs.EscapeRuns.{must_escape, FirstEscape};
@@ -12,7 +12,7 @@ use crate::sink::Sink;
 fn must_escape(byte: u8) -> bool
     ensures { result ≡ must_escape byte }
 {
-    byte < 32 || byte == b'"' || byte == b'\\' || byte == 127
+    (byte < 32) | (byte == b'"') | (byte == b'\\') | (byte == 127)
 }
 
 fn hex_digit(n: u8) -> &'static str
@@ -63,12 +63,39 @@ fn put_escape<S: Sink>(sink: &mut S, byte: u8)
     }
 }
 
+/// Whether one of the bytes is escaped. All are looked at, so that the compiler can take many at a time.
+#[inline(always)]
+fn some_escape(bytes: &[u8]) -> bool
+    ensures { result ≡ list_any must_escape bytes.now }
+{
+    let mut found = false;
+    for byte in bytes {
+        found = found | must_escape(*byte);
+    }
+    found
+}
+
+/// How many bytes at the front are sixteens without one that is escaped.
+fn plain_front(bytes: &[u8]) -> usize
+    ensures within { result ≤ length bytes.now }
+    ensures plain { (k : ℕ) → k < result → must_escape (slice_index bytes.now k) ≡ false }
+{
+    let mut front = 0;
+    'sixteens: while 16 <= bytes.len() - front {
+        if some_escape(&bytes[front..front + 16]) {
+            return front;
+        }
+        front += 16;
+    }
+    front
+}
+
 /// Where the first byte stands that is escaped.
 fn first_escape(bytes: &[u8]) -> Option<usize>
     ensures { MatchOption result (escaped_text bytes.now ≡ bytes.now) (λ i. FirstEscape bytes.now i) }
 {
-    for (i, byte) in bytes.iter().enumerate() {
-        if must_escape(*byte) {
+    for i in plain_front(bytes)..bytes.len() {
+        if must_escape(bytes[i]) {
             return Some(i);
         }
     }
