@@ -47,7 +47,7 @@ field_schema = schema_at_hand terms (query_field_tree ∷ [])
 
 -- ---- every rule of typing holds
 
-typed : TypingRules (meanings_found field_schema) just_field_tree
+pub typed : TypingRules (meanings_found field_schema) just_field_tree
 unfolding built_in_definitions
 typed fault fails = not_in_nil fault ((document-fails (meanings_found field_schema) just_field_tree fault).1 fails)
 
@@ -213,7 +213,7 @@ valid_found : DocumentRules found (unplaced_document (kept_document (meanings_fo
 unfolding built_in_definitions
 valid_found = (rules_hold, merges)
 
-valid : IsValidDocument field_schema (document_over field_schema just_field_tree)
+pub valid : IsValidDocument field_schema (document_over field_schema just_field_tree)
 valid =
     subst (λ m. IsValidDocument field_schema (kept_document m just_field_tree)) (same_meanings field_schema)
     (subst (λ j. DocumentRules j (unplaced_document (kept_document (meanings_found field_schema) just_field_tree)) × Merging j (unplaced_document (kept_document (meanings_found field_schema) just_field_tree))) (same_judged field_schema) valid_found)
@@ -226,7 +226,7 @@ just_field_judged = record {
   holds = valid;
 }
 
-just_field_within : IsWithin 500 2 just_field
+pub just_field_within : IsWithin 500 2 just_field
 unfolding reader
 just_field_within = is_within 500 2 just_field just_field_tree refl (λ passed. omega (arith, passed))
 
