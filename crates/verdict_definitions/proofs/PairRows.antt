@@ -18,7 +18,7 @@ schema_accepted = record {
   numbered = query_numbered;
 }
 
-pub pair_accepted : IsAccepted terms (query_field ∷ []) just_field
+abbrev pub pair_accepted : IsAccepted terms (query_field ∷ []) just_field
 pair_accepted = record { schema = schema_accepted; over = just_field_accepted }
 
 -- and it is for sure: no bound is passed
