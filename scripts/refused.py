@@ -9,12 +9,12 @@ row with several documents or limits the first that the program's words can name
 
 Each run is to end with status 4, `out of memory` and nothing out. A run may give the whole right answer all the same, where what was
 refused was a hint alone, such as a number of places asked for beforehand: a line tells which request that was and of how many bytes.
-Every other run is printed. The last line has the counts, and the status is 1 where a run was otherwise, or where a row of WHOLE
-is not there or is not answered as it wants.
+Every other run is printed. The last line has the counts, and the status is 1 where a run was otherwise, where a row of WHOLE is not
+there or is not answered as it wants, and where no request is seen: an unproved build (`rt try`) brings an allocator of its own.
 
 With --states PROGRAM is that of `row_checker`, and its rows of the call `series` are run: one schema answers several documents, and
-the first of them twice. Each request, or 50 times N of them, is refused alone, so that memory is there again behind it. Either the row is not judged,
-or one answer is want of memory and each other one is right, those of the same schema behind it among them."""
+the first of them twice. Each request, or 50 times N of them, is refused alone, so that memory is there again behind it. Either the row
+is not judged, or one answer is want of memory and each other one is right, those of the same schema behind it among them."""
 
 import argparse
 import concurrent.futures

@@ -41,9 +41,10 @@ letter location.Enum = 15
 letter location.EnumValue = 16
 letter location.InputObject = 17
 letter location.InputFieldDefinition = 18
+letter location.DirectiveDefinition = 19
 
 abbrev all : List DirectiveLocation
-all = location.Query ∷ location.Mutation ∷ location.Subscription ∷ location.Field ∷ location.FragmentDefinition ∷ location.FragmentSpread ∷ location.InlineFragment ∷ location.VariableDefinition ∷ location.Schema ∷ location.Scalar ∷ location.Object ∷ location.FieldDefinition ∷ location.ArgumentDefinition ∷ location.Interface ∷ location.Union ∷ location.Enum ∷ location.EnumValue ∷ location.InputObject ∷ location.InputFieldDefinition ∷ []
+all = location.Query ∷ location.Mutation ∷ location.Subscription ∷ location.Field ∷ location.FragmentDefinition ∷ location.FragmentSpread ∷ location.InlineFragment ∷ location.VariableDefinition ∷ location.Schema ∷ location.Scalar ∷ location.Object ∷ location.FieldDefinition ∷ location.ArgumentDefinition ∷ location.Interface ∷ location.Union ∷ location.Enum ∷ location.EnumValue ∷ location.InputObject ∷ location.InputFieldDefinition ∷ location.DirectiveDefinition ∷ []
 
 at_letter : (a : DirectiveLocation) → slice_get all (letter a) ≡ Some a
 at_letter location.Query = refl
@@ -65,6 +66,7 @@ at_letter location.Enum = refl
 at_letter location.EnumValue = refl
 at_letter location.InputObject = refl
 at_letter location.InputFieldDefinition = refl
+at_letter location.DirectiveDefinition = refl
 
 location_or_not : (a b : DirectiveLocation) → Decided (a ≡ b)
 location_or_not a b = along

@@ -38,7 +38,7 @@ merges = pair_yes.over.merges
 -- ---- no yes
 
 unused_has_none : IsYes terms (query_field ∷ []) unused → ⊥
-unused_has_none yes = unused_refused ((accepted_by_the_book terms (query_field ∷ []) unused).1 yes)
+unused_has_none accepted = unused_refused ((accepted_by_the_book terms (query_field ∷ []) unused).1 accepted)
 
 conflict_has_none : IsYes terms (a_and_b ∷ []) conflict → ⊥
-conflict_has_none yes = conflict_refused ((accepted_by_the_book terms (a_and_b ∷ []) conflict).1 yes)
+conflict_has_none accepted = conflict_refused ((accepted_by_the_book terms (a_and_b ∷ []) conflict).1 accepted)

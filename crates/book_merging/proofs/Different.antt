@@ -37,8 +37,8 @@ module _ (s : Judged) (d : Document) where
       let here = can name f g in_f in_g in
       (fewer_shapes n f g here.0, λ parents. let h = here.1 parents in (h.0, (h.1.0, fewer_sets n (merged_set f g) h.1.1)))
 
-  pub any_set : (o : Operation) → CanMerge s d (own o) → AnySetCanMerge s d (own o)
-  any_set o can set reached n = fewer_sets n set (every_set s d o can set reached n)
+  pub any_set : (o : Operation) → DoItsFieldsMerge s d o → AnySetCanMerge s d o
+  any_set o all set reached n = fewer_sets n set (all set reached n)
 
 -- ---- positions are the same or not
 
@@ -100,7 +100,7 @@ same_or_not (SelectionAt h i) (InFragment b) = apart _ _ refl
 
 -- ---- back: two chains are in one set where they part, and again where they have come together
 
-module _ (s : Judged) (d : Document) (o : Operation) (any : AnySetCanMerge s d (own o)) (typed : FieldsAreTyped s d o) (named : FragmentsFoundByName d) where
+module _ (s : Judged) (d : Document) (o : Operation) (any : AnySetCanMerge s d o) (typed : FieldsAreTyped s d o) (named : FragmentsFoundByName d) where
   -- the same field, or two of which this holds
   abbrev SameOr : (Field → Field → Type 0) → Field → Field → Type 0
   SameOr Holds f g = (IsReachedField d o f × IsReachedField d o g) × ((f ≡ g) ⊎ Holds f g)

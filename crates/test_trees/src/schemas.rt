@@ -68,19 +68,7 @@ fn count_by_kind(alloc: Global, ty: &ExtendedType) -> Result<usize, AllocError> 
     Ok(extensions?.len())
 }
 
-/// Whether the copy of what is of its kind equals that.
-fn kind_is_copied(ty: &ExtendedType) -> bool {
-    match ty {
-        ExtendedType::Scalar(ty) => is_copied(ty.content()),
-        ExtendedType::Object(ty) => is_copied(ty.content()),
-        ExtendedType::Interface(ty) => is_copied(ty.content()),
-        ExtendedType::Union(ty) => is_copied(ty.content()),
-        ExtendedType::Enum(ty) => is_copied(ty.content()),
-        ExtendedType::InputObject(ty) => is_copied(ty.content()),
-    }
-}
-
-/// So many extensions gave a component to the type, and its copies equal it.
+/// So many extensions gave a component to the type, and its copy equals it.
 fn is_extended(rt: &impl Abort, alloc: Global, ty: &ExtendedType, count: usize) {
     let by_type = got(rt, ty.extensions(alloc)).len();
     let by_kind = got(rt, count_by_kind(alloc, ty));
@@ -89,11 +77,7 @@ fn is_extended(rt: &impl Abort, alloc: Global, ty: &ExtendedType, count: usize) 
         (by_type == count) & (by_kind == count),
         "its extensions",
     );
-    hold(
-        rt,
-        is_copied(ty) & kind_is_copied(ty),
-        "the copies of a type",
-    );
+    hold(rt, is_copied(ty), "the copy of a type");
 }
 
 /// Each type that is not built in is extended once.

@@ -34,6 +34,7 @@ use Rattle.rule_document_definitions.specs.Told.{IsValidDocument}
 use Rattle.rule_document_definitions.proofs.Levels.{reached_in}
 use Rattle.rule_document_definitions.proofs.MergingFacts.{IsReachedField, closed_within, merge_if_all_agree}
 use Rattle.rule_document_definitions.proofs.RowWords.{of_present, not_present, not_at_index, none_repeats, none_reached, no_fragment, of_each}
+use Rattle.verdict_definitions.specs.Texts.{IsWithin}
 use Rattle.verdict_definitions.specs.Meaning.{schema_at_hand, document_over}
 use Rattle.verdict_definitions.specs.Judge.{JudgeDocument, IsDocumentAccepted, PassesNoDocumentBound}
 use Rattle.verdict_definitions.proofs.RowReading.{reader, is_within}
@@ -46,7 +47,7 @@ field_schema = schema_at_hand terms (query_field_tree ∷ [])
 
 -- ---- every rule of typing holds
 
-typed : TypingRules (meanings_found field_schema) just_field_tree
+pub typed : TypingRules (meanings_found field_schema) just_field_tree
 unfolding built_in_definitions
 typed fault fails = not_in_nil fault ((document-fails (meanings_found field_schema) just_field_tree fault).1 fails)
 
@@ -212,12 +213,12 @@ valid_found : DocumentRules found (unplaced_document (kept_document (meanings_fo
 unfolding built_in_definitions
 valid_found = (rules_hold, merges)
 
-valid : IsValidDocument field_schema (document_over field_schema just_field_tree)
+pub valid : IsValidDocument field_schema (document_over field_schema just_field_tree)
 valid =
     subst (λ m. IsValidDocument field_schema (kept_document m just_field_tree)) (same_meanings field_schema)
     (subst (λ j. DocumentRules j (unplaced_document (kept_document (meanings_found field_schema) just_field_tree)) × Merging j (unplaced_document (kept_document (meanings_found field_schema) just_field_tree))) (same_judged field_schema) valid_found)
 
-pub just_field_judged : JudgeDocument field_schema 2 just_field
+abbrev pub just_field_judged : JudgeDocument field_schema 2 just_field
 just_field_judged = record {
   tree = just_field_tree;
   read = just_field_reads;
@@ -225,6 +226,9 @@ just_field_judged = record {
   holds = valid;
 }
 
-pub just_field_accepted : IsDocumentAccepted field_schema 500 2 just_field
+pub just_field_within : IsWithin 500 2 just_field
 unfolding reader
-just_field_accepted = record { judged = just_field_judged; within = is_within 500 2 just_field just_field_tree refl (λ passed. omega (arith, passed)) }
+just_field_within = is_within 500 2 just_field just_field_tree refl (λ passed. omega (arith, passed))
+
+abbrev pub just_field_accepted : IsDocumentAccepted field_schema 500 2 just_field
+just_field_accepted = record { judged = just_field_judged; within = just_field_within }

@@ -10,6 +10,7 @@ pub mod UnreadRows
 pub mod VerdictRows
 pub mod RefusedRows
 pub mod RecursionRows
+pub mod BoundRows
 pub mod DocumentRows
 pub mod BytesRows
 pub mod AcceptedRows

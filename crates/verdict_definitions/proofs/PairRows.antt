@@ -7,7 +7,7 @@ use Rattle.verdict_definitions.specs.Judge.{AreSchemasAccepted, IsAccepted, IsCe
 use Rattle.verdict_definitions.specs.Answer.{Answer}
 use Rattle.verdict_definitions.proofs.RowTrees.{terms}
 use Rattle.verdict_definitions.proofs.TextRows.{query_field, query_field_tree, query_field_reads, just_field, just_field_tree, just_field_reads}
-use Rattle.verdict_definitions.proofs.AcceptedRows.{just_field_accepted, just_field_nests}
+use Rattle.verdict_definitions.proofs.AcceptedRows.{just_field_judged, just_field_accepted, just_field_nests}
 use Rattle.verdict_definitions.proofs.FoldsRows.{query_folds, query_within, query_numbered}
 use Rattle.verdict_definitions.proofs.SchemaRows.{rules_hold, references_within}
 
@@ -18,11 +18,12 @@ schema_accepted = record {
   numbered = query_numbered;
 }
 
-pub pair_accepted : IsAccepted terms (query_field ∷ []) just_field
+abbrev pub pair_accepted : IsAccepted terms (query_field ∷ []) just_field
 pair_accepted = record { schema = schema_accepted; over = just_field_accepted }
 
 -- and it is for sure: no bound is passed
 pub pair_certain : IsCertain terms (query_field ∷ []) just_field
+unfolding pair_accepted just_field_accepted just_field_judged
 pair_certain = record { accepted = pair_accepted; references = references_within; nests = just_field_nests }
 
 pair_bytes : Answer terms None (query_field ∷ []) just_field (codes "accepted\ntype Query { field: Int }\n{ field }\n")
