@@ -15,7 +15,9 @@ use Rattle.rule_document_definitions.proofs.MergingFacts.{merging_breaks_nothing
 use Rattle.rule_document_definitions.proofs.Stable.{merge_if_nothing_breaks}
 use Rattle.rule_document_definitions.proofs.Unplaced.{contains_unmap}
 use Rattle.rule_merging.specs.Examined.{Breaches}
-use Rattle.rule_merging.specs.Verdict.{ExaminesOperation}
+use Rattle.rule_merging_laws.specs.Contents.{PlainStarts, AreShapesStanding}
+use Rattle.rule_merging_laws.specs.Settled.{StandIn, StartsStand}
+use Rattle.rule_merging.specs.Verdict.{lists_examined, ExaminesOperation}
 use Rattle.rule_merging.specs.declared.operation.Examined.{Examined}
 use Rattle.rule_field_groups.specs.in_ground.Broken.{brokens_of}
 use Rattle.graphql_faults.specs.DetailsTree.{of_document, Telling}
@@ -78,8 +80,13 @@ module _ (s : Judged) (d : MeantDocument Place) (o : MeantOperation Place) (old 
   pub still_settled : (was stays : Bool) → (IsTrue stays ↔ (IsTrue was × ((brokens_of told ≡ []) × (left ≡ false)))) → ∥ AreSettledIf s d was old ∥₁ → ∥ AreSettledIf s d stays new ∥₁
   still_settled was stays tests settled = ∥∥₁_map settled (λ h is. let k = tests.0 is in (examined.1.1.settled (sym is_added ∙ k.1.0) k.1.1 (h k.0)).0)
 
+  -- where nothing is told, what was examined for shapes is settled, and has what the operation starts with
+  pub settled_closed : (was : Bool) → ∥ AreSettledIf s d was old ∥₁ → IsTrue was → (brokens_of told ≡ []) × (left ≡ false)
+      → ∥ AreShapesStanding d s (StandIn (lists_examined new)) × StartsStand (PlainStarts d o) (StandIn (lists_examined new)) ∥₁
+  settled_closed was settled clean none = ∥∥₁_map settled (λ h. let r = examined.1.1.settled (sym is_added ∙ none.0) none.1 (h clean) in (r.0.0.fields, r.1.0.0))
+
   -- and where nothing is told the fields merge: no rule can fail
   pub settled_merges : (was : Bool) → ∥ AreSettledIf s d was old ∥₁ → IsTrue was → (brokens_of told ≡ []) × (left ≡ false) → FieldsMerge s d o
   settled_merges was settled clean none =
       merge_if_nothing_breaks s d o (λ fault breaks. ∥∥₁_elim settled none_twice
-      (λ h. merging_breaks_nothing s d o (examined.1.1.settled (sym is_added ∙ none.0) none.1 (h clean)).1 fault breaks))
+      (λ h. merging_breaks_nothing s d o (examined.1.1.settled (sym is_added ∙ none.0) none.1 (h clean)).1.1 fault breaks))

@@ -276,7 +276,7 @@ module _ (pass : Pass) (s : Judged) (d : MeantDocument Place) where
     fresh_fields left f g in_f in_g = (
       λ t.
           let shared = h.are.covered f g in_f in_g (together_up pass s f g t) in
-          agree_down pass s f g (by_head (PlainBelow d) (Together pass s) (Agree pass s) (agree_sym pass s) (agree_trans pass s) shared.0 f g (h.examined.agree refl shared.0 shared.1.0) shared.1.1.0 shared.1.1.1),
+          agree_down pass s f g (by_head (ContentBelow d) (Together pass s) (Agree pass s) (agree_sym pass s) (agree_trans pass s) shared.0 f g (h.examined.agree refl shared.0 shared.1.0) shared.1.1.0 shared.1.1.1),
       λ t x y a b.
           let shared = h.are.covered f g in_f in_g (together_up pass s f g t) in
           inr (below_both left f g (h.examined.below shared.0 shared.1.0 f g shared.1.1.0 shared.1.1.1) x y a b),

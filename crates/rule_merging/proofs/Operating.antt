@@ -42,7 +42,7 @@ module _ (s : Judged) (d : MeantDocument Place) (o : MeantOperation Place) (old 
     settled = λ e none both.
         let a = first.settled (left_empty one two e) (left_false left too none) both.0 in
         let b = later.settled (right_empty one two e) (right_false left too none) both.1 in
-        ((a.0, b.0), standing_fields_merge s d o (remembered new.shapes) (remembered new.selections) a.0.fields a.1 b.0.fields b.1);
+        ((a.0, b.0), ((a.1, b.1), standing_fields_merge s d o (remembered new.shapes) (remembered new.selections) a.0.fields a.1 b.0.fields b.1));
     bound = λ is. elim (one_true left too is) [ inl a ↦ first.bound a | inr b ↦ later.bound b ];
   }
 

@@ -45,7 +45,7 @@ pub remembers : (old new : List (Vec FieldSelection Global)) (list : Vec FieldSe
     → Remembers (record { lists = map contents_in old; expanded = looked }) (contents_of list.items) is_new (record { lists = map contents_in new; expanded = looked })
 remembers old new list is_new looked e is = by (list_any (list_eq list) old) refl is_new e
   where
-    abbrev kept : List (List PlainField) → Kept
+    kept : List (List PlainField) → Kept
     kept l = record { lists = l; expanded = looked }
 
     by : (b : Bool) → list_any (list_eq list) old ≡ b → (r : Bool) → r ≡ not b → Remembers (kept (map contents_in old)) (contents_of list.items) r (kept (map contents_in new))
@@ -90,7 +90,7 @@ pub expands : (old new : List (Vec SelectedSet Global)) (sets : Vec SelectedSet 
     → Expands (record { lists = lists; expanded = sets_in_keys old }) (plain_sets (meant_sets sets.items)) is_new (record { lists = lists; expanded = sets_in_keys new })
 expands old new sets is_new lists e is = by (list_any (sets_eq sets) old) refl is_new e
   where
-    abbrev kept : List (List PlainSet) → Kept
+    kept : List (List PlainSet) → Kept
     kept l = record { lists = lists; expanded = l }
 
     by : (b : Bool) → list_any (sets_eq sets) old ≡ b → (r : Bool) → r ≡ not b → Expands (kept (sets_in_keys old)) (plain_sets (meant_sets sets.items)) r (kept (sets_in_keys new))

@@ -7,7 +7,8 @@ use Rattle.document_typing.specs.DocumentView.{document_meant}
 use Rattle.rule_definitions.specs.Judged.{Judged, judged}
 use Rattle.rule_document_definitions.specs.Merging.{FieldsMerge}
 use Rattle.rule_document_definitions.specs.Selected.{operations}
-use Rattle.rule_merging_laws.specs.Contents.{PlainField}
+use Rattle.rule_merging_laws.specs.Contents.{PlainField, PlainStarts, AreShapesStanding}
+use Rattle.rule_merging_laws.specs.Settled.{StandIn, StartsStand}
 use Rattle.rule_merging.specs.Counted.{IsCountedBy}
 use Rattle.rule_merging.specs.Verdict.{lists_examined, comparisons_of}
 use Rattle.graphql_faults.specs.DetailsTree.{Telling}
@@ -44,6 +45,13 @@ MergerTold m o old new = MergingTold m.schema m.document o old new
 -- where a clean value tells nothing of the operation, its fields merge
 abbrev pub SilenceMeansMerging : Merger → MeantOperation Place → Telling → Telling → Type 0
 SilenceMeansMerging m o old new = IsTrue m.is_clean → new ≡ old → FieldsMerge m.schema m.document o
+
+-- where a clean value tells nothing of the operation, the lists that it keeps are closed: fields that stand together in one of them and
+-- have one key have one shape, and what lies below the one stands with what lies below the other; and they have what the operation
+-- starts with
+abbrev pub KeepsClosed : Merger → Merger → MeantOperation Place → Telling → Telling → Type 0
+KeepsClosed before after o old new = IsTrue before.is_clean → new ≡ old
+    → ∥ AreShapesStanding before.document before.schema (StandIn after.lists) × StartsStand (PlainStarts before.document o) (StandIn after.lists) ∥₁
 
 -- the value is clean after the call exactly where it was before and nothing is told
 abbrev pub StaysCleanInSilence : Merger → Merger → Telling → Telling → Type 0

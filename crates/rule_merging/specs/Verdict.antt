@@ -7,7 +7,8 @@ use Rattle.rule_document_definitions.specs.DocumentFaults.{Broken}
 use Rattle.rule_document_definitions.specs.Merging.{FieldsMerge, MergingBreaks}
 use Rattle.rule_document_definitions.specs.Limits.{PassesChainBound}
 use Rattle.rule_field_groups.specs.in_ground.Broken.{brokens_of}
-use Rattle.rule_merging_laws.specs.Contents.{PlainField}
+use Rattle.rule_merging_laws.specs.Contents.{PlainField, PlainStarts}
+use Rattle.rule_merging_laws.specs.Settled.{StandIn, StartsStand}
 use Rattle.rule_merging.specs.Counted.{IsCountedBy}
 use Rattle.rule_merging.specs.Remembered.{remembered, kept_of}
 use Rattle.rule_merging.specs.Examined.{Breaches, AreSettled}
@@ -19,10 +20,14 @@ module _ (s : Judged) (d : MeantDocument Place) where
   abbrev pub AreBothSettled : Examined → Type 0
   AreBothSettled e = AreSettled d Shapes s (kept_of e.shapes) × AreSettled d Selections s (kept_of e.selections)
 
-  -- what is told is true; where nothing is told and nothing is left, what is settled stays so, and the fields of the operation merge
+  -- whatever the operation starts with stands together in lists that were examined, in both passes
+  abbrev pub StartsBothStand : MeantOperation Place → Examined → Type 0
+  StartsBothStand o e = StartsStand (PlainStarts d o) (StandIn (remembered e.shapes)) × StartsStand (PlainStarts d o) (StandIn (remembered e.selections))
+
+  -- what is told is true; where nothing is told and nothing is left, what is settled stays so, what the operation starts with stands there, and its fields merge
   pub record OperationExamined (o : MeantOperation Place) (old new : Examined) (added : List (Broken Place)) (left : Bool) : Type 0 where
     pub right : (fault : Broken Place) → Contains added fault → MergingBreaks s d o fault
-    pub settled : added ≡ [] → left ≡ false → AreBothSettled old → AreBothSettled new × FieldsMerge s d o
+    pub settled : added ≡ [] → left ≡ false → AreBothSettled old → AreBothSettled new × (StartsBothStand o new × FieldsMerge s d o)
     pub bound : left ≡ true → PassesChainBound d o
 
   abbrev pub ExaminesOperation : MeantOperation Place → Examined → Examined → Breaches → Breaches → Bool → Type 0

@@ -1,5 +1,5 @@
 //! The examination of an operation, in both passes.
-ghost use Rattle.std.specs.Prelude.{◌≡◌, Contains, IfOk};
+ghost use Rattle.std.specs.Prelude.{◌≡◌, Contains, IfOk, []};
 ghost use Rattle.document_typing.specs.in_schema.SchemaOf.{schema_tree};
 ghost use Rattle.rule_definitions.specs.Judged.{judged};
 ghost use Rattle.graphql_names.specs.Placed.{Place};
@@ -7,7 +7,7 @@ ghost use Rattle.document_meaning.specs.MeantTree.{MeantDocument};
 ghost use Rattle.document_typing.specs.DocumentView.{document_meant, operation_meant};
 ghost use Rattle.rule_definitions.specs.Judged.{Judged};
 ghost use Rattle.rule_document_definitions.specs.Selected.{operations};
-ghost use Rattle.rule_merging.specs.Verdict.{comparisons_of, AreBothSettled, IsCounted, ExaminesOperation};
+ghost use Rattle.rule_merging.specs.Verdict.{comparisons_of, lists_examined, AreBothSettled, IsCounted, ExaminesOperation};
 
 use crate::examination::Examination;
 use crate::remembered::Remembered;
@@ -31,6 +31,7 @@ impl<'doc> Examined<'doc> {
         ensures settled { (s : Judged) → (d : MeantDocument Place) → AreBothSettled s d result }
         ensures counted { (d : MeantDocument Place) → IsCounted d result }
         ensures none { comparisons_of result ≡ 0 }
+        ensures lists { lists_examined result ≡ [] }
     {
         Examined {
             shapes: Remembered::new(alloc),

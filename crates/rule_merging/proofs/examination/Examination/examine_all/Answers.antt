@@ -1,4 +1,4 @@
-use Rattle.std.proofs.Common.{◌≡◌, ◌≤◌, ◌∙◌, List, Bool, true, false, not, Vec, Contains, true≢false, [], ◌∷◌, ◌++◌, map, sym, ap, subst, refl, append-nil, arith}
+use Rattle.std.proofs.Common.{◌≡◌, ◌≤◌, ◌∙◌, List, Vec, Contains, [], ◌∷◌, ◌++◌, map, sym, ap, subst, refl, append-nil, arith}
 use Rattle.std.proofs.lemmas.Result.{IfOk-weaker}
 use Rattle.std.specs.declared.alloc.Global.{Global}
 use Rattle.rule_field_groups.specs.declared.below.SelectedSet.{SelectedSet}
@@ -22,10 +22,6 @@ as_sets (v ∷ level) = ap (λ l. sets_at v ∷ l) (as_sets level)
 
 level_sets : (e : Examination) (level : List (Vec SelectedSet Global)) → AreListed (document_of e) (all_sets (map items_in level)) → AreListed (document_of e) (map sets_at level)
 level_sets e level listed = subst (AreListed (document_of e)) (sym (as_sets level)) listed
-
-not_false : (b : Bool) → not b ≡ false → b ≡ true
-not_false true e = refl
-not_false false e = cc
 
 pub returns-in_err-level-clause-counted : goal.returns-in_err-level-clause-counted
 returns-in_err-level-clause-counted c = λ listed. grows_not (document_of c.args.self.now) c.args.self.now.pass (remembered c.args.examined.now) c.args.comparisons.now
@@ -86,7 +82,7 @@ returns-clause-examined c =
     let level = c.loop-length.level in
     let long : (sets : Sets) → Contains (sets_in level) sets → chain_bound ≤ c.loop-length.length = λ sets there. elim c.loop-length-test.branch [
       | then-loop-length-test+else-not-is_empty w ↦
-          not_in_nil sets (subst (λ l. Contains l sets) (ap (map sets_at) (emptied level.items level.len level.ok.0 (sym w.is_empty.ensures ∙ not_false w.is_empty.result w.if-not-is_empty.false))) (subst (λ l. Contains l sets) (sym (as_sets level.items)) there))
+          not_in_nil sets (subst (λ l. Contains l sets) (ap (map sets_at) (emptied level.items level.len level.ok.0 (sym w.is_empty.ensures ∙ w.if-not-is_empty.false))) (subst (λ l. Contains l sets) (sym (as_sets level.items)) there))
       | else-loop-length-test w ↦ omega (arith, w.loop-length-test.false)
     ] in
     IfOk-weaker c.have_fields.result _ _

@@ -8,3 +8,6 @@ invariant_of-result c = record { settled = ∣ (λ is. c.new.ensures.settled (ju
 
 pub returns-clause-counted : goal.returns-clause-counted
 returns-clause-counted c = c.new.ensures.counted (document_meant c.args.document.now)
+
+pub returns-clause-none : goal.returns-clause-none
+returns-clause-none c = c.new.ensures.lists

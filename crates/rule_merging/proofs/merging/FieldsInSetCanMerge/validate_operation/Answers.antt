@@ -5,7 +5,7 @@ use Rattle.rule_definitions.specs.Judged.{judged}
 use Rattle.document_typing.specs.in_schema.SchemaOf.{schema_tree}
 use Rattle.document_typing.specs.DocumentView.{document_meant, operation_meant}
 use Rattle.rule_merging.specs.Merged.{conflicts_told}
-use Rattle.rule_merging.proofs.Conflicts.{conflicts_right, only_no_conflicts, stays_exactly, still_settled, settled_merges}
+use Rattle.rule_merging.proofs.Conflicts.{conflicts_right, only_no_conflicts, stays_exactly, still_settled, settled_closed, settled_merges}
 use Rattle.rule_merging.proofs.Behind.{nothing_told, begins_same, refused_so}
 use Rattle.rule_merging.proofs.merging.FieldsInSetCanMerge.validate_operation.Goals as goal
 
@@ -44,6 +44,16 @@ returns-clause-merged c clean same =
     let o = operation_meant c.args.operation.now in
     let bs = brokens_of c.examine_operation.new.breaches in
     settled_merges (judged (schema_tree m.schema.now)) (document_meant m.document.now) o m.examined c.examine_operation.new.examined
+    c.new-breaches.result c.examine_operation.new.breaches c.in_ok-left.left (ap (map broken_of) c.new-breaches.ensures.items) c.in_ok-left.ensures.examined
+    m.is_clean m.settled clean
+    (only_no_conflicts bs o.place c.in_ok-left.left (nothing_told (diagnostics_of c.args.list.now) (diagnostics_of c.append_conflicts.new.list) (conflicts_told bs o.place c.in_ok-left.left) c.in_ok-append_conflicts.ensures.added same))
+
+pub returns-clause-closed : goal.returns-clause-closed
+returns-clause-closed c clean same =
+    let m = c.args.self.now in
+    let o = operation_meant c.args.operation.now in
+    let bs = brokens_of c.examine_operation.new.breaches in
+    settled_closed (judged (schema_tree m.schema.now)) (document_meant m.document.now) o m.examined c.examine_operation.new.examined
     c.new-breaches.result c.examine_operation.new.breaches c.in_ok-left.left (ap (map broken_of) c.new-breaches.ensures.items) c.in_ok-left.ensures.examined
     m.is_clean m.settled clean
     (only_no_conflicts bs o.place c.in_ok-left.left (nothing_told (diagnostics_of c.args.list.now) (diagnostics_of c.append_conflicts.new.list) (conflicts_told bs o.place c.in_ok-left.left) c.in_ok-append_conflicts.ensures.added same))
