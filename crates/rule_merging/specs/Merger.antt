@@ -12,6 +12,8 @@ use Rattle.rule_merging_laws.specs.Settled.{StandIn, StartsStand}
 use Rattle.rule_merging.specs.Counted.{IsCountedBy}
 use Rattle.rule_merging.specs.Verdict.{lists_examined, comparisons_of}
 use Rattle.graphql_faults.specs.DetailsTree.{Telling}
+use Rattle.graphql_faults.specs.DetailsView.{diagnostics_of}
+use Rattle.graphql_faults.specs.declared.diagnostic_list.DiagnosticList.{DiagnosticList}
 use Rattle.rule_merging.specs.Merged.{MergingTold}
 use Rattle.rule_merging.specs.declared.merging.FieldsInSetCanMerge.{FieldsInSetCanMerge}
 
@@ -49,9 +51,13 @@ SilenceMeansMerging m o old new = IsTrue m.is_clean → new ≡ old → FieldsMe
 -- where a clean value tells nothing of the operation, the lists that it keeps are closed: fields that stand together in one of them and
 -- have one key have one shape, and what lies below the one stands with what lies below the other; and they have what the operation
 -- starts with
-abbrev pub KeepsClosed : Merger → Merger → MeantOperation Place → Telling → Telling → Type 0
-KeepsClosed before after o old new = IsTrue before.is_clean → new ≡ old
+abbrev pub KeepsClosed : Merger → Merger → MeantOperation Place → (TellsNothing : Type 0) → Type 0
+KeepsClosed before after o TellsNothing = IsTrue before.is_clean → TellsNothing
     → ∥ AreShapesStanding before.document before.schema (StandIn after.lists) × StartsStand (PlainStarts before.document o) (StandIn after.lists) ∥₁
+
+-- a call adds nothing to the list
+abbrev pub AddsNothing : DiagnosticList → DiagnosticList → Type 0
+AddsNothing old new = diagnostics_of new ≡ diagnostics_of old
 
 -- the value is clean after the call exactly where it was before and nothing is told
 abbrev pub StaysCleanInSilence : Merger → Merger → Telling → Telling → Type 0

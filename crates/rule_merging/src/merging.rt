@@ -43,7 +43,7 @@ impl Drop for FieldsInSetCanMerge<'_> {
 }
 
 impl<'doc> FieldsInSetCanMerge<'doc> {
-    ghost use Rattle.rule_merging.specs.Merger.{merger_of, IsCountedMerger, MergerTold, SilenceMeansMerging, KeepsClosed, StaysCleanInSilence, StaysCounted};
+    ghost use Rattle.rule_merging.specs.Merger.{merger_of, IsCountedMerger, MergerTold, SilenceMeansMerging, KeepsClosed, AddsNothing, StaysCleanInSilence, StaysCounted};
 
     /// A clean value, for the operations of the document.
     pub fn new(
@@ -91,7 +91,7 @@ impl<'doc> FieldsInSetCanMerge<'doc> {
     ) -> Result<(), AllocError>
         ensures told { OnOk result (MergerTold (merger_of self.old) (operation_meant operation.now) (diagnostics_of list.old) (diagnostics_of list.new)) }
         ensures merged { OnOk result (SilenceMeansMerging (merger_of self.old) (operation_meant operation.now) (diagnostics_of list.old) (diagnostics_of list.new)) }
-        ensures closed { OnOk result (KeepsClosed (merger_of self.old) (merger_of self.new) (operation_meant operation.now) (diagnostics_of list.old) (diagnostics_of list.new)) }
+        ensures closed { OnOk result (KeepsClosed (merger_of self.old) (merger_of self.new) (operation_meant operation.now) (AddsNothing list.old list.new)) }
         ensures clean { OnOk result (StaysCleanInSilence (merger_of self.old) (merger_of self.new) (diagnostics_of list.old) (diagnostics_of list.new)) }
         ensures refused { OnErr result ((merger_of self.new).is_clean ≡ false) }
         ensures begins { OnErr result (BeginsAs (diagnostics_of list.old) (diagnostics_of list.new)) }
