@@ -6,7 +6,7 @@ ghost use Rattle.fault_data.specs.Adds.{Adds};
 ghost use Rattle.fault_data.specs.FaultView.{faults_of};
 ghost use Rattle.rule_document_ground.specs.NotedNames.{noted_names};
 ghost use Rattle.rule_fragments.specs.Used.{AreUnderOwnNames};
-ghost use Rattle.rule_fragments.specs.Possible.{ArePossible};
+ghost use Rattle.rule_fragments.specs.Possible.{ArePossibleIfFound};
 ghost use Rattle.rule_document_ground.specs.Broken.{brokens_of};
 ghost use Rattle.rule_definitions.specs.Judged.{judged};
 ghost use Rattle.graphql_schema.specs.SchemaOf.{schema_tree};
@@ -30,16 +30,18 @@ use rule_subscriptions::check_subscription;
 use rule_variables::{check_variables, check_variables_alone};
 use std::alloc::{AllocError, Global};
 
-/// Adds the faults of an operation under a schema, and notes the fragments that it reaches.
+/// Adds the faults of an operation under a schema, and notes the fragments that it reaches. The possible types of the schema
+/// are found where it first needs them.
 fn check_operation(
     schema: &Schema,
-    possible: &PossibleTypes,
+    possible: &mut Option<PossibleTypes>,
     document: &ExecutableDocument,
     operation: &Node<Operation>,
     found: &mut Found,
 ) -> Result<(), AllocError>
-    ensures told { OnOk result (ReachesTyped (meanings (plain (schema_tree schema.now))) (document_meant document.now) (operation_meant operation.now) → ArePossible (judged (schema_tree schema.now)) possible.now → Adds found.old.faults found.new.faults (OperationFails (document_meant document.now) (operation_meant operation.now) (schema_tree schema.now))) }
+    ensures told { OnOk result (ReachesTyped (meanings (plain (schema_tree schema.now))) (document_meant document.now) (operation_meant operation.now) → ArePossibleIfFound (judged (schema_tree schema.now)) possible.old → Adds found.old.faults found.new.faults (OperationFails (document_meant document.now) (operation_meant operation.now) (schema_tree schema.now))) }
     ensures noted { OnOk result (NotesNames (noted_names found.old.used) (noted_names found.new.used) (ReachesNamed (document_meant document.now) (operation_meant operation.now))) }
+    ensures right { OnOk result (ArePossibleIfFound (judged (schema_tree schema.now)) possible.old → ArePossibleIfFound (judged (schema_tree schema.now)) possible.new) }
 {
     let alloc = *found.faults.allocator();
     let fragments = &document.fragments;
@@ -55,12 +57,13 @@ fn check_operation(
 /// Adds the faults of each operation under a schema, and notes the fragments that one of them reaches.
 fn check_operations(
     schema: &Schema,
-    possible: &PossibleTypes,
+    possible: &mut Option<PossibleTypes>,
     document: &ExecutableDocument,
     found: &mut Found,
 ) -> Result<(), AllocError>
-    ensures told { OnOk result (AreReachesTyped (schema_tree schema.now) (document_meant document.now) → ArePossible (judged (schema_tree schema.now)) possible.now → Adds found.old.faults found.new.faults (λ f. AtOperation (document_meant document.now) (λ o. OperationFails (document_meant document.now) o (schema_tree schema.now) f))) }
+    ensures told { OnOk result (AreReachesTyped (schema_tree schema.now) (document_meant document.now) → ArePossibleIfFound (judged (schema_tree schema.now)) possible.old → Adds found.old.faults found.new.faults (λ f. AtOperation (document_meant document.now) (λ o. OperationFails (document_meant document.now) o (schema_tree schema.now) f))) }
     ensures noted { OnOk result (NotesNames (noted_names found.old.used) (noted_names found.new.used) (λ n. AtOperation (document_meant document.now) (λ o. ReachesNamed (document_meant document.now) o n))) }
+    ensures right { OnOk result (ArePossibleIfFound (judged (schema_tree schema.now)) possible.old → ArePossibleIfFound (judged (schema_tree schema.now)) possible.new) }
 {
     for operation in document.operations.iter() {
         check_operation(schema, possible, document, operation, found)?;
@@ -68,7 +71,8 @@ fn check_operations(
     Ok(())
 }
 
-/// The faults of a document under a schema.
+/// The faults of a document under a schema. The possible types of the schema are found once, for the first operation in which
+/// a fragment is on another type than that where it stands; if there is none, never.
 pub(crate) fn faults_under(
     alloc: Global,
     schema: &Schema,
@@ -76,9 +80,9 @@ pub(crate) fn faults_under(
 ) -> Result<Vec<Fault>, AllocError>
     ensures { IfOk result (λ r. AreReachesTyped (schema_tree schema.now) (document_meant document.now) → AreUnderOwnNames (document_meant document.now) → TellsData (document_meant document.now) (AllUnder (schema_tree schema.now) (document_meant document.now)) (λ o. OperationFails (document_meant document.now) o (schema_tree schema.now)) (faults_of r)) }
 {
-    let possible = PossibleTypes::new(alloc, schema)?;
+    let mut possible = None;
     let mut found = Found::new(alloc);
-    check_operations(schema, &possible, document, &mut found)?;
+    check_operations(schema, &mut possible, document, &mut found)?;
     check_fragments(document, found)
 }
 

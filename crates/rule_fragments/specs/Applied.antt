@@ -1,5 +1,6 @@
 -- Private: leads to `InvalidFragmentSpreadAt` of the rules' definitions. Fragments where they stand, and what the check tells of them.
-use Rattle.std.specs.Prelude.{ℕ, List, [], ◌∷◌, Option, None, Some, if◌then◌else◌}
+use Rattle.std.specs.Prelude.{ℕ, Bool, true, List, [], ◌∷◌, Option, None, Some, bytes_eq, if◌then◌else◌}
+use Rattle.std.specs.List.{list_all}
 use Rattle.std.specs.Option.{option_map, option_map_or}
 use Rattle.graphql_names.specs.Placed.{Place}
 use Rattle.schema_components.specs.Names.{Entries}
@@ -29,6 +30,13 @@ abbrev pub application_in : Entries (MeantFragment Place) → MeantSelection Pla
 application_in fragments (MeantField p d h s) = None
 application_in fragments (MeantSpread p n ds) = option_map (λ f. record { name = Some n.it; condition = f.type_condition.it; place = p; fragment_place = f.place }) (under n.it fragments)
 application_in fragments (MeantInline p c ds s) = option_map (λ n. record { name = None; condition = n.it; place = p; fragment_place = p }) c
+
+-- after the name of the type of its set: a selection applies no fragment, or one on that very type
+abbrev pub stands_on_its_type : Entries (MeantFragment Place) → Member Place → Bool
+stands_on_its_type fragments e = option_map_or (λ a. bytes_eq a.condition e.0) (application_in fragments e.1) true
+
+abbrev pub all_stand_on_their_types : Entries (MeantFragment Place) → List (Member Place) → Bool
+all_stand_on_their_types fragments = list_all (stands_on_its_type fragments)
 
 module _ (s : SchemaTree Place) where
   -- what is told of a fragment that cannot apply under a type

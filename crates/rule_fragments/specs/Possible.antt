@@ -1,5 +1,5 @@
 -- Private: leads to `CanBe` and `MayApply`. The object types that values of each type can be (GetPossibleTypes of GraphQL, October 2021, section 5.5.2.3), as they are held.
-use Rattle.std.specs.Prelude.{◌↔◌, ◌⊎◌, ℕ, Bool, ◌||◌, List, [], map, Option, Contains, bytes_eq}
+use Rattle.std.specs.Prelude.{◌↔◌, ◌⊎◌, ℕ, Bool, ◌||◌, List, [], map, Option, IfSome, Contains, bytes_eq}
 use Rattle.std.specs.List.{list_any}
 use Rattle.std.specs.Map.{lookup}
 use Rattle.std.specs.Option.{option_map_or}
@@ -29,6 +29,10 @@ objects_of p n = noted_under p.objects n
 -- under each name stand the objects that values of the type of that name can be, and no more
 abbrev pub ArePossible : Judged → PossibleTypes → Type 0
 ArePossible s p = (n object : List ℕ) → Contains (objects_of p n) object ↔ CanBe s n object
+
+-- the same of those that are found, if they are found yet
+abbrev pub ArePossibleIfFound : Judged → Option PossibleTypes → Type 0
+ArePossibleIfFound s found = IfSome found (ArePossible s)
 
 -- the lists have a name in common
 abbrev pub share_one : List (List ℕ) → List (List ℕ) → Bool

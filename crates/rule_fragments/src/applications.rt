@@ -1,5 +1,5 @@
 //! Fragments where they stand, and the rules on the types that they are on.
-ghost use Rattle.std.specs.Prelude.{◌≡◌, [], ◌++◌, ◌⊎◌, map, flat_map, IfOk, OnOk, option_to_list};
+ghost use Rattle.std.specs.Prelude.{◌≡◌, [], ◌++◌, ◌⊎◌, true, Some, map, flat_map, IfOk, OnOk, IfSome, option_to_list};
 ghost use Rattle.std.specs.Option.{option_map};
 ghost use Rattle.graphql_names.specs.Placed.{Place};
 ghost use Rattle.schema_types.specs.Addresses.{TypeAt, place_at};
@@ -13,8 +13,8 @@ ghost use Rattle.rule_definitions.specs.Judged.{judged};
 ghost use Rattle.rule_document_definitions.specs.Fragments.{InvalidFragmentTargetAt, InvalidFragmentSpreadAt};
 ghost use Rattle.rule_document_definitions.specs.Told.{places_in};
 ghost use Rattle.rule_document_ground.specs.Reach.{IsReachOf, meant_fragments, reached_members};
-ghost use Rattle.rule_fragments.specs.Possible.{ArePossible};
-ghost use Rattle.rule_fragments.specs.Applied.{application_tree, application_in, invalid_fragment_spread, spread_told};
+ghost use Rattle.rule_fragments.specs.Possible.{ArePossible, ArePossibleIfFound};
+ghost use Rattle.rule_fragments.specs.Applied.{application_tree, application_in, stands_on_its_type, all_stand_on_their_types, invalid_fragment_spread, spread_told};
 
 use crate::names::copied_name;
 use crate::possible_types::PossibleTypes;
@@ -25,7 +25,7 @@ use fault_data::{DiagnosticData, Fault, tell};
 use graphql_names::{Name, Node, SourceSpan};
 use graphql_schema::Schema;
 use rule_document_ground::Reach;
-use std::alloc::AllocError;
+use std::alloc::{AllocError, Global};
 
 /// A fragment where it stands: by its name, or inline with a condition.
 #[derive(Drop)]
@@ -86,6 +86,28 @@ fn application_of<'doc>(
         Selection::FragmentSpread(spread) => spread_application(spread, fragments),
         Selection::InlineFragment(inline) => inline_application(inline),
     }
+}
+
+/// Whether the selection is no fragment, or one on the very type where it stands, which is `parent`.
+fn stands_on_its_type(fragments: &FragmentMap, parent: &Name, selection: &Selection) -> bool
+    ensures { result ≡ stands_on_its_type (meant_fragments fragments.now) (parent.now.text, meant (typed_selection_tree selection.now)) }
+{
+    match application_of(selection, fragments) {
+        None => true,
+        Some(application) => *application.condition == *parent,
+    }
+}
+
+/// Whether each fragment is on the very type where it stands. It can apply there, whatever types are possible.
+fn all_stand_on_their_types(fragments: &FragmentMap, reach: &Reach<'_>) -> bool
+    ensures { result ≡ all_stand_on_their_types (meant_fragments fragments.now) (reached_members reach.now) }
+{
+    for (parent, selection) in &reach.selections {
+        if !stands_on_its_type(fragments, parent, selection) {
+            return false;
+        }
+    }
+    true
 }
 
 /// Where the type of that name is defined.
@@ -153,18 +175,43 @@ fn check_fragment_spreads(
     Ok(())
 }
 
+/// The possible types that were found, or those of the schema.
+fn found_or_new(
+    alloc: Global,
+    schema: &Schema,
+    found: Option<PossibleTypes>,
+) -> Result<PossibleTypes, AllocError>
+    ensures right { IfOk result (λ p. ArePossibleIfFound (judged (schema_tree schema.now)) found → ArePossible (judged (schema_tree schema.now)) p) }
+    ensures once { IfOk result (λ p. IfSome found (λ q. p ≡ q)) }
+{
+    match found {
+        Some(possible) => Ok(possible),
+        None => PossibleTypes::new(alloc, schema),
+    }
+}
+
 /// Adds the faults of the types of fragments that an operation reaches: InvalidFragmentTarget, of a fragment on a type that is
 /// not composite, and InvalidFragmentSpread, of one that cannot apply where it stands. `possible` has the possible types of the
-/// schema. Fails where memory is refused.
+/// schema, once they are found. They are found here, where they are not yet and some fragment is on another type than that
+/// where it stands, and stay for the next operation. Fails where memory is refused.
 pub fn check_applications(
     schema: &Schema,
-    possible: &PossibleTypes,
+    possible: &mut Option<PossibleTypes>,
     fragments: &FragmentMap,
     reach: &Reach<'_>,
     faults: &mut Vec<Fault>,
 ) -> Result<(), AllocError>
-    ensures { OnOk result ((d : MeantDocument Place) (o : MeantOperation Place) → IsReachOf d o reach.now → d.fragments ≡ meant_fragments fragments.now → ArePossible (judged (schema_tree schema.now)) possible.now → Adds faults.old faults.new (λ f. InvalidFragmentTargetAt (judged (schema_tree schema.now)) d o f ⊎ InvalidFragmentSpreadAt (judged (schema_tree schema.now)) d o f (places_in (schema_tree schema.now)))) }
+    ensures told { OnOk result ((d : MeantDocument Place) (o : MeantOperation Place) → IsReachOf d o reach.now → d.fragments ≡ meant_fragments fragments.now → ArePossibleIfFound (judged (schema_tree schema.now)) possible.old → Adds faults.old faults.new (λ f. InvalidFragmentTargetAt (judged (schema_tree schema.now)) d o f ⊎ InvalidFragmentSpreadAt (judged (schema_tree schema.now)) d o f (places_in (schema_tree schema.now)))) }
+    ensures right { OnOk result (ArePossibleIfFound (judged (schema_tree schema.now)) possible.old → ArePossibleIfFound (judged (schema_tree schema.now)) possible.new) }
+    ensures once { OnOk result (IfSome possible.old (λ p. possible.new ≡ Some p)) }
+    ensures unneeded { OnOk result (all_stand_on_their_types (meant_fragments fragments.now) (reached_members reach.now) ≡ true → possible.new ≡ possible.old) }
 {
     check_targets(schema, reach, faults)?;
-    check_fragment_spreads(schema, possible, fragments, reach, faults)
+    if all_stand_on_their_types(fragments, reach) {
+        return Ok(());
+    }
+    let types = found_or_new(*faults.allocator(), schema, possible.take())?;
+    check_fragment_spreads(schema, &types, fragments, reach, faults)?;
+    *possible = Some(types);
+    Ok(())
 }

@@ -4,11 +4,12 @@
 //! where it stands. Of the fragments of a document: each is reached by an operation, and none spreads itself.
 //!
 //! For the layers above: each check adds exactly the faults by which the rules of its name break (`Fragments.antt` and
-//! `Limits.antt` of `rule_document_definitions`). `PossibleTypes` is made once for a schema: `ArePossible` (`Possible.antt`)
-//! says that it has, under each type's name, the objects that values of the type can be. `check_unused` tells each fragment
-//! that no operation reaches; `check_cycles` each fragment that an operation reaches and that spreads itself, or that the
-//! bound is passed (`specs/Told.antt`). Both take the names of the fragments that the operations reach. There fragments are
-//! numbers, and `rule_cycle_search` finds the ways of spreads from each back to it.
+//! `Limits.antt` of `rule_document_definitions`). `PossibleTypes` has, under each type's name, the objects that values of the
+//! type can be (`ArePossible` of `Possible.antt`). It is made at most once for a document: `check_applications` makes it where
+//! a fragment is on another type than that where it stands, and it stays for the operations that follow. `check_unused` tells
+//! each fragment that no operation reaches; `check_cycles` each fragment that an operation reaches and that spreads itself, or
+//! that the bound is passed (`specs/Told.antt`). Both take the names of the fragments that the operations reach. There
+//! fragments are numbers, and `rule_cycle_search` finds the ways of spreads from each back to it.
 //!
 //! Begin with `spreads.rt`, then `targets.rt`, `possible_types.rt` and `applications.rt`; and with `unused.rt` and `cycles.rt`.
 #![tactic(auto)]

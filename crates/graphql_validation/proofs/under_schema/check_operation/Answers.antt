@@ -32,7 +32,7 @@ returns-clause-told c =
     (gains_both old alone new (c.in_ok-check_variables_alone.ensures (place_or_built_in s) d reaches)
     (gains_both alone variables new c.in_ok-check_variables.ensures
     (gains_both variables selections new (c.in_ok-check_selections.ensures d reaches typed)
-    (gains_both selections spreads new (c.in_ok-check_spreads.ensures d o reaches refl) (c.in_ok-check_applications.ensures d o reaches refl possible))))))
+    (gains_both selections spreads new (c.in_ok-check_spreads.ensures d o reaches refl) (c.in_ok-check_applications.ensures.told d o reaches refl possible))))))
     c.note_fragments.ensures
 
 pub returns-clause-noted : goal.returns-clause-noted
@@ -44,3 +44,6 @@ returns-clause-noted c =
     on_ok_weaker c.note_fragments.result
     (λ h. fragments_noted d o (reached_members r) (reached_fragments_of r) reaches (noted_names c.args.found.now.used) (noted_names c.note_fragments.new.names) h)
     c.note_fragments.ensures
+
+pub returns-clause-right : goal.returns-clause-right
+returns-clause-right c = on_ok_weaker c.note_fragments.result (λ h. c.in_ok-check_applications.ensures.right) c.note_fragments.ensures
