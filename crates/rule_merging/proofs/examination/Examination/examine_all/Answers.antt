@@ -87,9 +87,14 @@ returns-clause-examined c =
     ] in
     IfOk-weaker c.have_fields.result _ _
     (λ left h o is.
-    let t = c.loop-length.invariant.examined o is in
-    (t.0, (t.1.0, no_more_levels e.pass (schema_of e) (document_of e) o (kept_of c.args.examined.now) (kept_of c.loop-length.examined) c.loop-length.length t.0 (sets_in level) left t.1.1
-    (subst (HaveFields (document_of e) left) (ap (map sets_at) c.deref-2.ensures.value ∙ as_sets level.items) h) long)))
+    let t = c.loop-length.invariant.examined o is in (
+      t.0,
+      (
+        t.1.0,
+        no_more_levels e.pass (schema_of e) (document_of e) o (kept_of c.args.examined.now) (kept_of c.loop-length.examined) c.loop-length.length t.0 (sets_in level) left t.1.1
+            (subst (HaveFields (document_of e) left) (ap (map sets_at) c.deref-2.ensures.value ∙ as_sets level.items) h) long,
+      ),
+    ))
     c.have_fields.ensures
 
 pub returns-clause-counted : goal.returns-clause-counted
