@@ -390,7 +390,8 @@ def main(words):
     for path, name in unnamed(library, files) if "--check" in words else []:
         wrong.append(f"{path}: nothing names `{name}` but proofs, if they do")
     text = sources.read(PAGE)
-    page, wanted = linked(text), listed(library, files)
+    page = {path for path in linked(text) if path in files or path.split("/")[1] != BOOK}  # of the book each chapter has a line
+    wanted = listed(library, files)
     if "--write" in words:
         head, rest = text.split(LIST, 1)
         text = head + LIST + "\n" + wanted.rstrip("\n") + rest[rest.index("\n\n") :]

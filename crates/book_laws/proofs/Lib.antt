@@ -7,6 +7,8 @@ pub mod SelectionFacts
 pub mod FragmentFacts
 pub mod OperationFacts
 pub mod DocumentFacts
+pub mod FieldSetFacts
+pub mod StandaloneFacts
 pub mod Spotted
 pub mod Loops
 pub mod Equal

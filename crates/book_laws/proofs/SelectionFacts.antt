@@ -49,10 +49,10 @@ module _ (d : Document) where
   told_of (MeantSpread p n ds) m e = (_, (refl, same_Some _ _ e))
   told_of (MeantInline p c ds v) m e = absurd (true≢false (sym (ap is_some e)))
 
-  spread_step : (n : List ℕ) (by : Placed (Unit {0}) SpreadTree) (m : List ℕ) → RefersBySpread d n by m → Spreads d n m
+  pub spread_step : (n : List ℕ) (by : Placed (Unit {0}) SpreadTree) (m : List ℕ) → RefersBySpread d n by m → Spreads d n m
   spread_step n by m (f, (e, (x, (c, (is, (to, known)))))) = (f, (e, (x, (c, (name_of x.it by m is to, named_there m known)))))
 
-  spread_back : (n m : List ℕ) → Spreads d n m → (by : Placed (Unit {0}) SpreadTree) × RefersBySpread d n by m
+  pub spread_back : (n m : List ℕ) → Spreads d n m → (by : Placed (Unit {0}) SpreadTree) × RefersBySpread d n by m
   spread_back n m (f, (e, (x, (c, (is, known))))) =
       let b = told_of x.it m is in
       let (g, h) = there (fragment_named d m) known in

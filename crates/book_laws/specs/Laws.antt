@@ -5,17 +5,20 @@ use Rattle.tree_operations.specs.SelectionTree.{SelectionTrees}
 use Rattle.tree_definitions.specs.DefinitionTree.{DefinitionTree}
 use Rattle.schema_fold.specs.Listed.{Definitions}
 use Rattle.schema_fold.specs.BuildErrors.{FoldingRules}
+use Rattle.document_meaning.specs.MeantTree.{MeantSet}
 use Rattle.document_typing.specs.Meanings.{Meanings}
 use Rattle.document_typing.specs.TypingFaults.{TypingFault, SetFails, TypingRules}
 use Rattle.rule_definitions.specs.Judged.{Judged, judged}
 use Rattle.rule_definitions.specs.Rules.{SchemaRules}
 use Rattle.rule_document_definitions.specs.Named.{FragmentsFoundByName}
-use Rattle.rule_document_definitions.specs.Verdict.{DocumentRules}
+use Rattle.rule_document_definitions.specs.Verdict.{DocumentRules, FieldSetRules, StandaloneRules}
 use Rattle.verdict_definitions.specs.Texts.{SourceText, Tree, Terms}
 use Rattle.verdict_definitions.specs.Meaning.{schema_of, schema_at_hand}
 use Rattle.verdict_definitions.specs.Judge.{AreSchemasAccepted, IsDocumentAccepted, IsAccepted}
 use Rattle.book_validity.specs.Words.{Document, Never}
 use Rattle.book_validity.specs.Document.{IsValidDocument}
+use Rattle.book_validity.specs.FieldSets.{IsValidFieldSet}
+use Rattle.book_validity.specs.Standalone.{IsValidAlone}
 use Rattle.book_validity.specs.Schema.{IsValidSchema}
 use Rattle.book_validity.specs.Typing.{AreTyped, IsTypedDocument}
 use Rattle.book_validity.specs.Folding.{AreFoldable}
@@ -24,6 +27,13 @@ use Rattle.book_validity.specs.Yes.{AreValidSchemas, IsValidOver, IsYes}
 -- of a document whose fragments stand under their own names, as each that is typed does
 abbrev pub RulesHoldByTheBook : Type 0
 RulesHoldByTheBook = (s : Judged) (d : Document) → FragmentsFoundByName d → IsValidDocument s d ↔ DocumentRules s d
+
+-- the same of a field set, and of a document without a schema
+abbrev pub SetRulesHoldByTheBook : Type 0
+SetRulesHoldByTheBook = (s : Judged) (set : MeantSet (Unit {0})) → IsValidFieldSet s set ↔ FieldSetRules s set
+
+abbrev pub RulesAloneHoldByTheBook : Type 0
+RulesAloneHoldByTheBook = (d : Document) → FragmentsFoundByName d → IsValidAlone d ↔ StandaloneRules d
 
 abbrev pub SchemaRulesHoldByTheBook : Type 0
 SchemaRulesHoldByTheBook = (s : Judged) → IsValidSchema s ↔ SchemaRules s

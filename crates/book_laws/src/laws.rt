@@ -1,6 +1,6 @@
 //! Laws of the book, each the contract of a function that does nothing.
 
-ghost use Rattle.book_laws.specs.Laws.{RulesHoldByTheBook, SchemaRulesHoldByTheBook, TypedByTheBook, SetsTypedByTheBook, FoldedByTheBook, SchemasAcceptedByTheBook, DocumentsAcceptedByTheBook, AcceptedByTheBook};
+ghost use Rattle.book_laws.specs.Laws.{RulesHoldByTheBook, SetRulesHoldByTheBook, RulesAloneHoldByTheBook, SchemaRulesHoldByTheBook, TypedByTheBook, SetsTypedByTheBook, FoldedByTheBook, SchemasAcceptedByTheBook, DocumentsAcceptedByTheBook, AcceptedByTheBook};
 ghost use Rattle.book_laws.specs.Exceptions.{UsagesAllowed, SpreadsPossible};
 ghost use Rattle.book_laws.specs.Refused.{UnusedVariableIsInvalid, ConflictingFieldsDoNotMerge, MissingFieldIsInvalid};
 
@@ -31,9 +31,11 @@ pub fn sets_typed_by_the_book()
     ensures { SetsTypedByTheBook }
 {}
 
-/// A document is valid by the book exactly where no rule on documents is broken.
+/// A document, a field set, a document without a schema is valid by the book exactly where no rule on it is broken.
 pub fn rules_hold_by_the_book()
-    ensures { RulesHoldByTheBook }
+    ensures documents { RulesHoldByTheBook }
+    ensures field_sets { SetRulesHoldByTheBook }
+    ensures alone { RulesAloneHoldByTheBook }
 {}
 
 /// IsVariableUsageAllowed and GetPossibleTypes are as specified (GraphQL, October 2021, sections 5.8.5 and 5.5.2.3), but for a

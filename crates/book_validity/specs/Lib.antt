@@ -9,6 +9,8 @@ pub mod Variables
 pub mod Subscriptions
 pub mod Defer
 pub mod Document
+pub mod FieldSets
+pub mod Standalone
 pub mod Members
 pub mod Interfaces
 pub mod Types
