@@ -13,6 +13,7 @@ use crate::print_lines::{put_break, put_line_start};
 use crate::print_string::put_quoted;
 use crate::sink::Sink;
 use graphql_names::NodeStr;
+use memchr::memchr;
 
 fn is_tab_or_space(byte: u8) -> bool
     ensures { result ≡ is_tab_or_space byte }
@@ -40,15 +41,11 @@ fn is_at_margin(line: &[u8]) -> bool
     }
 }
 
+#[tactic(auto, using(crate::proofs::Found::somewhere))]
 fn has_byte(wanted: u8, text: &[u8]) -> bool
     ensures { result ≡ has_byte wanted text.now }
 {
-    for byte in text {
-        if *byte == wanted {
-            return true;
-        }
-    }
-    false
+    memchr(wanted, text).is_some()
 }
 
 fn first_line_is_blank(text: &str) -> bool
