@@ -1,6 +1,6 @@
 //! Shared texts with the places that they were read from.
 ghost use Rattle.std.specs.Prelude.{◌≡◌, IfOk, Some, None, nat_eq};
-ghost use Rattle.std.specs.Rc.{rc_str_bytes};
+ghost use Rattle.std.specs.Str.{IsUtf8};
 ghost use Rattle.std.specs.String.{string_bytes};
 ghost use Rattle.std.specs.Cmp;
 ghost use Rattle.std.specs.Cmp.{on_equiv, on_per};
@@ -9,39 +9,41 @@ ghost use Rattle.std.specs.Cmp.Rules.{hashing};
 ghost use Rattle.std.specs.Hash as fed;
 ghost use Rattle.std.proofs.Common.{rules};
 ghost use Rattle.graphql_names.specs.Places.{is_built_in};
+ghost use Rattle.graphql_names.specs.TextPart.{part_bytes};
 
 use crate::span::{FileId, SourceSpan};
+use crate::text_part::TextPart;
 use std::alloc::{AllocError, Global};
 use std::fmt;
 use std::hash::{Hash, Hasher};
 use std::marker::Model;
 use std::ops::DerefStr;
-use std::rc::RcStr;
 
-/// A shared text, and the place that it was read from, if it was read.
+/// A shared text or a part of one, and the place that it was read from, if it was read.
 ///
 /// Contracts see it as its text in bytes and its place.
 pub struct NodeStr {
-    shared: RcStr,
+    part: TextPart,
     location: Option<SourceSpan>,
+    ghost utf8: { ∥ IsUtf8 (part_bytes part) ∥₁ },
 }
 
 impl Drop for NodeStr {
     fn drop(self) {
         let NodeStr {
-            shared: _,
+            part: _,
             location: _,
         } = self;
     }
 }
 
 impl Model for NodeStr {
-    ghost use Rattle.std.specs.Rc.{rc_str_bytes};
+    ghost use Rattle.graphql_names.specs.TextPart.{part_bytes};
     ghost use Rattle.graphql_names.specs.NodeStrValue.{NodeStrValue};
 
     ghost Value = { NodeStrValue };
 
-    ghost view = { λ n. record { text = rc_str_bytes n.shared; location = n.location; utf8 = n.shared.text.value.ok } };
+    ghost view = { λ n. record { text = part_bytes n.part; location = n.location; utf8 = n.utf8 } };
 }
 
 impl NodeStr {
@@ -51,7 +53,7 @@ impl NodeStr {
         ensures location { IfOk result (λ n. n.location ≡ None) }
     {
         Ok(NodeStr {
-            shared: RcStr::from_str(alloc, text)?,
+            part: TextPart::copied(alloc, text)?,
             location: None,
         })
     }
@@ -65,10 +67,8 @@ impl NodeStr {
         ensures text { IfOk result (λ n. n.text ≡ text.now) }
         ensures location { IfOk result (λ n. n.location ≡ Some location) }
     {
-        Ok(NodeStr {
-            shared: RcStr::from_str(alloc, text)?,
-            location: Some(location),
-        })
+        let part = TextPart::copied(alloc, text)?;
+        Ok(NodeStr::from_part_parsed(part, location))
     }
 
     /// `text`, which was read from `location`. Its bytes are not copied.
@@ -76,16 +76,27 @@ impl NodeStr {
         ensures text { IfOk result (λ n. n.text ≡ string_bytes text) }
         ensures location { IfOk result (λ n. n.location ≡ Some location) }
     {
-        let shared = RcStr::from_string(text)?;
-        let location = Some(location);
-        Ok(NodeStr { shared, location })
+        let part = TextPart::from_string(text)?;
+        Ok(NodeStr::from_part_parsed(part, location))
+    }
+
+    /// The text of `part`, which was read from `location`. It takes no memory.
+    pub fn from_part_parsed(part: TextPart, location: SourceSpan) -> NodeStr
+        ensures text { result.text ≡ part_bytes part }
+        ensures location { result.location ≡ Some location }
+    {
+        let _text = part.as_str();
+        NodeStr {
+            part,
+            location: Some(location),
+        }
     }
 
     /// The text.
     pub fn as_str(&self) -> &str
         ensures { result.now ≡ self.now.text }
     {
-        self.shared.as_str()
+        self.part.as_str()
     }
 
     /// The place that it was read from, if it was read.
@@ -123,7 +134,7 @@ impl Clone for NodeStr {
 
     fn clone(&self) -> Result<NodeStr, AllocError> {
         Ok(NodeStr {
-            shared: self.shared.clone()?,
+            part: self.part.clone()?,
             location: self.location,
         })
     }

@@ -119,7 +119,7 @@ indent_boundary line (suc n) h utf8 =
 
 -- ---- indents
 
-blank_indent : (line : List ℕ) → is_blank line ≡ true → indent_of line ≡ length line
+pub blank_indent : (line : List ℕ) → is_blank line ≡ true → indent_of line ≡ length line
 blank_indent [] h = refl
 blank_indent (b ∷ line) h =
     let parts = and_parts (is_white_space b) (is_blank line) h in

@@ -10,7 +10,7 @@ use crate::lex::line_len;
 use std::alloc::AllocError;
 
 /// How many bytes the line terminator takes that begins the bytes; 0 where none does (section 2.1.3).
-fn terminator_len(bytes: &[u8]) -> usize
+pub(crate) fn terminator_len(bytes: &[u8]) -> usize
     ensures value { result ≡ spec.terminator_len bytes.now }
     ensures within { result ≤ length bytes.now }
 {
@@ -54,14 +54,14 @@ fn behind_line(text: &str, line: usize) -> &str
     behind
 }
 
-fn is_white_space(byte: u8) -> bool
+pub(crate) fn is_white_space(byte: u8) -> bool
     ensures { result ≡ blocks.is_white_space byte }
 {
     byte == b'\t' || byte == b' '
 }
 
 /// How many tabs and spaces begin the line.
-fn indent_of(line: &[u8]) -> usize
+pub(crate) fn indent_of(line: &[u8]) -> usize
     ensures count { result ≡ blocks.indent_of line.now }
     ensures within { result ≤ length line.now }
 {
@@ -71,7 +71,7 @@ fn indent_of(line: &[u8]) -> usize
 }
 
 /// Whether the line is tabs and spaces alone.
-fn is_blank(line: &[u8]) -> bool
+pub(crate) fn is_blank(line: &[u8]) -> bool
     ensures { result ≡ blocks.is_blank line.now }
 {
     line.iter().all(|byte| is_white_space(*byte))

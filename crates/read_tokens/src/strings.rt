@@ -14,7 +14,7 @@ use std::alloc::{AllocError, Global};
 
 /// What is between the marks of a string, which take this many bytes each.
 #[tactic(auto, using(crate::proofs::Forms::open_boundary, crate::proofs::Forms::close_boundary))]
-fn between(token: &str, mark: usize) -> &str
+pub(crate) fn between(token: &str, mark: usize) -> &str
     requires { Marked mark token.now }
     ensures { result.now ≡ bytes.between mark token.now }
 {

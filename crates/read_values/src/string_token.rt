@@ -3,6 +3,7 @@ ghost use Rattle.std.specs.Prelude.{◌≡◌};
 ghost use Rattle.std.specs.String.{string_bytes};
 ghost use Rattle.read_tokens.specs.Input as input;
 ghost use Rattle.graphql_names.specs.Placed.{text_tree};
+ghost use Rattle.graphql_names.specs.TextPart.{part_bytes};
 ghost use Rattle.tree_literals.specs.ValueTree.{value_tree};
 ghost use Rattle.read_grammar.specs.Kinds as kinds;
 ghost use Rattle.read_grammar.specs.Reading.{Reads};
@@ -11,7 +12,7 @@ ghost use Rattle.read_grammar.specs.ValueReading as reading;
 ghost use Rattle.read_values.specs.Meanings.{in_file, string_meant};
 
 use crate::steps::{begin, next_is, since};
-use graphql_names::{FileId, NodeStr};
+use graphql_names::{FileId, NodeStr, TextPart};
 use read_grammar::Stop;
 use read_tokens::{Source, Terminal};
 use std::alloc::Global;
@@ -43,6 +44,23 @@ fn string_text(alloc: Global, tokens: &mut Source<'_>) -> Result<String, Stop>
     Err(Stop::Unexpected)
 }
 
+/// Takes a string: the text for which it stands, which is not copied where it stands so in the text that is read.
+fn string_part(alloc: Global, tokens: &mut Source<'_>) -> Result<TextPart, Stop>
+    ensures { Reads part_bytes (string_meant tokens.old) result tokens.new }
+{
+    if next_is(tokens, Terminal::String) {
+        let token = tokens.next_part()?;
+        tokens.skip();
+        return Ok(read_tokens::string_part(alloc, &token)?);
+    }
+    if next_is(tokens, Terminal::BlockString) {
+        let token = tokens.next_part()?;
+        tokens.skip();
+        return Ok(read_tokens::block_part(alloc, &token)?);
+    }
+    Err(Stop::Unexpected)
+}
+
 /// StringValue.
 pub fn string_value(alloc: Global, tokens: &mut Source<'_>, file: FileId) -> Result<Value, Stop>
     ensures { Reads value_tree (reading.string_value (in_file file) tokens.old) result tokens.new }
@@ -55,7 +73,7 @@ pub fn description(alloc: Global, tokens: &mut Source<'_>, file: FileId) -> Resu
     ensures { Reads text_tree (types.description (in_file file) tokens.old) result tokens.new }
 {
     let begin = begin(tokens);
-    let text = string_text(alloc, tokens)?;
+    let text = string_part(alloc, tokens)?;
     let place = since(tokens, file, begin);
-    Ok(NodeStr::from_string_parsed(text, place)?)
+    Ok(NodeStr::from_part_parsed(text, place))
 }
