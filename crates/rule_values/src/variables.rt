@@ -15,6 +15,8 @@ use std::alloc::AllocError;
 use tree_literals::Value;
 
 /// UndefinedVariable: a variable in a value is defined (section 5.8.3).
+// It is not inlined, so that the fault that it makes takes no stack at each level of a value.
+#[inline(never)]
 fn undefined_variable(
     location: Option<SourceSpan>,
     name: &Name,
