@@ -10,8 +10,8 @@ ghost use Rattle.verdict_call_laws.specs.Answers.{AnswersTexts, AnswersFinish, A
 ghost use Rattle.verdict_call_laws.specs.Seen.{seen_schema, seen_document, IsSeenRun};
 
 use graphql_checked::{
-    CheckError, CheckedDocument, CheckedSchema, Checker, Layout, Limits, Outcome, Refusal, RunFault,
-    Verdict,
+    CheckError, CheckedDocument, CheckedSchema, Checker, Layout, Limits, Outcome, Refusal,
+    RunFault, Verdict,
 };
 use graphql_names::Device;
 use std::alloc::Global;
