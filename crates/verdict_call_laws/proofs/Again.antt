@@ -77,7 +77,7 @@ schema_again terms layout first schemas w answer x = (answer_again terms layout 
 -- ---- the document
 
 -- what is written of a text is written of its tree
-written_of : (number : ℕ) (document : SourceText) (tree : Tree) (layout : Layout) (bytes : List ℕ) → ReadsText number document tree → WritesDocument layout number document bytes → bytes ≡ layout_text layout (OutDoc tree)
+pub written_of : (number : ℕ) (document : SourceText) (tree : Tree) (layout : Layout) (bytes : List ℕ) → ReadsText number document tree → WritesDocument layout number document bytes → bytes ≡ layout_text layout (OutDoc tree)
 written_of number document tree layout bytes read (other, (other_read, is)) = is ∙ ap (λ t. layout_text layout (OutDoc t)) (one_tree number document other tree other_read read)
 
 module _ (layout : Layout) (schema : CheckedSchemaValue) (document : SourceText) (first : MeantDocument Place) (other : CheckedSchemaValue) (text : SourceText)
