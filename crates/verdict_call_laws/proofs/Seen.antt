@@ -7,7 +7,7 @@ use Rattle.graphql_names.specs.Device.{device_inner}
 use Rattle.graphql_names.specs.declared.device.Device.{Device}
 use Rattle.checker_answers.specs.declared.run_fault.Outcome.{Outcome}
 use Rattle.checker_answers.specs.declared.run_fault.RunFault.{RunFault}
-use Rattle.checker_answers.specs.declared.run_fault.RunFault.TheVariants as fault
+use Rattle.checker_answers.specs.declared.run_fault.RunFault.TheVariants as run_fault
 use Rattle.verdict_definitions.specs.Texts.{SourceText, Terms}
 use Rattle.verdict_definitions.specs.Judge.{AreSchemasCertain, IsDocumentCertain}
 use Rattle.verdict_definitions.specs.Out.{Layout}
@@ -66,10 +66,10 @@ module _ {R D W : Type 0} (of_schema : R → Option (List ℕ)) (of_document : D
       subst (λ (p : List SourceText × (SourceText × List ℕ)). BytesOf terms layout outcome p.0 p.1.0 p.1.1) (λ i. (texts i, (text i, taken w.bytes w.put i))) w.answers
 
   fault_told : (f : RunFault) → RunFaultIsDue of_schema of_document contents layout terms schemas schemas' document document' old new f → IsPutAt terms layout run f
-  fault_told fault.Memory due = untouched due
-  fault_told (fault.Reader number) due = untouched due.1
-  fault_told (fault.NotUtf8 number) due = untouched due.1
-  fault_told (fault.Writer count) (failed, w) =
+  fault_told run_fault.Memory due = untouched due
+  fault_told (run_fault.Reader number) due = untouched due.1
+  fault_told (run_fault.NotUtf8 number) due = untouched due.1
+  fault_told (run_fault.Writer count) (failed, w) =
       let texts = texts_told of_schema schemas w.texts run.texts w.schemas_are seen.schemas_tell in
       let text = text_told of_document document w.text run.text w.document_is seen.document_tells in
       (w.bytes, (subst (λ (p : List SourceText × SourceText). Answer terms layout p.0 p.1 w.bytes) (λ i. (texts i, text i)) w.answers.0, (w.answers.1, sym (taken (take count w.bytes) w.put))))

@@ -2,7 +2,7 @@
 use Rattle.std.specs.Prelude.{◌≡◌, ◌⊎◌, ◌<◌, ℕ, false, List, [], length, take, Result, Ok, Err, OnOk, IfOk, IfErr}
 use Rattle.checker_answers.specs.declared.run_fault.Outcome.{Outcome}
 use Rattle.checker_answers.specs.declared.run_fault.RunFault.{RunFault}
-use Rattle.checker_answers.specs.declared.run_fault.RunFault.TheVariants as fault
+use Rattle.checker_answers.specs.declared.run_fault.RunFault.TheVariants as run_fault
 use Rattle.verdict_definitions.specs.Texts.{SourceText, Terms}
 use Rattle.verdict_definitions.specs.Judge.{AreSchemasCertain, IsDocumentCertain, IsCertain}
 use Rattle.verdict_definitions.specs.Out.{Layout}
@@ -32,12 +32,12 @@ pub record AnswersFinish (checker : CheckerValue) (answer : Result CheckedSchema
   pub complete : IfErr answer (λ r. checker.failed ≡ false → AreSchemasCertain checker.terms checker.texts → r ≡ refusal.Memory)
 
 -- `CheckedSchema::check`, of what contracts see of the checked document
-pub record AnswersCheck (schema : CheckedSchemaValue) (text : SourceText) (answer : Result CheckedDocumentValue Refusal) : Type 0 where
-  pub schema : IfOk answer (λ d. d.schema ≡ schema)
-  pub text : IfOk answer (λ d. d.text ≡ text)
-  pub accepted : IfOk answer (λ d. IsCheckedDocumentOf schema text d.document)
-  pub refused : IfErr answer (RefusalOfDocument schema text)
-  pub complete : IfErr answer (λ r. IsDocumentCertain schema.schema schema.nesting schema.number text → r ≡ refusal.Memory)
+pub record AnswersCheck (over : CheckedSchemaValue) (given : SourceText) (answer : Result CheckedDocumentValue Refusal) : Type 0 where
+  pub schema : IfOk answer (λ d. d.schema ≡ over)
+  pub text : IfOk answer (λ d. d.text ≡ given)
+  pub accepted : IfOk answer (λ d. IsCheckedDocumentOf over given d.document)
+  pub refused : IfErr answer (RefusalOfDocument over given)
+  pub complete : IfErr answer (λ r. IsDocumentCertain over.schema over.nesting over.number given → r ≡ refusal.Memory)
 
 -- a run whose devices tell their bytes: the texts of its readers, and what its writer took
 pub record RunValue : Type 0 where
@@ -47,7 +47,7 @@ pub record RunValue : Type 0 where
 
 -- what is out where a run ends in a fault: after `Writer(n)` the first `n` bytes of an answer that has more, else nothing
 abbrev pub IsPutAt : Terms → Layout → RunValue → RunFault → Type 0
-IsPutAt terms layout run (fault.Writer count) = (bytes : List ℕ) × (Answer terms layout run.texts run.text bytes × ((count < length bytes) × (run.put ≡ take count bytes)))
+IsPutAt terms layout run (run_fault.Writer count) = (bytes : List ℕ) × (Answer terms layout run.texts run.text bytes × ((count < length bytes) × (run.put ≡ take count bytes)))
 IsPutAt terms layout run _ = run.put ≡ []
 
 -- `run`, under this layout, of devices that tell their bytes
