@@ -21,9 +21,10 @@ use Rattle.verdict_road_back_laws.specs.RoadBack.{SchemaLeadsBack, DocumentLeads
 use Rattle.verdict_road_back_laws.proofs.SchemaBack.{schema_road_back}
 use Rattle.verdict_road_back_laws.proofs.DocumentBack.{document_road_back}
 use Rattle.verdict_road_back_laws.proofs.PairBack.{pair_road_back}
-use Rattle.graphql_checked.specs.CheckerValue.{CheckedSchemaValue, IsCheckedSchemaOf, IsCheckedDocumentOf}
-use Rattle.graphql_checked.specs.declared.refusal.Refusal.{Refusal}
-use Rattle.graphql_checked.specs.declared.refusal.Refusal.TheVariants as refusal
+use Rattle.checker_schemas.specs.CheckedSchemaValue.{CheckedSchemaValue, IsCheckedSchemaOf}
+use Rattle.checker_documents.specs.CheckerValue.{IsCheckedDocumentOf}
+use Rattle.checker_texts.specs.declared.refusal.Refusal.{Refusal}
+use Rattle.checker_texts.specs.declared.refusal.Refusal.TheVariants as refusal
 use Rattle.verdict_call_laws.specs.Answers.{AnswersFinish, AnswersCheck}
 use Rattle.verdict_call_laws.specs.Again.{SchemasAreSame, IsWrittenPlain, checker_of_written, SchemaAgain, DocumentsAreSame, IsWrittenPlainOver, DocumentAgain, PairAgain}
 

@@ -3,12 +3,13 @@ use Rattle.std.proofs.Common.{◌≡◌, false, Result, Ok, Err}
 use Rattle.std.specs.Prelude.{IfOk, IfErr}
 use Rattle.verdict_definitions.specs.Texts.{SourceText}
 use Rattle.verdict_definitions.specs.Judge.{AreSchemasCertain, IsDocumentCertain}
-use Rattle.graphql_checked.specs.CheckerValue.{CheckerValue, CheckedSchemaValue, IsCheckedSchemaOf, IsCheckedDocumentOf}
-use Rattle.graphql_checked.specs.CheckedView.{CheckedSchemaParts, CheckedDocumentParts, schema_value, document_value}
-use Rattle.graphql_checked.specs.CheckerAnswers.{IsFinishRefusal}
-use Rattle.graphql_checked.specs.Refusals.{RefusalOfDocument}
-use Rattle.graphql_checked.specs.declared.refusal.Refusal.{Refusal}
-use Rattle.graphql_checked.specs.declared.refusal.Refusal.TheVariants as refusal
+use Rattle.checker_schemas.specs.CheckedSchemaValue.{CheckedSchemaValue, IsCheckedSchemaOf}
+use Rattle.checker_documents.specs.CheckerValue.{CheckerValue, IsCheckedDocumentOf}
+use Rattle.checker_documents.specs.CheckedView.{CheckedSchemaParts, CheckedDocumentParts, schema_value, document_value}
+use Rattle.checker_documents.specs.CheckerAnswers.{IsFinishRefusal}
+use Rattle.checker_documents.specs.DocumentRefusals.{RefusalOfDocument}
+use Rattle.checker_texts.specs.declared.refusal.Refusal.{Refusal}
+use Rattle.checker_texts.specs.declared.refusal.Refusal.TheVariants as refusal
 use Rattle.verdict_call_laws.specs.Answers.{AnswersFinish, AnswersCheck}
 use Rattle.verdict_call_laws.specs.Seen.{seen_schema, seen_document}
 

@@ -2,9 +2,9 @@
 use Rattle.std.specs.Prelude.{Result, Ok, Err}
 use Rattle.graphql_names.specs.Placed.{Place}
 use Rattle.document_meaning.specs.MeantTree.{MeantDocument}
-use Rattle.graphql_checked.specs.CheckerValue.{CheckedSchemaValue}
-use Rattle.graphql_checked.specs.CheckedView.{CheckedSchemaParts, CheckedDocumentParts, schema_value, document_value}
-use Rattle.graphql_checked.specs.declared.refusal.Refusal.{Refusal}
+use Rattle.checker_schemas.specs.CheckedSchemaValue.{CheckedSchemaValue}
+use Rattle.checker_documents.specs.CheckedView.{CheckedSchemaParts, CheckedDocumentParts, schema_value, document_value}
+use Rattle.checker_texts.specs.declared.refusal.Refusal.{Refusal}
 
 -- of a checked schema
 abbrev pub seen_schema : Result CheckedSchemaParts Refusal → Result CheckedSchemaValue Refusal

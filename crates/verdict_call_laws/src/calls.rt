@@ -1,7 +1,7 @@
 //! What the calls of the checker answer is what the laws speak of.
 
 ghost use Rattle.std.specs.Prelude.{map};
-ghost use Rattle.graphql_checked.specs.CheckedView.{schema_value};
+ghost use Rattle.checker_documents.specs.CheckedView.{schema_value};
 ghost use Rattle.graphql_checked.specs.Verdicts.{first_terms};
 ghost use Rattle.verdict_call_laws.specs.Answers.{AnswersTexts, AnswersFinish, AnswersCheck};
 ghost use Rattle.verdict_call_laws.specs.Seen.{seen_schema, seen_document};

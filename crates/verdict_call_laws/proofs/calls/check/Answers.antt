@@ -1,4 +1,4 @@
-use Rattle.graphql_checked.specs.CheckedView.{schema_value}
+use Rattle.checker_documents.specs.CheckedView.{schema_value}
 use Rattle.verdict_call_laws.proofs.Seen.{check_answers}
 use Rattle.verdict_call_laws.proofs.calls.check.Goals as goal
 
