@@ -24,11 +24,12 @@ use Rattle.verdict_road_back_laws.proofs.PairBack.{pair_road_back, put_out_leads
 use Rattle.checker_answers.specs.declared.run_fault.Outcome.{Outcome}
 use Rattle.checker_answers.specs.declared.run_fault.Outcome.TheVariants as outcome
 use Rattle.checker_answers.specs.declared.run_fault.RunFault.{RunFault}
-use Rattle.graphql_checked.specs.CheckerValue.{CheckedSchemaValue, CheckedDocumentValue, IsCheckedSchemaOf, IsCheckedDocumentOf}
+use Rattle.checker_schemas.specs.CheckedSchemaValue.{CheckedSchemaValue, IsCheckedSchemaOf}
+use Rattle.checker_documents.specs.CheckerValue.{CheckedDocumentValue, IsCheckedDocumentOf}
 use Rattle.graphql_checked.specs.Run.{BytesOf, IsAnswerToCertain}
 use Rattle.graphql_checked.specs.Verdicts.{first_terms}
-use Rattle.graphql_checked.specs.declared.refusal.Refusal.{Refusal}
-use Rattle.graphql_checked.specs.declared.refusal.Refusal.TheVariants as refusal
+use Rattle.checker_texts.specs.declared.refusal.Refusal.{Refusal}
+use Rattle.checker_texts.specs.declared.refusal.Refusal.TheVariants as refusal
 use Rattle.verdict_call_laws.specs.Answers.{AnswersFinish, AnswersCheck, RunValue, AnswersRun}
 use Rattle.verdict_call_laws.specs.Again.{SchemasAreSame, IsWrittenPlain, checker_of_written, SchemaAgain, DocumentsAreSame, IsWrittenPlainOver, DocumentAgain, PairAgain, ReadsWhatWasPut, RunAgain}
 

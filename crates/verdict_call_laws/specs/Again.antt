@@ -14,11 +14,12 @@ use Rattle.verdict_road_back_laws.specs.RoadBack.{IsPlainLayout}
 use Rattle.checker_answers.specs.declared.run_fault.Outcome.{Outcome}
 use Rattle.checker_answers.specs.declared.run_fault.Outcome.TheVariants as outcome
 use Rattle.checker_answers.specs.declared.run_fault.RunFault.{RunFault}
-use Rattle.graphql_checked.specs.CheckerValue.{CheckerValue, CheckedSchemaValue, CheckedDocumentValue, IsCheckedSchemaOf, IsCheckedDocumentOf}
+use Rattle.checker_schemas.specs.CheckedSchemaValue.{CheckedSchemaValue, IsCheckedSchemaOf}
+use Rattle.checker_documents.specs.CheckerValue.{CheckerValue, CheckedDocumentValue, IsCheckedDocumentOf}
 use Rattle.graphql_checked.specs.Run.{IsAnswerToCertain}
 use Rattle.graphql_checked.specs.Verdicts.{first_terms}
-use Rattle.graphql_checked.specs.declared.refusal.Refusal.{Refusal}
-use Rattle.graphql_checked.specs.declared.refusal.Refusal.TheVariants as refusal
+use Rattle.checker_texts.specs.declared.refusal.Refusal.{Refusal}
+use Rattle.checker_texts.specs.declared.refusal.Refusal.TheVariants as refusal
 use Rattle.graphql_checked.specs.declared.verdict.Verdict.{Verdict}
 use Rattle.graphql_checked.specs.declared.verdict.Verdict.TheVariants.{Accepted}
 use Rattle.graphql_checked.specs.declared.verdict.CheckError.{CheckError}

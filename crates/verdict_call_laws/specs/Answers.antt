@@ -7,13 +7,14 @@ use Rattle.verdict_definitions.specs.Texts.{SourceText, Terms}
 use Rattle.verdict_definitions.specs.Judge.{AreSchemasCertain, IsDocumentCertain, IsCertain}
 use Rattle.verdict_definitions.specs.Out.{Layout}
 use Rattle.verdict_definitions.specs.Answer.{Answer}
-use Rattle.graphql_checked.specs.CheckerValue.{CheckerValue, CheckedSchemaValue, CheckedDocumentValue, IsCheckedSchemaOf, IsCheckedDocumentOf}
-use Rattle.graphql_checked.specs.CheckerAnswers.{IsFinishRefusal}
-use Rattle.graphql_checked.specs.Refusals.{RefusalOfDocument}
+use Rattle.checker_schemas.specs.CheckedSchemaValue.{CheckedSchemaValue, IsCheckedSchemaOf}
+use Rattle.checker_documents.specs.CheckerValue.{CheckerValue, CheckedDocumentValue, IsCheckedDocumentOf}
+use Rattle.checker_documents.specs.CheckerAnswers.{IsFinishRefusal}
+use Rattle.checker_documents.specs.DocumentRefusals.{RefusalOfDocument}
 use Rattle.graphql_checked.specs.Run.{BytesOf, IsAnswerToCertain}
 use Rattle.graphql_checked.specs.Verdicts.{IsVerdict}
-use Rattle.graphql_checked.specs.declared.refusal.Refusal.{Refusal}
-use Rattle.graphql_checked.specs.declared.refusal.Refusal.TheVariants as refusal
+use Rattle.checker_texts.specs.declared.refusal.Refusal.{Refusal}
+use Rattle.checker_texts.specs.declared.refusal.Refusal.TheVariants as refusal
 use Rattle.graphql_checked.specs.declared.verdict.Verdict.{Verdict}
 use Rattle.graphql_checked.specs.declared.verdict.Verdict.TheVariants.{Accepted}
 use Rattle.graphql_checked.specs.declared.verdict.CheckError.{CheckError}
