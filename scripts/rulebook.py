@@ -70,7 +70,7 @@ class Entry:
     def field(self, name):
         return next(field for field in self.data if field.name == name)
 
-    def wrong(self):
+    def wrong(self, enum):
         """What is not well formed."""
         for key in ("valid", "fault", "message"):
             if not self.one(key):
@@ -81,11 +81,23 @@ class Entry:
         if ("stage" in self.lines) == ("never" in self.lines):
             yield f"{self.name} has to have a `stage` or `never`"
         yield from (f"{self.name}: `{stage}` is no stage" for stage in self.stages() if stage not in STAGES)
-        named = {field.name for field in self.data}
-        yield from (f"{self.name}: `{gap}` is no field" for gap in self.gaps() if not set(gap.split(".")) <= named)
+        named = {field.name: field.type for field in self.data}
+        unknown = [gap for gap in self.gaps() if not set(gap.split(".")) <= set(named)]
+        yield from (f"{self.name}: `{gap}` is no field" for gap in unknown)
+        if not unknown and not can_fill(enum, [[named[name] for name in gap.split(".")] for gap in self.gaps()]):
+            yield f"{self.name}: the texts of {enum} have no template with such gaps"
+        if len(owned(self)) > 8:
+            yield f"{self.name}: scripts/rulebook.py writes copies of at most eight values"
 
     def stages(self):
         return self.one("stage").split(", ") if "stage" in self.lines else []
+
+
+def can_fill(enum, gaps):
+    """Whether the templates of the enum's texts have gaps for these types."""
+    if enum == "DiagnosticData":
+        return len(gaps) <= 5 and all(gap == ["Name", "Name"] or (len(gap) == 1 and TYPES[gap[0]].gap) for gap in gaps)
+    return gaps in ([], [["Name"]], [["OperationType"]], [["Name"], ["Name"]])
 
 
 def entries():
@@ -189,6 +201,24 @@ def call(head, items, room, tail=""):
         return [flat]
     lines = [f"{inner},"] if all(len(item) <= SHORT_WIDTH for item in items) else [f"{item}," for item in items]
     return [head + "("] + indented(lines) + [")" + tail]
+
+
+def let(names, value, items, room):
+    """`let names = value(items)?;`"""
+    front = f"let ({', '.join(names)}) ="
+    lines = call(value, items, room - len(front) - 1, "?;")
+    if len(front) + 1 + len(lines[0]) <= room:
+        return [front + " " + lines[0]] + lines[1:]
+    return [front] + indented(call(value, items, room - 4, "?;"))
+
+
+def in_ok(lines):
+    """The value within `Ok(..)`."""
+    if len(lines) == 1:
+        return [f"Ok({lines[0]})"]
+    if len(lines[0]) <= CALL_WIDTH:
+        return ["Ok(" + lines[0]] + lines[1:-1] + [lines[-1] + ")"]
+    return ["Ok("] + indented(lines[:-1] + [lines[-1] + ","]) + [")"]
 
 
 def arm(patterns, body, indent, is_braced=False):
@@ -310,13 +340,14 @@ def drop_by_owned_lines(enum, entries):
     for types, group in groups.items():
         if not types or len(group) == 1:
             continue
-        names = LET_GO.get(types, ["_first", "_second", "_third", "_fourth"])
+        names = LET_GO.get(types, ["_first", "_second", "_third", "_fourth", "_fifth", "_sixth", "_seventh", "_eighth"])
         patterns = []
         for entry in group:
             given = dict(zip([field.name for field in owned(entry)], names))
             patterns.append(pattern(enum, entry, [f"{field.name}: {given.get(field.name, '_')}" for field in entry.data]))
         lines += arm(patterns, None, 12)
-    last += [entry for entry in entries if entry.data and len(groups[tuple(field.type for field in owned(entry))]) == 1]
+    alone = lambda entry: not owned(entry) or len(groups[tuple(field.type for field in owned(entry))]) == 1
+    last += [entry for entry in entries if entry.data and alone(entry)]
     return lines + arm([ignored(enum, entry) for entry in last], None, 12)
 
 
@@ -360,7 +391,9 @@ def of_copies(entries, kind):
 def clone_lines(entries):
     lines = []
     for entry in of_copies(entries, "nothing"):
-        lines += arm([pattern(DATA, entry, [])], text_body(f"Ok({DATA}::{entry.name})"), 12)
+        made = braces(f"{DATA}::{entry.name}", again(entry))
+        body = in_ok(made) if entry.data else call_body("Ok", made)
+        lines += arm([pattern(DATA, entry, [field.name for field in entry.data])], body, 12)
     for kind in COPIED:
         group = of_copies(entries, kind)
         if kind in ("name", "set"):
@@ -370,7 +403,7 @@ def clone_lines(entries):
         if kind == "set":
             body = ["let (type_name, places) = copies_of_two(type_name, extensions_locations)?;", "Ok(with_set(self, type_name, places))"]
         else:
-            body = text_body("Ok(with_name(self, name.clone()?))" if kind == "name" else f"copied_{kind}(self)")
+            body = call_body("Ok", ["with_name(self, name.clone()?)"]) if kind == "name" else call_body(f"copied_{kind}", ["self"])
         lines += arm(patterns, body, 12)
     return lines
 
@@ -401,14 +434,12 @@ def copied_lines(entries, kind):
         for names in [cloned] if len(cloned) <= 5 else [cloned[:4], cloned[4:]]:
             if len(names) == 1:
                 block.append(f"let {names[0]} = {names[0]}.clone()?;")
-            else:
-                block += call(f"let ({', '.join(names)}) = copies_of_{NUMBERS[len(names)]}", names, WIDTH - 12, "?;")
+            elif names:
+                block += let(names, f"copies_of_{NUMBERS[len(names)]}", names, WIDTH - 12)
         for field in owned(entry):
             if field.known().copied != "clone":
                 block.append(f"let {field.name} = {field.known().copied}({field.name})?;")
-        made = braces(f"{DATA}::{entry.name}", again(entry))
-        block += ["Ok(" + made[0]] + made[1:]
-        block[-1] += ")"
+        block += in_ok(braces(f"{DATA}::{entry.name}", again(entry)))
         lines += arm([pattern(DATA, entry, [field.name for field in entry.data])], block, 8)
     return lines + ["        _ => unreachable!(),"]
 
@@ -600,10 +631,12 @@ def folding_message(entry):
 
 
 def letters(entry):
-    """Short names of the data: the first letter, `p` of a place, `fs` of a list of fields, `c` of what is in a box."""
+    """Short names of the data: the first letter, `p` of a place, `fs` of a list of fields, `c` of what is in a box; where two would
+    be the same, or one a word of the language, the whole names."""
     if entry.is_boxed:
         return ["c"]
-    return ["p" if field.type == "place" else field.name[0] + ("s" if field.type.startswith("Vec") else "") for field in entry.data]
+    short = ["p" if field.type == "place" else field.name[0] + ("s" if field.type.startswith("Vec") else "") for field in entry.data]
+    return short if len(set(short) - {"as"}) == len(short) else [field.name for field in entry.data]
 
 
 def alphabet(entry):
@@ -840,14 +873,17 @@ def count(found):
 
 def main(words):
     book = entries()
+    malformed = [f"{BOOK}:{entry.line}: {text}" for enum in book for entry in book[enum] for text in entry.wrong(enum)]
+    if malformed:
+        print("\n".join(malformed))
+        return 1
     found = parts(book)
     if "--write" in words:
         write(found)
     elif "--count" in words:
         print("\n".join(count(found)))
     elif "--check" in words:
-        malformed = [f"{BOOK}:{entry.line}: {text}" for enum in book.values() for entry in enum for text in entry.wrong()]
-        wrong = malformed + list(wrong_parts(found))
+        wrong = list(wrong_parts(found))
         print("\n".join(wrong + [f"rulebook: {sum(map(len, book.values()))} entries, {len(found)} parts, {len(wrong)} wrong"]))
         return 1 if wrong else 0
     else:
