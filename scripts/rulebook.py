@@ -204,12 +204,14 @@ def call(head, items, room, tail=""):
 
 
 def let(names, value, items, room):
-    """`let names = value(items)?;`"""
-    front = f"let ({', '.join(names)}) ="
-    lines = call(value, items, room - len(front) - 1, "?;")
-    if len(front) + 1 + len(lines[0]) <= room:
-        return [front + " " + lines[0]] + lines[1:]
-    return [front] + indented(call(value, items, room - 4, "?;"))
+    """`let (names) = value(items)?;`"""
+    front = [f"let ({', '.join(names)}) ="]
+    if len(front[0]) > room:
+        front = ["let ("] + indented([name + "," for name in names]) + [") ="]
+    made = call(value, items, room - len(front[-1]) - 1, "?;")
+    if len(front[-1]) + 1 + len(made[0]) <= room:
+        return front[:-1] + [front[-1] + " " + made[0]] + made[1:]
+    return front + indented(call(value, items, room - 4, "?;"))
 
 
 def in_ok(lines):
@@ -377,9 +379,10 @@ def copied_as(entry):
     types = [field.type for field in owned(entry)]
     if not types:
         return "nothing"
-    if types == ["Name"]:
+    names = [field.name for field in owned(entry)]
+    if (types, names) == (["Name"], ["name"]):
         return "name"
-    if types == ["Name", "places"]:
+    if (types, names) == (["Name", "places"], ["type_name", "extensions_locations"]):
         return "set"
     return "cycle" if any(is_trace(field) for field in entry.data) else COPIED_BY_GROUP[entry.group]
 
@@ -392,7 +395,7 @@ def clone_lines(entries):
     lines = []
     for entry in of_copies(entries, "nothing"):
         made = braces(f"{DATA}::{entry.name}", again(entry))
-        body = in_ok(made) if entry.data else call_body("Ok", made)
+        body = call_body("Ok", made) if len(made) == 1 else in_ok(made)
         lines += arm([pattern(DATA, entry, [field.name for field in entry.data])], body, 12)
     for kind in COPIED:
         group = of_copies(entries, kind)
@@ -403,9 +406,15 @@ def clone_lines(entries):
         if kind == "set":
             body = ["let (type_name, places) = copies_of_two(type_name, extensions_locations)?;", "Ok(with_set(self, type_name, places))"]
         else:
-            body = call_body("Ok", ["with_name(self, name.clone()?)"]) if kind == "name" else call_body(f"copied_{kind}", ["self"])
+            body = named_body if kind == "name" else call_body(f"copied_{kind}", ["self"])
         lines += arm(patterns, body, 12)
     return lines
+
+
+def named_body(room):
+    """A copy of what has one name."""
+    flat = "Ok(with_name(self, name.clone()?))"
+    return [flat] if len(flat) <= room else ["Ok(with_name(", "    self,", "    name.clone()?,", "))"]
 
 
 def again(entry):
@@ -438,7 +447,7 @@ def copied_lines(entries, kind):
                 block += let(names, f"copies_of_{NUMBERS[len(names)]}", names, WIDTH - 12)
         for field in owned(entry):
             if field.known().copied != "clone":
-                block.append(f"let {field.name} = {field.known().copied}({field.name})?;")
+                block += call(f"let {field.name} = {field.known().copied}", [field.name], WIDTH - 12, "?;")
         block += in_ok(braces(f"{DATA}::{entry.name}", again(entry)))
         lines += arm([pattern(DATA, entry, [field.name for field in entry.data])], block, 8)
     return lines + ["        _ => unreachable!(),"]
