@@ -267,6 +267,14 @@ def braces_body(head, items):
     return made
 
 
+def ok_body(head, items):
+    def made(room):
+        lines = in_ok(braces(head, items))
+        return lines if len(lines) > 1 or len(lines[0]) <= room else in_ok(tall_braces(head, items))
+
+    return made
+
+
 def quoted(text):
     return '"' + text.replace("\\", "\\\\").replace('"', '\\"') + '"'
 
@@ -394,8 +402,8 @@ def of_copies(entries, kind):
 def clone_lines(entries):
     lines = []
     for entry in of_copies(entries, "nothing"):
-        made = braces(f"{DATA}::{entry.name}", again(entry))
-        body = call_body("Ok", made) if len(made) == 1 else in_ok(made)
+        head = f"{DATA}::{entry.name}"
+        body = ok_body(head, again(entry)) if entry.data else call_body("Ok", [head])
         lines += arm([pattern(DATA, entry, [field.name for field in entry.data])], body, 12)
     for kind in COPIED:
         group = of_copies(entries, kind)
