@@ -193,14 +193,30 @@ def tall_braces(head, items):
     return [head + " {"] + [f"    {item}" if item == ".." else f"    {item}," for item in items] + ["}"]
 
 
-def call(head, items, room, tail=""):
-    """`head(items)tail` in so many columns: on one line where it is short, else with the items on lines of their own."""
+def calls(head, items, tail=""):
+    """The layouts of `head(items)tail`: on one line where the items are short, and with the items on lines of their own."""
     inner = ", ".join(items)
-    flat = f"{head}({inner}){tail}"
-    if len(inner) <= CALL_WIDTH and len(flat) <= room:
-        return [flat]
     lines = [f"{inner},"] if all(len(item) <= SHORT_WIDTH for item in items) else [f"{item}," for item in items]
-    return [head + "("] + indented(lines) + [")" + tail]
+    tall = [head + "("] + indented(lines) + [")" + tail]
+    return [[f"{head}({inner}){tail}"], tall] if len(inner) <= CALL_WIDTH else [tall]
+
+
+def literals(head, items):
+    """The layouts of `head { items }`."""
+    flat = braces(head, items)
+    return [flat, tall_braces(head, items)] if len(flat) == 1 and items else [flat]
+
+
+def in_ok(layouts):
+    """The layouts of a value in `Ok(..)`: what has several lines begins behind the bracket, or on a line of its own."""
+    made = [[f"Ok({lines[0]})"] for lines in layouts if len(lines) == 1]
+    made += [["Ok(" + lines[0]] + lines[1:-1] + [lines[-1] + ")"] for lines in layouts if len(lines) > 1 and len(lines[0]) <= CALL_WIDTH]
+    return made + [["Ok("] + indented(lines[:-1] + [lines[-1] + ","]) + [")"] for lines in layouts]
+
+
+def fitting(layouts, room, tail=""):
+    """The first of these layouts whose first line fits, or the last."""
+    return next((lines for lines in layouts if len(lines[0] + tail * (len(lines) == 1)) <= room), layouts[-1])
 
 
 def let(names, value, items, room):
@@ -208,71 +224,44 @@ def let(names, value, items, room):
     front = [f"let ({', '.join(names)}) ="]
     if len(front[0]) > room:
         front = ["let ("] + indented([name + "," for name in names]) + [") ="]
-    made = call(value, items, room - len(front[-1]) - 1, "?;")
+    made = fitting(calls(value, items, "?;"), room - len(front[-1]) - 1)
     if len(front[-1]) + 1 + len(made[0]) <= room:
         return front[:-1] + [front[-1] + " " + made[0]] + made[1:]
-    return front + indented(call(value, items, room - 4, "?;"))
+    return front + indented(fitting(calls(value, items, "?;"), room - 4))
 
 
-def in_ok(lines):
-    """The value within `Ok(..)`."""
-    if len(lines) == 1:
-        return [f"Ok({lines[0]})"]
-    if len(lines[0]) <= CALL_WIDTH:
-        return ["Ok(" + lines[0]] + lines[1:-1] + [lines[-1] + ")"]
-    return ["Ok("] + indented(lines[:-1] + [lines[-1] + ","]) + [")"]
-
-
-def arm(patterns, body, indent, is_braced=False):
-    """An arm of a match. `body(room)` gives its lines; a body that is None does nothing, one that is a list is a block."""
-    joined = " | ".join(line for pattern in patterns for line in pattern)
-    if all(len(pattern) == 1 for pattern in patterns) and indent + len(joined) + len(" =>") <= WIDTH:
-        lines = [joined]
-    else:
-        lines = patterns[0] + [line if i else "| " + line for pattern in patterns[1:] for i, line in enumerate(pattern)]
-    head, last = lines[:-1], lines[-1]
+def arm(patterns, layouts, indent, is_braced=False):
+    """An arm of a match, whose body has one of the layouts; in braces, where it does not fit the line of the pattern."""
+    last, head = joined(patterns, indent)
     room = WIDTH - indent
-    if body is None:
-        return indented(head + [last + " => {}"], indent)
-    if isinstance(body, list):
-        return indented(head + [last + " => {"] + indented(body) + ["}"], indent)
-    made = body(room - len(last) - len(" => ,"))
-    if len(made) == 1 and len(last + " => " + made[0] + ",") <= room and is_braced != "always":
-        made = [last + " => " + made[0] + ","]
+    made = fitting(layouts, room - len(last) - len(" => "), ",")
+    fits = len(last + " => " + made[0] + "," * (len(made) == 1)) <= room
+    if fits and is_braced != "always" and not (is_braced and len(made) > 1):
+        made = [last + " => " + made[0]] + made[1:]
+        made[-1] += ","
     elif is_braced and len(last + " => {") <= room:
-        made = [last + " => {"] + indented(body(room - 4)) + ["}"]
+        made = [last + " => {"] + indented(fitting(layouts, room - 4)) + ["}"]
     elif is_braced:
-        made = [last + " =>"] + indented(["{ " + body(room)[0] + " }"])
-    elif len(made) > 1 and len(last + " => " + made[0]) <= room:
-        made = [last + " => " + made[0]] + made[1:-1] + [made[-1] + ","]
+        made = [last + " =>"] + indented(["{ " + layouts[0][0] + " }"])
     else:
-        made = body(room - 5)
+        made = fitting(layouts, room - 4, ",")
         made = [last + " =>"] + indented(made[:-1] + [made[-1] + ","])
     return indented(head + made, indent)
 
 
-def text_body(text):
-    return lambda room: [text]
+def block_arm(patterns, block, indent):
+    """An arm whose body is a block of statements."""
+    last, head = joined(patterns, indent)
+    return indented(head + ([last + " => {"] + indented(block) + ["}"] if block else [last + " => {}"]), indent)
 
 
-def call_body(head, items):
-    return lambda room: call(head, items, room)
-
-
-def braces_body(head, items):
-    def made(room):
-        lines = braces(head, items)
-        return lines if len(lines[0]) <= room or len(lines) > 1 else tall_braces(head, items)
-
-    return made
-
-
-def ok_body(head, items):
-    def made(room):
-        lines = in_ok(braces(head, items))
-        return lines if len(lines) > 1 or len(lines[0]) <= room else in_ok(tall_braces(head, items))
-
-    return made
+def joined(patterns, indent):
+    """The last line of an arm's patterns, and those before it: all on one line, if they fit."""
+    line = " | ".join(line for pattern in patterns for line in pattern)
+    if all(len(pattern) == 1 for pattern in patterns) and indent + len(line) + len(" =>") <= WIDTH:
+        return line, []
+    lines = patterns[0] + [line if number else "| " + line for pattern in patterns[1:] for number, line in enumerate(pattern)]
+    return lines[-1], lines[:-1]
 
 
 def quoted(text):
@@ -330,7 +319,7 @@ def ignored(enum, entry):
 
 
 def drop_lines(enum, entries):
-    return arm([ignored(enum, entry) for entry in entries], None, 12)
+    return block_arm([ignored(enum, entry) for entry in entries], [], 12)
 
 
 def owned(entry):
@@ -355,10 +344,10 @@ def drop_by_owned_lines(enum, entries):
         for entry in group:
             given = dict(zip([field.name for field in owned(entry)], names))
             patterns.append(pattern(enum, entry, [f"{field.name}: {given.get(field.name, '_')}" for field in entry.data]))
-        lines += arm(patterns, None, 12)
+        lines += block_arm(patterns, [], 12)
     alone = lambda entry: not owned(entry) or len(groups[tuple(field.type for field in owned(entry))]) == 1
     last += [entry for entry in entries if entry.data and alone(entry)]
-    return lines + arm([ignored(enum, entry) for entry in last], None, 12)
+    return lines + block_arm([ignored(enum, entry) for entry in last], [], 12)
 
 
 def box_lines(entry):
@@ -402,27 +391,22 @@ def of_copies(entries, kind):
 def clone_lines(entries):
     lines = []
     for entry in of_copies(entries, "nothing"):
-        head = f"{DATA}::{entry.name}"
-        body = ok_body(head, again(entry)) if entry.data else call_body("Ok", [head])
-        lines += arm([pattern(DATA, entry, [field.name for field in entry.data])], body, 12)
+        patterns = [pattern(DATA, entry, [field.name for field in entry.data])]
+        lines += arm(patterns, in_ok(literals(f"{DATA}::{entry.name}", again(entry))), 12)
     for kind in COPIED:
         group = of_copies(entries, kind)
         if kind in ("name", "set"):
             patterns = [pattern(DATA, e, [field.name for field in owned(e)], len(owned(e)) < len(e.data)) for e in group]
         else:
             patterns = [pattern(DATA, e, [], True) for e in group]
-        if kind == "set":
-            body = ["let (type_name, places) = copies_of_two(type_name, extensions_locations)?;", "Ok(with_set(self, type_name, places))"]
+        if kind == "name":
+            lines += arm(patterns, in_ok(calls("with_name", ["self", "name.clone()?"])), 12)
+        elif kind == "set":
+            copies = "let (type_name, places) = copies_of_two(type_name, extensions_locations)?;"
+            lines += block_arm(patterns, [copies, "Ok(with_set(self, type_name, places))"], 12)
         else:
-            body = named_body if kind == "name" else call_body(f"copied_{kind}", ["self"])
-        lines += arm(patterns, body, 12)
+            lines += arm(patterns, calls(f"copied_{kind}", ["self"]), 12)
     return lines
-
-
-def named_body(room):
-    """A copy of what has one name."""
-    flat = "Ok(with_name(self, name.clone()?))"
-    return [flat] if len(flat) <= room else ["Ok(with_name(", "    self,", "    name.clone()?,", "))"]
 
 
 def again(entry):
@@ -435,7 +419,7 @@ def with_lines(entries, kind):
     lines = []
     for entry in of_copies(entries, kind):
         others = [field.name for field in entry.data if not field.known().copied]
-        lines += arm([pattern(DATA, entry, others, True)], braces_body(f"{DATA}::{entry.name}", again(entry)), 8)
+        lines += arm([pattern(DATA, entry, others, True)], literals(f"{DATA}::{entry.name}", again(entry)), 8)
     return lines + ["        _ => unreachable!(),"]
 
 
@@ -455,9 +439,9 @@ def copied_lines(entries, kind):
                 block += let(names, f"copies_of_{NUMBERS[len(names)]}", names, WIDTH - 12)
         for field in owned(entry):
             if field.known().copied != "clone":
-                block += call(f"let {field.name} = {field.known().copied}", [field.name], WIDTH - 12, "?;")
-        block += in_ok(braces(f"{DATA}::{entry.name}", again(entry)))
-        lines += arm([pattern(DATA, entry, [field.name for field in entry.data])], block, 8)
+                block += fitting(calls(f"let {field.name} = {field.known().copied}", [field.name], "?;"), WIDTH - 12)
+        block += fitting(in_ok(literals(f"{DATA}::{entry.name}", again(entry))), WIDTH - 12)
+        lines += block_arm([pattern(DATA, entry, [field.name for field in entry.data])], block, 8)
     return lines + ["        _ => unreachable!(),"]
 
 
@@ -485,7 +469,7 @@ def template_lines(entries):
             return f"Gap::FieldOf({name.replace('.', ', ')})" if "." in name else "Gap::" + entry.field(name).known().gap.format(name)
 
         head = "Template::" + ["Whole", "One", "Two", "Three", "Four", "Five"][len(entry.gaps())]
-        lines += arm([told_pattern(DATA, entry)], call_body(head, filling(entry, gap)), 8)
+        lines += arm([told_pattern(DATA, entry)], calls(head, filling(entry, gap)), 8)
     return lines
 
 
@@ -517,9 +501,9 @@ def message_arms(enum, entries, made):
 
 def folding_words(entry):
     if entry.gaps() == ["type_name", "name"]:
-        return text_body("has_twice(type_name, name)")
+        return calls("has_twice", ["type_name", "name"])
     of_field = lambda name: f"{name}.name()" if entry.field(name).type == "OperationType" else f"{name}.as_str()"
-    return call_body("around" if entry.gaps() else "whole", filling(entry, of_field))
+    return calls("around" if entry.gaps() else "whole", filling(entry, of_field))
 
 
 def document_words(entry):
@@ -527,7 +511,7 @@ def document_words(entry):
     of_field = lambda name: f"*{name}" if entry.field(name).type == "OperationType" else front + name
     is_operation = any(entry.field(name).type == "OperationType" for name in entry.gaps())
     head = "Operation" if is_operation else ["Whole", "Named", "TwoNames"][len(entry.gaps())]
-    return call_body("Words::" + head, filling(entry, of_field))
+    return calls("Words::" + head, filling(entry, of_field))
 
 
 # ---- names of rules in Rust
@@ -536,7 +520,7 @@ def document_words(entry):
 def name_lines(enum, entries):
     lines = []
     for entry in entries:
-        lines += arm([pattern(enum, entry, [] if not entry.is_boxed else ["_"], True)], text_body(f'"{entry.name}"'), 8)
+        lines += arm([pattern(enum, entry, [] if not entry.is_boxed else ["_"], True)], [[f'"{entry.name}"']], 8)
     return lines
 
 
@@ -554,8 +538,8 @@ def repeat_lines(entries):
 def repeat_error_lines(entries):
     lines = []
     for entry in repeating(entries):
-        body = braces_body(f"BuildError::{entry.name}", [field.name for field in entry.data])
-        lines += arm([[f"Repeat::{entry.one('repeat')}"]], body, 12)
+        made = literals(f"BuildError::{entry.name}", [field.name for field in entry.data])
+        lines += arm([[f"Repeat::{entry.one('repeat')}"]], made, 12)
     return lines
 
 
