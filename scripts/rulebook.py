@@ -153,11 +153,11 @@ def inside(head, opener=None):
     def find(lines):
         first = at(lines, head)
         if first is not None and opener:
-            first = next(number for number in range(first, len(lines)) if lines[number].strip().startswith(opener))
+            first = next((number for number in range(first, len(lines)) if lines[number].strip().startswith(opener)), None)
         if first is None:
             return None
-        indent = len(lines[first]) - len(lines[first].lstrip())
-        return first + 1, next(number for number in range(first + 1, len(lines)) if lines[number].startswith(" " * indent + "}"))
+        end = at(lines, " " * (len(lines[first]) - len(lines[first].lstrip())) + "}", first + 1)
+        return None if end is None else (first + 1, end)
 
     return find
 
@@ -293,14 +293,11 @@ def wrong_parts(found):
     """A line for each part that is not what the rulebook makes."""
     for part in found:
         lines = sources.read(part.path).split("\n")
-        where = part.find(lines)
-        if where is None:
-            yield f"{part.path}: {part.name} is not there"
-            continue
-        there = lines[where[0] : where[1]]
+        start, end = part.find(lines)
+        there = lines[start:end]
         if there != part.made:
             number = next((n for n, (a, b) in enumerate(zip(there, part.made)) if a != b), min(len(there), len(part.made)))
-            yield f"{part.path}:{where[0] + number + 1}: {part.name} is not what {BOOK} makes; scripts/rulebook.py --write makes it"
+            yield f"{part.path}:{start + number + 1}: {part.name} is not what {BOOK} makes; scripts/rulebook.py --write makes it"
 
 
 def write(found):
@@ -332,6 +329,10 @@ def main(words):
         print("\n".join(malformed))
         return 1
     found = parts(book)
+    lost = [f"{part.path}: {part.name} is not there" for part in found if part.find(sources.read(part.path).split("\n")) is None]
+    if lost:
+        print("\n".join(lost))
+        return 1
     if "--write" in words:
         write(found)
     elif "--count" in words:
