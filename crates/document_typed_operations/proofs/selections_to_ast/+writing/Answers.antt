@@ -25,32 +25,12 @@ set_to_ast-returns t c =
 
 pub field_to_ast-returns : goal.field_to_ast-returns
 field_to_ast-returns t c =
-    let n = c.in_ok-node_at.field-0 in
     let node = c.args.node.now in
-    let here = c.content-field.ensures in
-    let same = c.in_ok-node_at.ensures.content in
-    let copied = nodes-copies argument_tree _ _ c.in_ok-alias.ensures.2.0 in
-    let alias : option_map name_tree c.in_ok-alias.alias ≡ option_map name_tree (content node).alias = search rules in
-    let name : name_tree c.in_ok-alias.name ≡ name_tree (content node).name = search rules in
-    let arguments : map (node_tree argument_tree) c.in_ok-alias.arguments.items ≡ map (node_tree argument_tree) (content node).arguments.items = search (rules, copied) in
-    let directives : directives_tree c.in_ok-alias.directives ≡ directives_tree (content node).directives = search rules in
-    let set : selection_trees selection_tree c.in_ok-selection_set.selection_set.items ≡ ast_set (typed_set_tree (content node).selection_set) = c.in_ok-selection_set.ensures ∙ ap (λ (f : TypedField). ast_set (typed_set_tree f.selection_set)) here in
-    field-written n (place node) (typed_head (content node)) c.in_ok-selection_set.selection_set c.in_ok-node_at.ensures.place
-    (ap field_head same ∙ (λ i. record { alias = alias i; name = name i; arguments = arguments i; directives = directives i }))
-    (ap (λ (f : Field). f.selection_set) same)
-    ∙ (λ i. FieldTree (place node) (typed_head (content node)) (set i))
+    let set : selection_trees selection_tree c.in_ok-selection_set.selection_set.items ≡ ast_set (typed_set_tree (content node).selection_set) = c.in_ok-selection_set.ensures ∙ ap (λ (f : TypedField). ast_set (typed_set_tree f.selection_set)) c.content.ensures in
+    rw (← set) c.field_with.ensures
 
 pub inline_to_ast-returns : goal.inline_to_ast-returns
 inline_to_ast-returns t c =
-    let n = c.in_ok-node_at.field-0 in
     let node = c.args.node.now in
-    let here = c.content-inline.ensures in
-    let same = c.in_ok-node_at.ensures.content in
-    let condition : option_map name_tree c.in_ok-type_condition.type_condition ≡ option_map name_tree (content node).type_condition = search rules in
-    let directives : directives_tree c.in_ok-type_condition.directives ≡ directives_tree (content node).directives = search rules in
-    let set : selection_trees selection_tree c.in_ok-selection_set.selection_set.items ≡ ast_set (typed_set_tree (content node).selection_set) = c.in_ok-selection_set.ensures ∙ ap (λ (f : TypedInline). ast_set (typed_set_tree f.selection_set)) here in
-    inline-written n (place node) (option_map name_tree (content node).type_condition) (directives_tree (content node).directives) c.in_ok-selection_set.selection_set c.in_ok-node_at.ensures.place
-    (ap (λ (f : InlineFragment). option_map name_tree f.type_condition) same ∙ condition)
-    (ap (λ (f : InlineFragment). directives_tree f.directives) same ∙ directives)
-    (ap (λ (f : InlineFragment). f.selection_set) same)
-    ∙ (λ i. InlineTree (place node) (option_map name_tree (content node).type_condition) (directives_tree (content node).directives) (set i))
+    let set : selection_trees selection_tree c.in_ok-selection_set.selection_set.items ≡ ast_set (typed_set_tree (content node).selection_set) = c.in_ok-selection_set.ensures ∙ ap (λ (f : TypedInline). ast_set (typed_set_tree f.selection_set)) c.content.ensures in
+    rw (← set) c.inline_with.ensures
