@@ -1,19 +1,12 @@
-use Rattle.std.proofs.Common.{◌≡◌, ◌≤◌, length, map, ap, ◌∙◌, arith, rules}
-use Rattle.std.proofs.lemmas.Grind.{common_steps}
+use Rattle.std.proofs.Common.{◌≡◌, map, ap, ◌∙◌, rules}
 use Rattle.std.specs.Option.{option_map}
 use Rattle.graphql_names.proofs.Copies.{nodes-copies}
 use Rattle.graphql_names.specs.Node.{content, place}
 use Rattle.graphql_names.specs.Placed.{name_tree, node_tree}
 use Rattle.tree_directives.specs.DirectiveTree.{argument_tree, directives_tree}
-use Rattle.tree_operations.specs.SelectionTree.{FieldTree, InlineTree, selection_tree, selection_trees}
 use Rattle.tree_operations.specs.SelectionParts.{field_head}
 use Rattle.tree_operations.specs.declared.selection.Field.{Field}
-use Rattle.tree_operations.specs.declared.selection.InlineFragment.{InlineFragment}
-use Rattle.document_typed_selections.specs.TypedTree.{typed_set_tree}
 use Rattle.document_typed_selections.specs.TypedParts.{typed_head}
-use Rattle.document_typed_selections.specs.declared.selection.Field.{Field as TypedField}
-use Rattle.document_typed_selections.specs.declared.selection.InlineFragment.{InlineFragment as TypedInline}
-use Rattle.document_typed_operations.specs.ToAst.{ast_set}
 use Rattle.document_typed_operations.proofs.Written.{field-written}
 use Rattle.document_typed_operations.proofs.selections_to_ast.field_with.Goals as goal
 
