@@ -1,8 +1,7 @@
 //! Selections (sections 2.4, 2.5 and 2.8). What holds much is not inlined, so that a level of selections takes the stack of
 //! its kind alone.
-ghost use Rattle.std.specs.Prelude.{◌≡◌, map, IfOk, Some};
+ghost use Rattle.std.specs.Prelude.{◌≡◌, map};
 ghost use Rattle.std.specs.Option.{option_map};
-ghost use Rattle.graphql_names.specs.Node.{content, place};
 ghost use Rattle.graphql_names.specs.Placed.{node_tree};
 ghost use Rattle.tree_directives.specs.DirectiveTree.{argument_tree, directives_tree};
 ghost use Rattle.tree_operations.specs.SelectionTree.{selection_tree, selection_trees};
@@ -18,14 +17,14 @@ use crate::condition::next_is_fragment_name;
 use crate::selection_parts::{
     alias_and_name, begins_selection, optional_condition, placed_spread, selections_or_none,
 };
-use graphql_names::{FileId, Node, SourceSpan};
+use graphql_names::{FileId, Node};
 use read_grammar::Stop;
 use read_tokens::{Source, Terminal};
 use read_values::{
     arguments_or_none, begin, directives_or_none, expect, next_is, next_is_name, open,
     optional_arguments, optional_directives, since,
 };
-use std::alloc::{AllocError, Global};
+use std::alloc::Global;
 use tree_directives::{Argument, DirectiveList};
 use tree_operations::{Field, InlineFragment, Selection};
 
@@ -97,16 +96,6 @@ fn field(alloc: Global, tokens: &mut Source<'_>, file: FileId, depth: usize) -> 
     })
 }
 
-/// A node of what was read at a place.
-// It is not inlined, so that what it moves takes no stack at each level of selections.
-#[inline(never)]
-fn node_at<T: Drop>(alloc: Global, value: T, location: SourceSpan) -> Result<Node<T>, AllocError>
-    ensures content { IfOk result (λ n. content n ≡ value) }
-    ensures place { IfOk result (λ n. place n ≡ Some location) }
-{
-    Ok(Node::new_parsed(alloc, value, location)?)
-}
-
 /// A field with its place.
 #[cycle(selection)]
 #[inline(never)]
@@ -121,7 +110,7 @@ fn placed_field(
     let begin = begin(tokens);
     let found = field(alloc, tokens, file, depth)?;
     let place = since(tokens, file, begin);
-    Ok(Selection::Field(node_at(alloc, found, place)?))
+    Ok(Selection::Field(Node::new_parsed(alloc, found, place)?))
 }
 
 /// `Directives? SelectionSet`
@@ -172,7 +161,7 @@ fn placed_inline(
 {
     let found = inline(alloc, tokens, file, depth)?;
     let place = since(tokens, file, begin);
-    Ok(Selection::InlineFragment(node_at(alloc, found, place)?))
+    Ok(Selection::InlineFragment(Node::new_parsed(alloc, found, place)?))
 }
 
 /// FragmentSpread or InlineFragment: what begins with `...`.

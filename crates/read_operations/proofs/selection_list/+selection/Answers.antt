@@ -61,14 +61,14 @@ dots-returns t c =
 
 pub placed_inline-returns : goal.placed_inline-returns
 placed_inline-returns t c =
-    rw (selection_tree_inline c.in_ok-node_at.field-0, c.in_ok-node_at.ensures.content, c.in_ok-node_at.ensures.place) (search rules)
+    rw (selection_tree_inline c.in_ok-new_parsed.field-0, c.in_ok-new_parsed.ensures.content, c.in_ok-new_parsed.ensures.place) (search rules)
 
 pub placed_field-returns-in_err-found : goal.placed_field-returns-in_err-found
 placed_field-returns-in_err-found t c = rw (field_is (in_file c.args.file) c.args.depth (reading.selection_set (in_file c.args.file) c.args.depth) c.args.tokens.now) (search rules)
 
 pub placed_field-returns : goal.placed_field-returns
 placed_field-returns t c =
-    rw (field_is (in_file c.args.file) c.args.depth (reading.selection_set (in_file c.args.file) c.args.depth) c.args.tokens.now, selection_tree_field c.in_ok-node_at.field-0, c.in_ok-node_at.ensures.content, c.in_ok-node_at.ensures.place) (search rules)
+    rw (field_is (in_file c.args.file) c.args.depth (reading.selection_set (in_file c.args.file) c.args.depth) c.args.tokens.now, selection_tree_field c.in_ok-new_parsed.field-0, c.in_ok-new_parsed.ensures.content, c.in_ok-new_parsed.ensures.place) (search rules)
 
 pub selection-returns-then-next_is_name : goal.selection-returns-then-next_is_name
 selection-returns-then-next_is_name t c =
