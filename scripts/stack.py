@@ -50,6 +50,7 @@ def answer(program, folder, limit, stack):
     """The first line that the program writes with so many KB of stack, or nothing where that was too little."""
 
     def less():
+        resource.setrlimit(resource.RLIMIT_CORE, (0, 0))
         resource.setrlimit(resource.RLIMIT_STACK, (stack * 1024, stack * 1024))
 
     words = [program, "--nesting", str(limit), "document", "schema"]

@@ -1,8 +1,13 @@
-//! Selections as they are written: without definitions and types.
+//! Selections as they are written: without definitions and types. What copies is not inlined, so that it takes no stack at each
+//! level of selections.
 ghost use Rattle.std.specs.Prelude.{◌≡◌, IfOk};
-ghost use Rattle.tree_operations.specs.SelectionTree.{selection_tree, selection_trees};
+ghost use Rattle.std.specs.Option.{option_map};
+ghost use Rattle.graphql_names.specs.Node.{content, place};
+ghost use Rattle.graphql_names.specs.Placed.{name_tree};
+ghost use Rattle.tree_directives.specs.DirectiveTree.{directives_tree};
+ghost use Rattle.tree_operations.specs.SelectionTree.{selection_tree, selection_trees, FieldTree, InlineTree};
 ghost use Rattle.document_typed_selections.specs.TypedTree.{typed_selection_tree, typed_set_tree};
-ghost use Rattle.document_typed_selections.specs.TypedParts.{typed_field_node, typed_spread_node, typed_inline_node};
+ghost use Rattle.document_typed_selections.specs.TypedParts.{typed_head, typed_field_node, typed_spread_node, typed_inline_node};
 ghost use Rattle.document_typed_operations.specs.ToAst.{ast_selection, ast_set};
 
 use crate::written_node::{node_at, push_made};
@@ -45,8 +50,20 @@ fn selection_to_ast(alloc: Global, selection: &Selection) -> Result<ast::Selecti
 fn field_to_ast(alloc: Global, node: &Node<Field>) -> Result<ast::Selection, AllocError>
     ensures { IfOk result (λ s. selection_tree s ≡ ast_selection (typed_field_node node.now)) }
 {
+    let selection_set = set_to_ast(alloc, &node.content().selection_set)?;
+    field_with(alloc, node, selection_set)
+}
+
+/// A field with these selections.
+#[inline(never)]
+fn field_with(
+    alloc: Global,
+    node: &Node<Field>,
+    selection_set: Vec<ast::Selection>,
+) -> Result<ast::Selection, AllocError>
+    ensures { IfOk result (λ s. selection_tree s ≡ FieldTree (place node.now) (typed_head (content node.now)) (selection_trees selection_tree selection_set.items)) }
+{
     let field = node.content();
-    let selection_set = set_to_ast(alloc, &field.selection_set)?;
     let (alias, name, arguments, directives) = copies_of_four(
         &field.alias,
         &field.name,
@@ -68,8 +85,20 @@ fn field_to_ast(alloc: Global, node: &Node<Field>) -> Result<ast::Selection, All
 fn inline_to_ast(alloc: Global, node: &Node<InlineFragment>) -> Result<ast::Selection, AllocError>
     ensures { IfOk result (λ s. selection_tree s ≡ ast_selection (typed_inline_node node.now)) }
 {
+    let selection_set = set_to_ast(alloc, &node.content().selection_set)?;
+    inline_with(alloc, node, selection_set)
+}
+
+/// An inline fragment with these selections.
+#[inline(never)]
+fn inline_with(
+    alloc: Global,
+    node: &Node<InlineFragment>,
+    selection_set: Vec<ast::Selection>,
+) -> Result<ast::Selection, AllocError>
+    ensures { IfOk result (λ s. selection_tree s ≡ InlineTree (place node.now) (option_map name_tree (content node.now).type_condition) (directives_tree (content node.now).directives) (selection_trees selection_tree selection_set.items)) }
+{
     let inline = node.content();
-    let selection_set = set_to_ast(alloc, &inline.selection_set)?;
     let (type_condition, directives) = copies_of_two(&inline.type_condition, &inline.directives)?;
     let written = ast::InlineFragment {
         type_condition,
@@ -80,6 +109,7 @@ fn inline_to_ast(alloc: Global, node: &Node<InlineFragment>) -> Result<ast::Sele
 }
 
 /// A spread.
+#[inline(never)]
 fn spread_to_ast(alloc: Global, node: &Node<FragmentSpread>) -> Result<ast::Selection, AllocError>
     ensures { IfOk result (λ s. selection_tree s ≡ ast_selection (typed_spread_node node.now)) }
 {

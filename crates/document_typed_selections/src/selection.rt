@@ -49,10 +49,12 @@ fn drop_inline(_node: Node<InlineFragment>) {}
 fn drop_definition(_node: Node<FieldDefinition>) {}
 
 /// `alias: name(arguments) @directives { selections }` (section 2.5), with the definition of the field by that name of
-/// the type that it is selected on (section 5.3.1).
+/// the type that it is selected on (section 5.3.1). The definition is not hashed: it costs much, and tells little beside the name.
 #[cycle(selection)]
-#[derive(PartialEq, Eq, Hash)]
+#[derive(PartialEq, Eq)]
+#[derive_where(Hash)]
 pub struct Field {
+    #[derive_where(skip(Hash))]
     pub definition: Node<FieldDefinition>,
     pub alias: Option<Name>,
     pub name: Name,
@@ -122,6 +124,7 @@ pub struct SelectionSet {
 
 impl Drop for SelectionSet {
     #[cycle(drop_selection)]
+    #[inline(always)]
     fn drop(self) {
         let SelectionSet {
             ty: _,

@@ -5,3 +5,4 @@ pub mod Members
 pub mod Takers
 pub mod Selecting
 pub mod Typing
+pub mod NoArguments

@@ -1,6 +1,7 @@
 //! Rules on one field.
-ghost use Rattle.std.specs.Prelude.{◌≡◌, ◌&&◌, not, map, IfOk, OnOk, option_to_list};
+ghost use Rattle.std.specs.Prelude.{◌≡◌, ◌&&◌, [], not, map, IfOk, IsTrue, OnOk, option_to_list};
 ghost use Rattle.std.specs.Option.{option_map};
+ghost use Rattle.graphql_names.specs.Node.{content};
 ghost use Rattle.schema_types.specs.SchemaTree.{is_leaf_kind, is_output_kind};
 ghost use Rattle.schema_types.specs.Addresses.{type_at};
 ghost use Rattle.graphql_schema.specs.SchemaOf.{schema_tree};
@@ -81,6 +82,14 @@ fn coordinate_of(parent: &Name, field: &Name) -> Result<TypeAttributeCoordinate,
     })
 }
 
+/// Whether the field takes no arguments and is given none: then no rule on arguments breaks.
+fn is_without_arguments(field: &Field) -> bool
+    ensures given { IsTrue result → field.now.arguments.items ≡ [] }
+    ensures defined { IsTrue result → (content field.now.definition).arguments.items ≡ [] }
+{
+    field.arguments.is_empty() && field.definition.content().arguments.is_empty()
+}
+
 /// Adds the faults of what is given by the definition of the field on the type around it.
 fn check_defined(
     schema: &Schema,
@@ -92,6 +101,9 @@ fn check_defined(
     ensures { OnOk result (IsDefined (schema_tree schema.now) (standing_field parent.now field.now) → Adds faults.old faults.new (TakerBreaks (place_or_built_in (schema_tree schema.now)) (judged (schema_tree schema.now)) (variables_of variables.now) (field_taker (places_in (schema_tree schema.now)) (standing_field parent.now field.now)))) }
 {
     let selected = field.content();
+    if is_without_arguments(selected) {
+        return Ok(());
+    }
     let Ok(definition) = schema.type_field(parent, &selected.name) else {
         return Ok(());
     };

@@ -1,20 +1,12 @@
-use Rattle.std.proofs.Common.{◌≡◌, ◌≤◌, length, map, ap, ◌∙◌, arith, rules}
+use Rattle.std.proofs.Common.{◌≡◌, ◌≤◌, length, ap, ◌∙◌, arith}
 use Rattle.std.proofs.lemmas.Grind.{common_steps}
-use Rattle.std.specs.Option.{option_map}
-use Rattle.graphql_names.proofs.Copies.{nodes-copies}
-use Rattle.graphql_names.specs.Node.{content, place}
-use Rattle.graphql_names.specs.Placed.{name_tree, node_tree}
-use Rattle.tree_directives.specs.DirectiveTree.{argument_tree, directives_tree}
-use Rattle.tree_operations.specs.SelectionTree.{FieldTree, InlineTree, selection_tree, selection_trees}
-use Rattle.tree_operations.specs.SelectionParts.{field_head}
-use Rattle.tree_operations.specs.declared.selection.Field.{Field}
-use Rattle.tree_operations.specs.declared.selection.InlineFragment.{InlineFragment}
+use Rattle.graphql_names.specs.Node.{content}
+use Rattle.tree_operations.specs.SelectionTree.{selection_tree, selection_trees}
 use Rattle.document_typed_selections.specs.TypedTree.{typed_set_tree}
-use Rattle.document_typed_selections.specs.TypedParts.{typed_head}
 use Rattle.document_typed_selections.specs.declared.selection.Field.{Field as TypedField}
 use Rattle.document_typed_selections.specs.declared.selection.InlineFragment.{InlineFragment as TypedInline}
 use Rattle.document_typed_operations.specs.ToAst.{ast_set}
-use Rattle.document_typed_operations.proofs.Written.{set-written, field-written, inline-written}
+use Rattle.document_typed_operations.proofs.Written.{set-written}
 use Rattle.document_typed_operations.proofs.selections_to_ast.+writing.Goals as goal
 
 pub set_to_ast-returns : goal.set_to_ast-returns
@@ -25,32 +17,12 @@ set_to_ast-returns t c =
 
 pub field_to_ast-returns : goal.field_to_ast-returns
 field_to_ast-returns t c =
-    let n = c.in_ok-node_at.field-0 in
     let node = c.args.node.now in
-    let here = c.content-field.ensures in
-    let same = c.in_ok-node_at.ensures.content in
-    let copied = nodes-copies argument_tree _ _ c.in_ok-alias.ensures.2.0 in
-    let alias : option_map name_tree c.in_ok-alias.alias ≡ option_map name_tree (content node).alias = search rules in
-    let name : name_tree c.in_ok-alias.name ≡ name_tree (content node).name = search rules in
-    let arguments : map (node_tree argument_tree) c.in_ok-alias.arguments.items ≡ map (node_tree argument_tree) (content node).arguments.items = search (rules, copied) in
-    let directives : directives_tree c.in_ok-alias.directives ≡ directives_tree (content node).directives = search rules in
-    let set : selection_trees selection_tree c.in_ok-selection_set.selection_set.items ≡ ast_set (typed_set_tree (content node).selection_set) = c.in_ok-selection_set.ensures ∙ ap (λ (f : TypedField). ast_set (typed_set_tree f.selection_set)) here in
-    field-written n (place node) (typed_head (content node)) c.in_ok-selection_set.selection_set c.in_ok-node_at.ensures.place
-    (ap field_head same ∙ (λ i. record { alias = alias i; name = name i; arguments = arguments i; directives = directives i }))
-    (ap (λ (f : Field). f.selection_set) same)
-    ∙ (λ i. FieldTree (place node) (typed_head (content node)) (set i))
+    let set : selection_trees selection_tree c.in_ok-selection_set.selection_set.items ≡ ast_set (typed_set_tree (content node).selection_set) = c.in_ok-selection_set.ensures ∙ ap (λ (f : TypedField). ast_set (typed_set_tree f.selection_set)) c.content.ensures in
+    rw (← set) c.field_with.ensures
 
 pub inline_to_ast-returns : goal.inline_to_ast-returns
 inline_to_ast-returns t c =
-    let n = c.in_ok-node_at.field-0 in
     let node = c.args.node.now in
-    let here = c.content-inline.ensures in
-    let same = c.in_ok-node_at.ensures.content in
-    let condition : option_map name_tree c.in_ok-type_condition.type_condition ≡ option_map name_tree (content node).type_condition = search rules in
-    let directives : directives_tree c.in_ok-type_condition.directives ≡ directives_tree (content node).directives = search rules in
-    let set : selection_trees selection_tree c.in_ok-selection_set.selection_set.items ≡ ast_set (typed_set_tree (content node).selection_set) = c.in_ok-selection_set.ensures ∙ ap (λ (f : TypedInline). ast_set (typed_set_tree f.selection_set)) here in
-    inline-written n (place node) (option_map name_tree (content node).type_condition) (directives_tree (content node).directives) c.in_ok-selection_set.selection_set c.in_ok-node_at.ensures.place
-    (ap (λ (f : InlineFragment). option_map name_tree f.type_condition) same ∙ condition)
-    (ap (λ (f : InlineFragment). directives_tree f.directives) same ∙ directives)
-    (ap (λ (f : InlineFragment). f.selection_set) same)
-    ∙ (λ i. InlineTree (place node) (option_map name_tree (content node).type_condition) (directives_tree (content node).directives) (set i))
+    let set : selection_trees selection_tree c.in_ok-selection_set.selection_set.items ≡ ast_set (typed_set_tree (content node).selection_set) = c.in_ok-selection_set.ensures ∙ ap (λ (f : TypedInline). ast_set (typed_set_tree f.selection_set)) c.content.ensures in
+    rw (← set) c.inline_with.ensures

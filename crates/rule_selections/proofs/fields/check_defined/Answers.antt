@@ -1,4 +1,4 @@
-use Rattle.std.proofs.Common.{◌∙◌, refl, ap, sym, subst, true≢false, is_some}
+use Rattle.std.proofs.Common.{List, map, ◌∙◌, refl, ap, sym, subst, true≢false, is_some}
 use Rattle.std.proofs.lemmas.Result.{on_ok_weaker}
 use Rattle.graphql_names.specs.Placed.{Place}
 use Rattle.tree_directives.specs.DirectiveTree.{input_value_trees}
@@ -14,6 +14,20 @@ use Rattle.rule_definitions.specs.Uses.{Taker, TakerBreaks}
 use Rattle.rule_values.specs.Wanting.{variables_of}
 use Rattle.rule_document_definitions.specs.Told.{place_or_built_in}
 use Rattle.rule_uses.specs.Trees.{arguments_of}
+use Rattle.tree_directives.specs.DirectiveTree.{argument_tree}
+use Rattle.tree_directives.specs.declared.input_value.InputValueDefinition.{InputValueDefinition}
+use Rattle.tree_type_members.specs.TypeSystemTree.{field_definition_tree, unplaced_field_definition}
+use Rattle.document_typed_selections.specs.TypedParts.{typed_head}
+use Rattle.graphql_names.specs.Node.{content}
+use Rattle.graphql_names.specs.Placed.{node_tree}
+use Rattle.graphql_names.specs.declared.node.Node.{Node}
+use Rattle.fault_data.specs.FaultView.{faults_of}
+use Rattle.rule_document_definitions.specs.Selections.{field_taker}
+use Rattle.rule_document_definitions.specs.Told.{places_in}
+use Rattle.rule_uses.specs.Trees.{plain_inputs}
+use Rattle.rule_selections.specs.Steps.{standing_field}
+use Rattle.rule_definitions.proofs.Listing.{gains_nothing}
+use Rattle.rule_selections.proofs.NoArguments.{none_break}
 use Rattle.rule_selections.proofs.Takers.{same_taker, tells_places}
 use Rattle.rule_selections.proofs.fields.check_defined.Goals as goal
 
@@ -40,3 +54,11 @@ returns c =
     (same_taker s c.args.parent.now c.args.field.now f c.content-selected.ensures component found c.location.result c.location-2.result given definitions c.location.ensures c.location-2.ensures (ap arguments_of c.as_slice.ensures.value) same_inputs defined)
     (h (place_or_built_in s) (tells_places s c.args.parent.now c.args.field.now f c.content-selected.ensures component found c.location.result c.location-2.result given definitions c.location.ensures c.location-2.ensures (ap arguments_of c.as_slice.ensures.value) same_inputs _ refl refl)))
     c.check_taken.ensures
+
+pub returns-then-is_without_arguments : goal.returns-then-is_without_arguments
+returns-then-is_without_arguments c =
+    let s = schema_tree c.args.schema.now in
+    let is = sym c.content-selected.ensures in
+    let given = ap (λ (g : Field). (typed_head g).arguments) is ∙ ap (map (node_tree argument_tree)) (c.is_without_arguments.ensures.given c.if-is_without_arguments.true) in
+    let defined = ap (λ (g : Field). (unplaced_field_definition (field_definition_tree (content g.definition))).arguments) is ∙ ap (λ (l : List (Node InputValueDefinition)). plain_inputs (input_value_trees l)) (c.is_without_arguments.ensures.defined c.if-is_without_arguments.true) in
+    λ _. gains_nothing (faults_of c.args.faults.now) _ (none_break (place_or_built_in s) (judged s) (variables_of c.args.variables.now) (field_taker (places_in s) (standing_field c.args.parent.now c.args.field.now)) given defined)
