@@ -1,5 +1,7 @@
+use Rattle.std.proofs.Common.{[], ap, ◌∙◌}
 use Rattle.std.proofs.lemmas.Result.{err_from_is_err_and}
 use Rattle.tree_definitions.specs.DefinitionTree.{document_tree}
+use Rattle.schema_building.specs.SourcesView.{with_sources}
 use Rattle.document_typing.specs.DocumentView.{meant_document}
 use Rattle.document_typed_operations.specs.TypedDocument.{typed_document_tree}
 use Rattle.checker_documents.specs.CheckedView.{schema_value}
@@ -40,8 +42,13 @@ returns-in_err-validate-clause-complete c =
 
 pub invariant_of-result : goal.invariant_of-result
 invariant_of-result c =
-    rw c.in_ok-from_str.ensures.ok (accepted_document (schema_value c.args.self.now) c.args.text.now (document_tree c.in_ok-tree.tree) c.in_ok-tree.ensures.read
-    (meant_document (typed_document_tree c.in_ok-document.document)) c.in_ok-document.ensures.typed (c.in_ok-validate.ensures.valid c.in_ok-document.ensures.typed.typed))
+    rw c.in_ok-from_str.ensures.ok (record {
+      accepted = accepted_document (schema_value c.args.self.now) c.args.text.now (document_tree c.in_ok-tree.tree) c.in_ok-tree.ensures.read
+          (meant_document (typed_document_tree c.in_ok-document.document)) c.in_ok-document.ensures.typed (c.in_ok-validate.ensures.valid c.in_ok-document.ensures.typed.typed);
+      sources = c.in_ok-document.ensures.sources ∙ ap (with_sources []) c.in_ok-tree.ensures.sources;
+      typed = c.in_ok-document.ensures.typed.typed;
+      defined = c.in_ok-document.ensures.defined;
+    })
 
 pub returns-clause-accepted : goal.returns-clause-accepted
 returns-clause-accepted c =
