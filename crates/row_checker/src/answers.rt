@@ -1,26 +1,11 @@
-//! Answers of `check_texts`, and of the checker call by call.
+//! Answers of the checker call by call.
 
-use graphql_checked::{
-    CheckError, CheckedDocument, CheckedSchema, Checker, Layout, Limits, Refusal, Verdict,
-    check_texts,
-};
+use graphql_checked::{CheckedDocument, CheckedSchema, Checker, Layout, Limits, Refusal};
 use graphql_names::Files;
 use row_files::Answer;
-use row_texts::{Asked, Texts, push_refusal, push_refused, push_text};
+use row_texts::{Asked, push_refusal, push_text};
 use schema_components::Extensions;
 use std::alloc::Global;
-
-/// Adds the answer of `check_texts`.
-pub(crate) fn push_verdict(alloc: Global, texts: Texts<'_>, answer: &mut Answer) {
-    let limits = Limits {
-        nesting: texts.asked.nesting,
-    };
-    match check_texts(alloc, texts.schemas, texts.document, limits) {
-        Ok(Verdict::Accepted) => answer.show("0", &"accepted\n"),
-        Ok(Verdict::Refused(list)) => push_refused(&list, answer),
-        Err(CheckError::Memory) => answer.status.put("4 out of memory"),
-    }
-}
 
 /// Adds the answers to the documents, while what the first gives is kept, and last what that is written as.
 pub(crate) fn push_around(

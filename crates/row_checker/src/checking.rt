@@ -1,11 +1,13 @@
 //! The calls of the checker.
 
-use crate::answers::{push_around, push_check, push_verdict, schema_of};
+use crate::answers::{push_around, push_check, schema_of};
 use crate::pairs::push_checked;
-use crate::runs::run_by;
-use graphql_checked::Refusal;
-use row_files::{Answer, Calls, Case, Problem, Tally, Way};
-use row_texts::{Asked, Checks, Pair, Texts, by_texts, names_of, push_refusal};
+use graphql_checked::{CheckError, Limits, Refusal, Verdict, check_texts, run};
+use row_files::{Answer, Calls, Case, Problem, Tally, Way, device, reader};
+use row_texts::{
+    Asked, Checks, Pair, Texts, by_texts, failed_reader, names_of, push_end, push_refusal,
+    push_refused, readers,
+};
 use std::alloc::{AllocError, Global};
 
 /// The calls of the checker.
@@ -23,7 +25,14 @@ impl Calls for Checking {
 
 impl Checks for Checking {
     fn push_check_texts(&self, alloc: Global, texts: Texts<'_>, answer: &mut Answer) {
-        push_verdict(alloc, texts, answer);
+        let limits = Limits {
+            nesting: texts.asked.nesting,
+        };
+        match check_texts(alloc, texts.schemas, texts.document, limits) {
+            Ok(Verdict::Accepted) => answer.show("0", &"accepted\n"),
+            Ok(Verdict::Refused(list)) => push_refused(&list, answer),
+            Err(CheckError::Memory) => answer.status.put("4 out of memory"),
+        }
     }
 
     fn push_calls(&self, alloc: Global, texts: Texts<'_>, answer: &mut Answer) {
@@ -67,6 +76,23 @@ impl Checks for Checking {
         asked: Asked,
         told: &mut Answer,
     ) -> Result<(), AllocError> {
-        run_by(alloc, schemas, way, asked, told)
+        let plan = way.plan;
+        let limits = Limits {
+            nesting: asked.nesting,
+        };
+        let mut document = reader(way.document, plan, schemas.len().saturating_add(1));
+        let mut schemas = readers(alloc, schemas, plan)?;
+        let mut writer = device(&mut told.written, plan, plan.write);
+        let answer = run(
+            alloc,
+            &mut schemas,
+            &mut document,
+            limits,
+            asked.layout,
+            &mut writer,
+        );
+        let failed = (failed_reader(&schemas, document.failed()), writer.failed());
+        push_end(answer, failed, &mut told.status);
+        Ok(())
     }
 }

@@ -5,7 +5,6 @@
 mod answers;
 mod checking;
 mod pairs;
-mod runs;
 
 use crate::checking::Checking;
 use row_files::judge_files;
