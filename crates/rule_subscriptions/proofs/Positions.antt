@@ -8,6 +8,7 @@ use Rattle.document_meaning.specs.MeantTree.{MeantSelection, MeantField, MeantSp
 use Rattle.rule_document_definitions.specs.Selected.{Position, InOperation, InFragment, SelectionAt, Standing}
 use Rattle.rule_always.specs.Inside.{inside, inside_from, inside_below}
 use Rattle.rule_subscriptions.specs.Rooted.{Apart}
+use Rattle.rule_always.proofs.Mapped.{mapped_in}
 use Rattle.rule_always.proofs.Inside.{head, here}
 
 -- ---- lists
