@@ -1,7 +1,7 @@
 #!/usr/bin/env python3
 """How the time of document rules grows: growth.py PROGRAM [WORD]
 
-PROGRAM is the built program of `row_validation` (`rt run` there leaves it in `out/`). Row files of sizes n and 10 n are
+PROGRAM is the built program of `row_rules` (`rt run` there leaves it in `out/`). Row files of sizes n and 10 n are
 written to a folder that is removed again, and PROGRAM judges each. A line tells the two times, less that of an empty row, and
 by what factor they differ: about 10 where time grows with the size. With WORD only cases whose names have it are run."""
 

@@ -1,17 +1,24 @@
-//! Rows of schemas that are judged by rules, and of what stands in documents, by itself. Its words name the files of its
-//! `data/`.
+//! Rows of schemas, of what stands in documents by itself, of documents, and of sets of fields by themselves, that are judged
+//! by rules. Its words name the files of its `data/`.
 #![tactic(auto)]
 
+mod copies;
+mod documents;
+mod field_sets;
 mod given;
+mod input;
+mod inputs;
+mod judged_schemas;
+mod merging;
 mod schemas;
 mod told;
 mod uses;
 
+use crate::inputs::{by_inputs, by_uses};
+use crate::judged_schemas::judge_schema;
 use crate::schemas::push_rules;
-use crate::uses::push_use;
-use graphql_schema::Schema;
 use row_files::{Calls, Case, Problem, Tally, judge, judge_files};
-use row_schemas::build;
+use row_schemas::{Built, build};
 use std::alloc::Global;
 use std::process::ExitCode;
 
@@ -26,34 +33,45 @@ impl Calls for Judging {
             "directives" => Some(&["schema", "standalone", "location", "input"]),
             "arguments" => Some(&["input"]),
             "usage" => Some(&["schema", "input"]),
+            "document" => Some(&["schema", "nesting", "input", "once", "some"]),
+            "merging" => Some(&[
+                "schema", "nesting", "input", "once", "some", "returns", "at_least", "at_most",
+            ]),
+            "alone" => Some(&["nesting", "input", "once", "some"]),
+            "field_set" => Some(&["schema", "nesting", "type", "input", "once", "some"]),
             _ => None,
         }
     }
 
     fn judge(&self, alloc: Global, case: Case<'_>, tally: &mut Tally) -> Result<(), Problem> {
+        if case.call == "alone" {
+            return by_inputs(alloc, case, None, tally);
+        }
         match build(alloc, case, &mut tally.answer)? {
-            Some(mut built) => by_schema(alloc, case, &mut built.schema, tally),
+            Some(mut built) => by_built(alloc, case, &mut built, tally),
             None => judge(case, &[], tally),
         }
     }
 }
 
-/// Judges the schema, or each input of the row over it.
-fn by_schema(
+/// Judges what is built, or each input of the row over it.
+fn by_built(
     alloc: Global,
     case: Case<'_>,
-    schema: &mut Schema,
+    built: &mut Built,
     tally: &mut Tally,
 ) -> Result<(), Problem> {
-    if case.call == "rules" || case.call == "kept" {
-        push_rules(alloc, case, schema, &mut tally.answer)?;
-        return judge(case, &[], tally);
+    match case.call {
+        "rules" | "kept" => {
+            push_rules(alloc, case, &mut built.schema, &mut tally.answer)?;
+            judge(case, &[], tally)
+        }
+        "document" | "merging" | "field_set" => {
+            judge_schema(alloc, case, built)?;
+            by_inputs(alloc, case, Some(&built.schema), tally)
+        }
+        _ => by_uses(alloc, case, &built.schema, tally),
     }
-    for input in &case.given.inputs {
-        push_use(alloc, case, schema, input, &mut tally.answer)?;
-        judge(case, input, tally)?;
-    }
-    Ok(())
 }
 
 fn main(rt: HostRuntime) -> ExitCode {

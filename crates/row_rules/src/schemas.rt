@@ -1,6 +1,6 @@
 //! Schemas that are judged as a whole.
 
-use crate::told::push_told;
+use crate::copies::push_in_order;
 use graphql_faults::DiagnosticList;
 use graphql_rules::validate_schema;
 use graphql_schema::Schema;
@@ -21,7 +21,7 @@ pub(crate) fn push_rules(
     if case.call == "kept" {
         push_scalars(schema, &mut answer.text);
     }
-    Ok(push_told(alloc, &list, answer)?)
+    Ok(push_in_order(alloc, &list, answer)?)
 }
 
 /// Adds the name of each scalar among the types, a line each.

@@ -1,43 +1,126 @@
-//! What is told, and whether copies tell the same.
+//! What is told, in the order of places: in which order a call tells faults is nowhere asked for.
 
-use graphql_faults::{Details, DiagnosticData, DiagnosticList};
-use row_files::{Answer, Lines, push_faults};
+use graphql_documents::BuildError;
+use graphql_faults::DiagnosticList;
+use graphql_names::SourceSpan;
+use row_files::{Answer, Case, Problem, says};
 use std::alloc::{AllocError, Global};
+use std::fmt::Display;
 
-/// Adds a line for each fault, in order. The status tells whether there is one, and first where the copy of one is another.
-pub(crate) fn push_told(
+/// A line that is told: the numbers of its file and its offset, and its text. Without a place both are 0.
+type Told = (u64, usize, String);
+
+/// Adds a line for each definition or selection without a meaning, in order.
+pub(crate) fn push_typing(
     alloc: Global,
-    list: &DiagnosticList,
+    faults: &[(Option<SourceSpan>, BuildError)],
     answer: &mut Answer,
 ) -> Result<(), AllocError> {
-    for (_, details) in list.iter() {
-        if !is_copied(alloc, details)? {
-            answer.status.put("the copy of a fault is another: ");
-        }
+    for (place, error) in faults {
+        let (_, _, text) = line_of(alloc, *place, "without a meaning: ", error)?;
+        answer.text.show_between("", &text, "\n");
     }
-    push_faults(list.iter().as_slice(), answer);
     Ok(())
 }
 
-/// Whether the copy of what breaks a rule equals it and tells the same.
-fn is_copied(alloc: Global, details: &Details) -> Result<bool, AllocError> {
-    match details {
-        Details::Data(data) => data_is_copied(alloc, data),
-        _ => Ok(true),
+/// Adds a line for each fault, those that stand first in front. The status tells whether there is one.
+pub(crate) fn push_told(
+    alloc: Global,
+    case: Case<'_>,
+    list: &DiagnosticList,
+    answer: &mut Answer,
+) -> Result<(), Problem> {
+    let mut lines = lines_of(alloc, list)?;
+    if says(case.row, "once", "yes")? {
+        lines.dedup();
+    }
+    answer.status.put(if lines.is_empty() { "0" } else { "1" });
+    if says(case.row, "some", "yes")? && !lines.is_empty() && are_wanted(case, &lines) {
+        push_wanted(case, answer);
+    } else {
+        push_lines(&lines, answer);
+    }
+    Ok(())
+}
+
+/// Adds that the call returned, and what the row wants where each fault is one of that.
+pub(crate) fn push_returned(
+    alloc: Global,
+    case: Case<'_>,
+    list: &DiagnosticList,
+    answer: &mut Answer,
+) -> Result<(), Problem> {
+    let lines = lines_of(alloc, list)?;
+    answer.status.put("returned");
+    if are_wanted(case, &lines) {
+        push_wanted(case, answer);
+    } else {
+        push_lines(&lines, answer);
+    }
+    Ok(())
+}
+
+/// Adds lines.
+fn push_lines(lines: &[Told], answer: &mut Answer) {
+    for (_, _, text) in lines {
+        answer.text.show_between("", text, "\n");
     }
 }
 
-/// Whether the copy of the data equals them and tells the same.
-fn data_is_copied(alloc: Global, data: &DiagnosticData) -> Result<bool, AllocError> {
-    let copy = data.clone()?;
-    Ok(copy == *data && tell_the_same(alloc, &copy, data))
+/// The lines of the faults, those that stand first in front.
+fn lines_of(alloc: Global, list: &DiagnosticList) -> Result<Vec<Told>, AllocError> {
+    let mut lines = Vec::new(alloc);
+    for (place, details) in list.iter() {
+        lines.push(line_of(alloc, *place, "", details)?)?;
+    }
+    lines.sort()?;
+    Ok(lines)
 }
 
-/// Whether the data tell the same.
-fn tell_the_same(alloc: Global, one: &DiagnosticData, other: &DiagnosticData) -> bool {
-    let mut told = Lines::new(alloc);
-    told.show(one);
-    let mut other_told = Lines::new(alloc);
-    other_told.show(other);
-    told.as_str() == other_told.as_str()
+/// The line of a fault, with these words in front of its message.
+fn line_of<T: Display>(
+    alloc: Global,
+    place: Option<SourceSpan>,
+    words: &str,
+    fault: &T,
+) -> Result<Told, AllocError> {
+    match place {
+        None => Ok((0, 0, format!(in alloc; "-: {words}{fault}")?)),
+        Some(span) => {
+            let file = span.file_id.0;
+            let offset = span.offset;
+            let text = format!(in alloc; "{file}:{offset}: {words}{fault}")?;
+            Ok((file, offset, text))
+        }
+    }
+}
+
+/// The output that the row wants.
+fn wanted_of(case: Case<'_>) -> &str {
+    str::from_utf8(case.out).unwrap_or("")
+}
+
+/// Whether each line is one that the row wants.
+fn are_wanted(case: Case<'_>, lines: &[Told]) -> bool {
+    for (_, _, text) in lines {
+        if !is_wanted(case, text) {
+            return false;
+        }
+    }
+    true
+}
+
+/// Whether the row wants the line.
+fn is_wanted(case: Case<'_>, text: &str) -> bool {
+    for line in wanted_of(case).lines() {
+        if line == text {
+            return true;
+        }
+    }
+    false
+}
+
+/// Adds what the row wants, of which some is told.
+fn push_wanted(case: Case<'_>, answer: &mut Answer) {
+    answer.text.put(wanted_of(case));
 }

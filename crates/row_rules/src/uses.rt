@@ -1,7 +1,7 @@
 //! Rows of directives, arguments, variables and values by themselves, and of types that fields of interfaces ask for.
 
+use crate::copies::push_in_order;
 use crate::given::{arguments_of, asked_for, first_argument, location_of, row_type, type_of};
-use crate::told::push_told;
 use graphql_faults::DiagnosticList;
 use graphql_names::{FileId, Node};
 use graphql_rules::{
@@ -63,7 +63,7 @@ fn push_faults_of(
     };
     let mut list = DiagnosticList::new(alloc);
     tell(alloc, case, schema, node.content(), &mut list)?;
-    Ok(push_told(alloc, &list, answer)?)
+    Ok(push_in_order(alloc, &list, answer)?)
 }
 
 /// Tells what the call finds in the operation.

@@ -31,11 +31,12 @@ use Rattle.rule_document_definitions.specs.DeferUses.{defers, labels, string_lab
 use Rattle.rule_document_definitions.specs.Defer.{LabelsBreak}
 use Rattle.rule_definitions.proofs.Firsts.{earlier_is_found}
 use Rattle.rule_definitions.proofs.Listing.{Lists, lists_same, lists_both, lists_one, lists_present, lists_index, lists_places, places_more, mapped_more}
-use Rattle.rule_subscriptions.specs.Inside.{contents_along, contents_below}
+use Rattle.rule_always.specs.Inside.{contents_along, contents_below}
 use Rattle.rule_subscriptions.specs.Labels.{values_meant, label_of, labels_of, labels_in, text_label, string_label, variable_label, label_again, first_place, duplicate_label, label_breaks, AreFirstPlaces, NotesFirst, NotesLabel, told_again}
-use Rattle.rule_subscriptions.specs.Listed.{is_directive, all_stay}
+use Rattle.rule_always.specs.Stays.{is_directive, all_stay}
 use Rattle.rule_subscriptions.specs.Rooted.{operation_set, fragment_set, alone_told}
-use Rattle.rule_subscriptions.proofs.Sets.{flat_map-flat_map, document_told}
+use Rattle.rule_always.proofs.Sets.{flat_map-flat_map}
+use Rattle.rule_subscriptions.proofs.Sets.{document_told}
 
 -- what is given of some elements, piece by piece
 pieces : {X Y : Type 0} (h : X → Option Y) (xs : List X) → filter_map h xs ≡ flat_map (λ x. option_to_list (h x)) xs

@@ -9,7 +9,7 @@ use Rattle.document_typed_selections.specs.declared.selection.Selection.{Selecti
 use Rattle.document_meaning.specs.MeantTree.{MeantSelection, meant}
 use Rattle.document_walks.specs.Reached.{Member}
 use Rattle.document_walks.specs.WalkView.{lent_member}
-use Rattle.rule_subscriptions.specs.Rooted.{lent, lent_all}
+use Rattle.rule_always.specs.Lent.{lent, lent_all}
 
 abbrev pub members_lent : List (Member Place) → List (MeantSelection Place)
 members_lent es = map (λ e. meant e.1) es
@@ -27,7 +27,3 @@ taken xs ys e copy left rest all first same more h =
 
 pub all_taken : (xs : List Selection) (left : List (Member Place)) (all : List (MeantSelection Place)) → left ≡ [] → lent_all xs ++ members_lent left ≡ all → lent_all xs ≡ all
 all_taken xs left all none h = sym (append-nil (lent_all xs)) ∙ ap (λ l. lent_all xs ++ members_lent l) (sym none) ∙ h
-
-pub length-lent : (xs : List Selection) → length (lent_all xs) ≡ length xs
-length-lent [] = refl
-length-lent (x ∷ xs) = ap suc (length-lent xs)

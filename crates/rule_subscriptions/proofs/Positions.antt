@@ -6,26 +6,12 @@ use Rattle.std.proofs.lemmas.List.Elements.{Contains-append_left, Contains-appen
 use Rattle.rule_cycle_search.proofs.Lists.{not_in_nil, Contains-cons, Contains-first}
 use Rattle.document_meaning.specs.MeantTree.{MeantSelection, MeantField, MeantSpread, MeantInline, MeantSet, meant_set, MeantSelections, no_meant, meant_then}
 use Rattle.rule_document_definitions.specs.Selected.{Position, InOperation, InFragment, SelectionAt, Standing}
-use Rattle.rule_subscriptions.specs.Inside.{inside, inside_from, inside_below}
+use Rattle.rule_always.specs.Inside.{inside, inside_from, inside_below}
 use Rattle.rule_subscriptions.specs.Rooted.{Apart}
-use Rattle.rule_subscriptions.proofs.Inside.{head, here}
+use Rattle.rule_always.proofs.Mapped.{mapped_in}
+use Rattle.rule_always.proofs.Inside.{head, here}
 
 -- ---- lists
-
-module _ {X Y : Type 0} (f : X → Y) where
-  pub mapped_in : (xs : List X) (y : Y) → Contains (map f xs) y → (x : X) × (Contains xs x × (f x ≡ y))
-  mapped_in [] y c = not_in_nil y c
-  mapped_in (x ∷ xs) y c = elim (Contains-cons (f x) (map f xs) y c) [
-    | inl e ↦ (x, (Contains-first x xs x refl, e))
-    | inr r ↦ let p = mapped_in xs y r in (p.0, (Contains-append_right (x ∷ []) xs p.0 p.1.0, p.1.1))
-  ]
-
-  pub in_mapped : (xs : List X) (x : X) → Contains xs x → Contains (map f xs) (f x)
-  in_mapped [] x c = not_in_nil x c
-  in_mapped (z ∷ xs) x c = elim (Contains-cons z xs x c) [
-    | inl e ↦ Contains-first (f z) (map f xs) (f x) (ap f e)
-    | inr r ↦ Contains-append_right (f z ∷ []) (map f xs) (f x) (in_mapped xs x r)
-  ]
 
 module _ {X : Type 0} where
   pub apart_append : (xs ys : List X) → Apart xs → Apart ys → ((z : X) → Contains xs z → Contains ys z → ⊥) → Apart (xs ++ ys)

@@ -1,8 +1,8 @@
 -- What a walk lends of the root of an operation are the selections at its root, each once.
-use Rattle.std.proofs.Common.{◌≡◌, ◌↔◌, ◌++◌, ℕ, Bool, true, false, List, [], ◌∷◌, Option, None, Some, map, refl, sym, ap, subst, ◌∙◌, inl, inr, true≢false, is_some, Contains}
+use Rattle.std.proofs.Common.{◌≡◌, ◌↔◌, ◌++◌, ℕ, Bool, true, false, List, [], ◌∷◌, Option, None, Some, map, find, refl, sym, ap, subst, ◌∙◌, inl, inr, true≢false, is_some, Contains}
 use Rattle.std.specs.Prelude.{if◌then◌else◌}
 use Rattle.std.specs.List.{flat_map, IsDistinct, AllByRecursion}
-use Rattle.std.specs.Option.{option_map_or}
+use Rattle.std.specs.Option.{option_map, option_map_or}
 use Rattle.std.specs.Str.{bytes_eq}
 use Rattle.std.proofs.lemmas.Option.{same_Some}
 use Rattle.std.proofs.lemmas.List.{map-append}
@@ -10,7 +10,7 @@ use Rattle.std.proofs.lemmas.List.Elements.{Contains-append_left, Contains-appen
 use Rattle.std.proofs.lemmas.Slice.Eq.{bytes_eq-Decides}
 use Rattle.std.proofs.lemmas.Map.Keys.{IsDistinct-head, IsDistinct-tail}
 use Rattle.graphql_names.specs.Placed.{Text}
-use Rattle.rule_cycle_search.proofs.Lists.{not_in_nil, Contains-cons, only, found_in, given_in, Contains-first}
+use Rattle.rule_cycle_search.proofs.Lists.{not_in_nil, Contains-cons, only, found_in, given_in, Contains-first, mapped_some}
 use Rattle.document_typed_selections.specs.TypedTree.{TypedSelection, TypedField, TypedSpread, TypedInline, TypedSet, typed_set, TypedSelections, no_typed, typed_then}
 use Rattle.document_typed_operations.specs.TypedDocument.{TypedDocumentTree}
 use Rattle.document_meaning.specs.MeantTree.{MeantSelection, MeantSet, MeantOperation, MeantFragment, MeantDocument, meant, meant_of_set, meant_of_all}
@@ -21,13 +21,22 @@ use Rattle.document_walks.proofs.Passing.{bare_in}
 use Rattle.rule_document_definitions.specs.Selected.{Position, InOperation, InFragment, Standing, spread_name, operation_name, fragment_named, own}
 use Rattle.rule_document_definitions.specs.Reached.{Closed, first, next, InFragmentOf, AtRoot}
 use Rattle.rule_subscriptions.specs.Told.{FragmentsUnderOwnNames}
-use Rattle.rule_subscriptions.specs.Inside.{contents_in, contents_along, contents_of, inside, inside_fragment, located, ReachesBy}
-use Rattle.rule_subscriptions.specs.Listed.{all_stay}
+use Rattle.rule_always.specs.Inside.{contents_in, contents_along, contents_of, inside, inside_fragment, located, ReachesBy}
+use Rattle.rule_always.specs.Stays.{all_stay}
 use Rattle.rule_subscriptions.specs.Rooted.{Apart, AreRoots}
-use Rattle.rule_subscriptions.proofs.Inside.{contents_inside}
-use Rattle.rule_subscriptions.proofs.Positions.{mapped_in, in_mapped, apart_append, apart_in, top, top_in}
-use Rattle.rule_subscriptions.proofs.Lookups.{found_name, walk_finds, rules_find, own_name, is_name}
-use Rattle.rule_subscriptions.proofs.Closing.{own_reached, held_reached, located_cases, located_reached, reached_located}
+use Rattle.rule_always.proofs.Inside.{contents_inside}
+use Rattle.rule_always.proofs.Mapped.{mapped_in, in_mapped}
+use Rattle.rule_subscriptions.proofs.Positions.{apart_append, apart_in, top, top_in}
+use Rattle.rule_always.proofs.Lookups.{found_name, find_passes, find_in, walk_finds, rules_find, is_name}
+use Rattle.rule_always.proofs.Closing.{own_reached, held_reached, located_cases, located_reached, reached_located}
+
+-- a fragment that stands under its own name
+pub own_name : {P : Type 0} (d : MeantDocument P) (n : List ℕ) (f : MeantFragment P) → FragmentsUnderOwnNames d → fragment_named d n ≡ Some f → n ≡ f.name.it
+own_name {P} d n f own h =
+    let e = mapped_some (λ (e : List ℕ × MeantFragment P). e.1) (find (λ (e : List ℕ × MeantFragment P). bytes_eq n e.0) d.fragments) f h in
+    is_name n e.0.0 (find_passes (λ (x : List ℕ × MeantFragment P). bytes_eq n x.0) d.fragments e.0 e.1.0)
+    ∙ own e.0 (find_in (λ (x : List ℕ × MeantFragment P). bytes_eq n x.0) d.fragments e.0 e.1.0)
+    ∙ sym (ap (λ (f : MeantFragment P). f.name.it) e.1.1)
 
 map-map : {A B C : Type 0} (f : B → C) (g : A → B) (xs : List A) → map f (map g xs) ≡ map (λ x. f (g x)) xs
 map-map f g [] = refl

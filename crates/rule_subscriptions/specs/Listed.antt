@@ -13,23 +13,10 @@ use Rattle.rule_definitions.specs.Names.{directive_name}
 use Rattle.rule_document_definitions.specs.DocumentFaults.{Broken, broken}
 use Rattle.rule_document_definitions.specs.Selected.{operation_name, selection_directives}
 use Rattle.rule_document_definitions.specs.RootFields.{meta_field_names}
-use Rattle.rule_document_definitions.specs.DeferUses.{given_if, literal_if}
+use Rattle.rule_document_definitions.specs.DeferUses.{given_if}
+use Rattle.rule_always.specs.Stays.{is_directive}
 
 module _ {P : Type 0} where
-  -- ---- what may be left out
-
-  abbrev pub is_directive : List ℕ → Placed P (DirectiveTree P) → Bool
-  is_directive name e = bytes_eq (directive_name e) name
-
-  abbrev pub leaves_out : Placed P (DirectiveTree P) → Bool
-  leaves_out e = (is_directive (codes "skip") e && unwrap_or (literal_if e) true) || (is_directive (codes "include") e && not (unwrap_or (literal_if e) false))
-
-  abbrev pub stays : MeantSelection P → Bool
-  stays s = not (list_any leaves_out (selection_directives s))
-
-  abbrev pub all_stay : MeantSelection P → Bool
-  all_stay s = true
-
   -- ---- subscriptions
 
   -- the name that a field has

@@ -14,13 +14,6 @@ use Rattle.rule_document_definitions.specs.Selected.{Standing}
 use Rattle.rule_document_definitions.specs.Reached.{AtRoot}
 use Rattle.rule_subscriptions.specs.Told.{FragmentsUnderOwnNames}
 
--- what a selection means
-abbrev pub lent : Selection → MeantSelection Place
-lent s = meant (typed_selection_tree s)
-
-abbrev pub lent_all : List Selection → List (MeantSelection Place)
-lent_all ss = map lent ss
-
 -- the selections of an operation, of a fragment
 abbrev pub operation_set : Node Operation → MeantSet Place
 operation_set n = meant_of_set (typed_set_tree (content n).selection_set)

@@ -13,7 +13,8 @@ ghost use Rattle.rule_document_definitions.specs.Defer.{LabelsBreak};
 ghost use Rattle.indexmap.specs.IndexMap.{get_by_text};
 ghost use Rattle.rule_subscriptions.specs.Broken.{brokens_of, told_by, AddsBroken};
 ghost use Rattle.rule_subscriptions.specs.Labels.{values_meant, label_of, labels_of, labels_at, labels_in, variable_label, label_again, label_breaks, told_again, NotesFirst, NotesLabel};
-ghost use Rattle.rule_subscriptions.specs.Rooted.{lent, operation_set, fragment_set, alone_told};
+ghost use Rattle.rule_always.specs.Lent.{lent};
+ghost use Rattle.rule_subscriptions.specs.Rooted.{operation_set, fragment_set, alone_told};
 
 use crate::breach::Breach;
 use document_typed_operations::{ExecutableDocument, Fragment, Operation};

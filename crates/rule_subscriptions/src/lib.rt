@@ -7,7 +7,6 @@
 //! Begin with `subscriptions.rt`, `defer.rt` and `labels.rt`.
 #![tactic(auto)]
 
-mod always;
 mod breach;
 mod defer;
 mod labels;

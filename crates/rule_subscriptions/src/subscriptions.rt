@@ -8,7 +8,7 @@ ghost use Rattle.document_typing.specs.DocumentView.{document_meant, operation_m
 ghost use Rattle.rule_document_definitions.specs.RootFields.{meta_field_names};
 ghost use Rattle.rule_subscriptions.specs.Broken.{brokens_of, told_by};
 ghost use Rattle.rule_subscriptions.specs.Listed.{root_names, multiple_fields, introspection, conditional, at_root};
-ghost use Rattle.rule_subscriptions.specs.Rooted.{lent, lent_all};
+ghost use Rattle.rule_always.specs.Lent.{lent, lent_all};
 ghost use Rattle.rule_subscriptions.specs.Told.{FragmentsUnderOwnNames, AddsSubscription};
 
 use crate::breach::Breach;

@@ -1,6 +1,7 @@
 //! What tests assert, and the schema that they check documents over.
 
-use graphql_checked::{CheckedSchema, Checker, Limits, Refusal};
+use checker_documents::{CheckedSchema, Checker, Limits};
+use checker_texts::Refusal;
 use std::alloc::Global;
 use std::process::Abort;
 

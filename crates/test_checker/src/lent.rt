@@ -1,9 +1,11 @@
 //! What a checked schema and a checked document lend.
 
 use crate::hold::{hold, schema_of};
-use document_typed_operations::Operation;
+use checker_answers::RunFault;
+use checker_documents::{CheckedDocument, CheckedSchema};
+use checker_texts::Refusal;
+use document_typed_operations::{ExecutableDocument, Operation};
 use document_typed_selections::{Field, SelectionSet};
-use graphql_checked::{CheckedDocument, CheckedSchema, ExecutableDocument, Refusal, RunFault};
 use graphql_names::Node;
 use std::alloc::AllocError;
 

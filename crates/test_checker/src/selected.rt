@@ -1,11 +1,12 @@
 //! Fields by what they say, and the built-in scalars that are noted.
 
 use crate::hold::{hold, schema_of};
+use checker_documents::CheckedSchema;
 use document_typed_operations::Operation;
 use document_typed_selections::SelectionSet;
-use graphql_checked::{CheckedSchema, Schema};
 use graphql_names::{Name, Node};
 use graphql_rules::BuiltInScalars;
+use graphql_schema::Schema;
 use graphql_validation::{FieldSelection, laws};
 use std::hash::{DefaultHasher, Hash, Hasher};
 

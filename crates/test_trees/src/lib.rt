@@ -1,8 +1,12 @@
-//! Tests over public calls that no row of text reaches: trees that are built by calls, equality, hash and clones, and each
-//! public call once in ample memory. Rows stand in the programs of rows (`FORMAT.md` of `row_files`). It has no
-//! code but these.
+//! Tests over public calls that no row of text reaches: trees, selections and documents that are built by calls, equality, hash
+//! and clones, operations by name, look-ups, walks from sets, and each public call once in ample memory. Rows stand in the
+//! programs of rows (`FORMAT.md` of `row_files`). It has no code but these.
 #![tactic(auto)]
 
+#[cfg(test)]
+mod answers;
+#[cfg(test)]
+mod copies;
 #[cfg(test)]
 mod definitions;
 #[cfg(test)]
@@ -12,6 +16,14 @@ mod documents;
 #[cfg(test)]
 mod hold;
 #[cfg(test)]
+mod parts;
+#[cfg(test)]
 mod schemas;
 #[cfg(test)]
+mod selections;
+#[cfg(test)]
+mod typed;
+#[cfg(test)]
 mod values;
+#[cfg(test)]
+mod walks;

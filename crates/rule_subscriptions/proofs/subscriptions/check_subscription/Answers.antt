@@ -7,7 +7,8 @@ use Rattle.document_typed_operations.specs.declared.operation.Operation.{Operati
 use Rattle.document_typing.specs.DocumentView.{document_meant, operation_meant}
 use Rattle.rule_subscriptions.specs.Broken.{brokens_of}
 use Rattle.rule_subscriptions.specs.Listed.{root_names, multiple_fields, at_root}
-use Rattle.rule_subscriptions.specs.Rooted.{AreRoots, lent_all}
+use Rattle.rule_subscriptions.specs.Rooted.{AreRoots}
+use Rattle.rule_always.specs.Lent.{lent_all}
 use Rattle.rule_subscriptions.proofs.Subscribed.{tells_roots, tells_nothing}
 use Rattle.rule_subscriptions.proofs.subscriptions.check_subscription.Goals as goal
 

@@ -1,0 +1,65 @@
+//! Rows of texts that are read and trees that are printed, of schemas that are built and coordinates in them, and of documents
+//! that get a meaning under a schema, with the walks over these, and fields that sets make. No rule is judged. Its words name
+//! the files of its `data/`.
+#![tactic(auto)]
+
+mod coordinates;
+mod documents;
+mod field_sets;
+mod layouts;
+mod lines;
+mod new_fields;
+mod outline;
+mod over_schemas;
+mod print;
+mod read;
+mod schemas;
+mod trees;
+mod walks;
+mod words;
+
+use crate::layouts::by_layouts;
+use crate::over_schemas::by_schema_texts;
+use crate::read::by_read;
+use crate::trees::by_tree;
+use row_files::{Calls, Case, Problem, Tally, judge_files};
+use std::alloc::Global;
+use std::process::ExitCode;
+
+/// The calls that read texts and print trees, build schemas and find what coordinates name, and give documents, sets and
+/// fields a meaning.
+struct Building;
+
+impl Calls for Building {
+    fn names_of(&self, call: &str) -> Option<&'static [&'static str]> {
+        match call {
+            "print" => Some(&["tree", "input", "layout", "level", "step", "write"]),
+            "writable" => Some(&["tree", "input"]),
+            "parse_document" | "parse_type" | "parse_selections" => Some(&["nesting", "input"]),
+            "next_token" => Some(&["input"]),
+            "layouts" => Some(&["input", "flat"]),
+            "schema" | "orphans" => Some(&["schema", "first", "adopt", "ignore"]),
+            "coordinate" => Some(&["schema", "form", "input"]),
+            "document" | "written" | "fields" | "all_fields" | "root_fields" | "introspection" => {
+                Some(&["schema", "standalone", "document"])
+            }
+            "field_set" | "new_field" => Some(&["schema", "type", "input"]),
+            _ => None,
+        }
+    }
+
+    fn judge(&self, alloc: Global, case: Case<'_>, tally: &mut Tally) -> Result<(), Problem> {
+        match case.call {
+            "print" | "writable" => by_tree(alloc, case, tally),
+            "layouts" => by_layouts(alloc, case, tally),
+            "parse_document" | "parse_type" | "parse_selections" | "next_token" => {
+                by_read(alloc, case, tally)
+            }
+            _ => by_schema_texts(alloc, case, tally),
+        }
+    }
+}
+
+fn main(rt: HostRuntime) -> ExitCode {
+    judge_files(&rt, &Building)
+}

@@ -1,0 +1,86 @@
+//! Answers of the checker call by call.
+
+use graphql_checked::{CheckedDocument, CheckedSchema, Checker, Layout, Limits, Refusal};
+use graphql_names::Files;
+use row_files::Answer;
+use row_texts::{Asked, push_refusal, push_text};
+use schema_components::Extensions;
+use std::alloc::Global;
+
+/// Adds the answers to the documents, while what the first gives is kept, and last what that is written as.
+pub(crate) fn push_around(
+    schema: &CheckedSchema,
+    documents: &[&str],
+    layout: Layout<'_>,
+    answer: &mut Answer,
+) {
+    let Some(first) = documents.first() else {
+        return;
+    };
+    match schema.check(first) {
+        Ok(checked) => {
+            push_each(schema, documents, layout, answer);
+            push_accepted(schema, &checked, layout, answer);
+        }
+        Err(refusal) => push_refusal(&refusal, answer),
+    }
+}
+
+/// Adds the answer to each document, and a comma to its status.
+fn push_each(schema: &CheckedSchema, documents: &[&str], layout: Layout<'_>, answer: &mut Answer) {
+    for document in documents {
+        push_check(schema, document, layout, answer);
+        answer.status.put(", ");
+    }
+}
+
+/// The checker that the row asks for.
+fn checker_of(alloc: Global, asked: Asked) -> Checker {
+    let limits = Limits {
+        nesting: asked.nesting,
+    };
+    if asked.text < 2 && asked.extension < 2 {
+        return Checker::new(alloc, limits);
+    }
+    let files = Files::starting_at(asked.text.max(1));
+    let extensions = Extensions::starting_at(asked.extension.max(1));
+    Checker::with_numbers(alloc, limits, files, extensions)
+}
+
+/// The schema of the texts, by a checker.
+pub(crate) fn schema_of(
+    alloc: Global,
+    schemas: &[&str],
+    asked: Asked,
+) -> Result<CheckedSchema, Refusal> {
+    let mut checker = checker_of(alloc, asked);
+    for text in schemas {
+        checker.add_schema(text)?;
+    }
+    checker.finish()
+}
+
+/// Adds the answer of a schema's `check`.
+pub(crate) fn push_check(
+    schema: &CheckedSchema,
+    document: &str,
+    layout: Layout<'_>,
+    answer: &mut Answer,
+) {
+    match schema.check(document) {
+        Ok(checked) => push_accepted(schema, &checked, layout, answer),
+        Err(refusal) => push_refusal(&refusal, answer),
+    }
+}
+
+/// Adds the answer that has both texts.
+fn push_accepted(
+    schema: &CheckedSchema,
+    document: &CheckedDocument<'_>,
+    layout: Layout<'_>,
+    answer: &mut Answer,
+) {
+    answer.show("0", &"accepted\n");
+    push_text(schema.written(layout), layout, answer);
+    push_text(document.written(layout), layout, answer);
+}

@@ -1,0 +1,42 @@
+//! Accepted pairs as they are written.
+
+use graphql_checked::{CheckedDocument, CheckedSchema, Layout, Refusal};
+use row_texts::{Pair, layouts};
+use std::alloc::AllocError;
+
+/// Adds what the schema and the document are written as under each layout, if that is accepted.
+pub(crate) fn push_checked(
+    schema: &CheckedSchema,
+    document: &str,
+    pairs: &mut Vec<Pair>,
+) -> Result<(), Refusal> {
+    match schema.check(document) {
+        Ok(document) => Ok(push_written(&document, pairs)?),
+        Err(refusal) => Err(refusal),
+    }
+}
+
+/// Adds what the document and its schema are written as under each layout.
+fn push_written(document: &CheckedDocument<'_>, pairs: &mut Vec<Pair>) -> Result<(), AllocError> {
+    for (name, layout) in layouts() {
+        push_pair(document, name, layout, pairs)?;
+    }
+    Ok(())
+}
+
+/// Adds what the document and its schema are written as under the layout.
+fn push_pair(
+    document: &CheckedDocument<'_>,
+    name: &'static str,
+    layout: Layout<'_>,
+    pairs: &mut Vec<Pair>,
+) -> Result<(), AllocError> {
+    let schema = document.schema().written(layout)?;
+    let document = document.written(layout)?;
+    pairs.push(Pair {
+        name,
+        schema,
+        document,
+    })?;
+    Ok(())
+}

@@ -1,0 +1,129 @@
+//! The road back: what an accepted pair is written as is accepted, and is written again with the same bytes.
+
+use crate::asked::Asked;
+use crate::checks::{Checks, Texts};
+use crate::pair::Pair;
+use crate::words::push_refusal;
+use checker_texts::Refusal;
+use row_files::{Case, Lines, Problem, Tally, Way, compare};
+use std::alloc::Global;
+
+/// Judges what the pair is written as under each layout. The pair must be accepted.
+pub(crate) fn by_back<C: Checks>(
+    alloc: Global,
+    checks: &C,
+    case: Case<'_>,
+    way: Way<'_>,
+    texts: Texts<'_>,
+    tally: &mut Tally,
+) -> Result<(), Problem> {
+    let mut pairs = Vec::new(alloc);
+    match checks.push_pairs(alloc, texts, &mut pairs) {
+        Ok(()) => from_each(alloc, checks, case, way, texts.asked, &pairs, tally),
+        Err(refusal) => compare_refusal(case, way, &refusal, tally),
+    }
+}
+
+/// Judges each of the written pairs.
+fn from_each<C: Checks>(
+    alloc: Global,
+    checks: &C,
+    case: Case<'_>,
+    way: Way<'_>,
+    asked: Asked,
+    pairs: &[Pair],
+    tally: &mut Tally,
+) -> Result<(), Problem> {
+    for from in pairs {
+        let schemas = [from.schema.as_str()];
+        let texts = Texts {
+            schemas: schemas.as_slice(),
+            document: from.document.as_str(),
+            asked,
+        };
+        let way = Way {
+            call: from.name,
+            document: from.document.as_bytes(),
+            ..way
+        };
+        back_from(alloc, checks, case, way, texts, pairs, tally)?;
+    }
+    Ok(())
+}
+
+/// Judges a written pair: it is accepted, and is written again as all of them.
+fn back_from<C: Checks>(
+    alloc: Global,
+    checks: &C,
+    case: Case<'_>,
+    way: Way<'_>,
+    texts: Texts<'_>,
+    pairs: &[Pair],
+    tally: &mut Tally,
+) -> Result<(), Problem> {
+    let mut again = Vec::new(alloc);
+    match checks.push_pairs(alloc, texts, &mut again) {
+        Ok(()) => compare_each(alloc, case, way, pairs, &again, tally),
+        Err(refusal) => compare_refusal(case, way, &refusal, tally),
+    }
+}
+
+/// Compares each of the pairs that were written again with the first of its layout.
+fn compare_each(
+    alloc: Global,
+    case: Case<'_>,
+    way: Way<'_>,
+    firsts: &[Pair],
+    again: &[Pair],
+    tally: &mut Tally,
+) -> Result<(), Problem> {
+    for (first, pair) in firsts.iter().zip(again) {
+        compare_pair(alloc, case, way, first, pair, tally)?;
+    }
+    Ok(())
+}
+
+/// Compares a pair with the first of its layout: the answer that is wanted.
+fn compare_pair(
+    alloc: Global,
+    case: Case<'_>,
+    way: Way<'_>,
+    first: &Pair,
+    pair: &Pair,
+    tally: &mut Tally,
+) -> Result<(), Problem> {
+    let mut out = Lines::new(alloc);
+    out.show_between(&first.schema, &"\n", &first.document);
+    let out = out.as_str().as_bytes();
+    compare_written(alloc, Case { out, ..case }, way, pair, tally)
+}
+
+/// Compares a pair that was written again with what is wanted.
+fn compare_written(
+    alloc: Global,
+    case: Case<'_>,
+    way: Way<'_>,
+    pair: &Pair,
+    tally: &mut Tally,
+) -> Result<(), Problem> {
+    let mut call = Lines::new(alloc);
+    call.show_between(way.call, &" to ", pair.name);
+    let call = call.as_str();
+    let answer = &mut tally.answer;
+    answer.status.put("0");
+    answer
+        .text
+        .show_between(&pair.schema, &"\n", &pair.document);
+    compare(case, Way { call, ..way }, tally)
+}
+
+/// Tells that a pair is refused, where the row wants it accepted.
+fn compare_refusal(
+    case: Case<'_>,
+    way: Way<'_>,
+    refusal: &Refusal,
+    tally: &mut Tally,
+) -> Result<(), Problem> {
+    push_refusal(refusal, &mut tally.answer);
+    compare(case, way, tally)
+}

@@ -1,0 +1,88 @@
+//! Rows that are judged by `run`, over readers and a writer that hand on few bytes a call, and that end.
+
+use crate::asked::asked_of;
+use crate::checks::Checks;
+use row_files::{Case, Lines, Plan, Problem, Tally, Way, compare_cut, says};
+use std::alloc::Global;
+
+/// Judges the row by `run`, by each of its plans.
+pub(crate) fn by_run<C: Checks>(
+    alloc: Global,
+    checks: &C,
+    case: Case<'_>,
+    way: Way<'_>,
+    tally: &mut Tally,
+) -> Result<(), Problem> {
+    let is_each = says(case.row, "read", "each")?;
+    for plan in &case.given.plans {
+        let way = Way {
+            call: "run",
+            plan: *plan,
+            ..way
+        };
+        by_plan(alloc, checks, case, way, tally)?;
+        if is_each && plan.write == case.out.len() {
+            readers_end(alloc, checks, case, way, tally)?;
+        }
+    }
+    Ok(())
+}
+
+/// The reader of each text ends after each number of bytes, and at its end: nothing is out.
+fn readers_end<C: Checks>(
+    alloc: Global,
+    checks: &C,
+    case: Case<'_>,
+    way: Way<'_>,
+    tally: &mut Tally,
+) -> Result<(), Problem> {
+    let schemas = case.given.schemas.as_slice();
+    for text in 1..=schemas.len().saturating_add(1) {
+        let bytes = match schemas.get(text.saturating_sub(1)) {
+            Some(schema) => schema.len(),
+            None => way.document.len(),
+        };
+        for read in 0..=bytes {
+            let plan = Plan {
+                text,
+                read,
+                write: 0,
+                ..way.plan
+            };
+            reader_ends(alloc, checks, case, Way { plan, ..way }, tally)?;
+        }
+    }
+    Ok(())
+}
+
+/// The reader of the plan's text ends.
+fn reader_ends<C: Checks>(
+    alloc: Global,
+    checks: &C,
+    case: Case<'_>,
+    way: Way<'_>,
+    tally: &mut Tally,
+) -> Result<(), Problem> {
+    let text = way.plan.text;
+    let mut status = Lines::new(alloc);
+    status.show_between("3 file ", &text, " cannot be read");
+    let wanted = Case {
+        status: status.as_str(),
+        out: &[],
+        ..case
+    };
+    by_plan(alloc, checks, wanted, way, tally)
+}
+
+/// Judges the answer by the plan.
+fn by_plan<C: Checks>(
+    alloc: Global,
+    checks: &C,
+    case: Case<'_>,
+    way: Way<'_>,
+    tally: &mut Tally,
+) -> Result<(), Problem> {
+    let asked = asked_of(case, way)?;
+    checks.run_by(alloc, &case.given.schemas, way, asked, &mut tally.answer)?;
+    compare_cut(alloc, case, way, tally)
+}

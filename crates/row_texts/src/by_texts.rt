@@ -1,0 +1,171 @@
+//! Rows of schema texts and documents.
+
+use crate::asked::{asked_of, push_texts};
+use crate::by_back::by_back;
+use crate::by_run::by_run;
+use crate::checks::{Checks, Texts};
+use row_files::{Case, Problem, Tally, Way, compare, text_of};
+use std::alloc::Global;
+
+/// Judges the row under each of its limits.
+pub fn by_texts<C: Checks>(
+    alloc: Global,
+    checks: &C,
+    case: Case<'_>,
+    tally: &mut Tally,
+) -> Result<(), Problem> {
+    for nesting in &case.given.limits {
+        if case.call == "series" {
+            by_series(alloc, checks, case, *nesting, tally)?;
+        } else {
+            by_documents(alloc, checks, case, *nesting, tally)?;
+        }
+    }
+    Ok(())
+}
+
+/// Judges the answers of one schema to the row's documents.
+fn by_series<C: Checks>(
+    alloc: Global,
+    checks: &C,
+    case: Case<'_>,
+    nesting: usize,
+    tally: &mut Tally,
+) -> Result<(), Problem> {
+    let mut schemas = Vec::new(alloc);
+    push_texts(case, &case.given.schemas, &mut schemas)?;
+    let mut documents = Vec::new(alloc);
+    push_texts(case, &case.given.documents, &mut documents)?;
+    let way = Way::whole(case.call, &[], nesting);
+    let asked = asked_of(case, way)?;
+    checks.push_series(alloc, &schemas, &documents, asked, &mut tally.answer);
+    compare(case, way, tally)
+}
+
+/// Judges the row: each of its documents over its schema texts.
+fn by_documents<C: Checks>(
+    alloc: Global,
+    checks: &C,
+    case: Case<'_>,
+    nesting: usize,
+    tally: &mut Tally,
+) -> Result<(), Problem> {
+    for document in &case.given.documents {
+        let way = Way::whole(case.call, document, nesting);
+        by_call(alloc, checks, case, way, tally)?;
+    }
+    Ok(())
+}
+
+/// Judges the answer of each call that the row is for.
+fn by_call<C: Checks>(
+    alloc: Global,
+    checks: &C,
+    case: Case<'_>,
+    way: Way<'_>,
+    tally: &mut Tally,
+) -> Result<(), Problem> {
+    match case.call {
+        "run" => by_run(alloc, checks, case, way, tally),
+        "all" => by_all(alloc, checks, case, way, tally),
+        "back" => {
+            judge_call(alloc, checks, case, call_before_back(case.out), way, tally)?;
+            judge_back(alloc, checks, case, way, tally)
+        }
+        _ => judge_call(alloc, checks, case, case.call, way, tally),
+    }
+}
+
+/// Judges the answer of each call, and the road back.
+fn by_all<C: Checks>(
+    alloc: Global,
+    checks: &C,
+    case: Case<'_>,
+    way: Way<'_>,
+    tally: &mut Tally,
+) -> Result<(), Problem> {
+    by_run(alloc, checks, case, way, tally)?;
+    judge_call(alloc, checks, case, "calls", way, tally)?;
+    judge_call(alloc, checks, case, "check_texts", way, tally)?;
+    judge_back(alloc, checks, case, way, tally)
+}
+
+/// Judges the texts by a call that takes them whole.
+fn judge_call<C: Checks>(
+    alloc: Global,
+    checks: &C,
+    case: Case<'_>,
+    call: &str,
+    way: Way<'_>,
+    tally: &mut Tally,
+) -> Result<(), Problem> {
+    let way = Way { call, ..way };
+    let document = text_of(case, way.document)?;
+    let asked = asked_of(case, way)?;
+    let mut schemas = Vec::new(alloc);
+    push_texts(case, &case.given.schemas, &mut schemas)?;
+    let texts = Texts {
+        schemas: schemas.as_slice(),
+        document,
+        asked,
+    };
+    judge_texts(alloc, checks, case, way, texts, tally)
+}
+
+/// Judges the answer of `check_texts`, the one call by call, or the road back. `check_texts` writes no texts: of those
+/// accepted the row's first line is wanted.
+fn judge_texts<C: Checks>(
+    alloc: Global,
+    checks: &C,
+    case: Case<'_>,
+    way: Way<'_>,
+    texts: Texts<'_>,
+    tally: &mut Tally,
+) -> Result<(), Problem> {
+    match way.call {
+        "calls" => {
+            checks.push_calls(alloc, texts, &mut tally.answer);
+            compare(case, way, tally)
+        }
+        "back" => by_back(alloc, checks, case, way, texts, tally),
+        _ => {
+            checks.push_check_texts(alloc, texts, &mut tally.answer);
+            let out = first_line(case.out);
+            compare(Case { out, ..case }, way, tally)
+        }
+    }
+}
+
+/// Judges the road back, where the row wants the pair accepted.
+fn judge_back<C: Checks>(
+    alloc: Global,
+    checks: &C,
+    case: Case<'_>,
+    way: Way<'_>,
+    tally: &mut Tally,
+) -> Result<(), Problem> {
+    if case.status == "0" {
+        judge_call(alloc, checks, case, "back", way, tally)
+    } else {
+        Ok(())
+    }
+}
+
+/// The call that answers before the road back: one that writes texts, where the row wants more than the line `accepted`.
+fn call_before_back(out: &[u8]) -> &'static str {
+    if first_line(out).len() < out.len() {
+        "calls"
+    } else {
+        "check_texts"
+    }
+}
+
+/// The first line of an output that begins with `accepted`, and every other output whole.
+fn first_line(out: &[u8]) -> &[u8] {
+    let accepted = b"accepted\n".as_slice();
+    if out.starts_with(accepted) {
+        accepted
+    } else {
+        out
+    }
+}

@@ -1,0 +1,24 @@
+//! Rows of schema texts and documents that a checker judges: on which terms a row wants its texts judged, in which ways they go
+//! to the checker, and what its answers are in words.
+//!
+//! For the program of rows over the checker, which says how each call answers (`Checks`): `by_texts` judges a row by these.
+//! Whatever needs no call of the checker stands here, so that it is proved beside the checker and not behind it.
+//!
+//! Begin with `checks.rt` and `by_texts.rt`.
+#![tactic(auto)]
+
+mod asked;
+mod by_back;
+mod by_run;
+mod by_texts;
+mod checks;
+mod devices;
+mod pair;
+mod words;
+
+pub use asked::{Asked, layouts, names_of};
+pub use by_texts::by_texts;
+pub use checks::{Checks, Texts};
+pub use devices::{failed_reader, push_end, readers};
+pub use pair::Pair;
+pub use words::{push_refusal, push_refused, push_text};

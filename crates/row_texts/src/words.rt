@@ -1,0 +1,50 @@
+//! Answers in words.
+
+use checker_layouts::Layout;
+use checker_texts::Refusal;
+use graphql_faults::DiagnosticList;
+use graphql_names::{FileId, SourceSpan};
+use row_files::{Answer, Lines};
+use std::alloc::AllocError;
+
+/// Adds a text that is written under the layout, as a line where it is one.
+pub fn push_text(written: Result<String, AllocError>, layout: Layout<'_>, answer: &mut Answer) {
+    let end = match layout {
+        Layout::OneLine => "\n",
+        Layout::Indented(_) => "",
+    };
+    match written {
+        Ok(text) => answer.text.show_between("", &text, end),
+        Err(_) => answer.status.put("4 out of memory"),
+    }
+}
+
+/// Adds the answer of a refusal.
+pub fn push_refusal(refusal: &Refusal, answer: &mut Answer) {
+    match refusal {
+        Refusal::Faults(list) => push_refused(list, answer),
+        Refusal::Memory => answer.status.put("4 out of memory"),
+        Refusal::Failed => answer.status.put("4 failed"),
+    }
+}
+
+/// Adds the answer that tells these faults.
+pub fn push_refused(list: &DiagnosticList, answer: &mut Answer) {
+    answer.text.put("refused\n");
+    for (place, details) in list.iter() {
+        push_place(*place, &mut answer.text);
+        answer.text.show_between(": ", details, "\n");
+    }
+    answer.status.put("1");
+}
+
+/// Adds where a fault is; what is built in stands nowhere.
+fn push_place(place: Option<SourceSpan>, lines: &mut Lines) {
+    match place {
+        Some(span) if span.file_id != FileId::BUILT_IN => {
+            lines.show_between("", &span.file_id.0, ":");
+            lines.show(&span.offset);
+        }
+        _ => lines.put("-"),
+    }
+}

@@ -1,0 +1,4 @@
+pub mod Always
+pub mod Inside
+pub mod Stays
+pub mod Lent
