@@ -3,3 +3,4 @@ pub mod Going
 pub mod Sharing
 pub mod Contents
 pub mod Laws
+pub mod Equivalences

@@ -1,5 +1,6 @@
 //! Laws of merging, each the contract of a function that does nothing.
 
+ghost use Rattle.rule_merging_laws.specs.Equivalences.{ShapesAgreeAsEquals, SelectionsAgreeAsEquals};
 ghost use Rattle.rule_merging_laws.specs.Laws.{SettledFieldsMerge, StandingFieldsMerge, GoingAgrees, GoingBreaks, LongChainsPassTheBound};
 
 /// Where the lists of contents are settled, those by keys in shape and those by keys and parents in name and arguments, and
@@ -24,4 +25,10 @@ pub fn fields_of_lists_meet()
 /// A field at the end of a chain that is longer than the bound passes the bound.
 pub fn long_chains_pass_the_bound()
     ensures { LongChainsPassTheBound }
+{}
+
+/// To have one shape, and to have one name and the same arguments, are equivalences: so fields that agree with one field agree.
+pub fn agreeing_is_an_equivalence()
+    ensures shapes { ShapesAgreeAsEquals }
+    ensures selections { SelectionsAgreeAsEquals }
 {}

@@ -70,7 +70,7 @@ module _ {R D W : Type 0} (of_schema : R → Option (List ℕ)) (of_document : D
   fault_told run_fault.Memory due = untouched due
   fault_told (run_fault.Reader number) due = untouched due.1
   fault_told (run_fault.NotUtf8 number) due = untouched due.1
-  fault_told (run_fault.Writer count) (failed, w) =
+  fault_told (run_fault.Writer count) (failed, read, w) =
       let texts = texts_told of_schema schemas w.texts run.texts w.schemas_are seen.schemas_tell in
       let text = text_told of_document document w.text run.text w.document_is seen.document_tells in
       (w.bytes, (subst (λ (p : List SourceText × SourceText). Answer terms layout p.0 p.1 w.bytes) (λ i. (texts i, text i)) w.answers.0, (w.answers.1, sym (taken (take count w.bytes) w.put))))

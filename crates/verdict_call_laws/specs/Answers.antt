@@ -51,7 +51,7 @@ abbrev pub IsPutAt : Terms → Layout → RunValue → RunFault → Type 0
 IsPutAt terms layout run (run_fault.Writer count) = (bytes : List ℕ) × (Answer terms layout run.texts run.text bytes × ((count < length bytes) × (run.put ≡ take count bytes)))
 IsPutAt terms layout run _ = run.put ≡ []
 
--- `run`, under this layout, of devices that tell their bytes
+-- `run`, under this layout, of devices that tell their bytes: what it says of texts and bytes
 pub record AnswersRun (terms : Terms) (layout : Layout) (run : RunValue) (answer : Result Outcome RunFault) : Type 0 where
   pub answers : IfOk answer (λ outcome. BytesOf terms layout outcome run.texts run.text run.put)
   pub fault : IfErr answer (IsPutAt terms layout run)
