@@ -33,10 +33,10 @@ use Rattle.checker_texts.specs.declared.refusal.Refusal.TheVariants.{Faults, Mem
 use Rattle.checker_texts.proofs.Deciding.{one_tree, none_told, unread_not_read, is_read}
 
 -- what is told in full, in the words of the rules on documents
-besides : {schema : SchemaTree Place} {document : MeantDocument Place} → (fault : PlacedDocumentFault) → RuleFailsBeside (places_in schema) (judged schema) document fault → FailsBesides schema document fault
-besides (OfData fault) h = h
-besides (OfDocument fault) h = h
-besides (OfLimit place) h = h
+besides : (schema : SchemaTree Place) (document : MeantDocument Place) (fault : PlacedDocumentFault) → RuleFailsBeside (places_in schema) (judged schema) document fault → FailsBesides schema document fault
+besides schema document (OfData fault) h = h
+besides schema document (OfDocument fault) h = h
+besides schema document (OfLimit place) h = h
 
 -- a list of one is not empty
 some_one : (fault : AnyFault) (faults : List AnyFault) → faults ≡ fault ∷ [] → faults ≢ []
@@ -111,7 +111,7 @@ module _ (schema : CheckedSchemaValue) (text : SourceText) where
         full = λ within other reads fault fails. not_in_nil (of_typing fault) (typed.full fault (subst (λ t. TypingFailsOver schema.schema t fault) (same other (reads, within)) fails));
         rules = λ within other reads holds fault fails.
             let e : document_over schema.schema other ≡ document = ap (document_over schema.schema) (same other (reads, within)) ∙ sym typed.is in
-            h.full fault (besides fault (subst (λ d. RuleFailsBeside (places_in schema.schema) (judged schema.schema) d fault) e fails));
+            h.full fault (besides schema.schema document fault (subst (λ d. RuleFailsBeside (places_in schema.schema) (judged schema.schema) d fault) e fails));
       }
       rules_refusal Memory h = tt
       rules_refusal Failed h = h
