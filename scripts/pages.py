@@ -2,10 +2,11 @@
 """Whether the pages say what is there: scripts/pages.py [--check] [--clauses]
 
 --check prints what is wrong, a line each, and its status is then 1: README.md has more than 150 lines; a relative link in
-README.md or docs/*.md leads to no file; a name that reads as a crate of the repository is not in crates.txt; one in backticks that
+a page (*.md at the top and in docs/) leads to no file; a name that reads as a crate of the repository is not in crates.txt; one in backticks that
 reads as a file (`name.rt`, `Name.antt`, `name.rows`, `name.edit`, `name.py`) is the name of no file; a name in the first column of
-docs/DEFINITIONS.md is none of `specs/`; docs/PROMISES.md or docs/MAP.md says nothing of a crate of crates.txt; a line of a clause
-that README.md or docs/HEADLINE.md quotes does not stand in the source; a public clause is longer than 160 characters.
+docs/DEFINITIONS.md is none of `specs/`; docs/PROMISES.md or docs/MAP.md says nothing of a crate of crates.txt; a line of a block
+that begins behind `<!-- from PATH -->` does not stand in that file behind the lines before it; a public clause is longer than 160
+characters.
 
 What reads as a crate: a word that begins with `graphql_`; one that begins as the crates of an area do (`tree_`, `read_`, ..), if the
 sources have nothing else of that name, neither an item, a definition nor a file; and, whatever it begins with, a name in backticks
@@ -27,7 +28,7 @@ CHARACTERS = 160
 
 def pages():
     """The pages, by their paths."""
-    return ["README.md"] + sources.paths("docs/*.md")
+    return sources.paths("*.md") + sources.paths("docs/*.md")
 
 
 def broken_links(path, text):
@@ -103,15 +104,18 @@ def unknown_definitions(path, library):
                         yield f"{path}:{number}: `{name}` is no definition"
 
 
-def misquoted():
-    """The lines of clauses that a page quotes and that stand in no source."""
-    source = sources.read("crates/graphql_checked/src/verdict.rt")
-    for path in ("README.md", "docs/HEADLINE.md"):
-        for block in re.findall(r"```text\n(.*?)```", sources.read(path), re.S):
-            if "ensures" in block:
-                for line in block.split("\n"):
-                    if line.strip() and not line.startswith("pub fn check_texts(alloc") and line not in source.split("\n"):
-                        yield f"{path}: quotes what does not stand in verdict.rt: {line.strip()}"
+def misquoted(path, text):
+    """The lines of quoted blocks that do not stand in the file from which they come, in their order."""
+    for block in re.finditer(r"^<!-- from (\S+) -->\n```\w*\n(.*?)^```$", text, re.M | re.S):
+        if not os.path.exists(os.path.join(TOP, block.group(1))):
+            yield f"{path}: quotes {block.group(1)}, which is no file"
+            continue
+        left = sources.read(block.group(1)).split("\n")
+        for line in filter(None, block.group(2).split("\n")):
+            if line not in left:
+                yield f"{path}: quotes what does not stand there in {block.group(1)}: {line.strip()}"
+            else:
+                left = left[left.index(line) + 1 :]
 
 
 def left_out(crates):
@@ -149,9 +153,9 @@ def main(words):
         wrong += broken_links(path, text)
         wrong += unknown_crates(path, text, crates, others)
         wrong += unknown_files(path, text, files)
+        wrong += misquoted(path, text)
     wrong += unknown_definitions("docs/DEFINITIONS.md", library)
     wrong += left_out(crates)
-    wrong += misquoted()
     clauses = long_clauses(library)
     if "--clauses" in words:
         print("\n".join(f"{length} characters: {where}" for length, where in clauses))
