@@ -1,7 +1,8 @@
 #!/usr/bin/env python3
 """Whether the pages say what is there: scripts/pages.py [--check] [--clauses]
 
---check prints what is wrong, a line each, and its status is then 1: README.md has more than 150 lines; a relative link in
+--check prints what is wrong, a line each, and its status is then 1: README.md has more than 150 lines or 900 words, or all pages
+have more than 25,000; a page has a word that CONTRIBUTING.md's last table refuses; a relative link in
 a page (*.md at the top and in docs/) leads to no file; a name that reads as a crate of the repository is not in crates.txt; one in backticks that
 reads as a file (`name.rt`, `Name.antt`, `name.rows`, `name.edit`, `name.py`) is the name of no file; a name in the first column of
 docs/DEFINITIONS.md is none of `specs/`; docs/PROMISES.md or docs/MAP.md says nothing of a crate of crates.txt; a line of a block
@@ -24,6 +25,13 @@ from sources import TOP
 
 LINES = 150
 CHARACTERS = 160
+README_WORDS, ALL_WORDS = 900, 25000
+
+# the line after which CONTRIBUTING.md has the words that pages must not have.
+WORDS = "<!-- the words that scripts/pages.py refuses -->"
+
+# The pages that scripts make from the sources.
+MADE = ["docs/RULES.md", "docs/DEFINITIONS.md"]
 
 
 def pages():
@@ -69,7 +77,7 @@ def unknown_crates(path, text, crates, others):
     """The names that read as crates and are none of crates.txt."""
     areas = sorted({crate.split("_")[0] for crate in crates})
     found = set(crates_alone(path, text))
-    for number, line in enumerate(text.split("\n"), 1):
+    for number, line in enumerate(re.sub(r"^```(?:rust|console)\n.*?^```$", lambda block: "\n" * block.group(0).count("\n"), text, flags=re.M | re.S).split("\n"), 1):
         for word in re.findall(rf"\b(?:{'|'.join(areas)})_\w+", line):
             if not word.endswith("_") and (word.startswith("graphql_") or word not in others):
                 found.add((number, word))
@@ -118,6 +126,34 @@ def misquoted(path, text):
                 left = left[left.index(line) + 1 :]
 
 
+def refused_words():
+    """The words that pages must not have, each with those to use, from the table of CONTRIBUTING.md."""
+    table = sources.read("CONTRIBUTING.md").split(WORDS)[1].split("\n\n")[0].strip().split("\n")[2:]
+    for line in table:
+        words, use = (cell.strip() for cell in line.strip("|").split("|"))
+        yield re.compile(r"\b(?:" + "|".join(re.escape(word) for word in words.split(", ")) + r")\b", re.I), use
+
+
+def prose(path, text):
+    """The text of a page with code, links' targets and the table of words blanked."""
+    blank = lambda found: re.sub(r"[^\n]", " ", found.group(0))
+    text = re.sub(r"^```.*?^```$", blank, text, flags=re.M | re.S)
+    if WORDS in text:
+        head, rest = text.split(WORDS, 1)
+        text = head + WORDS + blank(re.match(r".*", rest, re.S))
+    return re.sub(r"`[^`\n]*`|\]\([^)\n]*\)", blank, text)
+
+
+def badly_worded(path, text, refused):
+    """The words of a page that are refused. Pages that a script makes from the sources have the sources' words."""
+    if path in MADE:
+        return
+    for number, line in enumerate(prose(path, text).split("\n"), 1):
+        for pattern, use in refused:
+            for found in pattern.finditer(line):
+                yield f"{path}:{number}: `{found.group(0)}`: write: {use}"
+
+
 def left_out(crates):
     """The crates that a page leaves out."""
     for path in ("docs/PROMISES.md", "docs/MAP.md"):
@@ -148,12 +184,18 @@ def main(words):
     lines = sources.read("README.md").count("\n")
     if lines > LINES:
         wrong.append(f"README.md has {lines} lines, more than {LINES}")
+    refused, counts = list(refused_words()), {}
     for path in pages():
         text = sources.read(path)
+        counts[path] = len(text.split())
+        wrong += badly_worded(path, text, refused)
         wrong += broken_links(path, text)
         wrong += unknown_crates(path, text, crates, others)
         wrong += unknown_files(path, text, files)
         wrong += misquoted(path, text)
+    for name, count, most in (("README.md", counts["README.md"], README_WORDS), ("all pages", sum(counts.values()), ALL_WORDS)):
+        if count > most:
+            wrong.append(f"{name}: {count} words, more than {most}")
     wrong += unknown_definitions("docs/DEFINITIONS.md", library)
     wrong += left_out(crates)
     clauses = long_clauses(library)
@@ -162,7 +204,7 @@ def main(words):
         return 0
     wrong += [f"{where}: {length} characters, more than {CHARACTERS}" for length, where in clauses]
     print("".join(f"{line}\n" for line in wrong), end="")
-    print(f"pages: {len(pages())} pages, README of {lines} lines, {len(wrong)} wrong")
+    print(f"pages: {len(counts)} pages, {sum(counts.values())} words, README of {lines} lines, {len(wrong)} wrong")
     return 1 if wrong and "--check" in words else 0
 
 
